@@ -1,0 +1,5 @@
+pub mod Best
+pub mod Costs
+pub mod Judged
+pub mod Rows
+pub mod Totals

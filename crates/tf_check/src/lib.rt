@@ -1,0 +1,17 @@
+//! Certificates, the bounds that they prove, and the check of an answer.
+#![tactic(auto)]
+
+pub mod answer;
+pub mod certificate;
+pub mod check;
+pub mod evidence;
+pub mod fault;
+pub mod last_of;
+pub mod load;
+pub mod machine_load;
+pub mod one_job;
+pub mod pairs;
+pub mod ranks;
+pub mod split;
+pub mod verdict;
+pub mod window;

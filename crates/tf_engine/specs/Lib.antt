@@ -1,0 +1,9 @@
+pub mod FormData
+pub mod RequestData
+pub mod Faults
+pub mod Solvers
+pub mod Refusal
+pub mod Headline
+pub mod Parts
+pub mod VerdictLine
+pub mod Checking

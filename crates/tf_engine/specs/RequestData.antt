@@ -1,0 +1,8 @@
+-- What a run is asked for.
+use Rattle.std.specs.Prelude.{ℕ, List, Option}
+use Rattle.tf_engine.specs.FormData.{FormData}
+
+pub record RequestData : Type 0 where
+  pub problem : List ℕ  -- the bytes of the problem line
+  pub form : FormData
+  pub machines : Option ℕ  -- the number that the caller gives

@@ -1,0 +1,116 @@
+//! Checking somebody's answer, from bytes to bytes.
+ghost use Rattle.std.specs.Prelude.{◌≡◌, ◌+◌, true, false, Ok, Err, OnOk, IfOk, IfErr, IsTrue, ◌↔◌};
+ghost use Rattle.tf_text.specs.Counted.{inner_of, has_failed, ConsumesAtMost};
+ghost use Rattle.tf_engine.specs.Refusal.{problem_for};
+ghost use Rattle.tf_engine.specs.Headline.{UnlessDevice};
+ghost use Rattle.tf_engine.specs.Checking.{IsCheckOf, HasCheckFailed, IsFor, IsVerdict, GivesSaid, is_device};
+
+use crate::fault::RunFault;
+use crate::request::Request;
+use crate::task_for::{problem_for, task_in};
+use crate::verdict_line::verdict_bytes;
+use std::alloc::Allocator;
+use std::io::{Read, Write};
+use tf_check::check::check;
+use tf_check::verdict::{Reason, Verdict};
+use tf_model::class::class_of;
+use tf_model::memory::OutOfMemory;
+use tf_model::task::Task;
+use tf_text::answer::fault::AnswerFault;
+use tf_text::answer::reading::read_answer;
+use tf_text::answer::sheet::Sheet;
+use tf_text::counted::Counted;
+use tf_text::input::{InputFault, LONGEST, read_all};
+
+/// The verdict on an answer.
+#[derive(Debug, Drop, PartialEq, Eq)]
+pub enum Checked {
+    /// The answer is best.
+    Accepted,
+    /// The answer is for a task of another class, or with other numbers of jobs or machines.
+    OtherTask,
+    /// The answer is rejected, for the first reason that there is.
+    Rejected(Reason),
+}
+
+/// Reads an instance and an answer to their ends, judges the answer, and writes the verdict in one line.
+///
+/// The refusals come in the order of [`crate::run_solve::run_solve`], and after them reading the answer and its first
+/// fault. After a refusal nothing was written, unless it is [`RunFault::Device`], after which a prefix of the line may
+/// have been. An answer that is accepted is best: its pieces draw a timetable that fits the task and costs the value,
+/// and none that fits costs less.
+pub fn run_check<A: Allocator + Copy, B: Allocator, R: Read, S: Read, W: Write>(
+    alloc: A,
+    request: &Request<B>,
+    instance: &mut Counted<R>,
+    answer: &mut Counted<S>,
+    writer: &mut Counted<W>,
+) -> Result<Checked, RunFault>
+    ensures outcome { IsCheckOf request.now (R.remaining (inner_of instance.old)) (S.remaining (inner_of answer.old))
+        (W.contents (inner_of writer.old)) (W.contents (inner_of writer.new)) result }
+    ensures failed { HasCheckFailed result (has_failed instance.new) (has_failed answer.new) (has_failed writer.new) }
+    ensures unwritten { IfErr result (λ e. UnlessDevice e (writer.new ≡ writer.old)) }
+    // Nothing is read before the notation and the class are accepted.
+    ensures unread { IfErr (problem_for request.now.problem) (λ e.
+        (result ≡ Err e) × (instance.new ≡ instance.old) × (answer.new ≡ answer.old)) }
+    ensures pulled { ConsumesAtMost (LONGEST + 1) (R.remaining (inner_of instance.old))
+        (R.remaining (inner_of instance.new)) }
+    ensures pulled_answer { ConsumesAtMost (LONGEST + 1) (S.remaining (inner_of answer.old))
+        (S.remaining (inner_of answer.new)) }
+{
+    let problem = problem_for(request.problem.as_str())?;
+    let text = read_all(alloc, instance)?;
+    let task = task_in(alloc, request, &problem, text.as_slice())?;
+    let sheet = sheet_said(alloc, answer)?;
+    let checked = verdict_on(alloc, &task, &sheet)?;
+    let line = verdict_bytes(alloc, &checked)?;
+    writer.push_all(line.as_slice())?;
+    Ok(checked)
+}
+
+// The sheet that the answer text says.
+fn sheet_said<A: Allocator + Copy, S: Read>(
+    alloc: A,
+    answer: &mut Counted<S>,
+) -> Result<Sheet<A>, RunFault>
+    ensures said { GivesSaid (S.remaining (inner_of answer.old)) result }
+    ensures unfailed { OnOk result (has_failed answer.new ≡ false) }
+    ensures device { IfErr result (λ e. is_device e ≡ true → has_failed answer.new ≡ true) }
+    ensures pulled { ConsumesAtMost (LONGEST + 1) (S.remaining (inner_of answer.old))
+        (S.remaining (inner_of answer.new)) }
+{
+    match read_all(alloc, answer) {
+        Ok(text) => Ok(read_answer(alloc, text.as_slice())?),
+        Err(InputFault::TooLong) => Err(RunFault::Answer(AnswerFault::TooLong)),
+        Err(InputFault::Device) => Err(RunFault::Device),
+        Err(InputFault::OutOfMemory) => Err(RunFault::OutOfMemory),
+    }
+}
+
+// Whether the sheet's problem is of the task's class, and its sizes are the task's.
+fn is_for<B: Allocator, C: Allocator>(task: &Task<B>, sheet: &Sheet<C>) -> bool
+    ensures { IsTrue result ↔ IsFor task.now sheet.now }
+{
+    class_of(&sheet.problem) == Some(task.class())
+        && sheet.jobs as usize == task.len()
+        && sheet.machines == task.machines()
+}
+
+fn verdict_on<A: Allocator + Copy, B: Allocator, C: Allocator>(
+    alloc: A,
+    task: &Task<B>,
+    sheet: &Sheet<C>,
+) -> Result<Checked, OutOfMemory>
+    ensures { IfOk result (IsVerdict task.now sheet.now) }
+{
+    if !is_for(task, sheet) {
+        return Ok(Checked::OtherTask);
+    }
+    match check(alloc, task, &sheet.answer)? {
+        Verdict::Accepted => Ok(Checked::Accepted),
+        Verdict::Rejected(reason) => Ok(Checked::Rejected(reason)),
+    }
+}
+
+#[cfg(test)]
+mod tests;

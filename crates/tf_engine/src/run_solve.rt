@@ -1,0 +1,68 @@
+//! Solving from bytes to bytes.
+ghost use Rattle.std.specs.Prelude.{◌≡◌, ◌+◌, length, Ok, Err, IfOk, IfErr, MatchResult, pos};
+ghost use Rattle.tf_text.specs.Counted.{inner_of, has_failed, ConsumesAtMost};
+ghost use Rattle.tf_engine.specs.Refusal.{problem_for};
+ghost use Rattle.tf_engine.specs.Headline.{IsRunOf, UnlessDevice, HasFailed};
+ghost use Rattle.tf_engine.specs.Parts.{GivesSheet};
+
+use crate::fault::RunFault;
+use crate::request::Request;
+use crate::solve::solve;
+use crate::task_for::{problem_for, task_in};
+use std::alloc::Allocator;
+use std::io::{Read, Write};
+use tf_model::problem::Problem;
+use tf_text::answer::sheet::Sheet;
+use tf_text::answer::writing::write_answer;
+use tf_text::counted::Counted;
+use tf_text::input::{LONGEST, read_all};
+
+/// Reads an instance to its end, solves it, and writes the answer and nothing else.
+///
+/// The refusals come in this order: notation, class, reading the input, its text, the rest of what makes no task. A
+/// notation fault and a missing class are answered before anything is read. After a refusal nothing was written,
+/// unless it is [`RunFault::Device`], after which a prefix of the answer may have been.
+pub fn run_solve<A: Allocator + Copy, B: Allocator, R: Read, W: Write>(
+    alloc: A,
+    request: &Request<B>,
+    reader: &mut Counted<R>,
+    writer: &mut Counted<W>,
+) -> Result<(), RunFault>
+    ensures outcome { IsRunOf request.now (R.remaining (inner_of reader.old)) (W.contents (inner_of writer.old))
+        (W.contents (inner_of writer.new)) result }
+    ensures failed { HasFailed result (has_failed reader.new) (has_failed writer.new) }
+    ensures unwritten { IfErr result (λ e. UnlessDevice e (writer.new ≡ writer.old)) }
+    // Nothing is read before the notation and the class are accepted.
+    ensures unread { IfErr (problem_for request.now.problem) (λ e. (result ≡ Err e) × (reader.new ≡ reader.old)) }
+    ensures pulled { ConsumesAtMost (LONGEST + 1) (R.remaining (inner_of reader.old))
+        (R.remaining (inner_of reader.new)) }
+{
+    let problem = problem_for(request.problem.as_str())?;
+    let text = read_all(alloc, reader)?;
+    let sheet = sheet_for(alloc, request, &problem, text.as_slice())?;
+    write_answer(alloc, writer, &sheet)?;
+    Ok(())
+}
+
+// The sheet that answers a text.
+fn sheet_for<A: Allocator + Copy, B: Allocator>(
+    alloc: A,
+    request: &Request<B>,
+    problem: &Problem,
+    text: &[u8],
+) -> Result<Sheet<A>, RunFault>
+    requires { problem_for request.now.problem ≡ Ok problem.now }
+    ensures { GivesSheet request.now text.now result }
+{
+    let task = task_in(alloc, request, problem, text)?;
+    let answer = solve(alloc, &task)?;
+    Ok(Sheet {
+        problem: *problem,
+        jobs: task.len() as u32,
+        machines: task.machines(),
+        answer,
+    })
+}
+
+#[cfg(test)]
+mod tests;

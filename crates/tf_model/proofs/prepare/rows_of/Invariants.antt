@@ -1,0 +1,6 @@
+use Rattle.std.proofs.Common.{◌≡◌, map, take}
+use Rattle.tf_model.specs.Prepare.{data_of}
+use Rattle.tf_model.proofs.prepare.rows_of.Given as goal
+
+abbrev pub invariant-loop-job : goal.invariant-loop-job
+invariant-loop-job g l = l.rows.items ≡ map (data_of l.class) (take l.job-index l.jobs)

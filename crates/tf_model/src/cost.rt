@@ -1,0 +1,187 @@
+//! Costs of completion times.
+ghost use Rattle.std.specs.Prelude.{◌≡◌, ℕ, ℤ, pos, ◌-ℤ◌, ◌<◌, ◌≤◌, ◌<ℤ◌, ◌≤ℤ◌, true, false, length, MatchResult, IsTrue, ◌↔◌};
+ghost use Rattle.tf_model.specs.Whole.{as_time, IsWithin};
+ghost use Rattle.tf_model.specs.Steps.{step_value};
+ghost use Rattle.tf_model.specs.StepFaults.{steps_fault, step_fault};
+
+use crate::instance::is_beyond;
+use crate::limit::LIMIT;
+use std::alloc::{AllocError, Allocator, Global};
+use std::marker::Model;
+use thiserror::Error;
+
+/// A cost that depends on the completion time, and does not fall as it grows.
+pub trait Cost {
+    ghost use Rattle.std.specs.Prelude.{◌≡◌, ℕ, ℤ, pos, ◌≤◌, ◌≤ℤ◌};
+    ghost use Rattle.tf_model.specs.Whole.{as_time};
+
+    /// The cost of completing at a time.
+    ghost cost_at: { Self → ℕ → ℤ };
+
+    /// What is known of each value of the type.
+    ghost IsCost: { Self → Type 0 };
+
+    /// The cost of completing at time `c`, from 0 to [`LIMIT`].
+    fn value_at(&self, c: i64) -> i64
+        requires from { pos 0 ≤ℤ c }
+        requires to { c ≤ℤ pos 4000000000000000000 }
+        ensures value { result ≡ cost_at self.now (as_time c) }
+        ensures sound { IsCost self.now };
+
+    /// What completes later costs no less.
+    ghost law: { (cost : Self) (c e : ℕ) → IsCost cost → c ≤ e → cost_at cost c ≤ℤ cost_at cost e };
+}
+
+/// Lateness as a cost: the completion time minus the due date.
+#[derive(Clone, Copy, Debug, PartialEq, Eq)]
+pub struct Late {
+    pub due: i64,
+    pub ghost in_range: { IsWithin due },
+}
+
+impl Cost for Late {
+    ghost use Rattle.std.specs.Prelude.{◌≡◌, ℕ, ℤ, pos, ◌-ℤ◌};
+    ghost use Rattle.tf_model.specs.CostLaws.{late_law};
+
+    ghost cost_at = { λ late c. pos c -ℤ late.due };
+
+    ghost IsCost = { λ _. Unit {0} };
+
+    ghost law = { λ late c e _. late_law late.due c e };
+
+    fn value_at(&self, c: i64) -> i64 {
+        c - self.due
+    }
+}
+/// Why numbers are no step cost.
+#[derive(Clone, Copy, Debug, PartialEq, Eq, Error)]
+pub enum CostFault {
+    /// A value is beyond the limit, or a time is negative or beyond it.
+    #[error("a number of a cost is out of range")]
+    OutOfRange,
+    /// A time is not above the one before.
+    #[error("the times of a cost do not rise")]
+    TimesNotRising,
+    /// A value is below the one before.
+    #[error("the values of a cost fall")]
+    CostFalls,
+}
+
+/// A cost that steps up with the completion time: a base, and from each step's time on that step's value.
+#[derive(Drop)]
+pub struct StepCost<A: Allocator = Global> {
+    base: i64,
+    steps: Vec<(i64, i64), A>,
+}
+
+impl<A: Allocator> Model for StepCost<A> {
+    ghost use Rattle.tf_model.specs.Steps.{Steps};
+    ghost use Rattle.tf_model.specs.StepFaults.{IsStepCost};
+
+    ghost Value = { Steps };
+
+    ghost view = { λ s. record { base = s.base; steps = s.steps.items } };
+
+    ghost invariant = { λ s. IsStepCost (record { base = s.base; steps = s.steps.items }) };
+}
+
+impl<A: Allocator> StepCost<A> {
+    ghost use Rattle.std.specs.Prelude.{◌≡◌, Some, MatchResult, IfOk};
+    ghost use Rattle.tf_model.specs.Steps.{no_steps};
+    ghost use Rattle.tf_model.specs.StepFaults.{IsStepCost, steps_fault};
+
+    /// The cost with this base and these steps, each a time and a value, or the first fault: the base, and then the
+    /// steps in order, each for its range, its time and its value. It takes no memory.
+    pub fn new(base: i64, steps: Vec<(i64, i64), A>) -> Result<Self, CostFault>
+        ensures { MatchResult result
+            (λ s. (s ≡ record { base = base; steps = steps.items }) × IsStepCost s)
+            (λ fault. steps_fault (record { base = base; steps = steps.items }) ≡ Some fault) }
+    {
+        match first_fault(base, &steps) {
+            Some(fault) => Err(fault),
+            None => Ok(StepCost { base, steps }),
+        }
+    }
+
+    /// No cost at any time.
+    pub fn nothing(alloc: A) -> Self
+        ensures { result ≡ no_steps }
+    {
+        StepCost {
+            base: 0,
+            steps: Vec::new(alloc),
+        }
+    }
+
+    /// The same cost, kept elsewhere.
+    pub fn copied<B: Allocator>(&self, alloc: B) -> Result<StepCost<B>, AllocError>
+        ensures { IfOk result (λ copy. copy ≡ self.now × IsStepCost copy) }
+    {
+        Ok(StepCost {
+            base: self.base,
+            steps: Vec::from_slice(alloc, &self.steps)?,
+        })
+    }
+}
+
+impl<A: Allocator> Cost for StepCost<A> {
+    ghost use Rattle.tf_model.specs.Steps.{step_value};
+    ghost use Rattle.tf_model.specs.StepFaults.{IsStepCost};
+    ghost use Rattle.tf_model.specs.CostLaws.{step_law};
+
+    ghost cost_at = { step_value };
+
+    ghost IsCost = { IsStepCost };
+
+    ghost law = { step_law };
+
+    fn value_at(&self, c: i64) -> i64 {
+        value_of(self.base, &self.steps, c)
+    }
+}
+
+fn value_of(base: i64, steps: &[(i64, i64)], c: i64) -> i64
+    requires { pos 0 ≤ℤ c }
+    ensures { result ≡ step_value (record { base = base; steps = steps.now }) (as_time c) }
+{
+    let mut value = base;
+    for step in steps {
+        if step.0 <= c {
+            value = step.1;
+        }
+    }
+    value
+}
+
+fn step_fault(time: i64, value: i64, step: &(i64, i64)) -> Option<CostFault>
+    ensures { result ≡ step_fault time value step.now }
+{
+    if step.0 < 0 || is_beyond(step.0) || is_beyond(step.1) {
+        return Some(CostFault::OutOfRange);
+    }
+    if step.0 <= time {
+        return Some(CostFault::TimesNotRising);
+    }
+    if step.1 < value {
+        return Some(CostFault::CostFalls);
+    }
+    None
+}
+
+fn first_fault(base: i64, steps: &[(i64, i64)]) -> Option<CostFault>
+    ensures { result ≡ steps_fault (record { base = base; steps = steps.now }) }
+{
+    if is_beyond(base) {
+        return Some(CostFault::OutOfRange);
+    }
+    let mut time: i64 = -1;
+    let mut value = base;
+    for step in steps {
+        if let Some(fault) = step_fault(time, value, step) {
+            return Some(fault);
+        }
+        time = step.0;
+        value = step.1;
+    }
+    None
+}

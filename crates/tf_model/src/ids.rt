@@ -1,0 +1,78 @@
+//! The numbers of jobs and machines, from 1.
+ghost use Rattle.std.specs.Prelude.{◌≡◌, ℕ, ◌<◌, ◌≤◌, ◌↔◌, IsSome, IfSome};
+
+use std::marker::Model;
+
+/// The number of a job, from 1.
+#[derive(Clone, Copy, Debug, PartialEq, Eq, PartialOrd, Ord, Hash)]
+pub struct JobId {
+    number: u32,
+}
+
+impl Model for JobId {
+    ghost Value = { ℕ };
+
+    ghost view = { λ j. j.number };
+
+    ghost invariant = { λ j. 0 < j.number };
+
+    ghost inverse = { λ n. record { number = n } };
+}
+
+impl JobId {
+    /// The job of that number: `None` exactly for 0.
+    pub fn new(number: u32) -> Option<Self>
+        ensures valid { IsSome result ↔ (0 < number) }
+        ensures value { IfSome result (λ j. j ≡ number) }
+    {
+        if number == 0 {
+            return None;
+        }
+        Some(JobId { number })
+    }
+
+    /// Its number.
+    pub fn get(self) -> u32
+        ensures value { result ≡ self }
+        ensures from_one { 0 < self }
+    {
+        self.number
+    }
+}
+
+/// The number of a machine, from 1.
+#[derive(Clone, Copy, Debug, PartialEq, Eq, PartialOrd, Ord, Hash)]
+pub struct MachineId {
+    number: u32,
+}
+
+impl Model for MachineId {
+    ghost Value = { ℕ };
+
+    ghost view = { λ i. i.number };
+
+    ghost invariant = { λ i. 0 < i.number };
+
+    ghost inverse = { λ n. record { number = n } };
+}
+
+impl MachineId {
+    /// The machine of that number: `None` exactly for 0.
+    pub fn new(number: u32) -> Option<Self>
+        ensures valid { IsSome result ↔ (0 < number) }
+        ensures value { IfSome result (λ i. i ≡ number) }
+    {
+        if number == 0 {
+            return None;
+        }
+        Some(MachineId { number })
+    }
+
+    /// Its number.
+    pub fn get(self) -> u32
+        ensures value { result ≡ self }
+        ensures from_one { 0 < self }
+    {
+        self.number
+    }
+}

@@ -1,0 +1,35 @@
+//! A job as an instance gives it.
+use crate::cost::StepCost;
+use std::alloc::{Allocator, Global};
+use std::marker::Model;
+
+/// The processing times of a job, in time steps.
+#[derive(Clone, Copy, Debug, PartialEq, Eq)]
+pub enum Times {
+    /// The time on whichever machine the job runs.
+    One(i64),
+    /// In a shop: the times on machine 1 and on machine 2.
+    Two(i64, i64),
+}
+
+/// A job: its times, and whatever else the instance says of it.
+#[derive(Drop)]
+pub struct Job<A: Allocator = Global> {
+    pub times: Times,
+    /// Its weight, at least 0.
+    pub weight: Option<i64>,
+    /// Its due date, which may be negative.
+    pub due: Option<i64>,
+    /// Its release date, at least 0: the job starts no earlier.
+    pub release: Option<i64>,
+    /// What its completion costs, by the time.
+    pub cost: Option<StepCost<A>>,
+}
+
+impl<A: Allocator> Model for Job<A> {
+    ghost use Rattle.tf_model.specs.JobFields.{JobFields};
+
+    ghost Value = { JobFields };
+
+    ghost view = { λ j. record { times = j.times; weight = j.weight; due = j.due; release = j.release; cost = j.cost } };
+}

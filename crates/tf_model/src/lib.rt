@@ -1,0 +1,19 @@
+//! Instances, costs, classes and tasks of deterministic machine scheduling.
+#![tactic(auto)]
+
+pub mod class;
+pub mod cost;
+pub mod ids;
+pub mod instance;
+pub mod job;
+pub mod job_list;
+pub mod limit;
+pub mod memory;
+pub mod number;
+pub mod prepare;
+pub mod problem;
+pub mod so_far;
+pub mod task;
+#[cfg(test)]
+mod tests;
+pub mod word;

@@ -1,0 +1,13 @@
+//! The limits within which problems are solved.
+
+/// The greatest absolute value of a number that is read, and the greatest horizon and total, in time steps.
+pub const LIMIT: i64 = 4_000_000_000_000_000_000;
+
+/// The most jobs of an instance.
+pub const MOST_JOBS: usize = 2_000;
+
+/// The most machines of an instance.
+pub const MOST_MACHINES: u32 = 1_000;
+
+/// The most arcs of an instance.
+pub const MOST_ARCS: usize = 200_000;

@@ -1,0 +1,398 @@
+//! From an instance and a problem to a task, or to the one refusal.
+ghost use Rattle.std.specs.Prelude.{◌≡◌, ℕ, ◌+◌, ◌<◌, ◌≤◌, ◌^◌, ◌*◌, Ok, Err, Option, None, Some, length, map, take, position, MatchResult, IfOk, IfErr, All};
+ghost use Rattle.std.specs.Option.{option_map, ForSome};
+ghost use Rattle.std.specs.List.{sum_by};
+ghost use Rattle.tf_model.specs.Whole.{as_time};
+ghost use Rattle.tf_model.specs.Timetable.{greatest_of};
+ghost use Rattle.tf_model.specs.StepFaults.{IsStepCost};
+ghost use Rattle.tf_model.specs.InstanceData.{IsInstance, first_with};
+ghost use Rattle.tf_model.specs.SchedulingTask.{SchedulingTask, is_shop, is_single, is_weighted, is_released, is_due, is_costed, is_ordered, is_sum};
+ghost use Rattle.tf_model.specs.Prepare.{machine_count, agreed, given, count_for, has_wrong_times, lacking, missing_from, has_zero_time, zero_time, data_of, cost_of, kept_costs, kept_arcs, task_of, work_of, is_too_large, jobs_refusal, prepared, Prepares, IsCountFor};
+ghost use Rattle.tf_model.specs.declared.prepare.Refusal.TheVariants.{OutOfMemory};
+
+use crate::class::{Class, class_of};
+use crate::cost::StepCost;
+use crate::ids::JobId;
+use crate::instance::{Instance, nth_job, numbered};
+use crate::job::{Job, Times};
+use crate::limit::{LIMIT, MOST_JOBS, MOST_MACHINES};
+use crate::problem::Problem;
+use crate::task::{JobRow, Task};
+use std::alloc::{AllocError, AllocFailed, Allocator};
+use thiserror::Error;
+
+/// A field of a job.
+#[derive(Clone, Copy, Debug, PartialEq, Eq)]
+pub enum Field {
+    Weight,
+    Due,
+    Release,
+    Cost,
+}
+
+/// Why an instance is no task of a problem.
+#[derive(Clone, Copy, Debug, PartialEq, Eq, Error)]
+pub enum Refusal {
+    /// No class has the problem.
+    #[error("there is no solver for the problem")]
+    NoSolver,
+    /// There are more jobs than the class allows.
+    #[error("there are too many jobs")]
+    TooManyJobs,
+    /// Neither the notation nor the caller nor the instance gives a number of machines.
+    #[error("the number of machines is missing")]
+    MachinesMissing,
+    /// Two of them give different numbers.
+    #[error("the numbers of machines disagree")]
+    MachinesDisagree,
+    /// This number is 0 or too large, or not 2 for a shop.
+    #[error("{0} machines are not possible")]
+    MachineCount(u32),
+    /// The job has one time where two are wanted, or two where one is.
+    #[error("a job has the wrong number of times")]
+    WrongTimes(JobId),
+    /// The job lacks a field that the class uses.
+    #[error("a job lacks a field")]
+    MissingField(JobId, Field),
+    /// The job has time 0 on a single machine or on parallel machines.
+    #[error("a job has no work")]
+    ZeroTime(JobId),
+    /// A total of the class is beyond the limit.
+    #[error("a total is beyond the limit")]
+    TotalTooLarge,
+    #[error("want of memory")]
+    OutOfMemory,
+}
+
+impl From<AllocError> for Refusal {
+    ghost from_gives = { λ _ e. e ≡ OutOfMemory };
+
+    fn from(_: AllocError) -> Refusal {
+        Refusal::OutOfMemory
+    }
+}
+
+impl<T: Drop> From<AllocFailed<T>> for Refusal {
+    ghost from_gives = { λ _ e. e ≡ OutOfMemory };
+
+    fn from(_: AllocFailed<T>) -> Refusal {
+        Refusal::OutOfMemory
+    }
+}
+
+/// The task of an instance and a problem: the fields that the class uses, with the number of machines that the
+/// notation, the argument or the instance gives. Otherwise the first refusal, each kind over all jobs before the next
+/// kind, with the smallest job; want of memory comes last.
+pub fn prepare<A: Allocator + Copy, B: Allocator>(
+    alloc: A,
+    instance: &Instance<B>,
+    problem: &Problem,
+    machines: Option<u32>,
+) -> Result<Task<A>, Refusal>
+    ensures { Prepares result (prepared instance.now problem.now machines) }
+{
+    let Some(class) = class_of(problem) else {
+        return Err(Refusal::NoSolver);
+    };
+    let machines = machine_count(class, problem.count, machines, instance.machines())?;
+    if let Some(refusal) = jobs_refusal(class, instance.jobs()) {
+        return Err(refusal);
+    }
+    assemble(alloc, class, machines, instance)
+}
+
+// The machine count that two places give, each perhaps none.
+fn agreed(one: Option<u32>, other: Option<u32>) -> Result<Option<u32>, Refusal>
+    ensures { result ≡ agreed one other }
+{
+    match (one, other) {
+        (None, other) => Ok(other),
+        (one, None) => Ok(one),
+        (Some(m), Some(n)) if m == n => Ok(Some(m)),
+        _ => Err(Refusal::MachinesDisagree),
+    }
+}
+
+fn count_for(class: Class, m: u32) -> Result<u32, Refusal>
+    ensures { result ≡ count_for class m }
+{
+    if m == 0 || m > MOST_MACHINES || (class.is_shop() && m != 2) {
+        return Err(Refusal::MachineCount(m));
+    }
+    Ok(m)
+}
+
+// The number of machines: a single machine ignores all that is given.
+fn machine_count(
+    class: Class,
+    notation: Option<u32>,
+    argument: Option<u32>,
+    instance: Option<u32>,
+) -> Result<u32, Refusal>
+    ensures { result ≡ machine_count class notation argument instance }
+{
+    if class.is_single() {
+        return Ok(1);
+    }
+    let count = agreed(notation, argument)?;
+    let count = agreed(count, instance)?;
+    match count {
+        Some(m) => count_for(class, m),
+        None => Err(Refusal::MachinesMissing),
+    }
+}
+
+fn has_wrong_times<A: Allocator>(class: Class, job: &Job<A>) -> bool
+    ensures { result ≡ has_wrong_times class job.now }
+{
+    let is_two = match job.times {
+        Times::One(_) => false,
+        Times::Two(_, _) => true,
+    };
+    is_two != class.is_shop()
+}
+
+fn wrong_times_at<A: Allocator>(class: Class, jobs: &[Job<A>]) -> Option<usize>
+    ensures value { result ≡ position (has_wrong_times class) jobs.now }
+    ensures within { ForSome result (λ k. k < length jobs.now) }
+{
+    jobs.iter().position(|job| has_wrong_times(class, job))
+}
+
+// The first field that the class uses and the job lacks.
+fn lacking<A: Allocator>(class: Class, job: &Job<A>) -> Option<Field>
+    ensures { result ≡ lacking class job.now }
+{
+    if class.is_weighted() && job.weight.is_none() {
+        return Some(Field::Weight);
+    }
+    if class.is_released() && job.release.is_none() {
+        return Some(Field::Release);
+    }
+    if class.is_due() && job.due.is_none() {
+        return Some(Field::Due);
+    }
+    if class.is_costed() && job.cost.is_none() {
+        return Some(Field::Cost);
+    }
+    None
+}
+
+fn first_missing<A: Allocator>(class: Class, jobs: &[Job<A>]) -> Option<Refusal>
+    requires { length jobs.now ≤ MOST_JOBS }
+    ensures { result ≡ missing_from class 1 jobs.now }
+{
+    for (k, job) in jobs.iter().enumerate() {
+        if let Some(field) = lacking(class, job) {
+            return Some(Refusal::MissingField(nth_job(k), field));
+        }
+    }
+    None
+}
+
+fn has_zero_time<A: Allocator>(job: &Job<A>) -> bool
+    ensures { result ≡ has_zero_time job.now }
+{
+    match job.times {
+        Times::One(time) => time < 1,
+        Times::Two(first, second) => first < 1 || second < 1,
+    }
+}
+
+fn zero_time_at<A: Allocator>(jobs: &[Job<A>]) -> Option<usize>
+    ensures value { result ≡ position has_zero_time jobs.now }
+    ensures within { ForSome result (λ k. k < length jobs.now) }
+{
+    jobs.iter().position(|job| has_zero_time(job))
+}
+
+// A number that is not negative.
+fn as_time(number: i64) -> u64
+    ensures { result ≡ as_time number }
+{
+    number.max(0) as u64
+}
+
+// What the class uses of a job, and what is neutral for the rest.
+fn row_of<A: Allocator>(class: Class, job: &Job<A>) -> JobRow
+    ensures { result ≡ data_of class job.now }
+{
+    let (first, second) = match job.times {
+        Times::One(time) => (time, 0),
+        Times::Two(first, second) => (first, second),
+    };
+    JobRow {
+        first: as_time(first),
+        second: as_time(second),
+        weight: if class.is_weighted() {
+            as_time(job.weight.unwrap_or(0))
+        } else {
+            1
+        },
+        release: if class.is_released() {
+            as_time(job.release.unwrap_or(0))
+        } else {
+            0
+        },
+        due: if class.is_due() {
+            job.due.unwrap_or(0)
+        } else {
+            0
+        },
+    }
+}
+
+// The time of all jobs.
+fn total_work<A: Allocator>(class: Class, jobs: &[Job<A>]) -> u128
+    requires { length jobs.now ≤ MOST_JOBS }
+    ensures { result ≡ work_of (map (data_of class) jobs.now) }
+{
+    let mut total: u128 = 0;
+    for job in jobs {
+        let row = row_of(class, job);
+        total += u128::from(row.first) + u128::from(row.second);
+    }
+    total
+}
+
+fn total_weight<A: Allocator>(class: Class, jobs: &[Job<A>]) -> u128
+    requires { length jobs.now ≤ MOST_JOBS }
+    ensures { result ≡ sum_by (λ job. job.weight) (map (data_of class) jobs.now) }
+{
+    jobs.iter()
+        .map(|job| u128::from(row_of(class, job).weight))
+        .sum()
+}
+
+fn last_release<A: Allocator>(class: Class, jobs: &[Job<A>]) -> u64
+    ensures { result ≡ greatest_of (map (λ job. job.release) (map (data_of class) jobs.now)) }
+{
+    let mut last: u64 = 0;
+    for job in jobs {
+        last = last.max(row_of(class, job).release);
+    }
+    last
+}
+
+// Whether a total of the class is beyond the limit.
+fn is_too_large<A: Allocator>(class: Class, jobs: &[Job<A>]) -> bool
+    requires { length jobs.now ≤ MOST_JOBS }
+    ensures { result ≡ is_too_large class (map (data_of class) jobs.now) }
+{
+    const MOST: u128 = LIMIT as u128;
+    let work = total_work(class, jobs);
+    if work > MOST || u128::from(last_release(class, jobs)) + work > MOST {
+        return true;
+    }
+    class.is_sum()
+        && total_weight(class, jobs)
+            .checked_mul(work)
+            .is_none_or(|total| total > MOST)
+}
+
+// The first refusal for the jobs' sake.
+fn jobs_refusal<A: Allocator>(class: Class, jobs: &[Job<A>]) -> Option<Refusal>
+    requires { length jobs.now ≤ MOST_JOBS }
+    ensures { result ≡ jobs_refusal class jobs.now }
+{
+    if let Some(job) = numbered(wrong_times_at(class, jobs)) {
+        return Some(Refusal::WrongTimes(job));
+    }
+    if let Some(refusal) = first_missing(class, jobs) {
+        return Some(refusal);
+    }
+    if !class.is_shop()
+        && let Some(job) = numbered(zero_time_at(jobs))
+    {
+        return Some(Refusal::ZeroTime(job));
+    }
+    if is_too_large(class, jobs) {
+        return Some(Refusal::TotalTooLarge);
+    }
+    None
+}
+
+fn rows_of<A: Allocator, B: Allocator>(
+    alloc: A,
+    class: Class,
+    jobs: &[Job<B>],
+) -> Result<Vec<JobRow, A>, AllocError>
+    ensures { IfOk result (λ rows. rows.items ≡ map (data_of class) jobs.now) }
+{
+    let mut rows = Vec::with_capacity(alloc, jobs.len())?;
+    for job in jobs {
+        rows.push(row_of(class, job))?;
+    }
+    Ok(rows)
+}
+
+fn cost_of<A: Allocator, B: Allocator>(alloc: A, job: &Job<B>) -> Result<StepCost<A>, AllocError>
+    ensures { IfOk result (λ cost. (cost ≡ cost_of job.now) × IsStepCost cost) }
+{
+    match &job.cost {
+        Some(cost) => cost.copied(alloc),
+        None => Ok(StepCost::nothing(alloc)),
+    }
+}
+
+fn costs_of<A: Allocator + Copy, B: Allocator>(
+    alloc: A,
+    jobs: &[Job<B>],
+) -> Result<Vec<StepCost<A>, A>, AllocError>
+    ensures { IfOk result (λ costs. (costs.items ≡ map cost_of jobs.now) × All IsStepCost costs.items) }
+{
+    let mut costs = Vec::with_capacity(alloc, jobs.len())?;
+    for job in jobs {
+        costs.push(cost_of(alloc, job)?)?;
+    }
+    Ok(costs)
+}
+
+// The cost functions, where the class has them.
+fn kept_costs<A: Allocator + Copy, B: Allocator>(
+    alloc: A,
+    class: Class,
+    jobs: &[Job<B>],
+) -> Result<Vec<StepCost<A>, A>, AllocError>
+    ensures { IfOk result (λ costs. (costs.items ≡ kept_costs class jobs.now) × All IsStepCost costs.items) }
+{
+    if class.is_costed() {
+        costs_of(alloc, jobs)
+    } else {
+        Ok(Vec::new(alloc))
+    }
+}
+
+// The arcs, where the class keeps them.
+fn kept_arcs<A: Allocator>(
+    alloc: A,
+    class: Class,
+    arcs: &[(JobId, JobId)],
+) -> Result<Vec<(JobId, JobId), A>, AllocError>
+    ensures { IfOk result (λ kept. kept.items ≡ kept_arcs class arcs.now) }
+{
+    if class.is_ordered() {
+        Vec::from_slice(alloc, arcs)
+    } else {
+        Ok(Vec::new(alloc))
+    }
+}
+
+// The task of what was accepted.
+fn assemble<A: Allocator + Copy, B: Allocator>(
+    alloc: A,
+    class: Class,
+    machines: u32,
+    instance: &Instance<B>,
+) -> Result<Task<A>, Refusal>
+    requires refusal { jobs_refusal class instance.now.jobs ≡ None }
+    requires machines { IsCountFor class machines }
+    ensures ok { IfOk result (λ task. task ≡ task_of class machines instance.now) }
+    ensures err { IfErr result (λ e. e ≡ OutOfMemory) }
+{
+    let jobs = instance.jobs();
+    let rows = rows_of(alloc, class, jobs)?;
+    let costs = kept_costs(alloc, class, jobs)?;
+    let arcs = kept_arcs(alloc, class, instance.arcs())?;
+    Ok(Task::new(class, machines, rows, costs, arcs))
+}

@@ -1,0 +1,205 @@
+//! A task: an instance cut to what its class uses.
+ghost use Rattle.std.specs.Prelude.{◌≡◌, ◌≤◌, pos};
+
+use crate::class::Class;
+use crate::cost::StepCost;
+use crate::ids::JobId;
+use crate::job::Times;
+use std::alloc::{Allocator, Global};
+use std::marker::Model;
+
+/// What a task knows of one job. What the class does not use is neutral: second time 0, weight 1, release date 0,
+/// due date 0.
+#[derive(Clone, Copy, Debug)]
+pub struct JobRow {
+    /// Its time; in a shop its time on machine 1.
+    pub first: u64,
+    /// In a shop its time on machine 2.
+    pub second: u64,
+    pub weight: u64,
+    pub release: u64,
+    pub due: i64,
+}
+
+impl JobRow {
+    ghost use Rattle.std.specs.Prelude.{◌≡◌, ◌+◌, ◌<◌, ◌^◌};
+
+    /// Its time on all machines together.
+    pub fn time(&self) -> u64
+        requires { self.now.first + self.now.second < 2 ^ 64 }
+        ensures { result ≡ self.now.first + self.now.second }
+    {
+        self.first + self.second
+    }
+}
+
+impl Model for JobRow {
+    ghost use Rattle.tf_model.specs.SchedulingTask.{JobData};
+
+    ghost Value = { JobData };
+
+    ghost view = { λ j. record { first = j.first; second = j.second; weight = j.weight; release = j.release; due = j.due } };
+
+    ghost inverse = { λ d. record { first = d.first; second = d.second; weight = d.weight; release = d.release; due = d.due } };
+}
+
+fn as_signed(time: u64) -> i64
+    requires { time ≤ 4000000000000000000 }
+    ensures { result ≡ pos time }
+{
+    time as i64
+}
+
+/// An instance cut to what its class uses. Its numbers and totals are within [`crate::limit::LIMIT`].
+#[derive(Drop)]
+pub struct Task<A: Allocator = Global> {
+    class: Class,
+    machines: u32,
+    jobs: Vec<JobRow, A>,
+    costs: Vec<StepCost<A>, A>,
+    arcs: Vec<(JobId, JobId), A>,
+}
+
+impl<A: Allocator> Model for Task<A> {
+    ghost use Rattle.tf_model.specs.SchedulingTask.{SchedulingTask};
+    ghost use Rattle.tf_model.specs.Sound.{IsSound};
+
+    ghost Value = { SchedulingTask };
+
+    ghost view = { λ t. record { class = t.class; machines = t.machines; jobs = t.jobs.items; costs = t.costs.items; arcs = t.arcs.items } };
+
+    ghost invariant = { λ t. IsSound (record { class = t.class; machines = t.machines; jobs = t.jobs.items; costs = t.costs.items; arcs = t.arcs.items }) };
+}
+
+impl<A: Allocator> Task<A> {
+    ghost use Rattle.std.specs.Prelude.{◌≡◌, ◌≤◌, length, pos, IsTrue, IsFalse};
+    ghost use Rattle.tf_model.specs.SchedulingTask.{IsJob, job_data, time_of, is_costed, is_due, is_released, is_shop, is_sum};
+    ghost use Rattle.tf_model.specs.Sound.{IsSound};
+
+    /// The task of these parts.
+    pub(crate) fn new(
+        class: Class,
+        machines: u32,
+        jobs: Vec<JobRow, A>,
+        costs: Vec<StepCost<A>, A>,
+        arcs: Vec<(JobId, JobId), A>,
+    ) -> Self
+        requires { IsSound (record { class = class; machines = machines; jobs = jobs.items; costs = costs.items; arcs = arcs.items }) }
+        ensures { result ≡ record { class = class; machines = machines; jobs = jobs.items; costs = costs.items; arcs = arcs.items } }
+    {
+        Task {
+            class,
+            machines,
+            jobs,
+            costs,
+            arcs,
+        }
+    }
+
+    /// Its class.
+    pub fn class(&self) -> Class
+        ensures class { result ≡ self.now.class }
+        ensures sound { IsSound self.now }
+    {
+        self.class
+    }
+
+    /// The number of its jobs, at least 1.
+    pub fn len(&self) -> usize
+        ensures value { result ≡ length self.now.jobs }
+        ensures sound { IsSound self.now }
+    {
+        self.jobs.len()
+    }
+
+    /// The number of its machines: 1 for a single machine, 2 for a shop.
+    pub fn machines(&self) -> u32
+        ensures value { result ≡ self.now.machines }
+        ensures sound { IsSound self.now }
+    {
+        self.machines
+    }
+
+    /// What is known of each job, in the order of their numbers.
+    pub fn jobs(&self) -> &[JobRow]
+        ensures value { result.now ≡ self.now.jobs }
+        ensures sound { IsSound self.now }
+    {
+        self.jobs.as_slice()
+    }
+
+    /// What is known of a job that is there.
+    pub fn job(&self, job: JobId) -> JobRow
+        requires { IsJob self.now job }
+        ensures { result ≡ job_data self.now job }
+    {
+        self.jobs[job.get() as usize - 1]
+    }
+
+    /// The times of a job that is there: one for each machine of a shop, else one.
+    pub fn times(&self, job: JobId) -> Times
+        requires { IsJob self.now job }
+        ensures shop { IsTrue (is_shop self.now.class) → result ≡ Times.Two (pos (job_data self.now job).first) (pos (job_data self.now job).second) }
+        ensures one { IsFalse (is_shop self.now.class) → result ≡ Times.One (pos (job_data self.now job).first) }
+    {
+        let row = self.job(job);
+        if self.class.is_shop() {
+            Times::Two(as_signed(row.first), as_signed(row.second))
+        } else {
+            Times::One(as_signed(row.first))
+        }
+    }
+
+    /// The weight of a job that is there, where the class has weights: 1 where all are equal.
+    pub fn weight(&self, job: JobId) -> u64
+        requires class { IsTrue (is_sum self.now.class) }
+        requires job { IsJob self.now job }
+        ensures { result ≡ (job_data self.now job).weight }
+    {
+        self.job(job).weight
+    }
+
+    /// The release date of a job that is there, where the class has release dates.
+    pub fn release(&self, job: JobId) -> u64
+        requires class { IsTrue (is_released self.now.class) }
+        requires job { IsJob self.now job }
+        ensures { result ≡ (job_data self.now job).release }
+    {
+        self.job(job).release
+    }
+
+    /// The due date of a job that is there, where the class has due dates.
+    pub fn due(&self, job: JobId) -> i64
+        requires class { IsTrue (is_due self.now.class) }
+        requires job { IsJob self.now job }
+        ensures { result ≡ (job_data self.now job).due }
+    {
+        self.job(job).due
+    }
+
+    /// The time of a job that is there, on all machines together.
+    pub fn time(&self, job: JobId) -> u64
+        requires { IsJob self.now job }
+        ensures value { result ≡ time_of self.now job }
+        ensures small { result ≤ 4000000000000000000 }
+    {
+        self.jobs[job.get() as usize - 1].time()
+    }
+
+    /// The cost functions, job by job, where the class has them.
+    pub fn step_costs(&self) -> &[StepCost<A>]
+        requires { IsTrue (is_costed self.now.class) }
+        ensures value { result.now ≡ self.now.costs }
+        ensures sound { IsSound self.now }
+    {
+        self.costs.as_slice()
+    }
+
+    /// The arcs: the first job of each is over before the second starts. None where the class has no precedence.
+    pub fn arcs(&self) -> &[(JobId, JobId)]
+        ensures value { result.now ≡ self.now.arcs }
+        ensures sound { IsSound self.now }
+    {
+        self.arcs.as_slice()
+    }
+}

@@ -1,0 +1,2 @@
+pub mod Fill
+pub mod Longest

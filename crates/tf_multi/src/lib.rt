@@ -1,0 +1,4 @@
+//! Solvers for several machines.
+#![tactic(auto)]
+
+pub mod mcnaughton;

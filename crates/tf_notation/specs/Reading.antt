@@ -1,0 +1,64 @@
+-- The problem that a text means. A fault is the offset of the first token that is not expected at its place, or the length of the text where the text ends too early.
+use Rattle.std.specs.Prelude.{◌≡◌, ℕ, Bool, true, false, List, [], ◌∷◌, length, Option, Result, Ok, Err, codes, if◌then◌else◌}
+use Rattle.std.specs.Option.{option_map_or}
+use Rattle.std.specs.Str.{bytes_eq}
+use Rattle.tf_model.specs.declared.problem.Env.{Env}
+use Rattle.tf_model.specs.declared.problem.Goal.{Goal}
+use Rattle.tf_notation.specs.declared.spelling.Conditions.{Conditions}
+use Rattle.tf_model.specs.declared.problem.Problem.{Problem}
+use Rattle.tf_notation.specs.declared.reading.NotationFault.{NotationFault}
+use Rattle.tf_notation.specs.Spelling.{meaning, environment, goals, dividers, no_conditions, adds}
+use Rattle.tf_notation.specs.Tokens.{Token, tokens_from}
+
+-- one part after another, up to the first fault
+infixl 10 ◌>>=◌
+abbrev pub ◌>>=◌ : {A B : Type 0} → Result A ℕ → (A → Result B ℕ) → Result B ℕ
+(Ok x) >>= f = f x
+(Err e) >>= f = Err e
+
+-- what a function returned, seen by view, is what reading gives
+abbrev pub Gives : {X Y : Type 0} → (X → Y) → Result X NotationFault → Result Y ℕ → Type 0
+Gives view (Ok x) read = read ≡ Ok (view x)
+Gives view (Err e) read = read ≡ Err e.byte
+
+-- a token that is expected, as what it means: its meaning, and the tokens after it
+unfoldable pub expect : {A : Type 0} → (List ℕ → Option A) → ℕ → List Token → Result (A × List Token) ℕ
+expect means end [] = Err end
+expect means end (t ∷ ts) = option_map_or (λ x. Ok (x, ts)) (means t.bytes) (Err t.start)
+
+-- Conditions with a ',' between each two, and a '|' after the last. At true a condition that was not named is expected, at false a divider.
+unfoldable pub listed : ℕ → Bool → Conditions → List Token → Result (Conditions × List Token) ℕ
+listed end another named [] = Err end
+listed end true named (t ∷ ts) = option_map_or (λ more. listed end false more ts) (adds named t.bytes) (Err t.start)
+listed end false named (t ∷ ts) = option_map_or (λ another. if another then listed end true named ts else Ok (named, ts)) (meaning dividers t.bytes) (Err t.start)
+
+-- nothing more
+abbrev pub ended : {A : Type 0} → A → List Token → Result A ℕ
+ended x [] = Ok x
+ended x (t ∷ ts) = Err t.start
+
+-- a '|', or conditions up to their '|'
+unfoldable pub conditions_at : ℕ → List Token → Result (Conditions × List Token) ℕ
+conditions_at end [] = Err end
+conditions_at end (t ∷ ts) = if bytes_eq t.bytes (codes "|") then Ok (no_conditions, ts) else listed end true no_conditions (t ∷ ts)
+
+-- a problem by its three fields
+abbrev pub problem_of : Env × Option ℕ → Conditions → Goal → Problem
+problem_of env named goal = record { env = env.0; count = env.1; release = named.release; prec = named.prec; prmp = named.prmp; prmu = named.prmu; nwt = named.nwt; block = named.block; rcrc = named.rcrc; goal = goal }
+
+-- the divider of fields
+abbrev pub bar : List (List ℕ × Unit {0})
+bar = (codes "|", tt) ∷ []
+
+-- an environment, a '|', conditions up to their '|', an objective, and nothing more
+unfoldable pub notation : List ℕ → Result Problem ℕ
+notation text = do
+  env ← expect environment (length text) (tokens_from 0 text)
+  divided ← expect (meaning bar) (length text) env.1
+  named ← conditions_at (length text) divided.1
+  goal ← expect (meaning goals) (length text) named.1
+  ended (problem_of env.0 named.0 goal.0) goal.1
+
+-- a problem that some text means
+abbrev pub IsRead : Problem → Type 0
+IsRead problem = (text : List ℕ) × (notation text ≡ Ok problem)

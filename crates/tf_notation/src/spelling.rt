@@ -1,0 +1,206 @@
+//! The words of three-field notation: every spelling that is read, with its meaning.
+ghost use Rattle.std.specs.Prelude.{◌≡◌};
+ghost use Rattle.std.specs.Str.{bytes_eq};
+ghost use Rattle.tf_notation.specs.Spelling.{goals, meaning, conditions, dividers, environments, count_of, environment, adds, with_condition, has, no_conditions};
+
+use tf_model::limit::MOST_MACHINES;
+use tf_model::number::plain_of;
+use tf_model::problem::{Env, Goal};
+
+/// A condition, of which the second field lists some: what is asked of jobs or allowed to them.
+#[derive(Clone, Copy, Debug, PartialEq, Eq)]
+pub enum Condition {
+    /// `rj`: a job may not start before its release date.
+    Release,
+    /// `prec`: a job may not start before the jobs are over that go before it.
+    Prec,
+    /// `prmp`: preemption, a job may be interrupted and taken up again. The older literature writes `pmtn`.
+    Prmp,
+    /// `prmu`: permutation, the jobs pass all machines of a flow shop in one order.
+    Prmu,
+    /// `nwt`: no wait, a job may not stand between two machines.
+    Nwt,
+    /// `block`: blocking, a job stays on its machine until the next one is free.
+    Block,
+    /// `rcrc`: recirculation, a job may visit a machine more than once.
+    Rcrc,
+}
+
+/// The set of conditions that a second field names.
+#[derive(Clone, Copy, Debug, PartialEq, Eq)]
+pub struct Conditions {
+    pub release: bool,
+    pub prec: bool,
+    pub prmp: bool,
+    pub prmu: bool,
+    pub nwt: bool,
+    pub block: bool,
+    pub rcrc: bool,
+}
+
+/// Whether a word is this spelling, in the same case.
+pub(crate) fn is(word: &[u8], spelling: &[u8]) -> bool
+    ensures { result ≡ bytes_eq word.now spelling.now }
+{
+    word == spelling
+}
+
+/// The objective that a word names, if it names one.
+pub(crate) fn goal_of(word: &[u8]) -> Option<Goal>
+    ensures { result ≡ meaning goals word.now }
+{
+    if is(word, b"Cmax") || is(word, b"C_max") {
+        Some(Goal::Cmax)
+    } else if is(word, b"Lmax") || is(word, b"L_max") {
+        Some(Goal::Lmax)
+    } else if is(word, b"hmax") || is(word, b"h_max") {
+        Some(Goal::Hmax)
+    } else if is(word, b"sumC") || is(word, b"sumCj") || is(word, b"sumC_j") {
+        Some(Goal::SumC)
+    } else if is(word, b"sumwC") || is(word, b"sumwjCj") || is(word, b"sumw_jC_j") {
+        Some(Goal::SumWC)
+    } else if is(word, b"sumT") || is(word, b"sumTj") || is(word, b"sumT_j") {
+        Some(Goal::SumT)
+    } else if is(word, b"sumwT") || is(word, b"sumwjTj") || is(word, b"sumw_jT_j") {
+        Some(Goal::SumWT)
+    } else if is(word, b"sumU") || is(word, b"sumUj") || is(word, b"sumU_j") {
+        Some(Goal::SumU)
+    } else if is(word, b"sumwU") || is(word, b"sumwjUj") || is(word, b"sumw_jU_j") {
+        Some(Goal::SumWU)
+    } else {
+        None
+    }
+}
+
+/// The condition that a word names, if it names one.
+fn condition_of(word: &[u8]) -> Option<Condition>
+    ensures { result ≡ meaning conditions word.now }
+{
+    match word {
+        b"rj" | b"r_j" => Some(Condition::Release),
+        b"prec" => Some(Condition::Prec),
+        b"prmp" | b"pmtn" => Some(Condition::Prmp),
+        b"prmu" => Some(Condition::Prmu),
+        b"nwt" => Some(Condition::Nwt),
+        b"block" => Some(Condition::Block),
+        b"rcrc" => Some(Condition::Rcrc),
+        _ => None,
+    }
+}
+
+/// Whether another condition follows, if this may stand after a condition.
+pub(crate) fn divider_of(word: &[u8]) -> Option<bool>
+    ensures { result ≡ meaning dividers word.now }
+{
+    match word {
+        b"," => Some(true),
+        b"|" => Some(false),
+        _ => None,
+    }
+}
+
+/// The environment of several machines that a letter names, if it names one.
+fn letter_of(word: &[u8]) -> Option<Env>
+    ensures { result ≡ meaning environments word.now }
+{
+    match word {
+        b"P" => Some(Env::Parallel),
+        b"Q" => Some(Env::Uniform),
+        b"R" => Some(Env::Unrelated),
+        b"F" => Some(Env::Flow),
+        b"O" => Some(Env::OpenShop),
+        b"J" => Some(Env::JobShop),
+        _ => None,
+    }
+}
+
+/// The count that stands behind an environment's letter, if this may stand there.
+fn count_of(word: &[u8]) -> Option<Option<u32>>
+    ensures { result ≡ count_of word.now }
+{
+    if word.is_empty() || is(word, b"m") {
+        return Some(None);
+    }
+    plain_of(word, MOST_MACHINES).map(Some)
+}
+
+/// The environment that a word names and the count that it gives, if it names one.
+pub(crate) fn environment_of(word: &[u8]) -> Option<(Env, Option<u32>)>
+    ensures { result ≡ environment word.now }
+{
+    if is(word, b"1") {
+        return Some((Env::Single, None));
+    }
+    if word.is_empty() {
+        return None;
+    }
+    let (letter, rest) = word.split_at(1);
+    let env = letter_of(letter)?;
+    let count = count_of(rest)?;
+    Some((env, count))
+}
+
+impl Conditions {
+    /// No condition.
+    pub(crate) fn none() -> Conditions
+        ensures { result ≡ no_conditions }
+    {
+        Conditions {
+            release: false,
+            prec: false,
+            prmp: false,
+            prmu: false,
+            nwt: false,
+            block: false,
+            rcrc: false,
+        }
+    }
+
+    /// Whether a condition is among these.
+    pub fn has(&self, condition: Condition) -> bool
+        ensures { result ≡ has self.now condition }
+    {
+        match condition {
+            Condition::Release => self.release,
+            Condition::Prec => self.prec,
+            Condition::Prmp => self.prmp,
+            Condition::Prmu => self.prmu,
+            Condition::Nwt => self.nwt,
+            Condition::Block => self.block,
+            Condition::Rcrc => self.rcrc,
+        }
+    }
+
+    /// These and one more.
+    fn with(self, condition: Condition) -> Conditions
+        ensures { result ≡ with_condition self condition }
+    {
+        match condition {
+            Condition::Release => Conditions {
+                release: true,
+                ..self
+            },
+            Condition::Prec => Conditions { prec: true, ..self },
+            Condition::Prmp => Conditions { prmp: true, ..self },
+            Condition::Prmu => Conditions { prmu: true, ..self },
+            Condition::Nwt => Conditions { nwt: true, ..self },
+            Condition::Block => Conditions {
+                block: true,
+                ..self
+            },
+            Condition::Rcrc => Conditions { rcrc: true, ..self },
+        }
+    }
+
+    /// These and the condition that the word names, if it names one that isn't among these.
+    pub(crate) fn add(self, word: &[u8]) -> Option<Conditions>
+        ensures { result ≡ adds self word.now }
+    {
+        let condition = condition_of(word)?;
+        if self.has(condition) {
+            None
+        } else {
+            Some(self.with(condition))
+        }
+    }
+}

@@ -1,0 +1,130 @@
+-- What was judged number by number is an instance.
+use Rattle.std.proofs.Common.{◌≡◌, ℕ, zero, suc, ◌+◌, ◌<◌, ◌≤◌, ℤ, pos, negsuc, Bool, true, false, cond, ltb, eqb, ◌||◌, List, [], ◌∷◌, length, drop, get_or, None, Result, Ok, Err, refl, sym, ap, subst, ◌∙◌, arith, position, unsigned_abs}
+use Rattle.std.specs.List.{position_or_len}
+use Rattle.std.proofs.lemmas.Bool.{le-ltb, ne_eqb}
+use Rattle.std.specs.Str.Parse.{digits_value}
+use Rattle.tf_model.specs.Number.{number, limit, signed, is_numeral}
+use Rattle.tf_model.specs.declared.number.Number.{Number}
+use Rattle.tf_model.specs.declared.number.Number.TheVariants.{NotANumber, TooLarge, Value}
+use Rattle.tf_model.specs.InstanceData.{InstanceData, IsInstance, is_negative, is_beyond, has_negative, has_beyond, is_bad_arc, count_fault}
+use Rattle.tf_model.specs.declared.limit.TheConstants.{MOST_JOBS, MOST_ARCS}
+use Rattle.tf_read.specs.declared.fault.ReadFault.{ReadFault}
+use Rattle.tf_read.specs.Faults.{◌>>=◌, each_from, natural, integer}
+
+pub bind_ok : {A B : Type 0} (r : Result A ReadFault) (f : A → Result B ReadFault) (y : B) → (r >>= f) ≡ Ok y → (x : A) × (r ≡ Ok x) × (f x ≡ Ok y)
+bind_ok (Ok x) f y h = (x, refl, h)
+bind_ok (Err e) f y h = cc
+
+pub same_ok : {A : Type 0} {x y : A} (r : Result A ReadFault) → r ≡ Ok x → r ≡ Ok y → x ≡ y
+same_ok r g h = let both = sym g ∙ h in cc
+
+-- a test behind which there is a value
+pub then_ok : {A : Type 0} (b : Bool) (x : Result A ReadFault) (e : ReadFault) (z : A) → cond b x (Err e) ≡ Ok z → (b ≡ true) × (x ≡ Ok z)
+then_ok true x e z h = (refl, h)
+then_ok false x e z h = cc
+
+pub else_ok : {A : Type 0} (b : Bool) (e : ReadFault) (y : Result A ReadFault) (z : A) → cond b (Err e) y ≡ Ok z → (b ≡ false) × (y ≡ Ok z)
+else_ok true e y z h = cc
+else_ok false e y z h = (refl, h)
+
+-- each value that may come passes
+pub record GivesOnly {A : Type 0} (P : A → Type 0) (r : Result A ReadFault) : Type 0 where
+  pub each : (x : A) → r ≡ Ok x → P x
+
+pub on_fault : {A : Type 0} (P : A → Type 0) (e : ReadFault) → GivesOnly P (Err e)
+on_fault P e = record { each = λ x h. cc }
+
+pub on_test : {A : Type 0} (P : A → Type 0) (b : Bool) (x y : Result A ReadFault) → GivesOnly P x → GivesOnly P y → GivesOnly P (cond b x y)
+on_test P true x y p q = p
+on_test P false x y p q = q
+
+pub on_value : {A B : Type 0} (P : B → Type 0) (r : Result A ReadFault) (f : A → B) → ((x : A) → r ≡ Ok x → P (f x)) → GivesOnly P (r >>= λ x. Ok (f x))
+on_value P r f h = record { each = λ y e. let a = bind_ok r (λ x. Ok (f x)) y e in subst P (same_ok (Ok (f a.0)) refl a.2) (h a.0 a.1) }
+
+pub or_false : (a b : Bool) → a ≡ false → b ≡ false → (a || b) ≡ false
+or_false a b e d = rw (e, d) refl
+
+-- a value that is read is within the limit
+size_of : (negative : Bool) (size : ℕ) → unsigned_abs (signed negative size) ≡ size
+size_of true zero = refl
+size_of true (suc n) = refl
+size_of false n = refl
+
+within : (negative above : Bool) (size : ℕ) (z : ℤ) → ltb limit size ≡ above → cond above TooLarge (Value (signed negative size)) ≡ Value z → is_beyond z ≡ false
+within negative true size z t h = cc
+within negative false size z t h =
+    let e : signed negative size ≡ z = cc in
+    ap (λ (n : ℕ). ltb limit n) (ap unsigned_abs (sym e) ∙ size_of negative size) ∙ t
+
+number_of : (numeral negative : Bool) (size : ℕ) (z : ℤ) → cond numeral (cond (ltb limit size) TooLarge (Value (signed negative size))) NotANumber ≡ Value z → is_beyond z ≡ false
+number_of true negative size z h = within negative (ltb limit size) size z refl h
+number_of false negative size z h = cc
+
+pub value_within : (word : List ℕ) (z : ℤ) → number word ≡ Value z → is_beyond z ≡ false
+unfolding number
+value_within word z h =
+    let negative : Bool = eqb (get_or word 0 0) 45 in
+    let digits : List ℕ = cond negative (drop 1 word) word in
+    number_of (is_numeral digits) negative (digits_value 10 digits) z h
+
+pub integer_within : (line : ℕ) (n : Number) (z : ℤ) → integer line n ≡ Ok z → n ≡ Value z
+integer_within line NotANumber z h = cc
+integer_within line TooLarge z h = cc
+integer_within line (Value y) z h = cc
+
+pub natural_within : (line : ℕ) (n : Number) (z : ℤ) → natural line n ≡ Ok z → (n ≡ Value z) × (is_negative z ≡ false)
+natural_within line NotANumber z h = cc
+natural_within line TooLarge z h = cc
+natural_within line (Value (negsuc m)) z h = cc
+natural_within line (Value (pos m)) z h =
+    let e : pos m ≡ z = cc in
+    (ap Value e, subst (λ (y : ℤ). is_negative y ≡ false) e (le-ltb m 0 (omega arith)))
+
+-- no element passes
+pub past_end : {Y : Type 0} (test : Y → Bool) (y : Y) (ys : List Y) → test y ≡ false → position_or_len test ys ≡ length ys → position_or_len test (y ∷ ys) ≡ length (y ∷ ys)
+past_end test y ys e h = rw (e, h) (omega arith)
+
+none_passes : {X Y : Type 0} (read : ℕ → X → Result Y ReadFault) (test : Y → Bool) → ((k : ℕ) (x : X) (y : Y) → read k x ≡ Ok y → test y ≡ false) → (k : ℕ) (xs : List X) (ys : List Y) → each_from read k xs ≡ Ok ys → position_or_len test ys ≡ length ys
+unfolding each_from
+none_passes read test ok k [] ys h = let e : ys ≡ [] = cc in subst (λ zs. position_or_len test zs ≡ length zs) (sym e) refl
+none_passes read test ok k (x ∷ xs) ys h =
+    let a = bind_ok _ _ _ h in
+    let b = bind_ok _ _ _ a.2 in
+    let e : a.0 ∷ b.0 ≡ ys = same_ok (Ok (a.0 ∷ b.0)) refl b.2 in
+    subst (λ zs. position_or_len test zs ≡ length zs) e (past_end test a.0 b.0 (ok k x a.0 a.1) (none_passes read test ok (k + 1) xs b.0 b.1))
+
+pub none_there : {X Y : Type 0} (read : ℕ → X → Result Y ReadFault) (test : Y → Bool) → ((k : ℕ) (x : X) (y : Y) → read k x ≡ Ok y → test y ≡ false) → (k : ℕ) (xs : List X) (ys : List Y) → each_from read k xs ≡ Ok ys → position test ys ≡ None
+none_there read test ok k xs ys h = let e = none_passes read test ok k xs ys h in let t : ltb (length ys) (length ys) ≡ false = le-ltb _ _ (omega arith) in rw (e, t) refl
+
+-- no more than the number up to which they are read
+pub few : {X Y : Type 0} (read : ℕ → X → Result Y ReadFault) (most : ℕ) → ((k : ℕ) (x : X) (y : Y) → read k x ≡ Ok y → k ≤ most) → (k : ℕ) (xs : List X) (ys : List Y) → k ≤ most + 1 → each_from read k xs ≡ Ok ys → length ys + k ≤ most + 1
+unfolding each_from
+few read most ok k [] ys from h = let e : ys ≡ [] = cc in subst (λ (zs : List _). length zs + k ≤ most + 1) (sym e) (omega arith)
+few read most ok k (x ∷ xs) ys from h =
+    let a = bind_ok _ _ _ h in
+    let b = bind_ok _ _ _ a.2 in
+    let e : a.0 ∷ b.0 ≡ ys = same_ok (Ok (a.0 ∷ b.0)) refl b.2 in
+    let le : k ≤ most = ok k x a.0 a.1 in
+    let more : length b.0 + (k + 1) ≤ most + 1 = few read most ok (k + 1) xs b.0 (omega arith) b.1 in
+    omega (arith, ap length e, more)
+
+-- counts within the limits, no number that is negative or beyond the limit, and no arc of a job that isn't there
+pub record IsJudged (i : InstanceData) : Type 0 where
+  pub some : 0 < length i.jobs
+  pub few : length i.jobs ≤ MOST_JOBS
+  pub machines : count_fault i.machines ≡ None
+  pub arcs : length i.arcs ≤ MOST_ARCS
+  pub negative : position has_negative i.jobs ≡ None
+  pub beyond : position has_beyond i.jobs ≡ None
+  pub bad_arc : position (is_bad_arc (length i.jobs)) i.arcs ≡ None
+
+pub judged : (i : InstanceData) → IsJudged i → IsInstance i
+judged i j =
+    let some : eqb (length i.jobs) 0 ≡ false = ne_eqb _ _ (λ e. omega (arith, j.some, e)) in
+    let few : ltb MOST_JOBS (length i.jobs) ≡ false = le-ltb _ _ j.few in
+    let arcs : ltb MOST_ARCS (length i.arcs) ≡ false = le-ltb _ _ j.arcs in
+    let machines : count_fault i.machines ≡ None = j.machines in
+    let negative : position has_negative i.jobs ≡ None = j.negative in
+    let beyond : position has_beyond i.jobs ≡ None = j.beyond in
+    let bad_arc : position (is_bad_arc (length i.jobs)) i.arcs ≡ None = j.bad_arc in
+    rw (some, few, arcs, machines, negative, beyond, bad_arc) refl

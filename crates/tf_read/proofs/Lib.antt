@@ -1,0 +1,16 @@
+pub mod Each
+pub mod Comma
+pub mod Fields
+pub mod Firsts
+pub mod Judged
+pub mod JobsJudged
+pub mod TableRows
+pub mod WtRows
+pub mod Words
+pub mod Progress
+pub mod OneInstance
+pub mod Wt
+pub mod FlowWords
+pub mod FlowInstance
+pub mod FlowLines
+pub mod FlowRows

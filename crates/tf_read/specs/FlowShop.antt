@@ -1,0 +1,137 @@
+-- Flow shop texts: the instance of a name that a text holds, or its first fault.
+use Rattle.std.specs.Prelude.{ℕ, ◌+◌, ◌*◌, ◌/◌, ◌%◌, Bool, true, not, ◌&&◌, ◌||◌, List, [], ◌∷◌, length, map, take, Option, Some, None, Result, Ok, Err, ℤ, pos, negsuc, codes, nat_lt, ◌==◌, slice_index_or, if◌then◌else◌}
+use Rattle.std.specs.List.{range_with_len}
+use Rattle.std.specs.Str.{bytes_eq}
+use Rattle.std.specs.Cmp.Lexicographic.{pointwise}
+use Rattle.tf_model.specs.Number.{number, limit, is_numeral}
+use Rattle.tf_model.specs.Words.{Word, words, lines, words_from}
+use Rattle.tf_model.specs.JobFields.{JobFields}
+use Rattle.tf_model.specs.InstanceData.{InstanceData}
+use Rattle.tf_model.specs.declared.job.Times.{Times}
+use Rattle.tf_model.specs.declared.job.Times.TheVariants.{One, Two}
+use Rattle.tf_model.specs.declared.limit.TheConstants.{MOST_JOBS, MOST_MACHINES}
+use Rattle.tf_model.specs.declared.number.Number.{Number}
+use Rattle.tf_model.specs.declared.number.Number.TheVariants.{NotANumber, TooLarge, Value}
+use Rattle.tf_read.specs.declared.fault.TheConstants.{MOST_BYTES}
+use Rattle.tf_read.specs.declared.fault.ReadFault.{ReadFault}
+use Rattle.tf_read.specs.declared.fault.ReadFault.TheVariants.{TooLong, BadNumber, EndsEarly, NoInstance, NotAFlowShop, BadPair, BadLine, NoJobs, TooManyJobs}
+use Rattle.tf_read.specs.Faults.{◌>>=◌, each_from, natural}
+
+-- Words count from 0 here, those behind the line of the sizes. Each second word is a time, and the word before it names the machine, from 0.
+abbrev pub is_time : ℕ → Bool
+is_time i = i % 2 == 1
+
+abbrev pub machine_at : ℕ → ℕ → ℕ
+machine_at machines i = i / 2 % machines
+
+-- the machine that is wanted
+abbrev pub machine_is : ℕ → ℕ → Number → Result ℤ ReadFault
+machine_is wanted line NotANumber = Err (BadNumber line)
+machine_is wanted line TooLarge = Err (NotAFlowShop line)
+machine_is wanted line (Value (negsuc i)) = Err (NotAFlowShop line)
+machine_is wanted line (Value (pos i)) = if i == wanted then Ok (pos i) else Err (NotAFlowShop line)
+
+abbrev pub number_at : ℕ → ℕ → ℕ → Number → Result ℤ ReadFault
+number_at machines i line read = if is_time i then natural line read else machine_is (machine_at machines i) line read
+
+abbrev pub judged : ℕ → ℕ → Word → Result ℤ ReadFault
+judged machines i word = number_at machines i word.line (number word.bytes)
+
+-- the times on a machine, job by job, among numbers of which the first has a place
+abbrev pub times_on : ℕ → ℕ → ℕ → List ℤ → List ℤ
+times_on machines machine i [] = []
+times_on machines machine i (z ∷ zs) =
+    if is_time i && machine_at machines i == machine then z ∷ times_on machines machine (i + 1) zs
+    else times_on machines machine (i + 1) zs
+
+-- the machines whose times are kept
+abbrev pub first_machine : Option (ℕ × ℕ) → ℕ
+first_machine None = 0
+first_machine (Some pair) = pair.0
+
+-- where there is but one machine, it is both
+abbrev pub second_machine : ℕ → Option (ℕ × ℕ) → ℕ
+second_machine machines None = if machines == 1 then 0 else 1
+second_machine machines (Some pair) = pair.1
+
+abbrev pub machine_count : ℕ → Option (ℕ × ℕ) → ℕ
+machine_count machines None = machines
+machine_count machines (Some pair) = 2
+
+-- the time at a place
+abbrev pub at : List ℤ → ℕ → ℤ
+at times j = slice_index_or times j (pos 0)
+
+-- one time where there is one machine
+abbrev pub times_of : ℕ → List ℤ → List ℤ → ℕ → Times
+times_of machines firsts seconds j = if machines == 1 then One (at firsts j) else Two (at firsts j) (at seconds j)
+
+abbrev pub job : ℕ → List ℤ → List ℤ → ℕ → JobFields
+job machines firsts seconds j = record { times = times_of machines firsts seconds j; weight = None; due = None; release = None; cost = None }
+
+abbrev pub jobs_of : ℕ → ℕ → List ℤ → List ℤ → List JobFields
+jobs_of jobs machines firsts seconds = map (job machines firsts seconds) (range_with_len 0 jobs)
+
+-- the instance, where all its numbers are there
+abbrev pub present : ℕ → ℕ → Option (ℕ × ℕ) → List ℤ → Result InstanceData ReadFault
+present jobs machines pair numbers =
+    if nat_lt (length numbers) (2 * jobs * machines) then Err EndsEarly
+    else Ok (record {
+      jobs = jobs_of jobs machines (times_on machines (first_machine pair) 0 numbers) (times_on machines (second_machine machines pair) 0 numbers);
+      arcs = [];
+      machines = Some (machine_count machines pair);
+    })
+
+-- for each job and each machine the machine and the time, however the lines are broken
+unfoldable pub pairs_of : ℕ → ℕ → Option (ℕ × ℕ) → List Word → Result InstanceData ReadFault
+pairs_of jobs machines pair words = each_from (judged machines) 0 (take (2 * jobs * machines) words) >>= λ numbers. present jobs machines pair numbers
+
+-- two machines that are there, and not the same
+abbrev pub is_pair : ℕ → Option (ℕ × ℕ) → Bool
+is_pair machines None = true
+is_pair machines (Some pair) = not (pair.0 == pair.1) && nat_lt pair.0 machines && nat_lt pair.1 machines
+
+-- a size of digits alone; of those above the limit each is as good as another
+abbrev pub size : Number → ℕ
+size NotANumber = 0
+size TooLarge = limit + 1
+size (Value (pos n)) = n
+size (Value (negsuc n)) = 0
+
+-- the sizes stand on this line, and the words behind it
+unfoldable pub sized : Option (ℕ × ℕ) → ℕ → ℕ → ℕ → List Word → Result InstanceData ReadFault
+sized pair line jobs machines words =
+    if jobs == 0 then Err NoJobs
+    else if nat_lt MOST_JOBS jobs then Err TooManyJobs
+    else if machines == 0 || nat_lt MOST_MACHINES machines then Err (BadLine line)
+    else if not (is_pair machines pair) then Err BadPair
+    else pairs_of jobs machines pair words
+
+-- two words of digits alone
+abbrev pub sizes_in : List (List ℕ) → Option (ℕ × ℕ)
+sizes_in [] = None
+sizes_in (a ∷ []) = None
+sizes_in (a ∷ b ∷ []) = if is_numeral a && is_numeral b then Some (size (number a), size (number b)) else None
+sizes_in (a ∷ b ∷ c ∷ more) = None
+
+-- from the first line of sizes on, of lines of which the first has this number
+abbrev pub at_sizes : Option (ℕ × ℕ) → ℕ → Option (ℕ × ℕ) → List (List ℕ) → Result InstanceData ReadFault → Result InstanceData ReadFault
+at_sizes pair line None more later = later
+at_sizes pair line (Some sizes) more later = sized pair line sizes.0 sizes.1 (words_from (line + 1) more)
+
+unfoldable pub from_sizes : Option (ℕ × ℕ) → ℕ → List (List ℕ) → Result InstanceData ReadFault
+from_sizes pair n [] = Err EndsEarly
+from_sizes pair n (line ∷ more) = at_sizes pair n (sizes_in (words line)) more (from_sizes pair (n + 1) more)
+
+-- exactly `instance` and the name
+abbrev pub is_heading : List ℕ → List (List ℕ) → Bool
+is_heading name words = pointwise bytes_eq words (codes "instance" ∷ name ∷ [])
+
+-- from the first heading of the name on
+unfoldable pub from_heading : List ℕ → Option (ℕ × ℕ) → ℕ → List (List ℕ) → Result InstanceData ReadFault
+from_heading name pair n [] = Err NoInstance
+from_heading name pair n (line ∷ more) =
+    if is_heading name (words line) then from_sizes pair (n + 1) more else from_heading name pair (n + 1) more
+
+unfoldable pub flow_shop : List ℕ → Option (ℕ × ℕ) → List ℕ → Result InstanceData ReadFault
+flow_shop name pair text = if nat_lt MOST_BYTES (length text) then Err TooLong else from_heading name pair 1 (lines text)

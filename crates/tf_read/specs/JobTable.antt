@@ -1,0 +1,113 @@
+-- The job table: the instance that a text says, or its first fault.
+use Rattle.std.specs.Prelude.{ℕ, Bool, false, not, ◌&&◌, List, [], ◌∷◌, length, drop, Option, Some, None, Result, Ok, Err, pos, negsuc, codes, nat_lt, nat_le, ◌==◌, slice_index_or, if◌then◌else◌}
+use Rattle.std.specs.List.{before_first, position_or_len}
+use Rattle.std.specs.Str.{bytes_eq}
+use Rattle.std.specs.Cmp.Lexicographic.{pointwise}
+use Rattle.tf_model.specs.Number.{number, plain}
+use Rattle.tf_model.specs.Words.{Line, lines, kept_from}
+use Rattle.tf_model.specs.JobFields.{JobFields}
+use Rattle.tf_model.specs.InstanceData.{InstanceData, is_no_job}
+use Rattle.tf_model.specs.declared.limit.TheConstants.{MOST_JOBS, MOST_MACHINES, MOST_ARCS}
+use Rattle.tf_model.specs.declared.number.Number.{Number}
+use Rattle.tf_model.specs.declared.number.Number.TheVariants.{NotANumber, TooLarge, Value}
+use Rattle.tf_read.specs.declared.fault.TheConstants.{MOST_BYTES}
+use Rattle.tf_read.specs.declared.fault.ReadFault.{ReadFault}
+use Rattle.tf_read.specs.declared.fault.ReadFault.TheVariants.{TooLong, BadNumber, EndsEarly, BadLine, NoJobs, TooManyJobs, TooManyArcs, BadArc}
+use Rattle.tf_read.specs.Faults.{◌>>=◌, each_from}
+use Rattle.tf_read.specs.JobLine.{fields_at, no_fields}
+
+-- `machines m`, with m from 1 to the most machines
+abbrev pub machine_count : ℕ → Number → Result ℕ ReadFault
+machine_count line NotANumber = Err (BadNumber line)
+machine_count line TooLarge = Err (BadLine line)
+machine_count line (Value (negsuc m)) = Err (BadLine line)
+machine_count line (Value (pos m)) = if nat_le 1 m && nat_le m MOST_MACHINES then Ok m else Err (BadLine line)
+
+unfoldable pub machines_at : ℕ → List (List ℕ) → Result ℕ ReadFault
+machines_at line [] = Err (BadLine line)
+machines_at line (word ∷ []) = machine_count line (number word)
+machines_at line (word ∷ other ∷ more) = Err (BadLine line)
+
+-- the word at a place, from 0, or no bytes where there is none
+abbrev pub word_at : ℕ → List (List ℕ) → List ℕ
+word_at i words = slice_index_or words i []
+
+abbrev pub is_number : ℕ → Option ℕ → Bool
+is_number k None = false
+is_number k (Some n) = n == k
+
+-- the number k without leading zeros, and the fields
+abbrev pub numbered_job : ℕ → ℕ → List (List ℕ) → Result JobFields ReadFault
+numbered_job line k [] = Err (BadLine line)
+numbered_job line k (word ∷ more) = if is_number k (plain MOST_JOBS word) then fields_at line no_fields more else Err (BadLine line)
+
+-- the line of job k
+unfoldable pub job_at : ℕ → Line → Result JobFields ReadFault
+job_at k line =
+    if not (bytes_eq (word_at 0 line.words) (codes "job")) then Err (BadLine line.number)
+    else if nat_lt MOST_JOBS k then Err TooManyJobs
+    else numbered_job line.number k (drop 1 line.words)
+
+-- a line `prec ..`
+abbrev pub is_arc : Line → Bool
+is_arc line = bytes_eq (word_at 0 line.words) (codes "prec")
+
+-- a job of an arc, from 1 to the number of jobs
+abbrev pub arc_job : ℕ → ℕ → Number → Result ℕ ReadFault
+arc_job jobs line NotANumber = Err (BadNumber line)
+arc_job jobs line TooLarge = Err (BadArc line)
+arc_job jobs line (Value (negsuc j)) = Err (BadArc line)
+arc_job jobs line (Value (pos j)) = if is_no_job jobs j then Err (BadArc line) else Ok j
+
+-- two words, judged one after the other
+unfoldable pub arc_of : ℕ → ℕ → List (List ℕ) → Result (ℕ × ℕ) ReadFault
+arc_of jobs line [] = Err (BadLine line)
+arc_of jobs line (a ∷ []) = Err (BadLine line)
+arc_of jobs line (a ∷ b ∷ []) = arc_job jobs line (number a) >>= λ first. arc_job jobs line (number b) >>= λ second. Ok (first, second)
+arc_of jobs line (a ∷ b ∷ c ∷ more) = Err (BadLine line)
+
+-- the line of arc k
+unfoldable pub arc_at : ℕ → ℕ → Line → Result (ℕ × ℕ) ReadFault
+arc_at jobs k line =
+    if not (is_arc line) then Err (BadLine line.number)
+    else if nat_lt MOST_ARCS k then Err TooManyArcs
+    else arc_of jobs line.number (drop 1 line.words)
+
+-- what is missing where no job is there
+abbrev pub no_job : List Line → ReadFault
+no_job [] = NoJobs
+no_job (line ∷ more) = BadLine line.number
+
+-- a line for each arc, behind one job or more
+unfoldable pub arcs_of : ℕ → List Line → Result (List (ℕ × ℕ)) ReadFault
+arcs_of jobs all = if jobs == 0 then Err (no_job all) else each_from (arc_at jobs) 1 all
+
+-- from the first element that passes on
+abbrev pub from_first : {X : Type 0} → (X → Bool) → List X → List X
+from_first p xs = drop (position_or_len p xs) xs
+
+-- a line for each job up to the first arc, and then the arcs
+unfoldable pub body_of : Option ℕ → List Line → Result InstanceData ReadFault
+body_of machines all = do
+  jobs ← each_from job_at 1 (before_first is_arc all)
+  arcs ← arcs_of (length jobs) (from_first is_arc all)
+  Ok (record { jobs = jobs; arcs = arcs; machines = machines })
+
+-- at most one line `machines m` before them
+unfoldable pub below_heading : List Line → Result InstanceData ReadFault
+below_heading [] = body_of None []
+below_heading (line ∷ more) =
+    if bytes_eq (word_at 0 line.words) (codes "machines") then (machines_at line.number (drop 1 line.words) >>= λ m. body_of (Some m) more)
+    else body_of None (line ∷ more)
+
+-- the heading is exactly `table 1`
+abbrev pub is_heading : List (List ℕ) → Bool
+is_heading words = pointwise bytes_eq words (codes "table" ∷ codes "1" ∷ [])
+
+unfoldable pub table_of : List Line → Result InstanceData ReadFault
+table_of [] = Err EndsEarly
+table_of (heading ∷ more) = if is_heading heading.words then below_heading more else Err (BadLine heading.number)
+
+-- a text by its kept lines
+unfoldable pub job_table : List ℕ → Result InstanceData ReadFault
+job_table text = if nat_lt MOST_BYTES (length text) then Err TooLong else table_of (kept_from 1 (lines text))

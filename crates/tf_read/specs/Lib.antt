@@ -1,0 +1,10 @@
+pub mod Faults
+pub mod WordParts
+pub mod CostField
+pub mod JobLine
+pub mod JobTable
+pub mod Scan
+pub mod WeightedTardiness
+pub mod Numbers
+pub mod FlowShop
+pub mod Pairs

@@ -1,0 +1,69 @@
+-- The times of a flow shop among the words of a text.
+use Rattle.std.specs.Prelude.{◌≡◌, ℕ, ◌+◌, ◌*◌, Bool, true, false, ◌==◌, nat_lt, List, [], ◌∷◌, ◌++◌, length, take, Option, Some, None, Result, Ok, Err, ℤ, if◌then◌else◌}
+use Rattle.std.specs.Option.{option_or}
+use Rattle.tf_model.specs.Words.{Word}
+use Rattle.tf_model.specs.declared.so_far.SoFar.{SoFar}
+use Rattle.tf_read.specs.declared.fault.ReadFault.{ReadFault}
+use Rattle.tf_read.specs.declared.fault.ReadFault.TheVariants.{EndsEarly}
+use Rattle.tf_read.specs.Faults.{each_from}
+use Rattle.tf_read.specs.Scan.{IsAt}
+use Rattle.tf_read.specs.FlowShop.{judged, times_on}
+
+-- how far the reading of so many jobs on so many machines is, of which the times on two are kept
+pub record Pairs : Type 0 where
+  pub jobs : ℕ
+  pub machines : ℕ
+  pub first : ℕ
+  pub second : ℕ
+  pub job : ℕ  -- the jobs that are over
+  pub machine : ℕ  -- the next machine of the next job
+  pub is_named : Bool  -- the machine was named, so its time follows
+  pub firsts : List ℤ
+  pub seconds : List ℤ
+  pub fault : Option ReadFault
+
+-- the words that were judged, and those that are wanted
+abbrev pub count : Pairs → ℕ
+count p = 2 * (p.job * p.machines + p.machine) + (if p.is_named then 1 else 0)
+
+abbrev pub wanted : Pairs → ℕ
+wanted p = 2 * p.jobs * p.machines
+
+abbrev pub Holds : Option ReadFault → Pairs → Result (List ℤ) ReadFault → Type 0
+Holds None p read = (all : List ℤ) × (read ≡ Ok all) × (count p ≡ length all) × (p.firsts ≡ times_on p.machines p.first 0 all) × (p.seconds ≡ times_on p.machines p.second 0 all)
+Holds (Some fault) p read = read ≡ Err fault
+
+-- these are the words that were read
+abbrev pub HasRead : Pairs → List Word → Type 0
+HasRead p seen = Holds p.fault p (each_from (judged p.machines) 0 (take (wanted p) seen))
+
+-- with the name of a machine more, as it is judged
+abbrev pub after_name : Pairs → Result ℤ ReadFault → Pairs
+after_name p (Ok z) = record p { is_named = true }
+after_name p (Err e) = record p { fault = Some e }
+
+-- the times on a machine, with one more if it is that of this one
+abbrev pub with_time : ℕ → ℕ → List ℤ → ℤ → List ℤ
+with_time wanted machine times z = if machine == wanted then times ++ z ∷ [] else times
+
+abbrev pub is_last : Pairs → Bool
+is_last p = p.machine + 1 == p.machines
+
+-- with a time more, as it is judged
+abbrev pub after_time : Pairs → Result ℤ ReadFault → Pairs
+after_time p (Err e) = record p { fault = Some e }
+after_time p (Ok z) = record p {
+  job = if is_last p then p.job + 1 else p.job;
+  machine = if is_last p then 0 else p.machine + 1;
+  is_named = false;
+  firsts = with_time p.first p.machine p.firsts z;
+  seconds = with_time p.second p.machine p.seconds z;
+}
+
+-- the fault that was met, or what is missing at the end
+abbrev pub missing : Pairs → Option ReadFault
+missing p = option_or p.fault (if nat_lt p.job p.jobs then Some EndsEarly else None)
+
+-- the text that was fed, on lines of which the first has this number
+abbrev pub HasFed : ℕ → Pairs → ℕ → SoFar → List ℕ → Type 0
+HasFed first p line shown fed = (seen : List Word) × IsAt first fed seen line shown × HasRead p seen

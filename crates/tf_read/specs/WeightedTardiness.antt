@@ -1,0 +1,51 @@
+-- Weighted tardiness texts, after OR-Library's: the k-th instance of n jobs that a text holds, or its first fault.
+use Rattle.std.specs.Prelude.{ℕ, ◌+◌, ◌-◌, ◌*◌, ◌%◌, List, [], length, map, take, drop, Some, None, Result, Ok, Err, ℤ, pos, nat_lt, nat_le, ◌==◌, slice_index_or, if◌then◌else◌}
+use Rattle.std.specs.List.{range_with_len}
+use Rattle.tf_model.specs.Number.{number}
+use Rattle.tf_model.specs.Words.{Word, placed_words}
+use Rattle.tf_model.specs.JobFields.{JobFields}
+use Rattle.tf_model.specs.InstanceData.{InstanceData}
+use Rattle.tf_model.specs.declared.job.Times.TheVariants.{One}
+use Rattle.tf_model.specs.declared.limit.TheConstants.{MOST_JOBS}
+use Rattle.tf_model.specs.declared.number.Number.{Number}
+use Rattle.tf_read.specs.declared.fault.TheConstants.{MOST_BYTES}
+use Rattle.tf_read.specs.declared.fault.ReadFault.{ReadFault}
+use Rattle.tf_read.specs.declared.fault.ReadFault.TheVariants.{TooLong, EndsEarly, NoInstance, NoJobs, TooManyJobs}
+use Rattle.tf_read.specs.Faults.{◌>>=◌, each_from, natural, integer}
+
+-- Of each 3n words the first 2n are times and weights, and the last n are due dates, which may be negative. Words count from 0 here.
+abbrev pub number_at : ℕ → ℕ → ℕ → Number → Result ℤ ReadFault
+number_at n i line read = if nat_lt (i % (3 * n)) (2 * n) then natural line read else integer line read
+
+abbrev pub judged : ℕ → ℕ → Word → Result ℤ ReadFault
+judged n i word = number_at n i word.line (number word.bytes)
+
+-- the number at a place
+abbrev pub at : List ℤ → ℕ → ℤ
+at numbers i = slice_index_or numbers i (pos 0)
+
+-- job j, from 0, where the n weights stand behind the n times, and the n due dates behind these
+abbrev pub job : ℕ → List ℤ → ℕ → JobFields
+job n numbers j = record { times = One (at numbers j); weight = Some (at numbers (n + j)); due = Some (at numbers (2 * n + j)); release = None; cost = None }
+
+abbrev pub jobs_of : ℕ → List ℤ → List JobFields
+jobs_of n numbers = map (job n numbers) (range_with_len 0 n)
+
+-- instance k, of which these are the numbers up to its last
+abbrev pub present : ℕ → ℕ → List ℤ → Result InstanceData ReadFault
+present n k numbers =
+    if nat_le (length numbers) (3 * n * (k - 1)) then Err NoInstance
+    else if nat_lt (length numbers) (3 * n * k) then Err EndsEarly
+    else Ok (record { jobs = jobs_of n (drop (3 * n * (k - 1)) numbers); arcs = []; machines = None })
+
+-- the words up to the last one of instance k are judged, as far as there are some
+unfoldable pub instance_of : ℕ → ℕ → List Word → Result InstanceData ReadFault
+instance_of n k words = each_from (judged n) 0 (take (3 * n * k) words) >>= λ numbers. present n k numbers
+
+unfoldable pub weighted_tardiness : ℕ → ℕ → List ℕ → Result InstanceData ReadFault
+weighted_tardiness n k text =
+    if nat_lt MOST_BYTES (length text) then Err TooLong
+    else if n == 0 then Err NoJobs
+    else if nat_lt MOST_JOBS n then Err TooManyJobs
+    else if k == 0 then Err NoInstance
+    else instance_of n k (placed_words text)

@@ -1,0 +1,93 @@
+//! The value of `h`: a cost.
+ghost use Rattle.std.specs.Prelude.{◌≡◌};
+ghost use Rattle.std.specs.List.{list_all};
+ghost use Rattle.tf_read.specs.Faults.{Gives};
+ghost use Rattle.tf_read.specs.WordParts.{later_parts};
+ghost use Rattle.tf_read.specs.CostField.{is_step, step_at, steps_at, rising, cost_at};
+
+use crate::fault::ReadFault;
+use crate::number::{integer, natural};
+use crate::part::{divided, first_part, next_part};
+use std::alloc::Allocator;
+use tf_model::cost::StepCost;
+
+fn is_step(part: &[u8]) -> bool
+    ensures { result ≡ is_step part.now }
+{
+    match divided(part, b':') {
+        None => false,
+        Some((_, value)) => divided(value, b':').is_none(),
+    }
+}
+
+fn are_steps(text: &[u8]) -> bool
+    ensures { result ≡ list_all is_step (later_parts text.now) }
+{
+    let mut rest = text;
+    while let Some((part, after)) = next_part(rest) {
+        if !is_step(part) {
+            return false;
+        }
+        rest = after;
+    }
+    true
+}
+
+#[tactic(auto, unfolding(crate::specs::CostField::step_at))]
+fn step_at(line: u32, part: &[u8]) -> Result<(i64, i64), ReadFault>
+    ensures { Gives (λ x. x) result (step_at line part.now) }
+{
+    match divided(part, b':') {
+        None => Err(ReadFault::BadLine(line)),
+        Some((time, value)) => {
+            let time = natural(line, time)?;
+            let value = integer(line, value)?;
+            Ok((time, value))
+        }
+    }
+}
+
+fn steps_at<A: Allocator>(alloc: A, line: u32, text: &[u8]) -> Result<Vec<(i64, i64), A>, ReadFault>
+    ensures { Gives (λ v. v.items) result (steps_at line (later_parts text.now)) }
+{
+    let mut steps = Vec::new(alloc);
+    let mut rest = text;
+    while let Some((part, after)) = next_part(rest) {
+        let step = step_at(line, part)?;
+        steps.push(step)?;
+        rest = after;
+    }
+    Ok(steps)
+}
+
+/// The cost of a base and steps whose numbers were judged.
+fn rising<A: Allocator>(
+    line: u32,
+    base: i64,
+    steps: Vec<(i64, i64), A>,
+) -> Result<StepCost<A>, ReadFault>
+    ensures { Gives (λ c. c) result (rising line (record { base = base; steps = steps.items })) }
+{
+    match StepCost::new(base, steps) {
+        Ok(cost) => Ok(cost),
+        Err(_) => Err(ReadFault::BadCost(line)),
+    }
+}
+
+/// The cost that a value of `h` is.
+#[tactic(auto, unfolding(crate::specs::CostField::cost_at))]
+pub(crate) fn cost_at<A: Allocator>(
+    alloc: A,
+    line: u32,
+    value: &[u8],
+) -> Result<StepCost<A>, ReadFault>
+    ensures { Gives (λ c. c) result (cost_at line value.now) }
+{
+    let (base, steps) = first_part(value);
+    if !are_steps(steps) {
+        return Err(ReadFault::BadLine(line));
+    }
+    let base = integer(line, base)?;
+    let steps = steps_at(alloc, line, steps)?;
+    rising(line, base, steps)
+}

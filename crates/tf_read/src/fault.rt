@@ -1,0 +1,72 @@
+//! Why a text holds no instance.
+ghost use Rattle.std.specs.Prelude.{◌≡◌};
+ghost use Rattle.tf_read.specs.declared.fault.ReadFault.TheVariants.{OutOfMemory};
+
+use std::alloc::{AllocError, AllocFailed};
+use thiserror::Error;
+
+/// The most bytes of a text.
+pub const MOST_BYTES: usize = 67_108_864;
+
+/// Why a text holds no instance: the first fault from its front on. A fault's number is that of its line, from 1.
+#[derive(Clone, Copy, Debug, PartialEq, Eq, Error)]
+pub enum ReadFault {
+    /// The text has more than [`MOST_BYTES`] bytes.
+    #[error("the text is too long")]
+    TooLong,
+    /// A word should be a number and is none.
+    #[error("line {0}: no number")]
+    BadNumber(u32),
+    /// The absolute value of a number is above the limit.
+    #[error("line {0}: a number is too large")]
+    NumberTooLarge(u32),
+    /// A time, a weight or a release date is negative.
+    #[error("line {0}: a number is negative")]
+    Negative(u32),
+    /// The text ends before the instance does.
+    #[error("the text ends early")]
+    EndsEarly,
+    /// The instance that was asked for isn't there.
+    #[error("there is no such instance")]
+    NoInstance,
+    /// The machines of a job aren't in their order.
+    #[error("line {0}: no flow shop")]
+    NotAFlowShop(u32),
+    /// The two machines that were asked for are the same, or one of them isn't there.
+    #[error("there is no such pair of machines")]
+    BadPair,
+    /// The line is of another kind or form than its place allows.
+    #[error("line {0}: another line is wanted")]
+    BadLine(u32),
+    /// The cost of a job falls, or its times don't rise.
+    #[error("line {0}: the cost falls")]
+    BadCost(u32),
+    #[error("there is no job")]
+    NoJobs,
+    #[error("there are too many jobs")]
+    TooManyJobs,
+    #[error("there are too many arcs")]
+    TooManyArcs,
+    /// An arc names a job that isn't there.
+    #[error("line {0}: an arc names a job that isn't there")]
+    BadArc(u32),
+    /// A growth was refused.
+    #[error("want of memory")]
+    OutOfMemory,
+}
+
+impl From<AllocError> for ReadFault {
+    ghost from_gives = { λ _ e. e ≡ OutOfMemory };
+
+    fn from(_: AllocError) -> ReadFault {
+        ReadFault::OutOfMemory
+    }
+}
+
+impl<T: Drop> From<AllocFailed<T>> for ReadFault {
+    ghost from_gives = { λ _ e. e ≡ OutOfMemory };
+
+    fn from(_: AllocFailed<T>) -> ReadFault {
+        ReadFault::OutOfMemory
+    }
+}

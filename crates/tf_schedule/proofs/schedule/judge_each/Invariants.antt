@@ -1,0 +1,7 @@
+use Rattle.std.proofs.Common.{take}
+use Rattle.std.specs.List.{All}
+use Rattle.tf_schedule.specs.Schedule.{IsSound}
+use Rattle.tf_schedule.proofs.schedule.judge_each.Given as goal
+
+abbrev pub invariant-loop-k : goal.invariant-loop-k
+invariant-loop-k l = All IsSound (take l.k l.pieces)

@@ -1,0 +1,33 @@
+-- What a schedule costs: pieces that name no job or no machine of the task are left out.
+use Rattle.std.specs.Prelude.{◌≡◌, ℕ, ℤ, ◌+◌, ◌*◌, ◌<◌, ◌&&◌, ◌==◌, max, Bool, nat_lt, nat_le, List, length, filter, slice_index, if◌then◌else◌}
+use Rattle.std.specs.List.{sum_by, range_with_len}
+use Rattle.tf_model.specs.SchedulingTask.{SchedulingTask, job_data}
+use Rattle.tf_model.specs.Cost.{cost}
+use Rattle.tf_schedule.specs.declared.piece.Piece.{Piece}
+use Rattle.tf_schedule.specs.Drawing.{drawing, last_stop, stop_of}
+
+-- whether the piece names a job and a machine of the task
+abbrev pub is_known : SchedulingTask → Piece → Bool
+is_known k p = (nat_lt 0 p.job && nat_le p.job (length k.jobs)) && (nat_lt 0 p.machine && nat_le p.machine k.machines)
+
+-- the pieces that do
+abbrev pub known_pieces : SchedulingTask → List Piece → List Piece
+known_pieces k ps = filter (is_known k) ps
+
+-- what the timetable costs that they draw
+abbrev pub schedule_cost : SchedulingTask → List Piece → ℤ
+schedule_cost k ps = cost k (drawing k.machines (known_pieces k ps))
+
+-- ---- sums over some of the jobs
+
+-- the weighted sum of the last stops of the jobs 1 to n
+abbrev pub total_to : SchedulingTask → List Piece → ℕ → ℕ
+total_to k ps n = sum_by (λ j. (job_data k j).weight * last_stop ps j) (range_with_len 1 n)
+
+-- the list has the last stops of the jobs from first + 1 on
+abbrev pub HasStops : List Piece → ℕ → List ℕ → Type 0
+HasStops ps first stops = (i : ℕ) → i < length stops → slice_index stops i ≡ last_stop ps (first + i + 1)
+
+-- the last stop of job j with one more piece
+abbrev pub with_stop : SchedulingTask → Piece → ℕ → ℕ → ℕ
+with_stop k p j stop = if is_known k p && (p.job == j) then max (stop_of p) stop else stop

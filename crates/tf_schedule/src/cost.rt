@@ -1,0 +1,172 @@
+//! What a schedule costs.
+ghost use Rattle.std.specs.Prelude.{◌≡◌, ℕ, ℤ, pos, ◌≤ℤ◌, ◌+◌, ◌*◌, ◌<◌, ◌≤◌, ◌⊎◌, min, length, slice_index, IsTrue, IsFalse};
+ghost use Rattle.std.specs.List.{All};
+ghost use Rattle.tf_model.specs.SchedulingTask.{IsJob, is_sum};
+ghost use Rattle.tf_model.specs.Cost.{price, greatest_price, total_price};
+ghost use Rattle.tf_model.specs.Sound.{IsSound as IsSoundTask};
+ghost use Rattle.tf_schedule.specs.Piece.{as_time};
+ghost use Rattle.tf_schedule.specs.Schedule.{IsSchedule, IsSound};
+ghost use Rattle.tf_schedule.specs.Drawing.{drawing, stop_of};
+ghost use Rattle.tf_schedule.specs.Misfit.{IsKnown};
+ghost use Rattle.tf_schedule.specs.Cost.{known_pieces, schedule_cost, total_to, with_stop, HasStops};
+
+use crate::fit::{is_known, nth_job};
+use crate::piece::Piece;
+use crate::schedule::Schedule;
+use std::alloc::Allocator;
+use tf_model::cost::Cost;
+use tf_model::ids::JobId;
+use tf_model::task::Task;
+
+/// What the timetable costs that the pieces draw. Pieces that name no job or no machine of the task are left out, and
+/// a job without a piece completes at time 0. It takes no memory.
+pub fn cost<A: Allocator, B: Allocator>(task: &Task<A>, schedule: &Schedule<B>) -> i128
+    ensures { result ≡ schedule_cost task.now schedule.now }
+{
+    if task.class().is_sum() {
+        total_cost(task, schedule.pieces())
+    } else {
+        greatest_cost(task, schedule.pieces())
+    }
+}
+
+// ---- the greatest cost of a job
+
+// No job gets cheaper by being late, so each piece of a job may stand for its last one.
+fn greatest_cost<A: Allocator>(task: &Task<A>, pieces: &[Piece]) -> i128
+    requires task { IsSoundTask task.now }
+    requires class { IsFalse (is_sum task.now.class) }
+    requires schedule { IsSchedule pieces.now }
+    ensures { result ≡ greatest_price task.now (drawing task.now.machines (known_pieces task.now pieces.now)) }
+{
+    let mut value: i128 = idle_cost(task);
+    for piece in pieces {
+        value = raised(task, value, piece);
+    }
+    value
+}
+
+// With one more piece.
+fn raised<A: Allocator>(task: &Task<A>, value: i128, piece: &Piece) -> i128
+    requires class { IsFalse (is_sum task.now.class) }
+    requires sound { IsSound piece.now }
+    ensures above { value ≤ℤ result }
+    ensures own { IsKnown task.now piece.now → price task.now piece.now.job (stop_of piece.now) ≤ℤ result }
+    ensures reached { (result ≡ value) ⊎ (IsKnown task.now piece.now × (result ≡ price task.now piece.now.job (stop_of piece.now))) }
+{
+    if !is_known(task, piece) {
+        return value;
+    }
+    value.max(price(task, piece.job, piece.stop))
+}
+
+// The greatest cost of a job if all complete at time 0.
+fn idle_cost<A: Allocator>(task: &Task<A>) -> i128
+    requires class { IsFalse (is_sum task.now.class) }
+    ensures all { (j : ℕ) → IsJob task.now j → price task.now j 0 ≤ℤ result }
+    ensures reached { (j : ℕ) × IsJob task.now j × (result ≡ price task.now j 0) }
+{
+    let jobs = task.len();
+    let mut value: i128 = price(task, nth_job(0), 0);
+    for k in 1..jobs {
+        value = value.max(price(task, nth_job(k), 0));
+    }
+    value
+}
+
+// What the job costs if it completes at time c.
+fn price<A: Allocator>(task: &Task<A>, job: JobId, c: i64) -> i128
+    requires class { IsFalse (is_sum task.now.class) }
+    requires job { IsJob task.now job }
+    requires time { (pos 0 ≤ℤ c) × (c ≤ℤ pos 4000000000000000000) }
+    ensures { result ≡ price task.now job (as_time c) }
+{
+    let class = task.class();
+    if class.is_costed() {
+        return i128::from(task.step_costs()[job.get() as usize - 1].value_at(c));
+    }
+    if class.is_due() {
+        return i128::from(c) - i128::from(task.job(job).due);
+    }
+    i128::from(c)
+}
+
+// ---- the weighted sum of the completions
+
+// How many jobs are summed up in one walk over the pieces.
+const BLOCK: usize = 1_024;
+
+fn total_cost<A: Allocator>(task: &Task<A>, pieces: &[Piece]) -> i128
+    requires task { IsSoundTask task.now }
+    requires class { IsTrue (is_sum task.now.class) }
+    requires schedule { IsSchedule pieces.now }
+    ensures { result ≡ pos (total_price task.now (drawing task.now.machines (known_pieces task.now pieces.now))) }
+{
+    let jobs = task.len();
+    let mut stops = [0u64; BLOCK];
+    let mut total: u128 = 0;
+    let mut first: usize = 0;
+    while first < jobs {
+        last_stops(task, pieces, first, &mut stops);
+        total = with_block(task, pieces, total, first, &stops);
+        first += BLOCK;
+    }
+    total as i128
+}
+
+// The greatest stops of the jobs from `first` + 1 on.
+fn last_stops<A: Allocator>(task: &Task<A>, pieces: &[Piece], first: usize, stops: &mut [u64])
+    requires { All IsSound pieces.now }
+    ensures { HasStops (known_pieces task.now pieces.now) first stops.new }
+{
+    stops.fill(0);
+    for piece in pieces {
+        note_stop(task, piece, first, stops);
+    }
+}
+
+// With one more piece.
+fn note_stop<A: Allocator>(task: &Task<A>, piece: &Piece, first: usize, stops: &mut [u64])
+    requires { IsSound piece.now }
+    ensures { (i : ℕ) → i < length stops.old → slice_index stops.new i ≡ with_stop task.now piece.now (first + i + 1) (slice_index stops.old i) }
+{
+    if !is_known(task, piece) {
+        return;
+    }
+    let job = piece.job.get() as usize;
+    if job <= first {
+        return;
+    }
+    let i = job - first - 1;
+    if stops.len() <= i {
+        return;
+    }
+    stops[i] = (piece.stop as u64).max(stops[i]);
+}
+
+// The sum of the jobs up to `first`, and of those after them whose last stops are given.
+fn with_block<A: Allocator>(
+    task: &Task<A>,
+    pieces: &[Piece],
+    total: u128,
+    first: usize,
+    stops: &[u64],
+) -> u128
+    requires task { IsSoundTask task.now }
+    requires class { IsTrue (is_sum task.now.class) }
+    requires sound { All IsSound pieces.now }
+    requires first { first ≤ length task.now.jobs }
+    requires few { length stops.now ≤ 1024 }
+    requires stops { HasStops (known_pieces task.now pieces.now) first stops.now }
+    requires total { total ≡ total_to task.now (known_pieces task.now pieces.now) first }
+    ensures { result ≡ total_to task.now (known_pieces task.now pieces.now) (min (length task.now.jobs) (first + length stops.now)) }
+{
+    let jobs = task.jobs();
+    let end = jobs.len().min(first + stops.len());
+    let mut sum: u128 = total;
+    for i in first..end {
+        let job = jobs[i];
+        sum += u128::from(job.weight) * u128::from(stops[i - first]);
+    }
+    sum
+}

@@ -1,0 +1,352 @@
+//! Whether a schedule fits a task.
+ghost use Rattle.std.specs.Prelude.{◌≡◌, ℕ, pos, ◌≤ℤ◌, ◌+◌, ◌-◌, ◌<◌, ◌≤◌, length, MatchResult, MatchOption, IsOkUnless, IfOk, IsTrue, IsFalse, ◌↔◌, take, drop};
+ghost use Rattle.std.specs.List.{All, AllPairs};
+ghost use Rattle.tf_model.specs.SchedulingTask.{IsJob, is_flow, is_shop, may_break};
+ghost use Rattle.tf_model.specs.Timetable.{Timetable};
+ghost use Rattle.tf_model.specs.Feasible.{Fits};
+ghost use Rattle.tf_schedule.specs.Piece.{as_time, job_of, OverlapBy};
+ghost use Rattle.tf_schedule.specs.Schedule.{ComesBefore, ComesBeforeBy, IsFirstClashBy, IsSchedule, IsSound, JobsOnce};
+ghost use Rattle.tf_schedule.specs.Drawing.{Draws, drawing, pieces_on};
+ghost use Rattle.tf_schedule.specs.Extent.{IsDone, IsDoneInShop, IsSolidOnOne, IsSolidInShop, StartsReleased, StartsAfter, StartsInFlow};
+ghost use Rattle.tf_schedule.specs.Misfit.{EachJob, IsSmallestNot, IsFirstNot, IsKnown, HasFirstMisfit};
+ghost use Rattle.tf_schedule.specs.declared.fit.Misfit.TheVariants.{OutOfMemory};
+
+use crate::extent::{Extent, extents};
+use crate::piece::Piece;
+use crate::schedule::Schedule;
+use std::alloc::{AllocError, Allocator};
+use tf_model::class::Class;
+use tf_model::ids::{JobId, MachineId};
+use tf_model::task::{JobRow, Task};
+use thiserror::Error;
+
+/// Why a schedule does not fit a task, in the order in which it is judged: each kind over all jobs before the next,
+/// always with the smallest job.
+#[derive(Debug, Drop, PartialEq, Eq, Error)]
+pub enum Misfit {
+    /// A piece names a job or a machine that the task does not have.
+    #[error("Stranger {} {}", .0.get(), .1.get())]
+    Stranger(JobId, MachineId),
+    /// The job is on two machines at this time, its first such time.
+    #[error("JobTwice {} {}", .0.get(), .1)]
+    JobTwice(JobId, i64),
+    /// The job does not have its time, in a shop on each machine.
+    #[error("WrongAmount {}", .0.get())]
+    WrongAmount(JobId),
+    /// The job has a gap on a machine, or outside shops is on two machines, and the class has no preemption.
+    #[error("Broken {}", .0.get())]
+    Broken(JobId),
+    /// The job starts before its release date.
+    #[error("TooEarly {}", .0.get())]
+    TooEarly(JobId),
+    /// The first arc whose first job is not over before the second starts; in a flow shop a job, named twice, that is
+    /// not over on machine 1 before it starts on machine 2.
+    #[error("OutOfOrder {} {}", .0.get(), .1.get())]
+    OutOfOrder(JobId, JobId),
+    #[error("want of memory")]
+    OutOfMemory,
+}
+
+impl From<AllocError> for Misfit {
+    ghost from_gives = { λ _ e. e ≡ OutOfMemory };
+
+    fn from(_: AllocError) -> Misfit {
+        Misfit::OutOfMemory
+    }
+}
+
+/// Whether the pieces draw a timetable that fits the task, or else the first misfit in the order of [`Misfit`].
+/// It takes memory for a copy of the pieces, and for a few numbers for each job.
+pub fn fits<A: Allocator + Copy, B: Allocator, C: Allocator>(
+    alloc: A,
+    task: &Task<B>,
+    schedule: &Schedule<C>,
+) -> Result<(), Misfit>
+    ensures judged { MatchResult result
+        (λ _. Draws task.now.machines schedule.now (drawing task.now.machines schedule.now) × Fits task.now (drawing task.now.machines schedule.now))
+        (HasFirstMisfit task.now schedule.now) }
+
+    // So it is Ok wherever the pieces draw a timetable that fits, unless memory ran out.
+    ensures fitting { All (λ p. 0 < p.job) schedule.now → (rows : Timetable) → Draws task.now.machines schedule.now rows → Fits task.now rows → IsOkUnless result OutOfMemory }
+{
+    let pieces = schedule.pieces();
+    if let Some(piece) = first_stranger(task, pieces) {
+        return Err(Misfit::Stranger(piece.job, piece.machine));
+    }
+    if let Some(twice) = first_in_two_places(alloc, pieces)? {
+        return Err(Misfit::JobTwice(twice.0, twice.1));
+    }
+    if task.class().is_shop() {
+        judge_in_shop(alloc, task, pieces)
+    } else {
+        judge_plain(alloc, task, pieces)
+    }
+}
+
+// What is judged after the places, where a job has one time.
+fn judge_plain<A: Allocator, B: Allocator>(
+    alloc: A,
+    task: &Task<B>,
+    pieces: &[Piece],
+) -> Result<(), Misfit>
+    requires plain { IsFalse (is_shop task.now.class) }
+    requires schedule { IsSchedule pieces.now }
+    requires known { All (IsKnown task.now) pieces.now }
+    requires once { JobsOnce pieces.now }
+    ensures { MatchResult result (λ _. Fits task.now (drawing task.now.machines pieces.now)) (HasFirstMisfit task.now pieces.now) }
+{
+    let jobs = task.jobs();
+    let extents = extents(alloc, jobs.len(), pieces)?;
+    if let Some(job) = first_wrong_amount(jobs, &extents) {
+        return Err(Misfit::WrongAmount(job));
+    }
+    if let Some(job) = first_broken(task.class(), &extents) {
+        return Err(Misfit::Broken(job));
+    }
+    if let Some(job) = first_too_early(jobs, &extents) {
+        return Err(Misfit::TooEarly(job));
+    }
+    if let Some((before, after)) = first_out_of_order(task.arcs(), &extents) {
+        return Err(Misfit::OutOfOrder(before, after));
+    }
+    Ok(())
+}
+
+// The same in a shop, where a job has a time for each of two machines, no release date and no arc.
+fn judge_in_shop<A: Allocator + Copy, B: Allocator>(
+    alloc: A,
+    task: &Task<B>,
+    pieces: &[Piece],
+) -> Result<(), Misfit>
+    requires shop { IsTrue (is_shop task.now.class) }
+    requires schedule { IsSchedule pieces.now }
+    requires known { All (IsKnown task.now) pieces.now }
+    requires once { JobsOnce pieces.now }
+    ensures { MatchResult result (λ _. Fits task.now (drawing task.now.machines pieces.now)) (HasFirstMisfit task.now pieces.now) }
+{
+    let jobs = task.jobs();
+    let split = end_of_first(pieces);
+    let first = extents(alloc, jobs.len(), &pieces[..split])?;
+    let second = extents(alloc, jobs.len(), &pieces[split..])?;
+    if let Some(job) = first_wrong_in_shop(jobs, &first, &second) {
+        return Err(Misfit::WrongAmount(job));
+    }
+    if let Some(job) = first_broken_in_shop(task.class(), &first, &second) {
+        return Err(Misfit::Broken(job));
+    }
+    if let Some(job) = first_out_of_flow(task.class(), &first, &second) {
+        return Err(Misfit::OutOfOrder(job, job));
+    }
+    Ok(())
+}
+
+// How many of the pieces are on machine 1: in their order the others are on machine 2.
+fn end_of_first(pieces: &[Piece]) -> usize
+    requires in_order { AllPairs ComesBefore pieces.now }
+    requires two { All (λ p. (0 < p.machine) × (p.machine ≤ 2)) pieces.now }
+    ensures bound { result ≤ length pieces.now }
+    ensures first { take result pieces.now ≡ pieces_on 1 pieces.now }
+    ensures second { drop result pieces.now ≡ pieces_on 2 pieces.now }
+{
+    pieces.partition_point(|piece| piece.is_on_first())
+}
+
+// The smallest job that runs in two places at once, and the first such time.
+fn first_in_two_places<A: Allocator>(
+    alloc: A,
+    pieces: &[Piece],
+) -> Result<Option<(JobId, i64)>, AllocError>
+    requires { All IsSound pieces.now }
+    ensures { IfOk result (λ found. MatchOption found (JobsOnce pieces.now) (λ at. (pos 0 ≤ℤ at.1) × IsFirstClashBy job_of pieces.now at.0 (as_time at.1))) }
+{
+    let mut by_job = copied(alloc, pieces)?;
+    by_job.sort_unstable_by_key(|piece| (piece.job, piece.start));
+    Ok(first_twice(&by_job))
+}
+
+fn copied<A: Allocator>(alloc: A, pieces: &[Piece]) -> Result<Vec<Piece, A>, AllocError>
+    ensures { IfOk result (λ v. v.items ≡ pieces.now) }
+{
+    pieces.iter().copied().collect(alloc)
+}
+
+// The first piece of a job or on a machine that the task does not have.
+fn first_stranger<A: Allocator>(task: &Task<A>, pieces: &[Piece]) -> Option<Piece>
+    ensures { MatchOption result (All (IsKnown task.now) pieces.now) (IsFirstNot (IsKnown task.now) pieces.now) }
+{
+    for piece in pieces {
+        if !is_known(task, piece) {
+            return Some(*piece);
+        }
+    }
+    None
+}
+
+pub(crate) fn is_known<A: Allocator>(task: &Task<A>, piece: &Piece) -> bool
+    ensures { IsTrue result ↔ IsKnown task.now piece.now }
+{
+    let job = piece.job.get();
+    let machine = piece.machine.get();
+    job as usize <= task.len() && machine <= task.machines()
+}
+
+// The same of pieces by job and start.
+fn first_twice(pieces: &[Piece]) -> Option<(JobId, i64)>
+    requires sound { All IsSound pieces.now }
+    requires in_order { AllPairs (ComesBeforeBy job_of) pieces.now }
+    ensures { MatchOption result (JobsOnce pieces.now) (λ found. (pos 0 ≤ℤ found.1) × IsFirstClashBy job_of pieces.now found.0 (as_time found.1)) }
+{
+    for k in 1..pieces.len() {
+        let before = pieces[k - 1];
+        let piece = pieces[k];
+        if overlap_in_job(&before, &piece) {
+            return Some((piece.job, piece.start));
+        }
+    }
+    None
+}
+
+fn overlap_in_job(before: &Piece, piece: &Piece) -> bool
+    ensures { IsTrue result ↔ OverlapBy job_of before.now piece.now }
+{
+    before.job == piece.job && piece.start < before.stop
+}
+
+pub(crate) fn nth_job(k: usize) -> JobId
+    requires { k < 100000 }
+    ensures { result ≡ k + 1 }
+{
+    JobId::new(k as u32 + 1).unwrap()
+}
+
+// Whether a job may be broken off and taken up again.
+fn may_break(class: Class) -> bool
+    ensures { result ≡ may_break class }
+{
+    matches!(class, Class::ReleaseLmax | Class::ParallelPrmp)
+}
+
+// Whether jobs visit machine 1 before machine 2.
+fn is_flow(class: Class) -> bool
+    ensures { result ≡ is_flow class }
+{
+    matches!(class, Class::FlowTwo)
+}
+
+// ---- where a job has one time
+
+fn first_wrong_amount(jobs: &[JobRow], extents: &[Extent]) -> Option<JobId>
+    requires len { length extents.now ≡ length jobs.now }
+    requires few { length jobs.now ≤ 100000 }
+    ensures { MatchOption result (EachJob (length jobs.now) (IsDone jobs.now extents.now)) (IsSmallestNot (length jobs.now) (IsDone jobs.now extents.now)) }
+{
+    for k in 0..jobs.len() {
+        let job = jobs[k];
+        if extents[k].work != job.first {
+            return Some(nth_job(k));
+        }
+    }
+    None
+}
+
+fn first_broken(class: Class, extents: &[Extent]) -> Option<JobId>
+    requires few { length extents.now ≤ 100000 }
+    ensures { MatchOption result (IsFalse (may_break class) → EachJob (length extents.now) (IsSolidOnOne extents.now)) (λ j. IsFalse (may_break class) × IsSmallestNot (length extents.now) (IsSolidOnOne extents.now) j) }
+{
+    if may_break(class) {
+        return None;
+    }
+    for k in 0..extents.len() {
+        let extent = extents[k];
+        if !is_solid(extent) || extent.lowest < extent.highest {
+            return Some(nth_job(k));
+        }
+    }
+    None
+}
+
+fn first_too_early(jobs: &[JobRow], extents: &[Extent]) -> Option<JobId>
+    requires len { length extents.now ≡ length jobs.now }
+    requires few { length jobs.now ≤ 100000 }
+    ensures { MatchOption result (EachJob (length jobs.now) (StartsReleased jobs.now extents.now)) (IsSmallestNot (length jobs.now) (StartsReleased jobs.now extents.now)) }
+{
+    for k in 0..jobs.len() {
+        let job = jobs[k];
+        if extents[k].start < job.release {
+            return Some(nth_job(k));
+        }
+    }
+    None
+}
+
+fn first_out_of_order(arcs: &[(JobId, JobId)], extents: &[Extent]) -> Option<(JobId, JobId)>
+    requires known { All (λ arc. ((1 ≤ arc.0) × (arc.0 ≤ length extents.now)) × ((1 ≤ arc.1) × (arc.1 ≤ length extents.now))) arcs.now }
+    ensures { MatchOption result (All (StartsAfter extents.now) arcs.now) (IsFirstNot (StartsAfter extents.now) arcs.now) }
+{
+    for arc in arcs {
+        let before = extents[arc.0.get() as usize - 1];
+        let after = extents[arc.1.get() as usize - 1];
+        if after.start < before.stop {
+            return Some(*arc);
+        }
+    }
+    None
+}
+
+// ---- in shops, where a job has a time for each machine
+
+fn first_wrong_in_shop(jobs: &[JobRow], first: &[Extent], second: &[Extent]) -> Option<JobId>
+    requires first { length first.now ≡ length jobs.now }
+    requires second { length second.now ≡ length jobs.now }
+    requires few { length jobs.now ≤ 100000 }
+    ensures { MatchOption result (EachJob (length jobs.now) (IsDoneInShop jobs.now first.now second.now)) (IsSmallestNot (length jobs.now) (IsDoneInShop jobs.now first.now second.now)) }
+{
+    for k in 0..jobs.len() {
+        let job = jobs[k];
+        if first[k].work != job.first || second[k].work != job.second {
+            return Some(nth_job(k));
+        }
+    }
+    None
+}
+
+fn first_broken_in_shop(class: Class, first: &[Extent], second: &[Extent]) -> Option<JobId>
+    requires same { length second.now ≡ length first.now }
+    requires few { length first.now ≤ 100000 }
+    ensures { MatchOption result (IsFalse (may_break class) → EachJob (length first.now) (IsSolidInShop first.now second.now)) (λ j. IsFalse (may_break class) × IsSmallestNot (length first.now) (IsSolidInShop first.now second.now) j) }
+{
+    if may_break(class) {
+        return None;
+    }
+    for k in 0..first.len() {
+        if !is_solid(first[k]) || !is_solid(second[k]) {
+            return Some(nth_job(k));
+        }
+    }
+    None
+}
+
+fn is_solid(extent: Extent) -> bool
+    ensures { IsTrue result ↔ (extent.stop - extent.start ≡ extent.work) }
+{
+    extent.stop.saturating_sub(extent.start) == extent.work
+}
+
+fn first_out_of_flow(class: Class, first: &[Extent], second: &[Extent]) -> Option<JobId>
+    requires same { length second.now ≡ length first.now }
+    requires few { length first.now ≤ 100000 }
+    ensures { MatchOption result (IsTrue (is_flow class) → EachJob (length first.now) (StartsInFlow first.now second.now)) (λ j. IsTrue (is_flow class) × IsSmallestNot (length first.now) (StartsInFlow first.now second.now) j) }
+{
+    if !is_flow(class) {
+        return None;
+    }
+    for k in 0..first.len() {
+        if second[k].start < first[k].stop {
+            return Some(nth_job(k));
+        }
+    }
+    None
+}
+
+#[cfg(test)]
+mod tests;

@@ -1,0 +1,9 @@
+//! Pieces of work on machines, and the timetable that they draw.
+#![tactic(auto)]
+
+pub mod cost;
+mod extent;
+pub mod fit;
+pub mod piece;
+pub mod piece_list;
+pub mod schedule;

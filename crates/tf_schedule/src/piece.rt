@@ -1,0 +1,63 @@
+//! Pieces of work.
+ghost use Rattle.std.specs.Prelude.{◌≡◌, ◌↔◌, IsTrue, pos, ◌≤ℤ◌, ◌==◌};
+ghost use Rattle.tf_schedule.specs.Piece.{IsInRange, covers, has_started, as_time, machine_of, OverlapBy};
+ghost use Rattle.tf_schedule.specs.Schedule.{IsSound};
+ghost use Rattle.tf_schedule.specs.Drawing.{duration};
+
+use tf_model::ids::{JobId, MachineId};
+use tf_model::limit::LIMIT;
+
+/// A job is on a machine from time `start` up to time `stop`, `stop` not among them.
+#[derive(Clone, Copy, Debug, PartialEq, Eq)]
+pub struct Piece {
+    pub job: JobId,
+    pub machine: MachineId,
+    pub start: i64,
+    pub stop: i64,
+}
+
+impl Piece {
+    // Whether the ends are times that are allowed.
+    pub(crate) fn is_in_range(&self) -> bool
+        ensures { IsTrue result ↔ IsInRange self.now }
+    {
+        0 <= self.start && self.stop <= LIMIT
+    }
+
+    /// For how many time steps the job is on the machine.
+    pub fn duration(&self) -> u64
+        requires { IsSound self.now }
+        ensures { result ≡ duration self.now }
+    {
+        (self.stop - self.start) as u64
+    }
+
+    // Whether the piece starts before the other one ends, on the same machine.
+    pub(crate) fn overlaps(&self, before: &Piece) -> bool
+        ensures { IsTrue result ↔ OverlapBy machine_of before.now self.now }
+    {
+        before.machine == self.machine && self.start < before.stop
+    }
+
+    // Whether the piece starts at or before this time of the machine.
+    pub(crate) fn has_started(&self, machine: MachineId, t: i64) -> bool
+        ensures { result ≡ has_started machine t self.now }
+    {
+        self.machine < machine || (self.machine == machine && self.start <= t)
+    }
+
+    // Whether the piece is on machine 1.
+    pub(crate) fn is_on_first(&self) -> bool
+        ensures { result ≡ (self.now.machine == 1) }
+    {
+        self.machine.get() == 1
+    }
+
+    // Whether the piece claims this cell.
+    pub(crate) fn covers(&self, machine: MachineId, t: i64) -> bool
+        requires { pos 0 ≤ℤ t }
+        ensures { result ≡ covers machine (as_time t) self.now }
+    {
+        self.machine == machine && self.start <= t && t < self.stop
+    }
+}

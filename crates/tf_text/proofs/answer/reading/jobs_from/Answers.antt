@@ -1,0 +1,19 @@
+use Rattle.std.proofs.Common.{ℕ, List, Ok, sym, ap, ◌∙◌}
+use Rattle.std.proofs.lemmas.Result.{err_from_is_err_and}
+use Rattle.tf_model.specs.Words.{words}
+use Rattle.tf_text.specs.AnswerReading.{jobs_from}
+use Rattle.tf_text.proofs.Reading.{with_jobs, job_read, job_fails, jobs_end}
+use Rattle.tf_text.proofs.answer.reading.jobs_from.Goals as goal
+
+pub returns-in_err-job : goal.returns-in_err-job
+returns-in_err-job g c =
+    let p = err_from_is_err_and c.from_residual.result c.from_residual.ensures.1 in
+    rw (p.1, p.2) (job_fails _ _ _ _ _ _ _ c.loop-word.invariant c.in-Some.ensures.words c.in_err-job.ensures)
+
+pub loop-word-preserved : goal.loop-word-preserved
+loop-word-preserved g c =
+    ap (λ (jobs : List ℕ). with_jobs jobs (jobs_from c.args.line (words c.in-Some.after.now))) c.in_ok-push.ensures.items
+    ∙ sym (job_read _ _ _ _ _ _ c.in-Some.ensures.words c.in_ok-job.ensures) ∙ c.loop-word.invariant
+
+pub returns : goal.returns
+returns g c = sym c.loop-word.invariant ∙ jobs_end _ _ _ c.in_default.ensures.words ∙ ap (λ (jobs : List ℕ). Ok jobs) (sym c.new.ensures)

@@ -1,0 +1,8 @@
+pub mod Counted
+pub mod Input
+pub mod AnswerText
+pub mod Ranged
+pub mod KeptLines
+pub mod Lines
+pub mod AnswerReading
+pub mod Readable

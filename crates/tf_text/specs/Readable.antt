@@ -1,0 +1,43 @@
+-- The sheets whose texts can be read.
+use Rattle.std.specs.Prelude.{ℕ, ◌≤◌, List}
+use Rattle.std.specs.Int.RustNames.{FitsSigned}
+use Rattle.std.specs.List.{AllByRecursion}
+use Rattle.tf_model.specs.Whole.{IsWithin}
+use Rattle.tf_notation.specs.Reading.{IsRead}
+use Rattle.tf_schedule.specs.declared.piece.Piece.{Piece}
+use Rattle.tf_check.specs.Claim.{Claim, ByPairs, ByLastOf, ByWindow, BySplit, ByLoad, ByMachine, ByOneJob, ByRanks}
+use Rattle.tf_text.specs.AnswerText.{SheetData}
+use Rattle.tf_text.specs.AnswerReading.{most_job, most_machine}
+use mir.Syntax.{w64}
+
+-- a number from 1 to `most`
+abbrev pub IsCount : ℕ → ℕ → Type 0
+IsCount most n = (1 ≤ n) × (n ≤ most)
+
+-- a piece whose job, machine and times are in their ranges
+abbrev pub IsReadablePiece : Piece → Type 0
+IsReadablePiece p = IsCount most_job p.job × IsCount most_machine p.machine × IsWithin p.start × IsWithin p.stop
+
+-- all of them are jobs that a text may name
+abbrev pub AreJobs : List ℕ → Type 0
+AreJobs = AllByRecursion (IsCount most_job)
+
+-- a certificate whose jobs, machine and delta are in their ranges
+abbrev pub IsReadableClaim : Claim → Type 0
+IsReadableClaim ByPairs = Unit {0}
+IsReadableClaim (ByLastOf jobs) = AreJobs jobs
+IsReadableClaim (ByWindow jobs) = AreJobs jobs
+IsReadableClaim (BySplit side delta first) = AreJobs side × IsWithin delta
+IsReadableClaim ByLoad = Unit {0}
+IsReadableClaim (ByMachine machine) = IsCount most_machine machine
+IsReadableClaim (ByOneJob job) = IsCount most_job job
+IsReadableClaim (ByRanks jobs) = AreJobs jobs
+
+-- its numbers are in the ranges of an answer text, and its problem is one that a notation means
+pub record IsReadable (s : SheetData) : Type 0 where
+  pub problem : IsRead s.problem
+  pub jobs : IsCount most_job s.jobs
+  pub machines : IsCount most_machine s.machines
+  pub value : FitsSigned w64 s.answer.value
+  pub pieces : AllByRecursion IsReadablePiece s.answer.pieces
+  pub certificate : IsReadableClaim s.answer.certificate

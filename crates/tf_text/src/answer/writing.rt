@@ -1,0 +1,219 @@
+//! Answer texts, written.
+ghost use Rattle.std.specs.Prelude.{◌≡◌, ℕ, List, [], ◌∷◌, ◌++◌, ◌≤◌, map, length, true, false, Ok, OnOk, IfOk, IsErr, IsErrOf};
+ghost use Rattle.std.specs.List.{flat_map, join_with_byte};
+ghost use Rattle.std.specs.Fmt.{decimal, signed_decimal};
+ghost use Rattle.std.specs.Io.KnownBytes.{Appends};
+ghost use Rattle.tf_check.specs.Certificate.{claim_of};
+ghost use Rattle.tf_text.specs.Counted.{inner_of, has_failed, AppendsPrefix};
+ghost use Rattle.tf_text.specs.AnswerText.{piece_words, side_word, claim_words, result_lines, line_text, answer_text};
+ghost use Rattle.tf_text.specs.AnswerReading.{answer_in};
+ghost use Rattle.tf_text.specs.Readable.{IsReadable};
+ghost use Rattle.tf_text.specs.declared.answer.writing.WriteFault.TheVariants.{Device as DeviceFault, OutOfMemory as MemoryFault};
+
+use crate::answer::sheet::Sheet;
+use crate::counted::{Counted, Device};
+use crate::input::LONGEST;
+use itoa::{Buffer, Integer};
+use std::alloc::Allocator;
+use std::io::Write;
+use tf_check::answer::Answer;
+use tf_check::certificate::Certificate;
+use tf_model::ids::JobId;
+use tf_model::memory::OutOfMemory;
+use tf_notation::writing::notation_text;
+use tf_schedule::piece::Piece;
+use thiserror::Error;
+
+/// Why an answer was not written in full.
+#[derive(Clone, Copy, Debug, PartialEq, Eq, Error)]
+pub enum WriteFault {
+    /// The writer failed.
+    #[error("device fault")]
+    Device,
+    /// A growth was refused.
+    #[error("want of memory")]
+    OutOfMemory,
+}
+
+impl From<Device> for WriteFault {
+    ghost from_gives = { λ _ e. e ≡ DeviceFault };
+
+    fn from(_: Device) -> WriteFault {
+        WriteFault::Device
+    }
+}
+
+impl From<OutOfMemory> for WriteFault {
+    ghost from_gives = { λ _ e. e ≡ MemoryFault };
+
+    fn from(_: OutOfMemory) -> WriteFault {
+        WriteFault::OutOfMemory
+    }
+}
+
+/// Adds a blank and a number.
+pub fn push_number<A: Allocator, I: Integer>(
+    text: &mut Vec<u8, A>,
+    number: I,
+) -> Result<(), OutOfMemory>
+    ensures { OnOk result (text.new.items ≡ text.old.items ++ 32 ∷ I.text number) }
+{
+    let mut digits = Buffer::new();
+    text.push(b' ')?;
+    text.extend_from_slice(digits.format(number).as_bytes())?;
+    Ok(())
+}
+
+fn push_jobs<A: Allocator>(text: &mut Vec<u8, A>, jobs: &[JobId]) -> Result<(), OutOfMemory>
+    ensures { OnOk result (text.new.items
+        ≡ text.old.items ++ flat_map (λ job. 32 ∷ decimal job) jobs.now) }
+{
+    for job in jobs {
+        push_number(text, job.get())?;
+    }
+    Ok(())
+}
+
+fn push_number_line<A: Allocator, I: Integer>(
+    text: &mut Vec<u8, A>,
+    key: &[u8],
+    number: I,
+) -> Result<(), OutOfMemory>
+    ensures { OnOk result (text.new.items
+        ≡ text.old.items ++ line_text (key.now ∷ I.text number ∷ [])) }
+{
+    text.extend_from_slice(key)?;
+    push_number(text, number)?;
+    text.push(b'\n')?;
+    Ok(())
+}
+
+fn push_piece<A: Allocator>(text: &mut Vec<u8, A>, piece: &Piece) -> Result<(), OutOfMemory>
+    ensures { OnOk result (text.new.items ≡ text.old.items ++ line_text (piece_words piece.now)) }
+{
+    text.extend_from_slice(b"piece")?;
+    push_number(text, piece.job.get())?;
+    push_number(text, piece.machine.get())?;
+    push_number(text, piece.start)?;
+    push_number(text, piece.stop)?;
+    text.push(b'\n')?;
+    Ok(())
+}
+
+fn push_pieces<A: Allocator>(text: &mut Vec<u8, A>, pieces: &[Piece]) -> Result<(), OutOfMemory>
+    ensures { OnOk result (text.new.items
+        ≡ text.old.items ++ flat_map line_text (map piece_words pieces.now)) }
+{
+    for piece in pieces {
+        push_piece(text, piece)?;
+    }
+    Ok(())
+}
+
+fn side_word(first: bool) -> &'static [u8]
+    ensures { result.now ≡ side_word first }
+{
+    if first { b"first" } else { b"second" }
+}
+
+fn push_claim<A: Allocator, M: Allocator>(
+    text: &mut Vec<u8, A>,
+    certificate: &Certificate<M>,
+) -> Result<(), OutOfMemory>
+    ensures { OnOk result (text.new.items
+        ≡ text.old.items ++ join_with_byte 32 (claim_words (claim_of certificate.now))) }
+{
+    match certificate {
+        Certificate::Pairs(_) => text.extend_from_slice(b"pairs")?,
+        Certificate::LastOf(last) => {
+            text.extend_from_slice(b"last")?;
+            push_jobs(text, last.jobs.as_slice())?;
+        }
+        Certificate::Window(window) => {
+            text.extend_from_slice(b"window")?;
+            push_jobs(text, window.jobs.as_slice())?;
+        }
+        Certificate::Split(split) => {
+            text.extend_from_slice(b"split ")?;
+            text.extend_from_slice(side_word(split.first))?;
+            push_number(text, split.delta)?;
+            push_jobs(text, split.side.as_slice())?;
+        }
+        Certificate::Load(_) => text.extend_from_slice(b"load")?,
+        Certificate::Machine(load) => {
+            text.extend_from_slice(b"machine")?;
+            push_number(text, load.machine.get())?;
+        }
+        Certificate::OneJob(one) => {
+            text.extend_from_slice(b"job")?;
+            push_number(text, one.job.get())?;
+        }
+        Certificate::Ranks(ranks) => {
+            text.extend_from_slice(b"ranks")?;
+            push_jobs(text, ranks.jobs.as_slice())?;
+        }
+    }
+    Ok(())
+}
+
+fn push_answer<A: Allocator, M: Allocator>(
+    text: &mut Vec<u8, A>,
+    answer: &Answer<M>,
+) -> Result<(), OutOfMemory>
+    ensures { OnOk result (text.new.items
+        ≡ text.old.items ++ flat_map line_text (result_lines answer.now)) }
+{
+    push_number_line(text, b"value", answer.value)?;
+    push_pieces(text, answer.pieces.as_slice())?;
+    text.extend_from_slice(b"cert ")?;
+    push_claim(text, &answer.certificate)?;
+    text.extend_from_slice(b"\nend\n")?;
+    Ok(())
+}
+
+/// The text of a sheet, by lines and words, each line ended by a line feed.
+pub fn answer_bytes<A: Allocator + Copy, M: Allocator>(
+    alloc: A,
+    sheet: &Sheet<M>,
+) -> Result<Vec<u8, A>, OutOfMemory>
+    ensures text { IfOk result (λ text. text.items ≡ answer_text sheet.now) }
+    // The text is read as the sheet.
+    ensures round_trip { IfOk result (λ text. IsReadable sheet.now →
+        length text.items ≤ LONGEST → answer_in text.items ≡ Ok sheet.now) }
+{
+    let notation = notation_text(alloc, &sheet.problem)?;
+    let mut text = Vec::from_slice(alloc, b"answer 1\nproblem ")?;
+    text.extend_from_slice(notation.as_bytes())?;
+    text.push(b'\n')?;
+    push_number_line(&mut text, b"jobs", sheet.jobs)?;
+    push_number_line(&mut text, b"machines", sheet.machines)?;
+    push_answer(&mut text, &sheet.answer)?;
+    Ok(text)
+}
+
+/// Writes the text of a sheet. Its memory is asked for before the first byte is written.
+pub fn write_answer<A: Allocator + Copy, M: Allocator, W: Write>(
+    alloc: A,
+    writer: &mut Counted<W>,
+    sheet: &Sheet<M>,
+) -> Result<(), WriteFault>
+    ensures written { OnOk result (Appends (W.contents (inner_of writer.old))
+        (W.contents (inner_of writer.new)) (answer_text sheet.now)) }
+    ensures unfailed { OnOk result (has_failed writer.new ≡ false) }
+    ensures memory { IsErrOf result WriteFault.OutOfMemory → writer.new ≡ writer.old }
+    ensures prefix { IsErrOf result WriteFault.Device →
+        AppendsPrefix (W.contents (inner_of writer.old)) (W.contents (inner_of writer.new))
+        (answer_text sheet.now) }
+    ensures device { IsErrOf result WriteFault.Device → has_failed writer.new ≡ true }
+    ensures failed_before { has_failed writer.old ≡ true →
+        IsErr result × (writer.new ≡ writer.old) }
+
+    // What was written is read as the sheet.
+    ensures round_trip { OnOk result (IsReadable sheet.now →
+        length (answer_text sheet.now) ≤ LONGEST →
+        answer_in (answer_text sheet.now) ≡ Ok sheet.now) }
+{
+    let text = answer_bytes(alloc, sheet)?;
+    writer.push_all(&text)?;
+    Ok(())
+}

@@ -1,0 +1,8 @@
+//! The texts that go in and out: whole inputs, answers and charts.
+#![tactic(auto)]
+
+pub mod answer;
+pub mod counted;
+pub mod input;
+pub mod line;
+pub mod ranged;

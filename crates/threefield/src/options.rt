@@ -1,0 +1,239 @@
+//! The command line.
+use clap::error::ErrorKind;
+use clap::{Arg, ArgMatches, Command, Error};
+use std::alloc::{AllocError, Global};
+use tf_model::number::{Number, number_of};
+
+/// What is to be solved, or what was.
+#[derive(Drop)]
+pub struct Options<'a> {
+    pub problem: &'a str,
+    pub form: FormOption<'a>,
+    pub machines: Option<u32>,
+    pub input: &'a str,
+}
+
+/// The form of the instance, with what that form needs.
+#[derive(Clone, Copy)]
+pub enum FormOption<'a> {
+    Table,
+    Wt {
+        jobs: u32,
+        index: u32,
+    },
+    Flow {
+        name: &'a str,
+        pair: Option<(u32, u32)>,
+    },
+}
+
+/// What the command line asks for.
+#[derive(Drop)]
+pub enum Asked<'a> {
+    Solve(Options<'a>),
+    /// Judge the answer of this name.
+    Check(Options<'a>, &'a str),
+    /// Help, or the version.
+    Help(Error),
+    /// The command line is none of the program's.
+    Misused(Error),
+    /// The value of an option is not what it takes.
+    Unfit(&'static str),
+    NoMemory,
+}
+
+static FORMATS: [&str; 3] = ["table", "wt", "flow"];
+
+const MOST_MACHINES: u32 = 1_000;
+
+const MOST_JOBS: u32 = 100_000;
+
+/// The program's commands.
+pub fn command<'a>(alloc: Global) -> Result<Command<'a>, AllocError> {
+    let solve = with_options(alloc, Command::new(alloc, "solve"))?.about(
+        "Prints a best schedule, its value and a certificate that none is better",
+    );
+    let answer = Arg::new(alloc, "ANSWER")
+        .help("The answer: a file, or - for standard input")
+        .required(true);
+    let check = with_options(alloc, Command::new(alloc, "check"))?
+        .about("Judges an answer: accepted, or rejected and why")
+        .arg(answer)?;
+    Command::new(alloc, "threefield")
+        .bin_name("threefield")?
+        .about("Exact machine scheduling with certificates")
+        .version("0.1.0")
+        .disable_help_subcommand(true)
+        .subcommand_required(true)
+        .subcommand(solve)?
+        .subcommand(check)
+}
+
+// The command with what names a problem and an instance.
+fn with_options<'a>(alloc: Global, command: Command<'a>) -> Result<Command<'a>, AllocError> {
+    let problem = Arg::new(alloc, "problem")
+        .long("problem")
+        .value_name("TEXT")
+        .help("The problem in three-field notation, as P2|prmp|Cmax")
+        .required(true);
+    let format = Arg::new(alloc, "format")
+        .long("format")
+        .value_name("FORM")
+        .help("The form of the instance")
+        .value_parser(FORMATS.as_slice())
+        .default_value("table");
+    let machines = Arg::new(alloc, "machines")
+        .long("machines")
+        .value_name("M")
+        .help("The number of machines, 1 to 1000");
+    let jobs = Arg::new(alloc, "jobs")
+        .long("jobs")
+        .value_name("N")
+        .help("With wt: the number of jobs of an instance, 1 to 100000");
+    let index = Arg::new(alloc, "index")
+        .long("index")
+        .value_name("K")
+        .help("With wt: which instance, from 1")
+        .default_value("1");
+    let name = Arg::new(alloc, "name")
+        .long("name")
+        .value_name("NAME")
+        .help("With flow: the name of the instance");
+    let pair = Arg::new(alloc, "pair")
+        .long("pair")
+        .value_name("I,K")
+        .help("With flow: the two machines that count, from 0");
+    let input = Arg::new(alloc, "INPUT")
+        .help("The instance: a file, or - for standard input")
+        .required(true);
+    command
+        .arg(problem)?
+        .arg(format)?
+        .arg(jobs)?
+        .arg(index)?
+        .arg(name)?
+        .arg(pair)?
+        .arg(machines)?
+        .arg(input)
+}
+
+/// What the words ask for.
+pub fn understand<'a>(command: Command<'a>, words: &'a [String]) -> Asked<'a> {
+    let matches = match command.try_get_matches_from(words) {
+        Ok(matches) => matches,
+        Err(error) => return refused(error),
+    };
+    let Some((name, given)) = matches.subcommand() else {
+        return Asked::NoMemory;
+    };
+    let options = match options_in(given) {
+        Ok(options) => options,
+        Err(asked) => return asked,
+    };
+    if name == "solve" {
+        return Asked::Solve(options);
+    }
+    match given.get_str("ANSWER") {
+        None => Asked::NoMemory,
+        Some(answer) => {
+            if answer == "-" && options.input == "-" {
+                return Asked::Unfit("INPUT and ANSWER cannot both be standard input");
+            }
+            Asked::Check(options, answer)
+        }
+    }
+}
+
+// What names the problem and the instance, or what is asked for in place of it.
+fn options_in<'a>(given: &ArgMatches<'a>) -> Result<Options<'a>, Asked<'a>> {
+    let (Some(problem), Some(input)) = (given.get_str("problem"), given.get_str("INPUT")) else {
+        return Err(Asked::NoMemory);
+    };
+    let machines = match given.get_str("machines") {
+        None => None,
+        Some(word) => match number_within(word, 1, MOST_MACHINES) {
+            Some(machines) => Some(machines),
+            None => return Err(Asked::Unfit("--machines takes a number from 1 to 1000")),
+        },
+    };
+    Ok(Options {
+        problem,
+        form: form_in(given)?,
+        machines,
+        input,
+    })
+}
+
+// The form that was chosen. The options of the others are not looked at.
+fn form_in<'a>(given: &ArgMatches<'a>) -> Result<FormOption<'a>, Asked<'a>> {
+    let Some(format) = given.get_str("format") else {
+        return Err(Asked::NoMemory);
+    };
+    if format == "wt" {
+        return wt_in(given);
+    }
+    if format == "flow" {
+        return flow_in(given);
+    }
+    Ok(FormOption::Table)
+}
+
+fn wt_in<'a>(given: &ArgMatches<'a>) -> Result<FormOption<'a>, Asked<'a>> {
+    let jobs = given
+        .get_str("jobs")
+        .and_then(|word| number_within(word, 1, MOST_JOBS));
+    let index = given
+        .get_str("index")
+        .and_then(|word| number_within(word, 1, u32::MAX));
+    match (jobs, index) {
+        (None, _) => Err(Asked::Unfit("--format wt needs --jobs, a number from 1 to 100000")),
+        (_, None) => Err(Asked::Unfit("--index takes a number from 1")),
+        (Some(jobs), Some(index)) => Ok(FormOption::Wt { jobs, index }),
+    }
+}
+
+fn flow_in<'a>(given: &ArgMatches<'a>) -> Result<FormOption<'a>, Asked<'a>> {
+    let Some(name) = given.get_str("name") else {
+        return Err(Asked::Unfit("--format flow needs --name"));
+    };
+    let Some(word) = given.get_str("pair") else {
+        return Ok(FormOption::Flow { name, pair: None });
+    };
+    match pair_in(word) {
+        Some(pair) => Ok(FormOption::Flow {
+            name,
+            pair: Some(pair),
+        }),
+        None => Err(Asked::Unfit("--pair takes two numbers up to 1000 with a comma between them")),
+    }
+}
+
+fn pair_in(word: &str) -> Option<(u32, u32)> {
+    let (first, second) = word.split_once(",")?;
+    let first = number_within(first, 0, MOST_MACHINES)?;
+    let second = number_within(second, 0, MOST_MACHINES)?;
+    Some((first, second))
+}
+
+// A number of digits alone, within a range.
+fn number_within(word: &str, least: u32, most: u32) -> Option<u32> {
+    let bytes = word.as_bytes();
+    if !bytes.first().is_some_and(|byte| byte.is_ascii_digit()) {
+        return None;
+    }
+    match number_of(bytes) {
+        Number::Value(n) if i64::from(least) <= n && n <= i64::from(most) => Some(n as u32),
+        _ => None,
+    }
+}
+
+fn refused<'a>(error: Error) -> Asked<'a> {
+    if error.kind() == ErrorKind::OutOfMemory {
+        return Asked::NoMemory;
+    }
+    if error.use_stderr() {
+        Asked::Misused(error)
+    } else {
+        Asked::Help(error)
+    }
+}

@@ -1,0 +1,187 @@
+//! What the program says of a run that gave no answer.
+ghost use Rattle.std.specs.Prelude.{◌≡◌};
+ghost use Rattle.threefield.specs.Statuses.{status_of, status_of_check};
+
+use std::io::Write;
+use tf_engine::fault::RunFault;
+use tf_engine::run_check::Checked;
+use tf_model::prepare::{Field, Refusal};
+use tf_read::fault::ReadFault;
+use tf_text::answer::fault::AnswerFault;
+use tf_text::counted::Counted;
+
+/// Writes the line of a fault, as far as the writer takes it, and answers the exit status. It takes no memory.
+pub fn report<W: Write>(fault: &RunFault, writer: &mut Counted<W>) -> u8
+    ensures { result ≡ status_of fault.now }
+{
+    match fault {
+        RunFault::Notation(fault) => {
+            say_refused(writer, &Said::counted("NotationFault", fault.byte as u64))
+        }
+        RunFault::Text(fault) => say_refused(writer, &said_of_text(fault)),
+        RunFault::Task(refusal) => say_refused(writer, &said_of_task(refusal)),
+        RunFault::Answer(fault) => say_answer_refused(writer, fault),
+        RunFault::Gap => say_refused(writer, &Said::named("Gap")),
+        RunFault::OutOfMemory => say_memory(writer),
+        RunFault::Device => say_device(writer),
+    }
+}
+
+/// The exit status of a check that said its verdict.
+pub fn status_of_check(checked: &Checked) -> u8
+    ensures { result ≡ status_of_check checked.now }
+{
+    match checked {
+        Checked::Accepted => 0,
+        Checked::OtherTask | Checked::Rejected(_) => 1,
+    }
+}
+
+/// Says that there was no memory.
+pub fn say_memory<W: Write>(writer: &mut Counted<W>) -> u8
+    ensures { result ≡ 3 }
+{
+    say(writer, "threefield: want of memory\n");
+    3
+}
+
+/// Says that a device failed.
+pub fn say_device<W: Write>(writer: &mut Counted<W>) -> u8
+    ensures { result ≡ 4 }
+{
+    say(writer, "threefield: device fault\n");
+    4
+}
+
+/// Says what is wrong with the command line.
+pub fn say_usage<W: Write>(writer: &mut Counted<W>, text: &str) -> u8
+    ensures { result ≡ 5 }
+{
+    say(writer, "threefield: ");
+    say(writer, text);
+    say(writer, "\n");
+    5
+}
+
+// A fault by its name and its arguments.
+#[derive(Clone, Copy)]
+struct Said {
+    name: &'static str,
+    number: Option<u64>,
+    field: Option<&'static str>,
+}
+
+impl Said {
+    fn named(name: &'static str) -> Said {
+        Said {
+            name,
+            number: None,
+            field: None,
+        }
+    }
+
+    fn counted(name: &'static str, number: u64) -> Said {
+        Said {
+            name,
+            number: Some(number),
+            field: None,
+        }
+    }
+}
+
+fn said_of_text(fault: &ReadFault) -> Said {
+    match *fault {
+        ReadFault::TooLong => Said::named("TooLong"),
+        ReadFault::BadNumber(line) => Said::counted("BadNumber", u64::from(line)),
+        ReadFault::NumberTooLarge(line) => Said::counted("NumberTooLarge", u64::from(line)),
+        ReadFault::Negative(line) => Said::counted("Negative", u64::from(line)),
+        ReadFault::EndsEarly => Said::named("EndsEarly"),
+        ReadFault::NoInstance => Said::named("NoInstance"),
+        ReadFault::NotAFlowShop(line) => Said::counted("NotAFlowShop", u64::from(line)),
+        ReadFault::BadPair => Said::named("BadPair"),
+        ReadFault::BadLine(line) => Said::counted("BadLine", u64::from(line)),
+        ReadFault::BadCost(line) => Said::counted("BadCost", u64::from(line)),
+        ReadFault::NoJobs => Said::named("NoJobs"),
+        ReadFault::TooManyJobs => Said::named("TooManyJobs"),
+        ReadFault::TooManyArcs => Said::named("TooManyArcs"),
+        ReadFault::BadArc(line) => Said::counted("BadArc", u64::from(line)),
+        ReadFault::OutOfMemory => Said::named("OutOfMemory"),
+    }
+}
+
+fn said_of_answer(fault: &AnswerFault) -> Said {
+    match *fault {
+        AnswerFault::TooLong => Said::named("TooLong"),
+        AnswerFault::BadLine(line) => Said::counted("BadLine", u64::from(line)),
+        AnswerFault::NumberTooLarge(line) => Said::counted("NumberTooLarge", u64::from(line)),
+        AnswerFault::BadNotation => Said::named("BadNotation"),
+        AnswerFault::EndsEarly => Said::named("EndsEarly"),
+        AnswerFault::OutOfMemory => Said::named("OutOfMemory"),
+    }
+}
+
+fn said_of_task(refusal: &Refusal) -> Said {
+    match *refusal {
+        Refusal::NoSolver => Said::named("NoSolver"),
+        Refusal::TooManyJobs => Said::named("TooManyJobs"),
+        Refusal::MachinesMissing => Said::named("MachinesMissing"),
+        Refusal::MachinesDisagree => Said::named("MachinesDisagree"),
+        Refusal::MachineCount(m) => Said::counted("MachineCount", u64::from(m)),
+        Refusal::WrongTimes(job) => Said::counted("WrongTimes", u64::from(job.get())),
+        Refusal::MissingField(job, field) => Said {
+            name: "MissingField",
+            number: Some(u64::from(job.get())),
+            field: Some(field_name(field)),
+        },
+        Refusal::ZeroTime(job) => Said::counted("ZeroTime", u64::from(job.get())),
+        Refusal::TotalTooLarge => Said::named("TotalTooLarge"),
+        Refusal::OutOfMemory => Said::named("OutOfMemory"),
+    }
+}
+
+fn field_name(field: Field) -> &'static str {
+    match field {
+        Field::Weight => "weight",
+        Field::Due => "due",
+        Field::Release => "release",
+        Field::Cost => "cost",
+    }
+}
+
+fn say_refused<W: Write>(writer: &mut Counted<W>, said: &Said) -> u8
+    ensures { result ≡ 2 }
+{
+    say(writer, "threefield: refused: ");
+    say_fault(writer, said);
+    2
+}
+
+fn say_answer_refused<W: Write>(writer: &mut Counted<W>, fault: &AnswerFault) -> u8
+    ensures { result ≡ 2 }
+{
+    say(writer, "threefield: refused: answer ");
+    say_fault(writer, &said_of_answer(fault));
+    2
+}
+
+fn say_fault<W: Write>(writer: &mut Counted<W>, said: &Said) {
+    say(writer, said.name);
+    if let Some(number) = said.number {
+        let mut digits = itoa::Buffer::new();
+        say(writer, " ");
+        say(writer, digits.format(number));
+    }
+    if let Some(field) = said.field {
+        say(writer, " ");
+        say(writer, field);
+    }
+    say(writer, "\n");
+}
+
+// After a failure the writer is left alone.
+fn say<W: Write>(writer: &mut Counted<W>, text: &str) {
+    let _ = writer.push_all(text.as_bytes());
+}
+
+#[cfg(test)]
+mod tests;
