@@ -1,0 +1,30 @@
+#!/bin/bash
+# Times the reading of some 60 MB in each form, beside a plain Rust program: bash bench/run.sh
+# Needs the program at crates/threefield/out/threefield (the first command of the README makes it), rustc and python3.
+set -eu
+here=$(cd "$(dirname "$0")" && pwd)
+program=$here/../crates/threefield/out/threefield
+work=$(mktemp -d)
+trap 'rm -rf "$work"' EXIT
+python3 "$here/make.py" "$work"
+rustc -O -o "$work/plain" "$here/plain.rs"
+last=$(( $(wc -l < "$work/wt.txt") ))
+
+# The command after the form's name reads the text of that form. A refusal after reading is an answer too.
+timed() {
+    local form=$1 size start stop
+    shift
+    size=$(wc -c < "$work/$form.txt")
+    start=$(date +%s%N)
+    "$@" < "$work/$form.txt" > "$work/out" 2> "$work/err" || true
+    stop=$(date +%s%N)
+    printf '%-6s %-12s %6d MB/s   %s\n' "$form" "$(basename "$1")" \
+        $(( size * 1000 / (stop - start) )) "$(cat "$work/err" "$work/out" | head -n 1)"
+}
+
+timed table "$program" solve --problem "P2|prmp|Cmax" -
+timed table "$work/plain"
+timed wt "$program" solve --problem "P2|prmp|Cmax" --format wt --jobs 2000 --index "$last" -
+timed wt "$work/plain"
+timed flow "$program" solve --problem "F||Cmax" --format flow --name large --pair 0,999 -
+timed flow "$work/plain"
