@@ -1,4 +1,4 @@
-"""Writes a text of some 60 MB in each form of an instance: python3 make.py FOLDER."""
+"""Writes a text of some 60 MB in each form of an instance, and an answer of 300,000 pieces: python3 make.py FOLDER."""
 import pathlib
 import sys
 
@@ -29,7 +29,23 @@ def shop(out):
         out.write(" ".join(f"{i} {(k * i) % 97:026}" for i in range(1000)) + "\n")
 
 
+def work(out):
+    """A table of the jobs that the answer schedules, each of 150 time steps."""
+    out.write("table 1\n" + "".join(f"job {k} p=150\n" for k in range(1, JOBS + 1)))
+
+
+def answer(out):
+    """A best schedule of these jobs on two machines, in which no job runs for two time steps on end."""
+    half = JOBS // 2
+    stop = 150 * half
+    out.write(f"answer 1\nproblem P2|prmp|Cmax\njobs {JOBS}\nmachines 2\nvalue {stop}\n")
+    for t in range(stop):
+        out.write(f"piece {t % half + 1} 1 {t} {t + 1}\npiece {t % half + half + 1} 2 {t} {t + 1}\n")
+    out.write("cert load\nend\n")
+
+
 folder = pathlib.Path(sys.argv[1])
-for name, text in [("table", table), ("wt", tardiness), ("flow", shop)]:
+texts = [("table", table), ("wt", tardiness), ("flow", shop), ("work", work), ("answer", answer)]
+for name, text in texts:
     with open(folder / f"{name}.txt", "w", newline="\n") as out:
         text(out)

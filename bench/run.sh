@@ -1,5 +1,6 @@
 #!/bin/bash
-# Times the reading of some 60 MB in each form, beside a plain Rust program: bash bench/run.sh
+# Times the reading of some 60 MB in each form, and the check of an answer of 300,000 pieces, beside a plain Rust program
+# that reads the same words: bash bench/run.sh
 # Needs the program at crates/threefield/out/threefield (the first command of the README makes it), rustc and python3.
 set -eu
 here=$(cd "$(dirname "$0")" && pwd)
@@ -18,7 +19,7 @@ timed() {
     start=$(date +%s%N)
     "$@" < "$work/$form.txt" > "$work/out" 2> "$work/err" || true
     stop=$(date +%s%N)
-    printf '%-6s %-12s %6d MB/s   %s\n' "$form" "$(basename "$1")" \
+    printf '%-6s %-12s %6d ms %6d MB/s   %s\n' "$form" "$(basename "$1")" $(( (stop - start) / 1000000 )) \
         $(( size * 1000 / (stop - start) )) "$(cat "$work/err" "$work/out" | head -n 1)"
 }
 
@@ -28,3 +29,5 @@ timed wt "$program" solve --problem "P2|prmp|Cmax" --format wt --jobs 2000 --ind
 timed wt "$work/plain"
 timed flow "$program" solve --problem "F||Cmax" --format flow --name large --pair 0,999 -
 timed flow "$work/plain"
+timed answer "$program" check --problem "P2|prmp|Cmax" "$work/work.txt" -
+timed answer "$work/plain"

@@ -14,13 +14,14 @@ use std::io::{Read, Write};
 use tf_check::check::check;
 use tf_check::verdict::{Reason, Verdict};
 use tf_model::class::class_of;
+use tf_model::limit::MOST_BYTES;
 use tf_model::memory::OutOfMemory;
 use tf_model::task::Task;
 use tf_text::answer::fault::AnswerFault;
 use tf_text::answer::reading::read_answer;
 use tf_text::answer::sheet::Sheet;
 use tf_text::counted::Counted;
-use tf_text::input::{InputFault, LONGEST, read_all};
+use tf_text::input::{InputFault, read_all};
 
 /// The verdict on an answer.
 #[derive(Debug, Drop, PartialEq, Eq)]
@@ -53,9 +54,9 @@ pub fn run_check<A: Allocator + Copy, B: Allocator, R: Read, S: Read, W: Write>(
     // Nothing is read before the notation and the class are accepted.
     ensures unread { IfErr (problem_for request.now.problem) (λ e.
         (result ≡ Err e) × (instance.new ≡ instance.old) × (answer.new ≡ answer.old)) }
-    ensures pulled { ConsumesAtMost (LONGEST + 1) (R.remaining (inner_of instance.old))
+    ensures pulled { ConsumesAtMost (MOST_BYTES + 1) (R.remaining (inner_of instance.old))
         (R.remaining (inner_of instance.new)) }
-    ensures pulled_answer { ConsumesAtMost (LONGEST + 1) (S.remaining (inner_of answer.old))
+    ensures pulled_answer { ConsumesAtMost (MOST_BYTES + 1) (S.remaining (inner_of answer.old))
         (S.remaining (inner_of answer.new)) }
 {
     let problem = problem_for(request.problem.as_str())?;
@@ -76,7 +77,7 @@ fn sheet_said<A: Allocator + Copy, S: Read>(
     ensures said { GivesSaid (S.remaining (inner_of answer.old)) result }
     ensures unfailed { OnOk result (has_failed answer.new ≡ false) }
     ensures device { IfErr result (λ e. is_device e ≡ true → has_failed answer.new ≡ true) }
-    ensures pulled { ConsumesAtMost (LONGEST + 1) (S.remaining (inner_of answer.old))
+    ensures pulled { ConsumesAtMost (MOST_BYTES + 1) (S.remaining (inner_of answer.old))
         (S.remaining (inner_of answer.new)) }
 {
     match read_all(alloc, answer) {

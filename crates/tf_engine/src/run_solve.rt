@@ -11,11 +11,12 @@ use crate::solve::solve;
 use crate::task_for::{problem_for, task_in};
 use std::alloc::Allocator;
 use std::io::{Read, Write};
+use tf_model::limit::MOST_BYTES;
 use tf_model::problem::Problem;
 use tf_text::answer::sheet::Sheet;
 use tf_text::answer::writing::write_answer;
 use tf_text::counted::Counted;
-use tf_text::input::{LONGEST, read_all};
+use tf_text::input::read_all;
 
 /// Reads an instance to its end, solves it, and writes the answer and nothing else.
 ///
@@ -34,7 +35,7 @@ pub fn run_solve<A: Allocator + Copy, B: Allocator, R: Read, W: Write>(
     ensures unwritten { IfErr result (λ e. UnlessDevice e (writer.new ≡ writer.old)) }
     // Nothing is read before the notation and the class are accepted.
     ensures unread { IfErr (problem_for request.now.problem) (λ e. (result ≡ Err e) × (reader.new ≡ reader.old)) }
-    ensures pulled { ConsumesAtMost (LONGEST + 1) (R.remaining (inner_of reader.old))
+    ensures pulled { ConsumesAtMost (MOST_BYTES + 1) (R.remaining (inner_of reader.old))
         (R.remaining (inner_of reader.new)) }
 {
     let problem = problem_for(request.problem.as_str())?;

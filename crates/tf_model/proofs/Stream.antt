@@ -9,7 +9,7 @@ use Rattle.tf_model.specs.Words.{Word, is_white, words, lines, words_from}
 use Rattle.tf_model.proofs.Parts.{parts-yes}
 
 -- a white byte before a line is no part of a word
-words_white : (b : ℕ) (line : List ℕ) → is_white b ≡ true → words (b ∷ line) ≡ words line
+pub words_white : (b : ℕ) (line : List ℕ) → is_white b ≡ true → words (b ∷ line) ≡ words line
 unfolding words
 words_white b line white = parts-yes is_white b line white
 
@@ -64,13 +64,13 @@ word_lines c (d ∷ word) text h = goes_on c (d ∷ (word ++ text)) (and_parts _
 all_no_white : (word : List ℕ) → IsWordBytes word → All (λ x. is_white x ≡ false) word
 all_no_white word h = λ k d lt. not-true _ (AllPass-from_list_all (λ b. not (is_white b)) word h k d lt)
 
-word_alone : (c : ℕ) (word : List ℕ) → IsWordBytes (c ∷ word) → words (c ∷ word) ≡ (c ∷ word) ∷ []
+pub word_alone : (c : ℕ) (word : List ℕ) → IsWordBytes (c ∷ word) → words (c ∷ word) ≡ (c ∷ word) ∷ []
 unfolding words
 word_alone c word h =
     let some : ltb 0 (length (c ∷ word)) ≡ true = lt-ltb _ _ (omega arith) in
     ap (filter (λ part. ltb 0 (length part))) (slice_split_none is_white (c ∷ word) (all_no_white (c ∷ word) h)) ∙ rw some refl
 
-word_before : (c b : ℕ) (word line : List ℕ) → IsWordBytes (c ∷ word) → is_white b ≡ true → words ((c ∷ word) ++ (b ∷ line)) ≡ (c ∷ word) ∷ words (b ∷ line)
+pub word_before : (c b : ℕ) (word line : List ℕ) → IsWordBytes (c ∷ word) → is_white b ≡ true → words ((c ∷ word) ++ (b ∷ line)) ≡ (c ∷ word) ∷ words (b ∷ line)
 unfolding words
 word_before c b word line h white =
     let some : ltb 0 (length (c ∷ word)) ≡ true = lt-ltb _ _ (omega arith) in

@@ -11,3 +11,6 @@ pub const MOST_MACHINES: u32 = 1_000;
 
 /// The most arcs of an instance.
 pub const MOST_ARCS: usize = 200_000;
+
+/// The most bytes of a text.
+pub const MOST_BYTES: usize = 67_108_864;

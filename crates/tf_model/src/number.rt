@@ -1,3 +1,4 @@
+//! Words as numbers.
 ghost use Rattle.std.specs.Prelude.{◌≡◌, ◌≤◌, true, Some, None, nat_lt, if◌then◌else◌};
 ghost use Rattle.std.specs.List.{list_all};
 ghost use Rattle.std.specs.Char.{is_ascii_digit};
@@ -22,7 +23,8 @@ fn all_digits(digits: &[u8]) -> bool
     digits.iter().all(|byte| byte.is_ascii_digit())
 }
 
-fn is_numeral(digits: &[u8]) -> bool
+/// Whether the word is of digits alone, and of one at least.
+pub fn is_numeral(digits: &[u8]) -> bool
     ensures { result ≡ is_numeral digits.now }
 {
     !digits.is_empty() && all_digits(digits)
@@ -44,7 +46,8 @@ fn size_of(digits: &[u8]) -> Option<u64>
     Some(size)
 }
 
-fn signed(negative: bool, size: u64) -> i64
+/// The number of this size, within the limit.
+pub fn signed(negative: bool, size: u64) -> i64
     requires { size ≤ limit }
     ensures { result ≡ signed negative size }
 {

@@ -1,3 +1,4 @@
+//! A number, followed byte by byte.
 ghost use Rattle.std.specs.Prelude.{◌≡◌, ℕ, List, [], ◌∷◌, ◌++◌};
 ghost use Rattle.tf_model.specs.SoFar.{next, with_digit, so_far};
 

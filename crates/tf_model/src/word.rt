@@ -1,19 +1,23 @@
+//! Words and lines of a text.
 ghost use Rattle.std.specs.Prelude.{◌≡◌, ◌+◌, ◌^◌, ◌<◌, ◌≤◌, ◌==◌, [], ◌∷◌, length, true, false, not, MatchOption, IfSome, position};
 ghost use Rattle.tf_model.specs.Words.{is_white, words, lines, is_kept, kept_from};
 
-fn is_white(byte: u8) -> bool
+/// Whether the byte divides words: a blank, a tab, a carriage return or a line feed.
+pub fn is_white(byte: u8) -> bool
     ensures { result ≡ is_white byte }
 {
     matches!(byte, b' ' | b'\t' | b'\r' | b'\n')
 }
 
-fn white_at(text: &[u8]) -> Option<usize>
+/// The place of the first byte that divides words.
+pub fn white_at(text: &[u8]) -> Option<usize>
     ensures { result ≡ position is_white text.now }
 {
     text.iter().position(|byte| is_white(*byte))
 }
 
-fn word_at(text: &[u8]) -> Option<usize>
+/// The place of the first byte of a word.
+pub fn word_at(text: &[u8]) -> Option<usize>
     ensures { result ≡ position (λ b. not (is_white b)) text.now }
 {
     text.iter().position(|byte| !is_white(*byte))

@@ -124,7 +124,9 @@ count_ok line (Value (pos k)) m h =
     let e = then_ok _ _ _ _ h in
     let both = and_parts _ _ e.0 in
     let same : k ≡ m = same_ok (Ok k) refl e.1 in
-    (omega (arith, leb-true 1 k both.0, same), omega (arith, leb-true k MOST_MACHINES both.1, same))
+    let above : 1 ≤ k = leb-true 1 k both.0 in
+    let below : k ≤ MOST_MACHINES = leb-true k MOST_MACHINES both.1 in
+    (subst (λ (n : ℕ). 1 ≤ n) same above, subst (λ (n : ℕ). n ≤ MOST_MACHINES) same below)
 
 pub machines_ok : (line : ℕ) (words : List (List ℕ)) (m : ℕ) → machines_at line words ≡ Ok m → count_fault (Some m) ≡ None
 unfolding machines_at

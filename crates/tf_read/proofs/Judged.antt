@@ -18,6 +18,18 @@ bind_ok (Err e) f y h = cc
 pub same_ok : {A : Type 0} {x y : A} (r : Result A ReadFault) → r ≡ Ok x → r ≡ Ok y → x ≡ y
 same_ok r g h = let both = sym g ∙ h in cc
 
+-- the first that was read, and the others
+pub each_cons : {X Y : Type 0} (read : ℕ → X → Result Y ReadFault) (k : ℕ) (x : X) (xs : List X) (ys : List Y) → each_from read k (x ∷ xs) ≡ Ok ys → (first : Y) × (others : List Y) × (read k x ≡ Ok first) × (each_from read (k + 1) xs ≡ Ok others) × (first ∷ others ≡ ys)
+unfolding each_from
+each_cons read k x xs ys h =
+    let a = bind_ok (read k x) (λ first. each_from read (k + 1) xs >>= λ others. Ok (first ∷ others)) ys h in
+    let b = bind_ok (each_from read (k + 1) xs) (λ others. Ok (a.0 ∷ others)) ys a.2 in
+    (a.0, b.0, a.1, b.1, same_ok (Ok (a.0 ∷ b.0)) refl b.2)
+
+pub each_none : {X Y : Type 0} (read : ℕ → X → Result Y ReadFault) (k : ℕ) (ys : List Y) → each_from read k [] ≡ Ok ys → [] ≡ ys
+unfolding each_from
+each_none read k ys h = same_ok (Ok []) refl h
+
 -- a test behind which there is a value
 pub then_ok : {A : Type 0} (b : Bool) (x : Result A ReadFault) (e : ReadFault) (z : A) → cond b x (Err e) ≡ Ok z → (b ≡ true) × (x ≡ Ok z)
 then_ok true x e z h = (refl, h)
@@ -85,28 +97,22 @@ pub past_end : {Y : Type 0} (test : Y → Bool) (y : Y) (ys : List Y) → test y
 past_end test y ys e h = rw (e, h) (omega arith)
 
 none_passes : {X Y : Type 0} (read : ℕ → X → Result Y ReadFault) (test : Y → Bool) → ((k : ℕ) (x : X) (y : Y) → read k x ≡ Ok y → test y ≡ false) → (k : ℕ) (xs : List X) (ys : List Y) → each_from read k xs ≡ Ok ys → position_or_len test ys ≡ length ys
-unfolding each_from
-none_passes read test ok k [] ys h = let e : ys ≡ [] = cc in subst (λ zs. position_or_len test zs ≡ length zs) (sym e) refl
+none_passes read test ok k [] ys h = subst (λ zs. position_or_len test zs ≡ length zs) (each_none read k ys h) refl
 none_passes read test ok k (x ∷ xs) ys h =
-    let a = bind_ok _ _ _ h in
-    let b = bind_ok _ _ _ a.2 in
-    let e : a.0 ∷ b.0 ≡ ys = same_ok (Ok (a.0 ∷ b.0)) refl b.2 in
-    subst (λ zs. position_or_len test zs ≡ length zs) e (past_end test a.0 b.0 (ok k x a.0 a.1) (none_passes read test ok (k + 1) xs b.0 b.1))
+    let r = each_cons read k x xs ys h in
+    subst (λ zs. position_or_len test zs ≡ length zs) r.4 (past_end test r.0 r.1 (ok k x r.0 r.2) (none_passes read test ok (k + 1) xs r.1 r.3))
 
 pub none_there : {X Y : Type 0} (read : ℕ → X → Result Y ReadFault) (test : Y → Bool) → ((k : ℕ) (x : X) (y : Y) → read k x ≡ Ok y → test y ≡ false) → (k : ℕ) (xs : List X) (ys : List Y) → each_from read k xs ≡ Ok ys → position test ys ≡ None
 none_there read test ok k xs ys h = let e = none_passes read test ok k xs ys h in let t : ltb (length ys) (length ys) ≡ false = le-ltb _ _ (omega arith) in rw (e, t) refl
 
 -- no more than the number up to which they are read
 pub few : {X Y : Type 0} (read : ℕ → X → Result Y ReadFault) (most : ℕ) → ((k : ℕ) (x : X) (y : Y) → read k x ≡ Ok y → k ≤ most) → (k : ℕ) (xs : List X) (ys : List Y) → k ≤ most + 1 → each_from read k xs ≡ Ok ys → length ys + k ≤ most + 1
-unfolding each_from
-few read most ok k [] ys from h = let e : ys ≡ [] = cc in subst (λ (zs : List _). length zs + k ≤ most + 1) (sym e) (omega arith)
+few read most ok k [] ys from h = subst (λ (zs : List _). length zs + k ≤ most + 1) (each_none read k ys h) (omega arith)
 few read most ok k (x ∷ xs) ys from h =
-    let a = bind_ok _ _ _ h in
-    let b = bind_ok _ _ _ a.2 in
-    let e : a.0 ∷ b.0 ≡ ys = same_ok (Ok (a.0 ∷ b.0)) refl b.2 in
-    let le : k ≤ most = ok k x a.0 a.1 in
-    let more : length b.0 + (k + 1) ≤ most + 1 = few read most ok (k + 1) xs b.0 (omega arith) b.1 in
-    omega (arith, ap length e, more)
+    let r = each_cons read k x xs ys h in
+    let le : k ≤ most = ok k x r.0 r.2 in
+    let more : length r.1 + (k + 1) ≤ most + 1 = few read most ok (k + 1) xs r.1 (omega arith) r.3 in
+    omega (arith, ap length r.4, more)
 
 -- counts within the limits, no number that is negative or beyond the limit, and no arc of a job that isn't there
 pub record IsJudged (i : InstanceData) : Type 0 where

@@ -14,3 +14,7 @@ pub mod FlowWords
 pub mod FlowInstance
 pub mod FlowLines
 pub mod FlowRows
+pub mod PresentLine
+pub mod Headings
+pub mod SizesLines
+pub mod FlowReading

@@ -17,7 +17,7 @@ use Rattle.tf_read.specs.Faults.{◌>>=◌, each_from, natural, integer}
 use Rattle.tf_read.specs.WeightedTardiness.{judged, at, job, jobs_of, present, instance_of}
 use Rattle.tf_read.specs.Numbers.{Progress, skipped, wanted, missing, Holds, HasRead}
 use Rattle.tf_read.proofs.Progress.{counted}
-use Rattle.tf_read.proofs.Judged.{bind_ok, same_ok, or_false, value_within, natural_within, integer_within, past_end, judged as is_instance}
+use Rattle.tf_read.proofs.Judged.{each_cons, each_none, or_false, value_within, natural_within, integer_within, past_end, judged as is_instance}
 
 -- how a whole reading goes on
 pub goes_on : (n k : ℕ) (seen : List Word) (r : Result (List ℤ) ReadFault) → each_from (judged n) 0 (take (3 * n * k) seen) ≡ r → instance_of n k seen ≡ (r >>= λ numbers. present n k numbers)
@@ -78,20 +78,17 @@ whole_is p seen h m =
 
 -- each number was judged at its place
 each_at : {X Y : Type 0} (read : ℕ → X → Result Y ReadFault) (k : ℕ) (xs : List X) (ys : List Y) (i : ℕ) (d : Y) → each_from read k xs ≡ Ok ys → i < length ys → (x : X) × (read (k + i) x ≡ Ok (get_or ys i d))
-unfolding each_from
-each_at read k [] ys i d h lt = absurd (let e : [] ≡ ys = same_ok (Ok []) refl h in omega (arith, ap length e))
+each_at read k [] ys i d h lt = absurd (omega (arith, ap length (each_none read k ys h)))
 each_at read k (x ∷ xs) ys zero d h lt =
-    let a = bind_ok (read k x) (λ first. each_from read (k + 1) xs >>= λ others. Ok (first ∷ others)) ys h in
-    let b = bind_ok (each_from read (k + 1) xs) (λ others. Ok (a.0 ∷ others)) ys a.2 in
-    let e : a.0 ∷ b.0 ≡ ys = same_ok (Ok (a.0 ∷ b.0)) refl b.2 in
-    (x, ap (λ (n : ℕ). read n x) (let z : k + 0 ≡ k = omega arith in z) ∙ a.1 ∙ ap (λ zs. Ok (get_or zs 0 d)) e)
+    let r = each_cons read k x xs ys h in
+    let here : k + 0 ≡ k = omega arith in
+    (x, ap (λ (n : ℕ). read n x) here ∙ r.2 ∙ ap (λ zs. Ok (get_or zs 0 d)) r.4)
 each_at read k (x ∷ xs) ys (suc i) d h lt =
-    let a = bind_ok (read k x) (λ first. each_from read (k + 1) xs >>= λ others. Ok (first ∷ others)) ys h in
-    let b = bind_ok (each_from read (k + 1) xs) (λ others. Ok (a.0 ∷ others)) ys a.2 in
-    let e : a.0 ∷ b.0 ≡ ys = same_ok (Ok (a.0 ∷ b.0)) refl b.2 in
-    let more : i < length b.0 = omega (arith, ap length e, lt) in
-    let ih = each_at read (k + 1) xs b.0 i d b.1 more in
-    (ih.0, ap (λ (n : ℕ). read n ih.0) (let z : k + suc i ≡ k + 1 + i = omega arith in z) ∙ ih.1 ∙ ap (λ zs. Ok (get_or zs (suc i) d)) e)
+    let r = each_cons read k x xs ys h in
+    let more : i < length r.1 = omega (arith, ap length r.4, lt) in
+    let later = each_at read (k + 1) xs r.1 i d r.3 more in
+    let there : k + suc i ≡ k + 1 + i = omega arith in
+    (later.0, ap (λ (n : ℕ). read n later.0) there ∙ later.1 ∙ ap (λ zs. Ok (get_or zs (suc i) d)) r.4)
 
 -- what a number that was judged is
 natural_or : (b : Bool) (line : ℕ) (word : List ℕ) (z : ℤ) → cond b (natural line (number word)) (integer line (number word)) ≡ Ok z → (b ≡ true → is_negative z ≡ false) × (is_beyond z ≡ false)

@@ -11,7 +11,7 @@ use Rattle.tf_read.specs.Faults.{◌>>=◌, each_from}
 use Rattle.tf_read.specs.Scan.{IsOf}
 use Rattle.tf_read.specs.WeightedTardiness.{number_at, judged}
 use Rattle.tf_read.specs.Numbers.{Progress, skipped, wanted, Holds, HasRead}
-use Rattle.tf_read.proofs.Judged.{bind_ok, same_ok}
+use Rattle.tf_read.proofs.Judged.{each_cons, each_none}
 
 behind_first : {Y : Type 0} (first : Y) (r : Result (List Y) ReadFault) (s : Result Y ReadFault) → ((r >>= λ ys. s >>= λ y. Ok (ys ++ y ∷ [])) >>= λ others. Ok (first ∷ others)) ≡ ((r >>= λ others. Ok (first ∷ others)) >>= λ ys. s >>= λ y. Ok (ys ++ y ∷ []))
 behind_first first (Ok ys) (Ok y) = refl
@@ -32,14 +32,11 @@ each_push read k (z ∷ zs) x =
     (each_push read (k + 1) zs x ∙ ap (λ (n : ℕ). each_from read (k + 1) zs >>= λ ys. read n x >>= λ y. Ok (ys ++ y ∷ [])) count)
 
 pub each_length : {X Y : Type 0} (read : ℕ → X → Result Y ReadFault) (k : ℕ) (xs : List X) (ys : List Y) → each_from read k xs ≡ Ok ys → length ys ≡ length xs
-unfolding each_from
-each_length read k [] ys h = let e : [] ≡ ys = same_ok (Ok []) refl h in sym (ap length e)
+each_length read k [] ys h = sym (ap length (each_none read k ys h))
 each_length read k (x ∷ xs) ys h =
-    let a = bind_ok (read k x) (λ first. each_from read (k + 1) xs >>= λ others. Ok (first ∷ others)) ys h in
-    let b = bind_ok (each_from read (k + 1) xs) (λ others. Ok (a.0 ∷ others)) ys a.2 in
-    let e : a.0 ∷ b.0 ≡ ys = same_ok (Ok (a.0 ∷ b.0)) refl b.2 in
-    let ih : length b.0 ≡ length xs = each_length read (k + 1) xs b.0 b.1 in
-    omega (arith, ap length e, ih)
+    let r = each_cons read k x xs ys h in
+    let more : length r.1 ≡ length xs = each_length read (k + 1) xs r.1 r.3 in
+    omega (arith, ap length r.4, more)
 
 -- a word behind those that are wanted changes nothing
 full : {X : Type 0} (m : ℕ) (xs : List X) (x : X) → m ≤ length xs → take m (xs ++ x ∷ []) ≡ take m xs

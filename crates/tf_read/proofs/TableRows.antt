@@ -1,9 +1,11 @@
 -- Job tables and what they say.
-use Rattle.std.proofs.Common.{◌≡◌, [], ◌∷◌, ◌++◌, Some, None, Ok, Err, pos, negsuc, refl, codes}
+use Rattle.std.proofs.Common.{◌≡◌, ◌+◌, [], ◌∷◌, ◌++◌, Some, None, Ok, Err, pos, negsuc, refl, codes}
+use Rattle.std.specs.Fmt.{decimal, digits}
 use Rattle.tf_model.specs.Words.{words, lines, kept_from}
 use Rattle.tf_model.specs.Number.{number, plain}
 use Rattle.tf_model.specs.declared.job.Times.TheVariants.{One, Two}
-use Rattle.tf_read.specs.declared.fault.ReadFault.TheVariants.{EndsEarly, NoJobs, BadLine, BadNumber, NumberTooLarge, Negative, BadCost, BadArc}
+use Rattle.tf_model.specs.declared.limit.TheConstants.{MOST_JOBS, MOST_MACHINES, MOST_ARCS}
+use Rattle.tf_read.specs.declared.fault.ReadFault.TheVariants.{EndsEarly, NoJobs, TooManyJobs, TooManyArcs, BadLine, BadNumber, NumberTooLarge, Negative, BadCost, BadArc}
 use Rattle.tf_read.specs.Faults.{each_from}
 use Rattle.tf_read.specs.CostField.{step_at, cost_at}
 use Rattle.tf_read.specs.JobLine.{times_at, field_at, fields_at}
@@ -141,8 +143,8 @@ minus_zero : job_table (codes "table 1" ++ 10 ∷ codes "machines -0") ≡ Err (
 unfolding job_table table_of below_heading body_of machines_at job_at fields_at field_at times_at cost_at step_at each_from arcs_of arc_at arc_of kept_from lines words number plain
 minus_zero = refl
 
-many_machines : job_table (codes "table 1" ++ 10 ∷ codes "machines 1001") ≡ Err (BadLine 2)
-unfolding job_table table_of below_heading body_of machines_at job_at fields_at field_at times_at cost_at step_at each_from arcs_of arc_at arc_of kept_from lines words number plain
+many_machines : job_table (codes "table 1" ++ 10 ∷ codes "machines " ++ decimal (MOST_MACHINES + 1)) ≡ Err (BadLine 2)
+unfolding job_table table_of below_heading body_of machines_at job_at fields_at field_at times_at cost_at step_at each_from arcs_of arc_at arc_of kept_from lines words number plain digits
 many_machines = refl
 
 machines_beyond : job_table (codes "table 1" ++ 10 ∷ codes "machines 99999999999999999999") ≡ Err (BadLine 2)
@@ -189,6 +191,15 @@ machines_late = refl
 job_after_arc : job_table (codes "table 1" ++ 10 ∷ codes "job 1 p=1" ++ 10 ∷ codes "prec 1 1" ++ 10 ∷ codes "job 2 p=1") ≡ Err (BadLine 4)
 unfolding job_table table_of below_heading body_of machines_at job_at fields_at field_at times_at cost_at step_at each_from arcs_of arc_at arc_of kept_from lines words number plain
 job_after_arc = refl
+
+-- one more than the limit allows, whatever the line says else
+job_too_many : job_at (MOST_JOBS + 1) (record { number = 7; words = codes "job" ∷ [] }) ≡ Err TooManyJobs
+unfolding job_at
+job_too_many = refl
+
+arc_too_many : arc_at 1 (MOST_ARCS + 1) (record { number = 7; words = codes "prec" ∷ [] }) ≡ Err TooManyArcs
+unfolding arc_at
+arc_too_many = refl
 
 -- whole tables
 three_jobs : job_table (codes "table 1" ++ 10 ∷ codes "job 1 p=4" ++ 10 ∷ codes "job 2 p=4" ++ 10 ∷ codes "job 3 p=4" ++ 10 ∷ codes "") ≡ Ok (record { jobs = record { times = One (pos 4); weight = None; due = None; release = None; cost = None } ∷ record { times = One (pos 4); weight = None; due = None; release = None; cost = None } ∷ record { times = One (pos 4); weight = None; due = None; release = None; cost = None } ∷ []; arcs = []; machines = None })

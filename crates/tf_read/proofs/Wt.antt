@@ -2,8 +2,7 @@
 use Rattle.std.proofs.Common.{◌≡◌, ℕ, ◌≤◌, ◌≢◌, eqb, ltb, false, List, length, refl}
 use Rattle.std.proofs.lemmas.Bool.{le-ltb, ne_eqb}
 use Rattle.tf_model.specs.Words.{lines, words_from, placed_words}
-use Rattle.tf_model.specs.declared.limit.TheConstants.{MOST_JOBS}
-use Rattle.tf_read.specs.declared.fault.TheConstants.{MOST_BYTES}
+use Rattle.tf_model.specs.declared.limit.TheConstants.{MOST_BYTES, MOST_JOBS}
 use Rattle.tf_read.specs.WeightedTardiness.{instance_of, weighted_tardiness}
 
 pub by_words : (n k : ℕ) (text : List ℕ) → length text ≤ MOST_BYTES → n ≢ 0 → n ≤ MOST_JOBS → k ≢ 0 → weighted_tardiness n k text ≡ instance_of n k (words_from 1 (lines text))

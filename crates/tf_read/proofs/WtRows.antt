@@ -1,9 +1,10 @@
 -- Weighted tardiness texts and what they say.
-use Rattle.std.proofs.Common.{◌≡◌, ℕ, ◌-◌, List, [], ◌∷◌, ◌++◌, length, take, Some, None, Ok, Err, ℤ, pos, negsuc, refl, codes}
+use Rattle.std.proofs.Common.{◌≡◌, ℕ, ◌+◌, ◌-◌, List, [], ◌∷◌, ◌++◌, length, take, Some, None, Ok, Err, ℤ, pos, negsuc, refl, codes}
 use Rattle.tf_model.specs.Words.{words, lines, words_from, placed_words}
 use Rattle.tf_model.specs.Number.{number}
 use Rattle.tf_model.specs.JobFields.{JobFields}
 use Rattle.tf_model.specs.declared.job.Times.TheVariants.{One}
+use Rattle.tf_model.specs.declared.limit.TheConstants.{MOST_JOBS}
 use Rattle.tf_read.specs.declared.fault.ReadFault.TheVariants.{EndsEarly, NoInstance, Negative, NoJobs, TooManyJobs, BadNumber, NumberTooLarge}
 use Rattle.tf_read.specs.Faults.{each_from}
 use Rattle.tf_read.specs.WeightedTardiness.{instance_of, weighted_tardiness}
@@ -35,7 +36,7 @@ no_jobs : weighted_tardiness 0 1 text ≡ Err NoJobs
 unfolding weighted_tardiness instance_of each_from placed_words words_from words lines number
 no_jobs = refl
 
-too_many : weighted_tardiness 2001 1 text ≡ Err TooManyJobs
+too_many : weighted_tardiness (MOST_JOBS + 1) 1 text ≡ Err TooManyJobs
 unfolding weighted_tardiness instance_of each_from placed_words words_from words lines number
 too_many = refl
 

@@ -9,10 +9,9 @@ use Rattle.tf_model.specs.JobFields.{JobFields}
 use Rattle.tf_model.specs.InstanceData.{InstanceData}
 use Rattle.tf_model.specs.declared.job.Times.{Times}
 use Rattle.tf_model.specs.declared.job.Times.TheVariants.{One, Two}
-use Rattle.tf_model.specs.declared.limit.TheConstants.{MOST_JOBS, MOST_MACHINES}
+use Rattle.tf_model.specs.declared.limit.TheConstants.{MOST_BYTES, MOST_JOBS, MOST_MACHINES}
 use Rattle.tf_model.specs.declared.number.Number.{Number}
 use Rattle.tf_model.specs.declared.number.Number.TheVariants.{NotANumber, TooLarge, Value}
-use Rattle.tf_read.specs.declared.fault.TheConstants.{MOST_BYTES}
 use Rattle.tf_read.specs.declared.fault.ReadFault.{ReadFault}
 use Rattle.tf_read.specs.declared.fault.ReadFault.TheVariants.{TooLong, BadNumber, EndsEarly, NoInstance, NotAFlowShop, BadPair, BadLine, NoJobs, TooManyJobs}
 use Rattle.tf_read.specs.Faults.{◌>>=◌, each_from, natural}

@@ -7,10 +7,9 @@ use Rattle.tf_model.specs.Number.{number, plain}
 use Rattle.tf_model.specs.Words.{Line, lines, kept_from}
 use Rattle.tf_model.specs.JobFields.{JobFields}
 use Rattle.tf_model.specs.InstanceData.{InstanceData, is_no_job}
-use Rattle.tf_model.specs.declared.limit.TheConstants.{MOST_JOBS, MOST_MACHINES, MOST_ARCS}
+use Rattle.tf_model.specs.declared.limit.TheConstants.{MOST_BYTES, MOST_JOBS, MOST_MACHINES, MOST_ARCS}
 use Rattle.tf_model.specs.declared.number.Number.{Number}
 use Rattle.tf_model.specs.declared.number.Number.TheVariants.{NotANumber, TooLarge, Value}
-use Rattle.tf_read.specs.declared.fault.TheConstants.{MOST_BYTES}
 use Rattle.tf_read.specs.declared.fault.ReadFault.{ReadFault}
 use Rattle.tf_read.specs.declared.fault.ReadFault.TheVariants.{TooLong, BadNumber, EndsEarly, BadLine, NoJobs, TooManyJobs, TooManyArcs, BadArc}
 use Rattle.tf_read.specs.Faults.{◌>>=◌, each_from}

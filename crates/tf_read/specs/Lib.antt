@@ -8,3 +8,7 @@ pub mod WeightedTardiness
 pub mod Numbers
 pub mod FlowShop
 pub mod Pairs
+pub mod PresentLine
+pub mod Heading
+pub mod Sizes
+pub mod FlowReader

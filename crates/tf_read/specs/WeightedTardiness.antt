@@ -6,9 +6,8 @@ use Rattle.tf_model.specs.Words.{Word, placed_words}
 use Rattle.tf_model.specs.JobFields.{JobFields}
 use Rattle.tf_model.specs.InstanceData.{InstanceData}
 use Rattle.tf_model.specs.declared.job.Times.TheVariants.{One}
-use Rattle.tf_model.specs.declared.limit.TheConstants.{MOST_JOBS}
+use Rattle.tf_model.specs.declared.limit.TheConstants.{MOST_BYTES, MOST_JOBS}
 use Rattle.tf_model.specs.declared.number.Number.{Number}
-use Rattle.tf_read.specs.declared.fault.TheConstants.{MOST_BYTES}
 use Rattle.tf_read.specs.declared.fault.ReadFault.{ReadFault}
 use Rattle.tf_read.specs.declared.fault.ReadFault.TheVariants.{TooLong, EndsEarly, NoInstance, NoJobs, TooManyJobs}
 use Rattle.tf_read.specs.Faults.{◌>>=◌, each_from, natural, integer}

@@ -14,7 +14,7 @@ use tf_model::number::{Number, number_of};
 use tf_model::word::{Kept, first_word, next_kept};
 
 fn arc_job(jobs: u32, line: u32, word: &[u8]) -> Result<JobId, ReadFault>
-    ensures { Gives (λ j. j) result (arc_job jobs line (number word.now)) }
+    ensures { result ≡ arc_job jobs line (number word.now) }
 {
     match number_of(word) {
         Number::NotANumber => Err(ReadFault::BadNumber(line)),
@@ -31,27 +31,25 @@ fn arc_job(jobs: u32, line: u32, word: &[u8]) -> Result<JobId, ReadFault>
 
 #[tactic(auto, unfolding(crate::specs::JobTable::arc_of))]
 fn arc_of(jobs: u32, line: u32, text: &[u8]) -> Result<(JobId, JobId), ReadFault>
-    ensures { Gives (λ x. x) result (arc_of jobs line (words text.now)) }
+    ensures { result ≡ arc_of jobs line (words text.now) }
 {
-    match first_word(text) {
-        None => Err(ReadFault::BadLine(line)),
-        Some((first, more)) => match first_word(more) {
-            None => Err(ReadFault::BadLine(line)),
-            Some((second, after)) => {
-                if first_word(after).is_some() {
-                    return Err(ReadFault::BadLine(line));
-                }
-                let first = arc_job(jobs, line, first)?;
-                let second = arc_job(jobs, line, second)?;
-                Ok((first, second))
-            }
-        },
+    let Some((first, more)) = first_word(text) else {
+        return Err(ReadFault::BadLine(line));
+    };
+    let Some((second, after)) = first_word(more) else {
+        return Err(ReadFault::BadLine(line));
+    };
+    if first_word(after).is_some() {
+        return Err(ReadFault::BadLine(line));
     }
+    let first = arc_job(jobs, line, first)?;
+    let second = arc_job(jobs, line, second)?;
+    Ok((first, second))
 }
 
 #[tactic(auto, unfolding(crate::specs::JobTable::arc_at))]
 fn arc_at(jobs: u32, k: usize, line: &Kept<'_>) -> Result<(JobId, JobId), ReadFault>
-    ensures { Gives (λ x. x) result (arc_at jobs k (record { number = line.now.number; words = line.now.first.now ∷ words line.now.after.now })) }
+    ensures { result ≡ arc_at jobs k (record { number = line.now.number; words = line.now.first.now ∷ words line.now.after.now }) }
 {
     if !is(line.first, b"prec") {
         return Err(ReadFault::BadLine(line.number));

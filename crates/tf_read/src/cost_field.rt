@@ -35,7 +35,7 @@ fn are_steps(text: &[u8]) -> bool
 
 #[tactic(auto, unfolding(crate::specs::CostField::step_at))]
 fn step_at(line: u32, part: &[u8]) -> Result<(i64, i64), ReadFault>
-    ensures { Gives (λ x. x) result (step_at line part.now) }
+    ensures { result ≡ step_at line part.now }
 {
     match divided(part, b':') {
         None => Err(ReadFault::BadLine(line)),
@@ -66,7 +66,7 @@ fn rising<A: Allocator>(
     base: i64,
     steps: Vec<(i64, i64), A>,
 ) -> Result<StepCost<A>, ReadFault>
-    ensures { Gives (λ c. c) result (rising line (record { base = base; steps = steps.items })) }
+    ensures { result ≡ rising line (record { base = base; steps = steps.items }) }
 {
     match StepCost::new(base, steps) {
         Ok(cost) => Ok(cost),

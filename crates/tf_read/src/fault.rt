@@ -5,13 +5,10 @@ ghost use Rattle.tf_read.specs.declared.fault.ReadFault.TheVariants.{OutOfMemory
 use std::alloc::{AllocError, AllocFailed};
 use thiserror::Error;
 
-/// The most bytes of a text.
-pub const MOST_BYTES: usize = 67_108_864;
-
 /// Why a text holds no instance: the first fault from its front on. A fault's number is that of its line, from 1.
 #[derive(Clone, Copy, Debug, PartialEq, Eq, Error)]
 pub enum ReadFault {
-    /// The text has more than [`MOST_BYTES`] bytes.
+    /// The text has more than [`MOST_BYTES`](tf_model::limit::MOST_BYTES) bytes.
     #[error("the text is too long")]
     TooLong,
     /// A word should be a number and is none.
@@ -41,10 +38,13 @@ pub enum ReadFault {
     /// The cost of a job falls, or its times don't rise.
     #[error("line {0}: the cost falls")]
     BadCost(u32),
+    /// The instance has no job, or none was asked for.
     #[error("there is no job")]
     NoJobs,
+    /// There are more than [`MOST_JOBS`](tf_model::limit::MOST_JOBS) jobs.
     #[error("there are too many jobs")]
     TooManyJobs,
+    /// There are more than [`MOST_ARCS`](tf_model::limit::MOST_ARCS) arcs.
     #[error("there are too many arcs")]
     TooManyArcs,
     /// An arc names a job that isn't there.

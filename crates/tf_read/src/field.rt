@@ -34,7 +34,7 @@ impl<A: Allocator> Model for Fields<A> {
 
 #[tactic(auto, unfolding(crate::specs::JobLine::times_at))]
 fn times_at(line: u32, value: &[u8]) -> Result<Times, ReadFault>
-    ensures { Gives (λ x. x) result (times_at line value.now) }
+    ensures { result ≡ times_at line value.now }
 {
     match divided(value, b',') {
         None => {
@@ -70,32 +70,30 @@ impl<A: Allocator> Fields<A> {
     fn add(&mut self, alloc: A, line: u32, word: &[u8]) -> Result<(), ReadFault>
         ensures { Gives (λ _. self.new) result (field_at line self.old word.now) }
     {
-        match divided(word, b'=') {
-            None => Err(ReadFault::BadLine(line)),
-            Some((key, value)) => {
-                if is(key, b"p") && self.times.is_none() {
-                    self.times = Some(times_at(line, value)?);
-                    return Ok(());
-                }
-                if is(key, b"w") && self.weight.is_none() {
-                    self.weight = Some(natural(line, value)?);
-                    return Ok(());
-                }
-                if is(key, b"d") && self.due.is_none() {
-                    self.due = Some(integer(line, value)?);
-                    return Ok(());
-                }
-                if is(key, b"r") && self.release.is_none() {
-                    self.release = Some(natural(line, value)?);
-                    return Ok(());
-                }
-                if is(key, b"h") && self.cost.is_none() {
-                    self.cost = Some(cost_at(alloc, line, value)?);
-                    return Ok(());
-                }
-                Err(ReadFault::BadLine(line))
-            }
+        let Some((key, value)) = divided(word, b'=') else {
+            return Err(ReadFault::BadLine(line));
+        };
+        if is(key, b"p") && self.times.is_none() {
+            self.times = Some(times_at(line, value)?);
+            return Ok(());
         }
+        if is(key, b"w") && self.weight.is_none() {
+            self.weight = Some(natural(line, value)?);
+            return Ok(());
+        }
+        if is(key, b"d") && self.due.is_none() {
+            self.due = Some(integer(line, value)?);
+            return Ok(());
+        }
+        if is(key, b"r") && self.release.is_none() {
+            self.release = Some(natural(line, value)?);
+            return Ok(());
+        }
+        if is(key, b"h") && self.cost.is_none() {
+            self.cost = Some(cost_at(alloc, line, value)?);
+            return Ok(());
+        }
+        Err(ReadFault::BadLine(line))
     }
 }
 

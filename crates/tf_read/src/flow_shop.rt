@@ -1,257 +1,200 @@
 //! Flow shop files: a heading with a name, the sizes, and for each job the pairs machine, time.
-ghost use Rattle.std.specs.Prelude.{◌≡◌, ℕ, ◌+◌, ◌^◌, ◌<◌, ◌≤◌, List, [], ◌∷◌, ◌++◌, length, IfOk, IsTrue};
-ghost use Rattle.std.specs.Option.{option_map};
-ghost use Rattle.std.specs.List.{list_all};
-ghost use Rattle.std.specs.Char.{is_ascii_digit};
-ghost use Rattle.tf_model.specs.Number.{number, is_numeral};
-ghost use Rattle.tf_model.specs.Words.{words, lines, words_from};
+ghost use Rattle.std.specs.Prelude.{◌≡◌, ℕ, ◌+◌, ◌^◌, ◌<◌, ◌≤◌, List, [], ◌∷◌, ◌++◌, length, Option};
+ghost use Rattle.tf_model.specs.Words.{lines, words_from};
 ghost use Rattle.tf_read.specs.Faults.{Gives};
-ghost use Rattle.tf_read.specs.Pairs.{HasRead, HasFed};
-ghost use Rattle.tf_read.specs.FlowShop.{first_machine, second_machine, size, sizes_in, is_pair, is_heading, pairs_of, sized, from_sizes, from_heading, flow_shop};
+ghost use Rattle.tf_read.specs.PresentLine.{AreOfLine};
+ghost use Rattle.tf_read.specs.Heading.{HeadingShown};
+ghost use Rattle.tf_read.specs.Sizes.{SizesShown};
+ghost use Rattle.tf_read.specs.FlowShop.{sized, from_sizes, from_heading, flow_shop};
+ghost use Rattle.tf_read.specs.FlowReader.{line_of, WantsHeading, WantsSizes, HasTaken};
 
-use crate::fault::{MOST_BYTES, ReadFault};
-use crate::pairs::Pairs;
-use crate::part::is;
-use crate::scan::Scan;
-use std::alloc::{AllocError, Allocator};
+use crate::fault::ReadFault;
+use crate::heading::HeadingLine;
+use crate::pairs_reader::PairsReader;
+use crate::sizes::{SizesLine, judged_sizes};
+use std::alloc::Allocator;
 use tf_model::instance::Instance;
-use tf_model::limit::{LIMIT, MOST_JOBS, MOST_MACHINES};
-use tf_model::number::{Number, number_of};
-use tf_model::word::{first_word, next_line};
+use tf_model::limit::MOST_BYTES;
 
-/// The reader of the pairs, to which the text behind the sizes is fed.
+/// Where the reading of a text stands.
 #[derive(Drop)]
-struct PairsReader<A: Allocator> {
-    scan: Scan,
-    pairs: Pairs<A>,
+enum Stage<A: Allocator> {
+    /// The heading is wanted, and the bytes of this line have shown so much of it.
+    Heading(u32, HeadingLine),
+    /// The sizes are wanted, and the bytes of this line have shown so much of them.
+    Sizes(u32, SizesLine),
+    /// The pairs are read.
+    Pairs(PairsReader<A>),
+    /// A fault was met, or a growth was refused.
+    Ended(ReadFault),
 }
 
-impl<A: Allocator + Copy> PairsReader<A> {
-    /// The reader of a text that begins on this line.
-    fn new(scan: Scan, pairs: Pairs<A>) -> Self
-        ensures scan { result.scan ≡ scan }
-        ensures pairs { result.pairs ≡ pairs }
+/// Behind a line on which the heading was wanted.
+fn below_heading<A: Allocator>(line: u32, shown: HeadingLine, name: &[u8]) -> Stage<A>
+    requires { line < 4294967295 }
+    ensures later { line_of result ≤ line + 1 }
+    ensures taken { (pair : Option (ℕ × ℕ)) (fed : List ℕ) → WantsHeading name.now pair line shown fed → HasTaken name.now pair result (fed ++ 10 ∷ []) }
+{
+    if shown.is_heading(name) {
+        Stage::Sizes(line + 1, SizesLine::new())
+    } else {
+        Stage::Heading(line + 1, HeadingLine::new())
+    }
+}
+
+/// Behind a line of sizes. It makes all room.
+fn below_found<A: Allocator + Copy>(
+    alloc: A,
+    pair: Option<(u32, u32)>,
+    line: u32,
+    sizes: (u64, u64),
+) -> Stage<A>
+    requires { line < 4294967295 }
+    ensures later { line_of result ≤ line + 1 }
+    ensures taken { (name : List ℕ) (fed : List ℕ) →
+        ((more : List ℕ) → from_heading name pair 1 (lines (fed ++ more)) ≡ sized pair line sizes.0 sizes.1 (words_from (line + 1) (lines more))) →
+        HasTaken name pair result fed }
+{
+    match judged_sizes(pair, line, sizes) {
+        Err(fault) => Stage::Ended(fault),
+        Ok(sizes) => {
+            match PairsReader::new(alloc, pair, sizes, line + 1) {
+                Err(_) => Stage::Ended(ReadFault::OutOfMemory),
+                Ok(reader) => Stage::Pairs(reader),
+            }
+        }
+    }
+}
+
+/// Behind a line on which the sizes were wanted.
+fn below_sizes<A: Allocator + Copy>(
+    alloc: A,
+    pair: Option<(u32, u32)>,
+    line: u32,
+    shown: SizesLine,
+) -> Stage<A>
+    requires { line < 4294967295 }
+    ensures later { line_of result ≤ line + 1 }
+    ensures taken { (name : List ℕ) (fed : List ℕ) → WantsSizes name pair line shown fed → HasTaken name pair result (fed ++ 10 ∷ []) }
+{
+    match shown.sizes() {
+        None => Stage::Sizes(line + 1, SizesLine::new()),
+        Some(sizes) => below_found(alloc, pair, line, sizes),
+    }
+}
+
+/// The fault of a text that ends on a line on which the heading was wanted.
+fn without_sizes(name: &[u8], shown: HeadingLine) -> ReadFault
+    ensures { (pair : Option (ℕ × ℕ)) (line : ℕ) (bytes : List ℕ) → AreOfLine bytes → HeadingShown name.now bytes shown → from_heading name.now pair line (lines bytes) ≡ Err result }
+{
+    if shown.is_heading(name) {
+        ReadFault::EndsEarly
+    } else {
+        ReadFault::NoInstance
+    }
+}
+
+/// The fault of a text that ends on a line on which the sizes were wanted.
+fn without_pairs(pair: Option<(u32, u32)>, line: u32, shown: SizesLine) -> ReadFault
+    ensures { (bytes : List ℕ) → AreOfLine bytes → SizesShown bytes shown → from_sizes pair line (lines bytes) ≡ Err result }
+{
+    match shown.sizes() {
+        None => ReadFault::EndsEarly,
+        Some(sizes) => {
+            match judged_sizes(pair, line, sizes) {
+                Err(fault) => fault,
+                Ok(_) => ReadFault::EndsEarly,
+            }
+        }
+    }
+}
+
+/// The reader of the instance of a name, to which the text is fed.
+#[derive(Drop)]
+pub(crate) struct FlowReader<'a, A: Allocator> {
+    alloc: A,
+    name: &'a [u8],
+    pair: Option<(u32, u32)>,
+    stage: Stage<A>,
+}
+
+impl<'a, A: Allocator + Copy> FlowReader<'a, A> {
+    /// The reader of the instance of this name, and of this pair of machines, if there is one. It takes no memory.
+    pub(crate) fn new(alloc: A, name: &'a [u8], pair: Option<(u32, u32)>) -> Self
+        ensures taken { HasTaken name.now pair result.stage [] }
+        ensures line { line_of result.stage ≡ 1 }
+        ensures name { result.name.now ≡ name.now }
+        ensures pair { result.pair ≡ pair }
     {
-        PairsReader { scan, pairs }
+        FlowReader {
+            alloc,
+            name,
+            pair,
+            stage: Stage::Heading(1, HeadingLine::new()),
+        }
     }
 
     fn push(&mut self, byte: u8)
-        requires { self.old.scan.line < 4294967295 }
-        ensures later { self.new.scan.line ≤ self.old.scan.line + 1 }
-        ensures fed { (first : ℕ) (fed : List ℕ) → HasFed first self.old.pairs self.old.scan.line self.old.scan.shown fed →
-            HasFed first self.new.pairs self.new.scan.line self.new.scan.shown (fed ++ byte ∷ []) }
-        ensures jobs { self.new.pairs.jobs ≡ self.old.pairs.jobs }
-        ensures machines { self.new.pairs.machines ≡ self.old.pairs.machines }
-        ensures first { self.new.pairs.first ≡ self.old.pairs.first }
-        ensures second { self.new.pairs.second ≡ self.old.pairs.second }
+        requires { line_of self.old.stage < 4294967295 }
+        ensures later { line_of self.new.stage ≤ line_of self.old.stage + 1 }
+        ensures taken { (fed : List ℕ) → HasTaken self.old.name.now self.old.pair self.old.stage fed →
+            HasTaken self.old.name.now self.old.pair self.new.stage (fed ++ byte ∷ []) }
+        ensures name { self.new.name.now ≡ self.old.name.now }
+        ensures pair { self.new.pair ≡ self.old.pair }
     {
-        match self.scan.push(byte) {
-            None => {}
-            Some((line, number)) => self.pairs.judge(line, number),
+        match &mut self.stage {
+            Stage::Heading(line, shown) => {
+                if byte == b'\n' {
+                    self.stage = below_heading(*line, *shown, self.name);
+                } else {
+                    *shown = shown.push(self.name, byte);
+                }
+            }
+            Stage::Sizes(line, shown) => {
+                if byte == b'\n' {
+                    self.stage = below_sizes(self.alloc, self.pair, *line, *shown);
+                } else {
+                    *shown = shown.push(byte);
+                }
+            }
+            Stage::Pairs(reader) => reader.push(byte),
+            Stage::Ended(_) => {}
         }
     }
 
     /// The next piece of the text.
-    fn feed(&mut self, piece: &[u8])
-        requires { self.old.scan.line + length piece.now < 2 ^ 32 }
-        ensures fed { (first : ℕ) (fed : List ℕ) → HasFed first self.old.pairs self.old.scan.line self.old.scan.shown fed →
-            HasFed first self.new.pairs self.new.scan.line self.new.scan.shown (fed ++ piece.now) }
-        ensures jobs { self.new.pairs.jobs ≡ self.old.pairs.jobs }
-        ensures machines { self.new.pairs.machines ≡ self.old.pairs.machines }
-        ensures first { self.new.pairs.first ≡ self.old.pairs.first }
-        ensures second { self.new.pairs.second ≡ self.old.pairs.second }
+    pub(crate) fn feed(&mut self, piece: &[u8])
+        requires { line_of self.old.stage + length piece.now < 2 ^ 32 }
+        ensures later { line_of self.new.stage ≤ line_of self.old.stage + length piece.now }
+        ensures taken { (fed : List ℕ) → HasTaken self.old.name.now self.old.pair self.old.stage fed →
+            HasTaken self.old.name.now self.old.pair self.new.stage (fed ++ piece.now) }
+        ensures name { self.new.name.now ≡ self.old.name.now }
+        ensures pair { self.new.pair ≡ self.old.pair }
     {
         for byte in piece {
             self.push(*byte);
         }
     }
 
-    /// With the word at the text's end.
-    fn ended(self) -> Pairs<A>
-        ensures read { (first : ℕ) (fed : List ℕ) → HasFed first self.pairs self.scan.line self.scan.shown fed → HasRead result (words_from first (lines fed)) }
-        ensures jobs { result.jobs ≡ self.pairs.jobs }
-        ensures machines { result.machines ≡ self.pairs.machines }
-        ensures first { result.first ≡ self.pairs.first }
-        ensures second { result.second ≡ self.pairs.second }
+    /// The instance, where the text ends here, or the first fault.
+    pub(crate) fn finish(self) -> Result<Instance<A>, ReadFault>
+        requires { (fed : List ℕ) × HasTaken self.name.now self.pair self.stage fed }
+        ensures { (fed : List ℕ) → HasTaken self.entry.name.now self.entry.pair self.entry.stage fed →
+            Gives (λ i. i) result (from_heading self.entry.name.now self.entry.pair 1 (lines fed)) }
     {
-        let mut pairs = self.pairs;
-        match self.scan.ended() {
-            None => pairs,
-            Some((line, number)) => {
-                pairs.judge(line, number);
-                pairs
-            }
+        let FlowReader {
+            alloc,
+            name,
+            pair,
+            stage,
+        } = self;
+        match stage {
+            Stage::Heading(_, shown) => Err(without_sizes(name, shown)),
+            Stage::Sizes(line, shown) => Err(without_pairs(pair, line, shown)),
+            Stage::Pairs(reader) => reader.ended().instance(alloc, pair),
+            Stage::Ended(fault) => Err(fault),
         }
     }
-}
-
-/// The machine whose times come first, and the one whose times come second.
-fn kept(machines: u32, pair: Option<(u32, u32)>) -> (u32, u32)
-    ensures first { result.0 ≡ first_machine pair }
-    ensures second { result.1 ≡ second_machine machines pair }
-{
-    match pair {
-        Some(pair) => pair,
-        None => { if machines == 1 { (0, 0) } else { (0, 1) } }
-    }
-}
-
-fn is_pair(machines: u32, pair: Option<(u32, u32)>) -> bool
-    ensures { result ≡ is_pair machines pair }
-{
-    match pair {
-        None => true,
-        Some((first, second)) => first != second && first < machines && second < machines,
-    }
-}
-
-fn all_digits(word: &[u8]) -> bool
-    ensures { result ≡ list_all is_ascii_digit word.now }
-{
-    word.iter().all(|byte| byte.is_ascii_digit())
-}
-
-fn is_numeral(word: &[u8]) -> bool
-    ensures { result ≡ is_numeral word.now }
-{
-    !word.is_empty() && all_digits(word)
-}
-
-fn size(word: &[u8]) -> u64
-    ensures { result ≡ size (number word.now) }
-{
-    match number_of(word) {
-        Number::NotANumber => 0,
-        Number::TooLarge => LIMIT as u64 + 1,
-        Number::Value(value) => { if value < 0 { 0 } else { value as u64 } }
-    }
-}
-
-/// The numbers of jobs and of machines, if a line is of two words of digits alone.
-fn sizes_in(line: &[u8]) -> Option<(u64, u64)>
-    ensures { result ≡ sizes_in (words line.now) }
-{
-    let (jobs, after) = first_word(line)?;
-    let (machines, more) = first_word(after)?;
-    if first_word(more).is_some() {
-        return None;
-    }
-    if is_numeral(jobs) && is_numeral(machines) {
-        Some((size(jobs), size(machines)))
-    } else {
-        None
-    }
-}
-
-fn is_heading(name: &[u8], line: &[u8]) -> bool
-    ensures { result ≡ is_heading name.now (words line.now) }
-{
-    match first_word(line) {
-        None => false,
-        Some((first, after)) => {
-            if !is(first, b"instance") {
-                return false;
-            }
-            match first_word(after) {
-                None => false,
-                Some((second, more)) => is(second, name) && first_word(more).is_none(),
-            }
-        }
-    }
-}
-
-fn pairs_of<A: Allocator + Copy>(
-    alloc: A,
-    pair: Option<(u32, u32)>,
-    jobs: usize,
-    machines: u32,
-    text: &[u8],
-    first: u32,
-) -> Result<Instance<A>, ReadFault>
-    requires room { first + length text.now < 2 ^ 32 }
-    requires some { 0 < jobs }
-    requires few { jobs ≤ 2000 }
-    requires machines_some { 0 < machines }
-    requires machines_few { machines ≤ 1000 }
-    requires pair { IsTrue (is_pair machines pair) }
-    ensures { Gives (λ i. i) result (pairs_of jobs machines pair (words_from first (lines text.now))) }
-{
-    let (one, other) = kept(machines, pair);
-    let pairs = Pairs::new(alloc, jobs, machines, one, other)?;
-    let mut reader = PairsReader::new(Scan::new(first), pairs);
-    reader.feed(text);
-    reader.ended().instance(alloc, pair)
-}
-
-#[tactic(auto, unfolding(crate::specs::FlowShop::sized))]
-fn sized<A: Allocator + Copy>(
-    alloc: A,
-    pair: Option<(u32, u32)>,
-    line: u32,
-    sizes: (u64, u64),
-    text: &[u8],
-) -> Result<Instance<A>, ReadFault>
-    requires { line + 1 + length text.now < 2 ^ 32 }
-    ensures { Gives (λ i. i) result (sized pair line sizes.0 sizes.1 (words_from (line + 1) (lines text.now))) }
-{
-    let (jobs, machines) = sizes;
-    if jobs == 0 {
-        return Err(ReadFault::NoJobs);
-    }
-    if jobs > MOST_JOBS as u64 {
-        return Err(ReadFault::TooManyJobs);
-    }
-    if machines == 0 || machines > u64::from(MOST_MACHINES) {
-        return Err(ReadFault::BadLine(line));
-    }
-    let machines = machines as u32;
-    if !is_pair(machines, pair) {
-        return Err(ReadFault::BadPair);
-    }
-    pairs_of(alloc, pair, jobs as usize, machines, text, line + 1)
-}
-
-fn from_sizes<A: Allocator + Copy>(
-    alloc: A,
-    pair: Option<(u32, u32)>,
-    text: &[u8],
-    first: u32,
-) -> Result<Instance<A>, ReadFault>
-    requires { first + length text.now < 2 ^ 32 }
-    ensures { Gives (λ i. i) result (from_sizes pair first (lines text.now)) }
-{
-    let mut rest = text;
-    let mut number = first;
-    while let Some((line, after)) = next_line(rest) {
-        if let Some(sizes) = sizes_in(line) {
-            return sized(alloc, pair, number, sizes, after);
-        }
-        rest = after;
-        number += 1;
-    }
-    Err(ReadFault::EndsEarly)
-}
-
-fn from_heading<A: Allocator + Copy>(
-    alloc: A,
-    name: &[u8],
-    pair: Option<(u32, u32)>,
-    text: &[u8],
-    first: u32,
-) -> Result<Instance<A>, ReadFault>
-    requires { first + length text.now < 2 ^ 32 }
-    ensures { Gives (λ i. i) result (from_heading name.now pair first (lines text.now)) }
-{
-    let mut rest = text;
-    let mut number = first;
-    while let Some((line, after)) = next_line(rest) {
-        if is_heading(name, line) {
-            return from_sizes(alloc, pair, after, number + 1);
-        }
-        rest = after;
-        number += 1;
-    }
-    Err(ReadFault::NoInstance)
 }
 
 /// The instance of this name, or the first fault. With a pair of machines, counted from 0, the times are those on the
@@ -268,5 +211,7 @@ pub fn read_flowshop<A: Allocator + Copy>(
     if text.len() > MOST_BYTES {
         return Err(ReadFault::TooLong);
     }
-    from_heading(alloc, name, pair, text, 1)
+    let mut reader = FlowReader::new(alloc, name, pair);
+    reader.feed(text);
+    reader.finish()
 }

@@ -8,19 +8,19 @@ ghost use Rattle.tf_read.specs.Faults.{Gives, each_from};
 ghost use Rattle.tf_read.specs.JobTable.{machine_count, machines_at, job_at, is_arc, from_first, body_of, below_heading, is_heading, job_table};
 
 use crate::arc::arcs_of;
-use crate::fault::{MOST_BYTES, ReadFault};
+use crate::fault::ReadFault;
 use crate::field::job_of;
 use crate::instance::judged;
 use crate::part::is;
 use std::alloc::Allocator;
 use tf_model::instance::Instance;
 use tf_model::job::Job;
-use tf_model::limit::{MOST_JOBS, MOST_MACHINES};
+use tf_model::limit::{MOST_BYTES, MOST_JOBS, MOST_MACHINES};
 use tf_model::number::{Number, number_of, plain_of};
 use tf_model::word::{Kept, first_word, next_kept};
 
 fn machine_count(line: u32, word: &[u8]) -> Result<u32, ReadFault>
-    ensures { Gives (λ x. x) result (machine_count line (number word.now)) }
+    ensures { result ≡ machine_count line (number word.now) }
 {
     match number_of(word) {
         Number::NotANumber => Err(ReadFault::BadNumber(line)),
@@ -37,7 +37,7 @@ fn machine_count(line: u32, word: &[u8]) -> Result<u32, ReadFault>
 
 #[tactic(auto, unfolding(crate::specs::JobTable::machines_at))]
 fn machines_at(line: u32, text: &[u8]) -> Result<u32, ReadFault>
-    ensures { Gives (λ x. x) result (machines_at line (words text.now)) }
+    ensures { result ≡ machines_at line (words text.now) }
 {
     match first_word(text) {
         None => Err(ReadFault::BadLine(line)),
@@ -58,18 +58,13 @@ fn job_at<A: Allocator + Copy>(alloc: A, k: u32, line: &Kept<'_>) -> Result<Job<
     if k as usize > MOST_JOBS {
         return Err(ReadFault::TooManyJobs);
     }
-    match first_word(line.after) {
-        None => Err(ReadFault::BadLine(line.number)),
-        Some((word, after)) => match plain_of(word, MOST_JOBS as u32) {
-            None => Err(ReadFault::BadLine(line.number)),
-            Some(number) => {
-                if number != k {
-                    return Err(ReadFault::BadLine(line.number));
-                }
-                job_of(alloc, line.number, after)
-            }
-        },
+    let Some((word, after)) = first_word(line.after) else {
+        return Err(ReadFault::BadLine(line.number));
+    };
+    if plain_of(word, MOST_JOBS as u32) != Some(k) {
+        return Err(ReadFault::BadLine(line.number));
     }
+    job_of(alloc, line.number, after)
 }
 
 /// The jobs, a line for each, up to the first arc, and the lines from it on with the first one's number.

@@ -1,27 +1,10 @@
 //! Numbers that are judged for their line.
 ghost use Rattle.std.specs.Prelude.{◌≡◌};
 ghost use Rattle.tf_model.specs.Number.{number};
-ghost use Rattle.tf_read.specs.Faults.{Gives, natural, integer};
+ghost use Rattle.tf_read.specs.Faults.{natural, integer};
 
 use crate::fault::ReadFault;
 use tf_model::number::{Number, number_of};
-
-/// A number that may not be negative.
-pub(crate) fn natural_of(line: u32, number: Number) -> Result<i64, ReadFault>
-    ensures { result ≡ natural line number }
-{
-    match number {
-        Number::NotANumber => Err(ReadFault::BadNumber(line)),
-        Number::TooLarge => Err(ReadFault::NumberTooLarge(line)),
-        Number::Value(value) => {
-            if value < 0 {
-                Err(ReadFault::Negative(line))
-            } else {
-                Ok(value)
-            }
-        }
-    }
-}
 
 /// A number that may be negative.
 pub(crate) fn integer_of(line: u32, number: Number) -> Result<i64, ReadFault>
@@ -34,16 +17,27 @@ pub(crate) fn integer_of(line: u32, number: Number) -> Result<i64, ReadFault>
     }
 }
 
+/// A number that may not be negative.
+pub(crate) fn natural_of(line: u32, number: Number) -> Result<i64, ReadFault>
+    ensures { result ≡ natural line number }
+{
+    let value = integer_of(line, number)?;
+    if value < 0 {
+        return Err(ReadFault::Negative(line));
+    }
+    Ok(value)
+}
+
 /// The number that a word is, which may not be negative.
 pub(crate) fn natural(line: u32, word: &[u8]) -> Result<i64, ReadFault>
-    ensures { Gives (λ x. x) result (natural line (number word.now)) }
+    ensures { result ≡ natural line (number word.now) }
 {
     natural_of(line, number_of(word))
 }
 
 /// The number that a word is, which may be negative.
 pub(crate) fn integer(line: u32, word: &[u8]) -> Result<i64, ReadFault>
-    ensures { Gives (λ x. x) result (integer line (number word.now)) }
+    ensures { result ≡ integer line (number word.now) }
 {
     integer_of(line, number_of(word))
 }

@@ -1,6 +1,7 @@
 //! The numbers of one instance among those of a text.
 ghost use Rattle.std.specs.Prelude.{◌≡◌, ℕ, ◌+◌, ◌-◌, ◌*◌, ◌^◌, ◌<◌, ◌≤◌, List, [], ◌∷◌, ◌++◌, length, Ok, Some, None, is_some, ◌||◌, nat_le, IfOk, min, vec_capacity, vec_len, if◌then◌else◌};
 ghost use Rattle.tf_model.specs.Words.{Word};
+ghost use Rattle.tf_model.specs.declared.limit.TheConstants.{MOST_JOBS};
 ghost use Rattle.tf_read.specs.Faults.{Gives};
 ghost use Rattle.tf_read.specs.Scan.{IsOf};
 ghost use Rattle.tf_read.specs.Numbers.{skipped, wanted, missing, HasRead};
@@ -32,6 +33,7 @@ pub(crate) struct Numbers<A: Allocator> {
 
 impl<A: Allocator> Model for Numbers<A> {
     ghost use Rattle.std.specs.Prelude.{◌≡◌, ◌+◌, ◌-◌, ◌*◌, ◌^◌, ◌<◌, ◌≤◌, vec_len, vec_capacity};
+    ghost use Rattle.tf_model.specs.declared.limit.TheConstants.{MOST_JOBS};
     ghost use Rattle.tf_read.specs.Numbers.{Progress};
 
     ghost Value = { Progress };
@@ -40,7 +42,7 @@ impl<A: Allocator> Model for Numbers<A> {
 
     ghost invariant = { λ f. record {
       some : 0 < f.jobs;
-      few : f.jobs ≤ 2000;
+      few : f.jobs ≤ MOST_JOBS;
       before : f.skipped ≡ 3 * f.jobs * (f.index - 1);
       up_to : f.wanted ≡ 3 * f.jobs * f.index;
       own : f.wanted ≡ f.skipped + 3 * f.jobs;
@@ -53,7 +55,7 @@ impl<A: Allocator> Model for Numbers<A> {
 /// The number of a word at a place, from 0, of instances of so many jobs.
 fn number_at(jobs: u64, place: u64, line: u32, number: Number) -> Result<i64, ReadFault>
     requires some { 0 < jobs }
-    requires few { jobs ≤ 2000 }
+    requires few { jobs ≤ MOST_JOBS }
     ensures { result ≡ number_at jobs place line number }
 {
     if place % (3 * jobs) < 2 * jobs {
@@ -67,7 +69,7 @@ impl<A: Allocator> Numbers<A> {
     /// Those of the instance of this index, from 1, where each has so many jobs. It makes all room.
     pub(crate) fn new(alloc: A, jobs: u64, index: u64) -> Result<Self, AllocError>
         requires some { 0 < jobs }
-        requires few { jobs ≤ 2000 }
+        requires few { jobs ≤ MOST_JOBS }
         requires from_one { 0 < index }
         requires near { index < 2 ^ 32 }
         ensures { IfOk result (λ p. p ≡ record { jobs = jobs; index = index; count = 0; numbers = []; fault = None }) }
@@ -181,7 +183,7 @@ impl<A: Allocator + Copy> Numbers<A> {
     fn jobs(&self) -> usize
         ensures value { result ≡ self.now.jobs }
         ensures some { 0 < result }
-        ensures few { result ≤ 2000 }
+        ensures few { result ≤ MOST_JOBS }
     {
         self.jobs as usize
     }

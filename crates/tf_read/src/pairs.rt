@@ -13,6 +13,7 @@ use std::alloc::{AllocError, Allocator};
 use std::marker::Model;
 use tf_model::instance::Instance;
 use tf_model::job::{Job, Times};
+use tf_model::limit::{MOST_JOBS, MOST_MACHINES};
 use tf_model::number::Number;
 
 /// The times of the jobs on two machines so far, and the first fault among the words up to the last job's.
@@ -35,6 +36,7 @@ pub(crate) struct Pairs<A: Allocator> {
 
 impl<A: Allocator> Model for Pairs<A> {
     ghost use Rattle.std.specs.Prelude.{◌≡◌, ◌+◌, ◌<◌, ◌≤◌, false, nat_lt, vec_len, vec_capacity, if◌then◌else◌};
+    ghost use Rattle.tf_model.specs.declared.limit.TheConstants.{MOST_JOBS, MOST_MACHINES};
     ghost use Rattle.tf_read.specs.Pairs.{Pairs as PairsSoFar};
 
     ghost Value = { PairsSoFar };
@@ -44,11 +46,11 @@ impl<A: Allocator> Model for Pairs<A> {
     ghost invariant = { λ f. record {
       some : 0 < f.jobs;
       within : f.machine < f.machines;
-      machines_few : f.machines ≤ 1000;
+      machines_few : f.machines ≤ MOST_MACHINES;
       first_there : f.first < f.machines;
       second_there : f.second < f.machines;
       few : f.job ≤ f.jobs;
-      jobs_few : f.jobs ≤ 2000;
+      jobs_few : f.jobs ≤ MOST_JOBS;
       over : f.jobs ≤ f.job → f.machine ≡ 0;
       over_named : f.jobs ≤ f.job → f.is_named ≡ false;
       firsts_len : vec_len f.firsts ≡ f.job + (if nat_lt f.first f.machine then 1 else 0);
@@ -87,8 +89,8 @@ impl<A: Allocator> Pairs<A> {
     where
         A: Copy,
         requires some { 0 < jobs }
-        requires few { jobs ≤ 2000 }
-        requires machines_few { machines ≤ 1000 }
+        requires few { jobs ≤ MOST_JOBS }
+        requires machines_few { machines ≤ MOST_MACHINES }
         requires first_there { first < machines }
         requires second_there { second < machines }
         ensures { IfOk result (λ p. p ≡ record { jobs = jobs; machines = machines; first = first; second = second; job = 0; machine = 0; is_named = false; firsts = []; seconds = []; fault = None }) }
@@ -241,7 +243,7 @@ impl<A: Allocator + Copy> Pairs<A> {
     fn jobs(&self) -> usize
         ensures value { result ≡ self.now.jobs }
         ensures some { 0 < result }
-        ensures few { result ≤ 2000 }
+        ensures few { result ≤ MOST_JOBS }
     {
         self.jobs
     }
@@ -249,7 +251,7 @@ impl<A: Allocator + Copy> Pairs<A> {
     fn machines(&self) -> u32
         ensures value { result ≡ self.now.machines }
         ensures some { 0 < result }
-        ensures few { result ≤ 1000 }
+        ensures few { result ≤ MOST_MACHINES }
     {
         self.machines
     }

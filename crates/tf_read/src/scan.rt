@@ -1,12 +1,12 @@
 //! Reading the words of a text byte by byte, as numbers.
-ghost use Rattle.std.specs.Prelude.{◌≡◌, ℕ, ◌+◌, ◌<◌, ◌≤◌, ◌++◌, List, [], ◌∷◌, MatchOption};
-ghost use Rattle.tf_model.specs.Words.{Word, is_white, lines, words_from};
-ghost use Rattle.tf_model.specs.Number.{limit, signed};
+ghost use Rattle.std.specs.Prelude.{◌≡◌, ℕ, ◌+◌, ◌^◌, ◌<◌, ◌≤◌, ◌++◌, List, [], ◌∷◌, MatchOption};
+ghost use Rattle.tf_model.specs.Words.{Word, lines, words_from};
 ghost use Rattle.tf_read.specs.Scan.{number_shown, line_after, IsAt, IsOf};
 
 use tf_model::limit::LIMIT;
-use tf_model::number::Number;
+use tf_model::number::{Number, signed};
 use tf_model::so_far::SoFar;
+use tf_model::word::is_white;
 
 /// Where the reading of a text stands: the line's number, and what the bytes of the present word have shown.
 #[derive(Clone, Copy, Debug)]
@@ -15,28 +15,11 @@ pub(crate) struct Scan {
     pub shown: SoFar,
 }
 
-fn is_white(byte: u8) -> bool
-    ensures { result ≡ is_white byte }
-{
-    matches!(byte, b' ' | b'\t' | b'\r' | b'\n')
-}
-
 fn line_after(line: u32, byte: u8) -> u32
-    requires { line < 4294967295 }
+    requires { line + 1 < 2 ^ 32 }
     ensures { result ≡ line_after line byte }
 {
     if byte == b'\n' { line + 1 } else { line }
-}
-
-fn signed(negative: bool, size: u64) -> i64
-    requires { size ≤ limit }
-    ensures { result ≡ signed negative size }
-{
-    if negative {
-        -(size as i64)
-    } else {
-        size as i64
-    }
 }
 
 fn number_shown(shown: SoFar) -> Number
@@ -80,7 +63,7 @@ impl Scan {
 
     /// With one byte more, and the word that it ends, if it does.
     pub(crate) fn push(&mut self, byte: u8) -> Option<(u32, Number)>
-        requires { self.old.line < 4294967295 }
+        requires { self.old.line + 1 < 2 ^ 32 }
         ensures later { self.new.line ≤ self.old.line + 1 }
         ensures fed { (first : ℕ) (fed : List ℕ) (seen : List Word) → IsAt first fed seen self.old.line self.old.shown →
             MatchOption result (IsAt first (fed ++ byte ∷ []) seen self.new.line self.new.shown)

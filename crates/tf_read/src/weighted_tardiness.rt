@@ -6,12 +6,12 @@ ghost use Rattle.tf_read.specs.Faults.{Gives};
 ghost use Rattle.tf_read.specs.Numbers.{HasRead, HasFed};
 ghost use Rattle.tf_read.specs.WeightedTardiness.{instance_of, weighted_tardiness};
 
-use crate::fault::{MOST_BYTES, ReadFault};
+use crate::fault::ReadFault;
 use crate::numbers::Numbers;
 use crate::scan::Scan;
 use std::alloc::{AllocError, Allocator};
 use tf_model::instance::Instance;
-use tf_model::limit::MOST_JOBS;
+use tf_model::limit::{MOST_BYTES, MOST_JOBS};
 
 /// The reader of one instance, to which the text is fed.
 #[derive(Drop)]
@@ -24,7 +24,7 @@ impl<A: Allocator + Copy> WtReader<A> {
     /// The reader of the instance of this index, where each has so many jobs.
     fn new(alloc: A, jobs: u64, index: u64) -> Result<Self, AllocError>
         requires some { 0 < jobs }
-        requires few { jobs ≤ 2000 }
+        requires few { jobs ≤ MOST_JOBS }
         requires from_one { 0 < index }
         requires near { index < 2 ^ 32 }
         ensures { IfOk result (λ r. record {
@@ -42,7 +42,7 @@ impl<A: Allocator + Copy> WtReader<A> {
     }
 
     fn push(&mut self, byte: u8)
-        requires { self.old.scan.line < 4294967295 }
+        requires { self.old.scan.line + 1 < 2 ^ 32 }
         ensures later { self.new.scan.line ≤ self.old.scan.line + 1 }
         ensures fed { (fed : List ℕ) → HasFed self.old.numbers self.old.scan.line self.old.scan.shown fed →
             HasFed self.new.numbers self.new.scan.line self.new.scan.shown (fed ++ byte ∷ []) }

@@ -19,7 +19,7 @@ use Rattle.tf_text.specs.Readable.{IsCount, IsReadablePiece, AreJobs, IsReadable
 use Rattle.tf_text.specs.AnswerReading.{count_in, time_in, value_in, side_of, most_job, most_machine, jobs_from, jobs_in, exactly, problem_in, problem_at, word_behind, count_at, value_at, piece_in, pieces_at, split_in, claim_in, kind_in, certificate_in, certificate_at, answer_at, sheet_of, answer_in}
 use Rattle.tf_notation.proofs.Again.{IsCounted, again}
 use Rattle.tf_notation.proofs.Counted.{is_counted}
-use Rattle.tf_text.specs.declared.input.TheConstants.{LONGEST}
+use Rattle.tf_model.specs.declared.limit.TheConstants.{MOST_BYTES}
 use Rattle.tf_text.proofs.BehindBlank.{behind_blank}
 use Rattle.tf_text.proofs.NotationWord.{word-canonical, behind_problem, no_return}
 use mir.Val.{SFits}
@@ -239,11 +239,11 @@ sheet_again s is counted read =
     rw (body, problem, jobs, machines, answer) refl
 
 -- the text of a sheet whose numbers are in their ranges is read as that sheet, if it is not too long
-pub text_again : (s : SheetData) → IsReadable s → length (answer_text s) ≤ LONGEST → answer_in (answer_text s) ≡ Ok s
+pub text_again : (s : SheetData) → IsReadable s → length (answer_text s) ≤ MOST_BYTES → answer_in (answer_text s) ≡ Ok s
 unfolding answer_text answer_in
 text_again s is short =
     let read = is.problem in
     let counted = is_counted read.0 s.problem read.1 in
     let kept : kept_lines 1 (lines (flat_map line_text (answer_lines s))) ≡ numbered 1 (answer_lines s) = kept-text (answer_lines s) (sheet_are_lines s is counted) in
-    let fits : ltb LONGEST (length (flat_map line_text (answer_lines s))) ≡ false = le-ltb _ _ short in
+    let fits : ltb MOST_BYTES (length (flat_map line_text (answer_lines s))) ≡ false = le-ltb _ _ short in
     rw (fits, kept) (sheet_again s is counted (again s.problem counted))

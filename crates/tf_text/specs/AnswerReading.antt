@@ -6,7 +6,7 @@ use Rattle.std.specs.Str.{bytes_eq}
 use Rattle.std.specs.Cmp.Lexicographic.{pointwise}
 use Rattle.tf_model.specs.Whole.{as_time}
 use Rattle.tf_model.specs.Words.{words, lines}
-use Rattle.tf_model.specs.declared.limit.TheConstants.{LIMIT}
+use Rattle.tf_model.specs.declared.limit.TheConstants.{LIMIT, MOST_BYTES}
 use Rattle.tf_model.specs.declared.problem.Problem.{Problem}
 use Rattle.tf_notation.specs.Reading.{notation}
 use Rattle.tf_schedule.specs.declared.piece.Piece.{Piece}
@@ -16,7 +16,6 @@ use Rattle.tf_text.specs.KeptLines.{KeptLine, kept_lines, after_word, without_re
 use Rattle.tf_text.specs.Ranged.{is_number, number_in}
 use Rattle.tf_text.specs.declared.ranged.Ranged.{Ranged}
 use Rattle.tf_text.specs.declared.ranged.Ranged.TheVariants.{NotANumber, Below, Above, Within}
-use Rattle.tf_text.specs.declared.input.TheConstants.{LONGEST}
 use Rattle.tf_text.specs.declared.answer.fault.AnswerFault.{AnswerFault}
 use Rattle.tf_text.specs.declared.answer.fault.AnswerFault.TheVariants.{TooLong, BadLine, NumberTooLarge, BadNotation, EndsEarly, OutOfMemory}
 
@@ -272,4 +271,4 @@ sheet_of all = do
 
 -- a text that is not too long, by its kept lines
 unfoldable pub answer_in : List ℕ → Result SheetData AnswerFault
-answer_in text = if nat_lt LONGEST (length text) then Err TooLong else sheet_of (kept_lines 1 (lines text))
+answer_in text = if nat_lt MOST_BYTES (length text) then Err TooLong else sheet_of (kept_lines 1 (lines text))

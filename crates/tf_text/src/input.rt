@@ -8,10 +8,8 @@ ghost use Rattle.tf_text.specs.declared.input.InputFault.TheVariants.{Device as 
 use crate::counted::{Counted, Device};
 use std::alloc::{AllocError, Allocator};
 use std::io::Read;
+use tf_model::limit::MOST_BYTES;
 use thiserror::Error;
-
-/// The most bytes that a text may have.
-pub const LONGEST: usize = 67_108_864;
 
 const CHUNK: usize = 4096;
 
@@ -21,7 +19,7 @@ pub enum InputFault {
     /// The reader failed.
     #[error("device fault")]
     Device,
-    /// The text has more than [`LONGEST`] bytes.
+    /// The text has more than [`MOST_BYTES`] bytes.
     #[error("the text is too long")]
     TooLong,
     /// A growth was refused.
@@ -45,27 +43,27 @@ impl From<AllocError> for InputFault {
     }
 }
 
-/// All bytes that the reader gives up to its end. It takes no more than one byte past [`LONGEST`].
+/// All bytes that the reader gives up to its end. It takes no more than one byte past [`MOST_BYTES`].
 pub fn read_all<A: Allocator, R: Read>(
     alloc: A,
     reader: &mut Counted<R>,
 ) -> Result<Vec<u8, A>, InputFault>
     ensures text { IfOk result (λ text. IsTextOf (R.remaining (inner_of reader.old)) text.items) }
-    ensures fits { IfOk result (λ text. length text.items ≤ LONGEST) }
+    ensures fits { IfOk result (λ text. length text.items ≤ MOST_BYTES) }
     ensures end { OnOk result (IsAtEnd (R.remaining (inner_of reader.new))) }
     ensures too_long { IsErrOf result InputFault.TooLong →
-        IfSome (R.remaining (inner_of reader.old)) (λ all. LONGEST < length all) }
+        IfSome (R.remaining (inner_of reader.old)) (λ all. MOST_BYTES < length all) }
     ensures unfailed { OnOk result (has_failed reader.new ≡ false) }
     ensures device { IfErr result (λ e. has_failed reader.new ≡ is_device e) }
-    ensures pulled { ConsumesAtMost (LONGEST + 1) (R.remaining (inner_of reader.old))
+    ensures pulled { ConsumesAtMost (MOST_BYTES + 1) (R.remaining (inner_of reader.old))
         (R.remaining (inner_of reader.new)) }
     ensures failed_before { has_failed reader.old ≡ true →
         IsErrOf result InputFault.Device × (reader.new ≡ reader.old) }
 {
     let mut chunk = [0u8; CHUNK];
     let mut text = Vec::new(alloc);
-    while text.len() <= LONGEST {
-        let most = CHUNK.min(LONGEST + 1 - text.len());
+    while text.len() <= MOST_BYTES {
+        let most = CHUNK.min(MOST_BYTES + 1 - text.len());
         let n = reader.pull(&mut chunk[..most])?;
         if n == 0 {
             return Ok(text);

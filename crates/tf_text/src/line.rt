@@ -1,10 +1,10 @@
 //! The lines of a text that have a word and are no comment.
-ghost use Rattle.std.specs.Prelude.{◌≡◌, ◌+◌, ◌^◌, ◌<◌, ◌≤◌, ◌∷◌, [], not, length, position, MatchOption, IfSome, drop, ◌-◌};
+ghost use Rattle.std.specs.Prelude.{◌≡◌, ◌+◌, ◌^◌, ◌<◌, ◌≤◌, ◌∷◌, [], length, MatchOption, IfSome, drop, ◌-◌};
 ghost use Rattle.std.specs.Option.{option_map_or};
-ghost use Rattle.tf_model.specs.Words.{is_white, words, lines, is_kept};
+ghost use Rattle.tf_model.specs.Words.{words, lines, is_kept};
 ghost use Rattle.tf_text.specs.KeptLines.{kept_lines, from_first, after_word, without_return};
 
-use tf_model::word::{first_word, next_line};
+use tf_model::word::{first_word, next_line, white_at, word_at};
 
 /// A line, its number counted from 1.
 #[derive(Clone, Copy, Debug)]
@@ -65,20 +65,6 @@ impl<'a> Lines<'a> {
         }
         None
     }
-}
-
-fn white_at(text: &[u8]) -> Option<usize>
-    ensures { result ≡ position is_white text.now }
-{
-    text.iter()
-        .position(|byte| matches!(*byte, b' ' | b'\t' | b'\r' | b'\n'))
-}
-
-fn word_at(text: &[u8]) -> Option<usize>
-    ensures { result ≡ position (λ b. not (is_white b)) text.now }
-{
-    text.iter()
-        .position(|byte| !matches!(*byte, b' ' | b'\t' | b'\r' | b'\n'))
 }
 
 fn from(text: &[u8], place: Option<usize>) -> &[u8]

@@ -3,8 +3,10 @@ ghost use Rattle.std.specs.Prelude.{◌≡◌, ◌^◌, ◌-◌, min, true, is_s
 ghost use Rattle.std.specs.List.{list_all};
 ghost use Rattle.std.specs.Char.{is_ascii_digit};
 ghost use Rattle.std.specs.Str.Parse.{digits_value};
-ghost use Rattle.tf_model.specs.Number.{is_numeral, signed};
+ghost use Rattle.tf_model.specs.Number.{signed};
 ghost use Rattle.tf_text.specs.Ranged.{written, is_number, judged, placed, number_in};
+
+use tf_model::number::is_numeral;
 
 /// What a word is as a number of a range.
 #[derive(Clone, Copy, Debug, PartialEq, Eq)]
@@ -17,18 +19,6 @@ pub enum Ranged {
     Above,
     /// A number of the range.
     Within(i64),
-}
-
-fn all_digits(digits: &[u8]) -> bool
-    ensures { result ≡ list_all is_ascii_digit digits.now }
-{
-    digits.iter().all(|byte| byte.is_ascii_digit())
-}
-
-fn is_numeral(digits: &[u8]) -> bool
-    ensures { result ≡ is_numeral digits.now }
-{
-    !digits.is_empty() && all_digits(digits)
 }
 
 // What the digits write, or the greatest number of 64 bits if that is less.

@@ -1,3 +1,5 @@
+mod schedules;
+
 use super::{Checked, run_check};
 use crate::devices::{Feed, Sink};
 use crate::fault::RunFault;
@@ -71,111 +73,89 @@ fn check_texts(
     Ok((result, out))
 }
 
-#[test]
-fn a_line_changed(rt: HostRuntime) -> Result<(), Fail> {
-    let rows: [(usize, &str, &str); 14] = [
-        (0, "", "accepted\n"),
-        (2, "problem P3|prmp|Cmax", "accepted\n"),
-        (2, "problem P2||sumC", "rejected: OtherTask\n"),
-        (3, "jobs 4", "rejected: OtherTask\n"),
-        (5, "value 7", "rejected: WrongValue\n"),
-        (6, "piece 4 1 0 4", "rejected: Stranger 4 1\n"),
-        (6, "piece 1 1 2 2", "rejected: EmptyPiece 1\n"),
-        (6, "piece 1 1 -1 4", "rejected: OutOfRange 1\n"),
-        (8, "piece 2 2 1 2", "rejected: WrongAmount 2\n"),
-        (9, "piece 3 2 1 6", "rejected: MachineTwice 2 1\n"),
-        (10, "cert job 1", "rejected: BoundBelowValue\n"),
-        (10, "cert job 4", "rejected: BadJob 4\n"),
-        (10, "cert ranks 1", "rejected: OtherKind\n"),
-        (10, "# no certificate\ncert load", "accepted\n"),
-    ];
-    for (place, line, wanted) in rows {
-        let answer = answer_with(&rt, place, line)?;
-        let (result, out) = check_texts(&rt, "P2|prmp|Cmax", TABLE, &answer)?;
-        assert!(rt; result.is_ok(), "at {line}");
-        assert_eq!(rt; out.as_slice(), wanted.as_bytes(), "at {line}");
+fn ensure(is_so: bool, otherwise: &'static str) -> Result<(), Fail> {
+    if is_so {
+        Ok(())
+    } else {
+        Err(Fail::new(otherwise))
     }
-    Ok(())
+}
+
+/// The check of this answer writes exactly this line.
+fn writes(
+    rt: &HostRuntime,
+    problem: &str,
+    table: &[u8],
+    answer: &[u8],
+    wanted: &str,
+) -> Result<(), Fail> {
+    let (result, out) = check_texts(rt, problem, table, answer)?;
+    ensure(result.is_ok(), "refused")?;
+    ensure(out.as_slice() == wanted.as_bytes(), "another line")
+}
+
+/// The good answer with one line changed is judged like this.
+fn judges(rt: &HostRuntime, place: usize, line: &str, wanted: &str) -> Result<(), Fail> {
+    let answer = answer_with(rt, place, line)?;
+    writes(rt, "P2|prmp|Cmax", TABLE, &answer, wanted)
 }
 
 #[test]
-fn schedules_of_others(rt: HostRuntime) -> Result<(), Fail> {
-    let head = "answer 1\nproblem P2|prmp|Cmax\njobs 3\nmachines 2\n";
-    let rows: [(&[u8], &str, &str); 5] = [
-        // pieces in any order, with a machine that waits
-        (
-            TABLE,
-            "value 6\npiece 3 2 2 6\npiece 2 2 0 2\npiece 1 1 0 1\npiece 2 1 4 6\npiece 1 1 1 4\ncert load\nend\n",
-            "accepted\n",
-        ),
-        (
-            TABLE,
-            "value 6\npiece 1 1 0 4\npiece 2 1 4 6\npiece 2 2 4 6\npiece 3 2 0 4\ncert load\nend\n",
-            "rejected: JobTwice 2 4\n",
-        ),
-        (
-            TABLE,
-            "value 6\npiece 1 1 0 4\npiece 2 1 3 5\ncert load\nend\n",
-            "rejected: MachineTwice 1 3\n",
-        ),
-        (
-            TABLE,
-            "value 6\npiece 1 1 0 4\npiece 2 1 4 6\npiece 3 2 2 6\ncert load\nend\n",
-            "rejected: WrongAmount 2\n",
-        ),
-        (
-            b"table 1\njob 1 p=1\njob 2 p=1\njob 3 p=1\n",
-            "value 3\npiece 1 1 0 1\npiece 2 1 1 2\npiece 3 1 2 3\ncert load\nend\n",
-            "rejected: BoundBelowValue\n",
-        ),
-    ];
-    for (table, rest, wanted) in rows {
-        let mut answer = head.to_string(rt.alloc())?;
-        answer.push_str(rest)?;
-        let (result, out) = check_texts(&rt, "P2|prmp|Cmax", table, answer.as_bytes())?;
-        assert!(rt; result.is_ok(), "at {rest}");
-        assert_eq!(rt; out.as_slice(), wanted.as_bytes(), "at {rest}");
-    }
-    Ok(())
-}
-
-#[test]
-fn an_answer_for_other_jobs(rt: HostRuntime) -> Result<(), Fail> {
+fn an_answer_and_its_problem(rt: HostRuntime) -> Result<(), Fail> {
+    judges(&rt, 0, "", "accepted\n")?;
+    judges(&rt, 2, "problem P3|prmp|Cmax", "accepted\n")?;
+    judges(&rt, 2, "problem P2||sumC", "rejected: OtherTask\n")?;
+    judges(&rt, 3, "jobs 4", "rejected: OtherTask\n")?;
+    judges(&rt, 10, "# no certificate\ncert load", "accepted\n")?;
+    let ones = b"table 1\njob 1 p=1\njob 2 p=1\njob 3 p=1\n";
     let answer = answer_with(&rt, 0, "")?;
-    let table = b"table 1\njob 1 p=1\njob 2 p=1\njob 3 p=1\n";
-    let (result, out) = check_texts(&rt, "P2|prmp|Cmax", table, &answer)?;
-    assert!(rt; result.is_ok());
-    assert_eq!(rt; out.as_slice(), b"rejected: WrongAmount 1\n".as_slice());
-    Ok(())
+    writes(
+        &rt,
+        "P2|prmp|Cmax",
+        ones,
+        &answer,
+        "rejected: WrongAmount 1\n",
+    )
+}
+
+#[test]
+fn a_piece_changed(rt: HostRuntime) -> Result<(), Fail> {
+    judges(&rt, 6, "piece 4 1 0 4", "rejected: Stranger 4 1\n")?;
+    judges(&rt, 6, "piece 1 1 2 2", "rejected: EmptyPiece 1\n")?;
+    judges(&rt, 6, "piece 1 1 -1 4", "rejected: OutOfRange 1\n")?;
+    judges(&rt, 8, "piece 2 2 1 2", "rejected: WrongAmount 2\n")?;
+    judges(&rt, 9, "piece 3 2 1 6", "rejected: MachineTwice 2 1\n")
+}
+
+#[test]
+fn a_value_or_a_certificate_changed(rt: HostRuntime) -> Result<(), Fail> {
+    judges(&rt, 5, "value 7", "rejected: WrongValue\n")?;
+    judges(&rt, 10, "cert job 1", "rejected: BoundBelowValue\n")?;
+    judges(&rt, 10, "cert job 4", "rejected: BadJob 4\n")?;
+    judges(&rt, 10, "cert ranks 1", "rejected: OtherKind\n")
+}
+
+/// The check of the good answer with one line changed is refused, and writes nothing.
+fn refuses(rt: &HostRuntime, place: usize, line: &str, fault: AnswerFault) -> Result<(), Fail> {
+    let answer = answer_with(rt, place, line)?;
+    let (result, out) = check_texts(rt, "P2|prmp|Cmax", TABLE, &answer)?;
+    ensure(result == Err(RunFault::Answer(fault)), "another outcome")?;
+    ensure(out.is_empty(), "something was written")
 }
 
 #[test]
 fn refusals(rt: HostRuntime) -> Result<(), Fail> {
-    let good = answer_with(&rt, 0, "")?;
-    let rows: [(usize, &str, AnswerFault); 4] = [
-        (6, "piece 1 1 0", AnswerFault::BadLine(6)),
-        (2, "problem 1||sumX", AnswerFault::BadNotation),
-        (
-            6,
-            "piece 1 1 0 4000000000000000001",
-            AnswerFault::NumberTooLarge(6),
-        ),
-        (
-            5,
-            "value 9223372036854775808",
-            AnswerFault::NumberTooLarge(5),
-        ),
-    ];
-    for (place, line, fault) in rows {
-        let answer = answer_with(&rt, place, line)?;
-        let (result, out) = check_texts(&rt, "P2|prmp|Cmax", TABLE, &answer)?;
-        assert!(rt; result == Err(RunFault::Answer(fault)), "at {line}");
-        assert!(rt; out.is_empty());
-    }
+    refuses(&rt, 6, "piece 1 1 0", AnswerFault::BadLine(6))?;
+    refuses(&rt, 2, "problem 1||sumX", AnswerFault::BadNotation)?;
+    let late = "piece 1 1 0 4000000000000000001";
+    refuses(&rt, 6, late, AnswerFault::NumberTooLarge(6))?;
+    let dear = "value 9223372036854775808";
+    refuses(&rt, 5, dear, AnswerFault::NumberTooLarge(5))?;
     let cut = b"answer 1\nproblem P2|prmp|Cmax\njobs 3\nmachines 2\nvalue 6\n";
     let (result, out) = check_texts(&rt, "P2|prmp|Cmax", TABLE, cut)?;
     assert!(rt; result == Err(RunFault::Answer(AnswerFault::EndsEarly)));
     assert!(rt; out.is_empty());
+    let good = answer_with(&rt, 0, "")?;
     let (result, _) = check_texts(&rt, "P2|prmp|Cmax", b"table 1", &good)?;
     assert!(rt; result == Err(RunFault::Text(ReadFault::NoJobs)));
     Ok(())
@@ -227,27 +207,31 @@ fn a_fault_of_the_instance_comes_before_the_second_reader(rt: HostRuntime) -> Re
     Ok(())
 }
 
+fn writer_fails(rt: &HostRuntime, text: &[u8], room: usize) -> Result<(), Fail> {
+    let request = request(rt, "P2|prmp|Cmax")?;
+    let mut out = Vec::new(rt.alloc());
+    let mut instance = Counted::new(TABLE);
+    let mut answer = Counted::new(text);
+    let mut writer = Counted::new(Sink::new(&mut out, 3, room, ErrorKind::Interrupted));
+    let result = run_check(
+        rt.alloc(),
+        &request,
+        &mut instance,
+        &mut answer,
+        &mut writer,
+    );
+    ensure(result == Err(RunFault::Device), "another outcome")?;
+    ensure(writer.failed(), "another device")?;
+    drop(writer);
+    let is_prefix = out.len() == room && b"accepted\n".starts_with(&out);
+    ensure(is_prefix, "no prefix of the line")
+}
+
 #[test]
 fn a_writer_that_fails_after_any_byte(rt: HostRuntime) -> Result<(), Fail> {
-    let request = request(&rt, "P2|prmp|Cmax")?;
     let text = answer_with(&rt, 0, "")?;
-    let wanted = b"accepted\n";
-    for room in 0..wanted.len() {
-        let mut out = Vec::new(rt.alloc());
-        let mut instance = Counted::new(TABLE);
-        let mut answer = Counted::new(text.as_slice());
-        let mut writer = Counted::new(Sink::new(&mut out, 3, room, ErrorKind::Interrupted));
-        let result = run_check(
-            rt.alloc(),
-            &request,
-            &mut instance,
-            &mut answer,
-            &mut writer,
-        );
-        assert!(rt; result == Err(RunFault::Device));
-        assert!(rt; writer.failed());
-        drop(writer);
-        assert_eq!(rt; out.as_slice(), &wanted[..room]);
+    for room in 0..9 {
+        writer_fails(&rt, &text, room)?;
     }
     Ok(())
 }
@@ -265,30 +249,35 @@ fn check_in<A: Allocator + Copy>(
     run_check(alloc, request, &mut instance, &mut answer, &mut writer)
 }
 
+/// Whether a check asks for more growths than these. Where the next one is refused, it wants memory, or the growth
+/// was not needed and the verdict stands.
+fn asks_for_more(
+    rt: &HostRuntime,
+    growths: u64,
+    text: &[u8],
+    out: &mut Vec<u8>,
+) -> Result<bool, Fail> {
+    let request = request(rt, "P2|prmp|Cmax")?;
+    let heap = Refusing::new(rt.alloc(), growths);
+    out.clear();
+    let result = check_in(&heap, &request, text, out);
+    if heap.has_refused() && result == Err(RunFault::OutOfMemory) {
+        ensure(out.is_empty(), "something was written")?;
+    } else {
+        ensure(result == Ok(Checked::Accepted), "another outcome")?;
+        ensure(out.as_slice() == b"accepted\n".as_slice(), "another line")?;
+    }
+    Ok(heap.has_refused())
+}
+
 #[test]
 fn each_growth_refused(rt: HostRuntime) -> Result<(), Fail> {
-    let request = request(&rt, "P2|prmp|Cmax")?;
     let text = answer_with(&rt, 0, "")?;
     let mut out = Vec::with_capacity(rt.alloc(), 400)?;
-    for growth in 0..200 {
-        let heap = Refusing::new(rt.alloc(), growth);
-        out.clear();
-        let result = check_in(&heap, &request, &text, &mut out);
-        if !heap.has_refused() {
-            assert!(rt; result == Ok(Checked::Accepted));
-            assert_eq!(rt; out.as_slice(), b"accepted\n".as_slice());
-            assert!(rt; growth > 4);
+    for growths in 0..200 {
+        if !asks_for_more(&rt, growths, &text, &mut out)? {
+            assert!(rt; growths > 4);
             return Ok(());
-        }
-        // A growth that is not needed may be refused, and then the verdict stands.
-        if result == Ok(Checked::Accepted) {
-            assert_eq!(rt; out.as_slice(), b"accepted\n".as_slice());
-        } else {
-            assert!(rt;
-                result == Err(RunFault::OutOfMemory),
-                "at growth {growth}: {result:?}"
-            );
-            assert!(rt; out.is_empty());
         }
     }
     assert!(rt; false, "no check meets no refusal");

@@ -11,7 +11,6 @@ ghost use Rattle.tf_text.specs.AnswerReading.{Gives, count_in, time_in, value_in
 
 use crate::answer::fault::AnswerFault;
 use crate::answer::sheet::Sheet;
-use crate::input::LONGEST;
 use crate::line::{Line, Lines, after_word, without_return};
 use crate::ranged::{Ranged, is_number, number_in};
 use std::alloc::Allocator;
@@ -27,7 +26,7 @@ use tf_check::split::Split;
 use tf_check::window::Window;
 use tf_model::ids::{JobId, MachineId};
 use tf_model::job_list::JobList;
-use tf_model::limit::LIMIT;
+use tf_model::limit::{LIMIT, MOST_BYTES};
 use tf_model::problem::Problem;
 use tf_model::word::first_word;
 use tf_notation::reading::read;
@@ -508,7 +507,7 @@ fn sheet_of<A: Allocator + Copy>(alloc: A, lines: &Lines<'_>) -> Result<Sheet<A>
 pub fn read_answer<A: Allocator + Copy>(alloc: A, text: &[u8]) -> Result<Sheet<A>, AnswerFault>
     ensures { Gives (λ s. s) result (answer_in text.now) }
 {
-    if text.len() > LONGEST {
+    if text.len() > MOST_BYTES {
         return Err(AnswerFault::TooLong);
     }
     sheet_of(alloc, &Lines::new(text))

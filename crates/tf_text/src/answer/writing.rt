@@ -12,13 +12,13 @@ ghost use Rattle.tf_text.specs.declared.answer.writing.WriteFault.TheVariants.{D
 
 use crate::answer::sheet::Sheet;
 use crate::counted::{Counted, Device};
-use crate::input::LONGEST;
 use itoa::{Buffer, Integer};
 use std::alloc::Allocator;
 use std::io::Write;
 use tf_check::answer::Answer;
 use tf_check::certificate::Certificate;
 use tf_model::ids::JobId;
+use tf_model::limit::MOST_BYTES;
 use tf_model::memory::OutOfMemory;
 use tf_notation::writing::notation_text;
 use tf_schedule::piece::Piece;
@@ -179,7 +179,7 @@ pub fn answer_bytes<A: Allocator + Copy, M: Allocator>(
     ensures text { IfOk result (λ text. text.items ≡ answer_text sheet.now) }
     // The text is read as the sheet.
     ensures round_trip { IfOk result (λ text. IsReadable sheet.now →
-        length text.items ≤ LONGEST → answer_in text.items ≡ Ok sheet.now) }
+        length text.items ≤ MOST_BYTES → answer_in text.items ≡ Ok sheet.now) }
 {
     let notation = notation_text(alloc, &sheet.problem)?;
     let mut text = Vec::from_slice(alloc, b"answer 1\nproblem ")?;
@@ -210,7 +210,7 @@ pub fn write_answer<A: Allocator + Copy, M: Allocator, W: Write>(
 
     // What was written is read as the sheet.
     ensures round_trip { OnOk result (IsReadable sheet.now →
-        length (answer_text sheet.now) ≤ LONGEST →
+        length (answer_text sheet.now) ≤ MOST_BYTES →
         answer_in (answer_text sheet.now) ≡ Ok sheet.now) }
 {
     let text = answer_bytes(alloc, sheet)?;

@@ -6,6 +6,7 @@ use tf_model::ids::JobId;
 use tf_model::prepare::{Field, Refusal};
 use tf_notation::reading::NotationFault;
 use tf_read::fault::ReadFault;
+use tf_text::answer::fault::AnswerFault;
 use tf_text::counted::Counted;
 
 /// What is reported of a fault: the status and the line.
@@ -17,73 +18,106 @@ fn reported(rt: &HostRuntime, fault: RunFault) -> Result<(u8, Vec<u8>), AllocErr
     Ok((status, line))
 }
 
-#[test]
-fn each_fault_has_its_line(rt: HostRuntime) -> Result<(), Fail> {
-    let job = JobId::new(1).ok_or("a job")?;
-    let rows: [(RunFault, u8, &str); 14] = [
-        (
-            RunFault::Text(ReadFault::EndsEarly),
-            2,
-            "threefield: refused: EndsEarly\n",
-        ),
-        (
-            RunFault::Text(ReadFault::NoJobs),
-            2,
-            "threefield: refused: NoJobs\n",
-        ),
-        (
-            RunFault::Text(ReadFault::BadLine(2)),
-            2,
-            "threefield: refused: BadLine 2\n",
-        ),
-        (
-            RunFault::Text(ReadFault::BadNumber(2)),
-            2,
-            "threefield: refused: BadNumber 2\n",
-        ),
-        (
-            RunFault::Text(ReadFault::NumberTooLarge(2)),
-            2,
-            "threefield: refused: NumberTooLarge 2\n",
-        ),
-        (
-            RunFault::Text(ReadFault::Negative(2)),
-            2,
-            "threefield: refused: Negative 2\n",
-        ),
-        (
-            RunFault::Notation(NotationFault { byte: 3 }),
-            2,
-            "threefield: refused: NotationFault 3\n",
-        ),
-        (
-            RunFault::Task(Refusal::NoSolver),
-            2,
-            "threefield: refused: NoSolver\n",
-        ),
-        (
-            RunFault::Task(Refusal::MachineCount(0)),
-            2,
-            "threefield: refused: MachineCount 0\n",
-        ),
-        (
-            RunFault::Task(Refusal::MissingField(job, Field::Weight)),
-            2,
-            "threefield: refused: MissingField 1 weight\n",
-        ),
-        (
-            RunFault::Task(Refusal::ZeroTime(job)),
-            2,
-            "threefield: refused: ZeroTime 1\n",
-        ),
-        (RunFault::Gap, 2, "threefield: refused: Gap\n"),
-        (RunFault::OutOfMemory, 3, "threefield: want of memory\n"),
-        (RunFault::Device, 4, "threefield: device fault\n"),
-    ];
-    for (fault, status, line) in rows {
-        let (answered, written) = reported(&rt, fault)?;
-        assert_eq!(rt; answered, status);
-        assert_eq!(rt; written.as_slice(), line.as_bytes());
+fn says(rt: &HostRuntime, fault: RunFault, status: u8, wanted: &str) -> Result<(), Fail> {
+    let (answered, written) = reported(rt, fault)?;
+    if answered == status && written.as_slice() == wanted.as_bytes() {
+        Ok(())
+    } else {
+        Err(Fail::new(wanted))
     }
-    Ok(())
+}
+
+/// The fault is reported as refused, by this name.
+fn refuses(rt: &HostRuntime, fault: RunFault, name: &str) -> Result<(), Fail> {
+    let mut line = "threefield: refused: ".to_string(rt.alloc())?;
+    line.push_str(name)?;
+    line.push('\n')?;
+    says(rt, fault, 2, &line)
+}
+
+fn refuses_text(rt: &HostRuntime, fault: ReadFault, name: &str) -> Result<(), Fail> {
+    refuses(rt, RunFault::Text(fault), name)
+}
+
+fn refuses_task(rt: &HostRuntime, refusal: Refusal, name: &str) -> Result<(), Fail> {
+    refuses(rt, RunFault::Task(refusal), name)
+}
+
+fn refuses_answer(rt: &HostRuntime, fault: AnswerFault, name: &str) -> Result<(), Fail> {
+    refuses(rt, RunFault::Answer(fault), name)
+}
+
+#[test]
+fn faults_of_a_line(rt: HostRuntime) -> Result<(), Fail> {
+    refuses_text(&rt, ReadFault::BadNumber(2), "BadNumber 2")?;
+    refuses_text(&rt, ReadFault::NumberTooLarge(2), "NumberTooLarge 2")?;
+    refuses_text(&rt, ReadFault::Negative(3), "Negative 3")?;
+    refuses_text(&rt, ReadFault::NotAFlowShop(6), "NotAFlowShop 6")?;
+    refuses_text(&rt, ReadFault::BadLine(2), "BadLine 2")?;
+    refuses_text(&rt, ReadFault::BadCost(2), "BadCost 2")?;
+    refuses_text(&rt, ReadFault::BadArc(4294967295), "BadArc 4294967295")
+}
+
+#[test]
+fn faults_of_a_whole_text(rt: HostRuntime) -> Result<(), Fail> {
+    refuses_text(&rt, ReadFault::TooLong, "TooLong")?;
+    refuses_text(&rt, ReadFault::EndsEarly, "EndsEarly")?;
+    refuses_text(&rt, ReadFault::NoInstance, "NoInstance")?;
+    refuses_text(&rt, ReadFault::BadPair, "BadPair")?;
+    refuses_text(&rt, ReadFault::NoJobs, "NoJobs")?;
+    refuses_text(&rt, ReadFault::TooManyJobs, "TooManyJobs")?;
+    refuses_text(&rt, ReadFault::TooManyArcs, "TooManyArcs")
+}
+
+#[test]
+fn refusals_of_a_task(rt: HostRuntime) -> Result<(), Fail> {
+    let job = JobId::new(1).ok_or("a job")?;
+    refuses_task(&rt, Refusal::NoSolver, "NoSolver")?;
+    refuses_task(&rt, Refusal::TooManyJobs, "TooManyJobs")?;
+    refuses_task(&rt, Refusal::MachinesMissing, "MachinesMissing")?;
+    refuses_task(&rt, Refusal::MachinesDisagree, "MachinesDisagree")?;
+    refuses_task(&rt, Refusal::MachineCount(0), "MachineCount 0")?;
+    refuses_task(&rt, Refusal::WrongTimes(job), "WrongTimes 1")?;
+    refuses_task(&rt, Refusal::ZeroTime(job), "ZeroTime 1")?;
+    refuses_task(&rt, Refusal::TotalTooLarge, "TotalTooLarge")
+}
+
+#[test]
+fn fields_that_are_missing(rt: HostRuntime) -> Result<(), Fail> {
+    let job = JobId::new(12).ok_or("a job")?;
+    let weight = Refusal::MissingField(job, Field::Weight);
+    refuses_task(&rt, weight, "MissingField 12 weight")?;
+    let due = Refusal::MissingField(job, Field::Due);
+    refuses_task(&rt, due, "MissingField 12 due")?;
+    let release = Refusal::MissingField(job, Field::Release);
+    refuses_task(&rt, release, "MissingField 12 release")?;
+    let cost = Refusal::MissingField(job, Field::Cost);
+    refuses_task(&rt, cost, "MissingField 12 cost")
+}
+
+#[test]
+fn faults_of_an_answer(rt: HostRuntime) -> Result<(), Fail> {
+    refuses_answer(&rt, AnswerFault::TooLong, "answer TooLong")?;
+    refuses_answer(&rt, AnswerFault::BadLine(6), "answer BadLine 6")?;
+    refuses_answer(
+        &rt,
+        AnswerFault::NumberTooLarge(5),
+        "answer NumberTooLarge 5",
+    )?;
+    refuses_answer(&rt, AnswerFault::BadNotation, "answer BadNotation")?;
+    refuses_answer(&rt, AnswerFault::EndsEarly, "answer EndsEarly")
+}
+
+#[test]
+fn other_faults(rt: HostRuntime) -> Result<(), Fail> {
+    let byte = RunFault::Notation(NotationFault { byte: 3 });
+    refuses(&rt, byte, "NotationFault 3")?;
+    refuses(&rt, RunFault::Gap, "Gap")?;
+    says(
+        &rt,
+        RunFault::OutOfMemory,
+        3,
+        "threefield: want of memory\n",
+    )?;
+    says(&rt, RunFault::Device, 4, "threefield: device fault\n")
 }

@@ -1,0 +1,141 @@
+//! The sizes of a flow shop, a line of two words of digits alone, byte by byte.
+ghost use Rattle.std.specs.Prelude.{◌≡◌, ℕ, ◌<◌, ◌≤◌, List, [], ◌∷◌, ◌++◌, IfOk, IsTrue, true, false};
+ghost use Rattle.std.specs.Char.{is_ascii_digit};
+ghost use Rattle.tf_model.specs.Words.{words, is_white};
+ghost use Rattle.tf_read.specs.FlowShop.{is_pair, sizes_in};
+ghost use Rattle.tf_read.specs.Sizes.{HasDigits, IsSize, SizesShown, judged_sizes};
+
+use crate::fault::ReadFault;
+use tf_model::limit::{LIMIT, MOST_JOBS, MOST_MACHINES};
+use tf_model::word::is_white;
+
+/// What the bytes of a line have shown of sizes. A number above the limit is cut off.
+#[derive(Clone, Copy, Debug)]
+pub(crate) enum SizesLine {
+    /// No word.
+    Blank,
+    /// The number of jobs, which may go on.
+    Jobs(u64),
+    /// The number of jobs, and white space.
+    Between(u64),
+    /// The numbers of jobs and of machines, of which the second may go on.
+    Machines(u64, u64),
+    /// Both numbers, and white space.
+    Both(u64, u64),
+    /// No sizes, however the line goes on.
+    Other,
+}
+
+/// A size with one digit more.
+fn with_digit(size: u64, byte: u8) -> u64
+    ensures { (word : List ℕ) → is_ascii_digit byte ≡ true → HasDigits size word → IsSize result (word ++ byte ∷ []) }
+{
+    let size = u128::from(size) * 10 + u128::from(byte.saturating_sub(b'0'));
+    if size > LIMIT as u128 {
+        LIMIT as u64 + 1
+    } else {
+        size as u64
+    }
+}
+
+impl SizesLine {
+    /// The front of a line.
+    pub(crate) fn new() -> SizesLine
+        ensures { SizesShown [] result }
+    {
+        SizesLine::Blank
+    }
+
+    /// With a white byte more.
+    fn gap(self) -> SizesLine
+        ensures { (bytes : List ℕ) (byte : ℕ) → is_white byte ≡ true → SizesShown bytes self → SizesShown (bytes ++ byte ∷ []) result }
+    {
+        match self {
+            SizesLine::Jobs(jobs) => SizesLine::Between(jobs),
+            SizesLine::Machines(jobs, machines) => SizesLine::Both(jobs, machines),
+            line => line,
+        }
+    }
+
+    /// With a digit more.
+    fn digit(self, byte: u8) -> SizesLine
+        ensures { (bytes : List ℕ) → is_white byte ≡ false → is_ascii_digit byte ≡ true → SizesShown bytes self → SizesShown (bytes ++ byte ∷ []) result }
+    {
+        match self {
+            SizesLine::Blank => SizesLine::Jobs(with_digit(0, byte)),
+            SizesLine::Jobs(jobs) => SizesLine::Jobs(with_digit(jobs, byte)),
+            SizesLine::Between(jobs) => SizesLine::Machines(jobs, with_digit(0, byte)),
+            SizesLine::Machines(jobs, machines) => {
+                SizesLine::Machines(jobs, with_digit(machines, byte))
+            }
+            SizesLine::Both(_, _) | SizesLine::Other => SizesLine::Other,
+        }
+    }
+
+    /// With one byte more of the line.
+    pub(crate) fn push(self, byte: u8) -> SizesLine
+        ensures { (bytes : List ℕ) → SizesShown bytes self → SizesShown (bytes ++ byte ∷ []) result }
+    {
+        if is_white(byte) {
+            self.gap()
+        } else if byte.is_ascii_digit() {
+            self.digit(byte)
+        } else {
+            SizesLine::Other
+        }
+    }
+
+    /// The numbers of jobs and of machines, if the line ends here and is one of sizes.
+    pub(crate) fn sizes(self) -> Option<(u64, u64)>
+        ensures { (bytes : List ℕ) → SizesShown bytes self → result ≡ sizes_in (words bytes) }
+    {
+        match self {
+            SizesLine::Machines(jobs, machines) | SizesLine::Both(jobs, machines) => {
+                Some((jobs, machines))
+            }
+            _ => None,
+        }
+    }
+}
+
+/// Whether there is such a pair among so many machines.
+fn is_pair(machines: u32, pair: Option<(u32, u32)>) -> bool
+    ensures { result ≡ is_pair machines pair }
+{
+    match pair {
+        None => true,
+        Some((first, second)) => first != second && first < machines && second < machines,
+    }
+}
+
+/// The sizes on a line, as they are judged.
+pub(crate) fn judged_sizes(
+    pair: Option<(u32, u32)>,
+    line: u32,
+    sizes: (u64, u64),
+) -> Result<(usize, u32), ReadFault>
+    ensures value { result ≡ judged_sizes pair line sizes }
+    ensures within { IfOk result (λ s. record {
+      some : 0 < s.0;
+      few : s.0 ≤ MOST_JOBS;
+      machines_some : 0 < s.1;
+      machines_few : s.1 ≤ MOST_MACHINES;
+      pair : IsTrue (is_pair s.1 pair);
+    }) }
+{
+    let (jobs, machines) = sizes;
+    if jobs == 0 {
+        return Err(ReadFault::NoJobs);
+    }
+    if jobs > MOST_JOBS as u64 {
+        return Err(ReadFault::TooManyJobs);
+    }
+    if machines == 0 || machines > u64::from(MOST_MACHINES) {
+        return Err(ReadFault::BadLine(line));
+    }
+    let machines = machines as u32;
+    if !is_pair(machines, pair) {
+        return Err(ReadFault::BadPair);
+    }
+    Ok((jobs as usize, machines))
+}
