@@ -2,4 +2,3 @@ pub mod Best
 pub mod Costs
 pub mod Judged
 pub mod Rows
-pub mod Totals

@@ -8,6 +8,7 @@ use tf_schedule::piece_list::PieceList;
 #[derive(Drop)]
 pub struct Answer<A: Allocator = Global> {
     pub pieces: PieceList<A>,
+    /// What the timetable costs: time steps, or weighted time steps for a sum.
     pub value: i64,
     pub certificate: Certificate<A>,
 }

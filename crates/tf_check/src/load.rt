@@ -28,10 +28,6 @@ impl Evidence for Load {
         if !matches!(task.class(), Class::ParallelPrmp) {
             return Err(BoundFault::OtherKind);
         }
-        let mut total: u64 = 0;
-        for job in task.jobs() {
-            total += job.time();
-        }
-        Ok(i128::from(total.div_ceil(u64::from(task.machines()))))
+        Ok(i128::from(task.load()))
     }
 }

@@ -11,7 +11,9 @@ use tf_model::task::Task;
 #[derive(Drop)]
 pub struct Split<A: Allocator = Global> {
     pub side: JobList<A>,
+    /// In time steps.
     pub delta: i64,
+    /// Whether it is reached on machine 1.
     pub first: bool,
 }
 

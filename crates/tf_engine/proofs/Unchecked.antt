@@ -1,14 +1,11 @@
 -- Checks that gave no verdict.
-use Rattle.std.proofs.Common.{◌≡◌, ℕ, ◌<◌, ◌⊎◌, List, Option, Ok, Err, IfSome, IsErrAnd, Result, length, refl, sym, ap, ◌∙◌, subst, inl, inr, ⊎_elim, arith}
+use Rattle.std.proofs.Common.{◌≡◌, ℕ, ◌<◌, List, Option, Ok, Err, IfSome, IsErrAnd, Result, length, refl, sym, ap, ◌∙◌, subst, inl, ⊎_elim}
 use Rattle.std.proofs.lemmas.Bool.{lt-ltb}
-use Rattle.std.specs.Io.KnownBytes.{Keeps}
 use Rattle.std.proofs.KnownBytes.{Keeps-refl}
 use Rattle.tf_model.specs.declared.problem.Problem.{Problem}
 use Rattle.tf_model.specs.declared.prepare.Refusal.TheVariants.{NoSolver}
 use Rattle.tf_model.specs.SchedulingTask.{SchedulingTask}
 use Rattle.tf_model.specs.Prepare.{prepared}
-use Rattle.tf_notation.specs.declared.reading.NotationFault.{NotationFault}
-use Rattle.tf_text.specs.Counted.{AppendsPrefix}
 use Rattle.tf_text.specs.Input.{IsTextOf}
 use Rattle.tf_text.specs.AnswerReading.{answer_in}
 use Rattle.tf_text.specs.declared.answer.fault.AnswerFault.TheVariants.{TooLong}
@@ -19,10 +16,9 @@ use Rattle.tf_engine.specs.declared.fault.RunFault.TheVariants.{Notation, Text, 
 use Rattle.tf_engine.specs.declared.run_check.Checked.{Checked}
 use Rattle.tf_engine.specs.RequestData.{RequestData}
 use Rattle.tf_engine.specs.Faults.{of_input, of_read, of_refusal}
-use Rattle.tf_engine.specs.Refusal.{◌>>=◌, as_run, problem_for, instance_in, task_in, task_for}
+use Rattle.tf_engine.specs.Refusal.{◌>>=◌, as_run, problem_for, task_in, task_for}
 use Rattle.tf_engine.specs.Parts.{GivesTask}
-use Rattle.tf_engine.specs.VerdictLine.{verdict_line}
-use Rattle.tf_engine.specs.Checking.{IsChecked, IsMisread, CheckOutcome, IsCheckOf, GivesSaid}
+use Rattle.tf_engine.specs.Checking.{CheckOutcome, IsCheckOf, GivesSaid}
 use Rattle.tf_engine.proofs.Unread.{text_for, long_text_for, early_fault, refused_task, too_long}
 
 -- an answer text that is too long is refused as such

@@ -18,7 +18,7 @@ use thiserror::Error;
 #[derive(Clone, Copy, Debug, PartialEq, Eq, Error)]
 pub enum RunFault {
     /// The problem line is no three-field notation.
-    #[error("the problem is not in three-field notation")]
+    #[error("the problem is not in three-field notation: {0}")]
     Notation(NotationFault),
     /// The instance text is at fault.
     #[error("the instance text is at fault: {0}")]

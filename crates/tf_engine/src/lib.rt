@@ -1,4 +1,4 @@
-//! Solving, from the bytes of a problem and an instance to the bytes of an answer.
+//! Solving, from the bytes of a problem and an instance to the bytes of an answer, and judging an answer.
 #![tactic(auto)]
 
 #[cfg(test)]

@@ -19,4 +19,5 @@ pub mod Digits
 pub mod Stream
 pub mod Grows
 pub mod Prepared
+pub mod Totals
 pub mod Rows

@@ -1,9 +1,9 @@
 -- The first line of a text.
-use Rattle.std.proofs.Common.{◌≡◌, ℕ, suc, ◌+◌, ◌<◌, ◌≤◌, true, false, eqb, List, [], ◌∷◌, length, take, drop, Some, None, refl, sym, ap, subst, ◌∙◌, arith, inl, inr}
+use Rattle.std.proofs.Common.{map, ◌≡◌, ℕ, suc, ◌+◌, ◌<◌, ◌≤◌, true, false, eqb, List, [], ◌∷◌, length, take, drop, Some, None, refl, sym, ap, subst, ◌∙◌, arith, inl, inr}
 use Rattle.std.specs.List.{onto_first, position_or_len, position}
 use Rattle.std.proofs.lemmas.Bool.{cases_Bool}
 use Rattle.std.proofs.lemmas.List.{drop-drop}
-use Rattle.tf_model.specs.Words.{Line, lines, words, is_kept, kept_from}
+use Rattle.tf_model.specs.Words.{Line, lines, words, is_kept, kept_lines, by_words, kept_from}
 use Rattle.tf_model.proofs.Parts.{is_place, no_place}
 
 abbrev feed : List ℕ → ℕ
@@ -57,19 +57,24 @@ line_none [] h = refl
 line_none (b ∷ bs) h = absurd (omega (arith, h))
 
 -- the first line is kept, or it isn't
-pub keeps : (text line more rest first : List ℕ) (n : ℕ) → lines text ≡ line ∷ lines rest → is_kept (words line) ≡ true → words line ≡ first ∷ words more → kept_from n (lines text) ≡ record { number = n; words = first ∷ words more } ∷ kept_from (n + 1) (lines rest)
-unfolding kept_from
-keeps text line more rest first n h kept w =
-    let K : List Line = kept_from (n + 1) (lines rest) in
-    let split : kept_from n (line ∷ lines rest) ≡ record { number = n; words = words line } ∷ K = rw kept refl in
-    ap (kept_from n) h ∙ split ∙ ap (λ (ws : List (List ℕ)). record { number = n; words = ws } ∷ K) w
+pub keeps_line : (text line rest : List ℕ) (n : ℕ) → lines text ≡ line ∷ lines rest → is_kept (words line) ≡ true → kept_lines n (lines text) ≡ record { number = n; bytes = line } ∷ kept_lines (n + 1) (lines rest)
+unfolding kept_lines
+keeps_line text line rest n h kept = ap (kept_lines n) h ∙ rw kept refl
 
-pub skips : (text line rest : List ℕ) (n : ℕ) → lines text ≡ line ∷ lines rest → is_kept (words line) ≡ false → kept_from n (lines text) ≡ kept_from (n + 1) (lines rest)
-unfolding kept_from
-skips text line rest n h kept =
-    let split : kept_from n (line ∷ lines rest) ≡ kept_from (n + 1) (lines rest) = rw kept refl in
-    ap (kept_from n) h ∙ split
+pub skips_line : (text line rest : List ℕ) (n : ℕ) → lines text ≡ line ∷ lines rest → is_kept (words line) ≡ false → kept_lines n (lines text) ≡ kept_lines (n + 1) (lines rest)
+unfolding kept_lines
+skips_line text line rest n h kept = ap (kept_lines n) h ∙ rw kept refl
 
-pub none_kept : (text : List ℕ) (n : ℕ) → lines text ≡ [] → kept_from n (lines text) ≡ []
+pub none_kept : (text : List ℕ) (n : ℕ) → lines text ≡ [] → kept_lines n (lines text) ≡ []
+unfolding kept_lines
+none_kept text n h = ap (kept_lines n) h
+
+pub kept_words : (first more line : List ℕ) (n m : ℕ) (all rest : List (List ℕ)) → words line ≡ first ∷ words more → kept_lines n all ≡ record { number = m; bytes = line } ∷ kept_lines (m + 1) rest → kept_from n all ≡ record { number = m; words = first ∷ words more } ∷ kept_from (m + 1) rest
 unfolding kept_from
-none_kept text n h = ap (kept_from n) h
+kept_words first more line n m all rest w h =
+    let K : List Line = map by_words (kept_lines (m + 1) rest) in
+    ap (map by_words) h ∙ ap (λ (ws : List (List ℕ)). record { number = m; words = ws } ∷ K) w
+
+pub no_words : (n : ℕ) (all : List (List ℕ)) → kept_lines n all ≡ [] → kept_from n all ≡ []
+unfolding kept_from
+no_words n all h = ap (map by_words) h

@@ -16,7 +16,7 @@ is_numeral digits = nat_lt 0 (length digits) && list_all is_ascii_digit digits
 abbrev pub signed : Bool → ℕ → ℤ
 signed negative size = if negative then neg_ℤ (pos size) else pos size
 
--- An optional '-', and one digit or more. Leading zeros are allowed, and the length doesn't matter.
+-- An optional '-', and one digit or more. Leading zeros are allowed, and the length does not matter.
 unfoldable pub number : List ℕ → Number
 number word =
     let negative = slice_index word 0 == 45 in

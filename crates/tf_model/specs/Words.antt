@@ -39,9 +39,21 @@ abbrev pub is_kept : List (List ℕ) → Bool
 is_kept [] = false
 is_kept (word ∷ words) = not (slice_index word 0 == 35)
 
+-- a line by its bytes
+pub record KeptLine : Type 0 where
+  pub number : ℕ
+  pub bytes : List ℕ
+
 -- the lines that are kept, of lines of which the first has this number
+unfoldable pub kept_lines : ℕ → List (List ℕ) → List KeptLine
+kept_lines number [] = []
+kept_lines number (line ∷ lines) =
+    if is_kept (words line) then record { number = number; bytes = line } ∷ kept_lines (number + 1) lines
+    else kept_lines (number + 1) lines
+
+abbrev pub by_words : KeptLine → Line
+by_words line = record { number = line.number; words = words line.bytes }
+
+-- the same by their words
 unfoldable pub kept_from : ℕ → List (List ℕ) → List Line
-kept_from number [] = []
-kept_from number (line ∷ lines) =
-    if is_kept (words line) then record { number = number; words = words line } ∷ kept_from (number + 1) lines
-    else kept_from (number + 1) lines
+kept_from number lines = map by_words (kept_lines number lines)

@@ -1,4 +1,4 @@
-//! The problems that have a solver, and which problem is of which.
+//! Classes of problems that are solved in one way, and which problem is of which.
 ghost use Rattle.std.specs.Prelude.{◌≡◌};
 ghost use Rattle.tf_model.specs.ClassTable.{class_of, single_class, parallel_class, shop_class};
 
@@ -84,7 +84,7 @@ fn shop_class(problem: &Problem, class: Class) -> Option<Class>
 }
 
 impl Class {
-    ghost use Rattle.tf_model.specs.SchedulingTask.{is_shop, is_single, is_weighted, is_released, is_due, is_costed, is_ordered, is_sum};
+    ghost use Rattle.tf_model.specs.SchedulingTask.{may_break, is_flow, is_shop, is_single, is_weighted, is_released, is_due, is_costed, is_ordered, is_sum};
 
     /// Whether a job has a time for each of two machines.
     pub fn is_shop(self) -> bool
@@ -136,6 +136,20 @@ impl Class {
         ensures { result ≡ is_ordered self }
     {
         matches!(self, Class::PrecHmax | Class::PrecLmax)
+    }
+
+    /// Whether a job may be interrupted and taken up again (preemption).
+    pub fn may_break(self) -> bool
+        ensures { result ≡ may_break self }
+    {
+        matches!(self, Class::ReleaseLmax | Class::ParallelPrmp)
+    }
+
+    /// Whether jobs visit machine 1 before machine 2.
+    pub fn is_flow(self) -> bool
+        ensures { result ≡ is_flow self }
+    {
+        matches!(self, Class::FlowTwo)
     }
 
     /// Whether the objective is a sum of completion times.

@@ -1,5 +1,5 @@
 //! The numbers of jobs and machines, from 1.
-ghost use Rattle.std.specs.Prelude.{◌≡◌, ℕ, ◌<◌, ◌≤◌, ◌↔◌, IsSome, IfSome};
+ghost use Rattle.std.specs.Prelude.{◌≡◌, ℕ, ◌+◌, ◌^◌, ◌<◌, ◌≤◌, ◌↔◌, IsSome, IfSome};
 
 use std::marker::Model;
 
@@ -29,6 +29,16 @@ impl JobId {
             return None;
         }
         Some(JobId { number })
+    }
+
+    /// The job at a place, counted from 0.
+    pub fn at(place: usize) -> Self
+        requires { place + 1 < 2 ^ 32 }
+        ensures { result ≡ place + 1 }
+    {
+        JobId {
+            number: place as u32 + 1,
+        }
     }
 
     /// Its number.

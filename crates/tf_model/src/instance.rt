@@ -15,17 +15,20 @@ use thiserror::Error;
 pub enum InstanceFault {
     #[error("there is no job")]
     NoJobs,
+    /// More than `MOST_JOBS`.
     #[error("there are too many jobs")]
     TooManyJobs,
+    /// None, or more than `MOST_MACHINES`.
     #[error("the number of machines is 0 or too large")]
     TooManyMachines,
+    /// More than `MOST_ARCS`.
     #[error("there are too many arcs")]
     TooManyArcs,
     /// A time, the weight or the release date of this job is negative.
-    #[error("a number of a job is negative")]
+    #[error("a number of job {} is negative", .0.get())]
     NegativeNumber(JobId),
     /// A number of this job is beyond the limit.
-    #[error("a number of a job is beyond the limit")]
+    #[error("a number of job {} is beyond the limit", .0.get())]
     OutOfRange(JobId),
     /// This arc, counted from 1, names a job that is not there.
     #[error("arc {0} names a job that is not there")]
@@ -173,21 +176,13 @@ fn has_beyond<A: Allocator>(job: &Job<A>) -> bool
         || job.release.is_some_and(is_beyond)
 }
 
-/// The job at a place, counted from 0.
-pub(crate) fn nth_job(place: usize) -> JobId
-    requires { place < MOST_JOBS }
-    ensures { result ≡ place + 1 }
-{
-    JobId::new(place as u32 + 1).unwrap()
-}
-
 /// The job at a place, counted from 0, where there is one.
 pub(crate) fn numbered(place: Option<usize>) -> Option<JobId>
     requires { ForSome place (λ k. k < MOST_JOBS) }
     ensures { result ≡ option_map (λ k. k + 1) place }
 {
     match place {
-        Some(place) => Some(nth_job(place)),
+        Some(place) => Some(JobId::at(place)),
         None => None,
     }
 }

@@ -3,7 +3,7 @@ use crate::cost::StepCost;
 use std::alloc::{Allocator, Global};
 use std::marker::Model;
 
-/// The processing times of a job, in time steps.
+/// The processing times of a job, in time steps from 0 to `LIMIT`.
 #[derive(Clone, Copy, Debug, PartialEq, Eq)]
 pub enum Times {
     /// The time on whichever machine the job runs.
@@ -16,11 +16,11 @@ pub enum Times {
 #[derive(Drop)]
 pub struct Job<A: Allocator = Global> {
     pub times: Times,
-    /// Its weight, at least 0.
+    /// Its weight, from 0 to `LIMIT`.
     pub weight: Option<i64>,
-    /// Its due date, which may be negative.
+    /// Its due date, in time steps, which may be negative.
     pub due: Option<i64>,
-    /// Its release date, at least 0: the job starts no earlier.
+    /// Its release date, in time steps from 0: the job starts no earlier.
     pub release: Option<i64>,
     /// What its completion costs, by the time.
     pub cost: Option<StepCost<A>>,

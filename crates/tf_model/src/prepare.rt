@@ -13,7 +13,7 @@ ghost use Rattle.tf_model.specs.declared.prepare.Refusal.TheVariants.{OutOfMemor
 use crate::class::{Class, class_of};
 use crate::cost::StepCost;
 use crate::ids::JobId;
-use crate::instance::{Instance, nth_job, numbered};
+use crate::instance::{Instance, numbered};
 use crate::job::{Job, Times};
 use crate::limit::{LIMIT, MOST_JOBS, MOST_MACHINES};
 use crate::problem::Problem;
@@ -21,7 +21,7 @@ use crate::task::{JobRow, Task};
 use std::alloc::{AllocError, AllocFailed, Allocator};
 use thiserror::Error;
 
-/// A field of a job.
+/// A field that some classes use of a job.
 #[derive(Clone, Copy, Debug, PartialEq, Eq)]
 pub enum Field {
     Weight,
@@ -49,13 +49,13 @@ pub enum Refusal {
     #[error("{0} machines are not possible")]
     MachineCount(u32),
     /// The job has one time where two are wanted, or two where one is.
-    #[error("a job has the wrong number of times")]
+    #[error("job {} has the wrong number of times", .0.get())]
     WrongTimes(JobId),
     /// The job lacks a field that the class uses.
-    #[error("a job lacks a field")]
+    #[error("job {} lacks a field", .0.get())]
     MissingField(JobId, Field),
     /// The job has time 0 on a single machine or on parallel machines.
-    #[error("a job has no work")]
+    #[error("job {} takes no time", .0.get())]
     ZeroTime(JobId),
     /// A total of the class is beyond the limit.
     #[error("a total is beyond the limit")]
@@ -184,7 +184,7 @@ fn first_missing<A: Allocator>(class: Class, jobs: &[Job<A>]) -> Option<Refusal>
 {
     for (k, job) in jobs.iter().enumerate() {
         if let Some(field) = lacking(class, job) {
-            return Some(Refusal::MissingField(nth_job(k), field));
+            return Some(Refusal::MissingField(JobId::at(k), field));
         }
     }
     None

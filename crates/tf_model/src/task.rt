@@ -12,12 +12,15 @@ use std::marker::Model;
 /// due date 0.
 #[derive(Clone, Copy, Debug)]
 pub struct JobRow {
-    /// Its time; in a shop its time on machine 1.
+    /// Its time, in time steps; in a shop its time on machine 1.
     pub first: u64,
     /// In a shop its time on machine 2.
     pub second: u64,
+    /// How much each time step of its completion costs in a weighted sum.
     pub weight: u64,
+    /// The time before which it does not start.
     pub release: u64,
+    /// The time from which its lateness is counted.
     pub due: i64,
 }
 
@@ -75,6 +78,7 @@ impl<A: Allocator> Task<A> {
     ghost use Rattle.std.specs.Prelude.{◌≡◌, ◌≤◌, length, pos, IsTrue, IsFalse};
     ghost use Rattle.tf_model.specs.SchedulingTask.{IsJob, job_data, time_of, is_costed, is_due, is_released, is_shop, is_sum};
     ghost use Rattle.tf_model.specs.Sound.{IsSound};
+    ghost use Rattle.tf_model.specs.Bounds.{load_value};
 
     /// The task of these parts.
     pub(crate) fn new(
@@ -184,6 +188,18 @@ impl<A: Allocator> Task<A> {
         ensures small { result ≤ 4000000000000000000 }
     {
         self.jobs[job.get() as usize - 1].time()
+    }
+
+    /// The time of all jobs shared out among the machines, rounded up to whole time steps.
+    pub fn load(&self) -> u64
+        ensures value { result ≡ load_value self.now }
+        ensures sound { IsSound self.now }
+    {
+        let mut total: u64 = 0;
+        for job in self.jobs() {
+            total += job.time();
+        }
+        total.div_ceil(u64::from(self.machines))
     }
 
     /// The cost functions, job by job, where the class has them.

@@ -1,6 +1,14 @@
 //! Words and lines of a text.
 ghost use Rattle.std.specs.Prelude.{◌≡◌, ◌+◌, ◌^◌, ◌<◌, ◌≤◌, ◌==◌, [], ◌∷◌, length, true, false, not, MatchOption, IfSome, position};
-ghost use Rattle.tf_model.specs.Words.{is_white, words, lines, is_kept, kept_from};
+ghost use Rattle.std.specs.Str.{bytes_eq};
+ghost use Rattle.tf_model.specs.Words.{is_white, words, lines, is_kept, kept_lines, kept_from};
+
+/// Whether the word is spelled like this, in the same case.
+pub fn is(word: &[u8], spelling: &[u8]) -> bool
+    ensures { result ≡ bytes_eq word.now spelling.now }
+{
+    word == spelling
+}
 
 /// Whether the byte divides words: a blank, a tab, a carriage return or a line feed.
 pub fn is_white(byte: u8) -> bool
@@ -86,6 +94,8 @@ fn kept_word(line: &[u8]) -> Option<(&[u8], &[u8])>
 pub struct Kept<'a> {
     /// The line's number.
     pub number: u32,
+    /// All of it, without its line feed.
+    pub line: &'a [u8],
     /// Its first word.
     pub first: &'a [u8],
     /// What follows the first word.
@@ -97,6 +107,8 @@ pub struct Kept<'a> {
 /// The first line that is kept, of a text whose first line has this number.
 pub fn next_kept(text: &[u8], number: u32) -> Option<Kept<'_>>
     requires { number + length text.now < 2 ^ 32 }
+    ensures line { MatchOption result (kept_lines number (lines text.now) ≡ [])
+        (λ k. kept_lines number (lines text.now) ≡ record { number = k.number; bytes = k.line.now } ∷ kept_lines (k.number + 1) (lines k.rest.now)) }
     ensures kept { MatchOption result (kept_from number (lines text.now) ≡ [])
         (λ k. kept_from number (lines text.now) ≡ record { number = k.number; words = k.first.now ∷ words k.after.now } ∷ kept_from (k.number + 1) (lines k.rest.now)) }
     ensures shorter { IfSome result (λ k. k.number + 1 + length k.rest.now ≤ number + length text.now) }
@@ -108,6 +120,7 @@ pub fn next_kept(text: &[u8], number: u32) -> Option<Kept<'_>>
         if let Some((first, more)) = kept_word(line) {
             return Some(Kept {
                 number: at,
+                line,
                 first,
                 after: more,
                 rest: after,

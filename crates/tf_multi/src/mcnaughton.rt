@@ -42,7 +42,7 @@ pub fn mcnaughton<A: Allocator + Copy, B: Allocator>(
     ensures certificate { IfOk result (λ a. IsLoadOrLongest task.now a.certificate) }
 {
     let longest = first_longest(task);
-    let load = load_of(task);
+    let load = task.load();
     let value = load.max(task.time(longest));
     let pieces = fill(alloc, task, value)?;
     let certificate = if load == value {
@@ -57,24 +57,12 @@ pub fn mcnaughton<A: Allocator + Copy, B: Allocator>(
     })
 }
 
-// The work of each machine, if it is shared out evenly.
-fn load_of<B: Allocator>(task: &Task<B>) -> u64
-    ensures value { result ≡ load_value task.now }
-    ensures sound { IsSound task.now }
-{
-    let mut total: u64 = 0;
-    for k in 0..task.len() {
-        total += task.time(nth_job(k));
-    }
-    total.div_ceil(u64::from(task.machines()))
-}
-
 fn first_longest<B: Allocator>(task: &Task<B>) -> JobId
     ensures { IsFirstLongest task.now result }
 {
-    let mut longest = nth_job(0);
+    let mut longest = JobId::at(0);
     for k in 1..task.len() {
-        let job = nth_job(k);
+        let job = JobId::at(k);
         if task.time(longest) < task.time(job) {
             longest = job;
         }
@@ -104,7 +92,7 @@ fn fill<A: Allocator + Copy, B: Allocator>(
     let mut pieces = Vec::with_capacity(alloc, task.len() + task.machines() as usize)?;
     let mut front = Front { machine: 1, at: 0 };
     for k in 0..task.len() {
-        front = place(&mut pieces, task, value, front, nth_job(k))?;
+        front = place(&mut pieces, task, value, front, JobId::at(k))?;
     }
     Ok(pieces)
 }
@@ -158,12 +146,4 @@ fn piece_at(job: JobId, machine: u32, start: u64, stop: u64) -> Piece
         start: start as i64,
         stop: stop as i64,
     }
-}
-
-// The job of index k.
-fn nth_job(k: usize) -> JobId
-    requires { k + 1 < 2 ^ 32 }
-    ensures { result ≡ k + 1 }
-{
-    JobId::new(k as u32 + 1).unwrap()
 }

@@ -4,16 +4,17 @@ ghost use Rattle.tf_notation.specs.Tokens.{tokens_after};
 ghost use Rattle.tf_notation.specs.Spelling.{no_conditions, meaning, environment, goals, dividers, adds};
 ghost use Rattle.tf_notation.specs.Reading.{Gives, expect, bar, conditions_at, listed, notation};
 
-use crate::spelling::{Conditions, divider_of, environment_of, goal_of, is};
+use crate::spelling::{Conditions, divider_of, environment_of, goal_of};
 use crate::token::next_token;
 use tf_model::problem::{Env, Goal, Problem};
+use tf_model::word::is;
 use thiserror::Error;
 
 /// A text is no notation.
 #[derive(Clone, Copy, Debug, PartialEq, Eq, Error)]
-#[error("not expected in a notation at byte {byte}")]
+#[error("byte {byte} of the notation is not expected")]
 pub struct NotationFault {
-    /// The offset, from 0, of the first token that isn't expected at its place, or the text's length where the text
+    /// The offset, from 0, of the first token that is not expected at its place, or the text's length where the text
     /// ends too early.
     pub byte: usize,
 }
@@ -153,7 +154,7 @@ fn read_conditions(text: &[u8], offset: usize) -> Result<(Conditions, usize), No
 ///
 /// # Errors
 ///
-/// The byte of the first token that isn't expected, or the text's length in bytes where the text ends too early.
+/// The byte of the first token that is not expected, or the text's length in bytes where the text ends too early.
 #[tactic(auto, unfolding(crate::specs::Reading::notation))]
 pub fn read(text: &[u8]) -> Result<Problem, NotationFault>
     ensures { Gives (λ x. x) result (notation text.now) }

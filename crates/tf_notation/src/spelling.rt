@@ -1,11 +1,11 @@
 //! The words of three-field notation: every spelling that is read, with its meaning.
 ghost use Rattle.std.specs.Prelude.{◌≡◌};
-ghost use Rattle.std.specs.Str.{bytes_eq};
 ghost use Rattle.tf_notation.specs.Spelling.{goals, meaning, conditions, dividers, environments, count_of, environment, adds, with_condition, has, no_conditions};
 
 use tf_model::limit::MOST_MACHINES;
 use tf_model::number::plain_of;
 use tf_model::problem::{Env, Goal};
+use tf_model::word::is;
 
 /// A condition, of which the second field lists some: what is asked of jobs or allowed to them.
 #[derive(Clone, Copy, Debug, PartialEq, Eq)]
@@ -36,13 +36,6 @@ pub struct Conditions {
     pub nwt: bool,
     pub block: bool,
     pub rcrc: bool,
-}
-
-/// Whether a word is this spelling, in the same case.
-pub(crate) fn is(word: &[u8], spelling: &[u8]) -> bool
-    ensures { result ≡ bytes_eq word.now spelling.now }
-{
-    word == spelling
 }
 
 /// The objective that a word names, if it names one.
@@ -192,7 +185,7 @@ impl Conditions {
         }
     }
 
-    /// These and the condition that the word names, if it names one that isn't among these.
+    /// These and the condition that the word names, if it names one that is not among these.
     pub(crate) fn add(self, word: &[u8]) -> Option<Conditions>
         ensures { result ≡ adds self word.now }
     {

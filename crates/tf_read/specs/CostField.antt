@@ -29,7 +29,7 @@ step_at line part = step_in line (divided 58 part)
 abbrev pub steps_at : ℕ → List (List ℕ) → Result (List (ℤ × ℤ)) ReadFault
 steps_at line steps = each_from (λ k. step_at line) 1 steps
 
--- the cost, unless its times don't rise or its values fall
+-- the cost, unless its times do not rise or its values fall
 abbrev pub unless_fault : ℕ → Steps → Option CostFault → Result Steps ReadFault
 unless_fault line steps None = Ok steps
 unless_fault line steps (Some fault) = Err (BadCost line)

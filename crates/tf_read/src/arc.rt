@@ -6,12 +6,15 @@ ghost use Rattle.tf_read.specs.Faults.{Gives, each_from};
 ghost use Rattle.tf_read.specs.JobTable.{arc_job, arc_of, arc_at, no_job, arcs_of};
 
 use crate::fault::ReadFault;
-use crate::part::is;
+use crate::room::room_for;
 use std::alloc::Allocator;
 use tf_model::ids::JobId;
 use tf_model::limit::MOST_ARCS;
 use tf_model::number::{Number, number_of};
-use tf_model::word::{Kept, first_word, next_kept};
+use tf_model::word::{Kept, first_word, is, next_kept};
+
+/// The bytes of the shortest line of an arc, `prec 1 1` and a line feed.
+const SHORTEST_LINE: usize = 9;
 
 fn arc_job(jobs: u32, line: u32, word: &[u8]) -> Result<JobId, ReadFault>
     ensures { result ≡ arc_job jobs line (number word.now) }
@@ -69,7 +72,8 @@ fn arcs_from<A: Allocator>(
     requires { first + length text.now < 2 ^ 32 }
     ensures { Gives (λ v. v.items) result (each_from (arc_at jobs) 1 (kept_from first (lines text.now))) }
 {
-    let mut arcs = Vec::new(alloc);
+    let room = room_for(text, SHORTEST_LINE, MOST_ARCS);
+    let mut arcs = Vec::with_capacity(alloc, room)?;
     let mut rest = text;
     let mut number = first;
     while let Some(line) = next_kept(rest, number) {

@@ -1,5 +1,5 @@
 //! The value of `h`: a cost.
-ghost use Rattle.std.specs.Prelude.{◌≡◌};
+ghost use Rattle.std.specs.Prelude.{◌≡◌, ◌≤◌, length};
 ghost use Rattle.std.specs.List.{list_all};
 ghost use Rattle.tf_read.specs.Faults.{Gives};
 ghost use Rattle.tf_read.specs.WordParts.{later_parts};
@@ -47,10 +47,16 @@ fn step_at(line: u32, part: &[u8]) -> Result<(i64, i64), ReadFault>
     }
 }
 
+fn commas(text: &[u8]) -> usize
+    ensures { result ≤ length text.now }
+{
+    text.iter().filter(|byte| **byte == b',').count()
+}
+
 fn steps_at<A: Allocator>(alloc: A, line: u32, text: &[u8]) -> Result<Vec<(i64, i64), A>, ReadFault>
     ensures { Gives (λ v. v.items) result (steps_at line (later_parts text.now)) }
 {
-    let mut steps = Vec::new(alloc);
+    let mut steps = Vec::with_capacity(alloc, commas(text))?;
     let mut rest = text;
     while let Some((part, after)) = next_part(rest) {
         let step = step_at(line, part)?;

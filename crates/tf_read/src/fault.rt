@@ -12,7 +12,7 @@ pub enum ReadFault {
     #[error("the text is too long")]
     TooLong,
     /// A word should be a number and is none.
-    #[error("line {0}: no number")]
+    #[error("line {0}: a word is no number")]
     BadNumber(u32),
     /// The absolute value of a number is above the limit.
     #[error("line {0}: a number is too large")]
@@ -23,20 +23,20 @@ pub enum ReadFault {
     /// The text ends before the instance does.
     #[error("the text ends early")]
     EndsEarly,
-    /// The instance that was asked for isn't there.
+    /// The instance that was asked for is not there.
     #[error("there is no such instance")]
     NoInstance,
-    /// The machines of a job aren't in their order.
-    #[error("line {0}: no flow shop")]
+    /// The machines of a job are not in their order.
+    #[error("line {0}: the machines are not in their order")]
     NotAFlowShop(u32),
-    /// The two machines that were asked for are the same, or one of them isn't there.
+    /// The two machines that were asked for are the same, or one of them is not there.
     #[error("there is no such pair of machines")]
     BadPair,
     /// The line is of another kind or form than its place allows.
     #[error("line {0}: another line is wanted")]
     BadLine(u32),
-    /// The cost of a job falls, or its times don't rise.
-    #[error("line {0}: the cost falls")]
+    /// The cost of a job falls, or its times do not rise.
+    #[error("line {0}: the times of a cost do not rise, or its values fall")]
     BadCost(u32),
     /// The instance has no job, or none was asked for.
     #[error("there is no job")]
@@ -47,8 +47,8 @@ pub enum ReadFault {
     /// There are more than [`MOST_ARCS`](tf_model::limit::MOST_ARCS) arcs.
     #[error("there are too many arcs")]
     TooManyArcs,
-    /// An arc names a job that isn't there.
-    #[error("line {0}: an arc names a job that isn't there")]
+    /// An arc names a job that is not there.
+    #[error("line {0}: an arc names a job that is not there")]
     BadArc(u32),
     /// A growth was refused.
     #[error("want of memory")]

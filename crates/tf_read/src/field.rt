@@ -7,12 +7,12 @@ ghost use Rattle.tf_read.specs.JobLine.{times_at, field_at, fields_at, no_fields
 use crate::cost_field::cost_at;
 use crate::fault::ReadFault;
 use crate::number::{integer, natural};
-use crate::part::{divided, is};
+use crate::part::divided;
 use std::alloc::Allocator;
 use std::marker::Model;
 use tf_model::cost::StepCost;
 use tf_model::job::{Job, Times};
-use tf_model::word::first_word;
+use tf_model::word::{first_word, is};
 
 /// The fields of a job line so far.
 #[derive(Drop)]

@@ -31,7 +31,7 @@ enum Stage<A: Allocator> {
 
 /// Behind a line on which the heading was wanted.
 fn below_heading<A: Allocator>(line: u32, shown: HeadingLine, name: &[u8]) -> Stage<A>
-    requires { line < 4294967295 }
+    requires { line + 1 < 2 ^ 32 }
     ensures later { line_of result ≤ line + 1 }
     ensures taken { (pair : Option (ℕ × ℕ)) (fed : List ℕ) → WantsHeading name.now pair line shown fed → HasTaken name.now pair result (fed ++ 10 ∷ []) }
 {
@@ -49,7 +49,7 @@ fn below_found<A: Allocator + Copy>(
     line: u32,
     sizes: (u64, u64),
 ) -> Stage<A>
-    requires { line < 4294967295 }
+    requires { line + 1 < 2 ^ 32 }
     ensures later { line_of result ≤ line + 1 }
     ensures taken { (name : List ℕ) (fed : List ℕ) →
         ((more : List ℕ) → from_heading name pair 1 (lines (fed ++ more)) ≡ sized pair line sizes.0 sizes.1 (words_from (line + 1) (lines more))) →
@@ -73,7 +73,7 @@ fn below_sizes<A: Allocator + Copy>(
     line: u32,
     shown: SizesLine,
 ) -> Stage<A>
-    requires { line < 4294967295 }
+    requires { line + 1 < 2 ^ 32 }
     ensures later { line_of result ≤ line + 1 }
     ensures taken { (name : List ℕ) (fed : List ℕ) → WantsSizes name pair line shown fed → HasTaken name pair result (fed ++ 10 ∷ []) }
 {
@@ -135,7 +135,7 @@ impl<'a, A: Allocator + Copy> FlowReader<'a, A> {
     }
 
     fn push(&mut self, byte: u8)
-        requires { line_of self.old.stage < 4294967295 }
+        requires { line_of self.old.stage + 1 < 2 ^ 32 }
         ensures later { line_of self.new.stage ≤ line_of self.old.stage + 1 }
         ensures taken { (fed : List ℕ) → HasTaken self.old.name.now self.old.pair self.old.stage fed →
             HasTaken self.old.name.now self.old.pair self.new.stage (fed ++ byte ∷ []) }

@@ -11,13 +11,16 @@ use crate::arc::arcs_of;
 use crate::fault::ReadFault;
 use crate::field::job_of;
 use crate::instance::judged;
-use crate::part::is;
+use crate::room::room_for;
 use std::alloc::Allocator;
 use tf_model::instance::Instance;
 use tf_model::job::Job;
 use tf_model::limit::{MOST_BYTES, MOST_JOBS, MOST_MACHINES};
 use tf_model::number::{Number, number_of, plain_of};
-use tf_model::word::{Kept, first_word, next_kept};
+use tf_model::word::{Kept, first_word, is, next_kept};
+
+/// The bytes of the shortest line of a job, `job 1 p=1` and a line feed.
+const SHORTEST_LINE: usize = 10;
 
 fn machine_count(line: u32, word: &[u8]) -> Result<u32, ReadFault>
     ensures { result ≡ machine_count line (number word.now) }
@@ -78,7 +81,8 @@ fn jobs_of<A: Allocator + Copy>(
     ensures rest { IfOk result (λ x. kept_from x.2 (lines x.1.now) ≡ from_first is_arc (kept_from first (lines text.now))) }
     ensures room { IfOk result (λ x. x.2 + length x.1.now ≤ first + length text.now) }
 {
-    let mut jobs = Vec::new(alloc);
+    let room = room_for(text, SHORTEST_LINE, MOST_JOBS);
+    let mut jobs = Vec::with_capacity(alloc, room)?;
     let mut rest = text;
     let mut number = first;
     while let Some(line) = next_kept(rest, number) {

@@ -14,6 +14,7 @@ mod numbers;
 mod pairs;
 mod pairs_reader;
 mod part;
+mod room;
 mod scan;
 mod sizes;
 pub mod weighted_tardiness;

@@ -1,5 +1,5 @@
 //! Reading the times of a flow shop from the text behind the sizes, byte by byte.
-ghost use Rattle.std.specs.Prelude.{◌≡◌, ℕ, ◌+◌, ◌<◌, ◌≤◌, List, [], ◌∷◌, ◌++◌, IfOk, IsTrue};
+ghost use Rattle.std.specs.Prelude.{◌≡◌, ℕ, ◌+◌, ◌^◌, ◌<◌, ◌≤◌, List, [], ◌∷◌, ◌++◌, IfOk, IsTrue};
 ghost use Rattle.tf_model.specs.Words.{lines, words_from};
 ghost use Rattle.tf_read.specs.Pairs.{HasRead, HasFed};
 ghost use Rattle.tf_read.specs.FlowShop.{first_machine, second_machine, is_pair};
@@ -60,7 +60,7 @@ impl<A: Allocator + Copy> PairsReader<A> {
 
     /// With one byte more of the text.
     pub(crate) fn push(&mut self, byte: u8)
-        requires { self.old.scan.line < 4294967295 }
+        requires { self.old.scan.line + 1 < 2 ^ 32 }
         ensures later { self.new.scan.line ≤ self.old.scan.line + 1 }
         ensures fed { (first : ℕ) (fed : List ℕ) → HasFed first self.old.pairs self.old.scan.line self.old.scan.shown fed →
             HasFed first self.new.pairs self.new.scan.line self.new.scan.shown (fed ++ byte ∷ []) }

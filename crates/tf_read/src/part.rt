@@ -1,15 +1,7 @@
 //! The parts of a word.
 ghost use Rattle.std.specs.Prelude.{◌≡◌, ◌==◌, ◌<◌, [], ◌∷◌, length, position, option_map, MatchOption, IfSome};
-ghost use Rattle.std.specs.Str.{bytes_eq};
 ghost use Rattle.std.specs.List.{before_first, position_or_len};
 ghost use Rattle.tf_read.specs.WordParts.{divided, is_comma, parts, later_parts};
-
-/// Whether a word is spelled so.
-pub(crate) fn is(word: &[u8], spelling: &[u8]) -> bool
-    ensures { result ≡ bytes_eq word.now spelling.now }
-{
-    word == spelling
-}
 
 fn place_of(word: &[u8], byte: u8) -> Option<usize>
     ensures { result ≡ position (λ b. b == byte) word.now }

@@ -1,5 +1,5 @@
 -- Why pieces do not fit a task: the first misfit, told in the rows of the timetable that the pieces draw.
-use Rattle.std.specs.Prelude.{◌≡◌, ℕ, pos, ◌≤ℤ◌, ◌<◌, ◌≤◌, ◌⊎◌, List, [], length, take, slice_get, slice_index_or, Some, IsTrue, IsFalse}
+use Rattle.std.specs.Prelude.{◌≡◌, ℕ, pos, ◌≤ℤ◌, ◌<◌, ◌≤◌, ◌⊎◌, List, [], length, take, slice_get, slice_index_or, Option, Some, MatchOption, IsTrue, IsFalse}
 use Rattle.std.specs.List.{All}
 use Rattle.tf_model.specs.Timetable.{Timetable, cell, cells_of, units, all_units}
 use Rattle.tf_model.specs.SchedulingTask.{SchedulingTask, IsJob, job_data, time_of, time_on, is_shop, is_flow, may_break}
@@ -27,6 +27,10 @@ pub record IsSmallestNot (n : ℕ) (P : ℕ → Type 0) (j : ℕ) : Type 0 where
   pub job : (1 ≤ j) × (j ≤ n)
   pub fails : ¬ (P j)
   pub smaller : (h : ℕ) → 1 ≤ h → h < j → P h
+
+-- P holds of each, or this is the smallest job of which it does not
+abbrev pub FindsSmallestNot : ℕ → (ℕ → Type 0) → Option ℕ → Type 0
+FindsSmallestNot n P found = MatchOption found (EachJob n P) (IsSmallestNot n P)
 
 -- ---- what is asked of the pieces and of each job
 

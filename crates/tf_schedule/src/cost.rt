@@ -10,7 +10,7 @@ ghost use Rattle.tf_schedule.specs.Drawing.{drawing, stop_of};
 ghost use Rattle.tf_schedule.specs.Misfit.{IsKnown};
 ghost use Rattle.tf_schedule.specs.Cost.{known_pieces, schedule_cost, total_to, with_stop, HasStops};
 
-use crate::fit::{is_known, nth_job};
+use crate::fit::is_known;
 use crate::piece::Piece;
 use crate::schedule::Schedule;
 use std::alloc::Allocator;
@@ -67,9 +67,9 @@ fn idle_cost<A: Allocator>(task: &Task<A>) -> i128
     ensures reached { (j : ℕ) × IsJob task.now j × (result ≡ price task.now j 0) }
 {
     let jobs = task.len();
-    let mut value: i128 = price(task, nth_job(0), 0);
+    let mut value: i128 = price(task, JobId::at(0), 0);
     for k in 1..jobs {
-        value = value.max(price(task, nth_job(k), 0));
+        value = value.max(price(task, JobId::at(k), 0));
     }
     value
 }

@@ -8,7 +8,7 @@ ghost use Rattle.tf_schedule.specs.Piece.{as_time, job_of, OverlapBy};
 ghost use Rattle.tf_schedule.specs.Schedule.{ComesBefore, ComesBeforeBy, IsFirstClashBy, IsSchedule, IsSound, JobsOnce};
 ghost use Rattle.tf_schedule.specs.Drawing.{Draws, drawing, pieces_on};
 ghost use Rattle.tf_schedule.specs.Extent.{IsDone, IsDoneInShop, IsSolidOnOne, IsSolidInShop, StartsReleased, StartsAfter, StartsInFlow};
-ghost use Rattle.tf_schedule.specs.Misfit.{EachJob, IsSmallestNot, IsFirstNot, IsKnown, HasFirstMisfit};
+ghost use Rattle.tf_schedule.specs.Misfit.{EachJob, IsSmallestNot, FindsSmallestNot, IsFirstNot, IsKnown, HasFirstMisfit};
 ghost use Rattle.tf_schedule.specs.declared.fit.Misfit.TheVariants.{OutOfMemory};
 
 use crate::extent::{Extent, extents};
@@ -17,6 +17,7 @@ use crate::schedule::Schedule;
 use std::alloc::{AllocError, Allocator};
 use tf_model::class::Class;
 use tf_model::ids::{JobId, MachineId};
+use tf_model::limit::MOST_JOBS;
 use tf_model::task::{JobRow, Task};
 use thiserror::Error;
 
@@ -25,23 +26,23 @@ use thiserror::Error;
 #[derive(Debug, Drop, PartialEq, Eq, Error)]
 pub enum Misfit {
     /// A piece names a job or a machine that the task does not have.
-    #[error("Stranger {} {}", .0.get(), .1.get())]
+    #[error("job {} or machine {} is not the task's", .0.get(), .1.get())]
     Stranger(JobId, MachineId),
     /// The job is on two machines at this time, its first such time.
-    #[error("JobTwice {} {}", .0.get(), .1)]
+    #[error("job {} is on two machines at time {}", .0.get(), .1)]
     JobTwice(JobId, i64),
     /// The job does not have its time, in a shop on each machine.
-    #[error("WrongAmount {}", .0.get())]
+    #[error("job {} does not have its processing time", .0.get())]
     WrongAmount(JobId),
     /// The job has a gap on a machine, or outside shops is on two machines, and the class has no preemption.
-    #[error("Broken {}", .0.get())]
+    #[error("job {} is interrupted", .0.get())]
     Broken(JobId),
     /// The job starts before its release date.
-    #[error("TooEarly {}", .0.get())]
+    #[error("job {} starts before its release date", .0.get())]
     TooEarly(JobId),
     /// The first arc whose first job is not over before the second starts; in a flow shop a job, named twice, that is
     /// not over on machine 1 before it starts on machine 2.
-    #[error("OutOfOrder {} {}", .0.get(), .1.get())]
+    #[error("job {} is not over before job {} starts", .0.get(), .1.get())]
     OutOfOrder(JobId, JobId),
     #[error("want of memory")]
     OutOfMemory,
@@ -212,54 +213,35 @@ fn overlap_in_job(before: &Piece, piece: &Piece) -> bool
     before.job == piece.job && piece.start < before.stop
 }
 
-pub(crate) fn nth_job(k: usize) -> JobId
-    requires { k < 100000 }
-    ensures { result ≡ k + 1 }
-{
-    JobId::new(k as u32 + 1).unwrap()
-}
-
-// Whether a job may be broken off and taken up again.
-fn may_break(class: Class) -> bool
-    ensures { result ≡ may_break class }
-{
-    matches!(class, Class::ReleaseLmax | Class::ParallelPrmp)
-}
-
-// Whether jobs visit machine 1 before machine 2.
-fn is_flow(class: Class) -> bool
-    ensures { result ≡ is_flow class }
-{
-    matches!(class, Class::FlowTwo)
-}
-
 // ---- where a job has one time
 
 fn first_wrong_amount(jobs: &[JobRow], extents: &[Extent]) -> Option<JobId>
     requires len { length extents.now ≡ length jobs.now }
-    requires few { length jobs.now ≤ 100000 }
-    ensures { MatchOption result (EachJob (length jobs.now) (IsDone jobs.now extents.now)) (IsSmallestNot (length jobs.now) (IsDone jobs.now extents.now)) }
+    requires few { length jobs.now ≤ MOST_JOBS }
+    ensures { FindsSmallestNot (length jobs.now) (IsDone jobs.now extents.now) result }
 {
     for k in 0..jobs.len() {
         let job = jobs[k];
         if extents[k].work != job.first {
-            return Some(nth_job(k));
+            return Some(JobId::at(k));
         }
     }
     None
 }
 
 fn first_broken(class: Class, extents: &[Extent]) -> Option<JobId>
-    requires few { length extents.now ≤ 100000 }
-    ensures { MatchOption result (IsFalse (may_break class) → EachJob (length extents.now) (IsSolidOnOne extents.now)) (λ j. IsFalse (may_break class) × IsSmallestNot (length extents.now) (IsSolidOnOne extents.now) j) }
+    requires few { length extents.now ≤ MOST_JOBS }
+    ensures { MatchOption result
+        (IsFalse (may_break class) → EachJob (length extents.now) (IsSolidOnOne extents.now))
+        (λ j. IsFalse (may_break class) × IsSmallestNot (length extents.now) (IsSolidOnOne extents.now) j) }
 {
-    if may_break(class) {
+    if class.may_break() {
         return None;
     }
     for k in 0..extents.len() {
         let extent = extents[k];
         if !is_solid(extent) || extent.lowest < extent.highest {
-            return Some(nth_job(k));
+            return Some(JobId::at(k));
         }
     }
     None
@@ -267,13 +249,13 @@ fn first_broken(class: Class, extents: &[Extent]) -> Option<JobId>
 
 fn first_too_early(jobs: &[JobRow], extents: &[Extent]) -> Option<JobId>
     requires len { length extents.now ≡ length jobs.now }
-    requires few { length jobs.now ≤ 100000 }
-    ensures { MatchOption result (EachJob (length jobs.now) (StartsReleased jobs.now extents.now)) (IsSmallestNot (length jobs.now) (StartsReleased jobs.now extents.now)) }
+    requires few { length jobs.now ≤ MOST_JOBS }
+    ensures { FindsSmallestNot (length jobs.now) (StartsReleased jobs.now extents.now) result }
 {
     for k in 0..jobs.len() {
         let job = jobs[k];
         if extents[k].start < job.release {
-            return Some(nth_job(k));
+            return Some(JobId::at(k));
         }
     }
     None
@@ -298,13 +280,13 @@ fn first_out_of_order(arcs: &[(JobId, JobId)], extents: &[Extent]) -> Option<(Jo
 fn first_wrong_in_shop(jobs: &[JobRow], first: &[Extent], second: &[Extent]) -> Option<JobId>
     requires first { length first.now ≡ length jobs.now }
     requires second { length second.now ≡ length jobs.now }
-    requires few { length jobs.now ≤ 100000 }
-    ensures { MatchOption result (EachJob (length jobs.now) (IsDoneInShop jobs.now first.now second.now)) (IsSmallestNot (length jobs.now) (IsDoneInShop jobs.now first.now second.now)) }
+    requires few { length jobs.now ≤ MOST_JOBS }
+    ensures { FindsSmallestNot (length jobs.now) (IsDoneInShop jobs.now first.now second.now) result }
 {
     for k in 0..jobs.len() {
         let job = jobs[k];
         if first[k].work != job.first || second[k].work != job.second {
-            return Some(nth_job(k));
+            return Some(JobId::at(k));
         }
     }
     None
@@ -312,15 +294,17 @@ fn first_wrong_in_shop(jobs: &[JobRow], first: &[Extent], second: &[Extent]) -> 
 
 fn first_broken_in_shop(class: Class, first: &[Extent], second: &[Extent]) -> Option<JobId>
     requires same { length second.now ≡ length first.now }
-    requires few { length first.now ≤ 100000 }
-    ensures { MatchOption result (IsFalse (may_break class) → EachJob (length first.now) (IsSolidInShop first.now second.now)) (λ j. IsFalse (may_break class) × IsSmallestNot (length first.now) (IsSolidInShop first.now second.now) j) }
+    requires few { length first.now ≤ MOST_JOBS }
+    ensures { MatchOption result
+        (IsFalse (may_break class) → EachJob (length first.now) (IsSolidInShop first.now second.now))
+        (λ j. IsFalse (may_break class) × IsSmallestNot (length first.now) (IsSolidInShop first.now second.now) j) }
 {
-    if may_break(class) {
+    if class.may_break() {
         return None;
     }
     for k in 0..first.len() {
         if !is_solid(first[k]) || !is_solid(second[k]) {
-            return Some(nth_job(k));
+            return Some(JobId::at(k));
         }
     }
     None
@@ -334,15 +318,17 @@ fn is_solid(extent: Extent) -> bool
 
 fn first_out_of_flow(class: Class, first: &[Extent], second: &[Extent]) -> Option<JobId>
     requires same { length second.now ≡ length first.now }
-    requires few { length first.now ≤ 100000 }
-    ensures { MatchOption result (IsTrue (is_flow class) → EachJob (length first.now) (StartsInFlow first.now second.now)) (λ j. IsTrue (is_flow class) × IsSmallestNot (length first.now) (StartsInFlow first.now second.now) j) }
+    requires few { length first.now ≤ MOST_JOBS }
+    ensures { MatchOption result
+        (IsTrue (is_flow class) → EachJob (length first.now) (StartsInFlow first.now second.now))
+        (λ j. IsTrue (is_flow class) × IsSmallestNot (length first.now) (StartsInFlow first.now second.now) j) }
 {
-    if !is_flow(class) {
+    if !class.is_flow() {
         return None;
     }
     for k in 0..first.len() {
         if second[k].start < first[k].stop {
-            return Some(nth_job(k));
+            return Some(JobId::at(k));
         }
     }
     None

@@ -12,7 +12,9 @@ use tf_model::limit::LIMIT;
 pub struct Piece {
     pub job: JobId,
     pub machine: MachineId,
+    /// In time steps, from 0.
     pub start: i64,
+    /// Above `start`, and at most `LIMIT`.
     pub stop: i64,
 }
 

@@ -16,13 +16,13 @@ use thiserror::Error;
 #[derive(Debug, Drop, PartialEq, Eq, Error)]
 pub enum PieceFault {
     /// The piece starts before time 0 or stops after [`tf_model::limit::LIMIT`].
-    #[error("OutOfRange {0}")]
+    #[error("piece {0} is out of range")]
     OutOfRange(usize),
     /// The piece does not stop after it starts.
-    #[error("EmptyPiece {0}")]
+    #[error("piece {0} is empty")]
     EmptyPiece(usize),
     /// Two pieces claim the machine at this time: the smallest such machine, and its first such time.
-    #[error("MachineTwice {} {}", .0.get(), .1)]
+    #[error("machine {} is claimed twice at time {}", .0.get(), .1)]
     MachineTwice(MachineId, i64),
 }
 

@@ -5,7 +5,7 @@ use Rattle.std.specs.Fmt.{decimal, signed_decimal}
 use Rattle.std.specs.Str.{bytes_eq}
 use Rattle.std.proofs.lemmas.Bool.{and_from, le-ltb}
 use Rattle.std.proofs.lemmas.Int.{ints}
-use Rattle.tf_model.specs.Words.{words, lines}
+use Rattle.tf_model.specs.Words.{words, lines, KeptLine, kept_lines}
 use Rattle.tf_model.specs.Whole.{IsWithin}
 use Rattle.tf_model.specs.declared.problem.Problem.{Problem}
 use Rattle.tf_notation.specs.Reading.{notation}
@@ -13,7 +13,7 @@ use Rattle.tf_notation.specs.Canonical.{canonical}
 use Rattle.tf_schedule.specs.declared.piece.Piece.{Piece}
 use Rattle.tf_check.specs.Claim.{Claim, AnswerData, ByPairs, ByLastOf, ByWindow, BySplit, ByLoad, ByMachine, ByOneJob, ByRanks}
 use Rattle.tf_text.specs.AnswerText.{SheetData, piece_words, side_word, claim_words, result_lines, answer_lines, line_text, answer_text}
-use Rattle.tf_text.specs.KeptLines.{KeptLine, kept_lines, after_word, without_return}
+use Rattle.tf_text.specs.LineParts.{after_word, without_return}
 use Rattle.tf_text.specs.Ranged.{is_number}
 use Rattle.tf_text.specs.Readable.{IsCount, IsReadablePiece, AreJobs, IsReadableClaim, IsReadable}
 use Rattle.tf_text.specs.AnswerReading.{count_in, time_in, value_in, side_of, most_job, most_machine, jobs_from, jobs_in, exactly, problem_in, problem_at, word_behind, count_at, value_at, piece_in, pieces_at, split_in, claim_in, kind_in, certificate_in, certificate_at, answer_at, sheet_of, answer_in}

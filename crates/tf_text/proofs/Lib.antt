@@ -1,7 +1,6 @@
 pub mod Written
 pub mod Rows
 pub mod Saturated
-pub mod KeptLines
 pub mod Reading
 pub mod WordLines
 pub mod Numerals

@@ -14,7 +14,7 @@ use Rattle.tf_notation.specs.declared.spelling.Condition.TheVariants.{Release, P
 use Rattle.tf_notation.specs.Spelling.{has}
 use Rattle.tf_notation.specs.Canonical.{environment_word, count_text, condition_word, goal_word, conditions_of, listed_text, all_conditions, canonical}
 use Rattle.tf_notation.proofs.Again.{IsCounted}
-use Rattle.tf_text.specs.KeptLines.{after_word, without_return}
+use Rattle.tf_text.specs.LineParts.{after_word, without_return}
 use Rattle.tf_text.proofs.WordLines.{IsWord, append_all}
 use Rattle.tf_text.proofs.Numerals.{word-decimal}
 

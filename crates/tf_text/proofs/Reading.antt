@@ -1,9 +1,8 @@
 -- A loop's step over the words of a line, and over the lines of pieces.
 use Rattle.std.proofs.Common.{◌≡◌, ℕ, true, false, List, [], ◌∷◌, ◌++◌, drop, codes, Result, Ok, Err, refl, sym, ap, subst, ◌∙◌, append_assoc}
 use Rattle.std.proofs.lemmas.List.{append-nil}
-use Rattle.tf_model.specs.Words.{words}
+use Rattle.tf_model.specs.Words.{words, KeptLine}
 use Rattle.tf_schedule.specs.declared.piece.Piece.{Piece}
-use Rattle.tf_text.specs.KeptLines.{KeptLine}
 use Rattle.tf_text.specs.declared.answer.fault.AnswerFault.{AnswerFault}
 use Rattle.tf_text.specs.declared.answer.fault.AnswerFault.TheVariants as faults
 use Rattle.tf_text.specs.AnswerReading.{◌>>=◌, Fails, count_in, most_job, jobs_from, first_is, piece_in, pieces_at}

@@ -2,7 +2,7 @@
 use Rattle.std.proofs.Common.{◌≡◌, ℕ, List, [], ◌∷◌, ◌++◌, Some, Ok, Err, true, false, pos, negsuc, codes, refl}
 use Rattle.std.specs.List.{flat_map}
 use Rattle.std.specs.Fmt.{digits}
-use Rattle.tf_model.specs.Words.{words, lines}
+use Rattle.tf_model.specs.Words.{words, lines, kept_lines}
 use Rattle.tf_model.specs.Number.{plain}
 use Rattle.tf_model.specs.declared.problem.Env.TheVariants.{Parallel, Flow}
 use Rattle.tf_model.specs.declared.problem.Goal.TheVariants.{Cmax}
@@ -12,7 +12,6 @@ use Rattle.tf_notation.specs.Reading.{notation, expect, listed, conditions_at}
 use Rattle.tf_check.specs.Claim.{BySplit, ByLoad}
 use Rattle.tf_text.specs.AnswerText.{SheetData, line_text, claim_words, answer_text}
 use Rattle.tf_text.specs.Ranged.{numeral}
-use Rattle.tf_text.specs.KeptLines.{kept_lines}
 use Rattle.tf_text.specs.AnswerReading.{value_in, jobs_from, jobs_in, exactly, problem_in, problem_at, word_behind, count_at, value_at, piece_in, pieces_at, split_in, claim_in, certificate_in, certificate_at, answer_at, sheet_of, answer_in}
 use Rattle.tf_text.specs.declared.answer.fault.AnswerFault.TheVariants.{BadLine, NumberTooLarge, BadNotation, EndsEarly}
 

@@ -5,14 +5,14 @@ use Rattle.std.specs.Option.{option_map_or}
 use Rattle.std.specs.Str.{bytes_eq}
 use Rattle.std.specs.Cmp.Lexicographic.{pointwise}
 use Rattle.tf_model.specs.Whole.{as_time}
-use Rattle.tf_model.specs.Words.{words, lines}
+use Rattle.tf_model.specs.Words.{words, lines, KeptLine, kept_lines}
 use Rattle.tf_model.specs.declared.limit.TheConstants.{LIMIT, MOST_BYTES}
 use Rattle.tf_model.specs.declared.problem.Problem.{Problem}
 use Rattle.tf_notation.specs.Reading.{notation}
 use Rattle.tf_schedule.specs.declared.piece.Piece.{Piece}
 use Rattle.tf_check.specs.Claim.{Claim, AnswerData, ByPairs, ByLastOf, ByWindow, BySplit, ByLoad, ByMachine, ByOneJob, ByRanks}
 use Rattle.tf_text.specs.AnswerText.{SheetData}
-use Rattle.tf_text.specs.KeptLines.{KeptLine, kept_lines, after_word, without_return}
+use Rattle.tf_text.specs.LineParts.{after_word, without_return}
 use Rattle.tf_text.specs.Ranged.{is_number, number_in}
 use Rattle.tf_text.specs.declared.ranged.Ranged.{Ranged}
 use Rattle.tf_text.specs.declared.ranged.Ranged.TheVariants.{NotANumber, Below, Above, Within}

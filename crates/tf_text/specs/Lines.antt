@@ -1,7 +1,6 @@
 -- Lines as definitions see them.
 use Rattle.std.specs.Prelude.{List}
-use Rattle.tf_model.specs.Words.{lines}
-use Rattle.tf_text.specs.KeptLines.{KeptLine, kept_lines}
+use Rattle.tf_model.specs.Words.{lines, KeptLine, kept_lines}
 use Rattle.tf_text.specs.declared.line.Line.{Line}
 use Rattle.tf_text.specs.declared.line.Lines.{Lines}
 

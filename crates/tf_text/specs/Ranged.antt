@@ -9,7 +9,7 @@ use Rattle.tf_text.specs.declared.ranged.Ranged.TheVariants.{NotANumber, Below, 
 abbrev pub written : Bool → List ℕ → Option ℤ
 written negative digits = if is_numeral digits then Some (signed negative (digits_value 10 digits)) else None
 
--- The number that a word writes: an optional '-', and one digit or more. Leading zeros are allowed, and the length doesn't matter.
+-- The number that a word writes: an optional '-', and one digit or more. Leading zeros are allowed, and the length does not matter.
 unfoldable pub numeral : List ℕ → Option ℤ
 numeral word = if slice_index word 0 == 45 then written true (drop 1 word) else written false word
 

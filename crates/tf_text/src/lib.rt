@@ -1,4 +1,4 @@
-//! The texts that go in and out: whole inputs, answers and charts.
+//! The texts that go in and out: whole inputs, and answers.
 #![tactic(auto)]
 
 pub mod answer;

@@ -1,10 +1,10 @@
 //! The lines of a text that have a word and are no comment.
 ghost use Rattle.std.specs.Prelude.{◌≡◌, ◌+◌, ◌^◌, ◌<◌, ◌≤◌, ◌∷◌, [], length, MatchOption, IfSome, drop, ◌-◌};
 ghost use Rattle.std.specs.Option.{option_map_or};
-ghost use Rattle.tf_model.specs.Words.{words, lines, is_kept};
-ghost use Rattle.tf_text.specs.KeptLines.{kept_lines, from_first, after_word, without_return};
+ghost use Rattle.tf_model.specs.Words.{lines, kept_lines};
+ghost use Rattle.tf_text.specs.LineParts.{from_first, after_word, without_return};
 
-use tf_model::word::{first_word, next_line, white_at, word_at};
+use tf_model::word::{next_kept, white_at, word_at};
 
 /// A line, its number counted from 1.
 #[derive(Clone, Copy, Debug)]
@@ -20,15 +20,6 @@ pub struct Lines<'a> {
     // the number of the first line that is left
     number: u32,
     ghost room: { number + length rest.now < 2 ^ 32 },
-}
-
-fn is_kept(line: &[u8]) -> bool
-    ensures { result ≡ is_kept (words line.now) }
-{
-    match first_word(line) {
-        None => false,
-        Some((first, _)) => first[0] != b'#',
-    }
 }
 
 impl<'a> Lines<'a> {
@@ -50,20 +41,16 @@ impl<'a> Lines<'a> {
         ensures { MatchOption result (lines_of self.now ≡ [])
             (λ x. lines_of self.now ≡ line_of x.0 ∷ lines_of x.1) }
     {
-        let mut rest = self.rest;
-        let mut number = self.number;
-        while let Some((line, after)) = next_line(rest) {
-            rest = after;
-            number += 1;
-            if is_kept(line) {
-                let line = Line {
-                    number: number - 1,
-                    bytes: line,
-                };
-                return Some((line, Lines { rest, number }));
-            }
-        }
-        None
+        let kept = next_kept(self.rest, self.number)?;
+        let line = Line {
+            number: kept.number,
+            bytes: kept.line,
+        };
+        let after = Lines {
+            rest: kept.rest,
+            number: kept.number + 1,
+        };
+        Some((line, after))
     }
 }
 

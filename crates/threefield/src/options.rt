@@ -2,9 +2,10 @@
 use clap::error::ErrorKind;
 use clap::{Arg, ArgMatches, Command, Error};
 use std::alloc::{AllocError, Global};
-use tf_model::number::{Number, number_of};
+use tf_model::limit::MOST_MACHINES;
+use tf_model::number::{Number, is_numeral, number_of};
 
-/// What is to be solved, or what was.
+/// The problem and the instance that the words name.
 #[derive(Drop)]
 pub struct Options<'a> {
     pub problem: &'a str,
@@ -44,8 +45,7 @@ pub enum Asked<'a> {
 
 static FORMATS: [&str; 3] = ["table", "wt", "flow"];
 
-const MOST_MACHINES: u32 = 1_000;
-
+/// The most jobs that `--jobs` takes; more than are solved.
 const MOST_JOBS: u32 = 100_000;
 
 /// The program's commands.
@@ -86,6 +86,15 @@ fn with_options<'a>(alloc: Global, command: Command<'a>) -> Result<Command<'a>, 
         .long("machines")
         .value_name("M")
         .help("The number of machines, 1 to 1000");
+    let input = Arg::new(alloc, "INPUT")
+        .help("The instance: a file, or - for standard input")
+        .required(true);
+    let command = command.arg(problem)?.arg(format)?;
+    with_form_options(alloc, command)?.arg(machines)?.arg(input)
+}
+
+// The command with the options of the forms.
+fn with_form_options<'a>(alloc: Global, command: Command<'a>) -> Result<Command<'a>, AllocError> {
     let jobs = Arg::new(alloc, "jobs")
         .long("jobs")
         .value_name("N")
@@ -103,18 +112,7 @@ fn with_options<'a>(alloc: Global, command: Command<'a>) -> Result<Command<'a>, 
         .long("pair")
         .value_name("I,K")
         .help("With flow: the two machines that count, from 0");
-    let input = Arg::new(alloc, "INPUT")
-        .help("The instance: a file, or - for standard input")
-        .required(true);
-    command
-        .arg(problem)?
-        .arg(format)?
-        .arg(jobs)?
-        .arg(index)?
-        .arg(name)?
-        .arg(pair)?
-        .arg(machines)?
-        .arg(input)
+    command.arg(jobs)?.arg(index)?.arg(name)?.arg(pair)
 }
 
 /// What the words ask for.
@@ -187,7 +185,7 @@ fn wt_in<'a>(given: &ArgMatches<'a>) -> Result<FormOption<'a>, Asked<'a>> {
         .and_then(|word| number_within(word, 1, u32::MAX));
     match (jobs, index) {
         (None, _) => Err(Asked::Unfit("--format wt needs --jobs, a number from 1 to 100000")),
-        (_, None) => Err(Asked::Unfit("--index takes a number from 1")),
+        (_, None) => Err(Asked::Unfit("--index takes a number from 1 to 4294967295")),
         (Some(jobs), Some(index)) => Ok(FormOption::Wt { jobs, index }),
     }
 }
@@ -217,11 +215,11 @@ fn pair_in(word: &str) -> Option<(u32, u32)> {
 
 // A number of digits alone, within a range.
 fn number_within(word: &str, least: u32, most: u32) -> Option<u32> {
-    let bytes = word.as_bytes();
-    if !bytes.first().is_some_and(|byte| byte.is_ascii_digit()) {
+    let digits = word.as_bytes();
+    if !is_numeral(digits) {
         return None;
     }
-    match number_of(bytes) {
+    match number_of(digits) {
         Number::Value(n) if i64::from(least) <= n && n <= i64::from(most) => Some(n as u32),
         _ => None,
     }
@@ -237,3 +235,6 @@ fn refused<'a>(error: Error) -> Asked<'a> {
         Asked::Help(error)
     }
 }
+
+#[cfg(test)]
+mod tests;

@@ -16,7 +16,7 @@ pub enum AnswerFault {
     #[error("line {0} is not what is expected there")]
     BadLine(u32),
     /// A number of this line is out of its range.
-    #[error("a number of line {0} is too large")]
+    #[error("a number of line {0} is out of range")]
     NumberTooLarge(u32),
     /// The problem line's notation is none.
     #[error("the problem's notation is wrong")]

@@ -1,10 +1,8 @@
 //! Answer texts, read.
 ghost use Rattle.std.specs.Prelude.{◌≡◌, ◌^◌, ◌-◌, ◌<◌, ◌∷◌, [], true, false, length, drop, codes, option_map, IfOk, MatchOption};
 ghost use Rattle.std.specs.List.{list_all};
-ghost use Rattle.std.specs.Str.{bytes_eq};
-ghost use Rattle.tf_model.specs.Words.{words, lines};
+ghost use Rattle.tf_model.specs.Words.{words, lines, kept_lines};
 ghost use Rattle.tf_check.specs.Certificate.{claim_of};
-ghost use Rattle.tf_text.specs.KeptLines.{kept_lines};
 ghost use Rattle.tf_text.specs.Lines.{line_of, lines_of};
 ghost use Rattle.tf_text.specs.Ranged.{is_number};
 ghost use Rattle.tf_text.specs.AnswerReading.{Gives, count_in, time_in, value_in, most_job, most_machine, jobs_from, jobs_in, first_is, is_exactly, next, exactly, problem_in, problem_at, only, word_behind, count_at, value_at, four, piece_in, pieces_at, bare, side_of, split_of, split_in, claim_in, kind_in, certificate_in, certificate_at, finished, answer_at, sheet_of, answer_in};
@@ -28,7 +26,7 @@ use tf_model::ids::{JobId, MachineId};
 use tf_model::job_list::JobList;
 use tf_model::limit::{LIMIT, MOST_BYTES};
 use tf_model::problem::Problem;
-use tf_model::word::first_word;
+use tf_model::word::{first_word, is};
 use tf_notation::reading::read;
 use tf_schedule::piece::Piece;
 use tf_schedule::piece_list::PieceList;
@@ -37,12 +35,6 @@ use tf_schedule::piece_list::PieceList;
 const MOST_JOB: u32 = 100_000;
 
 const MOST_MACHINE: u32 = 1_000;
-
-fn is(word: &[u8], spelling: &[u8]) -> bool
-    ensures { result ≡ bytes_eq word.now spelling.now }
-{
-    word == spelling
-}
 
 fn count_in(line: u32, most: u32, word: &[u8]) -> Result<u32, AnswerFault>
     ensures read { Gives (λ n. n) result (count_in line most word.now) }

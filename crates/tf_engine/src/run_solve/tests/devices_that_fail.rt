@@ -1,4 +1,4 @@
-//! Devices that give and take little at a time, that fail, that don't end; and memory that is refused.
+//! Devices that give and take little at a time, that fail, that do not end; and memory that is refused.
 use super::{ANSWER, TABLE, ensure, on_two, run_solve};
 use crate::devices::{Feed, Sink};
 use crate::fault::RunFault;

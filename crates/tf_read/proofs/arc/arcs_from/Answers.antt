@@ -5,7 +5,7 @@ use Rattle.tf_read.proofs.Each.{fault_of, each_next, each_faults, each_done}
 use Rattle.tf_read.proofs.arc.arcs_from.Goals as goal
 
 pub returns-in_err-arc : goal.returns-in_err-arc
-returns-in_err-arc g c = let p = err_from_is_err_and c.from_residual.result c.from_residual.ensures.1 in rw (p.1, p.2) (each_faults (arc_at c.args.jobs) _ _ _ _ _ _ _ _ c.loop-line.invariant.same c.in-Some.ensures.kept (ap (λ (n : ℕ). n + 1) c.len.ensures) (fault_of _ _ (sym c.in_err-arc.ensures)))
+returns-in_err-arc g c = let p = err_from_is_err_and c.from_residual-in_err-arc.result c.from_residual-in_err-arc.ensures.1 in rw (p.1, p.2) (each_faults (arc_at c.args.jobs) _ _ _ _ _ _ _ _ c.loop-line.invariant.same c.in-Some.ensures.kept (ap (λ (n : ℕ). n + 1) c.len.ensures) (fault_of _ _ (sym c.in_err-arc.ensures)))
 
 pub loop-line-preserved : goal.loop-line-preserved
 loop-line-preserved g c =

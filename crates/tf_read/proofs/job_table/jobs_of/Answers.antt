@@ -10,7 +10,7 @@ pub returns-then-is-clause-jobs : goal.returns-then-is-clause-jobs
 returns-then-is-clause-jobs g c = each_done job_at _ _ _ _ c.loop-line.invariant.same (before_yes is_arc _ _ _ c.in-Some.ensures.kept (sym c.is.ensures ∙ c.if-is.true))
 
 pub returns-in_err-job-clause-jobs : goal.returns-in_err-job-clause-jobs
-returns-in_err-job-clause-jobs g c = let p = err_from_is_err_and c.from_residual.result c.from_residual.ensures.1 in rw (p.1, p.2) (each_faults job_at _ _ _ _ _ _ _ _ c.loop-line.invariant.same (before_no is_arc _ _ _ c.in-Some.ensures.kept (sym c.is.ensures ∙ c.if-is.false)) (ap (λ (n : ℕ). n + 1) c.len.ensures) c.in_err-job.ensures)
+returns-in_err-job-clause-jobs g c = let p = err_from_is_err_and c.from_residual-in_err-job.result c.from_residual-in_err-job.ensures.1 in rw (p.1, p.2) (each_faults job_at _ _ _ _ _ _ _ _ c.loop-line.invariant.same (before_no is_arc _ _ _ c.in-Some.ensures.kept (sym c.is.ensures ∙ c.if-is.false)) (ap (λ (n : ℕ). n + 1) c.len.ensures) c.in_err-job.ensures)
 
 pub loop-line-preserved : goal.loop-line-preserved
 loop-line-preserved g c =

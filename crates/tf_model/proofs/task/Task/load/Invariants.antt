@@ -1,8 +1,8 @@
 use Rattle.std.proofs.Common.{◌≡◌, sum_by}
 use Rattle.std.specs.List.{range_with_len}
 use Rattle.tf_model.specs.SchedulingTask.{time_of}
-use Rattle.tf_check.proofs.load.LoadEvidence.bound.Given as goal
+use Rattle.tf_model.proofs.task.Task.load.Given as goal
 
 -- the time of the jobs so far
 abbrev pub invariant-loop-job : goal.invariant-loop-job
-invariant-loop-job g l = l.total ≡ sum_by (time_of l.task) (range_with_len 1 l.job-index)
+invariant-loop-job g l = l.total ≡ sum_by (time_of l.self) (range_with_len 1 l.job-index)
