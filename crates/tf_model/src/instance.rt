@@ -18,7 +18,7 @@ pub enum InstanceFault {
     /// More than `MOST_JOBS`.
     #[error("there are too many jobs")]
     TooManyJobs,
-    /// None, or more than `MOST_MACHINES`.
+    /// 0, or more than `MOST_MACHINES`.
     #[error("the number of machines is 0 or too large")]
     TooManyMachines,
     /// More than `MOST_ARCS`.
