@@ -1,14 +1,17 @@
 #!/bin/bash
-# Times the reading of some 60 MB in each form, and the check of an answer of 300,000 pieces, beside a plain Rust program
-# that reads the same words: bash bench/run.sh
+# The benchmark, beside plain Rust: bash bench/run.sh
+# First the reading of some 60 MB in each form, and the check of an answer of 300,000 pieces; then solve, check and gantt
+# of each class at 2,000, 10,000 and 100,000 jobs.
 # Needs the program at crates/threefield/out/threefield (the first command of the README makes it), rustc and python3.
 set -eu
 here=$(cd "$(dirname "$0")" && pwd)
 program=$here/../crates/threefield/out/threefield
 work=$(mktemp -d)
 trap 'rm -rf "$work"' EXIT
+export PYTHONDONTWRITEBYTECODE=1
 python3 "$here/make.py" "$work"
 rustc -O -o "$work/plain" "$here/plain.rs"
+rustc -O -o "$work/plain_solve" "$here/plain_solve.rs"
 last=$(( $(wc -l < "$work/wt.txt") ))
 
 # The command after the form's name reads the text of that form. A refusal after reading is an answer too.
@@ -31,3 +34,5 @@ timed flow "$program" solve --problem "F||Cmax" --format flow --name large --pai
 timed flow "$work/plain"
 timed answer "$program" check --problem "P2|prmp|Cmax" "$work/work.txt" -
 timed answer "$work/plain"
+echo
+python3 "$here/measure.py" "$program" "$work/plain_solve" "$work"

@@ -49,7 +49,7 @@ cost_same k rows others same = by_kind (objective_of k.class)
 row_within : (n : ℕ) (row : Row) → All (λ j. j ≤ n) row → (i : ℕ) → get_or row i 0 ≤ n
 row_within n row all i = ⊎_elim (λ h. all i 0 h) (λ h. let e = get_or_past row i 0 h in omega (arith, e)) (cases_lt i (length row))
 
-cell_within : (n : ℕ) (rows : Timetable) (t i : ℕ) → All (λ row. All (λ j. j ≤ n) row) rows → cell rows t i ≤ n
+pub cell_within : (n : ℕ) (rows : Timetable) (t i : ℕ) → All (λ row. All (λ j. j ≤ n) row) rows → cell rows t i ≤ n
 cell_within n rows t i all = ⊎_elim
     (λ h. row_within n (get_or rows t []) (all t [] h) i)
     (λ h. let none : cell rows t i ≡ 0 = ap (λ row. get_or row i 0) (get_or_past rows t [] h) in omega (arith, none))

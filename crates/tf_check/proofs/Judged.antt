@@ -36,11 +36,12 @@ pub draws_fitting : (k : SchedulingTask) (a : AnswerData) (qs : List Piece) → 
 draws_fitting k a qs h =
     let back = IsPermutation-sym a.pieces qs h.kept in
     let once : NoneTwice a.pieces = λ n t. omega (arith, claims_permutation machine_of a.pieces qs n t h.kept, h.schedule.none_twice n t) in
+    let numbered : All (λ p. 0 < p.job) a.pieces = All-permutation (λ p. 0 < p.job) qs a.pieces back h.draws.numbered in
     let on : All (IsOnMachine k.machines) a.pieces = All-permutation (IsOnMachine k.machines) qs a.pieces back h.draws.on_machines in
     let same : drawing k.machines qs ≡ drawing k.machines a.pieces = sym (drawing_permutation k.machines qs a.pieces h.schedule.none_twice back) in
     record {
       pieces = All-permutation IsSound qs a.pieces back h.schedule.sound;
-      draws = rw same (draws_drawing k.machines a.pieces once on);
+      draws = rw same (draws_drawing k.machines a.pieces once numbered on);
       fits = h.fits;
     }
 
@@ -77,17 +78,17 @@ fault_excludes ps (OutOfRange n) sound once h = none_here (λ p. ¬ (IsInRange p
 fault_excludes ps (EmptyPiece n) sound once h = none_here (λ p. IsInRange p × ¬ (IsNotEmpty p)) IsSound (slice_get ps (n - 1)) (λ p e. element IsSound ps (n - 1) p sound e) h.here (λ p good bad. bad.1 good.1)
 fault_excludes ps (MachineTwice i t) sound once h = omega (arith, h.2.here, once i (as_time t))
 
--- an answer is not both accepted and rejected, if its pieces name jobs from 1
-pub reason_excludes : (k : SchedulingTask) (a : AnswerData) (reason : Reason) → All (λ p. 0 < p.job) a.pieces → HasReason k a reason → IsAccepted k a → ⊥
-reason_excludes k a (Pieces fault) numbered h accepted = fault_excludes a.pieces fault accepted.pieces accepted.draws.none_twice h
-reason_excludes k a (Misfit misfit) numbered h accepted =
+-- an answer is not both accepted and rejected
+pub reason_excludes : (k : SchedulingTask) (a : AnswerData) (reason : Reason) → HasReason k a reason → IsAccepted k a → ⊥
+reason_excludes k a (Pieces fault) h accepted = fault_excludes a.pieces fault accepted.pieces accepted.draws.none_twice h
+reason_excludes k a (Misfit misfit) h accepted =
     let qs = h.0 in
     let same : drawing k.machines qs ≡ drawing k.machines a.pieces = sym (drawing_permutation k.machines qs a.pieces h.2.none_twice (IsPermutation-sym a.pieces qs h.1)) in
     let rows : accepted.rows ≡ drawing k.machines qs = drawing_only k.machines a.pieces accepted.rows accepted.draws ∙ sym same in
     let on : All (IsOnMachine k.machines) qs = All-permutation (IsOnMachine k.machines) a.pieces qs h.1 accepted.draws.on_machines in
-    h.4 (no_misfit k qs h.2 (All-permutation (λ p. 0 < p.job) a.pieces qs h.1 numbered) on (subst (Fits k) rows accepted.fits) misfit h.3)
-reason_excludes k a WrongValue numbered h accepted = h.2 (cost_is k a h.0 h.1 accepted)
-reason_excludes k a (Bound fault) numbered h accepted = cc (h.1, accepted.bounded)
-reason_excludes k a BoundBelowValue numbered h accepted =
+    h.4 (no_misfit k qs h.2 (All-permutation (λ p. 0 < p.job) a.pieces qs h.1 accepted.draws.numbered) on (subst (Fits k) rows accepted.fits) misfit h.3)
+reason_excludes k a WrongValue h accepted = h.2 (cost_is k a h.0 h.1 accepted)
+reason_excludes k a (Bound fault) h accepted = cc (h.1, accepted.bounded)
+reason_excludes k a BoundBelowValue h accepted =
     let same : h.1 ≡ accepted.bound = ap bound_in (sym h.2 ∙ accepted.bounded) in
     omega (arith, ints, same, h.3, accepted.enough)

@@ -1,4 +1,12 @@
 pub mod Best
 pub mod Costs
+pub mod Followed
+pub mod JobLists
+pub mod NoFault
 pub mod Judged
+pub mod RatioOrder
+pub mod RankedTimes
 pub mod Rows
+pub mod LaidAccepted
+pub mod Given
+pub mod Sides

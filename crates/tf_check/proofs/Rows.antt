@@ -4,7 +4,7 @@ use Rattle.std.proofs.lemmas.Bool.{false≢true, true≢false}
 use Rattle.std.proofs.lemmas.Int.{ints}
 use Rattle.std.proofs.lemmas.List.Elements.{All-cons, All-nil}
 use Rattle.tf_model.specs.declared.class.Class.{Class}
-use Rattle.tf_model.specs.declared.class.Class.TheVariants.{WeightedSum, PrecHmax, Lmax, ReleaseLmax, FlowTwo, ParallelPrmp, ParallelSum}
+use Rattle.tf_model.specs.declared.class.Class.TheVariants.{WeightedSum, PrecHmax, Lmax, ReleaseLmax, FlowTwo, OpenTwo, ParallelPrmp, ParallelSum}
 use Rattle.tf_model.specs.Steps.{Steps}
 use Rattle.tf_model.specs.Timetable.{Row, Timetable, cells_of, all_units}
 use Rattle.tf_model.specs.SchedulingTask.{SchedulingTask, JobData, IsJob, job_data, time_of, all_jobs}
@@ -14,7 +14,7 @@ use Rattle.tf_model.specs.Cost.{price, IsBest}
 use Rattle.tf_model.specs.Bounds.{pairs_value, ranks_value, split_value}
 use Rattle.tf_model.specs.declared.limit.TheConstants.{LIMIT}
 use Rattle.tf_model.proofs.Loads.{load-le-cost}
-use Rattle.tf_check.specs.Claim.{ByLoad, ByOneJob, ByRanks}
+use Rattle.tf_check.specs.Claim.{BySplit, ByLoad, ByMachine, ByOneJob, ByRanks}
 use Rattle.tf_check.specs.Bound.{bound_by, list_fault, empty_fault, free_jobs, no_free_fault, least, least_number, greatest, ranks_fault, machine_fault, side_fault, delta_fault}
 use Rattle.tf_check.specs.declared.fault.BoundFault.TheVariants.{OtherKind, BadMachine, BadJob, Repeated, EmptySet, Condition, BadDelta}
 
@@ -119,6 +119,24 @@ short_delta : (side_fault short (1 ∷ []) (pos 100) true ≡ None) × (delta_fa
 unfolding short
 short_delta = (refl, refl)
 
+turned : SchedulingTask
+turned = task FlowTwo 2 (two_times 2 1 ∷ two_times 1 2 ∷ [])
+
+turned_split : bound_by (BySplit [] (pos 1) true) turned ≡ Ok (pos 4)
+unfolding turned
+turned_split = refl
+
+turned_faults : (bound_by (BySplit [] (negsuc 0) true) turned ≡ Err BadDelta) × (bound_by (BySplit (1 ∷ []) (pos 0) true) turned ≡ Err (Condition 1))
+unfolding turned
+turned_faults = (refl, refl)
+
+crossed : SchedulingTask
+crossed = task OpenTwo 2 (two_times 4 1 ∷ two_times 1 4 ∷ two_times 2 2 ∷ [])
+
+open_machine : (bound_by (ByMachine 1) crossed ≡ Ok (pos 7)) × (bound_by (ByMachine 3) crossed ≡ Err (BadMachine 3)) × (bound_by (ByOneJob 4) crossed ≡ Err (BadJob 4))
+unfolding crossed
+open_machine = (refl, refl, refl)
+
 dealt : SchedulingTask
 dealt = task ParallelSum 2 (timed 1 ∷ timed 2 ∷ timed 3 ∷ timed 4 ∷ timed 5 ∷ [])
 
@@ -165,13 +183,13 @@ fours_fits : FitsBroken fours fours_rows
 fours_fits = record {
   width = all_six (λ row. length row ≡ 2) refl refl refl;
   jobs_only = all_six (λ row. All (λ j. j ≤ 3) row) (cells_in 3 1 2 (omega arith) (omega arith)) (cells_in 3 1 3 (omega arith) (omega arith)) (cells_in 3 2 3 (omega arith) (omega arith));
-  single_place = each_four (λ j. All (λ row. cells_of j row ≤ 1) fours_rows)
+  single_place = λ j low high. each_four (λ j. All (λ row. cells_of j row ≤ 1) fours_rows)
       (all_six (λ row. cells_of 1 row ≤ 1) (omega arith) (omega arith) (omega arith))
       (all_six (λ row. cells_of 2 row ≤ 1) (omega arith) (omega arith) (omega arith))
-      (all_six (λ row. cells_of 3 row ≤ 1) (omega arith) (omega arith) (omega arith));
-  amount = λ _. each_four (λ j. all_units fours_rows j ≡ time_of fours j) refl refl refl;
-  amount_in_shop = λ e. absurd (false≢true e);
-  released = λ j t i h e. each_four (λ j. (job_data fours j).release ≤ t) (omega arith) (omega arith) (omega arith) j h;
+      (all_six (λ row. cells_of 3 row ≤ 1) (omega arith) (omega arith) (omega arith))
+      j (low, high);
+  amount = λ j low high. record { in_all = λ _. each_four (λ j. all_units fours_rows j ≡ time_of fours j) refl refl refl j (low, high); on_each = λ e. absurd (false≢true e) };
+  released = λ j low high t i e. each_four (λ j. (job_data fours j).release ≤ t) (omega arith) (omega arith) (omega arith) j (low, high);
   in_order = λ i d h. absurd (omega arith);
   in_flow = λ e. absurd (false≢true e);
 }

@@ -3,6 +3,7 @@ use Rattle.std.specs.Prelude.{◌≡◌, ◌⊎◌, ℕ, ◌+◌, ℤ, pos, List
 use Rattle.std.specs.List.{fold, sum_by, filter, list_any, list_all, find}
 use Rattle.std.specs.Int.{int_min, int_max}
 use Rattle.std.specs.Option.{option_map}
+use Rattle.tf_model.specs.Outcome.{unless}
 use Rattle.tf_model.specs.SchedulingTask.{SchedulingTask, all_jobs, job_data, time_of, time_on}
 use Rattle.tf_model.specs.Cost.{price}
 use Rattle.tf_model.specs.Bounds.{load_value, pairs_value, ranks_value, split_value, stands_in}
@@ -14,11 +15,6 @@ use Rattle.tf_check.specs.declared.fault.BoundFault.TheVariants.{OtherKind, BadM
 -- what `bound` answers: the bound or fault r, or want of memory
 abbrev pub IsBoundOrNoMemory : Result ℤ BoundFault → Result ℤ BoundFault → Type 0
 IsBoundOrNoMemory result r = (result ≡ r) ⊎ (result ≡ Err OutOfMemory)
-
--- the fault if there is one, else what follows
-abbrev pub unless : Option BoundFault → Result ℤ BoundFault → Result ℤ BoundFault
-unless (Some fault) r = Err fault
-unless None r = r
 
 -- ---- the faults
 
@@ -118,12 +114,17 @@ greatest f [] = pos 0
 greatest f (j ∷ jobs) = fold int_max (f j) (map f (j ∷ jobs))
 
 -- the least release date and all the work, less the greatest due date
+abbrev pub window_span : SchedulingTask → List ℕ → ℤ
+window_span k jobs =
+    pos (least_number (λ j. (job_data k j).release) jobs + sum_by (time_of k) jobs)
+    -ℤ greatest (λ j. (job_data k j).due) jobs
+
 abbrev pub window_bound : SchedulingTask → List ℕ → Result ℤ BoundFault
 window_bound k jobs =
     unless (other_kind (takes_window k.class))
     (unless (list_fault k [] jobs)
     (unless (empty_fault jobs)
-    (Ok (pos (least_number (λ j. (job_data k j).release) jobs + sum_by (time_of k) jobs) -ℤ greatest (λ j. (job_data k j).due) jobs))))
+    (Ok (window_span k jobs))))
 
 -- ---- jobs by rank
 

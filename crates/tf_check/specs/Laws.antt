@@ -7,13 +7,14 @@ use Rattle.std.proofs.lemmas.Int.{fold-int_min_bounds, fold-int_max_bounds}
 use Rattle.std.proofs.lemmas.List.Sums.{sum_by-cons, list_all-from_AllPass}
 use Rattle.std.proofs.lemmas.List.Elements.{All-cons, All-nil, All-head, All-tail, All-contains}
 use Rattle.tf_model.specs.declared.class.Class.{Class}
-use Rattle.tf_model.specs.declared.class.Class.TheVariants.{WeightedSum, PlainSum, Hmax, PrecHmax, Lmax, PrecLmax, ReleaseLmax, FlowTwo, OpenTwo, ParallelPrmp, ParallelSum}
-use Rattle.tf_model.specs.SchedulingTask.{SchedulingTask, all_jobs, IsJob, job_data, time_of, time_on, is_shop, is_single, is_flow, is_weighted, may_break}
+use Rattle.tf_model.proofs.Classes.{spanning, total, late, parallel_is_no_shop, parallel_unweighted}
+use Rattle.tf_model.specs.SchedulingTask.{SchedulingTask, all_jobs, IsJob, job_data, time_of, time_on}
+use Rattle.tf_model.specs.ClassTable.{is_shop, is_single, is_parallel, is_flow, is_released, is_weighted, is_span, is_due, is_sum, is_total, may_break}
 use Rattle.tf_model.specs.Timetable.{Timetable}
 use Rattle.tf_model.specs.Sound.{IsSound}
 use Rattle.tf_model.specs.Feasible.{Fits, FitsBroken}
 use Rattle.tf_model.specs.Bounds.{load_value, pairs_value, ranks_value, split_value, stands_in}
-use Rattle.tf_model.specs.Cost.{cost, cost_by, greatest_price, objective_of, price, Objective, Makespan, Lateness, Dearest, Total}
+use Rattle.tf_model.specs.Cost.{cost, cost_by, greatest_price, objective_of, price, Objective, Makespan, Lateness, Total}
 use Rattle.tf_model.proofs.Loads.{load-le-cost, one_job-le-cost, machine-le-cost}
 use Rattle.tf_model.proofs.Pairs.{pairs-le-cost}
 use Rattle.tf_model.proofs.LastOf.{HasNoSuccessorIn, last_of-le-cost}
@@ -26,7 +27,8 @@ use Rattle.tf_check.specs.Kinds.{takes_load, takes_one_job, takes_pairs, takes_l
 use Rattle.tf_check.specs.declared.fault.BoundFault.{BoundFault}
 use Rattle.tf_check.specs.declared.fault.BoundFault.TheVariants.{BadMachine, BadJob, Repeated, Condition, BadDelta}
 use Rattle.tf_check.specs.Claim.{Claim, ByPairs, ByLastOf, ByWindow, BySplit, ByLoad, ByMachine, ByOneJob, ByRanks}
-use Rattle.tf_check.specs.Bound.{bound_by, unless, other_kind, is_job, job_fault, list_fault, empty_fault, is_free, free_jobs, no_free_fault, least, load_bound, one_job_bound, pairs_bound, last_of_bound, machine_fault, machine_bound, window_bound, least_number, greatest, longer_fault, ranks_fault, ranks_bound, keeps_side, side_fault, reaches_delta, delta_fault, split_bound}
+use Rattle.tf_model.specs.Outcome.{unless}
+use Rattle.tf_check.specs.Bound.{bound_by, other_kind, is_job, job_fault, list_fault, empty_fault, is_free, free_jobs, no_free_fault, least, load_bound, one_job_bound, pairs_bound, last_of_bound, machine_fault, machine_bound, window_bound, least_number, greatest, longer_fault, ranks_fault, ranks_bound, keeps_side, side_fault, reaches_delta, delta_fault, split_bound}
 
 -- what a bound that is given says of the faults before it
 pub unless_ok : (o : Option BoundFault) (r : Result ℤ BoundFault) (b : ℤ) → unless o r ≡ Ok b → (o ≡ None) × (r ≡ Ok b)
@@ -164,17 +166,9 @@ find_says test (j ∷ jobs) e = by_test (test j) refl e (find_says test jobs)
 -- ---- the laws
 
 load_class : (c : Class) → takes_load c ≡ true → (objective_of c ≡ Makespan) × (is_shop c ≡ false)
-load_class WeightedSum e = absurd (false≢true e)
-load_class PlainSum e = absurd (false≢true e)
-load_class Hmax e = absurd (false≢true e)
-load_class PrecHmax e = absurd (false≢true e)
-load_class Lmax e = absurd (false≢true e)
-load_class PrecLmax e = absurd (false≢true e)
-load_class ReleaseLmax e = absurd (false≢true e)
-load_class FlowTwo e = absurd (false≢true e)
-load_class OpenTwo e = absurd (false≢true e)
-load_class ParallelPrmp e = (refl, refl)
-load_class ParallelSum e = absurd (false≢true e)
+load_class c e =
+    let facts = and_parts (is_span c) (is_parallel c) e in
+    (spanning c facts.0, parallel_is_no_shop c facts.1)
 
 pub load_law : (k : SchedulingTask) (rows : Timetable) (b : ℤ) → IsSound k → load_bound k ≡ Ok b → FitsBroken k rows → b ≤ℤ cost k rows
 load_law k rows b sound is fits =
@@ -183,17 +177,7 @@ load_law k rows b sound is fits =
     subst (λ z. z ≤ℤ cost k rows) (ap bound_in parts.1) (load-le-cost k rows sound fits class.0 class.1)
 
 one_job_class : (c : Class) → takes_one_job c ≡ true → objective_of c ≡ Makespan
-one_job_class WeightedSum e = absurd (false≢true e)
-one_job_class PlainSum e = absurd (false≢true e)
-one_job_class Hmax e = absurd (false≢true e)
-one_job_class PrecHmax e = absurd (false≢true e)
-one_job_class Lmax e = absurd (false≢true e)
-one_job_class PrecLmax e = absurd (false≢true e)
-one_job_class ReleaseLmax e = absurd (false≢true e)
-one_job_class FlowTwo e = refl
-one_job_class OpenTwo e = refl
-one_job_class ParallelPrmp e = refl
-one_job_class ParallelSum e = absurd (false≢true e)
+one_job_class c e = spanning c (and_parts (is_span c) (not (is_flow c)) e).0
 
 pub one_job_law : (k : SchedulingTask) (j : ℕ) (rows : Timetable) (b : ℤ) → IsSound k → one_job_bound k j ≡ Ok b → FitsBroken k rows → b ≤ℤ cost k rows
 one_job_law k j rows b sound is fits =
@@ -204,17 +188,9 @@ one_job_law k j rows b sound is fits =
     subst (λ z. z ≤ℤ cost k rows) (ap bound_in at_job.1) (one_job-le-cost k rows fits class j (job_fault_says k j at_job.0))
 
 pairs_class : (c : Class) → takes_pairs c ≡ true → (objective_of c ≡ Total) × (is_single c ≡ true)
-pairs_class WeightedSum e = (refl, refl)
-pairs_class PlainSum e = (refl, refl)
-pairs_class Hmax e = absurd (false≢true e)
-pairs_class PrecHmax e = absurd (false≢true e)
-pairs_class Lmax e = absurd (false≢true e)
-pairs_class PrecLmax e = absurd (false≢true e)
-pairs_class ReleaseLmax e = absurd (false≢true e)
-pairs_class FlowTwo e = absurd (false≢true e)
-pairs_class OpenTwo e = absurd (false≢true e)
-pairs_class ParallelPrmp e = absurd (false≢true e)
-pairs_class ParallelSum e = absurd (false≢true e)
+pairs_class c e =
+    let facts = and_parts (is_sum c) (is_single c) e in
+    (total c facts.0, facts.1)
 
 pub pairs_law : (k : SchedulingTask) (rows : Timetable) (b : ℤ) → IsSound k → pairs_bound k ≡ Ok b → FitsBroken k rows → b ≤ℤ cost k rows
 pairs_law k rows b sound is fits =
@@ -223,17 +199,9 @@ pairs_law k rows b sound is fits =
     subst (λ z. z ≤ℤ cost k rows) (ap bound_in parts.1) (pairs-le-cost k rows sound fits class.1 class.0)
 
 machine_class : (c : Class) → takes_machine c ≡ true → (objective_of c ≡ Makespan) × (is_shop c ≡ true)
-machine_class WeightedSum e = absurd (false≢true e)
-machine_class PlainSum e = absurd (false≢true e)
-machine_class Hmax e = absurd (false≢true e)
-machine_class PrecHmax e = absurd (false≢true e)
-machine_class Lmax e = absurd (false≢true e)
-machine_class PrecLmax e = absurd (false≢true e)
-machine_class ReleaseLmax e = absurd (false≢true e)
-machine_class FlowTwo e = (refl, refl)
-machine_class OpenTwo e = (refl, refl)
-machine_class ParallelPrmp e = absurd (false≢true e)
-machine_class ParallelSum e = absurd (false≢true e)
+machine_class c e =
+    let facts = and_parts (is_span c) (is_shop c && not (is_flow c)) e in
+    (spanning c facts.0, (and_parts (is_shop c) (not (is_flow c)) facts.1).0)
 
 machine_fault_says : (machine : ℕ) → machine_fault machine ≡ None → machine - 1 < 2
 machine_fault_says machine e = by_test (nat_lt 0 machine && nat_le machine 2) refl e
@@ -251,17 +219,13 @@ machine_law k machine rows b sound is fits =
     subst (λ z. z ≤ℤ cost k rows) (ap bound_in at_machine.1) (machine-le-cost k rows sound fits class.0 class.1 (machine - 1) (machine_fault_says machine at_machine.0))
 
 last_of_class : (c : Class) → takes_last_of c ≡ true → ((o : Objective) × (objective_of c ≡ o) × ((k : SchedulingTask) (rows : Timetable) → cost_by o k rows ≡ greatest_price k rows)) × (is_single c ≡ true)
-last_of_class WeightedSum e = absurd (false≢true e)
-last_of_class PlainSum e = absurd (false≢true e)
-last_of_class Hmax e = ((Dearest, refl, λ k rows. refl), refl)
-last_of_class PrecHmax e = ((Dearest, refl, λ k rows. refl), refl)
-last_of_class Lmax e = ((Lateness, refl, λ k rows. refl), refl)
-last_of_class PrecLmax e = ((Lateness, refl, λ k rows. refl), refl)
-last_of_class ReleaseLmax e = absurd (false≢true e)
-last_of_class FlowTwo e = absurd (false≢true e)
-last_of_class OpenTwo e = absurd (false≢true e)
-last_of_class ParallelPrmp e = absurd (false≢true e)
-last_of_class ParallelSum e = absurd (false≢true e)
+last_of_class c e =
+    let facts = and_parts (not (is_sum c)) (is_single c && not (is_released c)) e in
+    ((objective_of c, refl, by (objective_of c) (not-true (is_sum c) facts.0)), (and_parts (is_single c) (not (is_released c)) facts.1).0)
+  where
+    by : (o : Objective) → is_total o ≡ false → (k : SchedulingTask) (rows : Timetable) → cost_by o k rows ≡ greatest_price k rows
+    by Total h k rows = absurd (false≢true (sym h))
+    by _ h k rows = refl
 
 is_free_says : (k : SchedulingTask) (jobs : List ℕ) (j : ℕ) → HasNoSuccessorIn k jobs j → is_free k jobs j ≡ true
 is_free_says k jobs j none =
@@ -290,17 +254,9 @@ last_of_law k jobs rows b sound is fits =
     (λ j in' none. All-contains (λ i. is_free k jobs i ≡ true → least h (free_jobs k jobs) ≤ℤ h i) jobs j all in' (is_free_says k jobs j none)))
 
 window_class : (c : Class) → takes_window c ≡ true → (objective_of c ≡ Lateness) × (is_single c ≡ true)
-window_class WeightedSum e = absurd (false≢true e)
-window_class PlainSum e = absurd (false≢true e)
-window_class Hmax e = absurd (false≢true e)
-window_class PrecHmax e = absurd (false≢true e)
-window_class Lmax e = (refl, refl)
-window_class PrecLmax e = (refl, refl)
-window_class ReleaseLmax e = (refl, refl)
-window_class FlowTwo e = absurd (false≢true e)
-window_class OpenTwo e = absurd (false≢true e)
-window_class ParallelPrmp e = absurd (false≢true e)
-window_class ParallelSum e = absurd (false≢true e)
+window_class c e =
+    let facts = and_parts (is_due c) (is_single c && is_released c) e in
+    (late c facts.0, (and_parts (is_single c) (is_released c) facts.1).0)
 
 pub window_law : (k : SchedulingTask) (jobs : List ℕ) (rows : Timetable) (b : ℤ) → IsSound k → window_bound k jobs ≡ Ok b → FitsBroken k rows → b ≤ℤ cost k rows
 window_law k jobs rows b sound is fits =
@@ -323,17 +279,10 @@ record OfRanks (c : Class) : Type 0 where
   whole : may_break c ≡ false
 
 ranks_class : (c : Class) → takes_ranks c ≡ true → OfRanks c
-ranks_class WeightedSum e = absurd (false≢true e)
-ranks_class PlainSum e = absurd (false≢true e)
-ranks_class Hmax e = absurd (false≢true e)
-ranks_class PrecHmax e = absurd (false≢true e)
-ranks_class Lmax e = absurd (false≢true e)
-ranks_class PrecLmax e = absurd (false≢true e)
-ranks_class ReleaseLmax e = absurd (false≢true e)
-ranks_class FlowTwo e = absurd (false≢true e)
-ranks_class OpenTwo e = absurd (false≢true e)
-ranks_class ParallelPrmp e = absurd (false≢true e)
-ranks_class ParallelSum e = record { total = refl; one_time = refl; unweighted = refl; whole = refl }
+ranks_class c e =
+    let facts = and_parts (is_sum c) (is_parallel c && not (may_break c)) e in
+    let dealt = and_parts (is_parallel c) (not (may_break c)) facts.1 in
+    record { total = total c facts.0; one_time = parallel_is_no_shop c dealt.0; unweighted = parallel_unweighted c dealt.0; whole = not-true (may_break c) dealt.1 }
 
 longer_fault_says : (k : SchedulingTask) (t : ℕ) (jobs : List ℕ) → longer_fault k t jobs ≡ None → Falling (time_of k) t jobs
 longer_fault_says k t [] e = tt
@@ -361,17 +310,9 @@ ranks_law k jobs rows b sound is fits =
     (ranks-le-cost k rows sound fits.broken (fits.unbroken class.whole) class.one_time class.total falling.0 jobs (λ c. (list.1 c).1) list.0 falling.1 class.unweighted)
 
 split_class : (c : Class) → takes_split c ≡ true → (objective_of c ≡ Makespan) × (is_flow c ≡ true)
-split_class WeightedSum e = absurd (false≢true e)
-split_class PlainSum e = absurd (false≢true e)
-split_class Hmax e = absurd (false≢true e)
-split_class PrecHmax e = absurd (false≢true e)
-split_class Lmax e = absurd (false≢true e)
-split_class PrecLmax e = absurd (false≢true e)
-split_class ReleaseLmax e = absurd (false≢true e)
-split_class FlowTwo e = (refl, refl)
-split_class OpenTwo e = absurd (false≢true e)
-split_class ParallelPrmp e = absurd (false≢true e)
-split_class ParallelSum e = absurd (false≢true e)
+split_class c e =
+    let facts = and_parts (is_span c) (is_flow c) e in
+    (spanning c facts.0, facts.1)
 
 -- each job keeps its condition
 side_fault_says : (k : SchedulingTask) (side : List ℕ) (delta : ℤ) (first : Bool) → side_fault k side delta first ≡ None → (j : ℕ) → IsJob k j → keeps_side k side delta first j ≡ true
@@ -379,7 +320,7 @@ side_fault_says k side delta first e j job =
     not-false (keeps_side k side delta first j)
     (All-contains (λ i. not (keeps_side k side delta first i) ≡ false) (all_jobs k) j (find_says (λ i. not (keeps_side k side delta first i)) (all_jobs k) e) (Contains-all_jobs k j job))
 
-delta_fault_says : (k : SchedulingTask) (side : List ℕ) (delta : ℤ) (first : Bool) → delta_fault k side delta first ≡ None → (int_le (pos 0) delta ≡ true) × ((x : ℕ) × IsJob k x × (reaches_delta k side delta first x ≡ true))
+pub delta_fault_says : (k : SchedulingTask) (side : List ℕ) (delta : ℤ) (first : Bool) → delta_fault k side delta first ≡ None → (int_le (pos 0) delta ≡ true) × ((x : ℕ) × IsJob k x × (reaches_delta k side delta first x ≡ true))
 delta_fault_says k side delta first e = by_test (int_le (pos 0) delta && list_any (reaches_delta k side delta first) (all_jobs k)) refl e
   where
     by_test : (t : Bool) → (int_le (pos 0) delta && list_any (reaches_delta k side delta first) (all_jobs k)) ≡ t → cond t None (Some BadDelta) ≡ None → (int_le (pos 0) delta ≡ true) × ((x : ℕ) × IsJob k x × (reaches_delta k side delta first x ≡ true))

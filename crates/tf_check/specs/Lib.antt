@@ -1,7 +1,10 @@
 pub mod Claim
 pub mod Certificate
+pub mod Ratio
 pub mod Kinds
 pub mod Bound
+pub mod Free
 pub mod Laws
 pub mod Accepted
 pub mod Verdict
+pub mod Sides

@@ -22,7 +22,7 @@ pub fn check<A: Allocator + Copy, B: Allocator, C: Allocator>(
     answer: &Answer<C>,
 ) -> Result<Verdict, OutOfMemory>
     ensures verdict { IfOk result (HasVerdict task.now answer.now) }
-    ensures accepted { All (λ p. 0 < p.job) answer.now.pieces → IsAccepted task.now answer.now → IfOk result (λ verdict. verdict ≡ Verdict.Accepted) }
+    ensures accepted { IsAccepted task.now answer.now → IfOk result (λ verdict. verdict ≡ Verdict.Accepted) }
     ensures best { IfOk result (λ verdict. verdict ≡ Verdict.Accepted → IsBestAnswer task.now answer.now) }
 {
     // Each reader of a task says that it is sound, as the bounds ask.

@@ -1,8 +1,8 @@
 //! The bound by the load of all machines together.
 use crate::evidence::Evidence;
 use crate::fault::BoundFault;
+use crate::kinds::takes_load;
 use std::alloc::Allocator;
-use tf_model::class::Class;
 use tf_model::task::Task;
 
 /// The time of all jobs, shared out among the machines (McNaughton 1959).
@@ -25,7 +25,7 @@ impl Evidence for Load {
     ) -> Result<i128, BoundFault>
         ensures { result ≡ load_bound task.now }
     {
-        if !matches!(task.class(), Class::ParallelPrmp) {
+        if !takes_load(task.class()) {
             return Err(BoundFault::OtherKind);
         }
         Ok(i128::from(task.load()))

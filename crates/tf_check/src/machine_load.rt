@@ -1,6 +1,7 @@
 //! The bound by the load of one machine.
 use crate::evidence::Evidence;
 use crate::fault::BoundFault;
+use crate::kinds::takes_machine;
 use std::alloc::Allocator;
 use tf_model::ids::MachineId;
 use tf_model::task::Task;
@@ -20,7 +21,6 @@ impl Evidence for MachineLoad {
 
     ghost law = { λ c k rows b sound is fits. machine_law k c.machine rows b sound is fits.broken };
 
-    /// No class has this kind yet: always [`BoundFault::OtherKind`].
     fn bound<B: Allocator + Copy, C: Allocator>(
         &self,
         _alloc: B,
@@ -28,6 +28,12 @@ impl Evidence for MachineLoad {
     ) -> Result<i128, BoundFault>
         ensures { result ≡ machine_bound task.now self.now.machine }
     {
-        Err(BoundFault::OtherKind)
+        if !takes_machine(task.class()) {
+            return Err(BoundFault::OtherKind);
+        }
+        if self.machine.get() > 2 {
+            return Err(BoundFault::BadMachine(self.machine));
+        }
+        Ok(i128::from(task.work_on(self.machine)))
     }
 }

@@ -1,8 +1,8 @@
 //! The bound by one job.
 use crate::evidence::Evidence;
 use crate::fault::BoundFault;
+use crate::kinds::takes_one_job;
 use std::alloc::Allocator;
-use tf_model::class::Class;
 use tf_model::ids::JobId;
 use tf_model::task::Task;
 
@@ -28,7 +28,7 @@ impl Evidence for OneJob {
     ) -> Result<i128, BoundFault>
         ensures { result ≡ one_job_bound task.now self.now.job }
     {
-        if !matches!(task.class(), Class::ParallelPrmp) {
+        if !takes_one_job(task.class()) {
             return Err(BoundFault::OtherKind);
         }
         if self.job.get() as usize > task.len() {

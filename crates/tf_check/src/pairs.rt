@@ -1,6 +1,8 @@
 //! The bound by pairs.
 use crate::evidence::Evidence;
 use crate::fault::BoundFault;
+use crate::kinds::takes_pairs;
+use crate::ratio::{jobs_by_ratio, weighted_completions};
 use std::alloc::Allocator;
 use tf_model::task::Task;
 
@@ -17,14 +19,18 @@ impl Evidence for Pairs {
 
     ghost law = { λ _ k rows b sound is fits. pairs_law k rows b sound is fits.broken };
 
-    /// No class has this kind yet: always [`BoundFault::OtherKind`].
+    /// It takes memory for the jobs in their order by ratio.
     fn bound<B: Allocator + Copy, C: Allocator>(
         &self,
-        _alloc: B,
+        alloc: B,
         task: &Task<C>,
-    ) -> Result<i128, BoundFault>
-        ensures { result ≡ pairs_bound task.now }
-    {
-        Err(BoundFault::OtherKind)
+    ) -> Result<i128, BoundFault> {
+        if !takes_pairs(task.class()) {
+            return Err(BoundFault::OtherKind);
+        }
+        let Ok(jobs) = jobs_by_ratio(alloc, task) else {
+            return Err(BoundFault::OutOfMemory);
+        };
+        Ok(i128::from(weighted_completions(&jobs)))
     }
 }

@@ -1,2 +1,5 @@
 pub mod Unread
 pub mod Unchecked
+pub mod Undrawn
+pub mod Readable
+pub mod AcceptedAgain

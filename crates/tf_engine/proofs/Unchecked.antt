@@ -1,90 +1,85 @@
 -- Checks that gave no verdict.
-use Rattle.std.proofs.Common.{◌≡◌, ℕ, ◌<◌, List, Option, Ok, Err, IfSome, IsErrAnd, Result, length, refl, sym, ap, ◌∙◌, subst, inl, ⊎_elim}
+use Rattle.std.proofs.Common.{◌≡◌, ℕ, ◌<◌, List, Option, Bool, true, Ok, Err, IfSome, length, refl, sym, ap, ◌∙◌, subst, inl, inr}
 use Rattle.std.proofs.lemmas.Bool.{lt-ltb}
 use Rattle.std.proofs.KnownBytes.{Keeps-refl}
-use Rattle.tf_model.specs.declared.problem.Problem.{Problem}
-use Rattle.tf_model.specs.declared.prepare.Refusal.TheVariants.{NoSolver}
+use Rattle.tf_model.specs.declared.limit.TheConstants.{MOST_BYTES}
 use Rattle.tf_model.specs.SchedulingTask.{SchedulingTask}
-use Rattle.tf_model.specs.Prepare.{prepared}
-use Rattle.tf_text.specs.Input.{IsTextOf}
-use Rattle.tf_text.specs.AnswerReading.{answer_in}
-use Rattle.tf_text.specs.declared.answer.fault.AnswerFault.TheVariants.{TooLong}
+use Rattle.tf_model.specs.declared.problem.Problem.{Problem}
+use Rattle.tf_text.specs.Input.{IsTextOf, is_device}
 use Rattle.tf_text.specs.declared.input.InputFault.{InputFault}
 use Rattle.tf_text.specs.declared.input.InputFault.TheVariants as inputs
+use Rattle.tf_text.specs.AnswerReading.{answer_in}
+use Rattle.tf_text.specs.declared.answer.fault.AnswerFault.TheVariants.{TooLong}
 use Rattle.tf_engine.specs.declared.fault.RunFault.{RunFault}
-use Rattle.tf_engine.specs.declared.fault.RunFault.TheVariants.{Notation, Text, Task, Answer, Gap, Device, OutOfMemory}
-use Rattle.tf_engine.specs.declared.run_check.Checked.{Checked}
+use Rattle.tf_engine.specs.declared.fault.RunFault.TheVariants.{Answer}
 use Rattle.tf_engine.specs.RequestData.{RequestData}
-use Rattle.tf_engine.specs.Faults.{of_input, of_read, of_refusal}
-use Rattle.tf_engine.specs.Refusal.{◌>>=◌, as_run, problem_for, task_in, task_for}
-use Rattle.tf_engine.specs.Parts.{GivesTask}
-use Rattle.tf_engine.specs.Checking.{CheckOutcome, IsCheckOf, GivesSaid}
-use Rattle.tf_engine.proofs.Unread.{text_for, long_text_for, early_fault, refused_task, too_long}
+use Rattle.tf_engine.specs.Faults.{Refused, ByNotation, ByText, ByTask, ByCycle, ByAnswer, ByPieces, Stop, Refuses, Fails, Wants, stop_of, of_input, is_failure}
+use Rattle.tf_engine.specs.Refusal.{problem_for, task_in, task_for}
+use Rattle.tf_engine.specs.Runs.{Leaves}
+use Rattle.tf_engine.specs.Parts.{GivesTask, GivesSaid, StopsSaying}
+use Rattle.tf_engine.specs.Checking.{SaysVerdict, IsRefusedCheck, HasReaderFailed, IsCheckOf}
+use Rattle.tf_engine.proofs.Unread.{text_for, long_text_for, refused_task, meant_by, long_task, part_stops, reader_stops}
 
 -- an answer text that is too long is refused as such
-pub answer_too_long : (known : Option (List ℕ)) → IfSome known (λ all. 67108864 < length all) → GivesSaid known (Err (Answer TooLong))
+pub answer_too_long : (A : Type 0) (known : Option (List ℕ)) → IfSome known (λ all. MOST_BYTES < length all) → GivesSaid {A = A} known (Err (Answer TooLong))
 unfolding answer_in
-answer_too_long known h = let (text, is, more) = long_text_for known 67108864 h in (text, is, rw (lt-ltb 67108864 (length text) more) refl)
+answer_too_long A known h = let (text, is, more) = long_text_for known MOST_BYTES h in (text, is, rw (lt-ltb MOST_BYTES (length text) more) refl)
 
--- nothing was written where the problem line was refused
-pub check_unread : (request : RequestData) (known known_answer held : Option (List ℕ)) (e : RunFault) → problem_for request.problem ≡ Err e → IsCheckOf request known known_answer held held (Err e)
-check_unread request known known_answer held e h =
-    let (text, is) = text_for known in
-    let (answer, is_answer) = text_for known_answer in
-    ⊎_elim
-    (λ (fault, same). subst (λ (f : RunFault). IsCheckOf request known known_answer held held (Err f)) (sym same) (text, answer, is, is_answer, refused_task request text (Notation fault) (h ∙ ap Err same)))
-    (λ same. subst (λ (f : RunFault). IsCheckOf request known known_answer held held (Err f)) (sym same) (text, answer, is, is_answer, refused_task request text (Task NoSolver) (h ∙ ap Err same)))
-    (early_fault request.problem e h)
+-- nothing was written where the answer says no sheet
+unsaid : (request : RequestData) (text : List ℕ) (task : SchedulingTask) (known held : Option (List ℕ)) (first second writer : Bool) (s : Stop)
+    → task_for request text ≡ Ok task → second ≡ is_failure s → StopsSaying known s
+    → (answer : List ℕ) × IsTextOf known answer
+    × Leaves (SaysVerdict request text answer) (IsRefusedCheck request text answer) (HasReaderFailed request text first second) (writer ≡ true) held held s
+unsaid request text task known held first second writer (Refuses (ByAnswer fault)) meant failed (answer, is, says) =
+    (answer, is, inr (fault, refl, record { task = task; meant = meant; said = says }))
+unsaid request text task known held first second writer (Refuses (ByNotation byte)) meant failed said = absurd said
+unsaid request text task known held first second writer (Refuses (ByText fault)) meant failed said = absurd said
+unsaid request text task known held first second writer (Refuses (ByTask refusal)) meant failed said = absurd said
+unsaid request text task known held first second writer (Refuses (ByCycle jobs)) meant failed said = absurd said
+unsaid request text task known held first second writer (Refuses (ByPieces fault)) meant failed said = absurd said
+unsaid request text task known held first second writer Fails meant failed said =
+    let (answer, is) = text_for known in (answer, is, inl (inr (rw meant refl, failed), Keeps-refl held))
+unsaid request text task known held first second writer Wants meant failed said = let (answer, is) = text_for known in (answer, is, tt)
 
--- nothing was written where the instance could not be read to its end
-pub check_unended : (request : RequestData) (problem : Problem) (known known_answer held : Option (List ℕ)) (f : InputFault) → problem_for request.problem ≡ Ok problem
-    → (f ≡ inputs.TooLong → IfSome known (λ all. 67108864 < length all)) → IsCheckOf request known known_answer held held (Err (of_input f))
-check_unended request problem known known_answer held inputs.TooLong ok long =
-    let (text, is, more) = long_text_for known 67108864 (long refl) in
-    let (answer, is_answer) = text_for known_answer in
-    (text, answer, is, is_answer, ap (λ r. r >>= λ problem. task_in request problem text) ok ∙ ap (λ r. as_run of_read r >>= λ instance. as_run of_refusal (prepared instance problem request.machines)) (too_long request.form text more))
-check_unended request problem known known_answer held inputs.OutOfMemory ok long =
-    let (text, is) = text_for known in let (answer, is_answer) = text_for known_answer in (text, answer, is, is_answer, tt)
-check_unended request problem known known_answer held inputs.Device ok long =
-    let (text, is) = text_for known in let (answer, is_answer) = text_for known_answer in (text, answer, is, is_answer, inl (Keeps-refl held))
+module _ (A : Type 0) (request : RequestData) (known known_answer held : Option (List ℕ)) (first second writer : Bool) where
+  -- what is left of a run that stopped before it read the answer
+  early : (text : List ℕ) (s : Stop) → IsTextOf known text
+      → ((answer : List ℕ) → Leaves (SaysVerdict request text answer) (IsRefusedCheck request text answer) (HasReaderFailed request text first second) (writer ≡ true) held held s)
+      → (e : RunFault A) → stop_of e ≡ s → IsCheckOf request known known_answer first second writer held held (Err e)
+  early text s is stops e same =
+      let (answer, is_answer) = text_for known_answer in
+      (text, answer, is, is_answer, subst (Leaves (SaysVerdict request text answer) (IsRefusedCheck request text answer) (HasReaderFailed request text first second) (writer ≡ true) held held) (sym same) (stops answer))
 
--- nor where the instance is no task of the problem
-pub check_untasked : (request : RequestData) (problem : Problem) (text : List ℕ) (known known_answer held : Option (List ℕ)) (e : RunFault) → problem_for request.problem ≡ Ok problem
-    → IsTextOf known text → GivesTask (Err e) (task_in request problem text) → IsCheckOf request known known_answer held held (Err e)
-check_untasked request problem text known known_answer held e ok is given =
-    let (answer, is_answer) = text_for known_answer in (text, answer, is, is_answer, by_fault e answer given)
-  where
-    meant : task_for request text ≡ task_in request problem text
-    meant = ap (λ r. r >>= λ problem. task_in request problem text) ok
+  -- nothing was written where the problem line was refused
+  pub check_unread : (e : RunFault A) (refused : Refused) → stop_of e ≡ Refuses refused → problem_for request.problem ≡ Err refused
+      → IsCheckOf request known known_answer first second writer held held (Err e)
+  check_unread e refused same h =
+      let (text, is) = text_for known in
+      early text (Refuses refused) is (λ answer. inl (refused_task request text refused h)) e same
 
-    by_fault : (e : RunFault) (answer : List ℕ) → GivesTask (Err e) (task_in request problem text) → CheckOutcome request text answer held held (Err e)
-    by_fault (Notation fault) answer h = meant ∙ h
-    by_fault (Text fault) answer h = meant ∙ h
-    by_fault (Task refusal) answer h = meant ∙ h
-    by_fault (Answer fault) answer h = absurd h
-    by_fault Gap answer h = absurd h
-    by_fault Device answer h = absurd h
-    by_fault OutOfMemory answer h = tt
+  -- nor where the instance could not be read to its end
+  pub check_unended : (problem : Problem) (f : InputFault) → problem_for request.problem ≡ Ok problem
+      → (f ≡ inputs.TooLong → IfSome known (λ all. MOST_BYTES < length all)) → first ≡ is_device f
+      → IsCheckOf request known known_answer first second writer held held (Err (of_input {A = A} f))
+  check_unended problem f ok long failed =
+      let (answer, is_answer) = text_for known_answer in
+      let (text, is, left) =
+      reader_stops A (λ text. SaysVerdict request text answer) (λ text. IsRefusedCheck request text answer) (λ text. HasReaderFailed request text first second) (writer ≡ true)
+      known held f long (λ text more. inl (long_task request problem text ok more)) (λ text same. inl (failed ∙ ap is_device same)) in
+      (text, answer, is, is_answer, left)
 
--- nor where the answer says no sheet
-pub check_unsaid : (request : RequestData) (problem : Problem) (text : List ℕ) (task : SchedulingTask) (known known_answer held : Option (List ℕ)) (e : RunFault) → problem_for request.problem ≡ Ok problem
-    → IsTextOf known text → task_in request problem text ≡ Ok task → GivesSaid known_answer (Err e) → IsCheckOf request known known_answer held held (Err e)
-check_unsaid request problem text task known known_answer held e ok is given said = by_fault e said
-  where
-    meant : task_for request text ≡ Ok task
-    meant = ap (λ r. r >>= λ problem. task_in request problem text) ok ∙ given
+  -- nor where the instance is no task of the problem
+  pub check_untasked : (problem : Problem) (text : List ℕ) (e : RunFault A) → problem_for request.problem ≡ Ok problem → IsTextOf known text
+      → GivesTask (Err e) (task_in request problem text) → IsCheckOf request known known_answer first second writer held held (Err e)
+  check_untasked problem text e ok is given =
+      early text (stop_of e) is
+      (λ answer. part_stops (SaysVerdict request text answer) (λ refused. task_in request problem text ≡ Err refused) (IsRefusedCheck request text answer)
+      (HasReaderFailed request text first second) (writer ≡ true) held (λ refused same. inl (meant_by request problem text ok ∙ same)) (stop_of e) given)
+      e refl
 
-    by_fault : (e : RunFault) → GivesSaid known_answer (Err e) → IsCheckOf request known known_answer held held (Err e)
-    by_fault (Notation fault) h = absurd h
-    by_fault (Text fault) h = absurd h
-    by_fault (Task refusal) h = absurd h
-    by_fault (Answer fault) (answer, is_answer, says) = (text, answer, is, is_answer, record { task = task; meant = meant; said = says })
-    by_fault Gap h = absurd h
-    by_fault Device h = let (answer, is_answer) = text_for known_answer in (text, answer, is, is_answer, inl (Keeps-refl held))
-    by_fault OutOfMemory h = let (answer, is_answer) = text_for known_answer in (text, answer, is, is_answer, tt)
-
--- what `?` makes of a fault
-pub check_refused : (request : RequestData) (known known_answer before after : Option (List ℕ)) (f : RunFault) (r : Result Checked RunFault) → IsErrAnd r (λ e. e ≡ f)
-    → IsCheckOf request known known_answer before after (Err f) → IsCheckOf request known known_answer before after r
-check_refused request known known_answer before after f (Ok x) h run = absurd h
-check_refused request known known_answer before after f (Err e) h run = subst (λ (k : RunFault). IsCheckOf request known known_answer before after (Err k)) (sym h) run
+  -- nor where the answer says no sheet
+  pub check_unsaid : (text : List ℕ) (task : SchedulingTask) (e : RunFault A) → IsTextOf known text → task_for request text ≡ Ok task → second ≡ is_failure (stop_of e)
+      → GivesSaid known_answer (Err e) → IsCheckOf request known known_answer first second writer held held (Err e)
+  check_unsaid text task e is meant failed said =
+      let (answer, is_answer, left) = unsaid request text task known_answer held first second writer (stop_of e) meant failed said in
+      (text, answer, is, is_answer, left)

@@ -1,35 +1,38 @@
 -- Runs that gave no answer.
-use Rattle.std.proofs.Common.{◌≡◌, ℕ, zero, suc, ◌+◌, ◌<◌, ◌⊎◌, List, [], ◌∷◌, Option, None, Some, Ok, Err, IfSome, IsErrAnd, Result, length, refl, sym, ap, ◌∙◌, subst, inl, inr, ⊎_elim, arith}
+use Rattle.std.proofs.Common.{◌≡◌, ℕ, zero, suc, ◌+◌, ◌<◌, List, [], ◌∷◌, Option, None, Some, Ok, Err, IfSome, IsErrAnd, Result, length, refl, sym, ap, ◌∙◌, subst, inl, inr, Bool, true, false, arith}
 use Rattle.std.proofs.lemmas.Bool.{lt-ltb}
 use Rattle.std.proofs.KnownBytes.{Keeps-refl}
-use Rattle.tf_model.specs.declared.class.Class.{Class}
+use Rattle.tf_model.specs.declared.limit.TheConstants.{MOST_BYTES}
 use Rattle.tf_model.specs.declared.problem.Problem.{Problem}
-use Rattle.tf_model.specs.declared.prepare.Refusal.TheVariants.{NoSolver}
-use Rattle.tf_model.specs.ClassTable.{class_of}
+use Rattle.tf_model.specs.declared.prepare.Refusal.{Refusal}
+use Rattle.tf_model.specs.InstanceData.{InstanceData}
+use Rattle.tf_model.specs.SchedulingTask.{SchedulingTask}
+use Rattle.tf_model.specs.Outcome.{◌>>=◌}
+use Rattle.tf_read.specs.declared.fault.ReadFault.{ReadFault}
 use Rattle.tf_model.specs.Prepare.{prepared}
-use Rattle.tf_notation.specs.Reading.{notation}
-use Rattle.tf_notation.specs.declared.reading.NotationFault.{NotationFault}
 use Rattle.tf_read.specs.declared.fault.ReadFault.TheVariants.{TooLong}
 use Rattle.tf_read.specs.JobTable.{job_table}
 use Rattle.tf_read.specs.WeightedTardiness.{weighted_tardiness}
 use Rattle.tf_read.specs.FlowShop.{flow_shop}
 use Rattle.tf_text.specs.Counted.{AppendsPrefix}
-use Rattle.tf_text.specs.Input.{IsTextOf}
 use Rattle.tf_text.specs.AnswerText.{SheetData, answer_text}
+use Rattle.tf_text.specs.Input.{IsTextOf, is_device}
 use Rattle.tf_text.specs.declared.answer.writing.WriteFault.{WriteFault}
 use Rattle.tf_text.specs.declared.answer.writing.WriteFault.TheVariants as writes
 use Rattle.tf_text.specs.declared.input.InputFault.{InputFault}
 use Rattle.tf_text.specs.declared.input.InputFault.TheVariants as inputs
-use Rattle.tf_engine.specs.FormData.{FormData, InTable, InWt, InFlow}
 use Rattle.tf_engine.specs.declared.fault.RunFault.{RunFault}
-use Rattle.tf_engine.specs.declared.fault.RunFault.TheVariants.{Notation, Task}
+use Rattle.tf_engine.specs.FormData.{FormData, InTable, InWt, InFlow}
 use Rattle.tf_engine.specs.RequestData.{RequestData}
-use Rattle.tf_engine.specs.Faults.{of_input, of_read, of_refusal, of_write}
-use Rattle.tf_engine.specs.Refusal.{◌>>=◌, as_run, with_class, problem_for, instance_in, task_in, task_for}
-use Rattle.tf_engine.specs.Headline.{IsSolved, IsRunOf}
+use Rattle.tf_engine.specs.Faults.{Refused, ByText, ByTask, Stop, Refuses, Fails, Wants, is_of_answer, stop_of, of_input, of_write}
+use Rattle.tf_engine.specs.Refusal.{refused_by, problem_for, instance_in, task_in, task_for}
+use Rattle.tf_engine.specs.Runs.{Leaves, StopsBy}
+use Rattle.tf_engine.proofs.AcceptedAgain.{answers_of}
+pub use Rattle.tf_engine.proofs.AcceptedAgain.{meant_by}
+use Rattle.tf_engine.specs.Headline.{IsSolved, Answers, IsRefusedRun, IsRunOf}
 
 -- a list of any length
-pub list_of : (n : ℕ) → (text : List ℕ) × (length text ≡ n)
+list_of : (n : ℕ) → (text : List ℕ) × (length text ≡ n)
 list_of zero = ([], refl)
 list_of (suc n) = let (rest, e) = list_of n in (0 ∷ rest, omega (arith, e))
 
@@ -43,56 +46,93 @@ pub long_text_for : (known : Option (List ℕ)) (n : ℕ) → IfSome known (λ a
 long_text_for None n h = let (text, e) = list_of (n + 1) in (text, tt, omega (arith, e))
 long_text_for (Some all) n h = (all, refl, h)
 
--- what the problem line alone decides
-pub early_fault : (line : List ℕ) (e : RunFault) → problem_for line ≡ Err e → ((fault : NotationFault) × (e ≡ Notation fault)) ⊎ (e ≡ Task NoSolver)
-early_fault line e h = by_notation (notation line) h
-  where
-    by_class : (problem : Problem) (class : Option Class) → with_class problem class ≡ Err e → e ≡ Task NoSolver
-    by_class problem None h = cc
-    by_class problem (Some class) h = cc
-
-    by_notation : (read : Result Problem ℕ) → (as_run (λ byte. Notation (record { byte = byte })) read >>= λ problem. with_class problem (class_of problem)) ≡ Err e → ((fault : NotationFault) × (e ≡ Notation fault)) ⊎ (e ≡ Task NoSolver)
-    by_notation (Ok problem) h = inr (by_class problem (class_of problem) h)
-    by_notation (Err byte) h = inl (record { byte = byte }, cc)
-
 -- a problem that is refused is refused whatever the text
-pub refused_task : (request : RequestData) (text : List ℕ) (e : RunFault) → problem_for request.problem ≡ Err e → task_for request text ≡ Err e
-refused_task request text e h = ap (λ r. r >>= λ problem. task_in request problem text) h
-
--- nothing was written where the problem line was refused
-pub run_unread : (request : RequestData) (known held : Option (List ℕ)) (e : RunFault) → problem_for request.problem ≡ Err e → IsRunOf request known held held (Err e)
-run_unread request known held e h =
-    let (text, is) = text_for known in
-    ⊎_elim
-    (λ (fault, same). subst (λ (f : RunFault). IsRunOf request known held held (Err f)) (sym same) (text, is, refused_task request text (Notation fault) (h ∙ ap Err same)))
-    (λ same. subst (λ (f : RunFault). IsRunOf request known held held (Err f)) (sym same) (text, is, refused_task request text (Task NoSolver) (h ∙ ap Err same)))
-    (early_fault request.problem e h)
+pub refused_task : (request : RequestData) (text : List ℕ) (refused : Refused) → problem_for request.problem ≡ Err refused → task_for request text ≡ Err refused
+refused_task request text refused h = ap (λ r. r >>= λ problem. task_in request problem text) h
 
 -- a text that is too long is refused as such in every form
-pub too_long : (form : FormData) (text : List ℕ) → 67108864 < length text → instance_in form text ≡ Err TooLong
+too_long : (form : FormData) (text : List ℕ) → MOST_BYTES < length text → instance_in form text ≡ Err TooLong
 unfolding job_table weighted_tardiness flow_shop
-too_long InTable text h = rw (lt-ltb 67108864 (length text) h) refl
-too_long (InWt jobs index) text h = rw (lt-ltb 67108864 (length text) h) refl
-too_long (InFlow name pair) text h = rw (lt-ltb 67108864 (length text) h) refl
+too_long InTable text h = rw (lt-ltb MOST_BYTES (length text) h) refl
+too_long (InWt jobs index) text h = rw (lt-ltb MOST_BYTES (length text) h) refl
+too_long (InFlow name pair) text h = rw (lt-ltb MOST_BYTES (length text) h) refl
 
--- nothing was written where the text could not be read to its end
-pub run_unended : (request : RequestData) (problem : Problem) (known held : Option (List ℕ)) (f : InputFault) → problem_for request.problem ≡ Ok problem
-    → (f ≡ inputs.TooLong → IfSome known (λ all. 67108864 < length all)) → IsRunOf request known held held (Err (of_input f))
-run_unended request problem known held inputs.TooLong ok long =
-    let (text, is, more) = long_text_for known 67108864 (long refl) in
-    (text, is, ap (λ r. r >>= λ problem. task_in request problem text) ok ∙ ap (λ r. as_run of_read r >>= λ instance. as_run of_refusal (prepared instance problem request.machines)) (too_long request.form text more))
-run_unended request problem known held inputs.OutOfMemory ok long = let (text, is) = text_for known in (text, is, tt)
-run_unended request problem known held inputs.Device ok long = let (text, is) = text_for known in (text, is, inl (Keeps-refl held))
+-- and so no task is meant
+pub long_task : (request : RequestData) (problem : Problem) (text : List ℕ) → problem_for request.problem ≡ Ok problem → MOST_BYTES < length text → task_for request text ≡ Err (ByText TooLong)
+long_task request problem text ok h =
+    meant_by request problem text ok
+    ∙ ap (λ r. refused_by ByText r >>= λ instance. refused_by ByTask (prepared instance problem request.machines)) (too_long request.form text h)
 
--- a prefix of the answer was written where the writer failed
-pub run_unwritten : (request : RequestData) (text : List ℕ) (known before after : Option (List ℕ)) (sheet : SheetData) (f : WriteFault) → IsTextOf known text → IsSolved request text sheet
-    → (f ≡ writes.Device → AppendsPrefix before after (answer_text sheet)) → IsRunOf request known before after (Err (of_write f))
-run_unwritten request text known before after sheet writes.OutOfMemory is solved prefix = (text, is, tt)
-run_unwritten request text known before after sheet writes.Device is solved prefix =
-    (text, is, inr (answer_text sheet, record { sheet = sheet; solved = solved; written = refl }, prefix refl))
+-- no refusal for the instance's sake is of the answer text
+pub not_of_answer : (request : RequestData) (problem : Problem) (text : List ℕ) (s : Stop) → StopsBy (λ refused. task_in request problem text ≡ Err refused) s → is_of_answer s ≡ false
+not_of_answer request problem text Fails h = refl
+not_of_answer request problem text Wants h = refl
+not_of_answer request problem text (Refuses refused) h = by_instance (instance_in request.form text) h
+  where
+    by_task : (r : Result SchedulingTask Refusal) → refused_by ByTask r ≡ Err refused → is_of_answer (Refuses refused) ≡ false
+    by_task (Ok task) e = cc
+    by_task (Err refusal) e = let is : refused ≡ ByTask refusal = cc in rw is refl
 
--- what `?` makes of a fault
-pub run_refused : (request : RequestData) (known before after : Option (List ℕ)) (f : RunFault) (r : Result (Unit {0}) RunFault) → IsErrAnd r (λ e. e ≡ f)
-    → IsRunOf request known before after (Err f) → IsRunOf request known before after r
-run_refused request known before after f (Ok x) h run = absurd h
-run_refused request known before after f (Err e) h run = subst (λ (k : RunFault). IsRunOf request known before after (Err k)) (sym h) run
+    by_instance : (r : Result InstanceData ReadFault) → (refused_by ByText r >>= λ instance. refused_by ByTask (prepared instance problem request.machines)) ≡ Err refused
+        → is_of_answer (Refuses refused) ≡ false
+    by_instance (Ok instance) e = by_task (prepared instance problem request.machines) e
+    by_instance (Err fault) e = let is : refused ≡ ByText fault = cc in rw is refl
+
+-- what holds of a fault holds of what `?` makes of it
+pub err_is : {X E : Type 0} (P : Result X E → Type 0) (f : E) (r : Result X E) → IsErrAnd r (λ e. e ≡ f) → P (Err f) → P r
+err_is P f (Ok x) h p = absurd h
+err_is P f (Err e) h p = subst (λ e. P (Err e)) (sym h) p
+
+-- a part that reads and writes nothing stops another as it stopped
+pub stops_more : (P Q : Refused → Type 0) → ((refused : Refused) → P refused → Q refused) → (s : Stop) → StopsBy P s → StopsBy Q s
+stops_more P Q more (Refuses refused) h = more refused h
+stops_more P Q more Fails h = absurd h
+stops_more P Q more Wants h = tt
+
+-- and so it stops the run
+pub part_stops : (Says : List ℕ → Type 0) (P Q : Refused → Type 0) (R W : Type 0) (held : Option (List ℕ)) → ((refused : Refused) → P refused → Q refused)
+    → (s : Stop) → StopsBy P s → Leaves Says Q R W held held s
+part_stops Says P Q R W held more (Refuses refused) h = more refused h
+part_stops Says P Q R W held more Fails h = absurd h
+part_stops Says P Q R W held more Wants h = tt
+
+-- what a fault of reading says of a text that is all that is known
+pub reader_stops : (A : Type 0) (Says : List ℕ → List ℕ → Type 0) (Q : List ℕ → Refused → Type 0) (R : List ℕ → Type 0) (W : Type 0) (known held : Option (List ℕ)) (f : InputFault)
+    → (f ≡ inputs.TooLong → IfSome known (λ all. MOST_BYTES < length all)) → ((text : List ℕ) → MOST_BYTES < length text → Q text (ByText TooLong))
+    → ((text : List ℕ) → f ≡ inputs.Device → R text)
+    → (text : List ℕ) × IsTextOf known text × Leaves (Says text) (Q text) (R text) W held held (stop_of {A = A} (of_input f))
+reader_stops A Says Q R W known held inputs.TooLong long refused failed =
+    let (text, is, more) = long_text_for known MOST_BYTES (long refl) in (text, is, refused text more)
+reader_stops A Says Q R W known held inputs.OutOfMemory long refused failed = let (text, is) = text_for known in (text, is, tt)
+reader_stops A Says Q R W known held inputs.Device long refused failed = let (text, is) = text_for known in (text, is, inl (failed text refl, Keeps-refl held))
+
+-- ---- of a solving run
+
+module _ (A : Type 0) (request : RequestData) (known before : Option (List ℕ)) (reader writer : Bool) where
+  -- nothing was written where the problem line was refused
+  pub run_unread : (e : RunFault A) (refused : Refused) → stop_of e ≡ Refuses refused → problem_for request.problem ≡ Err refused
+      → IsRunOf request known reader writer before before (Err e)
+  run_unread e refused same h =
+      let (text, is) = text_for known in
+      (text, is, subst (Leaves (Answers request text) (IsRefusedRun request text) (reader ≡ true) (writer ≡ true) before before) (sym same) (inl (refused_task request text refused h)))
+
+  -- nor where the text could not be read to its end
+  pub run_unended : (problem : Problem) (f : InputFault) → problem_for request.problem ≡ Ok problem
+      → (f ≡ inputs.TooLong → IfSome known (λ all. MOST_BYTES < length all)) → reader ≡ is_device f → IsRunOf request known reader writer before before (Err (of_input {A = A} f))
+  run_unended problem f ok long failed =
+      reader_stops A (Answers request) (IsRefusedRun request) (λ text. reader ≡ true) (writer ≡ true) known before f long
+      (λ text more. inl (long_task request problem text ok more)) (λ text same. failed ∙ ap is_device same)
+
+  -- nor where no sheet answers the text
+  pub run_unsolved : (text : List ℕ) (e : RunFault A) → IsTextOf known text → StopsBy (IsRefusedRun request text) (stop_of e)
+      → IsRunOf request known reader writer before before (Err e)
+  run_unsolved text e is h =
+      (text, is, part_stops (Answers request text) (IsRefusedRun request text) (IsRefusedRun request text) (reader ≡ true) (writer ≡ true) before (λ refused same. same) (stop_of e) h)
+
+  -- a prefix of the answer was written where the writer failed
+  pub run_unwritten : (after : Option (List ℕ)) (text : List ℕ) (sheet : SheetData) (f : WriteFault) → IsTextOf known text → IsSolved request text sheet
+      → (f ≡ writes.Device → (writer ≡ true) × AppendsPrefix before after (answer_text request.layout sheet)) → IsRunOf request known reader writer before after (Err (of_write {A = A} f))
+  run_unwritten after text sheet writes.OutOfMemory is solved prefix = (text, is, tt)
+  run_unwritten after text sheet writes.Device is solved prefix =
+      let (failed, written) = prefix refl in
+      (text, is, inr (failed, (answer_text request.layout sheet, answers_of request text sheet solved, written)))

@@ -1,9 +1,11 @@
--- The faults of the parts, as faults of a run.
+-- Why a run gives no answer: what definitions see of it, and what `?` makes of the faults of its parts.
+use Rattle.std.specs.Prelude.{ℕ, List, Bool, true, false, not, ◌&&◌, Result, Ok, Err}
 use Rattle.tf_notation.specs.declared.reading.NotationFault.{NotationFault}
 use Rattle.tf_model.specs.declared.prepare.Refusal.{Refusal}
 use Rattle.tf_model.specs.declared.prepare.Refusal.TheVariants as refusals
 use Rattle.tf_read.specs.declared.fault.ReadFault.{ReadFault}
 use Rattle.tf_read.specs.declared.fault.ReadFault.TheVariants as reads
+use Rattle.tf_schedule.specs.declared.schedule.PieceFault.{PieceFault}
 use Rattle.tf_text.specs.declared.input.InputFault.{InputFault}
 use Rattle.tf_text.specs.declared.input.InputFault.TheVariants as inputs
 use Rattle.tf_text.specs.declared.answer.fault.AnswerFault.{AnswerFault}
@@ -13,32 +15,84 @@ use Rattle.tf_text.specs.declared.answer.writing.WriteFault.TheVariants as write
 use Rattle.tf_engine.specs.declared.solve.SolveFault.{SolveFault}
 use Rattle.tf_engine.specs.declared.solve.SolveFault.TheVariants as solves
 use Rattle.tf_engine.specs.declared.fault.RunFault.{RunFault}
-use Rattle.tf_engine.specs.declared.fault.RunFault.TheVariants.{Notation, Text, Task, Answer, Gap, Device, OutOfMemory}
+use Rattle.tf_engine.specs.declared.fault.RunFault.TheVariants.{Notation, Text, Task, Cycle, Answer, Pieces, Device, OutOfMemory}
 
-abbrev pub of_notation : NotationFault → RunFault
+-- why a request is refused
+pub data Refused : Type 0 where
+  ByNotation : ℕ → Refused  -- the problem line is no notation, from this byte on
+  ByText : ReadFault → Refused  -- the instance text is at fault
+  ByTask : Refusal → Refused  -- the instance is no task of the problem
+  ByCycle : List ℕ → Refused  -- these jobs are a cycle of the arcs
+  ByAnswer : AnswerFault → Refused  -- the answer text is at fault
+  ByPieces : PieceFault → Refused  -- the answer's pieces are no schedule
+
+-- what ends a run without an answer
+pub data Stop : Type 0 where
+  Refuses : Refused → Stop
+  Fails : Stop  -- a device failed
+  Wants : Stop  -- memory was wanting
+
+abbrev pub stop_of : {A : Type 0} → RunFault A → Stop
+stop_of (Notation fault) = Refuses (ByNotation fault.byte)
+stop_of (Text fault) = Refuses (ByText fault)
+stop_of (Task refusal) = Refuses (ByTask refusal)
+stop_of (Cycle jobs) = Refuses (ByCycle jobs)
+stop_of (Answer fault) = Refuses (ByAnswer fault)
+stop_of (Pieces fault) = Refuses (ByPieces fault)
+stop_of Device = Fails
+stop_of OutOfMemory = Wants
+
+abbrev pub is_failure : Stop → Bool
+is_failure Fails = true
+is_failure _ = false
+
+abbrev pub is_refusal : Stop → Bool
+is_refusal (Refuses refused) = true
+is_refusal _ = false
+
+-- a refusal for the sake of the answer text
+abbrev pub is_of_answer : Stop → Bool
+is_of_answer (Refuses (ByAnswer fault)) = true
+is_of_answer _ = false
+
+-- what is said only after the whole instance text was read: a value, and each refusal but that of a text that is too long
+abbrev pub is_of_whole : {X A : Type 0} → Result X (RunFault A) → Bool
+is_of_whole (Ok x) = true
+is_of_whole (Err e) = is_refusal (stop_of e) && not (is_too_long (stop_of e))
+  where
+    is_too_long : Stop → Bool
+    is_too_long (Refuses (ByText reads.TooLong)) = true
+    is_too_long _ = false
+
+-- ---- within the crate: what `?` makes of a fault
+
+abbrev pub of_notation : {A : Type 0} → NotationFault → RunFault A
 of_notation fault = Notation fault
 
-abbrev pub of_input : InputFault → RunFault
+abbrev pub of_input : {A : Type 0} → InputFault → RunFault A
 of_input inputs.Device = Device
 of_input inputs.TooLong = Text reads.TooLong
 of_input inputs.OutOfMemory = OutOfMemory
 
-abbrev pub of_read : ReadFault → RunFault
+abbrev pub of_read : {A : Type 0} → ReadFault → RunFault A
 of_read reads.OutOfMemory = OutOfMemory
 of_read fault = Text fault
 
-abbrev pub of_refusal : Refusal → RunFault
+abbrev pub of_refusal : {A : Type 0} → Refusal → RunFault A
 of_refusal refusals.OutOfMemory = OutOfMemory
 of_refusal refusal = Task refusal
 
-abbrev pub of_answer : AnswerFault → RunFault
+abbrev pub of_answer : {A : Type 0} → AnswerFault → RunFault A
 of_answer answers.OutOfMemory = OutOfMemory
 of_answer fault = Answer fault
 
-abbrev pub of_solve : SolveFault → RunFault
-of_solve solves.Gap = Gap
+abbrev pub of_solve : {A : Type 0} → SolveFault A → RunFault A
+of_solve (solves.Cycle jobs) = Cycle jobs
 of_solve solves.OutOfMemory = OutOfMemory
 
-abbrev pub of_write : WriteFault → RunFault
+abbrev pub of_write : {A : Type 0} → WriteFault → RunFault A
 of_write writes.Device = Device
 of_write writes.OutOfMemory = OutOfMemory
+
+abbrev pub of_pieces : {A : Type 0} → PieceFault → RunFault A
+of_pieces fault = Pieces fault

@@ -1,9 +1,13 @@
+-- what a caller has to believe
 pub mod FormData
 pub mod RequestData
 pub mod Faults
-pub mod Solvers
 pub mod Refusal
-pub mod Headline
-pub mod Parts
+pub mod Runs
 pub mod VerdictLine
 pub mod Checking
+pub mod Headline
+pub mod Charting
+-- within the crate
+pub mod Solvers
+pub mod Parts

@@ -4,6 +4,7 @@ use Rattle.std.specs.Prelude.{ℕ, List, Option, None, Some, Result, Ok, Err}
 use Rattle.tf_model.specs.declared.class.Class.{Class}
 use Rattle.tf_model.specs.declared.problem.Problem.{Problem}
 use Rattle.tf_model.specs.declared.prepare.Refusal.TheVariants.{NoSolver}
+use Rattle.tf_model.specs.Outcome.{◌>>=◌}
 use Rattle.tf_model.specs.InstanceData.{InstanceData}
 use Rattle.tf_model.specs.SchedulingTask.{SchedulingTask}
 use Rattle.tf_model.specs.ClassTable.{class_of}
@@ -13,29 +14,22 @@ use Rattle.tf_read.specs.declared.fault.ReadFault.{ReadFault}
 use Rattle.tf_read.specs.JobTable.{job_table}
 use Rattle.tf_read.specs.WeightedTardiness.{weighted_tardiness}
 use Rattle.tf_read.specs.FlowShop.{flow_shop}
-use Rattle.tf_engine.specs.declared.fault.RunFault.{RunFault}
-use Rattle.tf_engine.specs.declared.fault.RunFault.TheVariants.{Notation, Task}
 use Rattle.tf_engine.specs.FormData.{FormData, InTable, InWt, InFlow}
 use Rattle.tf_engine.specs.RequestData.{RequestData}
-use Rattle.tf_engine.specs.Faults.{of_read, of_refusal}
+use Rattle.tf_engine.specs.Faults.{Refused, ByNotation, ByText, ByTask}
 
-infixl 10 ◌>>=◌
-abbrev pub ◌>>=◌ : {A B : Type 0} → Result A RunFault → (A → Result B RunFault) → Result B RunFault
-(Ok x) >>= f = f x
-(Err e) >>= f = Err e
+-- the fault of a part as a refusal of the request
+abbrev pub refused_by : {A E : Type 0} → (E → Refused) → Result A E → Result A Refused
+refused_by reason (Ok x) = Ok x
+refused_by reason (Err e) = Err (reason e)
 
--- with each fault of a part as a fault of the run
-abbrev pub as_run : {A E : Type 0} → (E → RunFault) → Result A E → Result A RunFault
-as_run fault (Ok x) = Ok x
-as_run fault (Err e) = Err (fault e)
-
-abbrev pub with_class : Problem → Option Class → Result Problem RunFault
-with_class problem None = Err (Task NoSolver)
+abbrev pub with_class : Problem → Option Class → Result Problem Refused
+with_class problem None = Err (ByTask NoSolver)
 with_class problem (Some class) = Ok problem
 
 -- the problem, which has a class
-abbrev pub problem_for : List ℕ → Result Problem RunFault
-problem_for text = as_run (λ byte. Notation (record { byte = byte })) (notation text) >>= λ problem. with_class problem (class_of problem)
+abbrev pub problem_for : List ℕ → Result Problem Refused
+problem_for text = refused_by ByNotation (notation text) >>= λ problem. with_class problem (class_of problem)
 
 -- the instance that a text of this form holds
 abbrev pub instance_in : FormData → List ℕ → Result InstanceData ReadFault
@@ -44,10 +38,10 @@ instance_in (InWt jobs index) text = weighted_tardiness jobs index text
 instance_in (InFlow name pair) text = flow_shop name pair text
 
 -- the task of a problem and a text
-abbrev pub task_in : RequestData → Problem → List ℕ → Result SchedulingTask RunFault
+abbrev pub task_in : RequestData → Problem → List ℕ → Result SchedulingTask Refused
 task_in request problem text = do
-  instance ← as_run of_read (instance_in request.form text)
-  as_run of_refusal (prepared instance problem request.machines)
+  instance ← refused_by ByText (instance_in request.form text)
+  refused_by ByTask (prepared instance problem request.machines)
 
-abbrev pub task_for : RequestData → List ℕ → Result SchedulingTask RunFault
+abbrev pub task_for : RequestData → List ℕ → Result SchedulingTask Refused
 task_for request text = problem_for request.problem >>= λ problem. task_in request problem text

@@ -1,25 +1,17 @@
--- Which classes have a solver.
-use Rattle.std.specs.Prelude.{Bool, true, false, IsFalse}
-use Rattle.tf_model.specs.declared.class.Class.{Class}
-use Rattle.tf_model.specs.declared.class.Class.TheVariants.{WeightedSum, PlainSum, Hmax, PrecHmax, Lmax, PrecLmax, ReleaseLmax, FlowTwo, OpenTwo, ParallelPrmp, ParallelSum}
+-- Why a task is not solved.
+use Rattle.tf_model.specs.SchedulingTask.{SchedulingTask}
+use Rattle.tf_model.specs.Cycle.{IsCycle}
+use Rattle.tf_single.specs.declared.lawler_fault.LawlerFault.{LawlerFault}
+use Rattle.tf_single.specs.declared.lawler_fault.LawlerFault.TheVariants as lawlers
 use Rattle.tf_engine.specs.declared.solve.SolveFault.{SolveFault}
-use Rattle.tf_engine.specs.declared.solve.SolveFault.TheVariants.{Gap, OutOfMemory}
+use Rattle.tf_engine.specs.declared.solve.SolveFault.TheVariants.{Cycle, OutOfMemory}
 
--- the classes that have a solver
-abbrev pub has_solver : Class → Bool
-has_solver WeightedSum = false
-has_solver PlainSum = false
-has_solver Hmax = false
-has_solver PrecHmax = false
-has_solver Lmax = false
-has_solver PrecLmax = false
-has_solver ReleaseLmax = false
-has_solver FlowTwo = false
-has_solver OpenTwo = false
-has_solver ParallelPrmp = true
-has_solver ParallelSum = false
+-- the jobs are a cycle of the arcs
+abbrev pub IsNotSolved : {A : Type 0} → SchedulingTask → SolveFault A → Type 0
+IsNotSolved k (Cycle jobs) = IsCycle k jobs
+IsNotSolved k OutOfMemory = Unit {0}
 
--- a gap is answered only where the class has no solver
-abbrev pub IsNotSolved : Class → SolveFault → Type 0
-IsNotSolved class Gap = IsFalse (has_solver class)
-IsNotSolved class OutOfMemory = Unit {0}
+-- what `?` makes of a fault
+abbrev pub of_lawler : {A : Type 0} → LawlerFault A → SolveFault A
+of_lawler (lawlers.Cycle jobs) = Cycle jobs
+of_lawler lawlers.OutOfMemory = OutOfMemory

@@ -1,13 +1,16 @@
 //! Why a run gives no answer.
 ghost use Rattle.std.specs.Prelude.{◌≡◌};
 ghost use Rattle.tf_engine.specs.declared.fault.RunFault.TheVariants.{Device as DeviceFault, OutOfMemory as NoMemory};
-ghost use Rattle.tf_engine.specs.Faults.{of_notation, of_input, of_read, of_refusal, of_answer, of_solve, of_write};
+ghost use Rattle.tf_engine.specs.Faults.{of_notation, of_input, of_read, of_refusal, of_answer, of_solve, of_write, of_pieces};
 
 use crate::solve::SolveFault;
+use std::alloc::{Allocator, Global};
+use tf_model::job_list::JobList;
 use tf_model::memory::OutOfMemory;
 use tf_model::prepare::Refusal;
 use tf_notation::reading::NotationFault;
 use tf_read::fault::ReadFault;
+use tf_schedule::schedule::PieceFault;
 use tf_text::answer::fault::AnswerFault;
 use tf_text::answer::writing::WriteFault;
 use tf_text::counted::Device;
@@ -15,8 +18,9 @@ use tf_text::input::InputFault;
 use thiserror::Error;
 
 /// Why a run gives no answer. Want of memory is always [`RunFault::OutOfMemory`], and never within another variant.
-#[derive(Clone, Copy, Debug, PartialEq, Eq, Error)]
-pub enum RunFault {
+#[derive(Drop, Error)]
+#[derive_where(Debug, PartialEq, Eq)]
+pub enum RunFault<A: Allocator = Global> {
     /// The problem line is no three-field notation.
     #[error("the problem is not in three-field notation: {0}")]
     Notation(NotationFault),
@@ -26,12 +30,15 @@ pub enum RunFault {
     /// The instance is no task of the problem.
     #[error("the instance is no task of the problem: {0}")]
     Task(Refusal),
+    /// Each of these jobs precedes the next by an arc, and the last precedes the first.
+    #[error("the arcs form a cycle")]
+    Cycle(JobList<A>),
     /// The answer text is at fault.
     #[error("the answer text is at fault: {0}")]
     Answer(AnswerFault),
-    /// The class has no solver yet.
-    #[error("the solver is missing")]
-    Gap,
+    /// The answer's pieces are no schedule.
+    #[error("the pieces are no schedule: {0}")]
+    Pieces(PieceFault),
     /// The reader or the writer failed.
     #[error("device fault")]
     Device,
@@ -40,18 +47,18 @@ pub enum RunFault {
     OutOfMemory,
 }
 
-impl From<NotationFault> for RunFault {
+impl<A: Allocator> From<NotationFault> for RunFault<A> {
     ghost from_gives = { λ f e. e ≡ of_notation f };
 
-    fn from(fault: NotationFault) -> RunFault {
+    fn from(fault: NotationFault) -> RunFault<A> {
         RunFault::Notation(fault)
     }
 }
 
-impl From<InputFault> for RunFault {
+impl<A: Allocator> From<InputFault> for RunFault<A> {
     ghost from_gives = { λ f e. e ≡ of_input f };
 
-    fn from(fault: InputFault) -> RunFault {
+    fn from(fault: InputFault) -> RunFault<A> {
         match fault {
             InputFault::Device => RunFault::Device,
             InputFault::TooLong => RunFault::Text(ReadFault::TooLong),
@@ -60,10 +67,10 @@ impl From<InputFault> for RunFault {
     }
 }
 
-impl From<ReadFault> for RunFault {
+impl<A: Allocator> From<ReadFault> for RunFault<A> {
     ghost from_gives = { λ f e. e ≡ of_read f };
 
-    fn from(fault: ReadFault) -> RunFault {
+    fn from(fault: ReadFault) -> RunFault<A> {
         match fault {
             ReadFault::OutOfMemory => RunFault::OutOfMemory,
             fault => RunFault::Text(fault),
@@ -71,10 +78,10 @@ impl From<ReadFault> for RunFault {
     }
 }
 
-impl From<Refusal> for RunFault {
+impl<A: Allocator> From<Refusal> for RunFault<A> {
     ghost from_gives = { λ f e. e ≡ of_refusal f };
 
-    fn from(refusal: Refusal) -> RunFault {
+    fn from(refusal: Refusal) -> RunFault<A> {
         match refusal {
             Refusal::OutOfMemory => RunFault::OutOfMemory,
             refusal => RunFault::Task(refusal),
@@ -82,10 +89,10 @@ impl From<Refusal> for RunFault {
     }
 }
 
-impl From<AnswerFault> for RunFault {
+impl<A: Allocator> From<AnswerFault> for RunFault<A> {
     ghost from_gives = { λ f e. e ≡ of_answer f };
 
-    fn from(fault: AnswerFault) -> RunFault {
+    fn from(fault: AnswerFault) -> RunFault<A> {
         match fault {
             AnswerFault::OutOfMemory => RunFault::OutOfMemory,
             fault => RunFault::Answer(fault),
@@ -93,40 +100,48 @@ impl From<AnswerFault> for RunFault {
     }
 }
 
-impl From<OutOfMemory> for RunFault {
+impl<A: Allocator> From<OutOfMemory> for RunFault<A> {
     ghost from_gives = { λ _ e. e ≡ NoMemory };
 
-    fn from(_: OutOfMemory) -> RunFault {
+    fn from(_: OutOfMemory) -> RunFault<A> {
         RunFault::OutOfMemory
     }
 }
 
-impl From<Device> for RunFault {
+impl<A: Allocator> From<Device> for RunFault<A> {
     ghost from_gives = { λ _ e. e ≡ DeviceFault };
 
-    fn from(_: Device) -> RunFault {
+    fn from(_: Device) -> RunFault<A> {
         RunFault::Device
     }
 }
 
-impl From<SolveFault> for RunFault {
+impl<A: Allocator> From<SolveFault<A>> for RunFault<A> {
     ghost from_gives = { λ f e. e ≡ of_solve f };
 
-    fn from(fault: SolveFault) -> RunFault {
+    fn from(fault: SolveFault<A>) -> RunFault<A> {
         match fault {
-            SolveFault::Gap => RunFault::Gap,
+            SolveFault::Cycle(jobs) => RunFault::Cycle(jobs),
             SolveFault::OutOfMemory => RunFault::OutOfMemory,
         }
     }
 }
 
-impl From<WriteFault> for RunFault {
+impl<A: Allocator> From<WriteFault> for RunFault<A> {
     ghost from_gives = { λ f e. e ≡ of_write f };
 
-    fn from(fault: WriteFault) -> RunFault {
+    fn from(fault: WriteFault) -> RunFault<A> {
         match fault {
             WriteFault::Device => RunFault::Device,
             WriteFault::OutOfMemory => RunFault::OutOfMemory,
         }
+    }
+}
+
+impl<A: Allocator> From<PieceFault> for RunFault<A> {
+    ghost from_gives = { λ f e. e ≡ of_pieces f };
+
+    fn from(fault: PieceFault) -> RunFault<A> {
+        RunFault::Pieces(fault)
     }
 }

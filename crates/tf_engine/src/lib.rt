@@ -6,8 +6,12 @@ mod devices;
 pub mod fault;
 pub mod request;
 pub mod run_check;
+pub mod run_gantt;
 pub mod run_solve;
+mod sheet_said;
 pub mod solve;
 mod task_for;
 pub mod text;
 mod verdict_line;
+#[cfg(test)]
+mod worked;

@@ -2,6 +2,7 @@
 use crate::text::Text;
 use std::alloc::{Allocator, Global};
 use std::marker::Model;
+use tf_text::answer::layout::Layout;
 
 /// The form of an instance text.
 #[derive(Drop)]
@@ -24,13 +25,16 @@ pub enum Form<A: Allocator = Global> {
     },
 }
 
-/// A problem, the form of the instance text, and the number of machines where the caller gives one.
+/// A problem, the form of the instance text, the number of machines where the caller gives one, and
+/// the version of the answer text.
 #[derive(Drop)]
 pub struct Request<A: Allocator = Global> {
     /// The problem in three-field notation.
     pub problem: Text<A>,
     pub form: Form<A>,
     pub machines: Option<u32>,
+    /// The version in which an answer is written. A text of either is read.
+    pub layout: Layout,
 }
 
 impl<A: Allocator> Model for Request<A> {
@@ -39,5 +43,10 @@ impl<A: Allocator> Model for Request<A> {
 
     ghost Value = { RequestData };
 
-    ghost view = { λ r. record { problem = r.problem; form = form_of r.form; machines = r.machines } };
+    ghost view = { λ r. record {
+      problem = r.problem;
+      form = form_of r.form;
+      machines = r.machines;
+      layout = r.layout;
+    } };
 }

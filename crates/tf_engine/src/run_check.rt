@@ -1,12 +1,14 @@
 //! Checking somebody's answer, from bytes to bytes.
-ghost use Rattle.std.specs.Prelude.{◌≡◌, ◌+◌, true, false, Ok, Err, OnOk, IfOk, IfErr, IsTrue, ◌↔◌};
+ghost use Rattle.std.specs.Prelude.{◌≡◌, ◌+◌, true, false, Ok, Err, IsOk, OnOk, IfOk, IfErr, IsErrAnd, IsTrue, ◌↔◌};
+ghost use Rattle.std.specs.Io.KnownBytes.{IsAtEnd};
 ghost use Rattle.tf_text.specs.Counted.{inner_of, has_failed, ConsumesAtMost};
 ghost use Rattle.tf_engine.specs.Refusal.{problem_for};
-ghost use Rattle.tf_engine.specs.Headline.{UnlessDevice};
-ghost use Rattle.tf_engine.specs.Checking.{IsCheckOf, HasCheckFailed, IsFor, IsVerdict, GivesSaid, is_device};
+ghost use Rattle.tf_engine.specs.Faults.{Refuses, stop_of, is_failure, is_refusal, is_of_answer, is_of_whole};
+ghost use Rattle.tf_engine.specs.Checking.{IsCheckOf, IsFor, IsVerdict};
 
 use crate::fault::RunFault;
 use crate::request::Request;
+use crate::sheet_said::sheet_said;
 use crate::task_for::{problem_for, task_in};
 use crate::verdict_line::verdict_bytes;
 use std::alloc::Allocator;
@@ -17,11 +19,9 @@ use tf_model::class::class_of;
 use tf_model::limit::MOST_BYTES;
 use tf_model::memory::OutOfMemory;
 use tf_model::task::Task;
-use tf_text::answer::fault::AnswerFault;
-use tf_text::answer::reading::read_answer;
 use tf_text::answer::sheet::Sheet;
 use tf_text::counted::Counted;
-use tf_text::input::{InputFault, read_all};
+use tf_text::input::read_all;
 
 /// The verdict on an answer.
 #[derive(Debug, Drop, PartialEq, Eq)]
@@ -46,14 +46,24 @@ pub fn run_check<A: Allocator + Copy, B: Allocator, R: Read, S: Read, W: Write>(
     instance: &mut Counted<R>,
     answer: &mut Counted<S>,
     writer: &mut Counted<W>,
-) -> Result<Checked, RunFault>
+) -> Result<Checked, RunFault<A>>
     ensures outcome { IsCheckOf request.now (R.remaining (inner_of instance.old)) (S.remaining (inner_of answer.old))
+        (has_failed instance.new) (has_failed answer.new) (has_failed writer.new)
         (W.contents (inner_of writer.old)) (W.contents (inner_of writer.new)) result }
-    ensures failed { HasCheckFailed result (has_failed instance.new) (has_failed answer.new) (has_failed writer.new) }
-    ensures unwritten { IfErr result (λ e. UnlessDevice e (writer.new ≡ writer.old)) }
-    // Nothing is read before the notation and the class are accepted.
-    ensures unread { IfErr (problem_for request.now.problem) (λ e.
-        (result ≡ Err e) × (instance.new ≡ instance.old) × (answer.new ≡ answer.old)) }
+    ensures unfailed { OnOk result
+        ((has_failed instance.new ≡ false) × (has_failed answer.new ≡ false) × (has_failed writer.new ≡ false)) }
+    ensures unwritten { IfErr result (λ e. is_failure (stop_of e) ≡ false → writer.new ≡ writer.old) }
+    // Nothing is read before the notation and the class are accepted, and no other refusal hides a failed reader.
+    ensures unread { IfErr (problem_for request.now.problem) (λ refused. IsErrAnd result (λ e. stop_of e ≡ Refuses refused)
+        × (instance.new ≡ instance.old) × (answer.new ≡ answer.old)) }
+    ensures read { IsOk (problem_for request.now.problem) →
+        IfErr result (λ e. is_refusal (stop_of e) ≡ true → has_failed instance.new ≡ false) }
+    ensures ended { IsOk (problem_for request.now.problem) →
+        is_of_whole result ≡ true → IsAtEnd (R.remaining (inner_of instance.new)) }
+    ensures read_answer { IfErr result (λ e. is_of_answer (stop_of e) ≡ true → has_failed answer.new ≡ false) }
+    // A refusal for the instance's sake leaves the answer unread.
+    ensures answer_later { IfErr result (λ e.
+        is_refusal (stop_of e) ≡ true → is_of_answer (stop_of e) ≡ false → answer.new ≡ answer.old) }
     ensures pulled { ConsumesAtMost (MOST_BYTES + 1) (R.remaining (inner_of instance.old))
         (R.remaining (inner_of instance.new)) }
     ensures pulled_answer { ConsumesAtMost (MOST_BYTES + 1) (S.remaining (inner_of answer.old))
@@ -67,25 +77,6 @@ pub fn run_check<A: Allocator + Copy, B: Allocator, R: Read, S: Read, W: Write>(
     let line = verdict_bytes(alloc, &checked)?;
     writer.push_all(line.as_slice())?;
     Ok(checked)
-}
-
-// The sheet that the answer text says.
-fn sheet_said<A: Allocator + Copy, S: Read>(
-    alloc: A,
-    answer: &mut Counted<S>,
-) -> Result<Sheet<A>, RunFault>
-    ensures said { GivesSaid (S.remaining (inner_of answer.old)) result }
-    ensures unfailed { OnOk result (has_failed answer.new ≡ false) }
-    ensures device { IfErr result (λ e. is_device e ≡ true → has_failed answer.new ≡ true) }
-    ensures pulled { ConsumesAtMost (MOST_BYTES + 1) (S.remaining (inner_of answer.old))
-        (S.remaining (inner_of answer.new)) }
-{
-    match read_all(alloc, answer) {
-        Ok(text) => Ok(read_answer(alloc, text.as_slice())?),
-        Err(InputFault::TooLong) => Err(RunFault::Answer(AnswerFault::TooLong)),
-        Err(InputFault::Device) => Err(RunFault::Device),
-        Err(InputFault::OutOfMemory) => Err(RunFault::OutOfMemory),
-    }
 }
 
 // Whether the sheet's problem is of the task's class, and its sizes are the task's.

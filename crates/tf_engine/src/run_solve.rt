@@ -1,8 +1,10 @@
 //! Solving from bytes to bytes.
-ghost use Rattle.std.specs.Prelude.{◌≡◌, ◌+◌, length, Ok, Err, IfOk, IfErr, MatchResult, pos};
+ghost use Rattle.std.specs.Prelude.{◌≡◌, ◌+◌, true, false, length, Ok, Err, IsOk, OnOk, IfOk, IfErr, IsErrAnd};
+ghost use Rattle.std.specs.Io.KnownBytes.{IsAtEnd};
 ghost use Rattle.tf_text.specs.Counted.{inner_of, has_failed, ConsumesAtMost};
 ghost use Rattle.tf_engine.specs.Refusal.{problem_for};
-ghost use Rattle.tf_engine.specs.Headline.{IsRunOf, UnlessDevice, HasFailed};
+ghost use Rattle.tf_engine.specs.Faults.{Refuses, stop_of, is_failure, is_refusal, is_of_whole};
+ghost use Rattle.tf_engine.specs.Headline.{IsRunOf};
 ghost use Rattle.tf_engine.specs.Parts.{GivesSheet};
 
 use crate::fault::RunFault;
@@ -18,7 +20,8 @@ use tf_text::answer::writing::write_answer;
 use tf_text::counted::Counted;
 use tf_text::input::read_all;
 
-/// Reads an instance to its end, solves it, and writes the answer and nothing else.
+/// Reads an instance to its end, solves it, and writes the answer in the request's layout and
+/// nothing else.
 ///
 /// The refusals come in this order: notation, class, reading the input, its text, the rest of what makes no task. A
 /// notation fault and a missing class are answered before anything is read. After a refusal nothing was written,
@@ -28,20 +31,25 @@ pub fn run_solve<A: Allocator + Copy, B: Allocator, R: Read, W: Write>(
     request: &Request<B>,
     reader: &mut Counted<R>,
     writer: &mut Counted<W>,
-) -> Result<(), RunFault>
-    ensures outcome { IsRunOf request.now (R.remaining (inner_of reader.old)) (W.contents (inner_of writer.old))
-        (W.contents (inner_of writer.new)) result }
-    ensures failed { HasFailed result (has_failed reader.new) (has_failed writer.new) }
-    ensures unwritten { IfErr result (λ e. UnlessDevice e (writer.new ≡ writer.old)) }
-    // Nothing is read before the notation and the class are accepted.
-    ensures unread { IfErr (problem_for request.now.problem) (λ e. (result ≡ Err e) × (reader.new ≡ reader.old)) }
+) -> Result<(), RunFault<A>>
+    ensures outcome { IsRunOf request.now (R.remaining (inner_of reader.old)) (has_failed reader.new) (has_failed writer.new)
+        (W.contents (inner_of writer.old)) (W.contents (inner_of writer.new)) result }
+    ensures unfailed { OnOk result ((has_failed reader.new ≡ false) × (has_failed writer.new ≡ false)) }
+    ensures unwritten { IfErr result (λ e. is_failure (stop_of e) ≡ false → writer.new ≡ writer.old) }
+    // Nothing is read before the notation and the class are accepted, and no other refusal hides a failed reader.
+    ensures unread { IfErr (problem_for request.now.problem) (λ refused.
+        IsErrAnd result (λ e. stop_of e ≡ Refuses refused) × (reader.new ≡ reader.old)) }
+    ensures read { IsOk (problem_for request.now.problem) →
+        IfErr result (λ e. is_refusal (stop_of e) ≡ true → has_failed reader.new ≡ false) }
+    ensures ended { IsOk (problem_for request.now.problem) →
+        is_of_whole result ≡ true → IsAtEnd (R.remaining (inner_of reader.new)) }
     ensures pulled { ConsumesAtMost (MOST_BYTES + 1) (R.remaining (inner_of reader.old))
         (R.remaining (inner_of reader.new)) }
 {
     let problem = problem_for(request.problem.as_str())?;
     let text = read_all(alloc, reader)?;
     let sheet = sheet_for(alloc, request, &problem, text.as_slice())?;
-    write_answer(alloc, writer, &sheet)?;
+    write_answer(alloc, writer, &sheet, request.layout)?;
     Ok(())
 }
 
@@ -51,12 +59,14 @@ fn sheet_for<A: Allocator + Copy, B: Allocator>(
     request: &Request<B>,
     problem: &Problem,
     text: &[u8],
-) -> Result<Sheet<A>, RunFault>
+) -> Result<Sheet<A>, RunFault<A>>
     requires { problem_for request.now.problem ≡ Ok problem.now }
     ensures { GivesSheet request.now text.now result }
 {
     let task = task_in(alloc, request, problem, text)?;
     let answer = solve(alloc, &task)?;
+    // A number that is read is known to fit its type, as the text of the sheet asks.
+    let _value = answer.value;
     Ok(Sheet {
         problem: *problem,
         jobs: task.len() as u32,

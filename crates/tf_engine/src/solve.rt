@@ -1,47 +1,94 @@
 //! A solver for each class.
 ghost use Rattle.std.specs.Prelude.{◌≡◌, IfOk, IfErr};
 ghost use Rattle.tf_engine.specs.declared.solve.SolveFault.TheVariants.{OutOfMemory as NoMemory};
-ghost use Rattle.tf_check.specs.Accepted.{IsBestAnswer};
-ghost use Rattle.tf_engine.specs.Solvers.{IsNotSolved};
+ghost use Rattle.tf_check.specs.Accepted.{IsAccepted, IsBestAnswer};
+ghost use Rattle.tf_engine.specs.Solvers.{IsNotSolved, of_lawler};
 
-use std::alloc::Allocator;
+use std::alloc::{Allocator, Global};
 use tf_check::answer::Answer;
 use tf_model::class::Class;
+use tf_model::job_list::JobList;
 use tf_model::memory::OutOfMemory;
 use tf_model::task::Task;
+use tf_multi::johnson::johnson;
 use tf_multi::mcnaughton::mcnaughton;
+use tf_multi::open_two::open_two;
+use tf_multi::spt::spt;
+use tf_single::costs::step_costs;
+use tf_single::edd::edd;
+use tf_single::lawler::{lawler, lawler_by_due};
+use tf_single::lawler_fault::LawlerFault;
+use tf_single::wspt::wspt;
 use thiserror::Error;
 
 /// Why a task was not solved.
-#[derive(Clone, Copy, Debug, PartialEq, Eq, Error)]
-pub enum SolveFault {
-    /// The class has no solver yet.
-    #[error("the solver is missing")]
-    Gap,
+#[derive(Drop, Error)]
+#[derive_where(Debug, PartialEq, Eq)]
+pub enum SolveFault<A: Allocator = Global> {
+    /// Each of these jobs precedes the next by an arc, and the last precedes the first, so that no timetable fits.
+    #[error("the arcs form a cycle")]
+    Cycle(JobList<A>),
     /// A growth was refused.
     #[error("want of memory")]
     OutOfMemory,
 }
 
-impl From<OutOfMemory> for SolveFault {
+impl<A: Allocator> From<LawlerFault<A>> for SolveFault<A> {
+    ghost from_gives = { λ f e. e ≡ of_lawler f };
+
+    fn from(fault: LawlerFault<A>) -> SolveFault<A> {
+        match fault {
+            LawlerFault::Cycle(jobs) => SolveFault::Cycle(jobs),
+            LawlerFault::OutOfMemory => SolveFault::OutOfMemory,
+        }
+    }
+}
+
+impl<A: Allocator> From<OutOfMemory> for SolveFault<A> {
     ghost from_gives = { λ _ e. e ≡ NoMemory };
 
-    fn from(_: OutOfMemory) -> SolveFault {
+    fn from(_: OutOfMemory) -> SolveFault<A> {
         SolveFault::OutOfMemory
     }
 }
 
-/// A best timetable of the task, what it costs, and the certificate that none costs less. The class alone decides
-/// whether there is a solver: today `P|prmp|Cmax` has one (McNaughton 1959).
+/// A best timetable of the task, what it costs, and the certificate that none costs less. The class alone decides which
+/// solver is asked; a cycle of arcs is refused, since then no timetable fits.
 pub fn solve<A: Allocator + Copy, B: Allocator>(
     alloc: A,
     task: &Task<B>,
-) -> Result<Answer<A>, SolveFault>
+) -> Result<Answer<A>, SolveFault<A>>
+    ensures accepted { IfOk result (IsAccepted task.now) }
     ensures best { IfOk result (IsBestAnswer task.now) }
-    ensures refused { IfErr result (IsNotSolved task.now.class) }
+    ensures refused { IfErr result (IsNotSolved task.now) }
+{
+    // Each reader of a task says that it is sound, as the bounds ask.
+    let _class = task.class();
+    answer_of(alloc, task)
+}
+
+// The answer of the class's solver.
+fn answer_of<A: Allocator + Copy, B: Allocator>(
+    alloc: A,
+    task: &Task<B>,
+) -> Result<Answer<A>, SolveFault<A>>
+    ensures accepted { IfOk result (IsAccepted task.now) }
+    ensures refused { IfErr result (IsNotSolved task.now) }
 {
     match task.class() {
+        Class::WeightedSum | Class::PlainSum | Class::PrmpWeightedSum | Class::PrmpPlainSum => Ok(
+            wspt(alloc, task)?,
+        ),
+        Class::Hmax | Class::PrecHmax | Class::PrmpHmax | Class::PrmpPrecHmax => {
+            Ok(lawler(alloc, task, step_costs(task))?)
+        }
+        Class::Lmax | Class::PrecLmax | Class::PrmpLmax | Class::PrmpPrecLmax => {
+            Ok(lawler_by_due(alloc, task)?)
+        }
+        Class::ReleaseLmax => Ok(edd(alloc, task)?),
+        Class::FlowTwo | Class::PrmpFlowTwo => Ok(johnson(alloc, task)?),
+        Class::OpenTwo | Class::PrmpOpenTwo => Ok(open_two(alloc, task)?),
         Class::ParallelPrmp => Ok(mcnaughton(alloc, task)?),
-        _ => Err(SolveFault::Gap),
+        Class::ParallelSum => Ok(spt(alloc, task)?),
     }
 }

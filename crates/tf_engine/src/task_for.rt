@@ -3,7 +3,7 @@ ghost use Rattle.std.specs.Prelude.{◌≡◌};
 ghost use Rattle.tf_read.specs.Faults.{Gives};
 ghost use Rattle.tf_engine.specs.FormData.{form_of};
 ghost use Rattle.tf_engine.specs.Refusal.{problem_for, instance_in, task_in};
-ghost use Rattle.tf_engine.specs.Parts.{GivesTask};
+ghost use Rattle.tf_engine.specs.Parts.{GivesProblem, GivesTask};
 
 use crate::fault::RunFault;
 use crate::request::{Form, Request};
@@ -20,8 +20,8 @@ use tf_read::job_table::read_table;
 use tf_read::weighted_tardiness::read_wt;
 
 /// The problem of a line, which has a class.
-pub(crate) fn problem_for(text: &str) -> Result<Problem, RunFault>
-    ensures { result ≡ problem_for text.now }
+pub(crate) fn problem_for<A: Allocator>(text: &str) -> Result<Problem, RunFault<A>>
+    ensures { GivesProblem result (problem_for text.now) }
 {
     let problem = read(text.as_bytes())?;
     match class_of(&problem) {
@@ -51,7 +51,7 @@ pub(crate) fn task_in<A: Allocator + Copy, B: Allocator>(
     request: &Request<B>,
     problem: &Problem,
     text: &[u8],
-) -> Result<Task<A>, RunFault>
+) -> Result<Task<A>, RunFault<A>>
     ensures { GivesTask result (task_in request.now problem.now text.now) }
 {
     let instance = instance_in(alloc, &request.form, text)?;

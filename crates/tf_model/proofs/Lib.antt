@@ -1,9 +1,12 @@
+pub mod Classes
+pub mod Outcomes
 pub mod Sums
 pub mod Units
 pub mod Work
 pub mod Costs
 pub mod Loads
 pub mod LastOf
+pub mod PairSums
 pub mod Pairs
 pub mod Window
 pub mod RankSums

@@ -1,6 +1,6 @@
 -- What is not refused makes a sound task.
 use Rattle.std.specs.Prelude.{unwrap_or}
-use Rattle.std.proofs.Common.{◌≡◌, ℕ, zero, suc, ◌+◌, ◌-◌, ◌*◌, ◌≤◌, ◌<◌, ◌||◌, ◌&&◌, not, Bool, true, false, Option, None, Some, Result, Ok, Err, List, [], ◌∷◌, length, map, get_or, cond, ltb, eqb, refl, sym, ap, ◌∙◌, subst, arith, All, position, IsTrue, IsFalse, ℤ, pos, negsuc, ◌≤ℤ◌, int_lt, sum_by}
+use Rattle.std.proofs.Common.{◌≡◌, ℕ, zero, suc, ◌+◌, ◌-◌, ◌*◌, ◌≤◌, ◌<◌, ◌||◌, ◌&&◌, not, Bool, true, false, Option, None, Some, Ok, Err, List, [], ◌∷◌, length, map, get_or, cond, ltb, eqb, refl, sym, ap, ◌∙◌, subst, arith, All, position, IsTrue, IsFalse, ℤ, pos, negsuc, ◌≤ℤ◌, int_lt, sum_by}
 use Rattle.std.proofs.Math.Nat.{mul-le-mul_left}
 use Rattle.std.specs.Bool.{then_some}
 use Rattle.std.specs.Option.{option_map, option_or}
@@ -9,12 +9,11 @@ use Rattle.std.proofs.lemmas.Bool.{ltb-false, cond-false, cond-true}
 use Rattle.std.proofs.lemmas.Int.{ints}
 use Rattle.std.proofs.lemmas.List.{get_or-map, length-map}
 use Rattle.std.proofs.lemmas.List.Sums.{fails_before_first}
+use Rattle.tf_model.specs.Limit.{limit}
 use Rattle.tf_model.specs.declared.class.Class.{Class}
-use Rattle.tf_model.specs.declared.class.Class.TheVariants.{Hmax, PrecHmax, FlowTwo, OpenTwo}
 use Rattle.tf_model.specs.declared.job.Times.{Times}
 use Rattle.tf_model.specs.declared.job.Times.TheVariants.{One, Two}
 use Rattle.tf_model.specs.declared.instance.InstanceFault.TheVariants.{NoJobs, TooManyJobs, TooManyArcs, NegativeNumber, OutOfRange, BadArc}
-use Rattle.tf_model.specs.declared.prepare.Refusal.{Refusal}
 use Rattle.tf_model.specs.declared.prepare.Refusal.TheVariants.{MachineCount, WrongTimes, ZeroTime, TotalTooLarge}
 use Rattle.tf_model.specs.declared.limit.TheConstants.{MOST_JOBS, MOST_MACHINES, MOST_ARCS}
 use Rattle.tf_model.specs.Whole.{as_time, IsWithin}
@@ -24,10 +23,14 @@ use Rattle.tf_model.specs.CostLaws.{late_law, step_law}
 use Rattle.tf_model.specs.JobFields.{JobFields}
 use Rattle.tf_model.specs.Timetable.{greatest_of}
 use Rattle.tf_model.specs.InstanceData.{InstanceData, IsInstance, any_time, any_given, is_beyond, has_negative, has_beyond, is_no_job, is_bad_arc, first_with, count_fault, counts_fault}
-use Rattle.tf_model.specs.SchedulingTask.{JobData, no_job, SchedulingTask, IsJob, job_data, time_of, all_jobs, costs_of, is_single, is_shop, is_weighted, is_released, is_due, is_costed, is_ordered, is_sum}
+use Rattle.tf_model.specs.SchedulingTask.{JobData, no_job, SchedulingTask, IsJob, job_data, time_of, all_jobs, costs_of}
+use Rattle.tf_model.specs.ClassTable.{is_single, is_shop, is_weighted, is_released, is_due, is_costed, is_ordered, is_sum, is_dearest}
 use Rattle.tf_model.specs.Cost.{Objective, Makespan, Lateness, Dearest, Total, objective_of, price_by}
 use Rattle.tf_model.specs.Sound.{IsSound}
-use Rattle.tf_model.specs.Prepare.{◌>>=◌, agreed, given, count_for, machine_count, IsCountFor, is_two, has_wrong_times, missing_from, has_zero_time, zero_time, first_time, second_time, data_of, cost_of, kept_costs, task_of, work_of, is_too_large, jobs_refusal}
+use Rattle.tf_model.specs.Outcome.{◌>>=◌}
+use Rattle.tf_model.specs.Prepare.{agreed, given, count_for, machine_count, IsCountFor, is_two, has_wrong_times, missing_from, has_zero_time, zero_time, first_time, second_time, data_of, cost_of, kept_costs, task_of, work_of, is_too_large, jobs_refusal}
+use Rattle.tf_model.proofs.Classes.{shop_not_single}
+use Rattle.tf_model.proofs.Outcomes.{bind_ok}
 use Rattle.tf_model.proofs.Costs.{sum_by-all_jobs}
 
 -- ---- what an absent fault says
@@ -64,10 +67,6 @@ none_at p xs e k d h = fails_before_first p xs k d (omega (arith, h, beyond (ltb
 
 -- ---- the number of machines
 
-and_then-Ok : {A B : Type 0} (r : Result A Refusal) (f : A → Result B Refusal) (v : B) → (r >>= f) ≡ Ok v → (a : A) × (f a ≡ Ok v)
-and_then-Ok (Ok a) f v e = (a, e)
-and_then-Ok (Err x) f v e = cc
-
 count_for-Ok : (class : Class) (n m : ℕ) → count_for class n ≡ Ok m → count_for class m ≡ Ok m
 count_for-Ok class n m e = let is : n ≡ m = same _ e in subst (λ z. count_for class z ≡ Ok m) is e
   where
@@ -80,10 +79,10 @@ IsCountFor-machine_count class notation argument instance m = by_single (is_sing
   where
     at_last : (agreed notation argument >>= λ x. agreed x instance >>= λ y. given y >>= λ n. count_for class n) ≡ Ok m → count_for class m ≡ Ok m
     at_last e =
-        let first = and_then-Ok (agreed notation argument) (λ x. agreed x instance >>= λ y. given y >>= λ n. count_for class n) m e in
-        let second = and_then-Ok (agreed first.0 instance) (λ y. given y >>= λ n. count_for class n) m first.1 in
-        let third = and_then-Ok (given second.0) (λ n. count_for class n) m second.1 in
-        count_for-Ok class third.0 m third.1
+        let first = bind_ok (agreed notation argument) (λ x. agreed x instance >>= λ y. given y >>= λ n. count_for class n) m e in
+        let second = bind_ok (agreed first.0 instance) (λ y. given y >>= λ n. count_for class n) m first.2 in
+        let third = bind_ok (given second.0) (λ n. count_for class n) m second.2 in
+        count_for-Ok class third.0 m third.2
 
     by_single : (s : Bool) → cond s (Ok 1) (agreed notation argument >>= λ x. agreed x instance >>= λ y. given y >>= λ n. count_for class n) ≡ Ok m → cond s (Ok 1) (count_for class m) ≡ Ok m
     by_single true e = e
@@ -94,11 +93,6 @@ record FitsMachines (class : Class) (m : ℕ) : Type 0 where
   few : m ≤ MOST_MACHINES
   single : IsTrue (is_single class) → m ≡ 1
   shop : IsTrue (is_shop class) → m ≡ 2
-
-not_single : (class : Class) → IsTrue (is_shop class) → IsFalse (is_single class)
-not_single FlowTwo h = refl
-not_single OpenTwo h = refl
-not_single _ h = cc
 
 counted : (class : Class) (m : ℕ) → IsCountFor class m → FitsMachines class m
 counted class m = by_single (is_single class) refl
@@ -118,7 +112,7 @@ counted class m = by_single (is_single class) refl
           some = omega arith;
           few = omega arith;
           single = λ _. one;
-          shop = λ h. let not : is_single class ≡ false = not_single class h in cc;
+          shop = λ h. let not : is_single class ≡ false = shop_not_single class h in cc;
         }
     by_single false is e =
         let tests = neither (ltb m 1 || ltb MOST_MACHINES m) (is_shop class && not (eqb m 2)) (accepted _ e) in
@@ -146,8 +140,8 @@ no_second (One a) one = refl
 no_second (Two a b) one = cc
 
 within : (z : ℤ) → is_beyond z ≡ false → IsWithin z
-within (pos n) e = let le : n ≤ 4000000000000000000 = ltb-false _ _ e in (omega (arith, ints), omega (arith, ints))
-within (negsuc n) e = let le : suc n ≤ 4000000000000000000 = ltb-false _ _ e in (omega (arith, ints), omega (arith, ints))
+within (pos n) e = let le : n ≤ limit = ltb-false _ _ e in (omega (arith, ints), omega (arith, ints))
+within (negsuc n) e = let le : suc n ≤ limit = ltb-false _ _ e in (omega (arith, ints), omega (arith, ints))
 
 due_within : (due : Option ℤ) → any_given is_beyond due ≡ false → IsWithin (unwrap_or due (pos 0))
 due_within None e = within (pos 0) refl
@@ -169,11 +163,6 @@ price_rises Makespan k j c e steps le = omega (arith, ints)
 price_rises Lateness k j c e steps le = late_law (job_data k j).due c e le
 price_rises Dearest k j c e steps le = step_law (costs_of k j) c e (steps refl) le
 price_rises Total k j c e steps le = let less : (job_data k j).weight * c ≤ (job_data k j).weight * e = mul-le-mul_left (job_data k j).weight le in omega (arith, ints)
-
-dearest_costed : (class : Class) → objective_of class ≡ Dearest → IsTrue (is_costed class)
-dearest_costed Hmax h = refl
-dearest_costed PrecHmax h = refl
-dearest_costed _ h = cc
 
 -- ---- the task
 
@@ -209,15 +198,15 @@ module _ (class : Class) (m : ℕ) (i : InstanceData) (instance : IsInstance i) 
       (zero_times.0, not_then _ _ zero_times.1)
 
   totals : (jobs : List JobData) → is_too_large class jobs ≡ false
-      → (work_of jobs ≤ 4000000000000000000)
-      × (greatest_of (map (λ (job : JobData). job.release) jobs) + work_of jobs ≤ 4000000000000000000)
-      × (IsTrue (is_sum class) → sum_by (λ (job : JobData). job.weight) jobs * work_of jobs ≤ 4000000000000000000)
+      → (work_of jobs ≤ limit)
+      × (greatest_of (map (λ (job : JobData). job.release) jobs) + work_of jobs ≤ limit)
+      × (IsTrue (is_sum class) → sum_by (λ (job : JobData). job.weight) jobs * work_of jobs ≤ limit)
   totals jobs e =
       let last : ℕ = greatest_of (map (λ (job : JobData). job.release) jobs) in
       let weight : ℕ = sum_by (λ (job : JobData). job.weight) jobs in
-      let tests = neither (ltb 4000000000000000000 (work_of jobs) || ltb 4000000000000000000 (last + work_of jobs)) (is_sum class && ltb 4000000000000000000 (weight * work_of jobs)) e in
-      let first = neither (ltb 4000000000000000000 (work_of jobs)) (ltb 4000000000000000000 (last + work_of jobs)) tests.0 in
-      (ltb-false _ _ first.0, ltb-false _ _ first.1, λ h. ltb-false _ _ (not_both (is_sum class) (ltb 4000000000000000000 (weight * work_of jobs)) tests.1 h))
+      let tests = neither (ltb limit (work_of jobs) || ltb limit (last + work_of jobs)) (is_sum class && ltb limit (weight * work_of jobs)) e in
+      let first = neither (ltb limit (work_of jobs)) (ltb limit (last + work_of jobs)) tests.0 in
+      (ltb-false _ _ first.0, ltb-false _ _ first.1, λ h. ltb-false _ _ (not_both (is_sum class) (ltb limit (weight * work_of jobs)) tests.1 h))
 
   fields : ℕ → JobFields
   fields j = get_or i.jobs (j - 1) no_fields
@@ -276,8 +265,8 @@ module _ (class : Class) (m : ℕ) (i : InstanceData) (instance : IsInstance i) 
             (kept_within (is_due class) (unwrap_or (fields j).due (pos 0)) (due_within (fields j).due (due_not_beyond (fields j) (each has_beyond good_jobs.0 j h))));
         total = omega (arith, work, sums.0);
         horizon = λ j h. omega (arith, work, sums.1, release-le-greatest k.jobs (j - 1) no_job (omega (arith, h.0, h.1)));
-        weighted_total = λ h. subst (λ n. n ≤ 4000000000000000000) (sym (ap (λ n. n * sum_by (time_of k) (all_jobs k)) weights ∙ ap (λ n. sum_by (λ (job : JobData). job.weight) k.jobs * n) work)) (sums.2 h);
-        rising = λ j c e h le. price_rises (objective_of class) k j c e (λ o. steps (j - 1) no_steps (omega (arith, h.0, h.1, costed (dearest_costed class o)))) le;
+        weighted_total = λ h. subst (λ n. n ≤ limit) (sym (ap (λ n. n * sum_by (time_of k) (all_jobs k)) weights ∙ ap (λ n. sum_by (λ (job : JobData). job.weight) k.jobs * n) work)) (sums.2 h);
+        rising = λ j c e h le. price_rises (objective_of class) k j c e (λ o. steps (j - 1) no_steps (omega (arith, h.0, h.1, costed (ap is_dearest o)))) le;
       }
     where
       due_not_beyond : (job : JobFields) → has_beyond job ≡ false → any_given is_beyond job.due ≡ false

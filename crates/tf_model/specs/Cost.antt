@@ -2,32 +2,11 @@
 use Rattle.std.specs.Prelude.{◌≡◌, ℕ, ◌*◌, ℤ, pos, ◌-ℤ◌, ◌≤ℤ◌, map}
 use Rattle.std.specs.List.{fold, sum_by}
 use Rattle.std.specs.Int.{int_max}
-use Rattle.tf_model.specs.declared.class.Class.{Class}
-use Rattle.tf_model.specs.declared.class.Class.TheVariants.{WeightedSum, PlainSum, Hmax, PrecHmax, Lmax, PrecLmax, ReleaseLmax, FlowTwo, OpenTwo, ParallelPrmp, ParallelSum}
+pub use Rattle.tf_model.specs.ClassTable.{Objective, Makespan, Lateness, Dearest, Total, objective_of}
 use Rattle.tf_model.specs.Timetable.{Timetable, completion}
 use Rattle.tf_model.specs.SchedulingTask.{SchedulingTask, all_jobs, job_data, costs_of}
 use Rattle.tf_model.specs.Steps.{step_value}
 use Rattle.tf_model.specs.Feasible.{Fits}
-
--- the four kinds of objective
-pub data Objective : Type 0 where
-  Makespan : Objective  -- the greatest completion
-  Lateness : Objective  -- the greatest completion minus due date
-  Dearest : Objective  -- the greatest cost by the jobs' cost functions
-  Total : Objective  -- the weighted sum of the completions
-
-abbrev pub objective_of : Class → Objective
-objective_of WeightedSum = Total
-objective_of PlainSum = Total
-objective_of Hmax = Dearest
-objective_of PrecHmax = Dearest
-objective_of Lmax = Lateness
-objective_of PrecLmax = Lateness
-objective_of ReleaseLmax = Lateness
-objective_of FlowTwo = Makespan
-objective_of OpenTwo = Makespan
-objective_of ParallelPrmp = Makespan
-objective_of ParallelSum = Total
 
 -- what job j costs if it completes at c
 abbrev pub price_by : Objective → SchedulingTask → ℕ → ℕ → ℤ

@@ -2,6 +2,7 @@
 use Rattle.std.specs.Prelude.{◌≡◌, ℕ, ℤ, pos, ◌+◌, Bool, false, ◌||◌, ◌==◌, nat_lt, List, length, position, Option, Some, None, unsigned_abs, int_lt}
 use Rattle.std.specs.Bool.{then_some}
 use Rattle.std.specs.Option.{option_map, option_or}
+use Rattle.tf_model.specs.Limit.{limit}
 use Rattle.tf_model.specs.JobFields.{JobFields}
 use Rattle.tf_model.specs.declared.job.Times.{Times}
 use Rattle.tf_model.specs.declared.job.Times.TheVariants.{One, Two}
@@ -29,7 +30,7 @@ abbrev pub is_negative : ℤ → Bool
 is_negative z = int_lt z (pos 0)
 
 abbrev pub is_beyond : ℤ → Bool
-is_beyond z = nat_lt 4000000000000000000 (unsigned_abs z)
+is_beyond z = nat_lt limit (unsigned_abs z)
 
 -- a time, the weight or the release date is negative
 abbrev pub has_negative : JobFields → Bool

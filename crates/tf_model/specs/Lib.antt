@@ -1,3 +1,4 @@
+pub mod Limit
 pub mod Whole
 pub mod Steps
 pub mod JobFields
@@ -5,6 +6,7 @@ pub mod InstanceData
 pub mod StepFaults
 pub mod CostLaws
 pub mod ClassTable
+pub mod Outcome
 pub mod Prepare
 pub mod Timetable
 pub mod SchedulingTask

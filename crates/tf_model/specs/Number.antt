@@ -3,11 +3,9 @@ use Rattle.std.specs.Prelude.{ℕ, Bool, ◌&&◌, List, length, drop, nat_lt, �
 use Rattle.std.specs.List.{list_all}
 use Rattle.std.specs.Char.{is_ascii_digit}
 use Rattle.std.specs.Str.Parse.{digits_value}
+pub use Rattle.tf_model.specs.Limit.{limit}
 use Rattle.tf_model.specs.declared.number.Number.{Number}
 use Rattle.tf_model.specs.declared.number.Number.TheVariants.{NotANumber, TooLarge, Value}
-
-abbrev pub limit : ℕ
-limit = 4000000000000000000
 
 -- one digit or more, and nothing else
 abbrev pub is_numeral : List ℕ → Bool

@@ -1,14 +1,17 @@
 -- The task of an instance and a problem, or the first refusal. A field that the class does not use is ignored.
-use Rattle.std.specs.Prelude.{◌≡◌, ℕ, ◌+◌, ◌*◌, Bool, true, false, not, ◌&&◌, ◌||◌, ◌==◌, nat_lt, ℤ, pos, List, [], ◌∷◌, map, Option, None, Some, Result, Ok, Err, is_none, unwrap_or, int_lt, if◌then◌else◌, IsOk}
+use Rattle.std.specs.Prelude.{◌≡◌, ℕ, ◌+◌, ◌*◌, Bool, true, false, not, ◌&&◌, ◌||◌, ◌==◌, nat_lt, ℤ, pos, List, [], ◌∷◌, map, length, Option, None, Some, Result, Ok, Err, is_none, unwrap_or, int_lt, if◌then◌else◌, IsOk}
 use Rattle.std.specs.Bool.{then_some}
 use Rattle.std.specs.Option.{option_map, option_or, ok_or}
 use Rattle.std.specs.List.{sum_by}
+use Rattle.tf_model.specs.Limit.{limit}
+use Rattle.tf_model.specs.Outcome.{◌>>=◌, unless}
 use Rattle.tf_model.specs.Whole.{as_time}
 use Rattle.tf_model.specs.Steps.{Steps, no_steps}
 use Rattle.tf_model.specs.Timetable.{greatest_of}
 use Rattle.tf_model.specs.JobFields.{JobFields}
 use Rattle.tf_model.specs.InstanceData.{InstanceData, any_time, first_with}
-use Rattle.tf_model.specs.SchedulingTask.{JobData, SchedulingTask, is_shop, is_single, is_weighted, is_released, is_due, is_costed, is_ordered, is_sum}
+use Rattle.tf_model.specs.SchedulingTask.{JobData, SchedulingTask}
+use Rattle.tf_model.specs.ClassTable.{is_shop, is_single, is_weighted, is_released, is_due, is_costed, is_ordered, is_sum}
 use Rattle.tf_model.specs.ClassTable.{class_of}
 use Rattle.tf_model.specs.declared.class.Class.{Class}
 use Rattle.tf_model.specs.declared.problem.Problem.{Problem}
@@ -17,26 +20,20 @@ use Rattle.tf_model.specs.declared.job.Times.TheVariants.{One, Two}
 use Rattle.tf_model.specs.declared.prepare.Field.{Field}
 use Rattle.tf_model.specs.declared.prepare.Field.TheVariants.{Weight, Due, Release, Cost}
 use Rattle.tf_model.specs.declared.prepare.Refusal.{Refusal}
-use Rattle.tf_model.specs.declared.prepare.Refusal.TheVariants.{NoSolver, MachinesMissing, MachinesDisagree, MachineCount, WrongTimes, MissingField, ZeroTime, TotalTooLarge, OutOfMemory}
-use Rattle.tf_model.specs.declared.limit.TheConstants.{MOST_MACHINES}
-
-infixl 10 ◌>>=◌
-abbrev pub ◌>>=◌ : {A B : Type 0} → Result A Refusal → (A → Result B Refusal) → Result B Refusal
-(Ok x) >>= f = f x
-(Err e) >>= f = Err e
-
--- the refusal where there is one
-abbrev pub unless : {A : Type 0} → Option Refusal → Result A Refusal → Result A Refusal
-unless (Some refusal) result = Err refusal
-unless None result = result
+use Rattle.tf_model.specs.declared.prepare.Refusal.TheVariants.{NoSolver, TooManyJobs, MachinesMissing, MachinesDisagree, MachineCount, WrongTimes, MissingField, ZeroTime, TotalTooLarge, OutOfMemory}
+use Rattle.tf_model.specs.declared.limit.TheConstants.{MOST_COSTED_JOBS, MOST_MACHINES}
 
 abbrev pub work_of : List JobData → ℕ
 work_of jobs = sum_by (λ job. job.first + job.second) jobs
 
--- ---- the class, and the number of machines
+-- ---- the class, the number of jobs, and the number of machines
 
 abbrev pub classified : Problem → Result Class Refusal
 classified problem = ok_or (class_of problem) NoSolver
+
+-- where each job has a cost function of its own, there are fewer jobs at most
+abbrev pub is_too_many : Class → ℕ → Bool
+is_too_many class jobs = is_costed class && nat_lt MOST_COSTED_JOBS jobs
 
 -- the count that two places give, each perhaps none
 abbrev pub agreed : Option ℕ → Option ℕ → Result (Option ℕ) Refusal
@@ -135,9 +132,9 @@ task_of class machines i = record {
 -- all the work, the work behind the last release date, or for a sum of completion times the weights times the work
 abbrev pub is_too_large : Class → List JobData → Bool
 is_too_large class jobs =
-    nat_lt 4000000000000000000 (work_of jobs)
-    || nat_lt 4000000000000000000 (greatest_of (map (λ job. job.release) jobs) + work_of jobs)
-    || (is_sum class && nat_lt 4000000000000000000 (sum_by (λ job. job.weight) jobs * work_of jobs))
+    nat_lt limit (work_of jobs)
+    || nat_lt limit (greatest_of (map (λ job. job.release) jobs) + work_of jobs)
+    || (is_sum class && nat_lt limit (sum_by (λ job. job.weight) jobs * work_of jobs))
 
 -- each kind of refusal over all jobs before the next, with the smallest job
 abbrev pub jobs_refusal : Class → List JobFields → Option Refusal
@@ -150,7 +147,7 @@ jobs_refusal class jobs =
 abbrev pub prepared : InstanceData → Problem → Option ℕ → Result SchedulingTask Refusal
 prepared i problem argument = do
   class ← classified problem
-  machines ← machine_count class problem.count argument i.machines
+  machines ← unless (then_some (is_too_many class (length i.jobs)) TooManyJobs) (machine_count class problem.count argument i.machines)
   unless (jobs_refusal class i.jobs) (Ok (task_of class machines i))
 
 -- what `prepare` answers: what is prepared or refused, or want of memory once nothing is refused

@@ -1,9 +1,11 @@
 -- What every task keeps that was prepared.
 use Rattle.std.specs.Prelude.{◌≡◌, ℕ, ◌+◌, ◌*◌, ◌≤◌, ◌≤ℤ◌, [], length, IsTrue, IsFalse}
 use Rattle.std.specs.List.{All, sum_by}
+use Rattle.tf_model.specs.Limit.{limit}
 use Rattle.tf_model.specs.Whole.{IsWithin}
 use Rattle.tf_model.specs.declared.limit.TheConstants.{MOST_JOBS, MOST_MACHINES}
-use Rattle.tf_model.specs.SchedulingTask.{SchedulingTask, all_jobs, IsJob, job_data, time_of, is_shop, is_single, is_weighted, is_released, is_costed, is_ordered, is_sum}
+use Rattle.tf_model.specs.SchedulingTask.{SchedulingTask, all_jobs, IsJob, job_data, time_of}
+use Rattle.tf_model.specs.ClassTable.{is_shop, is_single, is_weighted, is_released, is_costed, is_ordered, is_sum}
 use Rattle.tf_model.specs.Cost.{price}
 
 pub record IsSound (k : SchedulingTask) : Type 0 where
@@ -25,8 +27,8 @@ pub record IsSound (k : SchedulingTask) : Type 0 where
   pub arcs_in : All (λ arc. IsJob k arc.0 × IsJob k arc.1) k.arcs
   pub dues : (j : ℕ) → IsJob k j → IsWithin (job_data k j).due
   -- the totals: all the work, the work behind any release date, and the weights times the work
-  pub total : sum_by (time_of k) (all_jobs k) ≤ 4000000000000000000
-  pub horizon : (j : ℕ) → IsJob k j → (job_data k j).release + sum_by (time_of k) (all_jobs k) ≤ 4000000000000000000
-  pub weighted_total : IsTrue (is_sum k.class) → sum_by (λ j. (job_data k j).weight) (all_jobs k) * sum_by (time_of k) (all_jobs k) ≤ 4000000000000000000
+  pub total : sum_by (time_of k) (all_jobs k) ≤ limit
+  pub horizon : (j : ℕ) → IsJob k j → (job_data k j).release + sum_by (time_of k) (all_jobs k) ≤ limit
+  pub weighted_total : IsTrue (is_sum k.class) → sum_by (λ j. (job_data k j).weight) (all_jobs k) * sum_by (time_of k) (all_jobs k) ≤ limit
   -- no job gets cheaper by being late
   pub rising : (j c e : ℕ) → IsJob k j → c ≤ e → price k j c ≤ℤ price k j e

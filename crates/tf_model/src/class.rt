@@ -29,6 +29,22 @@ pub enum Class {
     ParallelPrmp,
     /// `P||sumC`
     ParallelSum,
+    /// `1|prmp|sumwC`
+    PrmpWeightedSum,
+    /// `1|prmp|sumC`
+    PrmpPlainSum,
+    /// `1|prmp|hmax`
+    PrmpHmax,
+    /// `1|prec,prmp|hmax`
+    PrmpPrecHmax,
+    /// `1|prmp|Lmax`
+    PrmpLmax,
+    /// `1|prec,prmp|Lmax`
+    PrmpPrecLmax,
+    /// `F2|prmp|Cmax`
+    PrmpFlowTwo,
+    /// `O2|prmp|Cmax`
+    PrmpOpenTwo,
 }
 
 /// The class of a problem, if it has one: its environment, exactly its conditions, and its objective. A shop has a
@@ -42,8 +58,8 @@ pub fn class_of(problem: &Problem) -> Option<Class>
     match problem.env {
         Env::Single => single_class(problem.goal, problem.release, problem.prec, problem.prmp),
         Env::Parallel => parallel_class(problem.goal, problem.release, problem.prec, problem.prmp),
-        Env::Flow => shop_class(problem, Class::FlowTwo),
-        Env::OpenShop => shop_class(problem, Class::OpenTwo),
+        Env::Flow => shop_class(problem, Class::FlowTwo, Class::PrmpFlowTwo),
+        Env::OpenShop => shop_class(problem, Class::OpenTwo, Class::PrmpOpenTwo),
         Env::Uniform | Env::Unrelated | Env::JobShop => None,
     }
 }
@@ -53,11 +69,17 @@ fn single_class(goal: Goal, release: bool, prec: bool, prmp: bool) -> Option<Cla
 {
     match (goal, release, prec, prmp) {
         (Goal::SumWC, false, false, false) => Some(Class::WeightedSum),
+        (Goal::SumWC, false, false, true) => Some(Class::PrmpWeightedSum),
         (Goal::SumC, false, false, false) => Some(Class::PlainSum),
+        (Goal::SumC, false, false, true) => Some(Class::PrmpPlainSum),
         (Goal::Hmax, false, false, false) => Some(Class::Hmax),
+        (Goal::Hmax, false, false, true) => Some(Class::PrmpHmax),
         (Goal::Hmax, false, true, false) => Some(Class::PrecHmax),
+        (Goal::Hmax, false, true, true) => Some(Class::PrmpPrecHmax),
         (Goal::Lmax, false, false, false) => Some(Class::Lmax),
+        (Goal::Lmax, false, false, true) => Some(Class::PrmpLmax),
         (Goal::Lmax, false, true, false) => Some(Class::PrecLmax),
+        (Goal::Lmax, false, true, true) => Some(Class::PrmpPrecLmax),
         (Goal::Lmax, true, false, true) => Some(Class::ReleaseLmax),
         _ => None,
     }
@@ -73,92 +95,175 @@ fn parallel_class(goal: Goal, release: bool, prec: bool, prmp: bool) -> Option<C
     }
 }
 
-fn shop_class(problem: &Problem, class: Class) -> Option<Class>
-    ensures { result ≡ shop_class problem.now class }
+fn shop_class(problem: &Problem, plain: Class, broken: Class) -> Option<Class>
+    ensures { result ≡ shop_class problem.now plain broken }
 {
-    let plain = !problem.release && !problem.prec && !problem.prmp;
+    let free = !problem.release && !problem.prec;
     match (problem.goal, problem.count) {
-        (Goal::Cmax, None | Some(2)) if plain => Some(class),
+        (Goal::Cmax, None | Some(2)) if free => { Some(if problem.prmp { broken } else { plain }) }
         _ => None,
     }
 }
 
 impl Class {
-    ghost use Rattle.tf_model.specs.SchedulingTask.{may_break, is_flow, is_shop, is_single, is_weighted, is_released, is_due, is_costed, is_ordered, is_sum};
+    ghost use Rattle.tf_model.specs.ClassTable.{notation_of, may_break, is_flow, is_shop, is_single, is_weighted, is_released, is_due, is_costed, is_ordered, is_sum, is_parallel, is_span};
+
+    /// The notation of the class, from which all that follows is read.
+    pub fn notation(self) -> Problem
+        ensures notation { result ≡ notation_of self }
+        ensures own { class_of result ≡ Some self }
+    {
+        match self {
+            Class::WeightedSum => Problem::plain(Env::Single, Goal::SumWC),
+            Class::PlainSum => Problem::plain(Env::Single, Goal::SumC),
+            Class::Hmax => Problem::plain(Env::Single, Goal::Hmax),
+            Class::PrecHmax => Problem {
+                prec: true,
+                ..Problem::plain(Env::Single, Goal::Hmax)
+            },
+            Class::Lmax => Problem::plain(Env::Single, Goal::Lmax),
+            Class::PrecLmax => Problem {
+                prec: true,
+                ..Problem::plain(Env::Single, Goal::Lmax)
+            },
+            Class::ReleaseLmax => Problem {
+                release: true,
+                prmp: true,
+                ..Problem::plain(Env::Single, Goal::Lmax)
+            },
+            Class::FlowTwo => Problem {
+                count: Some(2),
+                ..Problem::plain(Env::Flow, Goal::Cmax)
+            },
+            Class::OpenTwo => Problem {
+                count: Some(2),
+                ..Problem::plain(Env::OpenShop, Goal::Cmax)
+            },
+            Class::ParallelPrmp => Problem {
+                prmp: true,
+                ..Problem::plain(Env::Parallel, Goal::Cmax)
+            },
+            Class::ParallelSum => Problem::plain(Env::Parallel, Goal::SumC),
+            Class::PrmpWeightedSum => Problem {
+                prmp: true,
+                ..Problem::plain(Env::Single, Goal::SumWC)
+            },
+            Class::PrmpPlainSum => Problem {
+                prmp: true,
+                ..Problem::plain(Env::Single, Goal::SumC)
+            },
+            Class::PrmpHmax => Problem {
+                prmp: true,
+                ..Problem::plain(Env::Single, Goal::Hmax)
+            },
+            Class::PrmpPrecHmax => Problem {
+                prec: true,
+                prmp: true,
+                ..Problem::plain(Env::Single, Goal::Hmax)
+            },
+            Class::PrmpLmax => Problem {
+                prmp: true,
+                ..Problem::plain(Env::Single, Goal::Lmax)
+            },
+            Class::PrmpPrecLmax => Problem {
+                prec: true,
+                prmp: true,
+                ..Problem::plain(Env::Single, Goal::Lmax)
+            },
+            Class::PrmpFlowTwo => Problem {
+                count: Some(2),
+                prmp: true,
+                ..Problem::plain(Env::Flow, Goal::Cmax)
+            },
+            Class::PrmpOpenTwo => Problem {
+                count: Some(2),
+                prmp: true,
+                ..Problem::plain(Env::OpenShop, Goal::Cmax)
+            },
+        }
+    }
 
     /// Whether a job has a time for each of two machines.
     pub fn is_shop(self) -> bool
         ensures { result ≡ is_shop self }
     {
-        matches!(self, Class::FlowTwo | Class::OpenTwo)
-    }
-
-    /// Whether there is one machine.
-    pub fn is_single(self) -> bool
-        ensures { result ≡ is_single self }
-    {
-        !matches!(
-            self,
-            Class::FlowTwo | Class::OpenTwo | Class::ParallelPrmp | Class::ParallelSum
-        )
-    }
-
-    /// Whether jobs have weights of their own.
-    pub fn is_weighted(self) -> bool
-        ensures { result ≡ is_weighted self }
-    {
-        matches!(self, Class::WeightedSum)
-    }
-
-    /// Whether jobs have release dates.
-    pub fn is_released(self) -> bool
-        ensures { result ≡ is_released self }
-    {
-        matches!(self, Class::ReleaseLmax)
-    }
-
-    /// Whether jobs have due dates.
-    pub fn is_due(self) -> bool
-        ensures { result ≡ is_due self }
-    {
-        matches!(self, Class::Lmax | Class::PrecLmax | Class::ReleaseLmax)
-    }
-
-    /// Whether jobs have cost functions.
-    pub fn is_costed(self) -> bool
-        ensures { result ≡ is_costed self }
-    {
-        matches!(self, Class::Hmax | Class::PrecHmax)
-    }
-
-    /// Whether arcs are kept.
-    pub fn is_ordered(self) -> bool
-        ensures { result ≡ is_ordered self }
-    {
-        matches!(self, Class::PrecHmax | Class::PrecLmax)
-    }
-
-    /// Whether a job may be interrupted and taken up again (preemption).
-    pub fn may_break(self) -> bool
-        ensures { result ≡ may_break self }
-    {
-        matches!(self, Class::ReleaseLmax | Class::ParallelPrmp)
+        self.notation().env.is_shop()
     }
 
     /// Whether jobs visit machine 1 before machine 2.
     pub fn is_flow(self) -> bool
         ensures { result ≡ is_flow self }
     {
-        matches!(self, Class::FlowTwo)
+        matches!(self.notation().env, Env::Flow)
+    }
+
+    /// Whether there is one machine.
+    pub fn is_single(self) -> bool
+        ensures { result ≡ is_single self }
+    {
+        matches!(self.notation().env, Env::Single)
+    }
+
+    /// Whether there are identical machines in parallel.
+    pub fn is_parallel(self) -> bool
+        ensures { result ≡ is_parallel self }
+    {
+        matches!(self.notation().env, Env::Parallel)
+    }
+
+    /// Whether a job may be interrupted and taken up again (preemption).
+    pub fn may_break(self) -> bool
+        ensures { result ≡ may_break self }
+    {
+        self.notation().prmp
+    }
+
+    /// Whether jobs have release dates.
+    pub fn is_released(self) -> bool
+        ensures { result ≡ is_released self }
+    {
+        self.notation().release
+    }
+
+    /// Whether arcs are kept.
+    pub fn is_ordered(self) -> bool
+        ensures { result ≡ is_ordered self }
+    {
+        self.notation().prec
+    }
+
+    /// Whether the objective is the greatest completion time.
+    pub fn is_span(self) -> bool
+        ensures { result ≡ is_span self }
+    {
+        matches!(self.notation().goal, Goal::Cmax)
+    }
+
+    /// Whether jobs have weights of their own.
+    pub fn is_weighted(self) -> bool
+        ensures { result ≡ is_weighted self }
+    {
+        matches!(self.notation().goal, Goal::SumWC)
+    }
+
+    /// Whether jobs have due dates.
+    pub fn is_due(self) -> bool
+        ensures { result ≡ is_due self }
+    {
+        matches!(self.notation().goal, Goal::Lmax)
+    }
+
+    /// Whether jobs have cost functions.
+    pub fn is_costed(self) -> bool
+        ensures { result ≡ is_costed self }
+    {
+        matches!(self.notation().goal, Goal::Hmax)
     }
 
     /// Whether the objective is a sum of completion times.
     pub fn is_sum(self) -> bool
         ensures { result ≡ is_sum self }
     {
-        matches!(
-            self,
-            Class::WeightedSum | Class::PlainSum | Class::ParallelSum
-        )
+        matches!(self.notation().goal, Goal::SumC | Goal::SumWC)
     }
 }

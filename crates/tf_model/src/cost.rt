@@ -13,6 +13,7 @@ use thiserror::Error;
 /// A cost that depends on the completion time, and does not fall as it grows.
 pub trait Cost {
     ghost use Rattle.std.specs.Prelude.{◌≡◌, ℕ, ℤ, pos, ◌≤◌, ◌≤ℤ◌};
+    ghost use Rattle.tf_model.specs.Limit.{limit};
     ghost use Rattle.tf_model.specs.Whole.{as_time};
 
     /// The cost of completing at a time.
@@ -24,7 +25,7 @@ pub trait Cost {
     /// The cost of completing at time `c`, from 0 to [`LIMIT`].
     fn value_at(&self, c: i64) -> i64
         requires from { pos 0 ≤ℤ c }
-        requires to { c ≤ℤ pos 4000000000000000000 }
+        requires to { c ≤ℤ pos limit }
         ensures value { result ≡ cost_at self.now (as_time c) }
         ensures sound { IsCost self.now };
 

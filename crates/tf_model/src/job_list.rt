@@ -7,6 +7,7 @@ use std::marker::Model;
 
 /// A list of jobs, in any order, with or without repetitions.
 #[derive(Drop)]
+#[derive_where(Debug)]
 pub struct JobList<A: Allocator = Global> {
     jobs: Vec<JobId, A>,
 }
@@ -31,4 +32,26 @@ impl<A: Allocator> JobList<A> {
     {
         self.jobs.as_slice()
     }
+}
+
+impl<A: Allocator> PartialEq for JobList<A> {
+    ghost use Rattle.std.specs.Prelude.{◌==◌};
+    ghost use Rattle.std.specs.Cmp.Lexicographic.{pointwise};
+    ghost use Rattle.std.proofs.Common.{rules};
+    ghost use Rattle.std.specs.Cmp.Rules.{comparing};
+
+    ghost eq = { pointwise ◌==◌ };
+
+    ghost laws = { Prim.search (comparing, rules) };
+
+    fn eq(&self, other: &Self) -> bool {
+        self.jobs.as_slice() == other.jobs.as_slice()
+    }
+}
+
+impl<A: Allocator> Eq for JobList<A> {
+    ghost use Rattle.std.proofs.Common.{rules};
+    ghost use Rattle.std.specs.Cmp.Rules.{comparing};
+
+    ghost laws = { Prim.search (comparing, rules) };
 }

@@ -4,7 +4,10 @@
 pub const LIMIT: i64 = 4_000_000_000_000_000_000;
 
 /// The most jobs of an instance.
-pub const MOST_JOBS: usize = 2_000;
+pub const MOST_JOBS: usize = 100_000;
+
+/// The most jobs where each has a cost function of its own.
+pub const MOST_COSTED_JOBS: usize = 2_000;
 
 /// The most machines of an instance.
 pub const MOST_MACHINES: u32 = 1_000;

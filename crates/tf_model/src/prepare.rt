@@ -6,8 +6,9 @@ ghost use Rattle.tf_model.specs.Whole.{as_time};
 ghost use Rattle.tf_model.specs.Timetable.{greatest_of};
 ghost use Rattle.tf_model.specs.StepFaults.{IsStepCost};
 ghost use Rattle.tf_model.specs.InstanceData.{IsInstance, first_with};
-ghost use Rattle.tf_model.specs.SchedulingTask.{SchedulingTask, is_shop, is_single, is_weighted, is_released, is_due, is_costed, is_ordered, is_sum};
-ghost use Rattle.tf_model.specs.Prepare.{machine_count, agreed, given, count_for, has_wrong_times, lacking, missing_from, has_zero_time, zero_time, data_of, cost_of, kept_costs, kept_arcs, task_of, work_of, is_too_large, jobs_refusal, prepared, Prepares, IsCountFor};
+ghost use Rattle.tf_model.specs.SchedulingTask.{SchedulingTask};
+ghost use Rattle.tf_model.specs.ClassTable.{is_shop, is_single, is_weighted, is_released, is_due, is_costed, is_ordered, is_sum};
+ghost use Rattle.tf_model.specs.Prepare.{is_too_many, machine_count, agreed, given, count_for, has_wrong_times, lacking, missing_from, has_zero_time, zero_time, data_of, cost_of, kept_costs, kept_arcs, task_of, work_of, is_too_large, jobs_refusal, prepared, Prepares, IsCountFor};
 ghost use Rattle.tf_model.specs.declared.prepare.Refusal.TheVariants.{OutOfMemory};
 
 use crate::class::{Class, class_of};
@@ -15,7 +16,7 @@ use crate::cost::StepCost;
 use crate::ids::JobId;
 use crate::instance::{Instance, numbered};
 use crate::job::{Job, Times};
-use crate::limit::{LIMIT, MOST_JOBS, MOST_MACHINES};
+use crate::limit::{LIMIT, MOST_COSTED_JOBS, MOST_JOBS, MOST_MACHINES};
 use crate::problem::Problem;
 use crate::task::{JobRow, Task};
 use std::alloc::{AllocError, AllocFailed, Allocator};
@@ -36,7 +37,7 @@ pub enum Refusal {
     /// No class has the problem.
     #[error("there is no solver for the problem")]
     NoSolver,
-    /// There are more jobs than the class allows.
+    /// There are more than `MOST_COSTED_JOBS`, where each job has a cost function of its own.
     #[error("there are too many jobs")]
     TooManyJobs,
     /// Neither the notation nor the caller nor the instance gives a number of machines.
@@ -94,11 +95,21 @@ pub fn prepare<A: Allocator + Copy, B: Allocator>(
     let Some(class) = class_of(problem) else {
         return Err(Refusal::NoSolver);
     };
+    if is_too_many(class, instance.len()) {
+        return Err(Refusal::TooManyJobs);
+    }
     let machines = machine_count(class, problem.count, machines, instance.machines())?;
     if let Some(refusal) = jobs_refusal(class, instance.jobs()) {
         return Err(refusal);
     }
     assemble(alloc, class, machines, instance)
+}
+
+// Whether there are more jobs than the class allows.
+fn is_too_many(class: Class, jobs: usize) -> bool
+    ensures { result ≡ is_too_many class jobs }
+{
+    class.is_costed() && jobs > MOST_COSTED_JOBS
 }
 
 // The machine count that two places give, each perhaps none.

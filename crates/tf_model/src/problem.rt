@@ -1,4 +1,6 @@
 //! A scheduling problem in three-field notation (Graham, Lawler, Lenstra and Rinnooy Kan 1979; Pinedo, chapter 2).
+ghost use Rattle.std.specs.Prelude.{◌≡◌};
+ghost use Rattle.tf_model.specs.ClassTable.{is_shop_env, plain_problem};
 
 /// A machine environment, the first field.
 #[derive(Clone, Copy, Debug, PartialEq, Eq)]
@@ -63,4 +65,33 @@ pub struct Problem {
     /// `rcrc`: a job may visit a machine more than once.
     pub rcrc: bool,
     pub goal: Goal,
+}
+
+impl Env {
+    /// Whether a job has a time of its own for each machine.
+    pub fn is_shop(self) -> bool
+        ensures { result ≡ is_shop_env self }
+    {
+        matches!(self, Env::Flow | Env::OpenShop | Env::JobShop)
+    }
+}
+
+impl Problem {
+    /// The problem with no condition, and no number of machines in its notation.
+    pub fn plain(env: Env, goal: Goal) -> Problem
+        ensures { result ≡ plain_problem env goal }
+    {
+        Problem {
+            env,
+            count: None,
+            release: false,
+            prec: false,
+            prmp: false,
+            prmu: false,
+            nwt: false,
+            block: false,
+            rcrc: false,
+            goal,
+        }
+    }
 }

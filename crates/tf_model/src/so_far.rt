@@ -2,9 +2,8 @@
 ghost use Rattle.std.specs.Prelude.{◌≡◌, ℕ, List, [], ◌∷◌, ◌++◌};
 ghost use Rattle.tf_model.specs.SoFar.{next, with_digit, so_far};
 
+use crate::limit::LIMIT;
 use crate::number::Number;
-
-const MOST: u128 = 4_000_000_000_000_000_000;
 
 /// What the bytes of a word have shown so far, as a number.
 #[derive(Clone, Copy, Debug, PartialEq, Eq)]
@@ -28,7 +27,7 @@ fn with_digit(negative: bool, size: u64, byte: u8) -> SoFar
         return SoFar::Bad;
     }
     let size = u128::from(size) * 10 + u128::from(byte - b'0');
-    if size > MOST {
+    if size > LIMIT as u128 {
         SoFar::Above
     } else {
         SoFar::Digits(negative, size as u64)

@@ -1,9 +1,10 @@
 //! A task: an instance cut to what its class uses.
 ghost use Rattle.std.specs.Prelude.{◌≡◌, ◌≤◌, pos};
+ghost use Rattle.tf_model.specs.Limit.{limit};
 
 use crate::class::Class;
 use crate::cost::StepCost;
-use crate::ids::JobId;
+use crate::ids::{JobId, MachineId};
 use crate::job::Times;
 use std::alloc::{Allocator, Global};
 use std::marker::Model;
@@ -47,7 +48,7 @@ impl Model for JobRow {
 }
 
 fn as_signed(time: u64) -> i64
-    requires { time ≤ 4000000000000000000 }
+    requires { time ≤ limit }
     ensures { result ≡ pos time }
 {
     time as i64
@@ -75,8 +76,10 @@ impl<A: Allocator> Model for Task<A> {
 }
 
 impl<A: Allocator> Task<A> {
-    ghost use Rattle.std.specs.Prelude.{◌≡◌, ◌≤◌, length, pos, IsTrue, IsFalse};
-    ghost use Rattle.tf_model.specs.SchedulingTask.{IsJob, job_data, time_of, is_costed, is_due, is_released, is_shop, is_sum};
+    ghost use Rattle.std.specs.Prelude.{◌≡◌, ◌-◌, ◌≤◌, length, pos, IsTrue, IsFalse};
+    ghost use Rattle.std.specs.List.{sum_by};
+    ghost use Rattle.tf_model.specs.SchedulingTask.{IsJob, all_jobs, job_data, time_of, time_on};
+    ghost use Rattle.tf_model.specs.ClassTable.{is_costed, is_due, is_released, is_shop, is_sum};
     ghost use Rattle.tf_model.specs.Sound.{IsSound};
     ghost use Rattle.tf_model.specs.Bounds.{load_value};
 
@@ -185,9 +188,34 @@ impl<A: Allocator> Task<A> {
     pub fn time(&self, job: JobId) -> u64
         requires { IsJob self.now job }
         ensures value { result ≡ time_of self.now job }
-        ensures small { result ≤ 4000000000000000000 }
+        ensures small { result ≤ limit }
     {
         self.jobs[job.get() as usize - 1].time()
+    }
+
+    /// The time of a job that is there on a machine of a shop, which are 1 and 2.
+    pub fn time_on(&self, job: JobId, machine: MachineId) -> u64
+        requires { IsJob self.now job }
+        ensures { result ≡ time_on self.now job (machine - 1) }
+    {
+        let row = self.job(job);
+        if machine.get() == 1 {
+            row.first
+        } else {
+            row.second
+        }
+    }
+
+    /// The time of all jobs on a machine of a shop, which are 1 and 2.
+    pub fn work_on(&self, machine: MachineId) -> u64
+        ensures value { result ≡ sum_by (λ j. time_on self.now j (machine - 1)) (all_jobs self.now) }
+        ensures small { result ≤ limit }
+    {
+        let mut work: u64 = 0;
+        for k in 0..self.len() {
+            work += self.time_on(JobId::at(k), machine);
+        }
+        work
     }
 
     /// The time of all jobs shared out among the machines, rounded up to whole time steps.

@@ -9,13 +9,14 @@ use Rattle.std.proofs.lemmas.Int.{ints}
 use Rattle.std.proofs.lemmas.Bool.{cases_lt, cases_eq}
 use Rattle.std.proofs.lemmas.Bool.Decides.{nat_tests}
 use Rattle.tf_schedule.specs.declared.piece.Piece.{Piece}
-use Rattle.tf_schedule.specs.Piece.{machine_of, is_during, covers, runs, claims, places}
+use Rattle.tf_schedule.specs.Piece.{machine_of, piece_of, is_during, covers, runs, claims, places}
 use Rattle.tf_schedule.specs.Schedule.{ComesBefore, IsSound, IsSchedule, JobsOnce}
 use Rattle.tf_schedule.specs.Drawing.{work, duration, greatest_stop}
 use Rattle.tf_schedule.proofs.Scan.{claimed_from_test}
 use Rattle.tf_schedule.proofs.Times.{sound_times, time_le_back}
 use Rattle.tf_schedule.proofs.Drawing.{greatest_stop_push}
-use Rattle.tf_multi.specs.Fill.{piece_of, IsPlaced, IsFilled}
+use Rattle.tf_multi.specs.Fill.{IsPlaced, IsFilled}
+use Rattle.tf_model.specs.Limit.{limit}
 
 -- ---- one more piece at the end
 
@@ -42,8 +43,8 @@ once_step : (b : Bool) (n more : ℕ) → more ≡ n + cond b 1 0 → n ≤ 1 �
 once_step true n more e le never = let none : ¬ (0 < n) = never refl in omega arith
 once_step false n more e le _ = omega arith
 
-placed_here : (v n j i s e : ℕ) → 0 < j → j ≤ n → 0 < i → s < e → e ≤ v → v ≤ 4000000000000000000 → IsPlaced v n i e (piece_of j i s e)
-placed_here v n j i s e from_one to_n some lt le limit = record {
+placed_here : (v n j i s e : ℕ) → 0 < j → j ≤ n → 0 < i → s < e → e ≤ v → v ≤ limit → IsPlaced v n i e (piece_of j i s e)
+placed_here v n j i s e from_one to_n some lt le short_enough = record {
   sound = ((omega (arith, ints), omega (arith, ints)), omega (arith, ints));
   job = (from_one, to_n);
   machine = (some, omega arith);
@@ -56,8 +57,8 @@ before_next : (v n j i s e : ℕ) (p : Piece) → IsPlaced v n i s p → ComesBe
 before_next v n j i s e p placed = (placed.machine.1, λ same. time_le_back p.start (pos s) (omega (arith, ints)) (omega (arith, sound_times p placed.sound, placed.before same)))
 
 -- the next piece on the machine
-laid_push : (v n j i s e : ℕ) → 0 < j → j ≤ n → 0 < i → s < e → e ≤ v → v ≤ 4000000000000000000 → (ps : List Piece) → IsLaid v n ps i s → IsLaid v n (ps ++ piece_of j i s e ∷ []) i e
-laid_push v n j i s e from_one to_n some lt le limit ps laid = record {
+laid_push : (v n j i s e : ℕ) → 0 < j → j ≤ n → 0 < i → s < e → e ≤ v → v ≤ limit → (ps : List Piece) → IsLaid v n ps i s → IsLaid v n (ps ++ piece_of j i s e ∷ []) i e
+laid_push v n j i s e from_one to_n some lt le short_enough ps laid = record {
   placed = All-push (IsPlaced v n i e) ps p
       (λ k d h. let q = laid.placed k d h in record { sound = q.sound; job = q.job; machine = q.machine; stop = q.stop; before = λ same. omega (arith, q.before same) })
       here;
@@ -76,7 +77,7 @@ laid_push v n j i s e from_one to_n some lt le limit ps laid = record {
     p = piece_of j i s e
 
     here : IsPlaced v n i e p
-    here = placed_here v n j i s e from_one to_n some lt le limit
+    here = placed_here v n j i s e from_one to_n some lt le short_enough
 
     front_step : (h u : ℕ) (b : Bool) → covers h u p ≡ b → (more : ℕ) → more ≡ claims ps h u + cond b 1 0 → 0 < more → IsBeforeFront i e h u
     front_step h u true c more eq any = let f = claimed_from_test machine_of h u p c in (omega (arith, f.on_line), λ same. f.going)
@@ -153,7 +154,7 @@ sum_by_range_le f a (suc k) (suc n) le = omega (arith, sum_by_range_le f (a + 1)
 
 -- ---- one more job
 
-module _ (v : ℕ) (times : ℕ → ℕ) (job need : ℕ) (from_one : 0 < job) (is_need : times job ≡ need) (work_there : 0 < need) (short : need ≤ v) (limit : v ≤ 4000000000000000000) (ps : List Piece) (i t : ℕ) (filled : IsFilled v times (job - 1) ps i t) where
+module _ (v : ℕ) (times : ℕ → ℕ) (job need : ℕ) (from_one : 0 < job) (is_need : times job ≡ need) (work_there : 0 < need) (short : need ≤ v) (short_enough : v ≤ limit) (ps : List Piece) (i t : ℕ) (filled : IsFilled v times (job - 1) ps i t) where
   total_more : sum_by times (range_with_len 1 job) ≡ sum_by times (range_with_len 1 (job - 1)) + need
   total_more = omega (arith, sum_by_jobs_to times (job - 1) job (omega arith))
 
@@ -199,7 +200,7 @@ module _ (v : ℕ) (times : ℕ → ℕ) (job need : ℕ) (from_one : 0 < job) (
   pub filled_fits : t + need ≤ v → IsFilled v times job (ps ++ piece_of job i t (t + need) ∷ []) i (t + need)
   filled_fits room =
       let qs = ps ++ piece_of job i t (t + need) ∷ [] in
-      let laid = laid_push v job job i t (t + need) from_one (omega arith) filled.front.0 (omega arith) room limit ps (laid_from_filled v times job from_one ps i t filled) in
+      let laid = laid_push v job job i t (t + need) from_one (omega arith) filled.front.0 (omega arith) room short_enough ps (laid_from_filled v times job from_one ps i t filled) in
       let others_places : (j u : ℕ) → ¬ (job ≡ j) → places qs j u ≡ places ps j u = places_other ps job i t (t + need) in
       let others_work : (j : ℕ) → ¬ (job ≡ j) → work qs j ≡ work ps j = work_other ps job i t (t + need) in
       record {
@@ -219,7 +220,7 @@ module _ (v : ℕ) (times : ℕ → ℕ) (job need : ℕ) (from_one : 0 < job) (
   pub filled_next : t ≡ v → IsFilled v times job (ps ++ piece_of job (i + 1) 0 need ∷ []) (i + 1) need
   filled_next full =
       let qs = ps ++ piece_of job (i + 1) 0 need ∷ [] in
-      let laid = laid_push v job job (i + 1) 0 need from_one (omega arith) (omega arith) work_there short limit ps (laid_next v job ps i t (laid_from_filled v times job from_one ps i t filled)) in
+      let laid = laid_push v job job (i + 1) 0 need from_one (omega arith) (omega arith) work_there short short_enough ps (laid_next v job ps i t (laid_from_filled v times job from_one ps i t filled)) in
       let others_places : (j u : ℕ) → ¬ (job ≡ j) → places qs j u ≡ places ps j u = places_other ps job (i + 1) 0 need in
       let others_work : (j : ℕ) → ¬ (job ≡ j) → work qs j ≡ work ps j = work_other ps job (i + 1) 0 need in
       let some : 0 < i = filled.front.0 in
@@ -244,8 +245,8 @@ module _ (v : ℕ) (times : ℕ → ℕ) (job need : ℕ) (from_one : 0 < job) (
       let qs = mid ++ piece_of job (i + 1) 0 rest ∷ [] in
       let some : 0 < i = filled.front.0 in
       let within : rest ≤ t = omega arith in
-      let laid_mid = laid_push v job job i t v from_one (omega arith) some free (omega arith) limit ps (laid_from_filled v times job from_one ps i t filled) in
-      let laid = laid_push v job job (i + 1) 0 rest from_one (omega arith) (omega arith) (omega arith) (omega arith) limit mid (laid_next v job mid i v laid_mid) in
+      let laid_mid = laid_push v job job i t v from_one (omega arith) some free (omega arith) short_enough ps (laid_from_filled v times job from_one ps i t filled) in
+      let laid = laid_push v job job (i + 1) 0 rest from_one (omega arith) (omega arith) (omega arith) (omega arith) short_enough mid (laid_next v job mid i v laid_mid) in
       let others_places : (j u : ℕ) → ¬ (job ≡ j) → places qs j u ≡ places ps j u = λ j u differs. places_other mid job (i + 1) 0 rest j u differs ∙ places_other ps job i t v j u differs in
       let others_work : (j : ℕ) → ¬ (job ≡ j) → work qs j ≡ work ps j = λ j differs. work_other mid job (i + 1) 0 rest j differs ∙ work_other ps job i t v j differs in
       record {

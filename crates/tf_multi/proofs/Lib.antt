@@ -1,2 +1,14 @@
 pub mod Filling
 pub mod Shortest
+pub mod Numbers
+pub mod Routes
+pub mod Fronts
+pub mod Leading
+pub mod OpenShop
+pub mod FlowShop
+pub mod Turning
+pub mod Ranking
+pub mod Splitting
+pub mod Certified
+pub mod Dealing
+pub mod DealtRound

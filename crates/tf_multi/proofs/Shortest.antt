@@ -1,34 +1,32 @@
 -- Filled machines are a best timetable: it fits, it ends when they are filled, and no timetable that fits is shorter.
-use Rattle.std.proofs.Common.{◌≡◌, ℕ, ◌+◌, ◌*◌, ◌<◌, ◌≤◌, ℤ, pos, ◌≤ℤ◌, Bool, true, false, Some, None, Result, Ok, cond, List, [], ◌∷◌, length, get_or, map, max, refl, sym, ap, subst, ◌∙◌, arith, inl, inr, IsFalse, mul-le-mul_left}
+use Rattle.std.proofs.Common.{◌≡◌, ℕ, ◌+◌, ◌*◌, ◌<◌, ◌≤◌, pos, ◌≤ℤ◌, Bool, true, false, Ok, List, [], ◌∷◌, length, get_or, max, refl, sym, ap, subst, ◌∙◌, arith, inl, inr, IsFalse, mul-le-mul_left}
 use Rattle.std.specs.Int.{div_ceil}
 use Rattle.std.specs.List.{All, sum_by}
 use Rattle.std.proofs.lemmas.Bool.{cases_lt, false≢true}
-use Rattle.std.proofs.lemmas.Bool.Decides.{nat_tests}
 use Rattle.std.proofs.lemmas.Grind.{div_ceil_times}
 use Rattle.std.proofs.lemmas.Int.{ints}
-use Rattle.std.proofs.lemmas.List.Elements.{All-contains, All-tail}
-use Rattle.std.proofs.lemmas.List.FromFn.{length-range_with_len}
 use Rattle.tf_model.specs.declared.class.Class.{Class}
 use Rattle.tf_model.specs.declared.class.Class.TheVariants.{ParallelPrmp}
 use Rattle.tf_model.specs.Bounds.{load_value}
-use Rattle.tf_model.specs.Cost.{Makespan, objective_of, price_by, cost, cost_by, IsBest}
+use Rattle.tf_model.specs.Cost.{Makespan, objective_of, cost, IsBest}
 use Rattle.tf_model.specs.Feasible.{Fits}
-use Rattle.tf_model.specs.SchedulingTask.{SchedulingTask, IsJob, all_jobs, time_of, is_shop, is_flow, is_released, is_ordered, may_break}
+use Rattle.tf_model.specs.SchedulingTask.{SchedulingTask, IsJob, all_jobs, time_of}
+use Rattle.tf_model.specs.ClassTable.{is_shop, is_flow, is_released, is_ordered, may_break}
 use Rattle.tf_model.specs.Sound.{IsSound}
-use Rattle.tf_model.specs.Timetable.{Timetable, cell, completion, greatest_of, makespan}
-use Rattle.tf_model.proofs.Costs.{All-all_jobs, greatest_price_reached, term-le-all_jobs}
-use Rattle.tf_model.proofs.Loads.{load-le-cost, one_job-le-cost, price-le-cost, latest, div_ceil_least}
+use Rattle.tf_model.specs.Timetable.{Timetable, cell}
+use Rattle.tf_model.proofs.Costs.{term-le-all_jobs}
+use Rattle.tf_model.proofs.Loads.{load-le-cost, one_job-le-cost, div_ceil_least}
 use Rattle.tf_schedule.specs.declared.piece.Piece.{Piece}
 use Rattle.tf_schedule.specs.Drawing.{drawing, greatest_stop, Draws, IsOnMachine}
 use Rattle.tf_schedule.proofs.Times.{sound_times}
-use Rattle.tf_schedule.proofs.Drawing.{width-drawing, jobs-drawing, single_place-drawing, all_units-drawing, makespan-drawing, greatest_of_range_ge}
+use Rattle.tf_schedule.proofs.Drawing.{width-drawing, jobs-drawing, single_place-drawing, all_units-drawing, makespan-drawing}
+use Rattle.tf_schedule.proofs.Makespan.{cost-makespan}
 use Rattle.tf_schedule.proofs.Permuted.{draws_drawing}
 use Rattle.tf_check.specs.Accepted.{IsAccepted}
-use Rattle.tf_check.specs.Bound.{bound_by, unless, other_kind, is_job}
+use Rattle.tf_check.specs.Bound.{bound_by}
 use Rattle.tf_check.specs.Claim.{Claim, ByLoad, ByOneJob}
 use Rattle.tf_check.specs.Kinds.{takes_load, takes_one_job}
-use Rattle.tf_check.specs.declared.fault.BoundFault.{BoundFault}
-use Rattle.tf_check.specs.declared.fault.BoundFault.TheVariants.{BadJob}
+use Rattle.tf_check.proofs.Given.{load_given, one_job_given}
 use Rattle.tf_multi.specs.Fill.{IsFilled}
 use Rattle.tf_multi.proofs.Filling.{front_in_range}
 
@@ -51,10 +49,6 @@ load_le_total task sound = div_ceil_le (total task) task.machines sound.some_mac
 pub time_le_total : (task : SchedulingTask) (j : ℕ) → IsJob task j → time_of task j ≤ total task
 time_le_total task j h = term-le-all_jobs task (time_of task) j h
 
-greatest_of-map-le : (f : ℕ → ℕ) (v : ℕ) (xs : List ℕ) → All (λ x. f x ≤ v) xs → greatest_of (map f xs) ≤ v
-greatest_of-map-le f v [] all = omega arith
-greatest_of-map-le f v (x ∷ xs) all = omega (arith, all 0 x (omega arith), greatest_of-map-le f v xs (All-tail (λ y. f y ≤ v) x xs all))
-
 module _ (task : SchedulingTask) (sound : IsSound task) (is : task.class ≡ ParallelPrmp) where
   -- a test of the class, as it comes out for this one
   in_class : (test : Class → Bool) (b : Bool) → test ParallelPrmp ≡ b → test task.class ≡ b
@@ -66,19 +60,6 @@ module _ (task : SchedulingTask) (sound : IsSound task) (is : task.class ≡ Par
   pub by_makespan : objective_of task.class ≡ Makespan
   by_makespan = ap objective_of is
 
-  -- a timetable costs its makespan
-  cost-makespan : (rows : Timetable) → cost task rows ≡ pos (makespan (length task.jobs) rows)
-  cost-makespan rows =
-      let n : ℕ = length task.jobs in
-      let most = greatest_price_reached task rows sound.some_job in
-      let j : ℕ = most.0 in
-      let dearest : cost task rows ≡ pos (completion rows j) = ap (λ o. cost_by o task rows) by_makespan ∙ most.2 ∙ ap (λ o. price_by o task j (completion rows j)) by_makespan in
-      let above : completion rows j ≤ makespan n rows = greatest_of_range_ge (completion rows) j 1 n most.1.0 (omega (arith, most.1.1)) in
-      let last = latest rows (all_jobs task) (omega (arith, length-range_with_len 1 n, sound.some_job)) in
-      let below : makespan n rows ≤ completion rows last.0 = greatest_of-map-le (completion rows) (completion rows last.0) (all_jobs task) last.2 in
-      let priced : pos (completion rows last.0) ≤ℤ cost task rows = price-le-cost task rows last.0 Makespan by_makespan refl (All-contains (IsJob task) (all_jobs task) last.0 (All-all_jobs task (IsJob task) (λ i h. h)) last.1) in
-      omega (arith, ints)
-
   module _ (v : ℕ) (ps : List Piece) (i t : ℕ) (room : total task ≤ task.machines * v) (filled : IsFilled v (time_of task) (length task.jobs) ps i t) where
     on_machines : All (IsOnMachine task.machines) ps
     on_machines k d h =
@@ -86,7 +67,7 @@ module _ (task : SchedulingTask) (sound : IsSound task) (is : task.class ≡ Par
         (p.machine.0, omega (arith, p.machine.1, front_in_range v (time_of task) (length task.jobs) ps i t task.machines sound.some_machine room filled))
 
     pub filled_draws : Draws task.machines ps (drawing task.machines ps)
-    filled_draws = draws_drawing task.machines ps filled.schedule.none_twice on_machines
+    filled_draws = draws_drawing task.machines ps filled.schedule.none_twice (λ k d h. (filled.placed k d h).job.0) on_machines
 
     filled_in_order : (arcs : List (ℕ × ℕ)) → arcs ≡ [] → All (λ arc. (s u a b : ℕ) → cell (drawing task.machines ps) s a ≡ arc.0 → cell (drawing task.machines ps) u b ≡ arc.1 → s < u) arcs
     filled_in_order [] none k d h = absurd (omega arith)
@@ -97,12 +78,14 @@ module _ (task : SchedulingTask) (sound : IsSound task) (is : task.class ≡ Par
       broken = record {
         width = width-drawing task.machines ps;
         jobs_only = jobs-drawing task.machines ps (length task.jobs) (λ k d h. (filled.placed k d h).job.1);
-        single_place = λ j h. single_place-drawing task.machines ps filled.schedule.none_twice on_machines filled.one_place j h.0;
-        amount = λ _ j h. all_units-drawing task.machines ps j filled.schedule.none_twice on_machines h.0 ∙ filled.amounts j h.0 h.1;
-        amount_in_shop = λ shop j i h lt. absurd (false≢true (sym no_shop ∙ shop));
-        released = λ j u h job here. omega (arith, sound.unreleased (in_class is_released false refl) j job);
+        single_place = λ j low _. single_place-drawing task.machines ps filled.schedule.none_twice on_machines filled.one_place j low;
+        amount = λ j low high. record {
+          in_all = λ _. all_units-drawing task.machines ps j filled.schedule.none_twice on_machines low ∙ filled.amounts j low high;
+          on_each = λ shop. absurd (false≢true (sym no_shop ∙ shop));
+        };
+        released = λ j low high u h here. omega (arith, sound.unreleased (in_class is_released false refl) j (low, high));
         in_order = filled_in_order task.arcs (sound.unordered (in_class is_ordered false refl));
-        in_flow = λ flow j s u job first second. absurd (false≢true (sym (in_class is_flow false refl) ∙ flow));
+        in_flow = λ flow. absurd (false≢true (sym (in_class is_flow false refl) ∙ flow));
       };
       unbroken = λ whole. absurd (false≢true (sym whole ∙ in_class may_break true refl));
     }
@@ -119,20 +102,15 @@ module _ (task : SchedulingTask) (sound : IsSound task) (is : task.class ≡ Par
 
     filled_cost : v ≤ total task → cost task (drawing task.machines ps) ≡ pos v
     filled_cost le =
-        cost-makespan (drawing task.machines ps)
+        cost-makespan task sound by_makespan (drawing task.machines ps)
         ∙ ap pos (makespan-drawing task.machines (length task.jobs) ps filled.schedule.none_twice on_machines (λ k d h. sound_times (get_or ps k d) (filled.placed k d h).sound) (λ k d h. (filled.placed k d h).job) ∙ filled_stop le)
 
   -- what the two certificates bound
   pub load_bounds : bound_by ByLoad task ≡ Ok (pos (load_value task))
-  load_bounds = ap (λ (b : Bool). unless (other_kind b) (Ok (pos (load_value task)))) (in_class takes_load true refl)
+  load_bounds = load_given task (in_class takes_load true refl)
 
   pub one_job_bounds : (j : ℕ) → IsJob task j → bound_by (ByOneJob j) task ≡ Ok (pos (time_of task j))
-  one_job_bounds j job =
-      let known : is_job task j ≡ true = grind (arith, nat_tests) in
-      ap (λ (b : Bool). unless (other_kind b) (one_job_bound_of (is_job task j))) (in_class takes_one_job true refl) ∙ ap one_job_bound_of known
-    where
-      one_job_bound_of : Bool → Result ℤ BoundFault
-      one_job_bound_of known = unless (cond known None (Some (BadJob j))) (Ok (pos (time_of task j)))
+  one_job_bounds j job = one_job_given task j (in_class takes_one_job true refl) job
 
   -- machines that are filled up to the load or, if that is more, the time of the longest job
   module _ (load time v j : ℕ) (is_load : load ≡ load_value task) (job : IsJob task j) (is_time : time ≡ time_of task j) (is_value : v ≡ max load time) where

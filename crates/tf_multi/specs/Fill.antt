@@ -1,14 +1,10 @@
 -- Machines that are filled one after another, each up to one time.
-use Rattle.std.specs.Prelude.{◌≡◌, ℕ, pos, ◌+◌, ◌*◌, ◌<◌, ◌≤◌, List}
+use Rattle.std.specs.Prelude.{◌≡◌, ℕ, ◌+◌, ◌*◌, ◌<◌, ◌≤◌, List}
 use Rattle.std.specs.List.{All, sum_by, range_with_len}
 use Rattle.tf_schedule.specs.declared.piece.Piece.{Piece}
 use Rattle.tf_schedule.specs.Piece.{as_time, claims, places}
 use Rattle.tf_schedule.specs.Schedule.{IsSound, IsSchedule, JobsOnce}
 use Rattle.tf_schedule.specs.Drawing.{work, greatest_stop}
-
--- job j on machine i from time s up to time e
-abbrev pub piece_of : ℕ → ℕ → ℕ → ℕ → Piece
-piece_of j i s e = record { job = j; machine = i; start = pos s; stop = pos e }
 
 -- the piece is of one of the jobs 1 to n, ends by v, and lies before time t of machine i
 pub record IsPlaced (v n i t : ℕ) (p : Piece) : Type 0 where

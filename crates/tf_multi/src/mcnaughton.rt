@@ -6,13 +6,15 @@ ghost use Rattle.tf_model.specs.Cost.{IsBest};
 ghost use Rattle.tf_model.specs.SchedulingTask.{IsJob, all_jobs, time_of};
 ghost use Rattle.tf_model.specs.Sound.{IsSound};
 ghost use Rattle.tf_model.specs.declared.class.Class.TheVariants.{ParallelPrmp};
-ghost use Rattle.tf_model.specs.declared.limit.TheConstants.{LIMIT, MOST_MACHINES};
+ghost use Rattle.tf_model.specs.declared.limit.TheConstants.{MOST_MACHINES};
+ghost use Rattle.tf_model.specs.Limit.{limit};
 ghost use Rattle.tf_schedule.specs.Drawing.{drawing, Draws};
 ghost use Rattle.tf_schedule.specs.Schedule.{IsSchedule};
 ghost use Rattle.tf_check.specs.Accepted.{IsAccepted};
-ghost use Rattle.tf_multi.specs.Fill.{piece_of, IsFilled};
-ghost use Rattle.tf_multi.specs.Longest.{IsFirstLongest, IsLoadOrLongest};
+ghost use Rattle.tf_multi.specs.Fill.{IsFilled};
+ghost use Rattle.tf_multi.specs.Longest.{IsLoadOrLongest};
 
+use crate::longest::first_longest;
 use std::alloc::Allocator;
 use tf_check::answer::Answer;
 use tf_check::certificate::Certificate;
@@ -26,10 +28,11 @@ use tf_schedule::piece_list::PieceList;
 
 /// A shortest timetable on parallel machines whose jobs may be interrupted (McNaughton 1959).
 ///
-/// It is as long as the longest job or, if that is more, as the load of each machine, rounded up to whole time steps.
-/// The machines are filled up to that length one after another, in the order of the jobs, and the rest of a job that
-/// does not fit on a machine starts the next one at time 0. The pieces come by machine and start. The certificate is
-/// the load, if no job is longer, and otherwise the first of the longest jobs. Only want of memory is an error.
+/// It is as long as the longest job or, if that is more, as the load of each machine, rounded up to
+/// whole time steps. The machines are filled up to that length one after another, in the order of
+/// the jobs, and the rest of a job that does not fit on a machine starts the next one at time 0.
+/// The pieces come by machine and start. The certificate is the load, if no job is longer, and
+/// otherwise the first of the longest jobs. Only want of memory is an error.
 pub fn mcnaughton<A: Allocator + Copy, B: Allocator>(
     alloc: A,
     task: &Task<B>,
@@ -57,23 +60,10 @@ pub fn mcnaughton<A: Allocator + Copy, B: Allocator>(
     })
 }
 
-fn first_longest<B: Allocator>(task: &Task<B>) -> JobId
-    ensures { IsFirstLongest task.now result }
-{
-    let mut longest = JobId::at(0);
-    for k in 1..task.len() {
-        let job = JobId::at(k);
-        if task.time(longest) < task.time(job) {
-            longest = job;
-        }
-    }
-    longest
-}
-
 // How far the machines are filled: all before this one, and this one up to a time.
 #[derive(Clone, Copy)]
 struct Front {
-    machine: u32,
+    machine: MachineId,
     at: u64,
 }
 
@@ -83,14 +73,17 @@ fn fill<A: Allocator + Copy, B: Allocator>(
     task: &Task<B>,
     value: u64,
 ) -> Result<Vec<Piece, A>, OutOfMemory>
-    requires limit { pos value ≤ℤ LIMIT }
+    requires within { value ≤ limit }
     requires worked { (j : ℕ) → IsJob task.now j → (0 < time_of task.now j) × (time_of task.now j ≤ value) }
     requires room { sum_by (time_of task.now) (all_jobs task.now) ≤ task.now.machines * value }
     ensures { IfOk result (λ pieces.
         (i : ℕ) × (t : ℕ) × IsFilled value (time_of task.now) (length task.now.jobs) pieces.items i t) }
 {
     let mut pieces = Vec::with_capacity(alloc, task.len() + task.machines() as usize)?;
-    let mut front = Front { machine: 1, at: 0 };
+    let mut front = Front {
+        machine: MachineId::new(1).unwrap(),
+        at: 0,
+    };
     for k in 0..task.len() {
         front = place(&mut pieces, task, value, front, JobId::at(k))?;
     }
@@ -105,7 +98,7 @@ fn place<A: Allocator, B: Allocator>(
     front: Front,
     job: JobId,
 ) -> Result<Front, OutOfMemory>
-    requires limit { pos value ≤ℤ LIMIT }
+    requires within { value ≤ limit }
     requires job { IsJob task.now job }
     requires worked { (0 < time_of task.now job) × (time_of task.now job ≤ value) }
     requires machine { front.machine ≤ MOST_MACHINES }
@@ -116,34 +109,28 @@ fn place<A: Allocator, B: Allocator>(
     let time = task.time(job);
     let room = value - front.at;
     if room == 0 {
-        let machine = front.machine + 1;
-        pieces.push(piece_at(job, machine, 0, time))?;
+        let machine = machine_after(front.machine);
+        pieces.push(Piece::of(job, machine, 0, time))?;
         return Ok(Front { machine, at: time });
     }
     if time <= room {
         let stop = front.at + time;
-        pieces.push(piece_at(job, front.machine, front.at, stop))?;
+        pieces.push(Piece::of(job, front.machine, front.at, stop))?;
         return Ok(Front {
             machine: front.machine,
             at: stop,
         });
     }
-    pieces.push(piece_at(job, front.machine, front.at, value))?;
-    let machine = front.machine + 1;
+    pieces.push(Piece::of(job, front.machine, front.at, value))?;
+    let machine = machine_after(front.machine);
     let rest = time - room;
-    pieces.push(piece_at(job, machine, 0, rest))?;
+    pieces.push(Piece::of(job, machine, 0, rest))?;
     Ok(Front { machine, at: rest })
 }
 
-fn piece_at(job: JobId, machine: u32, start: u64, stop: u64) -> Piece
-    requires machine { 0 < machine }
-    requires times { (start < stop) × (pos stop ≤ℤ LIMIT) }
-    ensures { result ≡ piece_of job machine start stop }
+fn machine_after(machine: MachineId) -> MachineId
+    requires { machine ≤ MOST_MACHINES }
+    ensures { result ≡ machine + 1 }
 {
-    Piece {
-        job,
-        machine: MachineId::new(machine).unwrap(),
-        start: start as i64,
-        stop: stop as i64,
-    }
+    MachineId::new(machine.get() + 1).unwrap()
 }

@@ -19,7 +19,8 @@ use Rattle.tf_model.specs.declared.problem.Problem.{Problem}
 use Rattle.tf_notation.specs.declared.spelling.Conditions.{Conditions}
 use Rattle.tf_notation.specs.Spelling.{meaning, goals, environment, count_of}
 use Rattle.tf_notation.specs.Tokens.{Token, tokens_from, is_word_byte, lengthen}
-use Rattle.tf_notation.specs.Reading.{◌>>=◌, notation, expect, bar, conditions_at, ended, problem_of}
+use Rattle.tf_model.specs.Outcome.{◌>>=◌}
+use Rattle.tf_notation.specs.Reading.{notation, expect, bar, conditions_at, ended, problem_of}
 use Rattle.tf_notation.specs.Canonical.{environment_word, count_text, goal_word, conditions_of, listed_text, all_conditions, canonical}
 use Rattle.tf_notation.proofs.Runs.{lengthened, other, word_byte_no_gap}
 use Rattle.tf_notation.proofs.Again.EachList.{conditions_read}

@@ -7,19 +7,17 @@ use Rattle.std.specs.Str.Parse.{digits_value}
 use Rattle.std.proofs.lemmas.Bool.{cases_Bool, and_parts, leb-true, ltb-true, eqb-false, not-true}
 use Rattle.std.proofs.lemmas.Str.Parse.{digits_value-take-le}
 use Rattle.tf_model.specs.Number.{plain, is_numeral}
+use Rattle.tf_model.proofs.Outcomes.{bind_ok}
 use Rattle.tf_model.proofs.Digits.{one_more}
 use Rattle.tf_model.specs.declared.problem.Env.{Env}
 use Rattle.tf_model.specs.declared.problem.Env.TheVariants.{Single, Parallel, Uniform, Unrelated, Flow, OpenShop, JobShop}
 use Rattle.tf_model.specs.declared.problem.Problem.{Problem}
 use Rattle.tf_notation.specs.Spelling.{meaning, environments, goals, environment, count_of}
 use Rattle.tf_notation.specs.Tokens.{Token, tokens_from}
-use Rattle.tf_notation.specs.Reading.{IsRead, ◌>>=◌, notation, expect, bar, conditions_at, ended, problem_of}
+use Rattle.tf_model.specs.Outcome.{◌>>=◌}
+use Rattle.tf_notation.specs.Reading.{IsRead, notation, expect, bar, conditions_at, ended, problem_of}
 use Rattle.tf_notation.specs.Canonical.{canonical}
 use Rattle.tf_notation.proofs.Again.{IsCounted, again}
-
-bind_ok : {A B : Type 0} (r : Result A ℕ) (f : A → Result B ℕ) (y : B) → (r >>= f) ≡ Ok y → (x : A) × (r ≡ Ok x) × (f x ≡ Ok y)
-bind_ok (Ok x) f y e = (x, refl, e)
-bind_ok (Err d) f y e = absurd cc
 
 -- a plain number is above 0
 plain_range : (most n : ℕ) (word : List ℕ) → plain most word ≡ Some n → (0 < n) × (n ≤ most)

@@ -1,7 +1,9 @@
 -- The problem that a text means. A fault is the offset of the first token that is not expected at its place, or the length of the text where the text ends too early.
-use Rattle.std.specs.Prelude.{◌≡◌, ℕ, Bool, true, false, List, [], ◌∷◌, length, Option, Result, Ok, Err, codes, if◌then◌else◌}
+use Rattle.std.specs.Prelude.{◌≡◌, ℕ, Bool, true, false, List, [], ◌∷◌, length, Option, Some, Result, Ok, Err, codes, if◌then◌else◌}
 use Rattle.std.specs.Option.{option_map_or}
 use Rattle.std.specs.Str.{bytes_eq}
+use Rattle.tf_model.specs.Outcome
+use Rattle.tf_model.specs.Outcome.{◌>>=◌}
 use Rattle.tf_model.specs.declared.problem.Env.{Env}
 use Rattle.tf_model.specs.declared.problem.Goal.{Goal}
 use Rattle.tf_notation.specs.declared.spelling.Conditions.{Conditions}
@@ -10,16 +12,9 @@ use Rattle.tf_notation.specs.declared.reading.NotationFault.{NotationFault}
 use Rattle.tf_notation.specs.Spelling.{meaning, environment, goals, dividers, no_conditions, adds}
 use Rattle.tf_notation.specs.Tokens.{Token, tokens_from}
 
--- one part after another, up to the first fault
-infixl 10 ◌>>=◌
-abbrev pub ◌>>=◌ : {A B : Type 0} → Result A ℕ → (A → Result B ℕ) → Result B ℕ
-(Ok x) >>= f = f x
-(Err e) >>= f = Err e
-
 -- what a function returned, seen by view, is what reading gives
 abbrev pub Gives : {X Y : Type 0} → (X → Y) → Result X NotationFault → Result Y ℕ → Type 0
-Gives view (Ok x) read = read ≡ Ok (view x)
-Gives view (Err e) read = read ≡ Err e.byte
+Gives = Outcome.Gives (λ (e : NotationFault). Some e.byte)
 
 -- a token that is expected, as what it means: its meaning, and the tokens after it
 unfoldable pub expect : {A : Type 0} → (List ℕ → Option A) → ℕ → List Token → Result (A × List Token) ℕ

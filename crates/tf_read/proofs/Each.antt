@@ -3,43 +3,18 @@ use Rattle.std.proofs.Common.{◌≡◌, ℕ, ◌+◌, List, [], ◌∷◌, ◌+
 use Rattle.std.proofs.lemmas.List.{append-nil}
 use Rattle.tf_read.specs.declared.fault.ReadFault.{ReadFault}
 use Rattle.tf_read.specs.declared.fault.ReadFault.TheVariants as faults
-use Rattle.tf_read.specs.Faults.{◌>>=◌, Fails, Gives, each_from}
+use Rattle.tf_model.specs.Outcome.{◌>>=◌}
+use Rattle.tf_model.proofs.Outcomes
+use Rattle.tf_read.specs.Faults.{fault_in, Fails, Gives, each_from}
 
 -- the fault of a reading
 pub fault_of : {Y : Type 0} (e : ReadFault) (r : Result Y ReadFault) → r ≡ Err e → Fails e r
 fault_of faults.OutOfMemory r h = tt
-fault_of faults.TooLong r h = h
-fault_of (faults.BadNumber n) r h = h
-fault_of (faults.NumberTooLarge n) r h = h
-fault_of (faults.Negative n) r h = h
-fault_of faults.EndsEarly r h = h
-fault_of faults.NoInstance r h = h
-fault_of (faults.NotAFlowShop n) r h = h
-fault_of faults.BadPair r h = h
-fault_of (faults.BadLine n) r h = h
-fault_of (faults.BadCost n) r h = h
-fault_of faults.NoJobs r h = h
-fault_of faults.TooManyJobs r h = h
-fault_of faults.TooManyArcs r h = h
-fault_of (faults.BadArc n) r h = h
+fault_of _ r h = h
 
 -- a fault stays one behind a function that hands faults on
 pub fails_through : {A B : Type 0} (e : ReadFault) (r : Result A ReadFault) (f : Result A ReadFault → Result B ReadFault) → ((d : ReadFault) → f (Err d) ≡ Err d) → Fails e r → Fails e (f r)
-fails_through faults.OutOfMemory r f on h = tt
-fails_through faults.TooLong r f on h = ap f h ∙ on _
-fails_through (faults.BadNumber n) r f on h = ap f h ∙ on _
-fails_through (faults.NumberTooLarge n) r f on h = ap f h ∙ on _
-fails_through (faults.Negative n) r f on h = ap f h ∙ on _
-fails_through faults.EndsEarly r f on h = ap f h ∙ on _
-fails_through faults.NoInstance r f on h = ap f h ∙ on _
-fails_through (faults.NotAFlowShop n) r f on h = ap f h ∙ on _
-fails_through faults.BadPair r f on h = ap f h ∙ on _
-fails_through (faults.BadLine n) r f on h = ap f h ∙ on _
-fails_through (faults.BadCost n) r f on h = ap f h ∙ on _
-fails_through faults.NoJobs r f on h = ap f h ∙ on _
-fails_through faults.TooManyJobs r f on h = ap f h ∙ on _
-fails_through faults.TooManyArcs r f on h = ap f h ∙ on _
-fails_through (faults.BadArc n) r f on h = ap f h ∙ on _
+fails_through e r f on h = Outcomes.fails_through (fault_in e) r f on h
 
 -- a fault of a step is one of what begins with it
 pub fails_then : {A B : Type 0} (e : ReadFault) (r : Result A ReadFault) (f : A → Result B ReadFault) → Fails e r → Fails e (r >>= f)

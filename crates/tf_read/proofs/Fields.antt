@@ -2,7 +2,8 @@
 use Rattle.std.proofs.Common.{◌≡◌, ℕ, List, [], ◌∷◌, Result, Ok, sym, ap, subst, ◌∙◌}
 use Rattle.tf_model.specs.JobFields.{JobFields}
 use Rattle.tf_read.specs.declared.fault.ReadFault.{ReadFault}
-use Rattle.tf_read.specs.Faults.{◌>>=◌, Fails}
+use Rattle.tf_model.specs.Outcome.{◌>>=◌}
+use Rattle.tf_read.specs.Faults.{Fails}
 use Rattle.tf_read.specs.JobLine.{SomeFields, field_at, fields_at, complete}
 use Rattle.tf_read.proofs.Each.{fails_then}
 

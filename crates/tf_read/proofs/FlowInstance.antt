@@ -9,10 +9,12 @@ use Rattle.tf_model.specs.InstanceData.{IsInstance, is_negative, is_beyond, has_
 use Rattle.tf_model.specs.declared.limit.TheConstants.{MOST_JOBS, MOST_MACHINES}
 use Rattle.tf_read.specs.declared.fault.ReadFault.{ReadFault}
 use Rattle.tf_read.specs.declared.fault.ReadFault.TheVariants.{EndsEarly}
-use Rattle.tf_read.specs.Faults.{◌>>=◌, each_from, natural}
+use Rattle.tf_model.specs.Outcome.{◌>>=◌}
+use Rattle.tf_read.specs.Faults.{each_from, natural}
 use Rattle.tf_read.specs.FlowShop.{is_time, machine_at, judged, times_on, first_machine, second_machine, machine_count, at, job, jobs_of, present, pairs_of}
 use Rattle.tf_read.specs.Pairs.{Pairs, count, wanted, missing, Holds, HasRead}
-use Rattle.tf_read.proofs.Judged.{bind_ok, same_ok, value_within, natural_within, judged as is_instance}
+use Rattle.tf_model.proofs.Outcomes.{bind_ok}
+use Rattle.tf_read.proofs.Judged.{same_ok, value_within, natural_within, judged as is_instance}
 use Rattle.tf_read.proofs.OneInstance.{none_at}
 use Rattle.tf_read.proofs.FlowWords.{count_below, count_all}
 

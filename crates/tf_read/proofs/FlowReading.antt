@@ -9,7 +9,8 @@ use Rattle.tf_read.specs.declared.fault.ReadFault.{ReadFault}
 use Rattle.tf_read.specs.declared.fault.ReadFault.TheVariants.{EndsEarly, NoInstance}
 use Rattle.tf_read.specs.declared.heading.HeadingLine.{HeadingLine}
 use Rattle.tf_read.specs.declared.sizes.SizesLine.{SizesLine}
-use Rattle.tf_read.specs.Faults.{◌>>=◌, Fails, each_from}
+use Rattle.tf_model.specs.Outcome.{◌>>=◌}
+use Rattle.tf_read.specs.Faults.{Fails, each_from}
 use Rattle.tf_read.specs.FlowShop.{second_machine, is_pair, judged, present, pairs_of, sized, sizes_in, from_sizes, is_heading, from_heading}
 use Rattle.tf_read.specs.PresentLine.{AreOfLine}
 use Rattle.tf_read.specs.Heading.{HeadingShown}

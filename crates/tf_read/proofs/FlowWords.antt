@@ -8,7 +8,8 @@ use Rattle.tf_model.specs.Words.{Word}
 use Rattle.tf_model.specs.Number.{number}
 use Rattle.tf_model.specs.declared.number.Number.{Number}
 use Rattle.tf_read.specs.declared.fault.ReadFault.{ReadFault}
-use Rattle.tf_read.specs.Faults.{◌>>=◌, each_from, natural}
+use Rattle.tf_model.specs.Outcome.{◌>>=◌}
+use Rattle.tf_read.specs.Faults.{each_from, natural}
 use Rattle.tf_read.specs.Scan.{IsOf}
 use Rattle.tf_read.specs.FlowShop.{is_time, machine_at, machine_is, number_at, judged, times_on}
 use Rattle.tf_read.specs.Pairs.{Pairs, count, wanted, Holds, HasRead, after_name, after_time, is_last}

@@ -10,12 +10,14 @@ use Rattle.tf_model.specs.declared.job.Times.TheVariants.{One, Two}
 use Rattle.tf_model.specs.declared.limit.TheConstants.{MOST_JOBS, MOST_MACHINES, MOST_ARCS}
 use Rattle.tf_model.specs.declared.number.Number.{Number}
 use Rattle.tf_model.specs.declared.number.Number.TheVariants.{NotANumber, TooLarge, Value}
-use Rattle.tf_read.specs.Faults.{◌>>=◌, each_from, natural, integer}
+use Rattle.tf_model.specs.Outcome.{◌>>=◌}
+use Rattle.tf_read.specs.Faults.{each_from, natural, integer}
 use Rattle.tf_read.specs.JobLine.{SomeFields, no_fields, times_in, times_at, field_in, field_at, complete, fields_at}
 use Rattle.tf_read.specs.WordParts.{divided}
 use Rattle.tf_read.specs.CostField.{cost_at}
 use Rattle.tf_read.specs.JobTable.{machine_count, machines_at, numbered_job, job_at, arc_job, arc_of, arc_at, arcs_of}
-use Rattle.tf_read.proofs.Judged.{bind_ok, same_ok, then_ok, else_ok, GivesOnly, on_fault, on_test, on_value, or_false, value_within, integer_within, natural_within, none_there, few, judged}
+use Rattle.tf_model.proofs.Outcomes.{bind_ok}
+use Rattle.tf_read.proofs.Judged.{same_ok, then_ok, else_ok, GivesOnly, on_fault, on_test, on_value, or_false, value_within, integer_within, natural_within, none_there, few, judged}
 
 natural_ok : (line : ℕ) (word : List ℕ) (z : ℤ) → natural line (number word) ≡ Ok z → (is_negative z ≡ false) × (is_beyond z ≡ false)
 natural_ok line word z h = let n = natural_within line (number word) z h in (n.1, value_within word z n.0)

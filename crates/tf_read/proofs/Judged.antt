@@ -9,11 +9,9 @@ use Rattle.tf_model.specs.declared.number.Number.TheVariants.{NotANumber, TooLar
 use Rattle.tf_model.specs.InstanceData.{InstanceData, IsInstance, is_negative, is_beyond, has_negative, has_beyond, is_bad_arc, count_fault}
 use Rattle.tf_model.specs.declared.limit.TheConstants.{MOST_JOBS, MOST_ARCS}
 use Rattle.tf_read.specs.declared.fault.ReadFault.{ReadFault}
-use Rattle.tf_read.specs.Faults.{◌>>=◌, each_from, natural, integer}
-
-pub bind_ok : {A B : Type 0} (r : Result A ReadFault) (f : A → Result B ReadFault) (y : B) → (r >>= f) ≡ Ok y → (x : A) × (r ≡ Ok x) × (f x ≡ Ok y)
-bind_ok (Ok x) f y h = (x, refl, h)
-bind_ok (Err e) f y h = cc
+use Rattle.tf_model.proofs.Outcomes.{bind_ok}
+use Rattle.tf_model.specs.Outcome.{◌>>=◌}
+use Rattle.tf_read.specs.Faults.{each_from, natural, integer}
 
 pub same_ok : {A : Type 0} {x y : A} (r : Result A ReadFault) → r ≡ Ok x → r ≡ Ok y → x ≡ y
 same_ok r g h = let both = sym g ∙ h in cc

@@ -13,7 +13,8 @@ use Rattle.tf_model.specs.InstanceData.{IsInstance, is_negative, is_beyond, has_
 use Rattle.tf_model.specs.declared.limit.TheConstants.{MOST_JOBS}
 use Rattle.tf_read.specs.declared.fault.ReadFault.{ReadFault}
 use Rattle.tf_read.specs.declared.fault.ReadFault.TheVariants.{NoInstance, EndsEarly}
-use Rattle.tf_read.specs.Faults.{◌>>=◌, each_from, natural, integer}
+use Rattle.tf_model.specs.Outcome.{◌>>=◌}
+use Rattle.tf_read.specs.Faults.{each_from, natural, integer}
 use Rattle.tf_read.specs.WeightedTardiness.{judged, at, job, jobs_of, present, instance_of}
 use Rattle.tf_read.specs.Numbers.{Progress, skipped, wanted, missing, Holds, HasRead}
 use Rattle.tf_read.proofs.Progress.{counted}

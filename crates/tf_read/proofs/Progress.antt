@@ -7,7 +7,8 @@ use Rattle.tf_model.specs.Words.{Word}
 use Rattle.tf_model.specs.Number.{number}
 use Rattle.tf_model.specs.declared.number.Number.{Number}
 use Rattle.tf_read.specs.declared.fault.ReadFault.{ReadFault}
-use Rattle.tf_read.specs.Faults.{◌>>=◌, each_from}
+use Rattle.tf_model.specs.Outcome.{◌>>=◌}
+use Rattle.tf_read.specs.Faults.{each_from}
 use Rattle.tf_read.specs.Scan.{IsOf}
 use Rattle.tf_read.specs.WeightedTardiness.{number_at, judged}
 use Rattle.tf_read.specs.Numbers.{Progress, skipped, wanted, Holds, HasRead}

@@ -7,7 +7,8 @@ use Rattle.tf_model.specs.StepFaults.{steps_fault}
 use Rattle.tf_model.specs.declared.cost.CostFault.{CostFault}
 use Rattle.tf_read.specs.declared.fault.ReadFault.{ReadFault}
 use Rattle.tf_read.specs.declared.fault.ReadFault.TheVariants.{BadLine, BadCost}
-use Rattle.tf_read.specs.Faults.{◌>>=◌, each_from, natural, integer}
+use Rattle.tf_model.specs.Outcome.{◌>>=◌}
+use Rattle.tf_read.specs.Faults.{each_from, natural, integer}
 use Rattle.tf_read.specs.WordParts.{divided, parts}
 
 -- a time and a value, with exactly one ':' between them

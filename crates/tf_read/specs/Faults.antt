@@ -1,24 +1,22 @@
 -- Reading with the first fault that is met.
-use Rattle.std.specs.Prelude.{◌≡◌, ℕ, ◌+◌, List, [], ◌∷◌, Result, Ok, Err, ℤ, pos, negsuc}
+use Rattle.std.specs.Prelude.{ℕ, ◌+◌, List, [], ◌∷◌, Option, None, Some, Result, Ok, Err, ℤ, pos, negsuc}
+use Rattle.tf_model.specs.Outcome
+use Rattle.tf_model.specs.Outcome.{◌>>=◌}
 use Rattle.tf_model.specs.declared.number.Number.{Number}
 use Rattle.tf_model.specs.declared.number.Number.TheVariants.{NotANumber, TooLarge, Value}
 use Rattle.tf_read.specs.declared.fault.ReadFault.{ReadFault}
 use Rattle.tf_read.specs.declared.fault.ReadFault.TheVariants.{BadNumber, NumberTooLarge, Negative, OutOfMemory}
 
-infixl 10 ◌>>=◌
-abbrev pub ◌>>=◌ : {A B : Type 0} → Result A ReadFault → (A → Result B ReadFault) → Result B ReadFault
-(Ok x) >>= f = f x
-(Err e) >>= f = Err e
+-- each error but want of memory is a fault of the text
+abbrev pub fault_in : ReadFault → Option ReadFault
+fault_in OutOfMemory = None
+fault_in e = Some e
 
--- the fault is that of the reading, unless memory ran out
 abbrev pub Fails : {Y : Type 0} → ReadFault → Result Y ReadFault → Type 0
-Fails OutOfMemory read = Unit {0}
-Fails e read = read ≡ Err e
+Fails e = Outcome.IsFault (fault_in e)
 
--- what a function returned, seen by view, is what reading gives, unless memory ran out
 abbrev pub Gives : {X Y : Type 0} → (X → Y) → Result X ReadFault → Result Y ReadFault → Type 0
-Gives view (Ok x) read = read ≡ Ok (view x)
-Gives view (Err e) read = Fails e read
+Gives = Outcome.Gives fault_in
 
 -- what is read of each, of which the first is the k-th, or the first fault
 unfoldable pub each_from : {X Y : Type 0} → (ℕ → X → Result Y ReadFault) → ℕ → List X → Result (List Y) ReadFault

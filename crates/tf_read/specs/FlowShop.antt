@@ -14,7 +14,8 @@ use Rattle.tf_model.specs.declared.number.Number.{Number}
 use Rattle.tf_model.specs.declared.number.Number.TheVariants.{NotANumber, TooLarge, Value}
 use Rattle.tf_read.specs.declared.fault.ReadFault.{ReadFault}
 use Rattle.tf_read.specs.declared.fault.ReadFault.TheVariants.{TooLong, BadNumber, EndsEarly, NoInstance, NotAFlowShop, BadPair, BadLine, NoJobs, TooManyJobs}
-use Rattle.tf_read.specs.Faults.{◌>>=◌, each_from, natural}
+use Rattle.tf_model.specs.Outcome.{◌>>=◌}
+use Rattle.tf_read.specs.Faults.{each_from, natural}
 
 -- Words count from 0 here, those behind the line of the sizes. Each second word is a time, and the word before it names the machine, from 0.
 abbrev pub is_time : ℕ → Bool

@@ -8,7 +8,8 @@ use Rattle.tf_model.specs.declared.job.Times.{Times}
 use Rattle.tf_model.specs.declared.job.Times.TheVariants.{One, Two}
 use Rattle.tf_read.specs.declared.fault.ReadFault.{ReadFault}
 use Rattle.tf_read.specs.declared.fault.ReadFault.TheVariants.{BadLine}
-use Rattle.tf_read.specs.Faults.{◌>>=◌, natural, integer}
+use Rattle.tf_model.specs.Outcome.{◌>>=◌}
+use Rattle.tf_read.specs.Faults.{natural, integer}
 use Rattle.tf_read.specs.WordParts.{divided}
 use Rattle.tf_read.specs.CostField.{cost_at}
 

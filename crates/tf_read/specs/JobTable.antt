@@ -12,7 +12,8 @@ use Rattle.tf_model.specs.declared.number.Number.{Number}
 use Rattle.tf_model.specs.declared.number.Number.TheVariants.{NotANumber, TooLarge, Value}
 use Rattle.tf_read.specs.declared.fault.ReadFault.{ReadFault}
 use Rattle.tf_read.specs.declared.fault.ReadFault.TheVariants.{TooLong, BadNumber, EndsEarly, BadLine, NoJobs, TooManyJobs, TooManyArcs, BadArc}
-use Rattle.tf_read.specs.Faults.{◌>>=◌, each_from}
+use Rattle.tf_model.specs.Outcome.{◌>>=◌}
+use Rattle.tf_read.specs.Faults.{each_from}
 use Rattle.tf_read.specs.JobLine.{fields_at, no_fields}
 
 -- `machines m`, with m from 1 to the most machines

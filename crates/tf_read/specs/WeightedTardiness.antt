@@ -10,7 +10,8 @@ use Rattle.tf_model.specs.declared.limit.TheConstants.{MOST_BYTES, MOST_JOBS}
 use Rattle.tf_model.specs.declared.number.Number.{Number}
 use Rattle.tf_read.specs.declared.fault.ReadFault.{ReadFault}
 use Rattle.tf_read.specs.declared.fault.ReadFault.TheVariants.{TooLong, EndsEarly, NoInstance, NoJobs, TooManyJobs}
-use Rattle.tf_read.specs.Faults.{◌>>=◌, each_from, natural, integer}
+use Rattle.tf_model.specs.Outcome.{◌>>=◌}
+use Rattle.tf_read.specs.Faults.{each_from, natural, integer}
 
 -- Of each 3n words the first 2n are times and weights, and the last n are due dates, which may be negative. Words count from 0 here.
 abbrev pub number_at : ℕ → ℕ → ℕ → Number → Result ℤ ReadFault

@@ -13,6 +13,7 @@ use Rattle.tf_schedule.proofs.Times.{sound_times, time_le}
 use Rattle.tf_schedule.proofs.Counting.{sum_by-same, sum_by-none}
 use Rattle.tf_schedule.proofs.Drawing.{sum_places, last_stop_le}
 use Rattle.tf_schedule.proofs.Unbroken.{no_gap_from_count, count_from_no_gap}
+use Rattle.tf_model.specs.Limit.{limit}
 
 -- ---- elements that pass a test
 
@@ -70,16 +71,16 @@ least_le f (p ∷ ps) j (suc k) d h own = step (eqb p.job j) (least_le f ps j k 
     step true le = omega arith
     step false le = le
 
-pub least_at_most : (f : Piece → ℕ) (ps : List Piece) (j : ℕ) → least_by f ps j ≤ 4000000000000000000
+pub least_at_most : (f : Piece → ℕ) (ps : List Piece) (j : ℕ) → least_by f ps j ≤ limit
 least_at_most f [] j = omega arith
 least_at_most f (p ∷ ps) j = step (eqb p.job j) (least_at_most f ps j)
   where
-    step : (b : Bool) → least_by f ps j ≤ 4000000000000000000 → cond b (min (f p) (least_by f ps j)) (least_by f ps j) ≤ 4000000000000000000
+    step : (b : Bool) → least_by f ps j ≤ limit → cond b (min (f p) (least_by f ps j)) (least_by f ps j) ≤ limit
     step true le = omega arith
     step false le = le
 
-least_step : (f : Piece → ℕ) (j : ℕ) (p : Piece) (ps : List Piece) (b : Bool) → eqb p.job j ≡ b → cond b (min (f p) (least_by f ps j)) (least_by f ps j) < 4000000000000000000
-    → (least_by f ps j < 4000000000000000000 → Any (λ q. (q.job ≡ j) × (f q ≡ least_by f ps j)) ps) → Any (λ q. (q.job ≡ j) × (f q ≡ cond b (min (f p) (least_by f ps j)) (least_by f ps j))) (p ∷ ps)
+least_step : (f : Piece → ℕ) (j : ℕ) (p : Piece) (ps : List Piece) (b : Bool) → eqb p.job j ≡ b → cond b (min (f p) (least_by f ps j)) (least_by f ps j) < limit
+    → (least_by f ps j < limit → Any (λ q. (q.job ≡ j) × (f q ≡ least_by f ps j)) ps) → Any (λ q. (q.job ≡ j) × (f q ≡ cond b (min (f p) (least_by f ps j)) (least_by f ps j))) (p ∷ ps)
 least_step f j p ps true e some rest = elim (cases_lt (least_by f ps j) (f p)) [
   | inl less ↦
       let r = rest (omega arith) in
@@ -89,7 +90,7 @@ least_step f j p ps true e some rest = elim (cases_lt (least_by f ps j) (f p)) [
 ]
 least_step f j p ps false e some rest = let r = rest some in (suc r.0, r.1, omega (arith, r.2), r.3, r.4)
 
-pub least_reached : (f : Piece → ℕ) (ps : List Piece) (j : ℕ) → least_by f ps j < 4000000000000000000 → Any (λ q. (q.job ≡ j) × (f q ≡ least_by f ps j)) ps
+pub least_reached : (f : Piece → ℕ) (ps : List Piece) (j : ℕ) → least_by f ps j < limit → Any (λ q. (q.job ≡ j) × (f q ≡ least_by f ps j)) ps
 least_reached f [] j some = absurd (omega arith)
 least_reached f (p ∷ ps) j some = least_step f j p ps (eqb p.job j) refl some (least_reached f ps j)
 
@@ -142,14 +143,14 @@ module _ (ps : List Piece) (sound : All IsSound ps) (j : ℕ) where
       let long = full piece.0 piece.1 piece.2 piece.3 in
       piece_busy ps j (greatest_by stop_of ps j - 1) (piece.0, piece.1, piece.2, piece.3, record { job = piece.4.0; started = omega (arith, piece.4.1, long); going = omega (arith, piece.4.1, some) })
 
-  pub busy_at_start : least_by start_of ps j < 4000000000000000000 → IsBusy ps j (least_by start_of ps j)
+  pub busy_at_start : least_by start_of ps j < limit → IsBusy ps j (least_by start_of ps j)
   busy_at_start some =
       let piece = least_reached start_of ps j some in
       let long = full piece.0 piece.1 piece.2 piece.3 in
       piece_busy ps j (least_by start_of ps j) (piece.0, piece.1, piece.2, piece.3, record { job = piece.4.0; started = omega (arith, piece.4.1); going = omega (arith, piece.4.1, long) })
 
-  pub stop_within : greatest_by stop_of ps j ≤ 4000000000000000000
-  stop_within = greatest_le stop_of ps j 4000000000000000000 (λ k d h. time_le (get_or ps k d).stop _ (sound k d h).0.1)
+  pub stop_within : greatest_by stop_of ps j ≤ limit
+  stop_within = greatest_le stop_of ps j limit (λ k d h. time_le (get_or ps k d).stop _ (sound k d h).0.1)
 
   -- a job that stops has started before
   pub start_before_stop : 0 < greatest_by stop_of ps j → least_by start_of ps j < greatest_by stop_of ps j
@@ -207,8 +208,8 @@ module _ (ps : List Piece) (sound : All IsSound ps) (j : ℕ) where
   pub released_from_start : (r : ℕ) → r ≤ least_by start_of ps j → (t : ℕ) → IsBusy ps j t → r ≤ t
   released_from_start r le t busy = omega (arith, (busy_within t busy).0)
 
-  pub start_from_released : (r : ℕ) → r ≤ 4000000000000000000 → ((t : ℕ) → IsBusy ps j t → r ≤ t) → r ≤ least_by start_of ps j
-  start_from_released r limit early = elim (cases_lt (least_by start_of ps j) 4000000000000000000) [
+  pub start_from_released : (r : ℕ) → r ≤ limit → ((t : ℕ) → IsBusy ps j t → r ≤ t) → r ≤ least_by start_of ps j
+  start_from_released r within early = elim (cases_lt (least_by start_of ps j) limit) [
     | inl some ↦ early (least_by start_of ps j) (busy_at_start some)
     | inr none ↦ omega arith
   ]
@@ -220,7 +221,7 @@ module _ (qs rs : List Piece) (sound_q : All IsSound qs) (sound_r : All IsSound 
 
   pub stop_from_order : ((s t : ℕ) → IsBusy qs a s → IsBusy rs b t → s < t) → greatest_by stop_of qs a ≤ least_by start_of rs b
   stop_from_order order = elim (cases_lt 0 (greatest_by stop_of qs a)) [
-    | inl some ↦ elim (cases_lt (least_by start_of rs b) 4000000000000000000) [
+    | inl some ↦ elim (cases_lt (least_by start_of rs b) limit) [
       | inl more ↦ omega (arith, order (greatest_by stop_of qs a - 1) (least_by start_of rs b) (busy_at_stop qs sound_q a some) (busy_at_start rs sound_r b more))
       | inr none ↦ omega (arith, stop_within qs sound_q a)
     ]

@@ -6,7 +6,9 @@ use Rattle.std.proofs.lemmas.List.Sums.{sum_by-cons}
 use Rattle.std.proofs.Math.Nat.{le-mul_of_pos_right}
 use Rattle.std.proofs.lemmas.Int.{ints}
 use Rattle.std.proofs.lemmas.Bool.Decides.{nat_tests}
-use Rattle.tf_model.specs.SchedulingTask.{SchedulingTask, IsJob, job_data, time_of, all_jobs, is_sum}
+use Rattle.tf_model.specs.Limit.{limit}
+use Rattle.tf_model.specs.SchedulingTask.{SchedulingTask, IsJob, job_data, time_of, all_jobs}
+use Rattle.tf_model.specs.ClassTable.{is_sum}
 use Rattle.tf_model.specs.Sound.{IsSound as IsSoundTask}
 use Rattle.tf_model.specs.Timetable.{completion}
 use Rattle.tf_model.specs.Cost.{price, greatest_price, total_price}
@@ -23,7 +25,8 @@ use Rattle.tf_schedule.proofs.Drawing.{completion-drawing}
 use Rattle.tf_schedule.proofs.Busy.{greatest_ge, greatest_reached, stop_within}
 use Rattle.tf_schedule.proofs.Counting.{sum_range-same}
 use Rattle.tf_schedule.proofs.Extents.{greatest_push}
-use Rattle.tf_schedule.proofs.Prices.{≤ℤ_trans, sum_plain}
+use Rattle.tf_model.proofs.Classes.{sum_plain}
+use Rattle.tf_schedule.proofs.Prices.{≤ℤ_trans}
 
 module _ (k : SchedulingTask) where
   pub known_from_test : (p : Piece) → is_known k p ≡ true → IsKnown k p
@@ -158,28 +161,28 @@ module _ (k : SchedulingTask) (qs : List Piece) where
       let split : (v + w) * l ≡ v * l + w * l = add-mul v w l in
       omega (arith, one, split, rest)
 
-  total_le : ((j : ℕ) → last_stop qs j ≤ 4000000000000000000) → (n : ℕ) → total_to k qs n ≤ weights n * 4000000000000000000
+  total_le : ((j : ℕ) → last_stop qs j ≤ limit) → (n : ℕ) → total_to k qs n ≤ weights n * limit
   total_le stops zero = omega arith
   total_le stops (suc n) =
       let next : n + 1 ≡ suc n = omega arith in
-      subst (λ m. total_to k qs m ≤ weights m * 4000000000000000000) next
-      (subst (λ t. t ≤ weights (n + 1) * 4000000000000000000) (sym (total_more n))
-      (subst (λ v. total_to k qs n + (job_data k (n + 1)).weight * last_stop qs (n + 1) ≤ v * 4000000000000000000) (sym (weights_more n))
-      (scaled (job_data k (n + 1)).weight (last_stop qs (n + 1)) 4000000000000000000 (total_to k qs n) (weights n) (stops (n + 1)) (total_le stops n))))
+      subst (λ m. total_to k qs m ≤ weights m * limit) next
+      (subst (λ t. t ≤ weights (n + 1) * limit) (sym (total_more n))
+      (subst (λ v. total_to k qs n + (job_data k (n + 1)).weight * last_stop qs (n + 1) ≤ v * limit) (sym (weights_more n))
+      (scaled (job_data k (n + 1)).weight (last_stop qs (n + 1)) limit (total_to k qs n) (weights n) (stops (n + 1)) (total_le stops n))))
 
   module _ (task : IsSoundTask k) (class : IsTrue (is_sum k.class)) where
     work_some : 1 ≤ sum_by (time_of k) (all_jobs k)
     work_some = omega (arith, task.worked (sum_plain k.class class) 1 (omega arith, task.some_job), term-le-all_jobs k (time_of k) 1 (omega arith, task.some_job))
 
-    weights_fit : weights (length k.jobs) ≤ 4000000000000000000
+    weights_fit : weights (length k.jobs) ≤ limit
     weights_fit = omega (arith, task.weighted_total class, le-mul_of_pos_right (weights (length k.jobs)) work_some)
 
-    pub total_fits : ((j : ℕ) → last_stop qs j ≤ 4000000000000000000) → (n : ℕ) → n ≤ length k.jobs → total_to k qs n ≤ 16000000000000000000000000000000000000
+    pub total_fits : ((j : ℕ) → last_stop qs j ≤ limit) → (n : ℕ) → n ≤ length k.jobs → total_to k qs n ≤ 16000000000000000000000000000000000000
     total_fits stops n le =
         let rest : n + (length k.jobs - n) ≡ length k.jobs = omega arith in
         let fewer : weights n ≤ weights (length k.jobs) = subst (λ m. weights n ≤ weights m) rest (weights_le n (length k.jobs - n)) in
-        let few : weights n ≤ 4000000000000000000 = omega (arith, fewer, weights_fit) in
-        let most : weights n * 4000000000000000000 ≤ 4000000000000000000 * 4000000000000000000 = mul-le-mul_right 4000000000000000000 few in
+        let few : weights n ≤ limit = omega (arith, fewer, weights_fit) in
+        let most : weights n * limit ≤ limit * limit = mul-le-mul_right limit few in
         omega (arith, most, total_le stops n)
 
 -- the weighted sum of the completions is that of the last stops
@@ -187,5 +190,5 @@ pub total_is : (k : SchedulingTask) (ps : List Piece) → IsSchedule ps → tota
 total_is k ps schedule = sum_range-same (λ j. (job_data k j).weight * completion (drawing k.machines (known_pieces k ps)) j) (λ j. (job_data k j).weight * last_stop (known_pieces k ps) j) 1 (length k.jobs)
     (λ j low high. ap (λ c. (job_data k j).weight * c) (completion_is k ps schedule j low))
 
-pub stops_within : (k : SchedulingTask) (ps : List Piece) → All IsSound ps → (j : ℕ) → last_stop (known_pieces k ps) j ≤ 4000000000000000000
+pub stops_within : (k : SchedulingTask) (ps : List Piece) → All IsSound ps → (j : ℕ) → last_stop (known_pieces k ps) j ≤ limit
 stops_within k ps sound j = stop_within (known_pieces k ps) (All-filter (is_known k) IsSound ps sound) j

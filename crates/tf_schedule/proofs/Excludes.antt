@@ -55,13 +55,10 @@ module _ (k : SchedulingTask) (ps : List Piece) (schedule : IsSchedule ps) (numb
   no_misfit (Stranger j i) (p, own, at, first) = absurd (first.fails (element (IsKnown k) ps first.place p pieces_known first.here))
   no_misfit (JobTwice j t) (known, from, twice) =
       let some : j ≤ length k.jobs = in_task j (as_time t) twice.job (omega (arith, twice.here)) in
-      absurd (omega (arith, twice.here, cells_once (drawing k.machines ps) j (as_time t) (fits.broken.single_place j (twice.job, some))))
-  no_misfit (WrongAmount j) (known, once, first) = absurd (first.fails (record { in_all = λ plain. fits.broken.amount plain j first.job; on_each = λ shop i lt. fits.broken.amount_in_shop shop j i first.job lt }))
-  no_misfit (Broken j) (known, full, may, first) = absurd (first.fails (record {
-    no_gap = λ i s t u. (fits.unbroken may).no_gap j i s t u first.job;
-    one_machine = λ plain s t a b. (fits.unbroken may).one_machine plain j s t a b first.job;
-  }))
-  no_misfit (TooEarly j) (known, whole, first) = absurd (first.fails (λ t i e. fits.broken.released j t i first.job e))
+      absurd (omega (arith, twice.here, cells_once (drawing k.machines ps) j (as_time t) (fits.broken.single_place j twice.job some)))
+  no_misfit (WrongAmount j) (known, once, first) = absurd (first.fails (fits.broken.amount j first.job.0 first.job.1))
+  no_misfit (Broken j) (known, full, may, first) = absurd (first.fails (fits.unbroken may j first.job.0 first.job.1))
+  no_misfit (TooEarly j) (known, whole, first) = absurd (first.fails (fits.broken.released j first.job.0 first.job.1))
   no_misfit (OutOfOrder a b) (known, released, inl first) = absurd (first.fails (element (IsKept (drawing k.machines ps)) k.arcs first.place (a, b) fits.broken.in_order first.here))
-  no_misfit (OutOfOrder a b) (known, released, inr (same, flow, first)) = absurd (first.fails (λ s t at_s at_t. fits.broken.in_flow flow a s t first.job at_s at_t))
+  no_misfit (OutOfOrder a b) (known, released, inr (same, flow, first)) = absurd (first.fails (fits.broken.in_flow flow a first.job.0 first.job.1))
   no_misfit OutOfMemory first = refl

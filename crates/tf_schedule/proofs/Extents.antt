@@ -15,6 +15,7 @@ use Rattle.tf_schedule.specs.Drawing.{work, duration, greatest_stop, greatest_by
 use Rattle.tf_schedule.specs.Extent.{no_extent, extended, extent_of, HasExtents}
 use Rattle.tf_schedule.proofs.Times.{time_le}
 use Rattle.tf_schedule.proofs.Drawing.{sum_places, greatest_stop_le}
+use Rattle.tf_model.specs.Limit.{limit}
 
 -- a job that runs in one place at a time is done by the greatest stop
 pub work_le_stop : (ps : List Piece) (j : ℕ) → JobsOnce ps → work ps j ≤ greatest_stop ps
@@ -23,11 +24,11 @@ work_le_stop ps j once =
     omega (arith, sum_places ps j (greatest_stop ps) (omega arith), each, length-range_with_len 0 (greatest_stop ps))
 
 -- a total stays within the limit
-pub add_fits : (ps : List Piece) (k : ℕ) (p : Piece) → k < length ps → p ≡ get_or ps k p → All IsSound ps → JobsOnce ps → work (take k ps) p.job + duration p ≤ 4000000000000000000
+pub add_fits : (ps : List Piece) (k : ℕ) (p : Piece) → k < length ps → p ≡ get_or ps k p → All IsSound ps → JobsOnce ps → work (take k ps) p.job + duration p ≤ limit
 add_fits ps k p in_range read sound once =
     let same : eqb p.job p.job ≡ true = grind (arith, nat_tests) in
     let own : cond (eqb (get_or ps k p).job p.job) (duration (get_or ps k p)) 0 ≡ duration p = ap (λ (q : Piece). cond (eqb q.job p.job) (duration q) 0) (sym read) ∙ ap (λ (b : Bool). cond b (duration p) 0) same in
-    let stops : greatest_stop ps ≤ 4000000000000000000 = greatest_stop_le ps 4000000000000000000 (λ n d h. time_le (get_or ps n d).stop (pos 4000000000000000000) (sound n d h).0.1) in
+    let stops : greatest_stop ps ≤ limit = greatest_stop_le ps limit (λ n d h. time_le (get_or ps n d).stop (pos limit) (sound n d h).0.1) in
     omega (arith, own, stops, work_le_stop ps p.job once, sum_by_more_le (λ q. cond (eqb q.job p.job) (duration q) 0) ps k p in_range)
 
 -- ---- one more piece

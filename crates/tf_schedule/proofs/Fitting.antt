@@ -1,11 +1,11 @@
 -- What pieces have, and what the timetable that they draw has.
-use Rattle.std.proofs.Common.{◌≡◌, ℕ, ◌+◌, ◌-◌, ◌<◌, ◌≤◌, Bool, true, false, List, length, get_or, refl, sym, ap, subst, ◌∙◌, arith, inl, inr, IsTrue}
+use Rattle.std.proofs.Common.{◌≡◌, ℕ, ◌+◌, ◌-◌, ◌<◌, ◌≤◌, Bool, true, false, List, length, get_or, sym, ap, subst, ◌∙◌, arith, inl, inr, IsTrue}
 use Rattle.std.specs.Bool.{IsFalse}
 use Rattle.std.specs.List.{All}
 use Rattle.std.proofs.lemmas.Bool.{cases_lt}
-use Rattle.tf_model.specs.declared.class.Class.{Class}
-use Rattle.tf_model.specs.declared.class.Class.TheVariants.{WeightedSum, PlainSum, Hmax, PrecHmax, Lmax, PrecLmax, ReleaseLmax, FlowTwo, OpenTwo, ParallelPrmp, ParallelSum}
-use Rattle.tf_model.specs.SchedulingTask.{SchedulingTask, job_data, is_shop, is_flow, is_released, is_ordered}
+use Rattle.tf_model.specs.Limit.{limit}
+use Rattle.tf_model.specs.SchedulingTask.{SchedulingTask, job_data}
+use Rattle.tf_model.specs.ClassTable.{is_shop, is_flow}
 use Rattle.tf_model.specs.Sound.{IsSound as IsSoundTask}
 use Rattle.tf_model.specs.Timetable.{cell, all_units}
 use Rattle.tf_model.specs.Feasible.{Fits}
@@ -22,47 +22,6 @@ use Rattle.tf_schedule.proofs.Busy.{IsBusy, busy_piece, piece_busy, greatest_ge,
 pub never_both : (b : Bool) → IsTrue b → IsFalse b → ⊥
 never_both true holds fails = cc
 never_both false holds fails = cc
-
--- ---- the classes
-
-pub shop_unreleased : (c : Class) → IsTrue (is_shop c) → IsFalse (is_released c)
-shop_unreleased WeightedSum h = refl
-shop_unreleased PlainSum h = refl
-shop_unreleased Hmax h = refl
-shop_unreleased PrecHmax h = refl
-shop_unreleased Lmax h = refl
-shop_unreleased PrecLmax h = refl
-shop_unreleased ReleaseLmax h = absurd (cc)
-shop_unreleased FlowTwo h = refl
-shop_unreleased OpenTwo h = refl
-shop_unreleased ParallelPrmp h = refl
-shop_unreleased ParallelSum h = refl
-
-pub shop_unordered : (c : Class) → IsTrue (is_shop c) → IsFalse (is_ordered c)
-shop_unordered WeightedSum h = refl
-shop_unordered PlainSum h = refl
-shop_unordered Hmax h = refl
-shop_unordered PrecHmax h = absurd (cc)
-shop_unordered Lmax h = refl
-shop_unordered PrecLmax h = absurd (cc)
-shop_unordered ReleaseLmax h = refl
-shop_unordered FlowTwo h = refl
-shop_unordered OpenTwo h = refl
-shop_unordered ParallelPrmp h = refl
-shop_unordered ParallelSum h = refl
-
-pub no_flow : (c : Class) → IsFalse (is_shop c) → IsFalse (is_flow c)
-no_flow WeightedSum h = refl
-no_flow PlainSum h = refl
-no_flow Hmax h = refl
-no_flow PrecHmax h = refl
-no_flow Lmax h = refl
-no_flow PrecLmax h = refl
-no_flow ReleaseLmax h = refl
-no_flow FlowTwo h = absurd (cc)
-no_flow OpenTwo h = refl
-no_flow ParallelPrmp h = refl
-no_flow ParallelSum h = refl
 
 module _ (k : SchedulingTask) (task : IsSoundTask k) (ps : List Piece) (schedule : IsSchedule ps) (known : All (IsKnown k) ps) (once : JobsOnce ps) where
   pub on_machines : All (IsOnMachine k.machines) ps
@@ -96,17 +55,13 @@ module _ (k : SchedulingTask) (task : IsSoundTask k) (ps : List Piece) (schedule
     broken = record {
       width = width-drawing k.machines ps;
       jobs_only = jobs-drawing k.machines ps (length k.jobs) (λ i d h. (known i d h).0.1);
-      single_place = λ j job. released.0.0.0 j job.0 job.1;
-      amount = λ plain j job. (released.0.0.1 j job.0 job.1).in_all plain;
-      amount_in_shop = λ shop j i job lt. (released.0.0.1 j job.0 job.1).on_each shop i lt;
-      released = λ j t i job e. released.1 j job.0 job.1 t i e;
+      single_place = released.0.0.0;
+      amount = released.0.0.1;
+      released = released.1;
       in_order = kept;
-      in_flow = λ is j s t job. flow is j job.0 job.1 s t;
+      in_flow = flow;
     };
-    unbroken = λ may. record {
-      no_gap = λ j i s t u job. (released.0.1 may j job.0 job.1).no_gap i s t u;
-      one_machine = λ plain j s t a b job. (released.0.1 may j job.0 job.1).one_machine plain s t a b;
-    };
+    unbroken = released.0.1;
   }
 
   -- ---- where a job has one time
@@ -152,7 +107,7 @@ module _ (k : SchedulingTask) (task : IsSoundTask k) (ps : List Piece) (schedule
 
     same_machines : (j : ℕ) → IsWhole k (drawing k.machines ps) j → greatest_by machine_of ps j ≤ least_by machine_of ps j
     same_machines j whole = elim (cases_lt 0 (greatest_by machine_of ps j)) [
-      | inl some ↦ elim (cases_lt (least_by machine_of ps j) 4000000000000000000) [
+      | inl some ↦ elim (cases_lt (least_by machine_of ps j) limit) [
         | inl more ↦
             let high = greatest_reached machine_of ps j some in
             let low = least_reached machine_of ps j more in
@@ -162,7 +117,7 @@ module _ (k : SchedulingTask) (task : IsSoundTask k) (ps : List Piece) (schedule
             let on_high : 0 < high.1.machine = subst (λ (p : Piece). 0 < p.machine) high.3 (on_machines high.0 high.1 high.2).0 in
             let on_low : 0 < low.1.machine = subst (λ (p : Piece). 0 < p.machine) low.3 (on_machines low.0 low.1 low.2).0 in
             machine_step high.1.machine low.1.machine (greatest_by machine_of ps j) (least_by machine_of ps j) on_high on_low same high.4.1 low.4.1
-        | inr none ↦ omega (arith, greatest_le machine_of ps j 4000000000000000000 (λ i d h. let on = on_machines i d h in omega (arith, on.1, task.few_machines)))
+        | inr none ↦ omega (arith, greatest_le machine_of ps j limit (λ i d h. let on = on_machines i d h in omega (arith, on.1, task.few_machines)))
       ]
       | inr none ↦ omega arith
     ]

@@ -19,3 +19,9 @@ pub mod JobOrder
 pub mod Prices
 pub mod Costing
 pub mod Excludes
+pub mod Parts
+pub mod Laying
+pub mod Apart
+pub mod Makespan
+pub mod LaidFits
+pub mod OneOperation

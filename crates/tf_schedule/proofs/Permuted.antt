@@ -44,7 +44,7 @@ greatest_stop_at_most ps qs same = greatest_stop_le qs (greatest_stop ps) (All-p
 pub greatest_stop_permutation : (ps qs : List Piece) → IsPermutation ps qs → greatest_stop qs ≡ greatest_stop ps
 greatest_stop_permutation ps qs same = let a = greatest_stop_at_most ps qs same in let b = greatest_stop_at_most qs ps (IsPermutation-sym ps qs same) in omega arith
 
-map_same : {X : Type 0} (f g : ℕ → X) → ((x : ℕ) → f x ≡ g x) → (xs : List ℕ) → map f xs ≡ map g xs
+pub map_same : {X : Type 0} (f g : ℕ → X) → ((x : ℕ) → f x ≡ g x) → (xs : List ℕ) → map f xs ≡ map g xs
 map_same f g h [] = refl
 map_same f g h (x ∷ xs) = ap (λ y. y ∷ map f xs) (h x) ∙ ap (λ ys. g x ∷ ys) (map_same f g h xs)
 
@@ -56,8 +56,8 @@ drawing_permutation m ps qs once same =
     ∙ ap (λ n. map (λ t. map (λ i. job_at ps i t) (range_with_len 1 m)) (range_with_len 0 n)) (greatest_stop_permutation ps qs same)
 
 -- the pieces draw their drawing, and no other timetable
-pub draws_drawing : (m : ℕ) (ps : List Piece) → NoneTwice ps → All (IsOnMachine m) ps → Draws m ps (drawing m ps)
-draws_drawing m ps once on = record { none_twice = once; on_machines = on; ends = length-drawing m ps; width = width-drawing m ps; cells = λ i t j h some. cell_exactly m ps i t j once h some }
+pub draws_drawing : (m : ℕ) (ps : List Piece) → NoneTwice ps → All (λ p. 0 < p.job) ps → All (IsOnMachine m) ps → Draws m ps (drawing m ps)
+draws_drawing m ps once numbered on = record { none_twice = once; numbered = numbered; on_machines = on; ends = length-drawing m ps; width = width-drawing m ps; cells = λ i t j h some. cell_exactly m ps i t j once h some }
 
 -- a list is made of a function, from any number on
 made_of : {X : Type 0} (xs : List X) (f : ℕ → X) (a n : ℕ) → length xs ≡ n → ((k : ℕ) (d : X) → k < n → get_or xs k d ≡ f (a + k)) → xs ≡ map f (range_with_len a n)

@@ -2,7 +2,8 @@
 use Rattle.std.proofs.Common.{◌≡◌, ℕ, ◌+◌, ◌-◌, ◌≤◌, List, length, sym, ap, subst, ◌∙◌, arith, inl}
 use Rattle.std.specs.Bool.{IsFalse}
 use Rattle.std.specs.List.{All}
-use Rattle.tf_model.specs.SchedulingTask.{SchedulingTask, IsJob, job_data, is_shop, is_flow, may_break}
+use Rattle.tf_model.specs.SchedulingTask.{SchedulingTask, IsJob, job_data}
+use Rattle.tf_model.specs.ClassTable.{is_shop, is_flow, may_break}
 use Rattle.tf_model.specs.Sound.{IsSound as IsSoundTask}
 use Rattle.tf_model.specs.Feasible.{Fits}
 use Rattle.tf_schedule.specs.declared.piece.Piece.{Piece}
@@ -13,7 +14,8 @@ use Rattle.tf_schedule.specs.Drawing.{drawing, greatest_by, stop_of}
 use Rattle.tf_schedule.specs.Extent.{no_extent, extent_at, extent_of, HasExtents, IsDone, IsSolidOnOne, StartsReleased, StartsAfter}
 use Rattle.tf_schedule.specs.Misfit.{EachJob, IsSmallestNot, IsFirstNot, IsKnown, HasAmount, IsWhole, IsReleased, IsKept, AllFull, AllWhole, AllReleased, HasFirstMisfit}
 use Rattle.tf_schedule.proofs.Transport.{each_by, smallest_by, all_by, first_by}
-use Rattle.tf_schedule.proofs.Fitting.{never_both, no_flow, all_once, fits_from, amount_to, amount_from, whole_to, whole_from, released_to, released_from, kept_to, kept_from}
+use Rattle.tf_model.proofs.Classes.{no_flow}
+use Rattle.tf_schedule.proofs.Fitting.{never_both, all_once, fits_from, amount_to, amount_from, whole_to, whole_from, released_to, released_from, kept_to, kept_from}
 
 -- the extent of a job in the list
 pub extent_is : (ps : List Piece) (n : ℕ) (extents : List Extent) → HasExtents ps n extents → (j : ℕ) → 1 ≤ j → j ≤ n → extent_at extents j ≡ extent_of ps j

@@ -4,7 +4,8 @@ use Rattle.std.specs.Bool.{IsFalse}
 use Rattle.std.specs.List.{All, count_by}
 use Rattle.std.proofs.lemmas.List.Elements.{All-filter}
 use Rattle.std.proofs.lemmas.Bool.Decides.{nat_tests}
-use Rattle.tf_model.specs.SchedulingTask.{SchedulingTask, time_on, is_shop, is_flow, may_break}
+use Rattle.tf_model.specs.SchedulingTask.{SchedulingTask, time_on}
+use Rattle.tf_model.specs.ClassTable.{is_shop, is_flow, may_break}
 use Rattle.tf_model.specs.Sound.{IsSound as IsSoundTask}
 use Rattle.tf_model.specs.Timetable.{cell, units}
 use Rattle.tf_model.specs.Feasible.{Fits}
@@ -22,7 +23,8 @@ use Rattle.tf_schedule.proofs.Cells.{cell_exactly, cell_beyond}
 use Rattle.tf_schedule.proofs.Filters.{sum_by-filter, sum_by-filter-le, count_by-filter}
 use Rattle.tf_schedule.proofs.Busy.{IsBusy, works_from_test, test_from_works, counted_some, some_counted, no_gap_from_extent, extent_from_no_gap, order_from_stop, stop_from_order}
 use Rattle.tf_schedule.proofs.Transport.{each_by, smallest_by}
-use Rattle.tf_schedule.proofs.Fitting.{never_both, shop_unreleased, shop_unordered, all_once, fits_from}
+use Rattle.tf_model.proofs.Classes.{shop_unreleased, shop_unordered}
+use Rattle.tf_schedule.proofs.Fitting.{never_both, all_once, fits_from}
 use Rattle.tf_schedule.proofs.Plain.{extent_is}
 
 on_test : (a b : Bool) (n : ℕ) → cond (b && a) n 0 ≡ cond a (cond b n 0) 0

@@ -4,6 +4,7 @@ use Rattle.std.specs.List.{sum_by, range_with_len, All, Any}
 use Rattle.tf_schedule.specs.declared.piece.Piece.{Piece}
 use Rattle.tf_schedule.specs.Piece.{as_time, covers}
 use Rattle.tf_schedule.specs.Schedule.{NoneTwice}
+use Rattle.tf_model.specs.Limit.{limit}
 use Rattle.tf_model.specs.Timetable.{Timetable, cell}
 
 -- the job of the piece that claims the cell of machine i, counted from 1, at time t: 0 where none does
@@ -41,7 +42,7 @@ greatest_by f [] j = 0
 greatest_by f (p ∷ ps) j = if p.job == j then max (f p) (greatest_by f ps j) else greatest_by f ps j
 
 abbrev pub least_by : (Piece → ℕ) → List Piece → ℕ → ℕ
-least_by f [] j = 4000000000000000000
+least_by f [] j = limit
 least_by f (p ∷ ps) j = if p.job == j then min (f p) (least_by f ps j) else least_by f ps j
 
 abbrev pub start_of : Piece → ℕ
@@ -65,10 +66,11 @@ pub record IsGoing (i t j : ℕ) (p : Piece) : Type 0 where
   pub started : as_time p.start ≤ t
   pub going : t < as_time p.stop
 
--- the pieces draw the rows on machines 1 to m: no cell is claimed twice, each piece names one of the machines, the rows end
+-- the pieces draw the rows on machines 1 to m: no cell is claimed twice, each piece names a job from 1 and one of the machines, the rows end
 -- with the last piece, and a cell has a job exactly where a piece of the job on the machine is going
 pub record Draws (m : ℕ) (ps : List Piece) (rows : Timetable) : Type 0 where
   pub none_twice : NoneTwice ps
+  pub numbered : All (λ p. 0 < p.job) ps
   pub on_machines : All (IsOnMachine m) ps
   pub ends : length rows ≡ greatest_stop ps
   pub width : All (λ row. length row ≡ m) rows

@@ -1,5 +1,6 @@
 -- When and where a job works, by its pieces, and what is asked of that.
 use Rattle.std.specs.Prelude.{◌≡◌, ℕ, ◌+◌, ◌-◌, ◌<◌, ◌≤◌, max, min, List, length, slice_index_or}
+use Rattle.tf_model.specs.Limit.{limit}
 use Rattle.tf_model.specs.SchedulingTask.{JobData, no_job}
 use Rattle.tf_schedule.specs.declared.piece.Piece.{Piece}
 use Rattle.tf_schedule.specs.declared.extent.Extent.{Extent}
@@ -8,7 +9,7 @@ use Rattle.tf_schedule.specs.Drawing.{duration, work, greatest_by, least_by, sta
 
 -- of a job without pieces: no work, from the limit to 0
 abbrev pub no_extent : Extent
-no_extent = record { work = 0; start = 4000000000000000000; stop = 0; lowest = 4000000000000000000; highest = 0 }
+no_extent = record { work = 0; start = limit; stop = 0; lowest = limit; highest = 0 }
 
 -- with one more piece
 abbrev pub extended : Extent → Piece → Extent

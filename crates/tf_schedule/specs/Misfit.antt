@@ -1,8 +1,10 @@
 -- Why pieces do not fit a task: the first misfit, told in the rows of the timetable that the pieces draw.
 use Rattle.std.specs.Prelude.{◌≡◌, ℕ, pos, ◌≤ℤ◌, ◌<◌, ◌≤◌, ◌⊎◌, List, [], length, take, slice_get, slice_index_or, Option, Some, MatchOption, IsTrue, IsFalse}
 use Rattle.std.specs.List.{All}
-use Rattle.tf_model.specs.Timetable.{Timetable, cell, cells_of, units, all_units}
-use Rattle.tf_model.specs.SchedulingTask.{SchedulingTask, IsJob, job_data, time_of, time_on, is_shop, is_flow, may_break}
+use Rattle.tf_model.specs.Timetable.{Timetable, cells_of}
+use Rattle.tf_model.specs.SchedulingTask.{SchedulingTask, IsJob}
+use Rattle.tf_model.specs.ClassTable.{is_flow, may_break}
+pub use Rattle.tf_model.specs.Feasible.{EachJob, IsOnce, HasAmount, IsWhole, IsReleased, IsKept, IsInFlow}
 use Rattle.tf_schedule.specs.declared.piece.Piece.{Piece}
 use Rattle.tf_schedule.specs.declared.fit.Misfit.{Misfit}
 use Rattle.tf_schedule.specs.declared.fit.Misfit.TheVariants.{Stranger, JobTwice, WrongAmount, Broken, TooEarly, OutOfOrder, OutOfMemory}
@@ -18,10 +20,6 @@ pub record IsFirstNot {X : Type 0} (P : X → Type 0) (xs : List X) (x : X) : Ty
   pub here : slice_get xs place ≡ Some x
   pub fails : ¬ (P x)
 
--- P holds of each of the jobs 1 to n
-abbrev pub EachJob : ℕ → (ℕ → Type 0) → Type 0
-EachJob n P = (j : ℕ) → 1 ≤ j → j ≤ n → P j
-
 -- job j is the smallest of the jobs 1 to n of which P does not hold
 pub record IsSmallestNot (n : ℕ) (P : ℕ → Type 0) (j : ℕ) : Type 0 where
   pub job : (1 ≤ j) × (j ≤ n)
@@ -32,37 +30,11 @@ pub record IsSmallestNot (n : ℕ) (P : ℕ → Type 0) (j : ℕ) : Type 0 where
 abbrev pub FindsSmallestNot : ℕ → (ℕ → Type 0) → Option ℕ → Type 0
 FindsSmallestNot n P found = MatchOption found (EachJob n P) (IsSmallestNot n P)
 
--- ---- what is asked of the pieces and of each job
+-- ---- what is asked of the pieces
 
 -- the piece names a job and a machine of the task
 abbrev pub IsKnown : SchedulingTask → Piece → Type 0
 IsKnown k p = IsJob k p.job × IsOnMachine k.machines p
-
--- no row has the job in two cells
-abbrev pub IsOnce : Timetable → ℕ → Type 0
-IsOnce rows j = All (λ row. cells_of j row ≤ 1) rows
-
--- the job has all its time, in a shop on each machine
-pub record HasAmount (k : SchedulingTask) (rows : Timetable) (j : ℕ) : Type 0 where
-  pub in_all : IsFalse (is_shop k.class) → all_units rows j ≡ time_of k j
-  pub on_each : IsTrue (is_shop k.class) → (i : ℕ) → i < 2 → units rows j i ≡ time_on k j i
-
--- the job runs on a machine without a gap, and where it has one time, on one machine
-pub record IsWhole (k : SchedulingTask) (rows : Timetable) (j : ℕ) : Type 0 where
-  pub no_gap : (i s t u : ℕ) → s ≤ t → t ≤ u → cell rows s i ≡ j → cell rows u i ≡ j → cell rows t i ≡ j
-  pub one_machine : IsFalse (is_shop k.class) → (s t a b : ℕ) → cell rows s a ≡ j → cell rows t b ≡ j → a ≡ b
-
--- no row before its release has the job
-abbrev pub IsReleased : SchedulingTask → Timetable → ℕ → Type 0
-IsReleased k rows j = (t i : ℕ) → cell rows t i ≡ j → (job_data k j).release ≤ t
-
--- every row that has the first job of the arc comes before every row that has the second
-abbrev pub IsKept : Timetable → ℕ × ℕ → Type 0
-IsKept rows arc = (s t a b : ℕ) → cell rows s a ≡ arc.0 → cell rows t b ≡ arc.1 → s < t
-
--- every row with the job on machine 1 comes before every row with it on machine 2
-abbrev pub IsInFlow : Timetable → ℕ → Type 0
-IsInFlow rows j = (s t : ℕ) → cell rows s 0 ≡ j → cell rows t 1 ≡ j → s < t
 
 -- ---- the order in which they are judged
 

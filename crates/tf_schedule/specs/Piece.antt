@@ -5,6 +5,10 @@ use Rattle.tf_schedule.specs.declared.piece.Piece.{Piece}
 use Rattle.tf_model.specs.declared.limit.TheConstants.{LIMIT}
 pub use Rattle.tf_model.specs.Whole.{as_time}
 
+-- job j on machine i from time s up to time e
+abbrev pub piece_of : ℕ → ℕ → ℕ → ℕ → Piece
+piece_of j i s e = record { job = j; machine = i; start = pos s; stop = pos e }
+
 -- the ends of the piece are times that are allowed
 abbrev pub IsInRange : Piece → Type 0
 IsInRange p = (pos 0 ≤ℤ p.start) × (p.stop ≤ℤ LIMIT)

@@ -1,7 +1,9 @@
 //! What a schedule costs.
 ghost use Rattle.std.specs.Prelude.{◌≡◌, ℕ, ℤ, pos, ◌≤ℤ◌, ◌+◌, ◌*◌, ◌<◌, ◌≤◌, ◌⊎◌, min, length, slice_index, IsTrue, IsFalse};
 ghost use Rattle.std.specs.List.{All};
-ghost use Rattle.tf_model.specs.SchedulingTask.{IsJob, is_sum};
+ghost use Rattle.tf_model.specs.Limit.{limit};
+ghost use Rattle.tf_model.specs.SchedulingTask.{IsJob};
+ghost use Rattle.tf_model.specs.ClassTable.{is_sum};
 ghost use Rattle.tf_model.specs.Cost.{price, greatest_price, total_price};
 ghost use Rattle.tf_model.specs.Sound.{IsSound as IsSoundTask};
 ghost use Rattle.tf_schedule.specs.Piece.{as_time};
@@ -74,11 +76,12 @@ fn idle_cost<A: Allocator>(task: &Task<A>) -> i128
     value
 }
 
-// What the job costs if it completes at time c.
-fn price<A: Allocator>(task: &Task<A>, job: JobId, c: i64) -> i128
+/// What a job that is there costs if it completes at time `c`, where the objective is a greatest
+/// cost: the time itself, its lateness or the value of its cost function. It takes no memory.
+pub fn price<A: Allocator>(task: &Task<A>, job: JobId, c: i64) -> i128
     requires class { IsFalse (is_sum task.now.class) }
     requires job { IsJob task.now job }
-    requires time { (pos 0 ≤ℤ c) × (c ≤ℤ pos 4000000000000000000) }
+    requires time { (pos 0 ≤ℤ c) × (c ≤ℤ pos limit) }
     ensures { result ≡ price task.now job (as_time c) }
 {
     let class = task.class();

@@ -7,6 +7,7 @@ ghost use Rattle.tf_schedule.specs.Extent.{HasExtents};
 
 use crate::piece::Piece;
 use std::alloc::{AllocError, Allocator};
+use tf_model::limit::LIMIT;
 
 // What the pieces of a job come to.
 #[derive(Clone, Copy)]
@@ -30,9 +31,9 @@ impl Extent {
     {
         Extent {
             work: 0,
-            start: 4_000_000_000_000_000_000,
+            start: LIMIT as u64,
             stop: 0,
-            lowest: 4_000_000_000_000_000_000,
+            lowest: LIMIT as u64,
             highest: 0,
         }
     }

@@ -1,7 +1,8 @@
 //! Whether a schedule fits a task.
 ghost use Rattle.std.specs.Prelude.{◌≡◌, ℕ, pos, ◌≤ℤ◌, ◌+◌, ◌-◌, ◌<◌, ◌≤◌, length, MatchResult, MatchOption, IsOkUnless, IfOk, IsTrue, IsFalse, ◌↔◌, take, drop};
 ghost use Rattle.std.specs.List.{All, AllPairs};
-ghost use Rattle.tf_model.specs.SchedulingTask.{IsJob, is_flow, is_shop, may_break};
+ghost use Rattle.tf_model.specs.SchedulingTask.{IsJob};
+ghost use Rattle.tf_model.specs.ClassTable.{is_flow, is_shop, may_break};
 ghost use Rattle.tf_model.specs.Timetable.{Timetable};
 ghost use Rattle.tf_model.specs.Feasible.{Fits};
 ghost use Rattle.tf_schedule.specs.Piece.{as_time, job_of, OverlapBy};
@@ -68,7 +69,7 @@ pub fn fits<A: Allocator + Copy, B: Allocator, C: Allocator>(
         (HasFirstMisfit task.now schedule.now) }
 
     // So it is Ok wherever the pieces draw a timetable that fits, unless memory ran out.
-    ensures fitting { All (λ p. 0 < p.job) schedule.now → (rows : Timetable) → Draws task.now.machines schedule.now rows → Fits task.now rows → IsOkUnless result OutOfMemory }
+    ensures fitting { (rows : Timetable) → Draws task.now.machines schedule.now rows → Fits task.now rows → IsOkUnless result OutOfMemory }
 {
     let pieces = schedule.pieces();
     if let Some(piece) = first_stranger(task, pieces) {

@@ -7,3 +7,4 @@ pub mod fit;
 pub mod piece;
 pub mod piece_list;
 pub mod schedule;
+pub mod semi_active;

@@ -1,6 +1,7 @@
 //! Pieces of work.
-ghost use Rattle.std.specs.Prelude.{◌≡◌, ◌↔◌, IsTrue, pos, ◌≤ℤ◌, ◌==◌};
-ghost use Rattle.tf_schedule.specs.Piece.{IsInRange, covers, has_started, as_time, machine_of, OverlapBy};
+ghost use Rattle.std.specs.Prelude.{◌≡◌, ◌↔◌, IsTrue, pos, ◌≤ℤ◌, ◌==◌, ◌<◌, ◌≤◌};
+ghost use Rattle.tf_model.specs.Limit.{limit};
+ghost use Rattle.tf_schedule.specs.Piece.{IsInRange, covers, has_started, as_time, machine_of, piece_of, OverlapBy};
 ghost use Rattle.tf_schedule.specs.Schedule.{IsSound};
 ghost use Rattle.tf_schedule.specs.Drawing.{duration};
 
@@ -19,6 +20,19 @@ pub struct Piece {
 }
 
 impl Piece {
+    /// The job on the machine from time `start` up to time `stop`.
+    pub fn of(job: JobId, machine: MachineId, start: u64, stop: u64) -> Self
+        requires { (start < stop) × (stop ≤ limit) }
+        ensures { result ≡ piece_of job machine start stop }
+    {
+        Piece {
+            job,
+            machine,
+            start: start as i64,
+            stop: stop as i64,
+        }
+    }
+
     // Whether the ends are times that are allowed.
     pub(crate) fn is_in_range(&self) -> bool
         ensures { IsTrue result ↔ IsInRange self.now }

@@ -54,7 +54,7 @@ impl<A: Allocator> Schedule<A> {
         ensures fault { IfErr result (HasFirstFault pieces.items) }
     {
         judge_each(&pieces)?;
-        pieces.sort_unstable_by_key(|piece| (piece.machine, piece.start));
+        sort_by_machine(&mut pieces);
         match first_clash(&pieces) {
             Some((machine, time)) => Err(PieceFault::MachineTwice(machine, time)),
             None => Ok(Schedule { pieces }),
@@ -87,6 +87,14 @@ impl<A: Allocator> Schedule<A> {
         }
         job_on(&self.pieces, machine, t)
     }
+}
+
+/// Sorts pieces by machine, and by start on each.
+pub fn sort_by_machine<A: Allocator>(pieces: &mut Vec<Piece, A>)
+    ensures kept { IsPermutation pieces.old.items pieces.new.items }
+    ensures in_order { AllPairs ComesBefore pieces.new.items }
+{
+    pieces.sort_unstable_by_key(|piece| (piece.machine, piece.start));
 }
 
 fn end_of(pieces: &[Piece]) -> i64

@@ -3,7 +3,7 @@ use Rattle.std.proofs.Common.{◌≡◌, ℕ, ℤ, ◌+◌, ◌^◌, ◌<◌, �
 use Rattle.std.specs.List.{list_all, flat_map, join_with_byte, AllByRecursion}
 use Rattle.std.specs.Fmt.{decimal, signed_decimal}
 use Rattle.std.specs.Str.{bytes_eq}
-use Rattle.std.proofs.lemmas.Bool.{and_from, le-ltb}
+use Rattle.std.proofs.lemmas.Bool.{le-ltb}
 use Rattle.std.proofs.lemmas.Int.{ints}
 use Rattle.tf_model.specs.Words.{words, lines, KeptLine, kept_lines}
 use Rattle.tf_model.specs.Whole.{IsWithin}
@@ -12,14 +12,19 @@ use Rattle.tf_notation.specs.Reading.{notation}
 use Rattle.tf_notation.specs.Canonical.{canonical}
 use Rattle.tf_schedule.specs.declared.piece.Piece.{Piece}
 use Rattle.tf_check.specs.Claim.{Claim, AnswerData, ByPairs, ByLastOf, ByWindow, BySplit, ByLoad, ByMachine, ByOneJob, ByRanks}
-use Rattle.tf_text.specs.AnswerText.{SheetData, piece_words, side_word, claim_words, result_lines, answer_lines, line_text, answer_text}
+use Rattle.tf_model.specs.Outcome.{◌>>=◌}
+use Rattle.tf_text.specs.declared.answer.layout.Layout.{Layout}
+use Rattle.tf_text.specs.declared.answer.layout.Layout.TheVariants.{One, Two}
+use Rattle.tf_text.specs.JobWords.{job_words}
+use Rattle.tf_text.proofs.JobRuns.{list_read, list_words, list_form}
+use Rattle.tf_text.specs.AnswerText.{SheetData, version, piece_words, side_word, claim_words, result_lines, answer_lines, line_text, answer_text}
 use Rattle.tf_text.specs.LineParts.{after_word, without_return}
 use Rattle.tf_text.specs.Ranged.{is_number}
-use Rattle.tf_text.specs.Readable.{IsCount, IsReadablePiece, AreJobs, IsReadableClaim, IsReadable}
-use Rattle.tf_text.specs.AnswerReading.{count_in, time_in, value_in, side_of, most_job, most_machine, jobs_from, jobs_in, exactly, problem_in, problem_at, word_behind, count_at, value_at, piece_in, pieces_at, split_in, claim_in, kind_in, certificate_in, certificate_at, answer_at, sheet_of, answer_in}
+use Rattle.tf_text.specs.Readable.{IsCount, IsReadablePiece, AreFew, AreListed, IsReadableClaim, IsReadable}
+use Rattle.tf_text.specs.AnswerReading.{count_in, time_in, value_in, side_of, most_job, most_machine, is_item, few, jobs_listed, jobs_in, exactly, heading_at, problem_in, problem_at, word_behind, count_at, value_at, piece_in, pieces_at, split_in, claim_in, kind_in, certificate_in, certificate_at, answer_at, sheet_of, answer_in}
 use Rattle.tf_notation.proofs.Again.{IsCounted, again}
 use Rattle.tf_notation.proofs.Counted.{is_counted}
-use Rattle.tf_model.specs.declared.limit.TheConstants.{MOST_BYTES}
+use Rattle.tf_model.specs.declared.limit.TheConstants.{MOST_BYTES, MOST_JOBS}
 use Rattle.tf_text.proofs.BehindBlank.{behind_blank}
 use Rattle.tf_text.proofs.NotationWord.{word-canonical, behind_problem, no_return}
 use mir.Val.{SFits}
@@ -36,25 +41,20 @@ number_count most n small is = ap is_some (numeral-decimal n (omega (arith, is.1
 
 -- ---- jobs
 
-jobs_words : (jobs : List ℕ) → AreJobs jobs → AreWords (map decimal jobs)
-jobs_words [] are = tt
-jobs_words (job ∷ jobs) are = (word_count most_job job (lit< tt) are.0, jobs_words jobs are.1)
+-- a list of version 2 is not too long
+few_again : (layout : Layout) (line : ℕ) (jobs : List ℕ) → AreFew layout jobs → few layout line jobs ≡ Ok jobs
+few_again One line jobs are = refl
+few_again Two line jobs are = let fits : ltb MOST_JOBS (length jobs) ≡ false = le-ltb _ _ are in rw fits refl
 
-jobs_numbers : (jobs : List ℕ) → AreJobs jobs → list_all is_number (map decimal jobs) ≡ true
-jobs_numbers [] are = refl
-jobs_numbers (job ∷ jobs) are = and_from _ _ (number_count most_job job (lit< tt) are.0) (jobs_numbers jobs are.1)
+listed_again : (layout : Layout) (line : ℕ) (jobs : List ℕ) → AreListed layout jobs → jobs_listed layout line (job_words layout jobs) ≡ Ok jobs
+unfolding jobs_listed
+listed_again layout line jobs are = ap (λ read. read >>= few layout line) (list_read line layout jobs are.0) ∙ few_again layout line jobs are.1
 
-jobs_again : (line : ℕ) (jobs : List ℕ) → AreJobs jobs → jobs_from line (map decimal jobs) ≡ Ok jobs
-unfolding jobs_from
-jobs_again line [] are = refl
-jobs_again line (job ∷ jobs) are =
-    let first : count_in line most_job (decimal job) ≡ Ok job = count-decimal line most_job job (lit< tt) are.0 in
-    let others : jobs_from line (map decimal jobs) ≡ Ok jobs = jobs_again line jobs are.1 in
-    rw (first, others) refl
-
-listed_again : (line : ℕ) (jobs : List ℕ) → AreJobs jobs → jobs_in line (map decimal jobs) ≡ Ok jobs
+jobs_again : (layout : Layout) (line : ℕ) (jobs : List ℕ) → AreListed layout jobs → jobs_in layout line (job_words layout jobs) ≡ Ok jobs
 unfolding jobs_in
-listed_again line jobs are = let numbers : list_all is_number (map decimal jobs) ≡ true = jobs_numbers jobs are in rw numbers (jobs_again line jobs are)
+jobs_again layout line jobs are =
+    let form : list_all (is_item layout) (job_words layout jobs) ≡ true = list_form layout jobs are.0 in
+    rw form (listed_again layout line jobs are)
 
 -- ---- a piece
 
@@ -82,32 +82,35 @@ side_again : (first : Bool) → side_of (side_word first) ≡ Some first
 side_again true = refl
 side_again false = refl
 
-split_again : (line : ℕ) (side : List ℕ) (delta : ℤ) (first : Bool) → AreJobs side → IsWithin delta → split_in line (side_word first ∷ signed_decimal delta ∷ map decimal side) ≡ Ok (BySplit side delta first)
+split_again : (layout : Layout) (line : ℕ) (side : List ℕ) (delta : ℤ) (first : Bool) → AreListed layout side → IsWithin delta
+    → split_in layout line (side_word first ∷ signed_decimal delta ∷ job_words layout side) ≡ Ok (BySplit side delta first)
 unfolding split_in
-split_again line side delta first are within =
+split_again layout line side delta first are within =
     let which : side_of (side_word first) ≡ Some first = side_again first in
     let number : is_number (signed_decimal delta) ≡ true = ap is_some (numeral-signed delta (omega (arith, ints, within))) in
-    let numbers : list_all is_number (map decimal side) ≡ true = jobs_numbers side are in
+    let form : list_all (is_item layout) (job_words layout side) ≡ true = list_form layout side are.0 in
     let wait : time_in line (signed_decimal delta) ≡ Ok delta = time-signed line delta within in
-    let jobs : jobs_from line (map decimal side) ≡ Ok side = jobs_again line side are in
-    rw (which, number, numbers, wait, jobs) refl
+    let jobs : jobs_listed layout line (job_words layout side) ≡ Ok side = listed_again layout line side are in
+    rw (which, number, form, wait, jobs) refl
 
-certificate_again : (line : ℕ) (claim : Claim) → IsReadableClaim claim → kind_in line (claim_words claim) ≡ Ok claim
+certificate_again : (layout : Layout) (line : ℕ) (claim : Claim) → IsReadableClaim layout claim → kind_in layout line (claim_words layout claim) ≡ Ok claim
 unfolding claim_in
-certificate_again line ByPairs is = refl
-certificate_again line (ByLastOf jobs) is = let read : jobs_in line (map decimal jobs) ≡ Ok jobs = listed_again line jobs is in rw read refl
-certificate_again line (ByWindow jobs) is = let read : jobs_in line (map decimal jobs) ≡ Ok jobs = listed_again line jobs is in rw read refl
-certificate_again line (BySplit side delta first) is = split_again line side delta first is.0 is.1
-certificate_again line ByLoad is = refl
-certificate_again line (ByMachine machine) is = let read : count_in line most_machine (decimal machine) ≡ Ok machine = count-decimal line most_machine machine (lit< tt) is in rw read refl
-certificate_again line (ByOneJob job) is = let read : count_in line most_job (decimal job) ≡ Ok job = count-decimal line most_job job (lit< tt) is in rw read refl
-certificate_again line (ByRanks jobs) is = let read : jobs_in line (map decimal jobs) ≡ Ok jobs = listed_again line jobs is in rw read refl
+certificate_again layout line ByPairs is = refl
+certificate_again layout line (ByLastOf jobs) is = let read : jobs_in layout line (job_words layout jobs) ≡ Ok jobs = jobs_again layout line jobs is in rw read refl
+certificate_again layout line (ByWindow jobs) is = let read : jobs_in layout line (job_words layout jobs) ≡ Ok jobs = jobs_again layout line jobs is in rw read refl
+certificate_again layout line (BySplit side delta first) is = split_again layout line side delta first is.0 is.1
+certificate_again layout line ByLoad is = refl
+certificate_again layout line (ByMachine machine) is = let read : count_in line most_machine (decimal machine) ≡ Ok machine = count-decimal line most_machine machine (lit< tt) is in rw read refl
+certificate_again layout line (ByOneJob job) is = let read : count_in line most_job (decimal job) ≡ Ok job = count-decimal line most_job job (lit< tt) is in rw read refl
+certificate_again layout line (ByRanks jobs) is = let read : jobs_in One line (map decimal jobs) ≡ Ok jobs = jobs_again One line jobs (is, tt) in rw read refl
 
 -- ---- the lines before the pieces
 
-heading_again : (more : List KeptLine) → exactly (codes "answer" ∷ codes "1" ∷ []) (record { number = 1; bytes = join_with_byte 32 (codes "answer" ∷ codes "1" ∷ []) } ∷ more) ≡ Ok more
-unfolding exactly words
-heading_again more = refl
+heading_again : (layout : Layout) (more : List KeptLine)
+    → heading_at (record { number = 1; bytes = join_with_byte 32 (codes "answer" ∷ version layout ∷ []) } ∷ more) ≡ Ok (layout, more)
+unfolding heading_at words
+heading_again One more = refl
+heading_again Two more = refl
 
 end_again : (number : ℕ) → exactly (codes "end" ∷ []) (numbered number ((codes "end" ∷ []) ∷ [])) ≡ Ok []
 unfolding exactly words
@@ -150,67 +153,71 @@ value_again number z more fits =
 
 -- ---- the pieces, and the lines behind them
 
-abbrev closing : Claim → List (List (List ℕ))
-closing claim = (codes "cert" ∷ claim_words claim) ∷ (codes "end" ∷ []) ∷ []
+abbrev closing : Layout → Claim → List (List (List ℕ))
+closing layout claim = (codes "cert" ∷ claim_words layout claim) ∷ (codes "end" ∷ []) ∷ []
 
-claim_are_words : (claim : Claim) → IsReadableClaim claim → AreWords (claim_words claim)
-claim_are_words ByPairs is = (record { some = omega arith; dark = refl }, tt)
-claim_are_words (ByLastOf jobs) is = (record { some = omega arith; dark = refl }, jobs_words jobs is)
-claim_are_words (ByWindow jobs) is = (record { some = omega arith; dark = refl }, jobs_words jobs is)
-claim_are_words (BySplit side delta true) is = (record { some = omega arith; dark = refl }, (record { some = omega arith; dark = refl }, (word-time delta is.1, jobs_words side is.0)))
-claim_are_words (BySplit side delta false) is = (record { some = omega arith; dark = refl }, (record { some = omega arith; dark = refl }, (word-time delta is.1, jobs_words side is.0)))
-claim_are_words ByLoad is = (record { some = omega arith; dark = refl }, tt)
-claim_are_words (ByMachine machine) is = (record { some = omega arith; dark = refl }, (word_count most_machine machine (lit< tt) is, tt))
-claim_are_words (ByOneJob job) is = (record { some = omega arith; dark = refl }, (word_count most_job job (lit< tt) is, tt))
-claim_are_words (ByRanks jobs) is = (record { some = omega arith; dark = refl }, jobs_words jobs is)
+claim_are_words : (layout : Layout) (claim : Claim) → IsReadableClaim layout claim → AreWords (claim_words layout claim)
+claim_are_words layout ByPairs is = (record { some = omega arith; dark = refl }, tt)
+claim_are_words layout (ByLastOf jobs) is = (record { some = omega arith; dark = refl }, list_words layout jobs is.0)
+claim_are_words layout (ByWindow jobs) is = (record { some = omega arith; dark = refl }, list_words layout jobs is.0)
+claim_are_words layout (BySplit side delta true) is = (record { some = omega arith; dark = refl }, (record { some = omega arith; dark = refl }, (word-time delta is.1, list_words layout side is.0.0)))
+claim_are_words layout (BySplit side delta false) is = (record { some = omega arith; dark = refl }, (record { some = omega arith; dark = refl }, (word-time delta is.1, list_words layout side is.0.0)))
+claim_are_words layout ByLoad is = (record { some = omega arith; dark = refl }, tt)
+claim_are_words layout (ByMachine machine) is = (record { some = omega arith; dark = refl }, (word_count most_machine machine (lit< tt) is, tt))
+claim_are_words layout (ByOneJob job) is = (record { some = omega arith; dark = refl }, (word_count most_job job (lit< tt) is, tt))
+claim_are_words layout (ByRanks jobs) is = (record { some = omega arith; dark = refl }, list_words One jobs is)
 
-cert_words : (claim : Claim) → IsReadableClaim claim → AreWords (codes "cert" ∷ claim_words claim)
-cert_words claim is = (record { some = omega arith; dark = refl }, claim_are_words claim is)
+cert_words : (layout : Layout) (claim : Claim) → IsReadableClaim layout claim → AreWords (codes "cert" ∷ claim_words layout claim)
+cert_words layout claim is = (record { some = omega arith; dark = refl }, claim_are_words layout claim is)
 
 -- how many lines before these
-abbrev PiecesAgain : ℕ → List Piece → Claim → Type 0
-PiecesAgain number pieces claim = (last : ℕ) × (pieces_at (numbered number (map piece_words pieces ++ closing claim)) ≡ Ok (pieces, numbered last (closing claim)))
+abbrev PiecesAgain : Layout → ℕ → List Piece → Claim → Type 0
+PiecesAgain layout number pieces claim = (last : ℕ) × (pieces_at (numbered number (map piece_words pieces ++ closing layout claim)) ≡ Ok (pieces, numbered last (closing layout claim)))
 
-pieces_again : (number : ℕ) (pieces : List Piece) (claim : Claim) → AllByRecursion IsReadablePiece pieces → IsReadableClaim claim → PiecesAgain number pieces claim
+pieces_again : (layout : Layout) (number : ℕ) (pieces : List Piece) (claim : Claim) → AllByRecursion IsReadablePiece pieces → IsReadableClaim layout claim → PiecesAgain layout number pieces claim
 unfolding pieces_at
-pieces_again number [] claim are is =
-    let found : words (join_with_byte 32 (codes "cert" ∷ claim_words claim)) ≡ codes "cert" ∷ claim_words claim = words-join (codes "cert" ∷ claim_words claim) (cert_words claim is) in
+pieces_again layout number [] claim are is =
+    let found : words (join_with_byte 32 (codes "cert" ∷ claim_words layout claim)) ≡ codes "cert" ∷ claim_words layout claim = words-join (codes "cert" ∷ claim_words layout claim) (cert_words layout claim is) in
     (number, rw found refl)
-pieces_again number (p ∷ pieces) claim are is =
+pieces_again layout number (p ∷ pieces) claim are is =
     let found : words (join_with_byte 32 (piece_words p)) ≡ piece_words p = words-join (piece_words p) (key_words p are.0) in
     let piece : piece_in number (drop 1 (piece_words p)) ≡ Ok p = piece_again number p are.0 in
-    let others = pieces_again (number + 1) pieces claim are.1 is in
+    let others = pieces_again layout (number + 1) pieces claim are.1 is in
     (others.0, rw (found, piece, others.1) refl)
 
-certificate_line : (number : ℕ) (claim : Claim) (more : List KeptLine) → IsReadableClaim claim
-    → certificate_at (record { number = number; bytes = join_with_byte 32 (codes "cert" ∷ claim_words claim) } ∷ more) ≡ Ok (claim, more)
+certificate_line : (layout : Layout) (number : ℕ) (claim : Claim) (more : List KeptLine) → IsReadableClaim layout claim
+    → certificate_at layout (record { number = number; bytes = join_with_byte 32 (codes "cert" ∷ claim_words layout claim) } ∷ more) ≡ Ok (claim, more)
 unfolding certificate_at certificate_in
-certificate_line number claim more is =
-    let found : words (join_with_byte 32 (codes "cert" ∷ claim_words claim)) ≡ codes "cert" ∷ claim_words claim = words-join (codes "cert" ∷ claim_words claim) (cert_words claim is) in
-    let read : kind_in number (claim_words claim) ≡ Ok claim = certificate_again number claim is in
+certificate_line layout number claim more is =
+    let found : words (join_with_byte 32 (codes "cert" ∷ claim_words layout claim)) ≡ codes "cert" ∷ claim_words layout claim = words-join (codes "cert" ∷ claim_words layout claim) (cert_words layout claim is) in
+    let read : kind_in layout number (claim_words layout claim) ≡ Ok claim = certificate_again layout number claim is in
     rw (found, read) refl
 
 -- ---- the whole
 
-answer_again : (number : ℕ) (a : AnswerData) → SFits w64 a.value → AllByRecursion IsReadablePiece a.pieces → IsReadableClaim a.certificate → answer_at (numbered number (result_lines a)) ≡ Ok a
+answer_again : (layout : Layout) (number : ℕ) (a : AnswerData) → SFits w64 a.value → AllByRecursion IsReadablePiece a.pieces → IsReadableClaim layout a.certificate → answer_at layout (numbered number (result_lines layout a)) ≡ Ok a
 unfolding answer_at
-answer_again number a value are is =
-    let first : value_at (numbered number (result_lines a)) ≡ Ok (a.value, numbered (number + 1) (map piece_words a.pieces ++ closing a.certificate)) = value_again number a.value _ value in
-    let pieces = pieces_again (number + 1) a.pieces a.certificate are is in
-    let certificate : certificate_at (numbered pieces.0 (closing a.certificate)) ≡ Ok (a.certificate, numbered (pieces.0 + 1) ((codes "end" ∷ []) ∷ [])) = certificate_line pieces.0 a.certificate _ is in
+answer_again layout number a value are is =
+    let first : value_at (numbered number (result_lines layout a)) ≡ Ok (a.value, numbered (number + 1) (map piece_words a.pieces ++ closing layout a.certificate)) = value_again number a.value _ value in
+    let pieces = pieces_again layout (number + 1) a.pieces a.certificate are is in
+    let certificate : certificate_at layout (numbered pieces.0 (closing layout a.certificate)) ≡ Ok (a.certificate, numbered (pieces.0 + 1) ((codes "end" ∷ []) ∷ [])) = certificate_line layout pieces.0 a.certificate _ is in
     let last : exactly (codes "end" ∷ []) (numbered (pieces.0 + 1) ((codes "end" ∷ []) ∷ [])) ≡ Ok [] = end_again (pieces.0 + 1) in
     rw (first, pieces.1, certificate, last) refl
 
-pieces_are_lines : (pieces : List Piece) (claim : Claim) → AllByRecursion IsReadablePiece pieces → IsReadableClaim claim → AllByRecursion IsLine (map piece_words pieces ++ closing claim)
-pieces_are_lines [] claim are is = (record { words = cert_words claim is; kept = refl }, (record { words = (record { some = omega arith; dark = refl }, tt); kept = refl }, tt))
-pieces_are_lines (p ∷ pieces) claim are is = (record { words = key_words p are.0; kept = refl }, pieces_are_lines pieces claim are.1 is)
+pieces_are_lines : (layout : Layout) (pieces : List Piece) (claim : Claim) → AllByRecursion IsReadablePiece pieces → IsReadableClaim layout claim → AllByRecursion IsLine (map piece_words pieces ++ closing layout claim)
+pieces_are_lines layout [] claim are is = (record { words = cert_words layout claim is; kept = refl }, (record { words = (record { some = omega arith; dark = refl }, tt); kept = refl }, tt))
+pieces_are_lines layout (p ∷ pieces) claim are is = (record { words = key_words p are.0; kept = refl }, pieces_are_lines layout pieces claim are.1 is)
 
 keyed : (key word : List ℕ) → IsWord key → IsWord word → AreWords (key ∷ word ∷ [])
 keyed key word is-key is-word = (is-key, (is-word, tt))
 
-sheet_are_lines : (s : SheetData) → IsReadable s → IsCounted s.problem.env s.problem.count → AllByRecursion IsLine (answer_lines s)
-sheet_are_lines s is counted = (
-  record { words = (record { some = omega arith; dark = refl }, (record { some = omega arith; dark = refl }, tt)); kept = refl },
+version_word : (layout : Layout) → IsWord (version layout)
+version_word One = record { some = omega arith; dark = refl }
+version_word Two = record { some = omega arith; dark = refl }
+
+sheet_are_lines : (layout : Layout) (s : SheetData) → IsReadable layout s → IsCounted s.problem.env s.problem.count → AllByRecursion IsLine (answer_lines layout s)
+sheet_are_lines layout s is counted = (
+  record { words = (record { some = omega arith; dark = refl }, (version_word layout, tt)); kept = refl },
   (
     record { words = problem_words s.problem counted; kept = refl },
     (
@@ -219,31 +226,31 @@ sheet_are_lines s is counted = (
         record { words = keyed (codes "machines") (decimal s.machines) (record { some = omega arith; dark = refl }) (word_count most_machine s.machines (lit< tt) is.machines); kept = refl },
         (
           record { words = keyed (codes "value") (signed_decimal s.answer.value) (record { some = omega arith; dark = refl }) (word-signed s.answer.value is.value); kept = refl },
-          pieces_are_lines s.answer.pieces s.answer.certificate is.pieces is.certificate,
+          pieces_are_lines layout s.answer.pieces s.answer.certificate is.pieces is.certificate,
         ),
       ),
     ),
   ),
 )
 
-sheet_again : (s : SheetData) → IsReadable s → IsCounted s.problem.env s.problem.count → notation (canonical s.problem) ≡ Ok s.problem → sheet_of (numbered 1 (answer_lines s)) ≡ Ok s
+sheet_again : (layout : Layout) (s : SheetData) → IsReadable layout s → IsCounted s.problem.env s.problem.count → notation (canonical s.problem) ≡ Ok s.problem → sheet_of (numbered 1 (answer_lines layout s)) ≡ Ok s
 unfolding sheet_of
-sheet_again s is counted read =
-    let body : exactly (codes "answer" ∷ codes "1" ∷ []) (numbered 1 (answer_lines s)) ≡ Ok (numbered 2 (drop 1 (answer_lines s))) = heading_again _ in
-    let problem : problem_at (numbered 2 (drop 1 (answer_lines s))) ≡ Ok (s.problem, numbered 3 (drop 2 (answer_lines s))) = problem_again 2 s.problem _ counted read in
-    let jobs : count_at (codes "jobs") most_job (numbered 3 (drop 2 (answer_lines s))) ≡ Ok (s.jobs, numbered 4 (drop 3 (answer_lines s))) =
+sheet_again layout s is counted read =
+    let heading : heading_at (numbered 1 (answer_lines layout s)) ≡ Ok (layout, numbered 2 (drop 1 (answer_lines layout s))) = heading_again layout _ in
+    let problem : problem_at (numbered 2 (drop 1 (answer_lines layout s))) ≡ Ok (s.problem, numbered 3 (drop 2 (answer_lines layout s))) = problem_again 2 s.problem _ counted read in
+    let jobs : count_at (codes "jobs") most_job (numbered 3 (drop 2 (answer_lines layout s))) ≡ Ok (s.jobs, numbered 4 (drop 3 (answer_lines layout s))) =
     count_again 3 (codes "jobs") most_job s.jobs _ (record { some = omega arith; dark = refl }) refl (lit< tt) is.jobs in
-    let machines : count_at (codes "machines") most_machine (numbered 4 (drop 3 (answer_lines s))) ≡ Ok (s.machines, numbered 5 (result_lines s.answer)) =
+    let machines : count_at (codes "machines") most_machine (numbered 4 (drop 3 (answer_lines layout s))) ≡ Ok (s.machines, numbered 5 (result_lines layout s.answer)) =
     count_again 4 (codes "machines") most_machine s.machines _ (record { some = omega arith; dark = refl }) refl (lit< tt) is.machines in
-    let answer : answer_at (numbered 5 (result_lines s.answer)) ≡ Ok s.answer = answer_again 5 s.answer is.value is.pieces is.certificate in
-    rw (body, problem, jobs, machines, answer) refl
+    let answer : answer_at layout (numbered 5 (result_lines layout s.answer)) ≡ Ok s.answer = answer_again layout 5 s.answer is.value is.pieces is.certificate in
+    rw (heading, problem, jobs, machines, answer) refl
 
 -- the text of a sheet whose numbers are in their ranges is read as that sheet, if it is not too long
-pub text_again : (s : SheetData) → IsReadable s → length (answer_text s) ≤ MOST_BYTES → answer_in (answer_text s) ≡ Ok s
+pub text_again : (layout : Layout) (s : SheetData) → IsReadable layout s → length (answer_text layout s) ≤ MOST_BYTES → answer_in (answer_text layout s) ≡ Ok s
 unfolding answer_text answer_in
-text_again s is short =
+text_again layout s is short =
     let read = is.problem in
     let counted = is_counted read.0 s.problem read.1 in
-    let kept : kept_lines 1 (lines (flat_map line_text (answer_lines s))) ≡ numbered 1 (answer_lines s) = kept-text (answer_lines s) (sheet_are_lines s is counted) in
-    let fits : ltb MOST_BYTES (length (flat_map line_text (answer_lines s))) ≡ false = le-ltb _ _ short in
-    rw (fits, kept) (sheet_again s is counted (again s.problem counted))
+    let kept : kept_lines 1 (lines (flat_map line_text (answer_lines layout s))) ≡ numbered 1 (answer_lines layout s) = kept-text (answer_lines layout s) (sheet_are_lines layout s is counted) in
+    let fits : ltb MOST_BYTES (length (flat_map line_text (answer_lines layout s))) ≡ false = le-ltb _ _ short in
+    rw (fits, kept) (sheet_again layout s is counted (again s.problem counted))

@@ -8,7 +8,9 @@ use Rattle.tf_model.specs.declared.problem.Problem.{Problem}
 use Rattle.tf_notation.specs.declared.spelling.Conditions.{Conditions}
 use Rattle.tf_notation.specs.Spelling.{meaning, environment, goals, dividers, no_conditions, adds}
 use Rattle.tf_notation.specs.Tokens.{Token, tokens_from, is_gap, is_word_byte, begins_word, lengthen}
-use Rattle.tf_notation.specs.Reading.{◌>>=◌, notation, expect, listed, conditions_at, ended, problem_of, bar}
+use Rattle.tf_model.proofs.Outcomes.{bind_ok}
+use Rattle.tf_model.specs.Outcome.{◌>>=◌}
+use Rattle.tf_notation.specs.Reading.{notation, expect, listed, conditions_at, ended, problem_of, bar}
 
 -- the same bytes, wherever they stand
 abbrev Same : List Token → List Token → Type 0
@@ -113,10 +115,6 @@ ended_agrees : (x y : Problem) (ts us : List Token) → Same ts us → ended x t
 ended_agrees x y [] [] same h = h
 ended_agrees x y [] (u ∷ us) same h = cc
 ended_agrees x y (t ∷ ts) us same h = cc
-
-bind_ok : {A B : Type 0} (r : Result A ℕ) (f : A → Result B ℕ) (y : B) → (r >>= f) ≡ Ok y → (x : A) × (r ≡ Ok x) × (f x ≡ Ok y)
-bind_ok (Ok x) f y h = (x, refl, h)
-bind_ok (Err e) f y h = absurd cc
 
 one_blank : (text : List ℕ) → tokens_from 0 (32 ∷ text) ≡ tokens_from 1 text
 unfolding tokens_from

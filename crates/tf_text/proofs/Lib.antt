@@ -6,4 +6,8 @@ pub mod WordLines
 pub mod Numerals
 pub mod BehindBlank
 pub mod NotationWord
+pub mod RangeWords
+pub mod JobRuns
 pub mod AnswerAgain
+pub mod ChartLines
+pub mod ChartOrder

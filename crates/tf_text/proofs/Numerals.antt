@@ -34,7 +34,7 @@ digit_dark d low =
     let f : eqb d 10 ≡ false = ne_eqb d 10 (λ e. omega (arith, low, e)) in
     rw (a, b, c, f) refl
 
-digits_dark : (ds : List ℕ) → AllDigits 10 ds → list_all (λ b. not (is_white b)) ds ≡ true
+pub digits_dark : (ds : List ℕ) → AllDigits 10 ds → list_all (λ b. not (is_white b)) ds ≡ true
 digits_dark [] h = refl
 digits_dark (d ∷ ds) h = let r = digit_from_value d h.0 in and_from _ _ (digit_dark d r.0) (digits_dark ds h.1)
 
@@ -53,7 +53,7 @@ word-signed (negsuc n) fits =
 
 -- ---- numerals
 
-decimal_numeral : (n : ℕ) → n < 2 ^ 64 → is_numeral (decimal n) ≡ true
+pub decimal_numeral : (n : ℕ) → n < 2 ^ 64 → is_numeral (decimal n) ≡ true
 decimal_numeral n small =
     let d = decimal_is_IsNumeral n small in
     and_from _ _ (lt-ltb _ _ d.0.0) (digits_only (decimal n) d.0.1)

@@ -1,47 +1,50 @@
--- What an answer text of version 1 says, or its first fault. A line that is kept is read by its words.
-use Rattle.std.specs.Prelude.{◌≡◌, ℕ, ℤ, pos, negsuc, Bool, true, false, ◌&&◌, List, [], ◌∷◌, length, drop, codes, Option, Some, None, Result, Ok, Err, nat_lt, neg_ℤ, if◌then◌else◌}
-use Rattle.std.specs.List.{list_all}
+-- What an answer text says, or its first fault. A line that is kept is read by its words.
+use Rattle.std.specs.Prelude.{ℕ, ℤ, pos, negsuc, Bool, true, false, ◌&&◌, ◌||◌, List, [], ◌∷◌, ◌++◌, length, drop, codes, Option, Some, None, is_some, Result, Ok, Err, nat_lt, ◌==◌, neg_ℤ, if◌then◌else◌}
+use Rattle.std.specs.List.{list_all, before_first, after_first}
 use Rattle.std.specs.Option.{option_map_or}
 use Rattle.std.specs.Str.{bytes_eq}
 use Rattle.std.specs.Cmp.Lexicographic.{pointwise}
+use Rattle.tf_model.specs.Outcome
+use Rattle.tf_model.specs.Outcome.{◌>>=◌}
+use Rattle.tf_model.specs.Number.{is_numeral}
 use Rattle.tf_model.specs.Whole.{as_time}
 use Rattle.tf_model.specs.Words.{words, lines, KeptLine, kept_lines}
-use Rattle.tf_model.specs.declared.limit.TheConstants.{LIMIT, MOST_BYTES}
+use Rattle.tf_model.specs.declared.limit.TheConstants.{LIMIT, MOST_BYTES, MOST_JOBS, MOST_MACHINES}
 use Rattle.tf_model.specs.declared.problem.Problem.{Problem}
 use Rattle.tf_notation.specs.Reading.{notation}
 use Rattle.tf_schedule.specs.declared.piece.Piece.{Piece}
 use Rattle.tf_check.specs.Claim.{Claim, AnswerData, ByPairs, ByLastOf, ByWindow, BySplit, ByLoad, ByMachine, ByOneJob, ByRanks}
-use Rattle.tf_text.specs.AnswerText.{SheetData}
+use Rattle.tf_text.specs.AnswerText.{SheetData, version}
+use Rattle.tf_text.specs.JobWords.{alone, run_jobs}
 use Rattle.tf_text.specs.LineParts.{after_word, without_return}
 use Rattle.tf_text.specs.Ranged.{is_number, number_in}
+use Rattle.tf_text.specs.declared.answer.layout.Layout.{Layout}
+use Rattle.tf_text.specs.declared.answer.layout.Layout.TheVariants.{One, Two}
+use Rattle.tf_text.specs.declared.answer.run.Run.{Run}
 use Rattle.tf_text.specs.declared.ranged.Ranged.{Ranged}
 use Rattle.tf_text.specs.declared.ranged.Ranged.TheVariants.{NotANumber, Below, Above, Within}
 use Rattle.tf_text.specs.declared.answer.fault.AnswerFault.{AnswerFault}
 use Rattle.tf_text.specs.declared.answer.fault.AnswerFault.TheVariants.{TooLong, BadLine, NumberTooLarge, BadNotation, EndsEarly, OutOfMemory}
 
--- the first fault, or what follows
-infixl 10 ◌>>=◌
-abbrev pub ◌>>=◌ : {A B : Type 0} → Result A AnswerFault → (A → Result B AnswerFault) → Result B AnswerFault
-(Ok x) >>= f = f x
-(Err e) >>= f = Err e
+-- each error but want of memory is a fault of the text
+abbrev pub fault_in : AnswerFault → Option AnswerFault
+fault_in OutOfMemory = None
+fault_in e = Some e
 
--- what a function returned, seen by view, is what reading gives, unless memory ran out
 abbrev pub Fails : {Y : Type 0} → AnswerFault → Result Y AnswerFault → Type 0
-Fails OutOfMemory read = Unit {0}
-Fails e read = read ≡ Err e
+Fails e = Outcome.IsFault (fault_in e)
 
 abbrev pub Gives : {X Y : Type 0} → (X → Y) → Result X AnswerFault → Result Y AnswerFault → Type 0
-Gives view (Ok x) read = read ≡ Ok (view x)
-Gives view (Err e) read = Fails e read
+Gives = Outcome.Gives fault_in
 
 -- ---- numbers
 
 -- the greatest numbers of a job and of a machine that a text may name
 abbrev pub most_job : ℕ
-most_job = 100000
+most_job = MOST_JOBS
 
 abbrev pub most_machine : ℕ
-most_machine = 1000
+most_machine = MOST_MACHINES
 
 -- a number that counts from 1: below 1 the line is none of its kind
 abbrev pub counted : ℕ → Ranged → Result ℕ AnswerFault
@@ -69,17 +72,71 @@ time_in line word = signed_within line (number_in (neg_ℤ LIMIT) LIMIT word)
 abbrev pub value_in : ℕ → List ℕ → Result ℤ AnswerFault
 value_in line word = signed_within line (number_in (negsuc 9223372036854775807) (pos 9223372036854775807) word)
 
+-- ---- lists of jobs
+
+-- the byte '-'
+abbrev pub is_dash : ℕ → Bool
+is_dash b = b == 45
+
+-- both words, if each is of digits alone
+abbrev pub numerals : List ℕ → List ℕ → Option (List ℕ × List ℕ)
+numerals first last = if is_numeral first && is_numeral last then Some (first, last) else None
+
+-- the two numbers of a range: digits, one '-', digits
+unfoldable pub range_ends : List ℕ → Option (List ℕ × List ℕ)
+range_ends word = numerals (before_first is_dash word) (after_first is_dash word)
+
+-- a word of a list is a number, in version 2 a range as well
+abbrev pub is_item : Layout → List ℕ → Bool
+is_item One word = is_number word
+is_item Two word = is_number word || is_some (range_ends word)
+
+-- the second job is above the first
+abbrev pub ordered : ℕ → ℕ → ℕ → Result Run AnswerFault
+ordered line first last = if nat_lt first last then Ok (record { first = first; last = last }) else Err (BadLine line)
+
+-- the numbers of a range from left to right, or the only one of a job
+abbrev pub run_of : ℕ → List ℕ → Option (List ℕ × List ℕ) → Result Run AnswerFault
+run_of line word None = do
+  job ← count_in line most_job word
+  Ok (alone job)
+run_of line word (Some ends) = do
+  first ← count_in line most_job ends.0
+  last ← count_in line most_job ends.1
+  ordered line first last
+
+-- a word as a run of jobs
+unfoldable pub run_in : ℕ → List ℕ → Result Run AnswerFault
+run_in line word = run_of line word (range_ends word)
+
 -- words as jobs, judged from left to right
 unfoldable pub jobs_from : ℕ → List (List ℕ) → Result (List ℕ) AnswerFault
 jobs_from line [] = Ok []
 jobs_from line (word ∷ more) = do
-  job ← count_in line most_job word
+  run ← run_in line word
   jobs ← jobs_from line more
-  Ok (job ∷ jobs)
+  Ok (run_jobs run ++ jobs)
 
--- the same, once all words are numbers
-unfoldable pub jobs_in : ℕ → List (List ℕ) → Result (List ℕ) AnswerFault
-jobs_in line words = if list_all is_number words then jobs_from line words else Err (BadLine line)
+-- they are more jobs than an instance may have
+abbrev pub are_many : List ℕ → Bool
+are_many jobs = nat_lt MOST_JOBS (length jobs)
+
+-- the same of jobs by their words
+abbrev pub name_many : ℕ → List (List ℕ) → Result Bool AnswerFault
+name_many line words = jobs_from line words >>= λ jobs. Ok (are_many jobs)
+
+-- in version 2 a list has at most as many jobs as an instance
+abbrev pub few : Layout → ℕ → List ℕ → Result (List ℕ) AnswerFault
+few One line jobs = Ok jobs
+few Two line jobs = if are_many jobs then Err (BadLine line) else Ok jobs
+
+-- the jobs of words that are items of a list
+unfoldable pub jobs_listed : Layout → ℕ → List (List ℕ) → Result (List ℕ) AnswerFault
+jobs_listed layout line words = jobs_from line words >>= few layout line
+
+-- the same, once all words are such items
+unfoldable pub jobs_in : Layout → ℕ → List (List ℕ) → Result (List ℕ) AnswerFault
+jobs_in layout line words = if list_all (is_item layout) words then jobs_listed layout line words else Err (BadLine line)
 
 -- ---- the lines before the pieces
 
@@ -96,8 +153,25 @@ next (line ∷ more) = Ok (line, more)
 abbrev pub passed : List (List ℕ) → KeptLine → List KeptLine → Result (List KeptLine) AnswerFault
 passed wanted line more = if is_exactly wanted (words line.bytes) then Ok more else Err (BadLine line.number)
 
+-- the line of exactly these words, and those behind it
 unfoldable pub exactly : List (List ℕ) → List KeptLine → Result (List KeptLine) AnswerFault
 exactly wanted all = next all >>= λ line. passed wanted line.0 line.1
+
+-- the version that a heading names
+abbrev pub version_in : List (List ℕ) → Option Layout
+version_in words =
+    if is_exactly (codes "answer" ∷ version One ∷ []) words then Some One
+    else if is_exactly (codes "answer" ∷ version Two ∷ []) words then Some Two
+    else None
+
+-- the version, and the lines behind the heading
+abbrev pub behind_heading : Option Layout → KeptLine → List KeptLine → Result (Layout × List KeptLine) AnswerFault
+behind_heading None line more = Err (BadLine line.number)
+behind_heading (Some layout) line more = Ok (layout, more)
+
+-- the heading, and those behind it
+unfoldable pub heading_at : List KeptLine → Result (Layout × List KeptLine) AnswerFault
+heading_at all = next all >>= λ line. behind_heading (version_in (words line.0.bytes)) line.0 line.1
 
 -- the first word is this one
 abbrev pub first_is : List ℕ → List (List ℕ) → Bool
@@ -198,48 +272,50 @@ bare line claim (word ∷ words) = Err (BadLine line)
 abbrev pub side_of : List ℕ → Option Bool
 side_of word = if bytes_eq word (codes "first") then Some true else (if bytes_eq word (codes "second") then Some false else None)
 
--- the delta and the jobs of the side, all of them numbers
-abbrev pub split_of : ℕ → Bool → List ℕ → List (List ℕ) → Result Claim AnswerFault
-split_of line first delta jobs =
-    if is_number delta && list_all is_number jobs then (do
+-- the delta and the jobs of the side, all of them of their form
+abbrev pub split_of : Layout → ℕ → Bool → List ℕ → List (List ℕ) → Result Claim AnswerFault
+split_of layout line first delta jobs =
+    if is_number delta && list_all (is_item layout) jobs then (do
       wait ← time_in line delta
-      side ← jobs_from line jobs
+      side ← jobs_listed layout line jobs
       Ok (BySplit side wait first))
     else Err (BadLine line)
 
 -- which machine has to wait, for how long, and the jobs of the side
-unfoldable pub split_in : ℕ → List (List ℕ) → Result Claim AnswerFault
-split_in line [] = Err (BadLine line)
-split_in line (side ∷ []) = Err (BadLine line)
-split_in line (side ∷ delta ∷ jobs) = option_map_or (λ first. split_of line first delta jobs) (side_of side) (Err (BadLine line))
+unfoldable pub split_in : Layout → ℕ → List (List ℕ) → Result Claim AnswerFault
+split_in layout line [] = Err (BadLine line)
+split_in layout line (side ∷ []) = Err (BadLine line)
+split_in layout line (side ∷ delta ∷ jobs) =
+    option_map_or (λ first. split_of layout line first delta jobs) (side_of side) (Err (BadLine line))
 
--- a kind, and the words behind it
-unfoldable pub claim_in : ℕ → List ℕ → List (List ℕ) → Result Claim AnswerFault
-claim_in line kind words =
+-- a kind, and the words behind it; a ranking has no ranges
+unfoldable pub claim_in : Layout → ℕ → List ℕ → List (List ℕ) → Result Claim AnswerFault
+claim_in layout line kind words =
     if bytes_eq kind (codes "pairs") then bare line ByPairs words
-    else if bytes_eq kind (codes "last") then (jobs_in line words >>= λ jobs. Ok (ByLastOf jobs))
-    else if bytes_eq kind (codes "window") then (jobs_in line words >>= λ jobs. Ok (ByWindow jobs))
-    else if bytes_eq kind (codes "split") then split_in line words
+    else if bytes_eq kind (codes "last") then (jobs_in layout line words >>= λ jobs. Ok (ByLastOf jobs))
+    else if bytes_eq kind (codes "window") then (jobs_in layout line words >>= λ jobs. Ok (ByWindow jobs))
+    else if bytes_eq kind (codes "split") then split_in layout line words
     else if bytes_eq kind (codes "load") then bare line ByLoad words
     else if bytes_eq kind (codes "machine") then (only line words >>= count_in line most_machine >>= λ machine. Ok (ByMachine machine))
     else if bytes_eq kind (codes "job") then (only line words >>= count_in line most_job >>= λ job. Ok (ByOneJob job))
-    else if bytes_eq kind (codes "ranks") then (jobs_in line words >>= λ jobs. Ok (ByRanks jobs))
+    else if bytes_eq kind (codes "ranks") then (jobs_in One line words >>= λ jobs. Ok (ByRanks jobs))
     else Err (BadLine line)
 
 -- the words behind `cert`
-abbrev pub kind_in : ℕ → List (List ℕ) → Result Claim AnswerFault
-kind_in line [] = Err (BadLine line)
-kind_in line (kind ∷ words) = claim_in line kind words
+abbrev pub kind_in : Layout → ℕ → List (List ℕ) → Result Claim AnswerFault
+kind_in layout line [] = Err (BadLine line)
+kind_in layout line (kind ∷ words) = claim_in layout line kind words
 
 -- `cert`, and a kind
-unfoldable pub certificate_in : ℕ → List (List ℕ) → Result Claim AnswerFault
-certificate_in line words = if first_is (codes "cert") words then kind_in line (drop 1 words) else Err (BadLine line)
+unfoldable pub certificate_in : Layout → ℕ → List (List ℕ) → Result Claim AnswerFault
+certificate_in layout line words =
+    if first_is (codes "cert") words then kind_in layout line (drop 1 words) else Err (BadLine line)
 
 -- the line `cert`, and those behind it
-unfoldable pub certificate_at : List KeptLine → Result (Claim × List KeptLine) AnswerFault
-certificate_at all = do
+unfoldable pub certificate_at : Layout → List KeptLine → Result (Claim × List KeptLine) AnswerFault
+certificate_at layout all = do
   line ← next all
-  claim ← certificate_in line.0.number (words line.0.bytes)
+  claim ← certificate_in layout line.0.number (words line.0.bytes)
   Ok (claim, line.1)
 
 -- ---- the whole text
@@ -250,11 +326,11 @@ finished [] = Ok tt
 finished (line ∷ more) = Err (BadLine line.number)
 
 -- the value, the pieces, the certificate and the end
-unfoldable pub answer_at : List KeptLine → Result AnswerData AnswerFault
-answer_at all = do
+unfoldable pub answer_at : Layout → List KeptLine → Result AnswerData AnswerFault
+answer_at layout all = do
   value ← value_at all
   pieces ← pieces_at value.1
-  certificate ← certificate_at pieces.1
+  certificate ← certificate_at layout pieces.1
   rest ← exactly (codes "end" ∷ []) certificate.1
   done ← finished rest
   Ok (record { pieces = pieces.0; value = value.0; certificate = certificate.0 })
@@ -262,11 +338,11 @@ answer_at all = do
 -- all kept lines in their order
 unfoldable pub sheet_of : List KeptLine → Result SheetData AnswerFault
 sheet_of all = do
-  body ← exactly (codes "answer" ∷ codes "1" ∷ []) all
-  problem ← problem_at body
+  heading ← heading_at all
+  problem ← problem_at heading.1
   jobs ← count_at (codes "jobs") most_job problem.1
   machines ← count_at (codes "machines") most_machine jobs.1
-  answer ← answer_at machines.1
+  answer ← answer_at heading.0 machines.1
   Ok (record { problem = problem.0; jobs = jobs.0; machines = machines.0; answer = answer })
 
 -- a text that is not too long, by its kept lines

@@ -1,10 +1,13 @@
--- The text of an answer, version 1.
+-- The text of an answer.
 use Rattle.std.specs.Prelude.{ℕ, Bool, List, [], ◌∷◌, ◌++◌, map, codes, if◌then◌else◌}
 use Rattle.std.specs.List.{flat_map, join_with_byte}
 use Rattle.std.specs.Fmt.{decimal, signed_decimal}
 use Rattle.tf_model.specs.declared.problem.Problem.{Problem}
 use Rattle.tf_notation.specs.Canonical.{canonical}
 use Rattle.tf_schedule.specs.declared.piece.Piece.{Piece}
+use Rattle.tf_text.specs.declared.answer.layout.Layout.{Layout}
+use Rattle.tf_text.specs.declared.answer.layout.Layout.TheVariants.{One, Two}
+use Rattle.tf_text.specs.JobWords.{job_words}
 use Rattle.tf_check.specs.Claim.{Claim, AnswerData, ByPairs, ByLastOf, ByWindow, BySplit, ByLoad, ByMachine, ByOneJob, ByRanks}
 
 -- what an answer text says
@@ -22,39 +25,45 @@ piece_words p = codes "piece" ∷ decimal p.job ∷ decimal p.machine ∷ signed
 abbrev pub side_word : Bool → List ℕ
 side_word first = if first then codes "first" else codes "second"
 
--- a certificate: its kind, its numbers and its jobs
-abbrev pub claim_words : Claim → List (List ℕ)
-claim_words ByPairs = codes "pairs" ∷ []
-claim_words (ByLastOf jobs) = codes "last" ∷ map decimal jobs
-claim_words (ByWindow jobs) = codes "window" ∷ map decimal jobs
-claim_words (BySplit side delta first) = codes "split" ∷ side_word first ∷ signed_decimal delta ∷ map decimal side
-claim_words ByLoad = codes "load" ∷ []
-claim_words (ByMachine machine) = codes "machine" ∷ decimal machine ∷ []
-claim_words (ByOneJob job) = codes "job" ∷ decimal job ∷ []
-claim_words (ByRanks jobs) = codes "ranks" ∷ map decimal jobs
+-- a certificate: its kind, its numbers and its jobs, of which a ranking has no ranges
+abbrev pub claim_words : Layout → Claim → List (List ℕ)
+claim_words layout ByPairs = codes "pairs" ∷ []
+claim_words layout (ByLastOf jobs) = codes "last" ∷ job_words layout jobs
+claim_words layout (ByWindow jobs) = codes "window" ∷ job_words layout jobs
+claim_words layout (BySplit side delta first) =
+    codes "split" ∷ side_word first ∷ signed_decimal delta ∷ job_words layout side
+claim_words layout ByLoad = codes "load" ∷ []
+claim_words layout (ByMachine machine) = codes "machine" ∷ decimal machine ∷ []
+claim_words layout (ByOneJob job) = codes "job" ∷ decimal job ∷ []
+claim_words layout (ByRanks jobs) = codes "ranks" ∷ job_words One jobs
 
 -- the lines of an answer, each by its words: its value, its pieces in their order, its certificate
-abbrev pub result_lines : AnswerData → List (List (List ℕ))
-result_lines a =
+abbrev pub result_lines : Layout → AnswerData → List (List (List ℕ))
+result_lines layout a =
     (codes "value" ∷ signed_decimal a.value ∷ [])
     ∷ (map piece_words a.pieces
-    ++ (codes "cert" ∷ claim_words a.certificate)
+    ++ (codes "cert" ∷ claim_words layout a.certificate)
     ∷ (codes "end" ∷ [])
     ∷ [])
 
+-- the number of a version
+abbrev pub version : Layout → List ℕ
+version One = codes "1"
+version Two = codes "2"
+
 -- all lines: a heading, what the answer is for, and the answer
-abbrev pub answer_lines : SheetData → List (List (List ℕ))
-answer_lines s =
-    (codes "answer" ∷ codes "1" ∷ [])
+abbrev pub answer_lines : Layout → SheetData → List (List (List ℕ))
+answer_lines layout s =
+    (codes "answer" ∷ version layout ∷ [])
     ∷ (codes "problem" ∷ canonical s.problem ∷ [])
     ∷ (codes "jobs" ∷ decimal s.jobs ∷ [])
     ∷ (codes "machines" ∷ decimal s.machines ∷ [])
-    ∷ result_lines s.answer
+    ∷ result_lines layout s.answer
 
 -- a line: its words with a blank between each two, and a line feed
 abbrev pub line_text : List (List ℕ) → List ℕ
 line_text words = join_with_byte 32 words ++ 10 ∷ []
 
 -- the text of a sheet
-unfoldable pub answer_text : SheetData → List ℕ
-answer_text s = flat_map line_text (answer_lines s)
+unfoldable pub answer_text : Layout → SheetData → List ℕ
+answer_text layout s = flat_map line_text (answer_lines layout s)

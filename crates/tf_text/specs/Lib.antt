@@ -1,6 +1,8 @@
 pub mod Counted
 pub mod Input
+pub mod JobWords
 pub mod AnswerText
+pub mod Chart
 pub mod Ranged
 pub mod LineParts
 pub mod Lines

@@ -1,13 +1,16 @@
 -- The sheets whose texts can be read.
-use Rattle.std.specs.Prelude.{ℕ, ◌≤◌, List}
+use Rattle.std.specs.Prelude.{ℕ, ◌≤◌, List, length}
 use Rattle.std.specs.Int.RustNames.{FitsSigned}
 use Rattle.std.specs.List.{AllByRecursion}
 use Rattle.tf_model.specs.Whole.{IsWithin}
+use Rattle.tf_model.specs.declared.limit.TheConstants.{MOST_JOBS}
 use Rattle.tf_notation.specs.Reading.{IsRead}
 use Rattle.tf_schedule.specs.declared.piece.Piece.{Piece}
 use Rattle.tf_check.specs.Claim.{Claim, ByPairs, ByLastOf, ByWindow, BySplit, ByLoad, ByMachine, ByOneJob, ByRanks}
 use Rattle.tf_text.specs.AnswerText.{SheetData}
 use Rattle.tf_text.specs.AnswerReading.{most_job, most_machine}
+use Rattle.tf_text.specs.declared.answer.layout.Layout.{Layout}
+use Rattle.tf_text.specs.declared.answer.layout.Layout.TheVariants.{One, Two}
 use mir.Syntax.{w64}
 
 -- a number from 1 to `most`
@@ -22,22 +25,31 @@ IsReadablePiece p = IsCount most_job p.job × IsCount most_machine p.machine × 
 abbrev pub AreJobs : List ℕ → Type 0
 AreJobs = AllByRecursion (IsCount most_job)
 
+-- in version 2 a job set has at most as many jobs as an instance
+abbrev pub AreFew : Layout → List ℕ → Type 0
+AreFew One jobs = Unit {0}
+AreFew Two jobs = length jobs ≤ MOST_JOBS
+
+-- a job set of a certificate
+abbrev pub AreListed : Layout → List ℕ → Type 0
+AreListed layout jobs = AreJobs jobs × AreFew layout jobs
+
 -- a certificate whose jobs, machine and delta are in their ranges
-abbrev pub IsReadableClaim : Claim → Type 0
-IsReadableClaim ByPairs = Unit {0}
-IsReadableClaim (ByLastOf jobs) = AreJobs jobs
-IsReadableClaim (ByWindow jobs) = AreJobs jobs
-IsReadableClaim (BySplit side delta first) = AreJobs side × IsWithin delta
-IsReadableClaim ByLoad = Unit {0}
-IsReadableClaim (ByMachine machine) = IsCount most_machine machine
-IsReadableClaim (ByOneJob job) = IsCount most_job job
-IsReadableClaim (ByRanks jobs) = AreJobs jobs
+abbrev pub IsReadableClaim : Layout → Claim → Type 0
+IsReadableClaim layout ByPairs = Unit {0}
+IsReadableClaim layout (ByLastOf jobs) = AreListed layout jobs
+IsReadableClaim layout (ByWindow jobs) = AreListed layout jobs
+IsReadableClaim layout (BySplit side delta first) = AreListed layout side × IsWithin delta
+IsReadableClaim layout ByLoad = Unit {0}
+IsReadableClaim layout (ByMachine machine) = IsCount most_machine machine
+IsReadableClaim layout (ByOneJob job) = IsCount most_job job
+IsReadableClaim layout (ByRanks jobs) = AreJobs jobs
 
 -- its numbers are in the ranges of an answer text, and its problem is one that a notation means
-pub record IsReadable (s : SheetData) : Type 0 where
+pub record IsReadable (layout : Layout) (s : SheetData) : Type 0 where
   pub problem : IsRead s.problem
   pub jobs : IsCount most_job s.jobs
   pub machines : IsCount most_machine s.machines
   pub value : FitsSigned w64 s.answer.value
   pub pieces : AllByRecursion IsReadablePiece s.answer.pieces
-  pub certificate : IsReadableClaim s.answer.certificate
+  pub certificate : IsReadableClaim layout s.answer.certificate

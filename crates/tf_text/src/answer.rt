@@ -1,6 +1,8 @@
 //! Answers as texts.
 pub mod fault;
+pub mod layout;
 pub mod reading;
+pub mod run;
 pub mod sheet;
 #[cfg(test)]
 mod tests;

@@ -2,6 +2,7 @@
 #![tactic(auto)]
 
 pub mod answer;
+pub mod chart;
 pub mod counted;
 pub mod input;
 pub mod line;

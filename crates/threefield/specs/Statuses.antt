@@ -1,19 +1,18 @@
 -- The status that the program ends with.
 use Rattle.std.specs.Prelude.{ℕ}
 use Rattle.tf_engine.specs.declared.fault.RunFault.{RunFault}
-use Rattle.tf_engine.specs.declared.fault.RunFault.TheVariants.{Notation, Text, Task, Answer, Gap, Device, OutOfMemory}
+use Rattle.tf_engine.specs.Faults.{Stop, Refuses, Fails, Wants, stop_of}
 use Rattle.tf_engine.specs.declared.run_check.Checked.{Checked}
 use Rattle.tf_engine.specs.declared.run_check.Checked.TheVariants.{Accepted, OtherTask, Rejected}
 
+abbrev pub status_by : Stop → ℕ
+status_by (Refuses refused) = 2
+status_by Wants = 3
+status_by Fails = 4
+
 -- after a run that gave no answer: refused, want of memory, or a device fault
-abbrev pub status_of : RunFault → ℕ
-status_of (Notation fault) = 2
-status_of (Text fault) = 2
-status_of (Task refusal) = 2
-status_of (Answer fault) = 2
-status_of Gap = 2
-status_of OutOfMemory = 3
-status_of Device = 4
+abbrev pub status_of : {A : Type 0} → RunFault A → ℕ
+status_of fault = status_by (stop_of fault)
 
 -- after a check: accepted, or rejected
 abbrev pub status_of_check : Checked → ℕ

@@ -1,6 +1,9 @@
 //! `threefield` solves machine scheduling problems named in three-field notation.
 #![tactic(auto)]
 
+ghost use Rattle.std.specs.Prelude.{◌≤◌};
+ghost use Rattle.tf_text.specs.declared.chart.TheConstants.{MOST_COLUMNS};
+
 mod options;
 mod report;
 mod source;
@@ -13,8 +16,10 @@ use std::io;
 use std::process::ExitCode;
 use tf_engine::request::{Form, Request};
 use tf_engine::run_check::run_check;
+use tf_engine::run_gantt::run_gantt;
 use tf_engine::run_solve::run_solve;
 use tf_engine::text::Text;
+use tf_text::answer::layout::Layout;
 use tf_text::counted::Counted;
 
 fn main(rt: HostRuntime) -> ExitCode {
@@ -37,8 +42,9 @@ fn program(rt: &HostRuntime) -> u8 {
         return say_memory(&mut errors);
     };
     match understand(command, words.as_slice()) {
-        Asked::Solve(options) => solve(rt, &options),
+        Asked::Solve(options, layout) => solve(rt, &options, layout),
         Asked::Check(options, answer) => check(rt, &options, answer),
+        Asked::Gantt { answer, columns } => gantt(rt, answer, columns),
         Asked::Help(text) => match text.print(rt) {
             Ok(()) => 0,
             Err(_) => say_device(&mut errors),
@@ -52,13 +58,13 @@ fn program(rt: &HostRuntime) -> u8 {
 }
 
 /// Solves, once the file is open.
-fn solve(rt: &HostRuntime, options: &Options<'_>) -> u8 {
+fn solve(rt: &HostRuntime, options: &Options<'_>, layout: Layout) -> u8 {
     let mut errors = Counted::new(rt.stderr());
     let source = match Source::open(rt, options.input) {
         Ok(source) => source,
         Err(_) => return say_device(&mut errors),
     };
-    let Ok(request) = request_of(rt.alloc(), options) else {
+    let Ok(request) = request_of(rt.alloc(), options, layout) else {
         return say_memory(&mut errors);
     };
     let mut reader = Counted::new(source);
@@ -80,7 +86,7 @@ fn check(rt: &HostRuntime, options: &Options<'_>, answer: &str) -> u8 {
         Ok(answer) => answer,
         Err(_) => return say_device(&mut errors),
     };
-    let Ok(request) = request_of(rt.alloc(), options) else {
+    let Ok(request) = request_of(rt.alloc(), options, Layout::Two) else {
         return say_memory(&mut errors);
     };
     let mut reader = Counted::new(source);
@@ -92,12 +98,30 @@ fn check(rt: &HostRuntime, options: &Options<'_>, answer: &str) -> u8 {
     }
 }
 
+/// Draws an answer, once its file is open.
+fn gantt(rt: &HostRuntime, answer: &str, columns: u32) -> u8
+    requires { (1 ≤ columns) × (columns ≤ MOST_COLUMNS) }
+{
+    let mut errors = Counted::new(rt.stderr());
+    let answer = match Source::open(rt, answer) {
+        Ok(answer) => answer,
+        Err(_) => return say_device(&mut errors),
+    };
+    let mut reader = Counted::new(answer);
+    let mut writer = Counted::new(rt.stdout());
+    match run_gantt(rt.alloc(), &mut reader, &mut writer, columns) {
+        Ok(()) => 0,
+        Err(fault) => report(&fault, &mut errors),
+    }
+}
+
 /// The request of a command line.
-fn request_of(alloc: Global, options: &Options<'_>) -> Result<Request, AllocError> {
+fn request_of(alloc: Global, options: &Options<'_>, layout: Layout) -> Result<Request, AllocError> {
     Ok(Request {
         problem: Text::new(String::from_str(alloc, options.problem)?),
         form: form_of(alloc, options.form)?,
         machines: options.machines,
+        layout,
     })
 }
 

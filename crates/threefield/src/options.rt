@@ -1,9 +1,14 @@
 //! The command line.
+ghost use Rattle.std.specs.Prelude.{◌≤◌, IfErr, IfSome};
+ghost use Rattle.threefield.specs.Columns.{HasColumns};
+
 use clap::error::ErrorKind;
 use clap::{Arg, ArgMatches, Command, Error};
 use std::alloc::{AllocError, Global};
-use tf_model::limit::MOST_MACHINES;
+use tf_model::limit::{MOST_JOBS, MOST_MACHINES};
 use tf_model::number::{Number, is_numeral, number_of};
+use tf_text::answer::layout::Layout;
+use tf_text::chart::MOST_COLUMNS;
 
 /// The problem and the instance that the words name.
 #[derive(Drop)]
@@ -31,9 +36,12 @@ pub enum FormOption<'a> {
 /// What the command line asks for.
 #[derive(Drop)]
 pub enum Asked<'a> {
-    Solve(Options<'a>),
+    /// Solve, and print the answer in this version.
+    Solve(Options<'a>, Layout),
     /// Judge the answer of this name.
     Check(Options<'a>, &'a str),
+    /// Draw the answer of this name, in so many columns at most.
+    Gantt { answer: &'a str, columns: u32 },
     /// Help, or the version.
     Help(Error),
     /// The command line is none of the program's.
@@ -43,22 +51,43 @@ pub enum Asked<'a> {
     NoMemory,
 }
 
+const SOLVED: &str = "\
+Solved: 1||sumwC, 1||sumC, 1||Lmax, 1||hmax, 1|prec|Lmax, 1|prec|hmax, each also with prmp;
+        1|rj,prmp|Lmax; F2||Cmax, O2||Cmax, also with prmp; P||sumC; P|prmp|Cmax.
+
+Example: threefield solve --problem \"P2|prmp|Cmax\" examples/table.txt
+
+Exit status: 0 answered, 2 refused, 3 want of memory, 4 a file or a device failed,
+             5 the command line is wrong.";
+
 static FORMATS: [&str; 3] = ["table", "wt", "flow"];
 
-/// The most jobs that `--jobs` takes; more than are solved.
-const MOST_JOBS: u32 = 100_000;
+static VERSIONS: [&str; 2] = ["1", "2"];
 
 /// The program's commands.
 pub fn command<'a>(alloc: Global) -> Result<Command<'a>, AllocError> {
-    let solve = with_options(alloc, Command::new(alloc, "solve"))?.about(
-        "Prints a best schedule, its value and a certificate that none is better",
-    );
-    let answer = Arg::new(alloc, "ANSWER")
-        .help("The answer: a file, or - for standard input")
-        .required(true);
+    let version = Arg::new(alloc, "answer")
+        .long("answer")
+        .value_name("VERSION")
+        .help("The version of the answer text")
+        .value_parser(VERSIONS.as_slice())
+        .default_value("2");
+    let solve = with_options(alloc, Command::new(alloc, "solve"))?
+        .about("Prints a best schedule, its value and a certificate that none is better")
+        .after_help(SOLVED)
+        .arg(version)?;
     let check = with_options(alloc, Command::new(alloc, "check"))?
         .about("Judges an answer: accepted, or rejected and why")
-        .arg(answer)?;
+        .arg(answer(alloc))?;
+    let columns = Arg::new(alloc, "columns")
+        .long("columns")
+        .value_name("N")
+        .help("The most columns of the chart, 1 to 1000")
+        .default_value("72");
+    let gantt = Command::new(alloc, "gantt")
+        .about("Draws the schedule of an answer, a line for each machine")
+        .arg(columns)?
+        .arg(answer(alloc))?;
     Command::new(alloc, "threefield")
         .bin_name("threefield")?
         .about("Exact machine scheduling with certificates")
@@ -66,7 +95,14 @@ pub fn command<'a>(alloc: Global) -> Result<Command<'a>, AllocError> {
         .disable_help_subcommand(true)
         .subcommand_required(true)
         .subcommand(solve)?
-        .subcommand(check)
+        .subcommand(check)?
+        .subcommand(gantt)
+}
+
+fn answer<'a>(alloc: Global) -> Arg<'a> {
+    Arg::new(alloc, "ANSWER")
+        .help("The answer: a file, or - for standard input")
+        .required(true)
 }
 
 // The command with what names a problem and an instance.
@@ -116,7 +152,9 @@ fn with_form_options<'a>(alloc: Global, command: Command<'a>) -> Result<Command<
 }
 
 /// What the words ask for.
-pub fn understand<'a>(command: Command<'a>, words: &'a [String]) -> Asked<'a> {
+pub fn understand<'a>(command: Command<'a>, words: &'a [String]) -> Asked<'a>
+    ensures { HasColumns result }
+{
     let matches = match command.try_get_matches_from(words) {
         Ok(matches) => matches,
         Err(error) => return refused(error),
@@ -124,12 +162,15 @@ pub fn understand<'a>(command: Command<'a>, words: &'a [String]) -> Asked<'a> {
     let Some((name, given)) = matches.subcommand() else {
         return Asked::NoMemory;
     };
+    if name == "gantt" {
+        return gantt_in(given);
+    }
     let options = match options_in(given) {
         Ok(options) => options,
         Err(asked) => return asked,
     };
     if name == "solve" {
-        return Asked::Solve(options);
+        return Asked::Solve(options, layout_in(given));
     }
     match given.get_str("ANSWER") {
         None => Asked::NoMemory,
@@ -142,8 +183,30 @@ pub fn understand<'a>(command: Command<'a>, words: &'a [String]) -> Asked<'a> {
     }
 }
 
+// The version of the answer text: 2, unless 1 is asked for.
+fn layout_in(given: &ArgMatches<'_>) -> Layout {
+    match given.get_str("answer") {
+        Some("1") => Layout::One,
+        _ => Layout::Two,
+    }
+}
+
+fn gantt_in<'a>(given: &ArgMatches<'a>) -> Asked<'a>
+    ensures { HasColumns result }
+{
+    let (Some(answer), Some(word)) = (given.get_str("ANSWER"), given.get_str("columns")) else {
+        return Asked::NoMemory;
+    };
+    match number_within(word, 1, MOST_COLUMNS) {
+        Some(columns) => Asked::Gantt { answer, columns },
+        None => Asked::Unfit("--columns takes a number from 1 to 1000"),
+    }
+}
+
 // What names the problem and the instance, or what is asked for in place of it.
-fn options_in<'a>(given: &ArgMatches<'a>) -> Result<Options<'a>, Asked<'a>> {
+fn options_in<'a>(given: &ArgMatches<'a>) -> Result<Options<'a>, Asked<'a>>
+    ensures { IfErr result HasColumns }
+{
     let (Some(problem), Some(input)) = (given.get_str("problem"), given.get_str("INPUT")) else {
         return Err(Asked::NoMemory);
     };
@@ -163,7 +226,9 @@ fn options_in<'a>(given: &ArgMatches<'a>) -> Result<Options<'a>, Asked<'a>> {
 }
 
 // The form that was chosen. The options of the others are not looked at.
-fn form_in<'a>(given: &ArgMatches<'a>) -> Result<FormOption<'a>, Asked<'a>> {
+fn form_in<'a>(given: &ArgMatches<'a>) -> Result<FormOption<'a>, Asked<'a>>
+    ensures { IfErr result HasColumns }
+{
     let Some(format) = given.get_str("format") else {
         return Err(Asked::NoMemory);
     };
@@ -176,10 +241,12 @@ fn form_in<'a>(given: &ArgMatches<'a>) -> Result<FormOption<'a>, Asked<'a>> {
     Ok(FormOption::Table)
 }
 
-fn wt_in<'a>(given: &ArgMatches<'a>) -> Result<FormOption<'a>, Asked<'a>> {
+fn wt_in<'a>(given: &ArgMatches<'a>) -> Result<FormOption<'a>, Asked<'a>>
+    ensures { IfErr result HasColumns }
+{
     let jobs = given
         .get_str("jobs")
-        .and_then(|word| number_within(word, 1, MOST_JOBS));
+        .and_then(|word| number_within(word, 1, MOST_JOBS as u32));
     let index = given
         .get_str("index")
         .and_then(|word| number_within(word, 1, u32::MAX));
@@ -190,7 +257,9 @@ fn wt_in<'a>(given: &ArgMatches<'a>) -> Result<FormOption<'a>, Asked<'a>> {
     }
 }
 
-fn flow_in<'a>(given: &ArgMatches<'a>) -> Result<FormOption<'a>, Asked<'a>> {
+fn flow_in<'a>(given: &ArgMatches<'a>) -> Result<FormOption<'a>, Asked<'a>>
+    ensures { IfErr result HasColumns }
+{
     let Some(name) = given.get_str("name") else {
         return Err(Asked::Unfit("--format flow needs --name"));
     };
@@ -214,7 +283,9 @@ fn pair_in(word: &str) -> Option<(u32, u32)> {
 }
 
 // A number of digits alone, within a range.
-fn number_within(word: &str, least: u32, most: u32) -> Option<u32> {
+fn number_within(word: &str, least: u32, most: u32) -> Option<u32>
+    ensures { IfSome result (λ n. (least ≤ n) × (n ≤ most)) }
+{
     let digits = word.as_bytes();
     if !is_numeral(digits) {
         return None;
@@ -225,7 +296,9 @@ fn number_within(word: &str, least: u32, most: u32) -> Option<u32> {
     }
 }
 
-fn refused<'a>(error: Error) -> Asked<'a> {
+fn refused<'a>(error: Error) -> Asked<'a>
+    ensures { HasColumns result }
+{
     if error.kind() == ErrorKind::OutOfMemory {
         return Asked::NoMemory;
     }

@@ -2,16 +2,19 @@
 ghost use Rattle.std.specs.Prelude.{◌≡◌};
 ghost use Rattle.threefield.specs.Statuses.{status_of, status_of_check};
 
+use std::alloc::Allocator;
 use std::io::Write;
 use tf_engine::fault::RunFault;
 use tf_engine::run_check::Checked;
+use tf_model::ids::JobId;
 use tf_model::prepare::{Field, Refusal};
 use tf_read::fault::ReadFault;
+use tf_schedule::schedule::PieceFault;
 use tf_text::answer::fault::AnswerFault;
 use tf_text::counted::Counted;
 
 /// Writes the line of a fault, as far as the writer takes it, and answers the exit status. It takes no memory.
-pub fn report<W: Write>(fault: &RunFault, writer: &mut Counted<W>) -> u8
+pub fn report<A: Allocator, W: Write>(fault: &RunFault<A>, writer: &mut Counted<W>) -> u8
     ensures { result ≡ status_of fault.now }
 {
     match fault {
@@ -20,8 +23,9 @@ pub fn report<W: Write>(fault: &RunFault, writer: &mut Counted<W>) -> u8
         }
         RunFault::Text(fault) => say_refused(writer, &said_of_text(fault)),
         RunFault::Task(refusal) => say_refused(writer, &said_of_task(refusal)),
-        RunFault::Answer(fault) => say_answer_refused(writer, fault),
-        RunFault::Gap => say_refused(writer, &Said::named("Gap")),
+        RunFault::Cycle(jobs) => say_cycle(writer, jobs.as_slice()),
+        RunFault::Answer(fault) => say_answer_refused(writer, &said_of_answer(fault)),
+        RunFault::Pieces(fault) => say_answer_refused(writer, &said_of_pieces(fault)),
         RunFault::OutOfMemory => say_memory(writer),
         RunFault::Device => say_device(writer),
     }
@@ -68,6 +72,7 @@ pub fn say_usage<W: Write>(writer: &mut Counted<W>, text: &str) -> u8
 struct Said {
     name: &'static str,
     number: Option<u64>,
+    second: Option<u64>,
     field: Option<&'static str>,
 }
 
@@ -76,15 +81,15 @@ impl Said {
         Said {
             name,
             number: None,
+            second: None,
             field: None,
         }
     }
 
     fn counted(name: &'static str, number: u64) -> Said {
         Said {
-            name,
             number: Some(number),
-            field: None,
+            ..Said::named(name)
         }
     }
 }
@@ -120,6 +125,17 @@ fn said_of_answer(fault: &AnswerFault) -> Said {
     }
 }
 
+fn said_of_pieces(fault: &PieceFault) -> Said {
+    match *fault {
+        PieceFault::OutOfRange(piece) => Said::counted("OutOfRange", piece as u64),
+        PieceFault::EmptyPiece(piece) => Said::counted("EmptyPiece", piece as u64),
+        PieceFault::MachineTwice(machine, time) => Said {
+            second: Some(time.unsigned_abs()),
+            ..Said::counted("MachineTwice", u64::from(machine.get()))
+        },
+    }
+}
+
 fn said_of_task(refusal: &Refusal) -> Said {
     match *refusal {
         Refusal::NoSolver => Said::named("NoSolver"),
@@ -129,9 +145,8 @@ fn said_of_task(refusal: &Refusal) -> Said {
         Refusal::MachineCount(m) => Said::counted("MachineCount", u64::from(m)),
         Refusal::WrongTimes(job) => Said::counted("WrongTimes", u64::from(job.get())),
         Refusal::MissingField(job, field) => Said {
-            name: "MissingField",
-            number: Some(u64::from(job.get())),
             field: Some(field_name(field)),
+            ..Said::counted("MissingField", u64::from(job.get()))
         },
         Refusal::ZeroTime(job) => Said::counted("ZeroTime", u64::from(job.get())),
         Refusal::TotalTooLarge => Said::named("TotalTooLarge"),
@@ -156,26 +171,44 @@ fn say_refused<W: Write>(writer: &mut Counted<W>, said: &Said) -> u8
     2
 }
 
-fn say_answer_refused<W: Write>(writer: &mut Counted<W>, fault: &AnswerFault) -> u8
+fn say_answer_refused<W: Write>(writer: &mut Counted<W>, said: &Said) -> u8
     ensures { result ≡ 2 }
 {
     say(writer, "threefield: refused: answer ");
-    say_fault(writer, &said_of_answer(fault));
+    say_fault(writer, said);
+    2
+}
+
+fn say_cycle<W: Write>(writer: &mut Counted<W>, jobs: &[JobId]) -> u8
+    ensures { result ≡ 2 }
+{
+    say(writer, "threefield: refused: Cycle");
+    for job in jobs {
+        say_number(writer, u64::from(job.get()));
+    }
+    say(writer, "\n");
     2
 }
 
 fn say_fault<W: Write>(writer: &mut Counted<W>, said: &Said) {
     say(writer, said.name);
     if let Some(number) = said.number {
-        let mut digits = itoa::Buffer::new();
-        say(writer, " ");
-        say(writer, digits.format(number));
+        say_number(writer, number);
+    }
+    if let Some(number) = said.second {
+        say_number(writer, number);
     }
     if let Some(field) = said.field {
         say(writer, " ");
         say(writer, field);
     }
     say(writer, "\n");
+}
+
+fn say_number<W: Write>(writer: &mut Counted<W>, number: u64) {
+    let mut digits = itoa::Buffer::new();
+    say(writer, " ");
+    say(writer, digits.format(number));
 }
 
 // After a failure the writer is left alone.

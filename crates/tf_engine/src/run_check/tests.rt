@@ -1,3 +1,4 @@
+mod judged;
 mod schedules;
 
 use super::{Checked, run_check};
@@ -12,6 +13,7 @@ use std::test::Fail;
 use tf_notation::reading::NotationFault;
 use tf_read::fault::ReadFault;
 use tf_text::answer::fault::AnswerFault;
+use tf_text::answer::layout::Layout;
 use tf_text::counted::Counted;
 
 const TABLE: &[u8] = b"table 1\njob 1 p=4\njob 2 p=4\njob 3 p=4\n";
@@ -36,6 +38,7 @@ fn request(rt: &HostRuntime, problem: &str) -> Result<Request, AllocError> {
         problem: Text::new(String::from_str(rt.alloc(), problem)?),
         form: Form::Table,
         machines: None,
+        layout: Layout::One,
     })
 }
 
@@ -242,7 +245,7 @@ fn check_in<A: Allocator + Copy>(
     request: &Request,
     text: &[u8],
     out: &mut Vec<u8>,
-) -> Result<Checked, RunFault> {
+) -> Result<Checked, RunFault<A>> {
     let mut instance = Counted::new(TABLE);
     let mut answer = Counted::new(text);
     let mut writer = Counted::new(out);

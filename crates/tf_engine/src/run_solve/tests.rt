@@ -1,6 +1,9 @@
+mod cycles;
 mod devices_that_fail;
 mod faults_of_texts;
 mod forms;
+mod many_jobs;
+mod ranges;
 
 use super::run_solve;
 use crate::devices::Feed;
@@ -13,6 +16,7 @@ use std::test::Fail;
 use tf_model::ids::JobId;
 use tf_model::prepare::{Field, Refusal};
 use tf_notation::reading::NotationFault;
+use tf_text::answer::layout::Layout;
 use tf_text::counted::Counted;
 
 pub const TABLE: &[u8] = b"table 1\njob 1 p=4\njob 2 p=4\njob 3 p=4\n";
@@ -87,6 +91,7 @@ pub fn request(
         problem: Text::new(String::from_str(rt.alloc(), problem)?),
         form,
         machines,
+        layout: Layout::One,
     })
 }
 
@@ -185,19 +190,18 @@ fn times_out_of_range(rt: HostRuntime) -> Result<(), Fail> {
     refuses_task(&rt, "P2|prmp|Cmax", None, none, Refusal::ZeroTime(first))?;
     refuses_task(&rt, "1||sumC", None, none, Refusal::ZeroTime(first))?;
     let long = b"table 1\njob 1 p=2000000000000000000\njob 2 p=2000000000000000001\n";
-    refuses_task(&rt, "P1000|prmp|Cmax", None, long, Refusal::TotalTooLarge)
+    refuses_task(&rt, "P1000|prmp|Cmax", None, long, Refusal::TotalTooLarge)?;
+    let heavy = b"table 1\njob 1 p=4000000000000000000 w=2\n";
+    refuses_task(&rt, "1||sumwC", None, heavy, Refusal::TotalTooLarge)?;
+    let late = b"table 1\njob 1 p=1 r=4000000000000000000 d=0\n";
+    refuses_task(&rt, "1|rj,prmp|Lmax", None, late, Refusal::TotalTooLarge)
 }
 
 #[test]
 fn problems_without_a_solver(rt: HostRuntime) -> Result<(), Fail> {
     refuses_task(&rt, "1||sumwT", None, b"not read", Refusal::NoSolver)?;
-    let request = request(&rt, "P2||sumC", Form::Table, None)?;
-    refuses(
-        &rt,
-        &request,
-        b"table 1\njob 1 p=1\njob 2 p=2\n",
-        RunFault::Gap,
-    )
+    refuses_task(&rt, "1|prmp,rj|sumC", None, b"not read", Refusal::NoSolver)?;
+    refuses_task(&rt, "P2|prmp|sumC", None, b"not read", Refusal::NoSolver)
 }
 
 /// Of a problem that is refused nothing is read.

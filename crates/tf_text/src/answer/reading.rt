@@ -1,17 +1,21 @@
 //! Answer texts, read.
-ghost use Rattle.std.specs.Prelude.{◌≡◌, ◌^◌, ◌-◌, ◌<◌, ◌∷◌, [], true, false, length, drop, codes, option_map, IfOk, MatchOption};
+ghost use Rattle.std.specs.Prelude.{◌≡◌, ◌^◌, ◌-◌, ◌<◌, ◌≤◌, ◌∷◌, ◌++◌, [], true, false, length, drop, codes, option_map, position, OnOk, IfOk, MatchOption};
 ghost use Rattle.std.specs.List.{list_all};
 ghost use Rattle.tf_model.specs.Words.{words, lines, kept_lines};
 ghost use Rattle.tf_check.specs.Certificate.{claim_of};
 ghost use Rattle.tf_text.specs.Lines.{line_of, lines_of};
 ghost use Rattle.tf_text.specs.Ranged.{is_number};
-ghost use Rattle.tf_text.specs.AnswerReading.{Gives, count_in, time_in, value_in, most_job, most_machine, jobs_from, jobs_in, first_is, is_exactly, next, exactly, problem_in, problem_at, only, word_behind, count_at, value_at, four, piece_in, pieces_at, bare, side_of, split_of, split_in, claim_in, kind_in, certificate_in, certificate_at, finished, answer_at, sheet_of, answer_in};
+ghost use Rattle.tf_text.specs.JobWords.{run_jobs};
+ghost use Rattle.tf_text.specs.declared.answer.layout.Layout.TheVariants.{Two};
+ghost use Rattle.tf_text.specs.AnswerReading.{Gives, is_dash, numerals, range_ends, is_item, run_in, name_many, jobs_listed, version_in, heading_at, count_in, time_in, value_in, most_job, most_machine, jobs_from, jobs_in, first_is, is_exactly, next, exactly, problem_in, problem_at, only, word_behind, count_at, value_at, four, piece_in, pieces_at, bare, side_of, split_of, split_in, claim_in, kind_in, certificate_in, certificate_at, finished, answer_at, sheet_of, answer_in};
 
 use crate::answer::fault::AnswerFault;
+use crate::answer::layout::Layout;
+use crate::answer::run::Run;
 use crate::answer::sheet::Sheet;
 use crate::line::{Line, Lines, after_word, without_return};
 use crate::ranged::{Ranged, is_number, number_in};
-use std::alloc::Allocator;
+use std::alloc::{AllocError, Allocator};
 use tf_check::answer::Answer;
 use tf_check::certificate::Certificate;
 use tf_check::last_of::LastOf;
@@ -24,21 +28,19 @@ use tf_check::split::Split;
 use tf_check::window::Window;
 use tf_model::ids::{JobId, MachineId};
 use tf_model::job_list::JobList;
-use tf_model::limit::{LIMIT, MOST_BYTES};
+use tf_model::limit::{LIMIT, MOST_BYTES, MOST_JOBS, MOST_MACHINES};
+use tf_model::number::is_numeral;
 use tf_model::problem::Problem;
 use tf_model::word::{first_word, is};
 use tf_notation::reading::read;
 use tf_schedule::piece::Piece;
 use tf_schedule::piece_list::PieceList;
 
-// The greatest numbers of jobs and machines that an answer text may name.
-const MOST_JOB: u32 = 100_000;
-
-const MOST_MACHINE: u32 = 1_000;
+const MOST_JOB: u32 = MOST_JOBS as u32;
 
 fn count_in(line: u32, most: u32, word: &[u8]) -> Result<u32, AnswerFault>
     ensures read { Gives (λ n. n) result (count_in line most word.now) }
-    ensures from_one { IfOk result (λ n. 0 < n) }
+    ensures within { IfOk result (λ n. (0 < n) × (n ≤ most)) }
 {
     match number_in(word, 1, i64::from(most)) {
         Ranged::NotANumber | Ranged::Below => Err(AnswerFault::BadLine(line)),
@@ -57,7 +59,7 @@ fn job_in(line: u32, word: &[u8]) -> Result<JobId, AnswerFault>
 fn machine_in(line: u32, word: &[u8]) -> Result<MachineId, AnswerFault>
     ensures { Gives (λ i. i) result (count_in line most_machine word.now) }
 {
-    let number = count_in(line, MOST_MACHINE, word)?;
+    let number = count_in(line, MOST_MACHINES, word)?;
     Ok(MachineId::new(number).unwrap())
 }
 
@@ -81,12 +83,53 @@ fn value_in(line: u32, word: &[u8]) -> Result<i64, AnswerFault>
     }
 }
 
-fn are_numbers(text: &[u8]) -> bool
-    ensures { result ≡ list_all is_number (words text.now) }
+fn dash_at(word: &[u8]) -> Option<usize>
+    ensures { result ≡ position is_dash word.now }
+{
+    word.iter().position(|byte| *byte == b'-')
+}
+
+fn numerals<'a>(first: &'a [u8], last: &'a [u8]) -> Option<(&'a [u8], &'a [u8])>
+    ensures { option_map (λ ends. (ends.0.now, ends.1.now)) result ≡ numerals first.now last.now }
+{
+    if !is_numeral(first) {
+        return None;
+    }
+    if !is_numeral(last) {
+        return None;
+    }
+    Some((first, last))
+}
+
+// The two numbers of a range.
+fn range_ends(word: &[u8]) -> Option<(&[u8], &[u8])>
+    ensures { option_map (λ ends. (ends.0.now, ends.1.now)) result ≡ range_ends word.now }
+{
+    match dash_at(word) {
+        None => None,
+        Some(dash) => {
+            let (first, from) = word.split_at(dash);
+            let (_, last) = from.split_at(1);
+            numerals(first, last)
+        }
+    }
+}
+
+fn is_item(layout: Layout, word: &[u8]) -> bool
+    ensures { result ≡ is_item layout word.now }
+{
+    match layout {
+        Layout::One => is_number(word),
+        Layout::Two => is_number(word) || range_ends(word).is_some(),
+    }
+}
+
+fn are_items(layout: Layout, text: &[u8]) -> bool
+    ensures { result ≡ list_all (is_item layout) (words text.now) }
 {
     let mut rest = text;
     while let Some((word, after)) = first_word(rest) {
-        if !is_number(word) {
+        if !is_item(layout, word) {
             return false;
         }
         rest = after;
@@ -192,17 +235,19 @@ fn problem_in(line: &Line<'_>) -> Result<Problem, AnswerFault>
     }
 }
 
-fn is_heading(text: &[u8]) -> bool
-    ensures { result ≡ is_exactly (codes "answer" ∷ codes "1" ∷ []) (words text.now) }
+fn version_in(text: &[u8]) -> Option<Layout>
+    ensures { result ≡ version_in (words text.now) }
 {
-    match first_word(text) {
-        None => false,
-        Some((first, after)) => match first_word(after) {
-            None => false,
-            Some((version, after)) => {
-                is(first, b"answer") && is(version, b"1") && first_word(after).is_none()
-            }
-        },
+    let (first, after) = first_word(text)?;
+    let (version, after) = first_word(after)?;
+    if !is(first, b"answer") || first_word(after).is_some() {
+        None
+    } else if is(version, b"1") {
+        Some(Layout::One)
+    } else if is(version, b"2") {
+        Some(Layout::Two)
+    } else {
+        None
     }
 }
 
@@ -221,16 +266,15 @@ fn next_line<'a>(lines: &Lines<'a>) -> Result<(Line<'a>, Lines<'a>), AnswerFault
     lines.split_first().ok_or(AnswerFault::EndsEarly)
 }
 
-#[tactic(auto, unfolding(crate::specs::AnswerReading::exactly))]
-fn heading_at<'a>(lines: &Lines<'a>) -> Result<Lines<'a>, AnswerFault>
-    ensures { Gives lines_of result
-        (exactly (codes "answer" ∷ codes "1" ∷ []) (lines_of lines.now)) }
+#[tactic(auto, unfolding(crate::specs::AnswerReading::heading_at))]
+fn heading_at<'a>(lines: &Lines<'a>) -> Result<(Layout, Lines<'a>), AnswerFault>
+    ensures { Gives (λ x. (x.0, lines_of x.1)) result (heading_at (lines_of lines.now)) }
 {
     let (line, more) = next_line(lines)?;
-    if !is_heading(line.bytes) {
-        return Err(AnswerFault::BadLine(line.number));
+    match version_in(line.bytes) {
+        None => Err(AnswerFault::BadLine(line.number)),
+        Some(layout) => Ok((layout, more)),
     }
-    Ok(more)
 }
 
 #[tactic(auto, unfolding(crate::specs::AnswerReading::exactly))]
@@ -255,7 +299,8 @@ fn problem_at<'a>(lines: &Lines<'a>) -> Result<(Problem, Lines<'a>), AnswerFault
 
 #[tactic(auto, unfolding(crate::specs::AnswerReading::count_at))]
 fn count_at<'a>(lines: &Lines<'a>, key: &[u8], most: u32) -> Result<(u32, Lines<'a>), AnswerFault>
-    ensures { Gives (λ x. (x.0, lines_of x.1)) result (count_at key.now most (lines_of lines.now)) }
+    ensures read { Gives (λ x. (x.0, lines_of x.1)) result (count_at key.now most (lines_of lines.now)) }
+    ensures within { IfOk result (λ x. (0 < x.0) × (x.0 ≤ most)) }
 {
     let (line, more) = next_line(lines)?;
     let word = word_behind(&line, key)?;
@@ -273,6 +318,56 @@ fn value_at<'a>(lines: &Lines<'a>) -> Result<(i64, Lines<'a>), AnswerFault>
     Ok((value, more))
 }
 
+#[tactic(auto, unfolding(crate::specs::AnswerReading::run_in))]
+fn run_in(line: u32, word: &[u8]) -> Result<Run, AnswerFault>
+    ensures read { Gives (λ run. run) result (run_in line word.now) }
+    ensures within { IfOk result (λ run. (0 < run.first) × (run.first ≤ run.last)
+        × (run.last ≤ MOST_JOB)) }
+{
+    match range_ends(word) {
+        None => {
+            let job = count_in(line, MOST_JOB, word)?;
+            Ok(Run {
+                first: job,
+                last: job,
+            })
+        }
+        Some((first, last)) => {
+            let first = count_in(line, MOST_JOB, first)?;
+            let last = count_in(line, MOST_JOB, last)?;
+            if first >= last {
+                return Err(AnswerFault::BadLine(line));
+            }
+            Ok(Run { first, last })
+        }
+    }
+}
+
+// Whether the words name more jobs than an instance may have.
+fn are_too_many(line: u32, text: &[u8]) -> Result<bool, AnswerFault>
+    ensures { Gives (λ b. b) result (name_many line (words text.now)) }
+{
+    let mut count: usize = 0;
+    let mut rest = text;
+    while let Some((word, after)) = first_word(rest) {
+        let run = run_in(line, word)?;
+        let jobs = (run.last - run.first) as usize + 1;
+        count = (count + jobs).min(MOST_JOBS + 1);
+        rest = after;
+    }
+    Ok(count > MOST_JOBS)
+}
+
+fn push_run<A: Allocator>(jobs: &mut Vec<JobId, A>, run: Run) -> Result<(), AllocError>
+    requires { (0 < run.first) × (run.first ≤ run.last) × (run.last ≤ MOST_JOB) }
+    ensures { OnOk result (jobs.new.items ≡ jobs.old.items ++ run_jobs run) }
+{
+    for number in run.first..run.last + 1 {
+        jobs.push(JobId::new(number).unwrap())?;
+    }
+    Ok(())
+}
+
 fn jobs_from<A: Allocator + Copy>(
     alloc: A,
     line: u32,
@@ -283,21 +378,54 @@ fn jobs_from<A: Allocator + Copy>(
     let mut jobs = Vec::new(alloc);
     let mut rest = text;
     while let Some((word, after)) = first_word(rest) {
-        let job = job_in(line, word)?;
-        jobs.push(job)?;
+        let run = run_in(line, word)?;
+        push_run(&mut jobs, run)?;
         rest = after;
     }
     Ok(JobList::new(jobs))
 }
 
-#[tactic(auto, unfolding(crate::specs::AnswerReading::jobs_in))]
-fn jobs_in<A: Allocator + Copy>(alloc: A, line: u32, text: &[u8]) -> Result<JobList<A>, AnswerFault>
-    ensures { Gives (λ jobs. jobs) result (jobs_in line (words text.now)) }
+// A list of version 2 is counted before memory is asked for.
+fn few_from<A: Allocator + Copy>(
+    alloc: A,
+    line: u32,
+    text: &[u8],
+) -> Result<JobList<A>, AnswerFault>
+    ensures { Gives (λ jobs. jobs) result (jobs_listed Two line (words text.now)) }
 {
-    if !are_numbers(text) {
+    if are_too_many(line, text)? {
         return Err(AnswerFault::BadLine(line));
     }
     jobs_from(alloc, line, text)
+}
+
+fn jobs_listed<A: Allocator + Copy>(
+    alloc: A,
+    layout: Layout,
+    line: u32,
+    text: &[u8],
+) -> Result<JobList<A>, AnswerFault>
+    ensures { Gives (λ jobs. jobs) result (jobs_listed layout line (words text.now)) }
+{
+    match layout {
+        Layout::One => jobs_from(alloc, line, text),
+        Layout::Two => few_from(alloc, line, text),
+    }
+}
+
+#[tactic(auto, unfolding(crate::specs::AnswerReading::jobs_in))]
+fn jobs_in<A: Allocator + Copy>(
+    alloc: A,
+    layout: Layout,
+    line: u32,
+    text: &[u8],
+) -> Result<JobList<A>, AnswerFault>
+    ensures { Gives (λ jobs. jobs) result (jobs_in layout line (words text.now)) }
+{
+    if !are_items(layout, text) {
+        return Err(AnswerFault::BadLine(line));
+    }
+    jobs_listed(alloc, layout, line, text)
 }
 
 fn pieces_at<'a, A: Allocator + Copy>(
@@ -346,28 +474,30 @@ fn side_of(word: &[u8]) -> Option<bool>
 
 fn split_of<A: Allocator + Copy>(
     alloc: A,
+    layout: Layout,
     line: u32,
     first: bool,
     delta: &[u8],
     text: &[u8],
 ) -> Result<Certificate<A>, AnswerFault>
-    ensures { Gives claim_of result (split_of line first delta.now (words text.now)) }
+    ensures { Gives claim_of result (split_of layout line first delta.now (words text.now)) }
 {
-    if !(is_number(delta) && are_numbers(text)) {
+    if !(is_number(delta) && are_items(layout, text)) {
         return Err(AnswerFault::BadLine(line));
     }
     let delta = time_in(line, delta)?;
-    let side = jobs_from(alloc, line, text)?;
+    let side = jobs_listed(alloc, layout, line, text)?;
     Ok(Certificate::Split(Split { side, delta, first }))
 }
 
 #[tactic(auto, unfolding(crate::specs::AnswerReading::split_in))]
 fn split_in<A: Allocator + Copy>(
     alloc: A,
+    layout: Layout,
     line: u32,
     text: &[u8],
 ) -> Result<Certificate<A>, AnswerFault>
-    ensures { Gives claim_of result (split_in line (words text.now)) }
+    ensures { Gives claim_of result (split_in layout line (words text.now)) }
 {
     match first_word(text) {
         None => Err(AnswerFault::BadLine(line)),
@@ -375,7 +505,7 @@ fn split_in<A: Allocator + Copy>(
             None => Err(AnswerFault::BadLine(line)),
             Some((delta, jobs)) => match side_of(side) {
                 None => Err(AnswerFault::BadLine(line)),
-                Some(first) => split_of(alloc, line, first, delta, jobs),
+                Some(first) => split_of(alloc, layout, line, first, delta, jobs),
             },
         },
     }
@@ -384,22 +514,23 @@ fn split_in<A: Allocator + Copy>(
 #[tactic(auto, unfolding(crate::specs::AnswerReading::claim_in))]
 fn claim_in<A: Allocator + Copy>(
     alloc: A,
+    layout: Layout,
     line: u32,
     kind: &[u8],
     text: &[u8],
 ) -> Result<Certificate<A>, AnswerFault>
-    ensures { Gives claim_of result (claim_in line kind.now (words text.now)) }
+    ensures { Gives claim_of result (claim_in layout line kind.now (words text.now)) }
 {
     if is(kind, b"pairs") {
         bare(line, Certificate::Pairs(Pairs), text)
     } else if is(kind, b"last") {
-        let jobs = jobs_in(alloc, line, text)?;
+        let jobs = jobs_in(alloc, layout, line, text)?;
         Ok(Certificate::LastOf(LastOf { jobs }))
     } else if is(kind, b"window") {
-        let jobs = jobs_in(alloc, line, text)?;
+        let jobs = jobs_in(alloc, layout, line, text)?;
         Ok(Certificate::Window(Window { jobs }))
     } else if is(kind, b"split") {
-        split_in(alloc, line, text)
+        split_in(alloc, layout, line, text)
     } else if is(kind, b"load") {
         bare(line, Certificate::Load(Load), text)
     } else if is(kind, b"machine") {
@@ -409,7 +540,7 @@ fn claim_in<A: Allocator + Copy>(
         let job = job_in(line, only(line, text)?)?;
         Ok(Certificate::OneJob(OneJob { job }))
     } else if is(kind, b"ranks") {
-        let jobs = jobs_in(alloc, line, text)?;
+        let jobs = jobs_in(alloc, Layout::One, line, text)?;
         Ok(Certificate::Ranks(Ranks { jobs }))
     } else {
         Err(AnswerFault::BadLine(line))
@@ -419,15 +550,16 @@ fn claim_in<A: Allocator + Copy>(
 #[tactic(auto, unfolding(crate::specs::AnswerReading::certificate_in))]
 fn certificate_in<A: Allocator + Copy>(
     alloc: A,
+    layout: Layout,
     line: &Line<'_>,
 ) -> Result<Certificate<A>, AnswerFault>
-    ensures { Gives claim_of result (certificate_in line.now.number (words line.now.bytes.now)) }
+    ensures { Gives claim_of result (certificate_in layout line.now.number (words line.now.bytes.now)) }
 {
     match behind_key(line.bytes, b"cert") {
         None => Err(AnswerFault::BadLine(line.number)),
         Some(words) => match first_word(words) {
             None => Err(AnswerFault::BadLine(line.number)),
-            Some((kind, text)) => claim_in(alloc, line.number, kind, text),
+            Some((kind, text)) => claim_in(alloc, layout, line.number, kind, text),
         },
     }
 }
@@ -435,13 +567,14 @@ fn certificate_in<A: Allocator + Copy>(
 #[tactic(auto, unfolding(crate::specs::AnswerReading::certificate_at))]
 fn certificate_at<'a, A: Allocator + Copy>(
     alloc: A,
+    layout: Layout,
     lines: &Lines<'a>,
 ) -> Result<(Certificate<A>, Lines<'a>), AnswerFault>
     ensures { Gives (λ x. (claim_of x.0, lines_of x.1)) result
-        (certificate_at (lines_of lines.now)) }
+        (certificate_at layout (lines_of lines.now)) }
 {
     let (line, more) = next_line(lines)?;
-    let certificate = certificate_in(alloc, &line)?;
+    let certificate = certificate_in(alloc, layout, &line)?;
     Ok((certificate, more))
 }
 
@@ -455,12 +588,16 @@ fn finished(lines: &Lines<'_>) -> Result<(), AnswerFault>
 }
 
 #[tactic(auto, unfolding(crate::specs::AnswerReading::answer_at))]
-fn answer_at<A: Allocator + Copy>(alloc: A, lines: &Lines<'_>) -> Result<Answer<A>, AnswerFault>
-    ensures { Gives (λ a. a) result (answer_at (lines_of lines.now)) }
+fn answer_at<A: Allocator + Copy>(
+    alloc: A,
+    layout: Layout,
+    lines: &Lines<'_>,
+) -> Result<Answer<A>, AnswerFault>
+    ensures { Gives (λ a. a) result (answer_at layout (lines_of lines.now)) }
 {
     let (value, lines) = value_at(lines)?;
     let (pieces, lines) = pieces_at(alloc, &lines)?;
-    let (certificate, lines) = certificate_at(alloc, &lines)?;
+    let (certificate, lines) = certificate_at(alloc, layout, &lines)?;
     let lines = end_at(&lines)?;
     finished(&lines)?;
     Ok(Answer {
@@ -472,13 +609,14 @@ fn answer_at<A: Allocator + Copy>(alloc: A, lines: &Lines<'_>) -> Result<Answer<
 
 #[tactic(auto, unfolding(crate::specs::AnswerReading::sheet_of))]
 fn sheet_of<A: Allocator + Copy>(alloc: A, lines: &Lines<'_>) -> Result<Sheet<A>, AnswerFault>
-    ensures { Gives (λ s. s) result (sheet_of (lines_of lines.now)) }
+    ensures read { Gives (λ s. s) result (sheet_of (lines_of lines.now)) }
+    ensures machines { IfOk result (λ s. (0 < s.machines) × (s.machines ≤ MOST_MACHINES)) }
 {
-    let lines = heading_at(lines)?;
+    let (layout, lines) = heading_at(lines)?;
     let (problem, lines) = problem_at(&lines)?;
     let (jobs, lines) = count_at(&lines, b"jobs", MOST_JOB)?;
-    let (machines, lines) = count_at(&lines, b"machines", MOST_MACHINE)?;
-    let answer = answer_at(alloc, &lines)?;
+    let (machines, lines) = count_at(&lines, b"machines", MOST_MACHINES)?;
+    let answer = answer_at(alloc, layout, &lines)?;
     Ok(Sheet {
         problem,
         jobs,
@@ -487,7 +625,7 @@ fn sheet_of<A: Allocator + Copy>(alloc: A, lines: &Lines<'_>) -> Result<Sheet<A>
     })
 }
 
-/// The sheet that an answer text says. Lines without words and lines whose first word begins with
+/// The sheet that an answer text of either version says. Lines without words and lines whose first word begins with
 /// `#` are skipped, words are divided by any white space, and numbers may have leading zeros.
 /// Nothing is compared between lines.
 ///
@@ -497,7 +635,8 @@ fn sheet_of<A: Allocator + Copy>(alloc: A, lines: &Lines<'_>) -> Result<Sheet<A>
 /// and then the numbers from left to right.
 #[tactic(auto, unfolding(crate::specs::AnswerReading::answer_in))]
 pub fn read_answer<A: Allocator + Copy>(alloc: A, text: &[u8]) -> Result<Sheet<A>, AnswerFault>
-    ensures { Gives (λ s. s) result (answer_in text.now) }
+    ensures read { Gives (λ s. s) result (answer_in text.now) }
+    ensures machines { IfOk result (λ s. (0 < s.machines) × (s.machines ≤ MOST_MACHINES)) }
 {
     if text.len() > MOST_BYTES {
         return Err(AnswerFault::TooLong);

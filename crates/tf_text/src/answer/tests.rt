@@ -1,7 +1,8 @@
 use super::fault::AnswerFault;
+use super::layout::Layout;
 use super::reading::read_answer;
 use super::sheet::Sheet;
-use super::writing::write_answer;
+use super::writing::{answer_bytes, write_answer};
 use crate::counted::Counted;
 use std::alloc::{Allocator, Global};
 use std::test::Fail;
@@ -74,7 +75,7 @@ fn an_answer_is_written(rt: HostRuntime) -> Result<(), Fail> {
     let sheet = two_parallel(rt.alloc())?;
     let mut taken = Vec::new(rt.alloc());
     let mut writer = Counted::new(&mut taken);
-    assert!(rt; write_answer(rt.alloc(), &mut writer, &sheet).is_ok());
+    assert!(rt; write_answer(rt.alloc(), &mut writer, &sheet, Layout::One).is_ok());
     drop(writer);
     assert_eq!(rt; taken.as_slice(), TWO_PARALLEL.as_bytes());
     Ok(())
@@ -85,7 +86,7 @@ fn an_answer_is_read_and_written_again(rt: HostRuntime) -> Result<(), Fail> {
     let sheet = read_answer(rt.alloc(), TWO_PARALLEL.as_bytes())?;
     let mut taken = Vec::new(rt.alloc());
     let mut writer = Counted::new(&mut taken);
-    assert!(rt; write_answer(rt.alloc(), &mut writer, &sheet).is_ok());
+    assert!(rt; write_answer(rt.alloc(), &mut writer, &sheet, Layout::One).is_ok());
     drop(writer);
     assert_eq!(rt; taken.as_slice(), TWO_PARALLEL.as_bytes());
     Ok(())
@@ -96,4 +97,79 @@ fn a_cut_answer_ends_early(rt: HostRuntime) -> Result<(), Fail> {
     let cut = b"answer 1\nproblem P2|prmp|Cmax\njobs 3\nmachines 2\nvalue 6\n";
     assert!(rt; matches!(&read_answer(rt.alloc(), cut), Err(AnswerFault::EndsEarly)));
     Ok(())
+}
+
+// A text with this heading and this certificate.
+fn with_certificate(alloc: Global, heading: &str, line: &str) -> Result<Vec<u8>, Fail> {
+    let mut text = Vec::from_slice(alloc, heading.as_bytes())?;
+    text.extend_from_slice(b"\nproblem F2||Cmax\njobs 5\nmachines 2\nvalue 6\n")?;
+    text.extend_from_slice(line.as_bytes())?;
+    text.extend_from_slice(b"\nend\n")?;
+    Ok(text)
+}
+
+fn is_no_text(alloc: Global, heading: &str, line: &str, fault: AnswerFault) -> Result<(), Fail> {
+    let text = with_certificate(alloc, heading, line)?;
+    match read_answer(alloc, text.as_slice()) {
+        Err(other) if other == fault => Ok(()),
+        _ => Err(Fail::new("another outcome")),
+    }
+}
+
+fn is_refused(alloc: Global, line: &str, fault: AnswerFault) -> Result<(), Fail> {
+    is_no_text(alloc, "answer 2", line, fault)
+}
+
+fn is_written(alloc: Global, line: &str, wanted: &str) -> Result<(), Fail> {
+    let text = with_certificate(alloc, "answer 2", line)?;
+    let wanted = with_certificate(alloc, "answer 2", wanted)?;
+    let sheet = read_answer(alloc, text.as_slice())?;
+    let written = answer_bytes(alloc, &sheet, Layout::Two)?;
+    if written.as_slice() == wanted.as_slice() {
+        Ok(())
+    } else {
+        Err(Fail::new("another text"))
+    }
+}
+
+#[test]
+fn jobs_in_ranges(rt: HostRuntime) -> Result<(), Fail> {
+    let alloc = rt.alloc();
+    is_written(alloc, "cert last 3 4 5 1", "cert last 3-5 1")?;
+    is_written(alloc, "cert last 3-5 1", "cert last 3-5 1")?;
+    is_written(alloc, "cert window 5 4 3", "cert window 5 4 3")?;
+    is_written(alloc, "cert window 1 2", "cert window 1 2")?;
+    is_written(alloc, "cert last 1-2", "cert last 1 2")?;
+    is_written(alloc, "cert last 01-0002", "cert last 1 2")?;
+    is_written(alloc, "cert last 1-100000", "cert last 1-100000")?;
+    is_written(alloc, "cert split second 0 1-3", "cert split second 0 1-3")?;
+    is_written(alloc, "cert ranks 1 2 3", "cert ranks 1 2 3")
+}
+
+#[test]
+fn ranges_at_fault(rt: HostRuntime) -> Result<(), Fail> {
+    let alloc = rt.alloc();
+    is_refused(alloc, "cert last 7-3", AnswerFault::BadLine(6))?;
+    is_refused(alloc, "cert last 3-3", AnswerFault::BadLine(6))?;
+    is_refused(alloc, "cert last 3-", AnswerFault::BadLine(6))?;
+    is_refused(alloc, "cert last 1-2-3", AnswerFault::BadLine(6))?;
+    is_refused(alloc, "cert last 0-2", AnswerFault::BadLine(6))?;
+    is_refused(alloc, "cert last 1-100001", AnswerFault::NumberTooLarge(6))?;
+    is_refused(alloc, "cert last 1-100000 1", AnswerFault::BadLine(6))?;
+    is_refused(
+        alloc,
+        "cert last 1-50000 1-50001 100001",
+        AnswerFault::NumberTooLarge(6),
+    )?;
+    is_refused(alloc, "cert last 3-1 100001", AnswerFault::BadLine(6))?;
+    is_refused(alloc, "cert split first 1-3", AnswerFault::BadLine(6))?;
+    is_refused(alloc, "cert ranks 1-3", AnswerFault::BadLine(6))
+}
+
+#[test]
+fn versions(rt: HostRuntime) -> Result<(), Fail> {
+    let alloc = rt.alloc();
+    is_no_text(alloc, "answer 3", "cert last 1", AnswerFault::BadLine(1))?;
+    is_no_text(alloc, "answer 01", "cert last 1", AnswerFault::BadLine(1))?;
+    is_no_text(alloc, "answer 1", "cert last 1-3", AnswerFault::BadLine(6))
 }

@@ -1,15 +1,18 @@
 //! Answer texts, written.
-ghost use Rattle.std.specs.Prelude.{◌≡◌, ℕ, List, [], ◌∷◌, ◌++◌, ◌≤◌, map, length, true, false, Ok, OnOk, IfOk, IsErr, IsErrOf};
+ghost use Rattle.std.specs.Prelude.{◌≡◌, ℕ, List, [], ◌∷◌, ◌++◌, ◌≤◌, ◌<◌, map, codes, IfSome, MatchOption, length, true, false, Ok, OnOk, IfOk, IsErr, IsErrOf};
 ghost use Rattle.std.specs.List.{flat_map, join_with_byte};
 ghost use Rattle.std.specs.Fmt.{decimal, signed_decimal};
 ghost use Rattle.std.specs.Io.KnownBytes.{Appends};
 ghost use Rattle.tf_check.specs.Certificate.{claim_of};
 ghost use Rattle.tf_text.specs.Counted.{inner_of, has_failed, AppendsPrefix};
-ghost use Rattle.tf_text.specs.AnswerText.{piece_words, side_word, claim_words, result_lines, line_text, answer_text};
+ghost use Rattle.tf_text.specs.JobWords.{runs, run_words, job_words};
+ghost use Rattle.tf_text.specs.AnswerText.{version, piece_words, side_word, claim_words, result_lines, line_text, answer_text};
 ghost use Rattle.tf_text.specs.AnswerReading.{answer_in};
 ghost use Rattle.tf_text.specs.Readable.{IsReadable};
 ghost use Rattle.tf_text.specs.declared.answer.writing.WriteFault.TheVariants.{Device as DeviceFault, OutOfMemory as MemoryFault};
 
+use crate::answer::layout::Layout;
+use crate::answer::run::Run;
 use crate::answer::sheet::Sheet;
 use crate::counted::{Counted, Device};
 use itoa::{Buffer, Integer};
@@ -64,14 +67,80 @@ pub fn push_number<A: Allocator, I: Integer>(
     Ok(())
 }
 
-fn push_jobs<A: Allocator>(text: &mut Vec<u8, A>, jobs: &[JobId]) -> Result<(), OutOfMemory>
+fn push_numbers<A: Allocator>(text: &mut Vec<u8, A>, jobs: &[JobId]) -> Result<(), OutOfMemory>
     ensures { OnOk result (text.new.items
-        ≡ text.old.items ++ flat_map (λ job. 32 ∷ decimal job) jobs.now) }
+        ≡ text.old.items ++ flat_map (λ word. 32 ∷ word) (map decimal jobs.now)) }
 {
     for job in jobs {
         push_number(text, job.get())?;
     }
     Ok(())
+}
+
+// The longest run that a list begins with, and the jobs behind it.
+#[tactic(auto, unfolding(crate::specs::JobWords::runs, crate::specs::JobWords::runs_after))]
+fn first_run(jobs: &[JobId]) -> Option<(Run, &[JobId])>
+    ensures runs { MatchOption result (runs jobs.now ≡ [])
+        (λ x. runs jobs.now ≡ x.0 ∷ runs x.1.now) }
+    ensures ordered { IfSome result (λ x. x.0.first ≤ x.0.last) }
+    ensures shorter { IfSome result (λ x. length x.1.now < length jobs.now) }
+{
+    let (first, mut rest) = jobs.split_first()?;
+    let first = first.get();
+    let mut last = first;
+    while let Some((job, more)) = rest.split_first() {
+        if job.get() - 1 != last {
+            return Some((Run { first, last }, rest));
+        }
+        last = job.get();
+        rest = more;
+    }
+    Some((Run { first, last }, rest))
+}
+
+// A blank, and three jobs or more as a range, others one by one.
+fn push_run<A: Allocator>(text: &mut Vec<u8, A>, run: Run) -> Result<(), OutOfMemory>
+    requires { run.first ≤ run.last }
+    ensures { OnOk result (text.new.items
+        ≡ text.old.items ++ flat_map (λ word. 32 ∷ word) (run_words run)) }
+{
+    push_number(text, run.first)?;
+    if run.last == run.first {
+        return Ok(());
+    }
+    if run.last - run.first == 1 {
+        return push_number(text, run.last);
+    }
+    let mut digits = Buffer::new();
+    text.push(b'-')?;
+    text.extend_from_slice(digits.format(run.last).as_bytes())?;
+    Ok(())
+}
+
+fn push_runs<A: Allocator>(text: &mut Vec<u8, A>, jobs: &[JobId]) -> Result<(), OutOfMemory>
+    ensures { OnOk result (text.new.items ≡ text.old.items
+        ++ flat_map (λ word. 32 ∷ word) (flat_map run_words (runs jobs.now))) }
+{
+    let mut rest = jobs;
+    while let Some((run, more)) = first_run(rest) {
+        push_run(text, run)?;
+        rest = more;
+    }
+    Ok(())
+}
+
+fn push_jobs<A: Allocator>(
+    text: &mut Vec<u8, A>,
+    layout: Layout,
+    jobs: &[JobId],
+) -> Result<(), OutOfMemory>
+    ensures { OnOk result (text.new.items
+        ≡ text.old.items ++ flat_map (λ word. 32 ∷ word) (job_words layout jobs.now)) }
+{
+    match layout {
+        Layout::One => push_numbers(text, jobs),
+        Layout::Two => push_runs(text, jobs),
+    }
 }
 
 fn push_number_line<A: Allocator, I: Integer>(
@@ -118,26 +187,27 @@ fn side_word(first: bool) -> &'static [u8]
 
 fn push_claim<A: Allocator, M: Allocator>(
     text: &mut Vec<u8, A>,
+    layout: Layout,
     certificate: &Certificate<M>,
 ) -> Result<(), OutOfMemory>
     ensures { OnOk result (text.new.items
-        ≡ text.old.items ++ join_with_byte 32 (claim_words (claim_of certificate.now))) }
+        ≡ text.old.items ++ join_with_byte 32 (claim_words layout (claim_of certificate.now))) }
 {
     match certificate {
         Certificate::Pairs(_) => text.extend_from_slice(b"pairs")?,
         Certificate::LastOf(last) => {
             text.extend_from_slice(b"last")?;
-            push_jobs(text, last.jobs.as_slice())?;
+            push_jobs(text, layout, last.jobs.as_slice())?;
         }
         Certificate::Window(window) => {
             text.extend_from_slice(b"window")?;
-            push_jobs(text, window.jobs.as_slice())?;
+            push_jobs(text, layout, window.jobs.as_slice())?;
         }
         Certificate::Split(split) => {
             text.extend_from_slice(b"split ")?;
             text.extend_from_slice(side_word(split.first))?;
             push_number(text, split.delta)?;
-            push_jobs(text, split.side.as_slice())?;
+            push_jobs(text, layout, split.side.as_slice())?;
         }
         Certificate::Load(_) => text.extend_from_slice(b"load")?,
         Certificate::Machine(load) => {
@@ -150,7 +220,7 @@ fn push_claim<A: Allocator, M: Allocator>(
         }
         Certificate::Ranks(ranks) => {
             text.extend_from_slice(b"ranks")?;
-            push_jobs(text, ranks.jobs.as_slice())?;
+            push_jobs(text, Layout::One, ranks.jobs.as_slice())?;
         }
     }
     Ok(())
@@ -158,62 +228,76 @@ fn push_claim<A: Allocator, M: Allocator>(
 
 fn push_answer<A: Allocator, M: Allocator>(
     text: &mut Vec<u8, A>,
+    layout: Layout,
     answer: &Answer<M>,
 ) -> Result<(), OutOfMemory>
     ensures { OnOk result (text.new.items
-        ≡ text.old.items ++ flat_map line_text (result_lines answer.now)) }
+        ≡ text.old.items ++ flat_map line_text (result_lines layout answer.now)) }
 {
     push_number_line(text, b"value", answer.value)?;
     push_pieces(text, answer.pieces.as_slice())?;
     text.extend_from_slice(b"cert ")?;
-    push_claim(text, &answer.certificate)?;
+    push_claim(text, layout, &answer.certificate)?;
     text.extend_from_slice(b"\nend\n")?;
     Ok(())
 }
 
-/// The text of a sheet, by lines and words, each line ended by a line feed.
+// The first line, and the first word of the second with a blank.
+fn heading(layout: Layout) -> &'static [u8]
+    ensures { result.now
+        ≡ codes "answer " ++ version layout ++ 10 ∷ codes "problem " }
+{
+    match layout {
+        Layout::One => b"answer 1\nproblem ",
+        Layout::Two => b"answer 2\nproblem ",
+    }
+}
+
+/// The text of a sheet in a version, by lines and words, each line ended by a line feed.
 pub fn answer_bytes<A: Allocator + Copy, M: Allocator>(
     alloc: A,
     sheet: &Sheet<M>,
+    layout: Layout,
 ) -> Result<Vec<u8, A>, OutOfMemory>
-    ensures text { IfOk result (λ text. text.items ≡ answer_text sheet.now) }
+    ensures text { IfOk result (λ text. text.items ≡ answer_text layout sheet.now) }
     // The text is read as the sheet.
-    ensures round_trip { IfOk result (λ text. IsReadable sheet.now →
+    ensures round_trip { IfOk result (λ text. IsReadable layout sheet.now →
         length text.items ≤ MOST_BYTES → answer_in text.items ≡ Ok sheet.now) }
 {
     let notation = notation_text(alloc, &sheet.problem)?;
-    let mut text = Vec::from_slice(alloc, b"answer 1\nproblem ")?;
+    let mut text = Vec::from_slice(alloc, heading(layout))?;
     text.extend_from_slice(notation.as_bytes())?;
     text.push(b'\n')?;
     push_number_line(&mut text, b"jobs", sheet.jobs)?;
     push_number_line(&mut text, b"machines", sheet.machines)?;
-    push_answer(&mut text, &sheet.answer)?;
+    push_answer(&mut text, layout, &sheet.answer)?;
     Ok(text)
 }
 
-/// Writes the text of a sheet. Its memory is asked for before the first byte is written.
+/// Writes the text of a sheet in a version. Its memory is asked for before the first byte is written.
 pub fn write_answer<A: Allocator + Copy, M: Allocator, W: Write>(
     alloc: A,
     writer: &mut Counted<W>,
     sheet: &Sheet<M>,
+    layout: Layout,
 ) -> Result<(), WriteFault>
     ensures written { OnOk result (Appends (W.contents (inner_of writer.old))
-        (W.contents (inner_of writer.new)) (answer_text sheet.now)) }
+        (W.contents (inner_of writer.new)) (answer_text layout sheet.now)) }
     ensures unfailed { OnOk result (has_failed writer.new ≡ false) }
     ensures memory { IsErrOf result WriteFault.OutOfMemory → writer.new ≡ writer.old }
     ensures prefix { IsErrOf result WriteFault.Device →
         AppendsPrefix (W.contents (inner_of writer.old)) (W.contents (inner_of writer.new))
-        (answer_text sheet.now) }
+        (answer_text layout sheet.now) }
     ensures device { IsErrOf result WriteFault.Device → has_failed writer.new ≡ true }
     ensures failed_before { has_failed writer.old ≡ true →
         IsErr result × (writer.new ≡ writer.old) }
 
     // What was written is read as the sheet.
-    ensures round_trip { OnOk result (IsReadable sheet.now →
-        length (answer_text sheet.now) ≤ MOST_BYTES →
-        answer_in (answer_text sheet.now) ≡ Ok sheet.now) }
+    ensures round_trip { OnOk result (IsReadable layout sheet.now →
+        length (answer_text layout sheet.now) ≤ MOST_BYTES →
+        answer_in (answer_text layout sheet.now) ≡ Ok sheet.now) }
 {
-    let text = answer_bytes(alloc, sheet)?;
+    let text = answer_bytes(alloc, sheet, layout)?;
     writer.push_all(&text)?;
     Ok(())
 }

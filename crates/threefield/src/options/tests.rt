@@ -1,6 +1,7 @@
 use super::{Asked, FormOption, command, understand};
 use std::alloc::AllocError;
 use std::test::Fail;
+use tf_text::answer::layout::Layout;
 
 fn ensure(is_so: bool, otherwise: &'static str) -> Result<(), Fail> {
     if is_so {
@@ -42,7 +43,7 @@ fn is_help(rt: &HostRuntime, line: &[&str]) -> Result<(), Fail> {
 fn solves_table(rt: &HostRuntime, line: &[&str], machines: Option<u32>) -> Result<(), Fail> {
     let words = words(rt, line)?;
     match understand(command(rt.alloc())?, words.as_slice()) {
-        Asked::Solve(options) => {
+        Asked::Solve(options, _) => {
             ensure(matches!(options.form, FormOption::Table), "no table")?;
             ensure(options.machines == machines, "other machines")?;
             ensure(options.problem == "P||sumC", "another problem")?;
@@ -55,7 +56,7 @@ fn solves_table(rt: &HostRuntime, line: &[&str], machines: Option<u32>) -> Resul
 fn solves_wt(rt: &HostRuntime, line: &[&str], wanted: (u32, u32)) -> Result<(), Fail> {
     let words = words(rt, line)?;
     match understand(command(rt.alloc())?, words.as_slice()) {
-        Asked::Solve(options) => match options.form {
+        Asked::Solve(options, _) => match options.form {
             FormOption::Wt { jobs, index } => ensure((jobs, index) == wanted, "other numbers"),
             _ => Err(Fail::new("no weighted tardiness file")),
         },
@@ -66,7 +67,7 @@ fn solves_wt(rt: &HostRuntime, line: &[&str], wanted: (u32, u32)) -> Result<(), 
 fn solves_flow(rt: &HostRuntime, line: &[&str], wanted: Option<(u32, u32)>) -> Result<(), Fail> {
     let words = words(rt, line)?;
     match understand(command(rt.alloc())?, words.as_slice()) {
-        Asked::Solve(options) => match options.form {
+        Asked::Solve(options, _) => match options.form {
             FormOption::Flow { name, pair } => ensure(name == "demo" && pair == wanted, "another"),
             _ => Err(Fail::new("no flow shop file")),
         },
@@ -224,6 +225,29 @@ fn an_answer_to_check(rt: HostRuntime) -> Result<(), Fail> {
     is_misused(&rt, &["check", "--problem", "P||sumC", "-"])
 }
 
+fn solves_in(rt: &HostRuntime, line: &[&str], wanted: Layout) -> Result<(), Fail> {
+    let words = words(rt, line)?;
+    match understand(command(rt.alloc())?, words.as_slice()) {
+        Asked::Solve(_, layout) => ensure(layout == wanted, "another version"),
+        _ => Err(Fail::new("no solve")),
+    }
+}
+
+#[test]
+fn versions_of_answers(rt: HostRuntime) -> Result<(), Fail> {
+    solves_in(&rt, &SOLVE, Layout::Two)?;
+    let one = ["solve", "--answer", "1", "--problem=P||sumC", "file"];
+    solves_in(&rt, &one, Layout::One)?;
+    let two = ["solve", "--answer=2", "--problem=P||sumC", "file"];
+    solves_in(&rt, &two, Layout::Two)?;
+    is_misused(&rt, &["solve", "--answer=3", "--problem=P||sumC", "file"])?;
+    is_misused(
+        &rt,
+        &["check", "--answer=1", "--problem=P||sumC", "file", "-"],
+    )?;
+    is_misused(&rt, &["gantt", "--answer=1", "file"])
+}
+
 #[test]
 fn lines_that_are_misused(rt: HostRuntime) -> Result<(), Fail> {
     is_misused(&rt, &[])?;
@@ -246,6 +270,26 @@ fn lines_that_are_misused(rt: HostRuntime) -> Result<(), Fail> {
             "file",
         ],
     )
+}
+
+fn draws(rt: &HostRuntime, line: &[&str], wanted: u32) -> Result<(), Fail> {
+    let words = words(rt, line)?;
+    match understand(command(rt.alloc())?, words.as_slice()) {
+        Asked::Gantt { answer, columns } => {
+            ensure(answer == "file" && columns == wanted, "another drawing")
+        }
+        _ => Err(Fail::new("no drawing")),
+    }
+}
+
+#[test]
+fn charts(rt: HostRuntime) -> Result<(), Fail> {
+    draws(&rt, &["gantt", "file"], 72)?;
+    draws(&rt, &["gantt", "--columns", "1", "file"], 1)?;
+    draws(&rt, &["gantt", "--columns=1000", "file"], 1_000)?;
+    is_unfit(&rt, &["gantt", "--columns=0", "file"])?;
+    is_unfit(&rt, &["gantt", "--columns=1001", "file"])?;
+    is_misused(&rt, &["gantt"])
 }
 
 #[test]

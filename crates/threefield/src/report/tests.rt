@@ -2,10 +2,12 @@ use super::report;
 use std::alloc::AllocError;
 use std::test::Fail;
 use tf_engine::fault::RunFault;
-use tf_model::ids::JobId;
+use tf_model::ids::{JobId, MachineId};
+use tf_model::job_list::JobList;
 use tf_model::prepare::{Field, Refusal};
 use tf_notation::reading::NotationFault;
 use tf_read::fault::ReadFault;
+use tf_schedule::schedule::PieceFault;
 use tf_text::answer::fault::AnswerFault;
 use tf_text::counted::Counted;
 
@@ -109,10 +111,28 @@ fn faults_of_an_answer(rt: HostRuntime) -> Result<(), Fail> {
 }
 
 #[test]
+fn faults_of_a_chart(rt: HostRuntime) -> Result<(), Fail> {
+    let machine = MachineId::new(1).ok_or("a machine")?;
+    let twice = PieceFault::MachineTwice(machine, 3);
+    refuses(&rt, RunFault::Pieces(twice), "answer MachineTwice 1 3")?;
+    let empty = PieceFault::EmptyPiece(1);
+    refuses(&rt, RunFault::Pieces(empty), "answer EmptyPiece 1")?;
+    let beyond = PieceFault::OutOfRange(12);
+    refuses(&rt, RunFault::Pieces(beyond), "answer OutOfRange 12")
+}
+
+#[test]
+fn a_cycle(rt: HostRuntime) -> Result<(), Fail> {
+    let mut jobs = Vec::new(rt.alloc());
+    jobs.push(JobId::new(3).ok_or("a job")?)?;
+    jobs.push(JobId::new(12).ok_or("a job")?)?;
+    refuses(&rt, RunFault::Cycle(JobList::new(jobs)), "Cycle 3 12")
+}
+
+#[test]
 fn other_faults(rt: HostRuntime) -> Result<(), Fail> {
     let byte = RunFault::Notation(NotationFault { byte: 3 });
     refuses(&rt, byte, "NotationFault 3")?;
-    refuses(&rt, RunFault::Gap, "Gap")?;
     says(
         &rt,
         RunFault::OutOfMemory,

@@ -98,7 +98,7 @@ fn run_in<A: Allocator + Copy>(
     alloc: A,
     request: &Request,
     out: &mut Vec<u8>,
-) -> Result<(), RunFault> {
+) -> Result<(), RunFault<A>> {
     let mut reader = Counted::new(TABLE);
     let mut writer = Counted::new(out);
     run_solve(alloc, request, &mut reader, &mut writer)

@@ -138,7 +138,47 @@ fn machines_of_a_flow_shop_file(rt: HostRuntime) -> Result<(), Fail> {
     let disagree = RunFault::Task(Refusal::MachinesDisagree);
     refuses(&rt, &two, SHOP, disagree)?;
     let first_and_last = shop(&rt, "F2||Cmax", "demo", Some((0, 2)))?;
-    refuses(&rt, &first_and_last, SHOP, RunFault::Gap)
+    let wanted = b"answer 1
+problem F2||Cmax
+jobs 2
+machines 2
+value 8
+piece 2 1 0 2
+piece 1 1 2 6
+piece 2 2 2 7
+piece 1 2 7 8
+cert split first 2
+end
+";
+    answers(&rt, &first_and_last, SHOP, wanted)
+}
+
+#[test]
+fn instances_of_a_weighted_tardiness_file(rt: HostRuntime) -> Result<(), Fail> {
+    let second = b"answer 1
+problem 1||sumwC
+jobs 3
+machines 1
+value 30
+piece 2 1 0 1
+piece 3 1 1 4
+piece 1 1 4 8
+cert pairs
+end
+";
+    answers(&rt, &tardiness(&rt, "1||sumwC", 3, 2)?, TARDINESS, second)?;
+    let first = b"answer 1
+problem 1||Lmax
+jobs 3
+machines 1
+value 5
+piece 2 1 0 3
+piece 1 1 3 5
+piece 3 1 5 6
+cert last 2
+end
+";
+    answers(&rt, &tardiness(&rt, "1||Lmax", 3, 1)?, TARDINESS, first)
 }
 
 #[test]

@@ -1,4 +1,4 @@
-use Rattle.std.proofs.Common.{◌≡◌, ℕ, ◌+◌, Option, None, Some, Result, Ok, Err, List, [], ◌∷◌, refl, ap, sym, ◌∙◌, Bool, true, false, cond, map}
+use Rattle.std.proofs.Common.{◌≡◌, ℕ, ◌+◌, Option, None, Some, Result, Ok, Err, List, [], ◌∷◌, refl, ap, sym, ◌∙◌, Bool, true, false, cond, map, length}
 use Rattle.std.specs.Bool.{then_some}
 use Rattle.std.specs.Option.{option_map, option_or}
 use Rattle.tf_model.specs.ClassTable.{class_of}
@@ -8,8 +8,9 @@ use Rattle.tf_model.specs.declared.prepare.Refusal.{Refusal}
 use Rattle.tf_model.specs.declared.prepare.Refusal.TheVariants.{WrongTimes, MissingField, ZeroTime, TotalTooLarge, OutOfMemory}
 use Rattle.tf_model.specs.JobFields.{JobFields}
 use Rattle.tf_model.specs.InstanceData.{InstanceData, first_with}
-use Rattle.tf_model.specs.SchedulingTask.{SchedulingTask, is_shop}
-use Rattle.tf_model.specs.Prepare.{machine_count, has_wrong_times, lacking, missing_from, has_zero_time, data_of, is_too_large, jobs_refusal, prepared, Prepares}
+use Rattle.tf_model.specs.SchedulingTask.{SchedulingTask}
+use Rattle.tf_model.specs.ClassTable.{is_shop}
+use Rattle.tf_model.specs.Prepare.{is_too_many, machine_count, has_wrong_times, lacking, missing_from, has_zero_time, data_of, is_too_large, jobs_refusal, prepared, Prepares}
 use Rattle.tf_model.proofs.Prepared.{IsCountFor-machine_count}
 use Rattle.tf_model.proofs.prepare.prepare.Goals as goal
 
@@ -46,12 +47,12 @@ refused OutOfMemory wanted apart e = absurd (apart refl)
 refused _ wanted apart e = e
 
 prepared-Err : (i : InstanceData) (problem : Problem) (argument count : Option ℕ) (class : Class) (m : ℕ) (jobs : List JobFields) (refusal : Refusal)
-    → Some class ≡ class_of problem → count ≡ i.machines → Ok m ≡ machine_count class problem.count argument count
+    → Some class ≡ class_of problem → is_too_many class (length i.jobs) ≡ false → count ≡ i.machines → Ok m ≡ machine_count class problem.count argument count
     → jobs ≡ i.jobs → Some refusal ≡ jobs_refusal class jobs → prepared i problem argument ≡ Err refusal
-prepared-Err i problem argument count class m jobs refusal of read_count counted read_jobs e =
+prepared-Err i problem argument count class m jobs refusal of few read_count counted read_jobs e =
     let count_is : machine_count class problem.count argument i.machines ≡ Ok m = sym (counted ∙ ap (machine_count class problem.count argument) read_count) in
     let refusal_is : jobs_refusal class i.jobs ≡ Some refusal = sym (e ∙ ap (jobs_refusal class) read_jobs) in
-    rw (← of, count_is, refusal_is) refl
+    rw (← of, few, count_is, refusal_is) refl
 
 pub assemble-requires-clause-machines : goal.assemble-requires-clause-machines
 assemble-requires-clause-machines g c =
@@ -60,5 +61,7 @@ assemble-requires-clause-machines g c =
 pub returns-in-Some-jobs_refusal : goal.returns-in-Some-jobs_refusal
 returns-in-Some-jobs_refusal g c =
     refused c.in-Some-jobs_refusal.refusal _ (λ e. memory_apart c.in-Some.class c.jobs.result.now (sym c.in-Some-jobs_refusal.ensures ∙ ap Some e))
-    (prepared-Err c.args.instance.now c.args.problem.now c.args.machines c.machines.result c.in-Some.class c.in_ok-machines.machines c.jobs.result.now c.in-Some-jobs_refusal.refusal
-    c.in-Some.ensures c.machines.ensures.value c.in_ok-machines.ensures c.jobs.ensures.value c.in-Some-jobs_refusal.ensures)
+    (let few : is_too_many c.in-Some.class (length c.args.instance.now.jobs) ≡ false =
+    ap (is_too_many c.in-Some.class) (sym c.len.ensures.value) ∙ sym c.is_too_many.ensures ∙ c.if-is_too_many.false in
+    prepared-Err c.args.instance.now c.args.problem.now c.args.machines c.machines.result c.in-Some.class c.in_ok-machines.machines c.jobs.result.now c.in-Some-jobs_refusal.refusal
+    c.in-Some.ensures few c.machines.ensures.value c.in_ok-machines.ensures c.jobs.ensures.value c.in-Some-jobs_refusal.ensures)

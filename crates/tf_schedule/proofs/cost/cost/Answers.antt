@@ -3,7 +3,7 @@ use mir.Syntax.{w128}
 use Rattle.std.proofs.Common.{rules, pos, List, sym, ap, ◌∙◌, IsTrue}
 use Rattle.std.specs.Bool.{IsFalse}
 use Rattle.std.proofs.lemmas.Int.{to_z-of_z}
-use Rattle.tf_model.specs.SchedulingTask.{is_sum}
+use Rattle.tf_model.specs.ClassTable.{is_sum}
 use Rattle.tf_model.specs.Cost.{greatest_price, total_price}
 use Rattle.tf_schedule.specs.declared.piece.Piece.{Piece}
 use Rattle.tf_schedule.specs.Drawing.{drawing}

@@ -3,7 +3,8 @@ use mir.Syntax.{w64, w128}
 use Rattle.std.proofs.Common.{rules, ◌≡◌, ◌-◌, ◌<◌, ℤ, ◌-ℤ◌, List, length, get_or, sym, ap, ◌∙◌, arith, IsTrue}
 use Rattle.std.proofs.lemmas.Int.{to_z-of_z}
 use Rattle.std.proofs.lemmas.List.{get_or_default}
-use Rattle.tf_model.specs.SchedulingTask.{JobData, costs_of, is_costed, is_due, job_data}
+use Rattle.tf_model.specs.SchedulingTask.{JobData, costs_of, job_data}
+use Rattle.tf_model.specs.ClassTable.{is_costed, is_due}
 use Rattle.tf_model.specs.Steps.{Steps, no_steps, step_value}
 use Rattle.tf_schedule.specs.Piece.{as_time}
 use Rattle.tf_schedule.proofs.Times.{pos_time}

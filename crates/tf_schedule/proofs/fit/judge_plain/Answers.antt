@@ -2,7 +2,8 @@ use Rattle.std.proofs.Common.{◌≡◌, ℕ, List, length, subst}
 use Rattle.std.specs.Bool.{IsFalse}
 use Rattle.std.specs.List.{All}
 use Rattle.tf_model.specs.declared.class.Class.{Class}
-use Rattle.tf_model.specs.SchedulingTask.{JobData, may_break}
+use Rattle.tf_model.specs.SchedulingTask.{JobData}
+use Rattle.tf_model.specs.ClassTable.{may_break}
 use Rattle.tf_schedule.specs.declared.extent.Extent.{Extent}
 use Rattle.tf_schedule.specs.Extent.{HasExtents, IsDone, IsSolidOnOne, StartsReleased, StartsAfter}
 use Rattle.tf_schedule.specs.Misfit.{EachJob, IsSmallestNot}

@@ -1,12 +1,13 @@
 -- A job's time is within the total, which the task's invariant bounds.
 use Rattle.std.proofs.Common.{◌≡◌, ℕ, ◌+◌, ◌≤◌, length, ◌-◌, slice_index_or, ap, sym, subst, arith, sum_by}
 use Rattle.std.proofs.lemmas.List.{get_or_read}
+use Rattle.tf_model.specs.Limit.{limit}
 use Rattle.tf_model.specs.SchedulingTask.{SchedulingTask, JobData, IsJob, all_jobs, job_data, no_job, time_of}
 use Rattle.tf_model.proofs.Costs.{term-le-all_jobs}
 use Rattle.tf_model.proofs.task.Task.time.Goals as goal
 
-small : (k : SchedulingTask) → sum_by (time_of k) (all_jobs k) ≤ 4000000000000000000 → (now : SchedulingTask) → k ≡ now → (j : ℕ) → IsJob now j
-    → (d : JobData) → d ≡ slice_index_or k.jobs (j - 1) d → d.first + d.second ≤ 4000000000000000000
+small : (k : SchedulingTask) → sum_by (time_of k) (all_jobs k) ≤ limit → (now : SchedulingTask) → k ≡ now → (j : ℕ) → IsJob now j
+    → (d : JobData) → d ≡ slice_index_or k.jobs (j - 1) d → d.first + d.second ≤ limit
 small k total now view j h d is =
     let same : length k.jobs ≡ length now.jobs = ap (λ z. length z.jobs) view in
     let job : IsJob k j = (h.0, omega (arith, h.1, same)) in

@@ -1,0 +1,10 @@
+use Rattle.std.proofs.Common.{take}
+use Rattle.tf_check.specs.Free.{AreMarks}
+use Rattle.tf_check.proofs.JobLists.{IsJudged}
+use Rattle.tf_check.proofs.jobs.judge_list.Given as goal
+
+abbrev pub invariant-loop-job : goal.invariant-loop-job
+invariant-loop-job g l = record {
+  judged : IsJudged l.task l.jobs l.job-index;
+  marks : AreMarks l.task l.seen.items (take l.job-index l.jobs);
+}

@@ -1,0 +1,52 @@
+-- What drawing an answer text leaves behind.
+use Rattle.std.specs.Prelude.{◌≡◌, ℕ, ◌⊎◌, Bool, true, List, Option, Result, Ok, Err}
+use Rattle.std.specs.List.{All}
+use Rattle.std.specs.Io.KnownBytes.{Appends}
+use Rattle.tf_schedule.specs.declared.piece.Piece.{Piece}
+use Rattle.tf_schedule.specs.declared.schedule.PieceFault.{PieceFault}
+use Rattle.tf_schedule.specs.Schedule.{IsSound, NoneTwice, HasFirstFault}
+use Rattle.tf_text.specs.Input.{IsTextOf}
+use Rattle.tf_text.specs.AnswerText.{SheetData}
+use Rattle.tf_text.specs.AnswerReading.{answer_in}
+use Rattle.tf_text.specs.Chart.{chart_text}
+use Rattle.tf_text.specs.declared.answer.fault.AnswerFault.{AnswerFault}
+use Rattle.tf_engine.specs.declared.fault.RunFault.{RunFault}
+use Rattle.tf_engine.specs.Faults.{Refused, ByAnswer, ByPieces, stop_of}
+use Rattle.tf_engine.specs.Runs.{Leaves}
+
+-- the text says a sheet whose pieces are sound and claim no cell twice, and `out` is its chart
+pub record IsChartOf (text : List ℕ) (columns : ℕ) (out : List ℕ) : Type 0 where
+  pub sheet : SheetData
+  pub said : answer_in text ≡ Ok sheet
+  pub sound : All IsSound sheet.answer.pieces
+  pub once : NoneTwice sheet.answer.pieces
+  pub drawn : out ≡ chart_text sheet.answer.pieces sheet.machines columns
+
+-- the refusal is the first fault of the pieces
+abbrev pub IsOfPieces : List Piece → Refused → Type 0
+IsOfPieces pieces refused = (fault : PieceFault) × (refused ≡ ByPieces fault) × HasFirstFault pieces fault
+
+-- the text says a sheet whose pieces are no schedule, for this reason
+pub record IsUndrawn (text : List ℕ) (refused : Refused) : Type 0 where
+  pub sheet : SheetData
+  pub said : answer_in text ≡ Ok sheet
+  pub first : IsOfPieces sheet.answer.pieces refused
+
+-- the first fault of the text, or of the pieces that it says
+abbrev pub IsRefusedChart : List ℕ → Refused → Type 0
+IsRefusedChart text refused =
+    ((fault : AnswerFault) × (refused ≡ ByAnswer fault) × (answer_in text ≡ Err fault))
+    ⊎ IsUndrawn text refused
+
+-- A drawing run writes the chart, or gives the one refusal. Where memory was wanting it gives neither; where the reader
+-- failed nothing was written, and where the writer failed a prefix of the chart was.
+abbrev pub ChartOutcome : {A : Type 0} → ℕ → List ℕ → Bool → Bool → Option (List ℕ) → Option (List ℕ) → Result (Unit {0}) (RunFault A) → Type 0
+ChartOutcome columns text reader writer before after (Ok _) = (out : List ℕ) × IsChartOf text columns out × Appends before after out
+ChartOutcome columns text reader writer before after (Err e) =
+    Leaves (IsChartOf text columns) (IsRefusedChart text) (reader ≡ true) (writer ≡ true) before after (stop_of e)
+
+-- The outcome is that of a text, which is all bytes of the reader up to its end where they are known. `reader` and
+-- `writer` tell whether they remember a failure.
+abbrev pub IsDrawingOf : {A : Type 0} → ℕ → Option (List ℕ) → Bool → Bool → Option (List ℕ) → Option (List ℕ) → Result (Unit {0}) (RunFault A) → Type 0
+IsDrawingOf columns known reader writer before after result =
+    (text : List ℕ) × IsTextOf known text × ChartOutcome columns text reader writer before after result

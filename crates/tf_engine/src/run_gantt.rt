@@ -1,0 +1,66 @@
+//! Drawing an answer, from bytes to bytes.
+ghost use Rattle.std.specs.Prelude.{◌≡◌, ◌+◌, ◌≤◌, true, false, OnOk, IfOk, IfErr};
+ghost use Rattle.tf_model.specs.declared.limit.TheConstants.{MOST_BYTES};
+ghost use Rattle.tf_text.specs.Counted.{inner_of, has_failed, ConsumesAtMost};
+ghost use Rattle.tf_engine.specs.Faults.{stop_of, is_failure, is_refusal};
+ghost use Rattle.tf_engine.specs.Charting.{IsDrawingOf, IsOfPieces};
+ghost use Rattle.tf_engine.specs.Runs.{StopsBy};
+ghost use Rattle.std.specs.List.Sorted.{IsPermutation};
+ghost use Rattle.tf_schedule.specs.Schedule.{IsSchedule};
+
+use crate::fault::RunFault;
+use crate::sheet_said::sheet_said;
+use std::alloc::Allocator;
+use std::io::{Read, Write};
+use tf_model::memory::OutOfMemory;
+use tf_schedule::piece::Piece;
+use tf_schedule::schedule::Schedule;
+use tf_text::answer::sheet::Sheet;
+use tf_text::chart::{MOST_COLUMNS, write_gantt};
+use tf_text::counted::Counted;
+
+/// Reads an answer to its end and writes the chart of its schedule, in `columns` columns at most.
+///
+/// The chart has a line for each machine that the answer names as its number of machines. Neither
+/// the fit nor the certificate is judged. The refusals are the answer's first fault, and then that
+/// of its pieces. After a refusal nothing was written, unless it is [`RunFault::Device`], after
+/// which a prefix of the chart may have been.
+pub fn run_gantt<A: Allocator + Copy, R: Read, W: Write>(
+    alloc: A,
+    reader: &mut Counted<R>,
+    writer: &mut Counted<W>,
+    columns: u32,
+) -> Result<(), RunFault<A>>
+    requires columns { (1 ≤ columns) × (columns ≤ MOST_COLUMNS) }
+    ensures outcome { IsDrawingOf columns (R.remaining (inner_of reader.old)) (has_failed reader.new)
+        (has_failed writer.new) (W.contents (inner_of writer.old)) (W.contents (inner_of writer.new)) result }
+    ensures unfailed { OnOk result ((has_failed reader.new ≡ false) × (has_failed writer.new ≡ false)) }
+    ensures unwritten { IfErr result (λ e. is_failure (stop_of e) ≡ false → writer.new ≡ writer.old) }
+    ensures read { IfErr result (λ e. is_refusal (stop_of e) ≡ true → has_failed reader.new ≡ false) }
+    ensures pulled { ConsumesAtMost (MOST_BYTES + 1) (R.remaining (inner_of reader.old))
+        (R.remaining (inner_of reader.new)) }
+{
+    let sheet = sheet_said(alloc, reader)?;
+    let schedule = schedule_of(alloc, &sheet)?;
+    write_gantt(writer, &schedule, sheet.machines, columns)?;
+    Ok(())
+}
+
+// The schedule of the answer's pieces.
+fn schedule_of<A: Allocator + Copy>(alloc: A, sheet: &Sheet<A>) -> Result<Schedule<A>, RunFault<A>>
+    ensures kept { IfOk result (λ s. IsPermutation sheet.now.answer.pieces s) }
+    ensures schedule { IfOk result IsSchedule }
+    ensures refused { IfErr result (λ e. StopsBy (IsOfPieces sheet.now.answer.pieces) (stop_of e)) }
+{
+    let pieces = copied(alloc, sheet.answer.pieces.as_slice())?;
+    Ok(Schedule::new(pieces)?)
+}
+
+fn copied<A: Allocator>(alloc: A, pieces: &[Piece]) -> Result<Vec<Piece, A>, OutOfMemory>
+    ensures { IfOk result (λ copy. copy.items ≡ pieces.now) }
+{
+    Ok(pieces.to_vec(alloc)?)
+}
+
+#[cfg(test)]
+mod tests;

@@ -1,0 +1,237 @@
+//! Charts of answers.
+ghost use Rattle.std.specs.Prelude.{◌≤◌};
+ghost use Rattle.tf_text.specs.declared.chart.TheConstants.{MOST_COLUMNS};
+
+use super::run_gantt;
+use crate::devices::{Feed, Sink};
+use crate::fault::RunFault;
+use std::alloc::AllocError;
+use std::io::ErrorKind;
+use std::test::Fail;
+use tf_schedule::schedule::PieceFault;
+use tf_text::answer::fault::AnswerFault;
+use tf_text::counted::Counted;
+
+fn ensure(is_so: bool, otherwise: &'static str) -> Result<(), Fail> {
+    if is_so {
+        Ok(())
+    } else {
+        Err(Fail::new(otherwise))
+    }
+}
+
+/// What drawing this answer gives, and what it writes.
+fn draw(
+    rt: &HostRuntime,
+    answer: &[u8],
+    columns: u32,
+) -> Result<(Result<(), RunFault>, Vec<u8>), AllocError>
+    requires { (1 ≤ columns) × (columns ≤ MOST_COLUMNS) }
+{
+    let mut out = Vec::new(rt.alloc());
+    let mut reader = Counted::new(answer);
+    let mut writer = Counted::new(&mut out);
+    let result = run_gantt(rt.alloc(), &mut reader, &mut writer, columns);
+    drop(writer);
+    Ok((result, out))
+}
+
+fn draws(rt: &HostRuntime, answer: &[u8], columns: u32, chart: &[u8]) -> Result<(), Fail>
+    requires { (1 ≤ columns) × (columns ≤ MOST_COLUMNS) }
+{
+    let (result, out) = draw(rt, answer, columns)?;
+    ensure(result == Ok(()), "refused")?;
+    ensure(out.as_slice() == chart, "another chart")
+}
+
+fn refuses(rt: &HostRuntime, answer: &[u8], fault: RunFault) -> Result<(), Fail> {
+    let (result, out) = draw(rt, answer, 72)?;
+    ensure(result == Err(fault), "another outcome")?;
+    ensure(out.is_empty(), "something was written")
+}
+
+const FOURS: &[u8] = b"answer 1
+problem P2|prmp|Cmax
+jobs 3
+machines 2
+value 6
+piece 1 1 0 4
+piece 2 1 4 6
+piece 2 2 0 2
+piece 3 2 2 6
+cert load
+end
+";
+
+const FOURS_DRAWN: &[u8] = b"length 6
+machine 1 |111122|
+machine 2 |223333|
+";
+
+#[test]
+fn a_column_for_each_time_step(rt: HostRuntime) -> Result<(), Fail> {
+    draws(&rt, FOURS, 72, FOURS_DRAWN)?;
+    draws(&rt, FOURS, 6, FOURS_DRAWN)
+}
+
+#[test]
+fn fewer_columns(rt: HostRuntime) -> Result<(), Fail> {
+    let chart = b"length 6
+machine 1 |112|
+machine 2 |233|
+";
+    draws(&rt, FOURS, 3, chart)?;
+    let dealt = b"answer 1
+problem P2||sumC
+jobs 5
+machines 2
+value 22
+piece 1 1 0 1
+piece 3 1 1 4
+piece 5 1 4 9
+piece 2 2 0 2
+piece 4 2 2 6
+cert ranks 5 4 3 2 1
+end
+";
+    draws(
+        &rt,
+        dealt,
+        72,
+        b"length 9\nmachine 1 |133355555|\nmachine 2 |224444...|\n",
+    )?;
+    draws(
+        &rt,
+        dealt,
+        4,
+        b"length 9\nmachine 1 |1355|\nmachine 2 |244.|\n",
+    )
+}
+
+#[test]
+fn idle_time_and_no_time(rt: HostRuntime) -> Result<(), Fail> {
+    let idle = b"answer 1
+problem 1|rj,prmp|Lmax
+jobs 3
+machines 1
+value 1
+piece 1 1 0 1
+piece 2 1 1 3
+piece 1 1 3 6
+piece 3 1 8 9
+cert window 3
+end
+";
+    draws(&rt, idle, 72, b"length 9\nmachine 1 |122111..3|\n")?;
+    let none = b"answer 1
+problem F2||Cmax
+jobs 2
+machines 2
+value 0
+cert split first 0
+end
+";
+    draws(&rt, none, 72, b"length 0\nmachine 1 ||\nmachine 2 ||\n")
+}
+
+#[test]
+fn jobs_by_a_digit_or_a_letter(rt: HostRuntime) -> Result<(), Fail> {
+    let many = b"answer 1
+problem P1||sumC
+jobs 37
+machines 1
+value 0
+piece 9 1 0 1
+piece 10 1 1 2
+piece 35 1 2 3
+piece 36 1 3 4
+piece 37 1 4 5
+cert load
+end
+";
+    draws(&rt, many, 72, b"length 5\nmachine 1 |9az01|\n")
+}
+
+#[test]
+fn machines_that_are_not_shown(rt: HostRuntime) -> Result<(), Fail> {
+    let further = b"answer 1
+problem 1||sumwT
+jobs 1
+machines 1
+value 0
+piece 1 1 0 1
+piece 1 7 0 3
+cert pairs
+end
+";
+    draws(&rt, further, 72, b"length 3\nmachine 1 |1..|\n")
+}
+
+#[test]
+fn a_long_schedule(rt: HostRuntime) -> Result<(), Fail> {
+    let long = b"answer 1
+problem 1||sumC
+jobs 2
+machines 1
+value 0
+piece 1 1 0 2000000000000000000
+piece 2 1 2000000000000000000 4000000000000000000
+cert pairs
+end
+";
+    let chart = b"length 4000000000000000000\nmachine 1 |1122|\n";
+    draws(&rt, long, 4, chart)?;
+    let (result, out) = draw(&rt, long, 1_000)?;
+    ensure(result == Ok(()), "refused")?;
+    ensure(out.len() == 27 + 1_013, "another length")
+}
+
+#[test]
+fn answers_at_fault(rt: HostRuntime) -> Result<(), Fail> {
+    let cut = b"answer 1\nproblem P2|prmp|Cmax\njobs 3\nmachines 2\nvalue 6\n";
+    refuses(&rt, cut, RunFault::Answer(AnswerFault::EndsEarly))?;
+    let empty = b"answer 1
+problem P2|prmp|Cmax
+jobs 3
+machines 2
+value 6
+piece 1 1 2 2
+cert load
+end
+";
+    refuses(&rt, empty, RunFault::Pieces(PieceFault::EmptyPiece(1)))
+}
+
+/// A writer that takes so many bytes and then fails has a prefix of the chart.
+fn is_cut(rt: &HostRuntime, bytes: usize) -> Result<(), Fail> {
+    let mut out = Vec::new(rt.alloc());
+    let mut reader = Counted::new(FOURS);
+    let mut writer = Counted::new(Sink::new(&mut out, 7, bytes, ErrorKind::Other));
+    let result = run_gantt(rt.alloc(), &mut reader, &mut writer, 72);
+    ensure(result == Err(RunFault::Device), "another outcome")?;
+    drop(writer);
+    ensure(
+        out.len() == bytes && FOURS_DRAWN.starts_with(&out),
+        "no prefix of the chart",
+    )
+}
+
+#[test]
+fn a_writer_that_fails(rt: HostRuntime) -> Result<(), Fail> {
+    for bytes in 0..FOURS_DRAWN.len() {
+        is_cut(&rt, bytes)?;
+    }
+    Ok(())
+}
+
+#[test]
+fn a_reader_that_fails(rt: HostRuntime) -> Result<(), Fail> {
+    let mut out = Vec::new(rt.alloc());
+    let mut feed = Feed::new(FOURS).by(10).failing_at(3, ErrorKind::Other);
+    let mut reader = Counted::new(&mut feed);
+    let mut writer = Counted::new(&mut out);
+    let result = run_gantt(rt.alloc(), &mut reader, &mut writer, 72);
+    ensure(result == Err(RunFault::Device), "another outcome")?;
+    drop(writer);
+    ensure(out.is_empty(), "something was written")
+}

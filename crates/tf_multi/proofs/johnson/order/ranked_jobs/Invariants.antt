@@ -1,0 +1,11 @@
+use Rattle.std.proofs.Common.{◌≡◌, map}
+use Rattle.std.specs.List.{All, range_with_len}
+use Rattle.tf_multi.specs.FlowShop.{IsRanked}
+use Rattle.tf_multi.proofs.johnson.order.ranked_jobs.Given as goal
+
+-- the jobs so far, with their ranks
+abbrev pub invariant-loop-k : goal.invariant-loop-k
+invariant-loop-k g l = record {
+  jobs : map (λ r. r.job) l.ranked.items ≡ range_with_len 1 l.k;
+  ranks : All (IsRanked l.task) l.ranked.items;
+}

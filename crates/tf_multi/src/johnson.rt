@@ -1,0 +1,130 @@
+//! Flow shops with two machines.
+ghost use Rattle.std.specs.Prelude.{◌≡◌, ◌+◌, ◌<◌, ◌≤◌, length, take, pos, Ok, IfOk, IsTrue};
+ghost use Rattle.std.specs.List.{All, AllPairs, sum_by};
+ghost use Rattle.std.specs.List.Sorted.{IsPermutation};
+ghost use Rattle.tf_model.specs.ClassTable.{is_flow};
+ghost use Rattle.tf_model.specs.Limit.{limit};
+ghost use Rattle.tf_model.specs.SchedulingTask.{IsJob, all_jobs};
+ghost use Rattle.tf_schedule.specs.Schedule.{IsSchedule};
+ghost use Rattle.tf_check.specs.Accepted.{IsAccepted};
+ghost use Rattle.tf_check.specs.Bound.{split_bound};
+ghost use Rattle.tf_multi.specs.FlowShop.{MayPrecede};
+ghost use Rattle.tf_multi.specs.TwoMachines.{time_at, routed};
+
+mod order;
+mod turning;
+
+use crate::johnson::order::johnson_order;
+use crate::johnson::turning::{Turn, turning_place};
+use crate::two_machines::{machine_of, operation};
+use std::alloc::Allocator;
+use tf_check::answer::Answer;
+use tf_check::certificate::Certificate;
+use tf_check::split::Split;
+use tf_model::ids::JobId;
+use tf_model::job_list::JobList;
+use tf_model::memory::OutOfMemory;
+use tf_model::task::Task;
+use tf_schedule::piece_list::PieceList;
+use tf_schedule::schedule::sort_by_machine;
+use tf_schedule::semi_active::{Operation, semi_active};
+
+/// A shortest timetable of a flow shop with two machines (Johnson 1954).
+///
+/// First come the jobs that take no longer on machine 1 than on machine 2, by rising time on
+/// machine 1, then the others, by falling time on machine 2; jobs that tie come in the order of
+/// their numbers. Both machines run the jobs in this order, each operation as early as possible.
+/// The pieces come by machine and start.
+///
+/// The certificate is a split at the last job whose end on machine 1 comes after the end of all
+/// earlier work on machine 2, the first job if there is none. If that job takes no longer on
+/// machine 1, the side is the jobs before it, and its time on machine 1 is reached there. Otherwise
+/// the side is the jobs up to it and the job, and its time on machine 2 is reached there. The side
+/// is in rising order. Only want of memory is an error.
+pub fn johnson<A: Allocator + Copy, B: Allocator>(
+    alloc: A,
+    task: &Task<B>,
+) -> Result<Answer<A>, OutOfMemory>
+    requires { IsTrue (is_flow task.now.class) }
+    ensures schedule { IfOk result (λ a. IsSchedule a.pieces) }
+    ensures accepted { IfOk result (IsAccepted task.now) }
+{
+    let order = johnson_order(alloc, task)?;
+    let operations = operations_in(alloc, task, &order)?;
+    let mut pieces = semi_active(alloc, task.len(), 2, &operations)?;
+    sort_by_machine(&mut pieces);
+    let turn = turning_place(task, &order);
+    let split = split_at(alloc, task, &order, turn)?;
+    Ok(Answer {
+        pieces: PieceList::new(pieces),
+        value: turn.second as i64,
+        certificate: Certificate::Split(split),
+    })
+}
+
+// The operations of the jobs in this order, each on machine 1 and then on machine 2.
+fn operations_in<A: Allocator, B: Allocator>(
+    alloc: A,
+    task: &Task<B>,
+    order: &[JobId],
+) -> Result<Vec<Operation, A>, OutOfMemory>
+    requires { All (IsJob task.now) order.now }
+    ensures { IfOk result (λ operations.
+        operations.items ≡ routed (time_at task.now) 1 2 order.now) }
+{
+    let mut operations = Vec::with_capacity(alloc, 2 * task.len())?;
+    for job in order {
+        operations.push(operation(task, *job, machine_of(true)))?;
+        operations.push(operation(task, *job, machine_of(false)))?;
+    }
+    Ok(operations)
+}
+
+// The split at the place of a turn, whose bound is when the line of the jobs ends.
+fn split_at<A: Allocator, B: Allocator>(
+    alloc: A,
+    task: &Task<B>,
+    order: &[JobId],
+    turn: Turn,
+) -> Result<Split<A>, OutOfMemory>
+    requires flow { IsTrue (is_flow task.now.class) }
+    requires order { IsPermutation (all_jobs task.now) order.now }
+    requires in_order { AllPairs (MayPrecede (time_at task.now)) order.now }
+    requires place { turn.late < length order.now }
+    requires end { turn.second + sum_by (λ j. time_at task.now j 2) (take turn.late order.now)
+        ≡ sum_by (λ j. time_at task.now j 1) (take (turn.late + 1) order.now)
+        + sum_by (λ j. time_at task.now j 2) order.now }
+    requires small { turn.second ≤ limit }
+    ensures { IfOk result (λ split.
+        split_bound task.now split.side split.delta split.first ≡ Ok (pos turn.second)) }
+{
+    let job = order[turn.late];
+    let first = task.time_on(job, machine_of(true));
+    let second = task.time_on(job, machine_of(false));
+    if first <= second {
+        let side = rising(alloc, &order[..turn.late])?;
+        return Ok(Split {
+            side: JobList::new(side),
+            delta: first as i64,
+            first: true,
+        });
+    }
+    let side = rising(alloc, &order[..turn.late + 1])?;
+    Ok(Split {
+        side: JobList::new(side),
+        delta: second as i64,
+        first: false,
+    })
+}
+
+// The jobs in rising order.
+fn rising<A: Allocator>(alloc: A, jobs: &[JobId]) -> Result<Vec<JobId, A>, OutOfMemory>
+    ensures { IfOk result (λ sorted. IsPermutation jobs.now sorted.items) }
+{
+    let mut sorted = jobs.to_vec(alloc)?;
+    sorted.sort_unstable();
+    Ok(sorted)
+}
+
+#[cfg(test)]
+mod tests;

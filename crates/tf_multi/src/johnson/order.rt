@@ -1,0 +1,79 @@
+//! Johnson's order.
+ghost use Rattle.std.specs.Prelude.{◌≡◌, ◌≤◌, map, IfOk};
+ghost use Rattle.std.specs.List.{All, AllPairs};
+ghost use Rattle.std.specs.List.Sorted.{IsPermutation};
+ghost use Rattle.tf_model.specs.Limit.{limit};
+ghost use Rattle.tf_model.specs.SchedulingTask.{IsJob, all_jobs, time_of};
+ghost use Rattle.tf_multi.specs.FlowShop.{MayPrecede, IsRanked};
+ghost use Rattle.tf_multi.specs.TwoMachines.{time_at};
+
+use std::alloc::Allocator;
+use tf_model::ids::JobId;
+use tf_model::limit::LIMIT;
+use tf_model::memory::OutOfMemory;
+use tf_model::task::Task;
+
+// A job and where it belongs in the order.
+#[derive(Clone, Copy)]
+struct Ranked {
+    rank: u64,
+    job: JobId,
+}
+
+// No rank is above it.
+const LAST_RANK: u64 = 2 * LIMIT as u64;
+
+// First the jobs that take no longer on machine 1, by rising time there, then the others, by
+// falling time on machine 2; jobs that tie in the order of their numbers.
+pub(super) fn johnson_order<A: Allocator + Copy, B: Allocator>(
+    alloc: A,
+    task: &Task<B>,
+) -> Result<Vec<JobId, A>, OutOfMemory>
+    ensures order { IfOk result (λ order. IsPermutation (all_jobs task.now) order.items) }
+    ensures in_order { IfOk result (λ order.
+        AllPairs (MayPrecede (time_at task.now)) order.items) }
+{
+    let mut ranked = ranked_jobs(alloc, task)?;
+    ranked.sort_unstable_by_key(|job| (job.rank, job.job));
+    jobs_of(alloc, &ranked)
+}
+
+fn ranked_jobs<A: Allocator, B: Allocator>(
+    alloc: A,
+    task: &Task<B>,
+) -> Result<Vec<Ranked, A>, OutOfMemory>
+    ensures jobs { IfOk result (λ ranked. map (λ r. r.job) ranked.items ≡ all_jobs task.now) }
+    ensures ranks { IfOk result (λ ranked. All (IsRanked task.now) ranked.items) }
+{
+    let mut ranked = Vec::with_capacity(alloc, task.len())?;
+    for k in 0..task.len() {
+        ranked.push(ranked_job(task, JobId::at(k)))?;
+    }
+    Ok(ranked)
+}
+
+fn ranked_job<B: Allocator>(task: &Task<B>, job: JobId) -> Ranked
+    requires job { IsJob task.now job }
+    requires within { time_of task.now job ≤ limit }
+    ensures job { result.job ≡ job }
+    ensures ranked { IsRanked task.now result }
+{
+    let row = task.job(job);
+    if row.first <= row.second {
+        return Ranked {
+            rank: row.first,
+            job,
+        };
+    }
+    Ranked {
+        rank: LAST_RANK - row.second,
+        job,
+    }
+}
+
+fn jobs_of<A: Allocator>(alloc: A, ranked: &[Ranked]) -> Result<Vec<JobId, A>, OutOfMemory>
+    ensures { IfOk result (λ jobs. jobs.items ≡ map (λ r. r.job) ranked.now) }
+{
+    let jobs: Vec<JobId, A> = ranked.iter().map(|job| job.job).collect(alloc)?;
+    Ok(jobs)
+}

@@ -1,0 +1,42 @@
+-- Orders that are built from the back, the last job first (Lawler 1973).
+use Rattle.std.specs.Prelude.{◌≡◌, ℕ, ◌-◌, ◌<◌, ℤ, slice_index_or, ◌≤ℤ◌, not, true, List, [], ◌∷◌, ◌++◌, length, take, slice_index, filter}
+use Rattle.std.specs.List.{All, Contains, sum_by}
+use Rattle.tf_model.specs.SchedulingTask.{SchedulingTask, IsJob, all_jobs, time_of}
+use Rattle.tf_model.specs.Bounds.{stands_in}
+use Rattle.tf_model.specs.Cost.{price}
+use Rattle.tf_model.proofs.Work.{IsDistinct}
+use Rattle.tf_schedule.specs.declared.semi_active.Operation.{Operation}
+use Rattle.tf_check.specs.Bound.{is_free}
+
+-- the jobs that are left when those of the list are taken, in rising order
+abbrev pub rest_of : SchedulingTask → List ℕ → List ℕ
+rest_of k taken = filter (λ j. not (stands_in taken j)) (all_jobs k)
+
+-- what the job costs if it completes when all work of the list is done
+abbrev pub price_behind : SchedulingTask → List ℕ → ℕ → ℤ
+price_behind k jobs j = price k j (sum_by (time_of k) jobs)
+
+-- the job is one of the list, has no successor in it, and is the cheapest such job for last
+pub record IsLastChoice (k : SchedulingTask) (jobs : List ℕ) (j : ℕ) : Type 0 where
+  pub here : Contains jobs j
+  pub free : is_free k jobs j ≡ true
+  pub cheapest : (i : ℕ) → Contains jobs i → is_free k jobs i ≡ true → price_behind k jobs j ≤ℤ price_behind k jobs i
+
+-- jobs were taken one after another, each the choice for last among those that were left
+pub record AreChosen (k : SchedulingTask) (taken : List ℕ) : Type 0 where
+  pub jobs : All (IsJob k) taken
+  pub distinct : IsDistinct taken
+  pub choice : (i : ℕ) → i < length taken → IsLastChoice k (rest_of k (take i taken)) (slice_index taken i)
+
+-- the operations of jobs that were taken the last first, on machine 1
+abbrev pub operation_of : SchedulingTask → ℕ → Operation
+operation_of k j = record { job = j; machine = 1; time = time_of k j }
+
+abbrev pub backward : SchedulingTask → List ℕ → List Operation
+backward k [] = []
+backward k (j ∷ taken) = backward k taken ++ operation_of k j ∷ []
+
+-- the costs are the task's, job by job
+pub record AreCosts {C : Type 0} (cost_at : C → ℕ → ℤ) (k : SchedulingTask) (costs : List C) : Type 0 where
+  pub len : length costs ≡ length k.jobs
+  pub each : (j c : ℕ) (d : C) → IsJob k j → cost_at (slice_index_or costs (j - 1) d) c ≡ price k j c

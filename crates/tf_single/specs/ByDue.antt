@@ -1,0 +1,32 @@
+-- Free jobs by their due dates.
+use Rattle.std.specs.Prelude.{◌≡◌, ℕ, List, map}
+use Rattle.std.specs.List.{All}
+use Rattle.std.specs.BinaryHeap.{IsHeap}
+use Rattle.std.specs.Ordering.{nat_cmp, int_cmp, ordering_then}
+use Rattle.std.specs.declared.cmp.Ordering.{Ordering}
+use Rattle.tf_model.specs.SchedulingTask.{SchedulingTask, job_data}
+use Rattle.tf_single.specs.declared.by_due.DueJob.{DueJob}
+use Rattle.tf_single.specs.Open.{IsOpen}
+
+-- the jobs of the entries
+abbrev pub jobs_due : List DueJob → List ℕ
+jobs_due entries = map (λ e. e.job) entries
+
+-- the greater is due later, or as late and of greater number
+abbrev pub due_cmp : DueJob → DueJob → Ordering
+due_cmp a b = ordering_then (int_cmp a.due b.due) (nat_cmp a.job b.job)
+
+-- the due date is the job's
+abbrev pub HasDue : SchedulingTask → DueJob → Type 0
+HasDue k e = e.due ≡ (job_data k e.job).due
+
+-- a heap of jobs and their due dates
+pub record AreDue (k : SchedulingTask) (entries : List DueJob) : Type 0 where
+  pub dues : All (HasDue k) entries
+  pub heap : IsHeap due_cmp entries
+
+-- the free jobs are those of the heap
+pub record IsOpenByDue (k : SchedulingTask) (taken pending counts : List ℕ)
+    (free : List DueJob) : Type 0 where
+  pub jobs : IsOpen k taken pending counts (jobs_due free)
+  pub due : AreDue k free

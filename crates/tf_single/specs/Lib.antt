@@ -1,0 +1,12 @@
+pub mod EarliestDue
+pub mod Progress
+pub mod Agenda
+pub mod Ends
+pub mod Sequence
+pub mod Backward
+pub mod Open
+pub mod ByDue
+pub mod LawlerFault
+pub mod ArcsInto
+pub mod Successors
+pub mod Costs

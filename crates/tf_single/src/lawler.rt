@@ -1,0 +1,199 @@
+//! One machine, and the greatest cost of a job: Lawler's rule.
+ghost use Rattle.std.specs.Prelude.{◌≡◌, ℕ, ◌<◌, ◌≤◌, ◌≤ℤ◌, [], drop, length, slice_index};
+ghost use Rattle.std.specs.Prelude.{IfOk, IfErr, IsTrue};
+ghost use Rattle.std.specs.List.{All, sum_by};
+ghost use Rattle.tf_model.specs.ClassTable.{is_due};
+ghost use Rattle.tf_model.specs.Limit.{limit};
+ghost use Rattle.tf_model.specs.SchedulingTask.{IsJob, all_jobs, time_of};
+ghost use Rattle.tf_model.specs.Sound.{IsSound};
+ghost use Rattle.tf_schedule.specs.Schedule.{IsSchedule};
+ghost use Rattle.tf_check.specs.Accepted.{IsAccepted};
+ghost use Rattle.tf_check.specs.Free.{AreMarks};
+ghost use Rattle.tf_check.specs.Kinds.{takes_last_of};
+ghost use Rattle.tf_single.specs.Backward.{AreCosts, AreChosen, backward, rest_of, price_behind};
+ghost use Rattle.tf_single.specs.LawlerFault.{HoldsCycle};
+
+use crate::backward::{cost_of, last_first, total_work};
+use crate::by_due::latest_due_first;
+use crate::costs::late_costs;
+use crate::lawler_fault::LawlerFault;
+use std::alloc::Allocator;
+use tf_check::answer::Answer;
+use tf_check::certificate::Certificate;
+use tf_check::last_of::LastOf;
+use tf_model::cost::Cost;
+use tf_model::ids::{JobId, MachineId};
+use tf_model::job_list::JobList;
+use tf_model::memory::OutOfMemory;
+use tf_model::task::Task;
+use tf_schedule::piece_list::PieceList;
+use tf_schedule::semi_active::{Operation, semi_active};
+
+/// A timetable on one machine whose dearest job costs least, where costs do not fall with time and
+/// arcs are kept (Lawler 1973); or a cycle of arcs.
+///
+/// It is built from the back: of the jobs that are left and have no successor that is left, the one
+/// that is cheapest when the work of all that are left is over goes last, the greater number among
+/// equals. The pieces come in order of time. The certificate is the set of the jobs that were left
+/// at the first of the dearest steps, in rising order. The costs are those of the task, job by job.
+/// Each step walks over the free jobs, which takes a time of the order of the square of their
+/// number: for lateness see [`lawler_by_due`].
+pub fn lawler<A: Allocator + Copy, B: Allocator, C: Cost>(
+    alloc: A,
+    task: &Task<B>,
+    costs: &[C],
+) -> Result<Answer<A>, LawlerFault<A>>
+    requires class { IsTrue (takes_last_of task.now.class) }
+    requires costs { AreCosts C.cost_at task.now costs.now }
+    ensures schedule { IfOk result (λ a. IsSchedule a.pieces) }
+    ensures accepted { IfOk result (IsAccepted task.now) }
+    ensures cycle { IfErr result (HoldsCycle task.now) }
+{
+    let order = last_first(alloc, task, costs)?;
+    Ok(answer_of(alloc, task, costs, &order)?)
+}
+
+/// A timetable on one machine whose latest job is least late, where arcs are kept (Lawler 1973); or
+/// a cycle of arcs.
+///
+/// The same answer as that of [`lawler`] for lateness. When the work of all that are left is over,
+/// the job that is due last is the least late, so the free jobs are kept by their due dates. It
+/// takes a time of the order of n log n, for n jobs and arcs.
+pub fn lawler_by_due<A: Allocator + Copy, B: Allocator>(
+    alloc: A,
+    task: &Task<B>,
+) -> Result<Answer<A>, LawlerFault<A>>
+    requires class { IsTrue (takes_last_of task.now.class) }
+    requires due { IsTrue (is_due task.now.class) }
+    ensures schedule { IfOk result (λ a. IsSchedule a.pieces) }
+    ensures accepted { IfOk result (IsAccepted task.now) }
+    ensures cycle { IfErr result (HoldsCycle task.now) }
+{
+    let costs = late_costs(alloc, task)?;
+    let order = latest_due_first(alloc, task)?;
+    Ok(answer_of(alloc, task, costs.as_slice(), &order)?)
+}
+
+// The timetable of jobs that were chosen the last first, with the set of those that were left at
+// the first of the dearest steps.
+fn answer_of<A: Allocator + Copy, B: Allocator, C: Cost>(
+    alloc: A,
+    task: &Task<B>,
+    costs: &[C],
+    order: &[JobId],
+) -> Result<Answer<A>, OutOfMemory>
+    requires class { IsTrue (takes_last_of task.now.class) }
+    requires costs { AreCosts C.cost_at task.now costs.now }
+    requires sound { IsSound task.now }
+    requires chosen { AreChosen task.now order.now }
+    requires all { rest_of task.now order.now ≡ [] }
+    ensures schedule { IfOk result (λ a. IsSchedule a.pieces) }
+    ensures accepted { IfOk result (IsAccepted task.now) }
+{
+    let operations = operations_of(alloc, task, order)?;
+    let pieces = semi_active(alloc, task.len(), 1, &operations)?;
+    let step = dearest_step(task, costs, order);
+    let jobs = left_jobs(alloc, task, &order[..step.place])?;
+    Ok(Answer {
+        pieces: PieceList::new(pieces),
+        value: step.value,
+        certificate: Certificate::LastOf(LastOf {
+            jobs: JobList::new(jobs),
+        }),
+    })
+}
+
+// The operations of jobs that come the last first.
+fn operations_of<A: Allocator, B: Allocator>(
+    alloc: A,
+    task: &Task<B>,
+    order: &[JobId],
+) -> Result<Vec<Operation, A>, OutOfMemory>
+    requires { All (IsJob task.now) order.now }
+    ensures { IfOk result (λ v. v.items ≡ backward task.now order.now) }
+{
+    let mut operations = Vec::with_capacity(alloc, order.len())?;
+    for k in 0..order.len() {
+        let job = order[order.len() - 1 - k];
+        operations.push(Operation {
+            job,
+            machine: MachineId::new(1).unwrap(),
+            time: task.time(job),
+        })?;
+    }
+    Ok(operations)
+}
+
+// A step at which a job is taken, and what it costs.
+#[derive(Clone, Copy)]
+struct Step {
+    place: usize,
+    value: i64,
+}
+
+// The first of the dearest steps.
+fn dearest_step<B: Allocator, C: Cost>(task: &Task<B>, costs: &[C], order: &[JobId]) -> Step
+    requires costs { AreCosts C.cost_at task.now costs.now }
+    requires some { 0 < length order.now }
+    requires known { All (IsJob task.now) order.now }
+    requires all { sum_by (time_of task.now) order.now
+        ≡ sum_by (time_of task.now) (all_jobs task.now) }
+    requires within { sum_by (time_of task.now) order.now ≤ limit }
+    ensures within { result.place < length order.now }
+    ensures value { result.value
+        ≡ price_behind task.now (drop result.place order.now) (slice_index order.now result.place) }
+    ensures dearest { (n : ℕ) → n < length order.now
+        → price_behind task.now (drop n order.now) (slice_index order.now n) ≤ℤ result.value }
+{
+    let mut work = total_work(task);
+    let mut place = 0;
+    let mut value = cost_of(task, costs, order[0], work);
+    for k in 0..order.len() {
+        let cost = cost_of(task, costs, order[k], work);
+        if value < cost {
+            place = k;
+            value = cost;
+        }
+        work -= task.time(order[k]);
+    }
+    Step { place, value }
+}
+
+// Job by job, whether it was taken.
+fn taken_marks<A: Allocator, B: Allocator>(
+    alloc: A,
+    task: &Task<B>,
+    taken: &[JobId],
+) -> Result<Vec<bool, A>, OutOfMemory>
+    requires { All (IsJob task.now) taken.now }
+    ensures { IfOk result (λ v. AreMarks task.now v.items taken.now) }
+{
+    let mut marks = vec![in alloc; false; task.len()]?;
+    for job in taken {
+        marks[job.get() as usize - 1] = true;
+    }
+    Ok(marks)
+}
+
+// The jobs that are left when these are taken, in rising order.
+#[tactic(auto, using(crate::proofs::Ranges::filter_range_keeps, crate::proofs::Ranges::filter_range_skips))]
+fn left_jobs<A: Allocator + Copy, B: Allocator>(
+    alloc: A,
+    task: &Task<B>,
+    taken: &[JobId],
+) -> Result<Vec<JobId, A>, OutOfMemory>
+    requires { All (IsJob task.now) taken.now }
+    ensures { IfOk result (λ v. v.items ≡ rest_of task.now taken.now) }
+{
+    let marks = taken_marks(alloc, task, taken)?;
+    let mut left = Vec::with_capacity(alloc, task.len())?;
+    for k in 0..task.len() {
+        if !marks[k] {
+            left.push(JobId::at(k))?;
+        }
+    }
+    Ok(left)
+}
+
+#[cfg(test)]
+mod tests;

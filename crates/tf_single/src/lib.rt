@@ -1,0 +1,13 @@
+//! Solvers for one machine.
+#![tactic(auto)]
+
+mod arcs_into;
+mod backward;
+mod by_due;
+pub mod costs;
+mod cycle;
+pub mod edd;
+pub mod lawler;
+pub mod lawler_fault;
+mod timeline;
+pub mod wspt;
