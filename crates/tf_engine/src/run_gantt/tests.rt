@@ -152,6 +152,57 @@ end
     draws(&rt, many, 72, b"length 5\nmachine 1 |9az01|\n")
 }
 
+const ALL_SIGNS: &[u8] = b"answer 1
+problem P1||sumC
+jobs 36
+machines 1
+value 666
+piece 1 1 0 1
+piece 2 1 1 2
+piece 3 1 2 3
+piece 4 1 3 4
+piece 5 1 4 5
+piece 6 1 5 6
+piece 7 1 6 7
+piece 8 1 7 8
+piece 9 1 8 9
+piece 10 1 9 10
+piece 11 1 10 11
+piece 12 1 11 12
+piece 13 1 12 13
+piece 14 1 13 14
+piece 15 1 14 15
+piece 16 1 15 16
+piece 17 1 16 17
+piece 18 1 17 18
+piece 19 1 18 19
+piece 20 1 19 20
+piece 21 1 20 21
+piece 22 1 21 22
+piece 23 1 22 23
+piece 24 1 23 24
+piece 25 1 24 25
+piece 26 1 25 26
+piece 27 1 26 27
+piece 28 1 27 28
+piece 29 1 28 29
+piece 30 1 29 30
+piece 31 1 30 31
+piece 32 1 31 32
+piece 33 1 32 33
+piece 34 1 33 34
+piece 35 1 34 35
+piece 36 1 35 36
+cert ranks 36 35 34 33 32 31 30 29 28 27 26 25 24 23 22 21 20 19 18 17 16 15 14 13 12 11 10 9 8 7 6 5 4 3 2 1
+end
+";
+
+#[test]
+fn each_digit_and_letter(rt: HostRuntime) -> Result<(), Fail> {
+    let chart = b"length 36\nmachine 1 |123456789abcdefghijklmnopqrstuvwxyz0|\n";
+    draws(&rt, ALL_SIGNS, 72, chart)
+}
+
 #[test]
 fn machines_that_are_not_shown(rt: HostRuntime) -> Result<(), Fail> {
     let further = b"answer 1
