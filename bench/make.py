@@ -10,6 +10,7 @@ SIZE = 60_000_000
 JOBS = 2_000
 SIZES = (2_000, 10_000, 100_000)
 MOST_COSTED_JOBS = 2_000
+STEPS = (1, 2)
 
 
 def table(out):
@@ -86,6 +87,14 @@ def pairs(out, jobs, draw):
         out.write(f"job {k} p={draw.randint(0, 97)},{draw.randint(0, 97)}\n")
 
 
+def last(out, step):
+    """As many jobs as there may be, of which each one that is due at 0 is listed by the certificate: each `step`-th."""
+    jobs = max(SIZES)
+    out.write("table 1\n")
+    for k in range(jobs):
+        out.write(f"job {k + 1} p=1 d={0 if k % step == 0 else jobs}\n")
+
+
 TURNS = 22
 
 
@@ -121,6 +130,9 @@ def main(folder):
                 text(out, jobs, random.Random(jobs))
     for jobs in SIZES:
         broken(folder, jobs)
+    for step in STEPS:
+        with open(folder / f"last_{step}.txt", "w", newline="\n") as out:
+            last(out, step)
 
 
 if __name__ == "__main__":

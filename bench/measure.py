@@ -2,7 +2,8 @@
 
 FOLDER holds the tables of make.py, PROGRAM is threefield and PLAIN is plain_solve.rs, compiled. Prints two tables, of
 milliseconds (the best of fifteen runs, or of three where one takes a second) and of megabytes at the most (of one more run,
-by /usr/bin/time). A class that is not solved is left out.
+by /usr/bin/time), then the check of answers of many pieces, and a table on the versions of the answer text. A class that is
+not solved is left out.
 """
 import os
 import pathlib
@@ -10,7 +11,7 @@ import subprocess
 import sys
 import time
 
-from make import SIZES
+from make import SIZES, STEPS
 
 RUNS = 15
 FEWEST_RUNS = 3
@@ -40,17 +41,18 @@ CLASSES = [
 
 
 def once(words, out):
-    """Runs the words: milliseconds and the exit status."""
+    """Runs the words: milliseconds by the clock, those of the processor, and the exit status."""
     into = os.open(out, os.O_WRONLY | os.O_CREAT | os.O_TRUNC)
     errors = os.open(os.devnull, os.O_WRONLY)
     actions = [(os.POSIX_SPAWN_DUP2, into, 1), (os.POSIX_SPAWN_DUP2, errors, 2)]
     start = time.perf_counter()
     child = os.posix_spawn(words[0], words, os.environ, file_actions=actions)
-    _, status = os.waitpid(child, 0)
+    _, status, used = os.wait4(child, 0)
     stop = time.perf_counter()
     os.close(into)
     os.close(errors)
-    return (stop - start) * 1000, os.waitstatus_to_exitcode(status)
+    processor = (used.ru_utime + used.ru_stime) * 1000
+    return (stop - start) * 1000, processor, os.waitstatus_to_exitcode(status)
 
 
 def memory(words):
@@ -64,7 +66,7 @@ def best(words, out, wanted=0):
     """Milliseconds and megabytes, or nothing where a run does not end with the wanted status."""
     least = None
     for run in range(RUNS):
-        taken, status = once(words, out)
+        taken, _, status = once(words, out)
         if status != wanted:
             return None
         least = min(taken, least or taken)
@@ -100,6 +102,30 @@ def broken(program, folder):
     return f"Check of a broken answer of 22 pieces a job, milliseconds: {said}, growth {values[-1] / values[-2]:.1f}"
 
 
+def processor(words, out):
+    """The least milliseconds of the processor, of runs that end well."""
+    runs = [once(words, out) for _ in range(RUNS)]
+    if any(status != 0 for _, _, status in runs):
+        sys.exit(f"no answer: {' '.join(words)}")
+    return min(used for _, used, _ in runs)
+
+
+def versions(program, folder):
+    """A table on answers whose certificates list jobs, all as one range or each second one, in each version."""
+    lines = ["| Jobs listed | Version | Bytes | solve | check | gantt |\n" + "|---" * 6 + "|"]
+    answer, other = folder / "measured.txt", str(folder / "other.txt")
+    options = ["--problem", "1||Lmax"]
+    for step in STEPS:
+        instance = str(folder / f"last_{step}.txt")
+        for version in ("1", "2"):
+            solved = processor([program, "solve", *options, "--answer", version, instance], str(answer))
+            checked = processor([program, "check", *options, instance, str(answer)], other)
+            drawn = processor([program, "gantt", str(answer)], other)
+            times = f"{solved:.1f} | {checked:.1f} | {drawn:.1f}"
+            lines.append(f"| {max(SIZES) // step:,} | {version} | {answer.stat().st_size:,} | {times} |")
+    return "\n".join(lines)
+
+
 def row(problem, results, part, digits):
     """A line of a table: each command at each size, and the growth of the last two."""
     cells = []
@@ -131,6 +157,7 @@ def main(program, plain, folder):
     print("\nPeak memory in MB:\n\n" + head)
     print("\n".join(sizes))
     print("\n" + broken(program, folder))
+    print("\nMilliseconds of the processor:\n\n" + versions(program, folder))
 
 
 if __name__ == "__main__":

@@ -1,8 +1,8 @@
 #!/bin/bash
 # The benchmark, beside plain Rust: bash bench/run.sh
 # First the reading of some 60 MB in each form, and the check of an answer of 300,000 pieces; then solve, check and gantt
-# of each class at 2,000, 10,000 and 100,000 jobs.
-# Needs the program at crates/threefield/out/threefield (the first command of the README makes it), rustc and python3.
+# of each class at 2,000, 10,000 and 100,000 jobs, and of answers of both versions.
+# Needs the program at crates/threefield/out/threefield (rt run in crates/threefield leaves it there), rustc and python3.
 set -eu
 here=$(cd "$(dirname "$0")" && pwd)
 program=$here/../crates/threefield/out/threefield

@@ -10,7 +10,7 @@ use Rattle.tf_model.specs.Timetable.{Timetable, Row, cell, completion}
 use Rattle.tf_model.specs.Feasible.{Fits}
 use Rattle.tf_model.specs.Cost.{cost, cost_by, greatest_price, objective_of, price, Objective, Makespan, Lateness, Dearest, Total}
 use Rattle.tf_schedule.specs.declared.piece.Piece.{Piece}
-use Rattle.tf_schedule.specs.Schedule.{IsSchedule, IsSound}
+use Rattle.tf_schedule.specs.Schedule.{IsSchedule, IsPiece}
 use Rattle.tf_schedule.specs.Cost.{is_known, known_pieces, schedule_cost}
 use Rattle.tf_schedule.specs.Drawing.{Draws, IsGoing, drawing, last_stop, start_of, stop_of}
 use Rattle.tf_schedule.proofs.Counting.{sum_range-same}
@@ -56,7 +56,7 @@ cell_within n rows t i all = ⊎_elim
     (cases_lt t (length rows))
 
 -- a piece of a job from 1 stands in a cell of the timetable, so the task has the job
-piece_known : (k : SchedulingTask) (ps : List Piece) → All IsSound ps → Draws k.machines ps (drawing k.machines ps) → Fits k (drawing k.machines ps) → All (λ p. 0 < p.job → is_known k p ≡ true) ps
+piece_known : (k : SchedulingTask) (ps : List Piece) → All IsPiece ps → Draws k.machines ps (drawing k.machines ps) → Fits k (drawing k.machines ps) → All (λ p. 0 < p.job → is_known k p ≡ true) ps
 piece_known k ps sound draws fits n d h some =
     let p = get_or ps n d in
     let on = draws.on_machines n d h in

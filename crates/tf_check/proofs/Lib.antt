@@ -3,10 +3,11 @@ pub mod Costs
 pub mod Followed
 pub mod JobLists
 pub mod NoFault
-pub mod Judged
+pub mod Verdicts
 pub mod RatioOrder
 pub mod RankedTimes
-pub mod Rows
+pub mod Examples
+pub mod SolutionAccepted
 pub mod LaidAccepted
 pub mod Given
 pub mod Sides

@@ -248,17 +248,24 @@ module _ (k : SchedulingTask) where
 
 -- ---- one job after another
 
-module _ (xs : List WeightedJob) (i s v : ℕ) (x : WeightedJob) (lt : i < length xs)
-    (at : x ≡ get_or xs i x)
-    (value : v + completions_from s (drop i xs) ≡ completions_from 0 xs)
-    (work : s + sum_by (λ y. y.time) (drop i xs) ≡ sum_by (λ y. y.time) xs) where
-  pub work_more : s + x.time + sum_by (λ y. y.time) (drop (i + 1) xs) ≡ sum_by (λ y. y.time) xs
-  work_more = omega (arith, work, sum_by-drop_more (λ y. y.time) xs i x lt, ap (λ y. y.time) at)
+-- the jobs before place i are over at s, and v is their weighted sum of completions
+pub record AreSummed (xs : List WeightedJob) (i s v : ℕ) : Type 0 where
+  pub value : v + completions_from s (drop i xs) ≡ completions_from 0 xs
+  pub work : s + sum_by (λ y. y.time) (drop i xs) ≡ sum_by (λ y. y.time) xs
 
-  pub value_more : v + x.weight * (s + x.time) + completions_from (s + x.time) (drop (i + 1) xs)
-      ≡ completions_from 0 xs
-  value_more =
-      let next : completions_from s (drop i xs) ≡ completions_from s (x ∷ drop (i + 1) xs) =
-      at_drop_more (completions_from s) xs i x lt
-      ∙ ap (λ y. completions_from s (y ∷ drop (i + 1) xs)) (sym at) in
-      omega (arith, value, next)
+pub summed_more : (xs : List WeightedJob) (i s v : ℕ) (x : WeightedJob) → i < length xs
+    → x ≡ get_or xs i x → AreSummed xs i s v
+    → AreSummed xs (i + 1) (s + x.time) (v + x.weight * (s + x.time))
+summed_more xs i s v x lt at summed =
+    let next : completions_from s (drop i xs) ≡ completions_from s (x ∷ drop (i + 1) xs) =
+    at_drop_more (completions_from s) xs i x lt
+    ∙ ap (λ y. completions_from s (y ∷ drop (i + 1) xs)) (sym at) in
+    record {
+      value = omega (arith, summed.value, next);
+      work = omega (
+        arith,
+        summed.work,
+        sum_by-drop_more (λ y. y.time) xs i x lt,
+        ap (λ y. y.time) at,
+      );
+    }

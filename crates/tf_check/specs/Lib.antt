@@ -1,10 +1,12 @@
+-- what a caller has to believe
 pub mod Claim
 pub mod Certificate
 pub mod Ratio
 pub mod Kinds
 pub mod Bound
-pub mod Free
-pub mod Laws
 pub mod Accepted
 pub mod Verdict
+-- within the crate
+pub mod Laws
+pub mod Free
 pub mod Sides

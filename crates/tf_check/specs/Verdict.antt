@@ -8,7 +8,7 @@ use Rattle.tf_model.specs.Feasible.{Fits}
 use Rattle.tf_model.specs.Cost.{cost}
 use Rattle.tf_schedule.specs.declared.piece.Piece.{Piece}
 use Rattle.tf_schedule.specs.declared.fit.Misfit.TheVariants.{OutOfMemory}
-use Rattle.tf_schedule.specs.Schedule.{IsSound, IsSchedule, HasFirstFault}
+use Rattle.tf_schedule.specs.Schedule.{IsPiece, IsSchedule, HasFirstFault}
 use Rattle.tf_schedule.specs.Drawing.{Draws}
 use Rattle.tf_schedule.specs.Misfit.{HasFirstMisfit}
 use Rattle.tf_check.specs.Claim.{AnswerData}
@@ -21,7 +21,7 @@ use Rattle.tf_check.specs.declared.verdict.Verdict.TheVariants.{Accepted, Reject
 
 -- the pieces draw these rows, and the rows fit the task
 pub record DrawsFitting (k : SchedulingTask) (ps : List Piece) (rows : Timetable) : Type 0 where
-  pub pieces : All IsSound ps
+  pub pieces : All IsPiece ps
   pub draws : Draws k.machines ps rows
   pub fits : Fits k rows
 

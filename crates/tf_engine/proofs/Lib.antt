@@ -1,4 +1,5 @@
 pub mod Unread
+pub mod ReadThrough
 pub mod Unchecked
 pub mod Undrawn
 pub mod Readable

@@ -20,7 +20,7 @@ use Rattle.tf_model.proofs.Costs.{term-le-all_jobs}
 use Rattle.tf_model.proofs.Ranks.{sum_by-le-all_jobs}
 use Rattle.tf_model.proofs.Work.{IsDistinct}
 use Rattle.tf_schedule.specs.declared.piece.Piece.{Piece}
-use Rattle.tf_schedule.specs.Schedule.{IsSound as IsSoundPiece}
+use Rattle.tf_schedule.specs.Schedule.{IsPiece}
 use Rattle.tf_schedule.specs.Drawing.{Draws, IsGoing, start_of}
 use Rattle.tf_schedule.proofs.Times.{time_lt}
 use Rattle.tf_check.specs.Claim.{Claim, ByPairs, ByLastOf, ByWindow, BySplit, ByLoad, ByMachine, ByOneJob, ByRanks}
@@ -76,7 +76,7 @@ time_limit : (k : SchedulingTask) (j : ℕ) → IsSound k → IsJob k j → time
 time_limit k j sound is = omega (arith, sound.total, term-le-all_jobs k (time_of k) j is)
 
 -- the pieces that draw a fitting timetable are in their ranges
-pub pieces_readable : (k : SchedulingTask) (ps : List Piece) (rows : Timetable) → IsSound k → All IsSoundPiece ps → Draws k.machines ps rows → Fits k rows → All IsReadablePiece ps
+pub pieces_readable : (k : SchedulingTask) (ps : List Piece) (rows : Timetable) → IsSound k → All IsPiece ps → Draws k.machines ps rows → Fits k rows → All IsReadablePiece ps
 pieces_readable k ps rows sound pieces draws fits n d h =
     let p = get_or ps n d in
     let on = draws.on_machines n d h in

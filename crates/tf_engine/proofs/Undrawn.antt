@@ -6,7 +6,7 @@ use Rattle.std.proofs.KnownBytes.{Keeps-refl}
 use Rattle.std.proofs.lemmas.List.Sorted.{IsPermutation-sym, All-permutation}
 use Rattle.tf_schedule.specs.declared.piece.Piece.{Piece}
 use Rattle.tf_schedule.specs.Piece.{machine_of}
-use Rattle.tf_schedule.specs.Schedule.{IsSound, IsSchedule, NoneTwice}
+use Rattle.tf_schedule.specs.Schedule.{IsPiece, IsSchedule, NoneTwice}
 use Rattle.tf_schedule.proofs.Scan.{claims_permutation}
 use Rattle.tf_text.specs.Counted.{AppendsPrefix}
 use Rattle.tf_text.specs.Input.{IsTextOf}
@@ -43,7 +43,7 @@ chart_of text columns sheet qs says kept schedule =
     record {
       sheet = sheet;
       said = says;
-      sound = All-permutation IsSound qs sheet.answer.pieces back schedule.sound;
+      sound = All-permutation IsPiece qs sheet.answer.pieces back schedule.sound;
       once = once;
       drawn = chart_permutation sheet.answer.pieces qs once kept sheet.machines columns;
     }

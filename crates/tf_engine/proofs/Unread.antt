@@ -12,21 +12,20 @@ use Rattle.tf_read.specs.declared.fault.ReadFault.{ReadFault}
 use Rattle.tf_model.specs.Prepare.{prepared}
 use Rattle.tf_read.specs.declared.fault.ReadFault.TheVariants.{TooLong}
 use Rattle.tf_read.specs.JobTable.{job_table}
-use Rattle.tf_read.specs.WeightedTardiness.{weighted_tardiness}
-use Rattle.tf_read.specs.FlowShop.{flow_shop}
+use Rattle.tf_read.proofs.Wt as wt
+use Rattle.tf_read.proofs.FlowReading as flow
 use Rattle.tf_text.specs.Counted.{AppendsPrefix}
 use Rattle.tf_text.specs.AnswerText.{SheetData, answer_text}
-use Rattle.tf_text.specs.Input.{IsTextOf, is_device}
+use Rattle.tf_text.specs.Input.{IsTextOf}
 use Rattle.tf_text.specs.declared.answer.writing.WriteFault.{WriteFault}
 use Rattle.tf_text.specs.declared.answer.writing.WriteFault.TheVariants as writes
-use Rattle.tf_text.specs.declared.input.InputFault.{InputFault}
-use Rattle.tf_text.specs.declared.input.InputFault.TheVariants as inputs
 use Rattle.tf_engine.specs.declared.fault.RunFault.{RunFault}
 use Rattle.tf_engine.specs.FormData.{FormData, InTable, InWt, InFlow}
 use Rattle.tf_engine.specs.RequestData.{RequestData}
-use Rattle.tf_engine.specs.Faults.{Refused, ByText, ByTask, Stop, Refuses, Fails, Wants, is_of_answer, stop_of, of_input, of_write}
+use Rattle.tf_engine.specs.Faults.{Refused, ByText, ByTask, Stop, Refuses, Fails, Wants, is_of_answer, stop_of, of_write}
 use Rattle.tf_engine.specs.Refusal.{refused_by, problem_for, instance_in, task_in, task_for}
-use Rattle.tf_engine.specs.Runs.{Leaves, StopsBy}
+use Rattle.tf_engine.specs.Parts.{ReadsTo}
+use Rattle.tf_engine.specs.Runs.{Leaves, StopsBy, StopsReading}
 use Rattle.tf_engine.proofs.AcceptedAgain.{answers_of}
 pub use Rattle.tf_engine.proofs.AcceptedAgain.{meant_by}
 use Rattle.tf_engine.specs.Headline.{IsSolved, Answers, IsRefusedRun, IsRunOf}
@@ -51,11 +50,11 @@ pub refused_task : (request : RequestData) (text : List ℕ) (refused : Refused)
 refused_task request text refused h = ap (λ r. r >>= λ problem. task_in request problem text) h
 
 -- a text that is too long is refused as such in every form
-too_long : (form : FormData) (text : List ℕ) → MOST_BYTES < length text → instance_in form text ≡ Err TooLong
-unfolding job_table weighted_tardiness flow_shop
+pub too_long : (form : FormData) (text : List ℕ) → MOST_BYTES < length text → instance_in form text ≡ Err TooLong
+unfolding job_table
 too_long InTable text h = rw (lt-ltb MOST_BYTES (length text) h) refl
-too_long (InWt jobs index) text h = rw (lt-ltb MOST_BYTES (length text) h) refl
-too_long (InFlow name pair) text h = rw (lt-ltb MOST_BYTES (length text) h) refl
+too_long (InWt jobs index) text h = wt.too_long jobs index text h
+too_long (InFlow name pair) text h = flow.too_long name pair text h
 
 -- and so no task is meant
 pub long_task : (request : RequestData) (problem : Problem) (text : List ℕ) → problem_for request.problem ≡ Ok problem → MOST_BYTES < length text → task_for request text ≡ Err (ByText TooLong)
@@ -64,10 +63,10 @@ long_task request problem text ok h =
     ∙ ap (λ r. refused_by ByText r >>= λ instance. refused_by ByTask (prepared instance problem request.machines)) (too_long request.form text h)
 
 -- no refusal for the instance's sake is of the answer text
-pub not_of_answer : (request : RequestData) (problem : Problem) (text : List ℕ) (s : Stop) → StopsBy (λ refused. task_in request problem text ≡ Err refused) s → is_of_answer s ≡ false
-not_of_answer request problem text Fails h = refl
-not_of_answer request problem text Wants h = refl
-not_of_answer request problem text (Refuses refused) h = by_instance (instance_in request.form text) h
+pub not_of_answer : (request : RequestData) (problem : Problem) (text : List ℕ) (R : Type 0) (s : Stop) → StopsReading (λ refused. task_in request problem text ≡ Err refused) R s → is_of_answer s ≡ false
+not_of_answer request problem text R Fails h = refl
+not_of_answer request problem text R Wants h = refl
+not_of_answer request problem text R (Refuses refused) h = by_instance (instance_in request.form text) h
   where
     by_task : (r : Result SchedulingTask Refusal) → refused_by ByTask r ≡ Err refused → is_of_answer (Refuses refused) ≡ false
     by_task (Ok task) e = cc
@@ -83,28 +82,19 @@ pub err_is : {X E : Type 0} (P : Result X E → Type 0) (f : E) (r : Result X E)
 err_is P f (Ok x) h p = absurd h
 err_is P f (Err e) h p = subst (λ e. P (Err e)) (sym h) p
 
--- a part that reads and writes nothing stops another as it stopped
-pub stops_more : (P Q : Refused → Type 0) → ((refused : Refused) → P refused → Q refused) → (s : Stop) → StopsBy P s → StopsBy Q s
-stops_more P Q more (Refuses refused) h = more refused h
-stops_more P Q more Fails h = absurd h
-stops_more P Q more Wants h = tt
-
--- and so it stops the run
+-- a part that reads and writes nothing stops the run as it stopped
 pub part_stops : (Says : List ℕ → Type 0) (P Q : Refused → Type 0) (R W : Type 0) (held : Option (List ℕ)) → ((refused : Refused) → P refused → Q refused)
     → (s : Stop) → StopsBy P s → Leaves Says Q R W held held s
 part_stops Says P Q R W held more (Refuses refused) h = more refused h
 part_stops Says P Q R W held more Fails h = absurd h
 part_stops Says P Q R W held more Wants h = tt
 
--- what a fault of reading says of a text that is all that is known
-pub reader_stops : (A : Type 0) (Says : List ℕ → List ℕ → Type 0) (Q : List ℕ → Refused → Type 0) (R : List ℕ → Type 0) (W : Type 0) (known held : Option (List ℕ)) (f : InputFault)
-    → (f ≡ inputs.TooLong → IfSome known (λ all. MOST_BYTES < length all)) → ((text : List ℕ) → MOST_BYTES < length text → Q text (ByText TooLong))
-    → ((text : List ℕ) → f ≡ inputs.Device → R text)
-    → (text : List ℕ) × IsTextOf known text × Leaves (Says text) (Q text) (R text) W held held (stop_of {A = A} (of_input f))
-reader_stops A Says Q R W known held inputs.TooLong long refused failed =
-    let (text, is, more) = long_text_for known MOST_BYTES (long refl) in (text, is, refused text more)
-reader_stops A Says Q R W known held inputs.OutOfMemory long refused failed = let (text, is) = text_for known in (text, is, tt)
-reader_stops A Says Q R W known held inputs.Device long refused failed = let (text, is) = text_for known in (text, is, inl (failed text refl, Keeps-refl held))
+-- and so does a part that reads alone
+pub reading_stops : (Says : List ℕ → Type 0) (P Q : Refused → Type 0) (F R W : Type 0) (held : Option (List ℕ)) → ((refused : Refused) → P refused → Q refused) → (F → R)
+    → (s : Stop) → StopsReading P F s → Leaves Says Q R W held held s
+reading_stops Says P Q F R W held more failed (Refuses refused) h = more refused h
+reading_stops Says P Q F R W held more failed Fails h = inl (failed h, Keeps-refl held)
+reading_stops Says P Q F R W held more failed Wants h = tt
 
 -- ---- of a solving run
 
@@ -116,12 +106,15 @@ module _ (A : Type 0) (request : RequestData) (known before : Option (List ℕ))
       let (text, is) = text_for known in
       (text, is, subst (Leaves (Answers request text) (IsRefusedRun request text) (reader ≡ true) (writer ≡ true) before before) (sym same) (inl (refused_task request text refused h)))
 
-  -- nor where the text could not be read to its end
-  pub run_unended : (problem : Problem) (f : InputFault) → problem_for request.problem ≡ Ok problem
-      → (f ≡ inputs.TooLong → IfSome known (λ all. MOST_BYTES < length all)) → reader ≡ is_device f → IsRunOf request known reader writer before before (Err (of_input {A = A} f))
-  run_unended problem f ok long failed =
-      reader_stops A (Answers request) (IsRefusedRun request) (λ text. reader ≡ true) (writer ≡ true) known before f long
-      (λ text more. inl (long_task request problem text ok more)) (λ text same. failed ∙ ap is_device same)
+  -- nor where no task was read
+  pub run_untasked : (problem : Problem) (new : Option (List ℕ)) (e : RunFault A) → problem_for request.problem ≡ Ok problem
+      → ReadsTo (task_in request problem) known new reader (Err e) → IsRunOf request known reader writer before before (Err e)
+  run_untasked problem new e ok h = (
+    h.text,
+    h.is_all,
+    reading_stops (Answers request h.text) (λ refused. task_in request problem h.text ≡ Err refused) (IsRefusedRun request h.text) (reader ≡ true) (reader ≡ true) (writer ≡ true) before
+        (λ refused same. inl (meant_by request problem h.text ok ∙ same)) (λ failed. failed) (stop_of e) h.given,
+  )
 
   -- nor where no sheet answers the text
   pub run_unsolved : (text : List ℕ) (e : RunFault A) → IsTextOf known text → StopsBy (IsRefusedRun request text) (stop_of e)

@@ -4,7 +4,7 @@ use Rattle.std.specs.List.{All}
 use Rattle.std.specs.Io.KnownBytes.{Appends}
 use Rattle.tf_schedule.specs.declared.piece.Piece.{Piece}
 use Rattle.tf_schedule.specs.declared.schedule.PieceFault.{PieceFault}
-use Rattle.tf_schedule.specs.Schedule.{IsSound, NoneTwice, HasFirstFault}
+use Rattle.tf_schedule.specs.Schedule.{IsPiece, NoneTwice, HasFirstFault}
 use Rattle.tf_text.specs.Input.{IsTextOf}
 use Rattle.tf_text.specs.AnswerText.{SheetData}
 use Rattle.tf_text.specs.AnswerReading.{answer_in}
@@ -18,7 +18,7 @@ use Rattle.tf_engine.specs.Runs.{Leaves}
 pub record IsChartOf (text : List ℕ) (columns : ℕ) (out : List ℕ) : Type 0 where
   pub sheet : SheetData
   pub said : answer_in text ≡ Ok sheet
-  pub sound : All IsSound sheet.answer.pieces
+  pub sound : All IsPiece sheet.answer.pieces
   pub once : NoneTwice sheet.answer.pieces
   pub drawn : out ≡ chart_text sheet.answer.pieces sheet.machines columns
 

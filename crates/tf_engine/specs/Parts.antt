@@ -1,15 +1,20 @@
 -- What the parts of the runs give.
-use Rattle.std.specs.Prelude.{◌≡◌, ℕ, List, Option, Result, Ok, Err, MatchResult}
+use Rattle.std.specs.Prelude.{◌≡◌, ℕ, ◌+◌, Bool, true, false, List, Option, Result, Ok, Err, MatchResult, OnOk, IfErr}
+use Rattle.std.specs.Io.KnownBytes.{IsAtEnd}
+use Rattle.tf_model.specs.InstanceData.{InstanceData}
+use Rattle.tf_model.specs.declared.limit.TheConstants.{MOST_BYTES}
 use Rattle.tf_model.specs.declared.problem.Problem.{Problem}
-use Rattle.tf_model.specs.SchedulingTask.{SchedulingTask}
+use Rattle.tf_text.specs.Counted.{ConsumesAtMost}
 use Rattle.tf_text.specs.Input.{IsTextOf}
 use Rattle.tf_text.specs.AnswerText.{SheetData}
 use Rattle.tf_text.specs.AnswerReading.{answer_in}
 use Rattle.tf_engine.specs.declared.fault.RunFault.{RunFault}
-use Rattle.tf_engine.specs.Faults.{Refused, ByAnswer, Stop, Refuses, Fails, Wants, stop_of}
+use Rattle.tf_engine.specs.Faults.{Refused, ByText, ByAnswer, Stop, Refuses, Fails, Wants, is_refusal, is_of_whole, stop_of}
+use Rattle.tf_engine.specs.FormData.{FormData}
+use Rattle.tf_engine.specs.Refusal.{refused_by, instance_in}
 use Rattle.tf_engine.specs.RequestData.{RequestData}
 use Rattle.tf_engine.specs.Headline.{IsSolved, IsRefusedRun}
-use Rattle.tf_engine.specs.Runs.{StopsBy}
+use Rattle.tf_engine.specs.Runs.{StopsBy, StopsReading}
 
 -- exactly the problem or the refusal that is wanted
 abbrev pub GivesProblem : {A : Type 0} → Result Problem (RunFault A) → Result Problem Refused → Type 0
@@ -17,9 +22,20 @@ GivesProblem result wanted =
     MatchResult result (λ problem. wanted ≡ Ok problem)
     (λ e. (refused : Refused) × (stop_of e ≡ Refuses refused) × (wanted ≡ Err refused))
 
--- the task or the refusal that is wanted, unless memory ran out
-abbrev pub GivesTask : {A : Type 0} → Result SchedulingTask (RunFault A) → Result SchedulingTask Refused → Type 0
-GivesTask result wanted = MatchResult result (λ task. wanted ≡ Ok task) (λ e. StopsBy (λ refused. wanted ≡ Err refused) (stop_of e))
+-- A part that reads gives what `says` says of the text, which is all bytes of the reader up to its end where they are
+-- known. `old` and `new` are what the reader has left before and after, and `failed` tells whether it remembers a failure.
+pub record ReadsTo {X A : Type 0} (says : List ℕ → Result X Refused) (old new : Option (List ℕ)) (failed : Bool) (result : Result X (RunFault A)) : Type 0 where
+  pub text : List ℕ
+  pub is_all : IsTextOf old text
+  pub given : MatchResult result (λ x. says text ≡ Ok x) (λ e. StopsReading (λ refused. says text ≡ Err refused) (failed ≡ true) (stop_of e))
+  pub unfailed : OnOk result (failed ≡ false)
+  pub unhidden : IfErr result (λ e. is_refusal (stop_of e) ≡ true → failed ≡ false)
+  pub ended : is_of_whole result ≡ true → IsAtEnd new
+  pub pulled : ConsumesAtMost (MOST_BYTES + 1) old new
+
+-- the instance that a text of this form holds, as a part of a run says it
+abbrev pub instance_said : FormData → List ℕ → Result InstanceData Refused
+instance_said form text = refused_by ByText (instance_in form text)
 
 -- a sheet that answers the request and the text, or why there is none
 abbrev pub GivesSheet : {A : Type 0} → RequestData → List ℕ → Result SheetData (RunFault A) → Type 0

@@ -14,8 +14,13 @@ Leaves Says IsRefused reader_failed writer_failed before after Fails =
     ⊎ (writer_failed × ((out : List ℕ) × Says out × AppendsPrefix before after out))
 Leaves Says IsRefused reader_failed writer_failed before after Wants = Unit {0}
 
--- the same of a part of a run that reads and writes nothing
+-- the same of a part of a run that reads and writes nothing, and of one that reads alone
 abbrev pub StopsBy : (Refused → Type 0) → Stop → Type 0
 StopsBy IsRefused (Refuses refused) = IsRefused refused
 StopsBy IsRefused Fails = ⊥
 StopsBy IsRefused Wants = Unit {0}
+
+abbrev pub StopsReading : (Refused → Type 0) → Type 0 → Stop → Type 0
+StopsReading IsRefused reader_failed (Refuses refused) = IsRefused refused
+StopsReading IsRefused reader_failed Fails = reader_failed
+StopsReading IsRefused reader_failed Wants = Unit {0}

@@ -3,7 +3,10 @@
 
 #[cfg(test)]
 mod devices;
+#[cfg(test)]
+mod examples;
 pub mod fault;
+mod instance_read;
 pub mod request;
 pub mod run_check;
 pub mod run_gantt;
@@ -12,6 +15,6 @@ mod sheet_said;
 pub mod solve;
 mod task_for;
 pub mod text;
-mod verdict_line;
 #[cfg(test)]
-mod worked;
+mod trial;
+mod verdict_line;

@@ -9,7 +9,7 @@ ghost use Rattle.tf_engine.specs.Checking.{IsCheckOf, IsFor, IsVerdict};
 use crate::fault::RunFault;
 use crate::request::Request;
 use crate::sheet_said::sheet_said;
-use crate::task_for::{problem_for, task_in};
+use crate::task_for::{problem_for, task_read};
 use crate::verdict_line::verdict_bytes;
 use std::alloc::Allocator;
 use std::io::{Read, Write};
@@ -21,7 +21,6 @@ use tf_model::memory::OutOfMemory;
 use tf_model::task::Task;
 use tf_text::answer::sheet::Sheet;
 use tf_text::counted::Counted;
-use tf_text::input::read_all;
 
 /// The verdict on an answer.
 #[derive(Debug, Drop, PartialEq, Eq)]
@@ -70,8 +69,7 @@ pub fn run_check<A: Allocator + Copy, B: Allocator, R: Read, S: Read, W: Write>(
         (S.remaining (inner_of answer.new)) }
 {
     let problem = problem_for(request.problem.as_str())?;
-    let text = read_all(alloc, instance)?;
-    let task = task_in(alloc, request, &problem, text.as_slice())?;
+    let task = task_read(alloc, request, &problem, instance)?;
     let sheet = sheet_said(alloc, answer)?;
     let checked = verdict_on(alloc, &task, &sheet)?;
     let line = verdict_bytes(alloc, &checked)?;

@@ -1,8 +1,8 @@
 //! Solving from bytes to bytes.
-ghost use Rattle.std.specs.Prelude.{◌≡◌, ◌+◌, true, false, length, Ok, Err, IsOk, OnOk, IfOk, IfErr, IsErrAnd};
+ghost use Rattle.std.specs.Prelude.{◌≡◌, ◌+◌, ℕ, List, true, false, Ok, Err, IsOk, OnOk, IfOk, IfErr, IsErrAnd};
 ghost use Rattle.std.specs.Io.KnownBytes.{IsAtEnd};
 ghost use Rattle.tf_text.specs.Counted.{inner_of, has_failed, ConsumesAtMost};
-ghost use Rattle.tf_engine.specs.Refusal.{problem_for};
+ghost use Rattle.tf_engine.specs.Refusal.{problem_for, task_in};
 ghost use Rattle.tf_engine.specs.Faults.{Refuses, stop_of, is_failure, is_refusal, is_of_whole};
 ghost use Rattle.tf_engine.specs.Headline.{IsRunOf};
 ghost use Rattle.tf_engine.specs.Parts.{GivesSheet};
@@ -10,15 +10,15 @@ ghost use Rattle.tf_engine.specs.Parts.{GivesSheet};
 use crate::fault::RunFault;
 use crate::request::Request;
 use crate::solve::solve;
-use crate::task_for::{problem_for, task_in};
+use crate::task_for::{problem_for, task_read};
 use std::alloc::Allocator;
 use std::io::{Read, Write};
 use tf_model::limit::MOST_BYTES;
 use tf_model::problem::Problem;
+use tf_model::task::Task;
 use tf_text::answer::sheet::Sheet;
 use tf_text::answer::writing::write_answer;
 use tf_text::counted::Counted;
-use tf_text::input::read_all;
 
 /// Reads an instance to its end, solves it, and writes the answer in the request's layout and
 /// nothing else.
@@ -47,24 +47,23 @@ pub fn run_solve<A: Allocator + Copy, B: Allocator, R: Read, W: Write>(
         (R.remaining (inner_of reader.new)) }
 {
     let problem = problem_for(request.problem.as_str())?;
-    let text = read_all(alloc, reader)?;
-    let sheet = sheet_for(alloc, request, &problem, text.as_slice())?;
+    let task = task_read(alloc, request, &problem, reader)?;
+    let sheet = sheet_for(alloc, request, &problem, &task)?;
     write_answer(alloc, writer, &sheet, request.layout)?;
     Ok(())
 }
 
-// The sheet that answers a text.
+// The sheet that answers each text that means this task.
 fn sheet_for<A: Allocator + Copy, B: Allocator>(
     alloc: A,
     request: &Request<B>,
     problem: &Problem,
-    text: &[u8],
+    task: &Task<A>,
 ) -> Result<Sheet<A>, RunFault<A>>
     requires { problem_for request.now.problem ≡ Ok problem.now }
-    ensures { GivesSheet request.now text.now result }
+    ensures { (text : List ℕ) → task_in request.now problem.now text ≡ Ok task.now → GivesSheet request.now text result }
 {
-    let task = task_in(alloc, request, problem, text)?;
-    let answer = solve(alloc, &task)?;
+    let answer = solve(alloc, task)?;
     // A number that is read is known to fit its type, as the text of the sheet asks.
     let _value = answer.value;
     Ok(Sheet {

@@ -1,23 +1,20 @@
-//! From a problem line and an instance text to a task.
+//! From a problem line and a reader of an instance to a task.
 ghost use Rattle.std.specs.Prelude.{◌≡◌};
-ghost use Rattle.tf_read.specs.Faults.{Gives};
-ghost use Rattle.tf_engine.specs.FormData.{form_of};
-ghost use Rattle.tf_engine.specs.Refusal.{problem_for, instance_in, task_in};
-ghost use Rattle.tf_engine.specs.Parts.{GivesProblem, GivesTask};
+ghost use Rattle.tf_text.specs.Counted.{inner_of, has_failed};
+ghost use Rattle.tf_engine.specs.Refusal.{problem_for, task_in};
+ghost use Rattle.tf_engine.specs.Parts.{GivesProblem, ReadsTo};
 
 use crate::fault::RunFault;
-use crate::request::{Form, Request};
+use crate::instance_read::instance_read;
+use crate::request::Request;
 use std::alloc::Allocator;
+use std::io::Read;
 use tf_model::class::class_of;
-use tf_model::instance::Instance;
 use tf_model::prepare::{Refusal, prepare};
 use tf_model::problem::Problem;
 use tf_model::task::Task;
 use tf_notation::reading::read;
-use tf_read::fault::ReadFault;
-use tf_read::flow_shop::read_flowshop;
-use tf_read::job_table::read_table;
-use tf_read::weighted_tardiness::read_wt;
+use tf_text::counted::Counted;
 
 /// The problem of a line, which has a class.
 pub(crate) fn problem_for<A: Allocator>(text: &str) -> Result<Problem, RunFault<A>>
@@ -30,31 +27,17 @@ pub(crate) fn problem_for<A: Allocator>(text: &str) -> Result<Problem, RunFault<
     }
 }
 
-// The instance that a text of this form holds.
-fn instance_in<A: Allocator + Copy, B: Allocator>(
-    alloc: A,
-    form: &Form<B>,
-    text: &[u8],
-) -> Result<Instance<A>, ReadFault>
-    ensures { Gives (λ i. i) result (instance_in (form_of form.now) text.now) }
-{
-    match form {
-        Form::Table => read_table(alloc, text),
-        Form::Wt { jobs, index } => read_wt(alloc, text, *jobs, *index),
-        Form::Flow { name, pair } => read_flowshop(alloc, text, name.as_str().as_bytes(), *pair),
-    }
-}
-
-/// The task of a problem and an instance text.
-pub(crate) fn task_in<A: Allocator + Copy, B: Allocator>(
+/// The task of a problem and the instance that the reader's text holds.
+pub(crate) fn task_read<A: Allocator + Copy, B: Allocator, R: Read>(
     alloc: A,
     request: &Request<B>,
     problem: &Problem,
-    text: &[u8],
+    reader: &mut Counted<R>,
 ) -> Result<Task<A>, RunFault<A>>
-    ensures { GivesTask result (task_in request.now problem.now text.now) }
+    ensures { ReadsTo (task_in request.now problem.now) (R.remaining (inner_of reader.old))
+        (R.remaining (inner_of reader.new)) (has_failed reader.new) result }
 {
-    let instance = instance_in(alloc, &request.form, text)?;
+    let instance = instance_read(alloc, &request.form, reader)?;
     let task = prepare(alloc, &instance, problem, request.machines)?;
     Ok(task)
 }

@@ -16,11 +16,6 @@ pub mod Split
 pub mod SplitBound
 pub mod Cycles
 pub mod Amounts
-pub mod Parts
-pub mod Lines
-pub mod Digits
-pub mod Stream
-pub mod Grows
 pub mod Prepared
 pub mod Totals
 pub mod Rows

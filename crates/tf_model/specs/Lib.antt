@@ -1,10 +1,10 @@
+-- what a caller has to believe
 pub mod Limit
 pub mod Whole
 pub mod Steps
 pub mod JobFields
 pub mod InstanceData
 pub mod StepFaults
-pub mod CostLaws
 pub mod ClassTable
 pub mod Outcome
 pub mod Prepare
@@ -15,6 +15,5 @@ pub mod Cost
 pub mod Sound
 pub mod Bounds
 pub mod Cycle
-pub mod Words
-pub mod Number
-pub mod SoFar
+-- within the crate
+pub mod CostLaws

@@ -1,6 +1,6 @@
 -- Signed numbers that are read, and the times among them.
 use Rattle.std.specs.Prelude.{ℕ, ℤ, pos, ◌≤ℤ◌, ◌+ℤ◌}
-use Rattle.tf_model.specs.declared.limit.TheConstants.{LIMIT}
+use Rattle.tf_words.specs.declared.limit.TheConstants.{LIMIT}
 use borrow.Author.Differences.{up}
 
 -- a signed number as a time: itself, or 0 if it is negative

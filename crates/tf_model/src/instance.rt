@@ -57,6 +57,19 @@ impl<A: Allocator> Instance<A> {
     ghost use Rattle.std.specs.Prelude.{◌≡◌, ◌-◌, ◌<◌, ◌≤◌, length, Some, MatchResult, slice_get};
     ghost use Rattle.tf_model.specs.InstanceData.{InstanceData, IsInstance, instance_fault};
 
+    /// The instance of these jobs and arcs, with this number of machines if one is given, where they are known to be
+    /// one: nothing is judged.
+    pub fn of(jobs: Vec<Job<A>, A>, arcs: Vec<(JobId, JobId), A>, machines: Option<u32>) -> Self
+        requires { IsInstance (record { jobs = jobs.items; arcs = arcs.items; machines = machines }) }
+        ensures { result ≡ record { jobs = jobs.items; arcs = arcs.items; machines = machines } }
+    {
+        Instance {
+            jobs,
+            arcs,
+            machines,
+        }
+    }
+
     /// The instance of these jobs and arcs, with this number of machines if one is given, or the first fault:
     /// each kind over all jobs before the next kind, with the smallest job. It takes no memory.
     pub fn new(

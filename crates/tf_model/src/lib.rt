@@ -9,11 +9,8 @@ pub mod job;
 pub mod job_list;
 pub mod limit;
 pub mod memory;
-pub mod number;
 pub mod prepare;
 pub mod problem;
-pub mod so_far;
 pub mod task;
 #[cfg(test)]
 mod tests;
-pub mod word;

@@ -1,7 +1,6 @@
 //! The limits within which problems are solved.
 
-/// The greatest absolute value of a number that is read, and the greatest horizon and total, in time steps.
-pub const LIMIT: i64 = 4_000_000_000_000_000_000;
+pub use tf_words::limit::LIMIT;
 
 /// The most jobs of an instance.
 pub const MOST_JOBS: usize = 100_000;

@@ -10,7 +10,7 @@ use Rattle.tf_model.specs.ClassTable.{is_flow}
 use Rattle.tf_model.specs.Cost.{cost}
 use Rattle.tf_model.specs.Limit.{limit}
 use Rattle.tf_model.specs.SchedulingTask.{SchedulingTask, all_jobs}
-use Rattle.tf_model.specs.Sound.{IsSound as IsSoundTask}
+use Rattle.tf_model.specs.Sound.{IsSound}
 use Rattle.tf_model.proofs.Classes.{flow_is_shop, shop_by_makespan}
 use Rattle.tf_schedule.specs.declared.piece.Piece.{Piece}
 use Rattle.tf_schedule.specs.declared.semi_active.Operation.{Operation}
@@ -89,7 +89,7 @@ module _ (task : SchedulingTask) (flow : IsTrue (is_flow task.class)) (order : L
 
 -- ---- the answer
 
-module _ (task : SchedulingTask) (sound : IsSoundTask task) (flow : IsTrue (is_flow task.class))
+module _ (task : SchedulingTask) (sound : IsSound task) (flow : IsTrue (is_flow task.class))
     (order : List ℕ)
     (whole : IsPermutation (all_jobs task) order) where
   apart : AllPairs (λ i j. i ≢ j) order

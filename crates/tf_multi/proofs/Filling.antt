@@ -10,11 +10,10 @@ use Rattle.std.proofs.lemmas.Bool.{cases_lt, cases_eq}
 use Rattle.std.proofs.lemmas.Bool.Decides.{nat_tests}
 use Rattle.tf_schedule.specs.declared.piece.Piece.{Piece}
 use Rattle.tf_schedule.specs.Piece.{machine_of, piece_of, is_during, covers, runs, claims, places}
-use Rattle.tf_schedule.specs.Schedule.{ComesBefore, IsSound, IsSchedule, JobsOnce}
-use Rattle.tf_schedule.specs.Drawing.{work, duration, greatest_stop}
+use Rattle.tf_schedule.specs.Schedule.{ComesBefore, IsPiece, IsSchedule, JobsOnce}
+use Rattle.tf_schedule.specs.Drawing.{work, duration}
 use Rattle.tf_schedule.proofs.Scan.{claimed_from_test}
 use Rattle.tf_schedule.proofs.Times.{sound_times, time_le_back}
-use Rattle.tf_schedule.proofs.Drawing.{greatest_stop_push}
 use Rattle.tf_multi.specs.Fill.{IsPlaced, IsFilled}
 use Rattle.tf_model.specs.Limit.{limit}
 
@@ -63,7 +62,7 @@ laid_push v n j i s e from_one to_n some lt le short_enough ps laid = record {
       (λ k d h. let q = laid.placed k d h in record { sound = q.sound; job = q.job; machine = q.machine; stop = q.stop; before = λ same. omega (arith, q.before same) })
       here;
   schedule = record {
-    sound = All-push IsSound ps p laid.schedule.sound here.sound;
+    sound = All-push IsPiece ps p laid.schedule.sound here.sound;
     none_twice = λ h u. once_step (covers h u p) (claims ps h u) _ (claims_push ps p h u) (laid.schedule.none_twice h u) (λ c more.
         let f = claimed_from_test machine_of h u p c in
         let b = laid.before_front h u more in
@@ -184,18 +183,6 @@ module _ (v : ℕ) (times : ℕ → ℕ) (job need : ℕ) (from_one : 0 < job) (
   no_work_yet : work ps job ≡ 0
   no_work_yet = filled.no_later_work job (omega arith)
 
-  reach_le : greatest_stop ps ≤ v
-  reach_le = elim (cases_lt 1 i) [
-    | inl more ↦ omega (arith, filled.reach.0 more)
-    | inr one ↦ omega (arith, filled.reach.1 (omega (arith, filled.front.0)), filled.front.1)
-  ]
-
-  reach_full : t ≡ v → greatest_stop ps ≡ v
-  reach_full full = elim (cases_lt 1 i) [
-    | inl more ↦ filled.reach.0 more
-    | inr one ↦ filled.reach.1 (omega (arith, filled.front.0)) ∙ full
-  ]
-
   -- the job fits on the machine
   pub filled_fits : t + need ≤ v → IsFilled v times job (ps ++ piece_of job i t (t + need) ∷ []) i (t + need)
   filled_fits room =
@@ -213,7 +200,6 @@ module _ (v : ℕ) (times : ℕ → ℕ) (job need : ℕ) (from_one : 0 < job) (
         no_later_work = no_later_work_from qs others_places others_work;
         position = omega (arith, filled.position, total_more);
         front = (filled.front.0, room, λ lt. omega arith);
-        reach = (λ lt. omega (arith, greatest_stop_push ps (piece_of job i t (t + need)), filled.reach.0 lt), λ e. omega (arith, greatest_stop_push ps (piece_of job i t (t + need)), filled.reach.1 e));
       }
 
   -- the machine is full, and the job goes to the next one
@@ -234,7 +220,6 @@ module _ (v : ℕ) (times : ℕ → ℕ) (job need : ℕ) (from_one : 0 < job) (
         no_later_work = no_later_work_from qs others_places others_work;
         position = omega (arith, filled.position, total_more);
         front = (omega arith, short, λ lt. work_there);
-        reach = (λ lt. omega (arith, greatest_stop_push ps (piece_of job (i + 1) 0 need), reach_full full), λ e. absurd (omega arith));
       }
 
   -- the job fills the machine, and its rest starts the next one
@@ -261,7 +246,6 @@ module _ (v : ℕ) (times : ℕ → ℕ) (job need : ℕ) (from_one : 0 < job) (
         no_later_work = no_later_work_from qs others_places others_work;
         position = omega (arith, filled.position, total_more);
         front = (omega arith, omega arith, λ lt. omega arith);
-        reach = (λ lt. omega (arith, greatest_stop_push mid (piece_of job (i + 1) 0 rest), greatest_stop_push ps (piece_of job i t v), reach_le), λ e. absurd (omega arith));
       }
 
 -- before the first job
@@ -276,7 +260,6 @@ filled_start v times = record {
   no_later_work = λ j lt. refl;
   position = omega arith;
   front = (omega arith, omega arith, λ lt. absurd (omega arith));
-  reach = (λ lt. absurd (omega arith), λ e. refl);
 }
 
 -- the machines suffice

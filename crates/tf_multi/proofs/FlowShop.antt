@@ -14,7 +14,7 @@ use Rattle.tf_model.proofs.Classes.{flow_is_shop}
 use Rattle.tf_model.specs.Feasible.{Fits}
 use Rattle.tf_model.specs.SchedulingTask.{SchedulingTask, IsJob, all_jobs, time_on}
 use Rattle.tf_model.specs.ClassTable.{is_shop, is_flow}
-use Rattle.tf_model.specs.Sound.{IsSound as IsSoundTask}
+use Rattle.tf_model.specs.Sound.{IsSound}
 use Rattle.tf_model.proofs.Costs.{All-all_jobs}
 use Rattle.tf_schedule.specs.declared.piece.Piece.{Piece}
 use Rattle.tf_schedule.specs.Piece.{machine_of}
@@ -108,7 +108,7 @@ flow_term i j h p q t one other (inr at) = elim (cases_eq i j) [
   | inr differ ↦ grind (arith, nat_tests)
 ]
 
-module _ (task : SchedulingTask) (sound : IsSoundTask task) (flow : IsTrue (is_flow task.class))
+module _ (task : SchedulingTask) (sound : IsSound task) (flow : IsTrue (is_flow task.class))
     (order : List ℕ) (whole : IsPermutation (all_jobs task) order)
     (apart : AllPairs (λ i j. i ≢ j) order) where
   abbrev os : List Operation

@@ -10,7 +10,7 @@ use Rattle.tf_model.specs.Cost.{cost}
 use Rattle.tf_model.specs.Feasible.{Fits}
 use Rattle.tf_model.specs.SchedulingTask.{SchedulingTask, IsJob, all_jobs, time_of, time_on}
 use Rattle.tf_model.specs.ClassTable.{is_shop, is_flow}
-use Rattle.tf_model.specs.Sound.{IsSound as IsSoundTask}
+use Rattle.tf_model.specs.Sound.{IsSound}
 use Rattle.tf_model.specs.Limit.{limit}
 use Rattle.tf_model.proofs.Classes.{shop_by_makespan}
 use Rattle.tf_schedule.specs.declared.piece.Piece.{Piece}
@@ -78,7 +78,7 @@ either_total : (task : SchedulingTask) (r : ℕ) (e : Bool)
 either_total task r true = refl
 either_total task r false = omega arith
 
-module _ (task : SchedulingTask) (sound : IsSoundTask task) (shop : IsTrue (is_shop task.class))
+module _ (task : SchedulingTask) (sound : IsSound task) (shop : IsTrue (is_shop task.class))
     (any_order : IsFalse (is_flow task.class)) (r : ℕ) (leader : IsLeader task r) where
   two : task.machines ≡ 2
   two = sound.shop shop

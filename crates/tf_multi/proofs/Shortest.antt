@@ -1,25 +1,26 @@
--- Filled machines are a best timetable: it fits, it ends when they are filled, and no timetable that fits is shorter.
-use Rattle.std.proofs.Common.{◌≡◌, ℕ, ◌+◌, ◌*◌, ◌<◌, ◌≤◌, pos, ◌≤ℤ◌, Bool, true, false, Ok, List, [], ◌∷◌, length, get_or, max, refl, sym, ap, subst, ◌∙◌, arith, inl, inr, IsFalse, mul-le-mul_left}
+-- Filled machines draw a timetable that fits and ends by the bound of its certificate.
+use Rattle.std.proofs.Common.{◌≡◌, ℕ, ◌*◌, ◌<◌, ◌≤◌, pos, ◌≤ℤ◌, Bool, true, false, Ok, List, [], ◌∷◌, length, get_or, max, refl, sym, ap, ◌∙◌, arith, IsFalse, mul-le-mul_left}
 use Rattle.std.specs.Int.{div_ceil}
 use Rattle.std.specs.List.{All, sum_by}
-use Rattle.std.proofs.lemmas.Bool.{cases_lt, false≢true}
+use Rattle.std.proofs.lemmas.Bool.{false≢true}
 use Rattle.std.proofs.lemmas.Grind.{div_ceil_times}
 use Rattle.std.proofs.lemmas.Int.{ints}
 use Rattle.tf_model.specs.declared.class.Class.{Class}
 use Rattle.tf_model.specs.declared.class.Class.TheVariants.{ParallelPrmp}
 use Rattle.tf_model.specs.Bounds.{load_value}
-use Rattle.tf_model.specs.Cost.{Makespan, objective_of, cost, IsBest}
+use Rattle.tf_model.specs.Cost.{Makespan, objective_of, cost}
 use Rattle.tf_model.specs.Feasible.{Fits}
+use Rattle.tf_model.specs.Limit.{limit}
 use Rattle.tf_model.specs.SchedulingTask.{SchedulingTask, IsJob, all_jobs, time_of}
 use Rattle.tf_model.specs.ClassTable.{is_shop, is_flow, is_released, is_ordered, may_break}
 use Rattle.tf_model.specs.Sound.{IsSound}
-use Rattle.tf_model.specs.Timetable.{Timetable, cell}
+use Rattle.tf_model.specs.Timetable.{cell}
 use Rattle.tf_model.proofs.Costs.{term-le-all_jobs}
-use Rattle.tf_model.proofs.Loads.{load-le-cost, one_job-le-cost, div_ceil_least}
+use Rattle.tf_model.proofs.Loads.{div_ceil_least}
 use Rattle.tf_schedule.specs.declared.piece.Piece.{Piece}
 use Rattle.tf_schedule.specs.Drawing.{drawing, greatest_stop, Draws, IsOnMachine}
 use Rattle.tf_schedule.proofs.Times.{sound_times}
-use Rattle.tf_schedule.proofs.Drawing.{width-drawing, jobs-drawing, single_place-drawing, all_units-drawing, makespan-drawing}
+use Rattle.tf_schedule.proofs.Drawing.{width-drawing, jobs-drawing, single_place-drawing, all_units-drawing, makespan-drawing, greatest_stop_le}
 use Rattle.tf_schedule.proofs.Makespan.{cost-makespan}
 use Rattle.tf_schedule.proofs.Permuted.{draws_drawing}
 use Rattle.tf_check.specs.Accepted.{IsAccepted}
@@ -27,6 +28,7 @@ use Rattle.tf_check.specs.Bound.{bound_by}
 use Rattle.tf_check.specs.Claim.{Claim, ByLoad, ByOneJob}
 use Rattle.tf_check.specs.Kinds.{takes_load, takes_one_job}
 use Rattle.tf_check.proofs.Given.{load_given, one_job_given}
+use Rattle.tf_check.proofs.SolutionAccepted.{solution_accepted}
 use Rattle.tf_multi.specs.Fill.{IsFilled}
 use Rattle.tf_multi.proofs.Filling.{front_in_range}
 
@@ -90,20 +92,27 @@ module _ (task : SchedulingTask) (sound : IsSound task) (is : task.class ≡ Par
       unbroken = λ whole. absurd (false≢true (sym whole ∙ in_class may_break true refl));
     }
 
-    -- the last piece ends when the first machine does
-    filled_stop : v ≤ total task → greatest_stop ps ≡ v
-    filled_stop le = elim (cases_lt 1 i) [
-      | inl more ↦ filled.reach.0 more
-      | inr one ↦
-          let first : i ≡ 1 = omega (arith, filled.front.0) in
-          let place : 1 * v + t ≡ total task + v = subst (λ n. n * v + t ≡ total task + v) first filled.position in
-          filled.reach.1 first ∙ omega (arith, place, le, filled.front.1)
-    ]
-
-    filled_cost : v ≤ total task → cost task (drawing task.machines ps) ≡ pos v
-    filled_cost le =
+    filled_cost : cost task (drawing task.machines ps) ≤ℤ pos v
+    filled_cost =
+        let priced : cost task (drawing task.machines ps) ≡ pos (greatest_stop ps) =
         cost-makespan task sound by_makespan (drawing task.machines ps)
-        ∙ ap pos (makespan-drawing task.machines (length task.jobs) ps filled.schedule.none_twice on_machines (λ k d h. sound_times (get_or ps k d) (filled.placed k d h).sound) (λ k d h. (filled.placed k d h).job) ∙ filled_stop le)
+        ∙ ap pos (makespan-drawing task.machines (length task.jobs) ps filled.schedule.none_twice on_machines (λ k d h. sound_times (get_or ps k d) (filled.placed k d h).sound) (λ k d h. (filled.placed k d h).job)) in
+        let most : greatest_stop ps ≤ v = greatest_stop_le ps v (λ k d h. (filled.placed k d h).stop) in
+        omega (arith, ints)
+
+    pub filled_accepted : (claim : Claim) → bound_by claim task ≡ Ok (pos v)
+        → IsAccepted task (record { pieces = ps; value = pos v; certificate = claim })
+    filled_accepted claim bounded = solution_accepted task ps (pos v) claim sound
+        (record {
+          rows = drawing task.machines ps;
+          fitting = record {
+            pieces = filled.schedule.sound;
+            draws = filled_draws;
+            fits = filled_fits_task;
+          };
+          most = filled_cost;
+          bounded = bounded;
+        })
 
   -- what the two certificates bound
   pub load_bounds : bound_by ByLoad task ≡ Ok (pos (load_value task))
@@ -117,30 +126,5 @@ module _ (task : SchedulingTask) (sound : IsSound task) (is : task.class ≡ Par
     pub value_room : total task ≤ task.machines * v
     value_room = load_room task v sound (omega arith)
 
-    pub value_limit : v ≤ total task
-    value_limit = omega (arith, load_le_total task sound, time_le_total task j job)
-
-    least_value : (other : Timetable) → Fits task other → pos v ≤ℤ cost task other
-    least_value other fits = elim (cases_lt load time) [
-      | inl longer ↦ omega (arith, ints, one_job-le-cost task other fits.broken by_makespan j job)
-      | inr le ↦ omega (arith, ints, load-le-cost task other sound fits.broken by_makespan no_shop)
-    ]
-
-    pub filled_best : (ps : List Piece) (i t : ℕ) → IsFilled v (time_of task) (length task.jobs) ps i t → IsBest task (drawing task.machines ps) (pos v)
-    filled_best ps i t filled = record {
-      fits = filled_fits_task v ps i t value_room filled;
-      value = filled_cost v ps i t value_room filled value_limit;
-      least = least_value;
-    }
-
-    pub filled_accepted : (claim : Claim) → bound_by claim task ≡ Ok (pos v) → (ps : List Piece) (i t : ℕ) → IsFilled v (time_of task) (length task.jobs) ps i t → IsAccepted task (record { pieces = ps; value = pos v; certificate = claim })
-    filled_accepted claim bounded ps i t filled = record {
-      rows = drawing task.machines ps;
-      pieces = filled.schedule.sound;
-      draws = filled_draws v ps i t value_room filled;
-      fits = filled_fits_task v ps i t value_room filled;
-      value = filled_cost v ps i t value_room filled value_limit;
-      bound = pos v;
-      bounded = bounded;
-      enough = omega (arith, ints);
-    }
+    pub value_within : v ≤ limit
+    value_within = omega (arith, load_le_total task sound, time_le_total task j job, sound.total)

@@ -3,12 +3,12 @@ use Rattle.std.specs.Prelude.{◌≡◌, ℕ, ◌+◌, ◌*◌, ◌<◌, ◌≤�
 use Rattle.std.specs.List.{All, sum_by, range_with_len}
 use Rattle.tf_schedule.specs.declared.piece.Piece.{Piece}
 use Rattle.tf_schedule.specs.Piece.{as_time, claims, places}
-use Rattle.tf_schedule.specs.Schedule.{IsSound, IsSchedule, JobsOnce}
-use Rattle.tf_schedule.specs.Drawing.{work, greatest_stop}
+use Rattle.tf_schedule.specs.Schedule.{IsPiece, IsSchedule, JobsOnce}
+use Rattle.tf_schedule.specs.Drawing.{work}
 
 -- the piece is of one of the jobs 1 to n, ends by v, and lies before time t of machine i
 pub record IsPlaced (v n i t : ℕ) (p : Piece) : Type 0 where
-  pub sound : IsSound p
+  pub sound : IsPiece p
   pub job : (0 < p.job) × (p.job ≤ n)
   pub machine : (0 < p.machine) × (p.machine ≤ i)
   pub stop : as_time p.stop ≤ v
@@ -27,4 +27,3 @@ pub record IsFilled (v : ℕ) (times : ℕ → ℕ) (n : ℕ) (ps : List Piece) 
   -- all that is filled is the time of the n jobs, and a machine is begun only where a job needs it
   pub position : i * v + t ≡ sum_by times (range_with_len 1 n) + v
   pub front : (0 < i) × (t ≤ v) × (1 < i → 0 < t)
-  pub reach : (1 < i → greatest_stop ps ≡ v) × (i ≡ 1 → greatest_stop ps ≡ t)

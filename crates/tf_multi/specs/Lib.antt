@@ -1,6 +1,8 @@
-pub mod Fill
+-- what a caller has to believe
 pub mod Longest
+pub mod Dealt
+-- within the crate
+pub mod Fill
 pub mod TwoMachines
 pub mod OpenShop
 pub mod FlowShop
-pub mod Dealt

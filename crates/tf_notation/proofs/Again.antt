@@ -10,7 +10,7 @@ use Rattle.std.specs.Str.Parse.{AllDigits, digits_value}
 use Rattle.std.proofs.lemmas.Bool.{lt-ltb, le-leb, ne_eqb, and_from, and_parts, and_left, or_left, or_right}
 use Rattle.std.proofs.lemmas.Str.Parse.{digit_from_value}
 use Rattle.std.proofs.lemmas.Fmt.{decimal_is_IsNumeral, first_decimal}
-use Rattle.tf_model.specs.Number.{plain, is_numeral}
+use Rattle.tf_words.specs.Number.{plain, is_numeral}
 use Rattle.tf_model.specs.declared.problem.Env.{Env}
 use Rattle.tf_model.specs.declared.problem.Env.TheVariants.{Single, Parallel, Uniform, Unrelated, Flow, OpenShop, JobShop}
 use Rattle.tf_model.specs.declared.problem.Goal.{Goal}

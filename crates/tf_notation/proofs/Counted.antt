@@ -6,9 +6,9 @@ use Rattle.std.specs.Str.{bytes_eq}
 use Rattle.std.specs.Str.Parse.{digits_value}
 use Rattle.std.proofs.lemmas.Bool.{cases_Bool, and_parts, leb-true, ltb-true, eqb-false, not-true}
 use Rattle.std.proofs.lemmas.Str.Parse.{digits_value-take-le}
-use Rattle.tf_model.specs.Number.{plain, is_numeral}
+use Rattle.tf_words.specs.Number.{plain, is_numeral}
 use Rattle.tf_model.proofs.Outcomes.{bind_ok}
-use Rattle.tf_model.proofs.Digits.{one_more}
+use Rattle.tf_words.proofs.DigitsRead.{one_more}
 use Rattle.tf_model.specs.declared.problem.Env.{Env}
 use Rattle.tf_model.specs.declared.problem.Env.TheVariants.{Single, Parallel, Uniform, Unrelated, Flow, OpenShop, JobShop}
 use Rattle.tf_model.specs.declared.problem.Problem.{Problem}

@@ -1,6 +1,6 @@
 -- The definitions at worked examples.
 use Rattle.std.proofs.Common.{◌≡◌, [], Some, None, Ok, Err, true, false, refl, codes}
-use Rattle.tf_model.specs.Number.{plain}
+use Rattle.tf_words.specs.Number.{plain}
 use Rattle.tf_model.specs.declared.problem.Env.TheVariants.{Single, Parallel}
 use Rattle.tf_model.specs.declared.problem.Goal.TheVariants.{Cmax, Lmax, SumWC}
 use Rattle.tf_notation.specs.Tokens.{tokens_from}

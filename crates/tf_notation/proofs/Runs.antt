@@ -5,7 +5,7 @@ use Rattle.std.proofs.lemmas.Bool.{cases_Bool, not-true, eqb-true, or_cases, fal
 use Rattle.std.proofs.lemmas.List.Sums.{passes_at_first}
 use Rattle.std.proofs.Math.ListN.{drop_of_length-le}
 use Rattle.std.proofs.lemmas.List.{drop-drop}
-use Rattle.tf_model.proofs.Parts.{is_place, no_place}
+use Rattle.tf_words.proofs.Parts.{is_place, no_place}
 use Rattle.tf_notation.specs.Tokens.{tokens_from, is_gap, is_word_byte, lengthen, begins_word}
 
 -- gaps at the front make no token

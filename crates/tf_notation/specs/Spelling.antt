@@ -3,7 +3,7 @@ use Rattle.std.specs.Prelude.{ℕ, Bool, true, false, List, [], ◌∷◌, take,
 use Rattle.std.specs.List.{find}
 use Rattle.std.specs.Option.{option_map, option_and_then}
 use Rattle.std.specs.Str.{bytes_eq}
-use Rattle.tf_model.specs.Number.{plain}
+use Rattle.tf_words.specs.Number.{plain}
 use Rattle.tf_model.specs.declared.limit.TheConstants.{MOST_MACHINES}
 use Rattle.tf_model.specs.declared.problem.Env.{Env}
 use Rattle.tf_model.specs.declared.problem.Env.TheVariants.{Single, Parallel, Uniform, Unrelated, Flow, OpenShop, JobShop}

@@ -7,7 +7,7 @@ ghost use Rattle.tf_notation.specs.Reading.{Gives, expect, bar, conditions_at, l
 use crate::spelling::{Conditions, divider_of, environment_of, goal_of};
 use crate::token::next_token;
 use tf_model::problem::{Env, Goal, Problem};
-use tf_model::word::is;
+use tf_words::word::is;
 use thiserror::Error;
 
 /// A text is no notation.

@@ -3,9 +3,9 @@ ghost use Rattle.std.specs.Prelude.{◌≡◌};
 ghost use Rattle.tf_notation.specs.Spelling.{goals, meaning, conditions, dividers, environments, count_of, environment, adds, with_condition, has, no_conditions};
 
 use tf_model::limit::MOST_MACHINES;
-use tf_model::number::plain_of;
 use tf_model::problem::{Env, Goal};
-use tf_model::word::is;
+use tf_words::number::plain_of;
+use tf_words::word::is;
 
 /// A condition, of which the second field lists some: what is asked of jobs or allowed to them.
 #[derive(Clone, Copy, Debug, PartialEq, Eq)]

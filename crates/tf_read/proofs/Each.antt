@@ -67,3 +67,8 @@ each_done read front k all total same e = sym same ∙ ap (λ xs. with_front fro
 -- the same reading
 pub gives_same : {X Y : Type 0} (view : X → Y) (result : Result X ReadFault) (r s : Result Y ReadFault) → r ≡ s → Gives view result r → Gives view result s
 gives_same view result r s e h = subst (λ x. Gives view result x) e h
+
+-- an outcome that is exactly the wanted one
+pub gives_exactly : {Y : Type 0} (result wanted : Result Y ReadFault) → result ≡ wanted → Gives (λ y. y) result wanted
+gives_exactly (Ok y) wanted h = sym h
+gives_exactly (Err e) wanted h = fault_of e wanted (sym h)

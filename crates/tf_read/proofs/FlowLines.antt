@@ -1,6 +1,6 @@
 -- The heading and the sizes of a flow shop.
 use Rattle.std.proofs.Common.{◌≡◌, ℕ, ◌+◌, Bool, true, false, cond, List, [], ◌∷◌, Option, Some, None, Err, ap, ◌∙◌}
-use Rattle.tf_model.specs.Words.{words, words_from}
+use Rattle.tf_words.specs.Words.{words, words_from}
 use Rattle.tf_read.specs.declared.fault.ReadFault.TheVariants.{EndsEarly, NoInstance}
 use Rattle.tf_read.specs.FlowShop.{sizes_in, at_sizes, sized, from_sizes, is_heading, from_heading}
 

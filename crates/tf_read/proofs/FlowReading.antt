@@ -1,26 +1,37 @@
 -- The reading of a flow shop, byte by byte.
-use Rattle.std.proofs.Common.{◌≡◌, ℕ, ◌+◌, ◌*◌, ◌<◌, ◌≤◌, ◌||◌, Bool, true, false, not, cond, eqb, ltb, List, [], ◌∷◌, ◌++◌, Option, Some, None, Result, Err, refl, sym, ap, subst, ◌∙◌, arith, inl, inr, append_assoc, mul-le-mul_left}
-use Rattle.std.proofs.lemmas.Bool.{cases_Bool, lt-ltb, ne_eqb, false≢true}
+use Rattle.std.proofs.Common.{◌≡◌, ℕ, ◌+◌, ◌*◌, ◌<◌, ◌≤◌, ◌||◌, Bool, true, false, not, cond, eqb, ltb, List, [], ◌∷◌, ◌++◌, length, Option, Some, None, Result, Err, refl, sym, ap, subst, ◌∙◌, arith, inl, inr, append_assoc, mul-le-mul_left}
+use Rattle.std.proofs.lemmas.Bool.{cases_Bool, lt-ltb, le-ltb, ne_eqb, false≢true}
 use Rattle.std.proofs.lemmas.List.{append-nil}
 use Rattle.std.proofs.lemmas.List.Folds.{list_all-append}
-use Rattle.tf_model.specs.Words.{Word, words, lines, words_from}
-use Rattle.tf_model.specs.declared.limit.TheConstants.{MOST_JOBS, MOST_MACHINES}
+use Rattle.tf_words.specs.Words.{Word, words, lines, words_from}
+use Rattle.tf_model.specs.declared.limit.TheConstants.{MOST_BYTES, MOST_JOBS, MOST_MACHINES}
 use Rattle.tf_read.specs.declared.fault.ReadFault.{ReadFault}
-use Rattle.tf_read.specs.declared.fault.ReadFault.TheVariants.{EndsEarly, NoInstance}
+use Rattle.tf_read.specs.declared.fault.ReadFault.TheVariants.{TooLong, EndsEarly, NoInstance}
 use Rattle.tf_read.specs.declared.heading.HeadingLine.{HeadingLine}
 use Rattle.tf_read.specs.declared.sizes.SizesLine.{SizesLine}
 use Rattle.tf_model.specs.Outcome.{◌>>=◌}
 use Rattle.tf_read.specs.Faults.{Fails, each_from}
-use Rattle.tf_read.specs.FlowShop.{second_machine, is_pair, judged, present, pairs_of, sized, sizes_in, from_sizes, is_heading, from_heading}
+use Rattle.tf_read.specs.FlowShop.{is_pair, judged, present, pairs_of, sized, sizes_in, from_sizes, is_heading, from_heading, flow_shop}
 use Rattle.tf_read.specs.PresentLine.{AreOfLine}
 use Rattle.tf_read.specs.Heading.{HeadingShown}
 use Rattle.tf_read.specs.Sizes.{SizesShown, judged_sizes}
-use Rattle.tf_model.specs.declared.so_far.SoFar.{SoFar}
-use Rattle.tf_read.specs.Pairs.{Pairs, HasFed}
-use Rattle.tf_read.specs.FlowReader.{WantsHeading, WantsSizes, ReadsPairs, HasEnded}
+use Rattle.tf_read.specs.declared.word_feed.WordFeed.{WordFeed}
+use Rattle.tf_read.specs.Pairs.{Pairs, Reads}
+use Rattle.tf_read.specs.Said.{Says}
+use Rattle.tf_read.specs.WordFeed.{HasFed}
+use Rattle.tf_read.specs.FlowStage.{WantsHeading, WantsSizes, ReadsPairs, HasEnded}
 use Rattle.tf_read.proofs.FlowLines.{sizes_found, sizes_later, no_sizes, heading_found, heading_later, no_heading}
 use Rattle.tf_read.proofs.Progress.{all_of}
 use Rattle.tf_read.proofs.PresentLine.{line_over, line_last}
+
+-- a text that is too long is refused as such, and any other is read from its first line on
+pub too_long : (name : List ℕ) (pair : Option (ℕ × ℕ)) (text : List ℕ) → MOST_BYTES < length text → flow_shop name pair text ≡ Err TooLong
+unfolding flow_shop
+too_long name pair text long = let e : ltb MOST_BYTES (length text) ≡ true = lt-ltb _ _ long in rw e refl
+
+pub within : (name : List ℕ) (pair : Option (ℕ × ℕ)) (text : List ℕ) → length text ≤ MOST_BYTES → flow_shop name pair text ≡ from_heading name pair 1 (lines text)
+unfolding flow_shop
+within name pair text short = let e : ltb MOST_BYTES (length text) ≡ false = le-ltb _ _ short in rw e refl
 
 -- a byte more of the present line
 of_line : (bytes : List ℕ) (b : ℕ) → AreOfLine bytes → (b ≡ 10 → ⊥) → AreOfLine (bytes ++ b ∷ [])
@@ -117,19 +128,17 @@ no_pairs jobs machines pair some machines_some =
     let wanted : ltb 0 (2 * jobs * machines) ≡ true = lt-ltb _ _ (omega (arith, product)) in
     ap (λ ws. each_from (judged machines) 0 ws >>= λ numbers. present jobs machines pair numbers) (all_of (2 * jobs * machines) [] (omega arith)) ∙ rw wanted refl
 
--- a byte more of the pairs
-pub pairs_byte : (name : List ℕ) (pair : Option (ℕ × ℕ)) (old new : Pairs) (line next b : ℕ) (shown after : SoFar) (fed : List ℕ) → ((first : ℕ) (behind : List ℕ) → HasFed first old line shown behind → HasFed first new next after (behind ++ b ∷ [])) → new.jobs ≡ old.jobs → new.machines ≡ old.machines → new.first ≡ old.first → new.second ≡ old.second → ReadsPairs name pair old line shown fed → ReadsPairs name pair new next after (fed ++ b ∷ [])
-pairs_byte name pair old new line next b shown after fed push jobs machines first second h = (
-  h.0,
-  h.1 ++ b ∷ [],
-  push h.0 h.1 h.2,
-  first ∙ h.3,
-  second ∙ h.4 ∙ ap (λ (m : ℕ). second_machine m pair) (sym machines),
+-- more of the pairs
+pub pairs_more : (name : List ℕ) (pair : Option (ℕ × ℕ)) (old new : WordFeed Pairs) (fed piece : List ℕ) → ((first : ℕ) (says : Says) (behind : List ℕ) → HasFed Reads first says old behind → HasFed Reads first says new (behind ++ piece)) → ReadsPairs name pair old fed → ReadsPairs name pair new (fed ++ piece)
+pairs_more name pair old new fed piece push (first, says, behind, h, same) = (
+  first,
+  says,
+  behind ++ piece,
+  push first says behind h,
   λ more.
-      ap (λ text. from_heading name pair 1 (lines text)) (append_assoc fed (b ∷ []) more)
-      ∙ h.5 (b ∷ more)
-      ∙ ap (λ text. pairs_of old.jobs old.machines pair (words_from h.0 (lines text))) (sym (append_assoc h.1 (b ∷ []) more))
-      ∙ sym (ap (λ (n : ℕ). pairs_of n new.machines pair (words_from h.0 (lines (h.1 ++ b ∷ [] ++ more)))) jobs ∙ ap (λ (m : ℕ). pairs_of old.jobs m pair (words_from h.0 (lines (h.1 ++ b ∷ [] ++ more)))) machines),
+      ap (λ text. from_heading name pair 1 (lines text)) (append_assoc fed piece more)
+      ∙ same (piece ++ more)
+      ∙ ap (λ text. says (words_from first (lines text))) (sym (append_assoc behind piece more)),
 )
 
 -- the outcome at the end of the text
@@ -141,9 +150,9 @@ pub sizes_outcome : (name : List ℕ) (pair : Option (ℕ × ℕ)) (line : ℕ) 
 sizes_outcome name pair line shown fed fault last h =
     ap (λ text. from_heading name pair 1 (lines text)) (sym (append-nil fed)) ∙ h.3 [] ∙ ap (λ text. from_sizes pair line (lines text)) (append-nil h.0) ∙ last h.0 h.1 h.2
 
-pub pairs_outcome : (name : List ℕ) (pair : Option (ℕ × ℕ)) (pairs : Pairs) (line : ℕ) (shown : SoFar) (fed : List ℕ) (h : ReadsPairs name pair pairs line shown fed) → from_heading name pair 1 (lines fed) ≡ pairs_of pairs.jobs pairs.machines pair (words_from h.0 (lines h.1))
-pairs_outcome name pair pairs line shown fed h =
-    ap (λ text. from_heading name pair 1 (lines text)) (sym (append-nil fed)) ∙ h.5 [] ∙ ap (λ text. pairs_of pairs.jobs pairs.machines pair (words_from h.0 (lines text))) (append-nil h.1)
+pub pairs_outcome : (name : List ℕ) (pair : Option (ℕ × ℕ)) (words : WordFeed Pairs) (fed : List ℕ) (h : ReadsPairs name pair words fed) → from_heading name pair 1 (lines fed) ≡ h.1 (words_from h.0 (lines h.2))
+pairs_outcome name pair words fed h =
+    ap (λ text. from_heading name pair 1 (lines text)) (sym (append-nil fed)) ∙ h.4 [] ∙ ap (λ text. h.1 (words_from h.0 (lines text))) (append-nil h.2)
 
 pub ended_outcome : (name : List ℕ) (pair : Option (ℕ × ℕ)) (fault : ReadFault) (fed : List ℕ) → HasEnded name pair fault fed → Fails fault (from_heading name pair 1 (lines fed))
 ended_outcome name pair fault fed h = subst (λ (text : List ℕ). Fails fault (from_heading name pair 1 (lines text))) (append-nil fed) (h [])

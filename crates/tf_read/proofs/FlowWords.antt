@@ -4,15 +4,16 @@ use Rattle.std.proofs.lemmas.Bool.{cases_Bool, leb-true, leb-false, eqb-true}
 use Rattle.std.proofs.lemmas.List.{append-nil}
 use Rattle.std.proofs.lemmas.Nat.{mod-mul-add}
 use Rattle.std.proofs.Math.Nat.{mul-le-mul_right}
-use Rattle.tf_model.specs.Words.{Word}
-use Rattle.tf_model.specs.Number.{number}
-use Rattle.tf_model.specs.declared.number.Number.{Number}
+use Rattle.tf_words.specs.Words.{Word}
+use Rattle.tf_words.specs.Number.{number}
+use Rattle.tf_words.specs.declared.number.Number.{Number}
 use Rattle.tf_read.specs.declared.fault.ReadFault.{ReadFault}
 use Rattle.tf_model.specs.Outcome.{◌>>=◌}
 use Rattle.tf_read.specs.Faults.{each_from, natural}
-use Rattle.tf_read.specs.Scan.{IsOf}
-use Rattle.tf_read.specs.FlowShop.{is_time, machine_at, machine_is, number_at, judged, times_on}
-use Rattle.tf_read.specs.Pairs.{Pairs, count, wanted, Holds, HasRead, after_name, after_time, is_last}
+use Rattle.tf_words.specs.Scan.{IsOf}
+use Rattle.tf_read.specs.FlowShop.{is_time, machine_at, machine_is, number_at, judged, times_on, pairs_of}
+use Rattle.tf_read.specs.Pairs.{Pairs, first, second, count, wanted, Holds, HasRead, after_name, after_time, is_last}
+use Rattle.tf_read.specs.Said.{Says}
 use Rattle.tf_read.proofs.Progress.{stays_fault, stays_with, pushed_with, all_of}
 
 -- the place of the next word
@@ -91,8 +92,8 @@ named_at None p seen word line read (Ok z) f more now within of h g =
       g.0 ++ z ∷ [],
       read_more p seen word g.0 line read false (Ok z) more now within of h g.2 g.1,
       omega (arith, c, length-append g.0 (z ∷ [])),
-      sym (append-nil p.firsts) ∙ sym (times_then false p p.first g.0 z p.firsts t at.1 g.2 g.3),
-      sym (append-nil p.seconds) ∙ sym (times_then false p p.second g.0 z p.seconds t at.1 g.2 g.4),
+      sym (append-nil p.firsts) ∙ sym (times_then false p (first p) g.0 z p.firsts t at.1 g.2 g.3),
+      sym (append-nil p.seconds) ∙ sym (times_then false p (second p) g.0 z p.seconds t at.1 g.2 g.4),
     )
 
 pub named : (p : Pairs) (seen : List Word) (word : Word) (line : ℕ) (read : Number) → (is_some p.fault || leb p.jobs p.job) ≡ false → p.is_named ≡ false → p.machine < p.machines → IsOf word line read → HasRead p seen → HasRead (after_name p (machine_is p.machine line read)) (seen ++ word ∷ [])
@@ -120,14 +121,26 @@ timed_at None p seen word line read (Ok z) f more now within of h g =
       g.0 ++ z ∷ [],
       read_more p seen word g.0 line read true (Ok z) more now within of h g.2 g.1,
       count_next p (length g.0) c ∙ sym (length-append g.0 (z ∷ [])),
-      sym (times_then true p p.first g.0 z p.firsts t at.1 g.2 g.3 ∙ one_behind (eqb p.machine p.first) p.firsts z),
-      sym (times_then true p p.second g.0 z p.seconds t at.1 g.2 g.4 ∙ one_behind (eqb p.machine p.second) p.seconds z),
+      sym (times_then true p (first p) g.0 z p.firsts t at.1 g.2 g.3 ∙ one_behind (eqb p.machine (first p)) p.firsts z),
+      sym (times_then true p (second p) g.0 z p.seconds t at.1 g.2 g.4 ∙ one_behind (eqb p.machine (second p)) p.seconds z),
     )
 
 pub timed : (p : Pairs) (seen : List Word) (word : Word) (line : ℕ) (read : Number) → (is_some p.fault || leb p.jobs p.job) ≡ false → p.is_named ≡ true → p.machine < p.machines → IsOf word line read → HasRead p seen → HasRead (after_time p (natural line read)) (seen ++ word ∷ [])
 timed p seen word line read more now within of g = timed_at p.fault p seen word line read (natural line read) refl more now within of refl g
 
+-- what is wanted stays
+abbrev IsWanted : Pairs → Says → Type 0
+IsWanted p says = (words : List Word) → says words ≡ pairs_of p.jobs p.machines p.pair words
+
+pub wanted_named : (p : Pairs) (says : Says) (r : Result ℤ ReadFault) → IsWanted p says → IsWanted (after_name p r) says
+wanted_named p says (Ok z) h = h
+wanted_named p says (Err e) h = h
+
+pub wanted_timed : (p : Pairs) (says : Says) (r : Result ℤ ReadFault) → IsWanted p says → IsWanted (after_time p r) says
+wanted_timed p says (Ok z) h = h
+wanted_timed p says (Err e) h = h
+
 -- before the first word
-pub none_read : (jobs machines first second : ℕ) → HasRead (record { jobs = jobs; machines = machines; first = first; second = second; job = 0; machine = 0; is_named = false; firsts = []; seconds = []; fault = None }) []
+pub none_read : (jobs machines : ℕ) (pair : Option (ℕ × ℕ)) → HasRead (record { jobs = jobs; machines = machines; pair = pair; job = 0; machine = 0; is_named = false; firsts = []; seconds = []; fault = None }) []
 unfolding each_from
-none_read jobs machines first second = ([], ap (each_from (judged machines) 0) (all_of (2 * jobs * machines) [] (omega arith)), omega arith, refl, refl)
+none_read jobs machines pair = ([], ap (each_from (judged machines) 0) (all_of (2 * jobs * machines) [] (omega arith)), omega arith, refl, refl)

@@ -6,7 +6,7 @@ use Rattle.std.proofs.lemmas.Bool.{cases_Bool, cases_lt, eqb-true, eqb-false}
 use Rattle.std.proofs.lemmas.Slice.Eq.{bytes_eq-Decides}
 use Rattle.std.proofs.lemmas.List.{append-nil, take_all, length-take-le}
 use Rattle.std.proofs.Math.Seq.{get_or-append_seam}
-use Rattle.tf_model.specs.Words.{is_white, words}
+use Rattle.tf_words.specs.Words.{is_white, words}
 use Rattle.tf_read.specs.declared.heading.HeadingWord.{HeadingWord}
 use Rattle.tf_read.specs.declared.heading.HeadingWord.TheVariants.{Instance, Name}
 use Rattle.tf_read.specs.declared.heading.HeadingLine.TheVariants.{Spelled, Whole, Other}

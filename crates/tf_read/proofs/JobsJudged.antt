@@ -1,19 +1,19 @@
 -- The jobs of a table are those of an instance.
 use Rattle.std.proofs.Common.{◌≡◌, ℕ, ◌+◌, ◌≤◌, ℤ, pos, negsuc, ◌≢◌, false, ltb, List, [], ◌∷◌, length, Option, Some, None, Ok, refl, subst, arith}
 use Rattle.std.proofs.lemmas.Bool.{eqb-false, ltb-false, leb-true, and_parts, le-ltb}
-use Rattle.tf_model.specs.Number.{number}
-use Rattle.tf_model.specs.Words.{Line}
+use Rattle.tf_words.specs.Number.{number}
+use Rattle.tf_words.specs.Words.{Line}
 use Rattle.tf_model.specs.JobFields.{JobFields}
 use Rattle.tf_model.specs.InstanceData.{IsInstance, any_time, any_given, is_negative, is_beyond, has_negative, has_beyond, is_no_job, is_bad_arc, count_fault}
 use Rattle.tf_model.specs.declared.job.Times.{Times}
 use Rattle.tf_model.specs.declared.job.Times.TheVariants.{One, Two}
 use Rattle.tf_model.specs.declared.limit.TheConstants.{MOST_JOBS, MOST_MACHINES, MOST_ARCS}
-use Rattle.tf_model.specs.declared.number.Number.{Number}
-use Rattle.tf_model.specs.declared.number.Number.TheVariants.{NotANumber, TooLarge, Value}
+use Rattle.tf_words.specs.declared.number.Number.{Number}
+use Rattle.tf_words.specs.declared.number.Number.TheVariants.{NotANumber, TooLarge, Value}
 use Rattle.tf_model.specs.Outcome.{◌>>=◌}
 use Rattle.tf_read.specs.Faults.{each_from, natural, integer}
 use Rattle.tf_read.specs.JobLine.{SomeFields, no_fields, times_in, times_at, field_in, field_at, complete, fields_at}
-use Rattle.tf_read.specs.WordParts.{divided}
+use Rattle.tf_words.specs.WordParts.{divided}
 use Rattle.tf_read.specs.CostField.{cost_at}
 use Rattle.tf_read.specs.JobTable.{machine_count, machines_at, numbered_job, job_at, arc_job, arc_of, arc_at, arcs_of}
 use Rattle.tf_model.proofs.Outcomes.{bind_ok}
@@ -110,7 +110,7 @@ numbered_ok : (line k : ℕ) (words : List (List ℕ)) (job : JobFields) → num
 numbered_ok line k [] job h = cc
 numbered_ok line k (word ∷ more) job h = fields_ok line no_fields more job none_ok (then_ok _ _ _ _ h).1
 
-job_ok : (k : ℕ) (line : Line) (job : JobFields) → job_at k line ≡ Ok job → (k ≤ MOST_JOBS) × IsJob job
+pub job_ok : (k : ℕ) (line : Line) (job : JobFields) → job_at k line ≡ Ok job → (k ≤ MOST_JOBS) × IsJob job
 unfolding job_at
 job_ok k line job h =
     let e = else_ok _ _ _ _ (else_ok _ _ _ _ h).1 in
@@ -159,7 +159,7 @@ arc_of_ok jobs line (a ∷ b ∷ []) arc h =
     subst (λ (p : ℕ × ℕ). is_bad_arc jobs p ≡ false) (same_ok (Ok (x.0, y.0)) refl y.2) (or_false _ _ (arc_job_ok jobs line (number a) x.0 x.1) (arc_job_ok jobs line (number b) y.0 y.1))
 arc_of_ok jobs line (a ∷ b ∷ c ∷ more) arc h = cc
 
-arc_ok : (jobs k : ℕ) (line : Line) (arc : ℕ × ℕ) → arc_at jobs k line ≡ Ok arc → (k ≤ MOST_ARCS) × (is_bad_arc jobs arc ≡ false)
+pub arc_ok : (jobs k : ℕ) (line : Line) (arc : ℕ × ℕ) → arc_at jobs k line ≡ Ok arc → (k ≤ MOST_ARCS) × (is_bad_arc jobs arc ≡ false)
 unfolding arc_at
 arc_ok jobs k line arc h =
     let e = else_ok _ _ _ _ (else_ok _ _ _ _ h).1 in

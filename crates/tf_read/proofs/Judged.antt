@@ -1,14 +1,16 @@
 -- What was judged number by number is an instance.
-use Rattle.std.proofs.Common.{◌≡◌, ℕ, zero, suc, ◌+◌, ◌<◌, ◌≤◌, ℤ, pos, negsuc, Bool, true, false, cond, ltb, eqb, ◌||◌, List, [], ◌∷◌, length, drop, get_or, None, Result, Ok, Err, refl, sym, ap, subst, ◌∙◌, arith, position, unsigned_abs}
+use Rattle.std.proofs.Common.{◌≡◌, ℕ, ◌+◌, ◌<◌, ◌≤◌, ℤ, pos, negsuc, neg_ℤ, ◌≤ℤ◌, Bool, true, false, cond, ltb, eqb, ◌||◌, List, [], ◌∷◌, length, None, Result, Ok, Err, refl, sym, ap, subst, ◌∙◌, arith, position}
 use Rattle.std.specs.List.{position_or_len}
 use Rattle.std.proofs.lemmas.Bool.{le-ltb, ne_eqb}
-use Rattle.std.specs.Str.Parse.{digits_value}
-use Rattle.tf_model.specs.Number.{number, limit, signed, is_numeral}
-use Rattle.tf_model.specs.declared.number.Number.{Number}
-use Rattle.tf_model.specs.declared.number.Number.TheVariants.{NotANumber, TooLarge, Value}
+use Rattle.std.proofs.lemmas.Int.{ints}
+use Rattle.tf_words.specs.Number.{number, limit}
+use Rattle.tf_words.specs.declared.number.Number.{Number}
+use Rattle.tf_words.specs.Scan.{IsInRange}
+use Rattle.tf_words.specs.declared.number.Number.TheVariants.{NotANumber, TooLarge, Value}
 use Rattle.tf_model.specs.InstanceData.{InstanceData, IsInstance, is_negative, is_beyond, has_negative, has_beyond, is_bad_arc, count_fault}
 use Rattle.tf_model.specs.declared.limit.TheConstants.{MOST_JOBS, MOST_ARCS}
 use Rattle.tf_read.specs.declared.fault.ReadFault.{ReadFault}
+use Rattle.tf_words.proofs.Limited.{number_within}
 use Rattle.tf_model.proofs.Outcomes.{bind_ok}
 use Rattle.tf_model.specs.Outcome.{◌>>=◌}
 use Rattle.tf_read.specs.Faults.{each_from, natural, integer}
@@ -55,27 +57,14 @@ pub or_false : (a b : Bool) → a ≡ false → b ≡ false → (a || b) ≡ fal
 or_false a b e d = rw (e, d) refl
 
 -- a value that is read is within the limit
-size_of : (negative : Bool) (size : ℕ) → unsigned_abs (signed negative size) ≡ size
-size_of true zero = refl
-size_of true (suc n) = refl
-size_of false n = refl
+beyond : (z : ℤ) → neg_ℤ (pos limit) ≤ℤ z → z ≤ℤ pos limit → is_beyond z ≡ false
+beyond z low high = le-ltb _ _ (omega (arith, ints, low, high))
 
-within : (negative above : Bool) (size : ℕ) (z : ℤ) → ltb limit size ≡ above → cond above TooLarge (Value (signed negative size)) ≡ Value z → is_beyond z ≡ false
-within negative true size z t h = cc
-within negative false size z t h =
-    let e : signed negative size ≡ z = cc in
-    ap (λ (n : ℕ). ltb limit n) (ap unsigned_abs (sym e) ∙ size_of negative size) ∙ t
-
-number_of : (numeral negative : Bool) (size : ℕ) (z : ℤ) → cond numeral (cond (ltb limit size) TooLarge (Value (signed negative size))) NotANumber ≡ Value z → is_beyond z ≡ false
-number_of true negative size z h = within negative (ltb limit size) size z refl h
-number_of false negative size z h = cc
+pub in_range : (z : ℤ) → IsInRange (Value z) → is_beyond z ≡ false
+in_range z w = beyond z w.0 w.1
 
 pub value_within : (word : List ℕ) (z : ℤ) → number word ≡ Value z → is_beyond z ≡ false
-unfolding number
-value_within word z h =
-    let negative : Bool = eqb (get_or word 0 0) 45 in
-    let digits : List ℕ = cond negative (drop 1 word) word in
-    number_of (is_numeral digits) negative (digits_value 10 digits) z h
+value_within word z h = let w = number_within word z h in beyond z w.0 w.1
 
 pub integer_within : (line : ℕ) (n : Number) (z : ℤ) → integer line n ≡ Ok z → n ≡ Value z
 integer_within line NotANumber z h = cc

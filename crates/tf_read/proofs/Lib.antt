@@ -1,12 +1,11 @@
 pub mod Each
-pub mod Comma
 pub mod Fields
 pub mod Firsts
+pub mod RoomKept
 pub mod Judged
 pub mod JobsJudged
 pub mod TableRows
 pub mod WtRows
-pub mod Words
 pub mod Progress
 pub mod OneInstance
 pub mod Wt

@@ -1,24 +1,25 @@
 -- The instance of the numbers that were read.
-use Rattle.std.proofs.Common.{◌≡◌, ℕ, zero, suc, ◌+◌, ◌-◌, ◌*◌, ◌%◌, ◌<◌, ◌≤◌, Bool, true, false, cond, leb, ltb, List, [], ◌∷◌, length, map, take, drop, get_or, ℤ, pos, Option, Some, None, Result, Ok, Err, refl, sym, ap, ◌∙◌, arith, inl, inr, position, min, length-drop}
+use Rattle.std.proofs.Common.{◌≡◌, ℕ, zero, suc, ◌+◌, ◌-◌, ◌*◌, ◌%◌, ◌<◌, ◌≤◌, Bool, false, cond, leb, ltb, List, [], ◌∷◌, ◌++◌, length, map, take, drop, ℤ, pos, Option, Some, None, Result, Ok, Err, refl, sym, ap, subst, ◌∙◌, arith, inl, inr, IfOk, position, min, mul-le-mul_left}
 use Rattle.std.specs.List.{range_with_len, position_or_len}
 use Rattle.std.specs.Option.{option_or}
-use Rattle.std.proofs.lemmas.Bool.{cases_Bool, leb-false, ltb-false, lt-leb, le-ltb, lt-ltb}
+use Rattle.std.proofs.lemmas.Bool.{cases_Bool, leb-true, leb-false, ltb-false, lt-leb, le-ltb}
 use Rattle.std.proofs.lemmas.List.{get_or-drop}
 use Rattle.std.proofs.lemmas.List.FromFn.{length-map-range_with_len}
 use Rattle.std.proofs.Math.Nat.{mul-suc, mul-add-mod_self_left, mod-eq_of_lt}
-use Rattle.tf_model.specs.Words.{Word}
-use Rattle.tf_model.specs.Number.{number}
+use Rattle.tf_words.specs.Words.{Word}
+use Rattle.tf_words.specs.declared.number.Number.{Number}
 use Rattle.tf_model.specs.JobFields.{JobFields}
 use Rattle.tf_model.specs.InstanceData.{IsInstance, is_negative, is_beyond, has_negative, has_beyond}
 use Rattle.tf_model.specs.declared.limit.TheConstants.{MOST_JOBS}
 use Rattle.tf_read.specs.declared.fault.ReadFault.{ReadFault}
 use Rattle.tf_read.specs.declared.fault.ReadFault.TheVariants.{NoInstance, EndsEarly}
 use Rattle.tf_model.specs.Outcome.{◌>>=◌}
-use Rattle.tf_read.specs.Faults.{each_from, natural, integer}
-use Rattle.tf_read.specs.WeightedTardiness.{judged, at, job, jobs_of, present, instance_of}
-use Rattle.tf_read.specs.Numbers.{Progress, skipped, wanted, missing, Holds, HasRead}
+use Rattle.tf_read.specs.Faults.{each_from}
+use Rattle.tf_read.specs.WeightedTardiness.{number_at, judged, at, job, jobs_of, present, instance_of}
+use Rattle.tf_read.specs.Numbers.{Progress, skipped, wanted, missing, with_number, Holds, HasRead, AreInRange}
+use Rattle.tf_words.specs.Scan.{IsInRange}
 use Rattle.tf_read.proofs.Progress.{counted}
-use Rattle.tf_read.proofs.Judged.{each_cons, each_none, or_false, value_within, natural_within, integer_within, past_end, judged as is_instance}
+use Rattle.tf_read.proofs.Judged.{in_range, or_false, natural_within, integer_within, past_end, judged as is_instance}
 
 -- how a whole reading goes on
 pub goes_on : (n k : ℕ) (seen : List Word) (r : Result (List ℤ) ReadFault) → each_from (judged n) 0 (take (3 * n * k) seen) ≡ r → instance_of n k seen ≡ (r >>= λ numbers. present n k numbers)
@@ -77,36 +78,57 @@ whole_is p seen h m =
     let own : jobs_of p.jobs (drop (skipped p) w.all) ≡ jobs_of p.jobs p.numbers = ap (jobs_of p.jobs) (sym w.numbers) in
     goes_on p.jobs p.index seen (Ok w.all) w.read ∙ rw (late, long) (ap (λ js. Ok (record { jobs = js; arcs = []; machines = None })) own)
 
--- each number was judged at its place
-each_at : {X Y : Type 0} (read : ℕ → X → Result Y ReadFault) (k : ℕ) (xs : List X) (ys : List Y) (i : ℕ) (d : Y) → each_from read k xs ≡ Ok ys → i < length ys → (x : X) × (read (k + i) x ≡ Ok (get_or ys i d))
-each_at read k [] ys i d h lt = absurd (omega (arith, ap length (each_none read k ys h)))
-each_at read k (x ∷ xs) ys zero d h lt =
-    let r = each_cons read k x xs ys h in
-    let here : k + 0 ≡ k = omega arith in
-    (x, ap (λ (n : ℕ). read n x) here ∙ r.2 ∙ ap (λ zs. Ok (get_or zs 0 d)) r.4)
-each_at read k (x ∷ xs) ys (suc i) d h lt =
-    let r = each_cons read k x xs ys h in
-    let more : i < length r.1 = omega (arith, ap length r.4, lt) in
-    let later = each_at read (k + 1) xs r.1 i d r.3 more in
-    let there : k + suc i ≡ k + 1 + i = omega arith in
-    (later.0, ap (λ (n : ℕ). read n later.0) there ∙ later.1 ∙ ap (λ zs. Ok (get_or zs (suc i) d)) r.4)
-
--- what a number that was judged is
-natural_or : (b : Bool) (line : ℕ) (word : List ℕ) (z : ℤ) → cond b (natural line (number word)) (integer line (number word)) ≡ Ok z → (b ≡ true → is_negative z ≡ false) × (is_beyond z ≡ false)
-natural_or true line word z h = let n = natural_within line (number word) z h in (λ e. n.1, value_within word z n.0)
-natural_or false line word z h = (λ e. cc, value_within word z (integer_within line (number word) z h))
-
-number_ok : (n i : ℕ) (words : List Word) (all : List ℤ) → each_from (judged n) 0 words ≡ Ok all → i < length all → (i % (3 * n) < 2 * n → is_negative (at all i) ≡ false) × (is_beyond (at all i) ≡ false)
-number_ok n i words all h lt =
-    let x = each_at (judged n) 0 words all i (pos 0) h lt in
-    let z : 0 + i ≡ i = omega arith in
-    let here : judged n i x.0 ≡ Ok (at all i) = ap (λ (m : ℕ). judged n m x.0) (sym z) ∙ x.1 in
-    let r = natural_or (ltb (i % (3 * n)) (2 * n)) x.0.line x.0.bytes (at all i) here in
-    (λ l. r.0 (lt-ltb _ _ l), r.1)
-
 -- a place within the instance is that among its own words
 place : (n k j : ℕ) → j < 3 * n → (3 * n * (k - 1) + j) % (3 * n) ≡ j
 place n k j lt = mul-add-mod_self_left (3 * n) (k - 1) j ∙ mod-eq_of_lt lt
+
+-- a number that is read is within the limit, and not negative where a time or a weight stands
+read_number : (n i line : ℕ) (number : Number) (z : ℤ) → IsInRange number → number_at n i line number ≡ Ok z
+    → (is_beyond z ≡ false) × (i % (3 * n) < 2 * n → is_negative z ≡ false)
+read_number n i line number z range h = elim (cases_Bool (ltb (i % (3 * n)) (2 * n))) [
+  | inl early ↦
+      let r = natural_within line number z (rw early at h) in
+      (in_range z (subst IsInRange r.0 range), λ lt. r.1)
+  | inr late ↦
+      let e = integer_within line number z (rw late at h) in
+      (in_range z (subst IsInRange e range), λ lt. absurd (omega (arith, ltb-false _ _ late, lt)))
+]
+
+-- numbers with one more
+none_there : (n : ℕ) → AreInRange n []
+none_there n = record { at_most = λ i. refl; natural = λ i lt. refl }
+
+pub no_numbers : (n : ℕ) (numbers : List ℤ) → numbers ≡ [] → AreInRange n numbers
+no_numbers n numbers none = subst (AreInRange n) (sym none) (none_there n)
+
+at_end : (P : ℤ → Type 0) (numbers : List ℤ) (z : ℤ) (i : ℕ) → (i < length numbers → P (at numbers i)) → (i ≡ length numbers → P z) → P (pos 0) → P (at (numbers ++ z ∷ []) i)
+at_end P [] z zero before here after = here refl
+at_end P [] z (suc i) before here after = after
+at_end P (y ∷ ys) z zero before here after = before (omega arith)
+at_end P (y ∷ ys) z (suc i) before here after = at_end P ys z i (λ lt. before (omega arith)) (λ e. here (ap suc e)) after
+
+numbers_more : (n : ℕ) (numbers : List ℤ) (z : ℤ) → AreInRange n numbers → is_beyond z ≡ false → (length numbers < 2 * n → is_negative z ≡ false) → AreInRange n (numbers ++ z ∷ [])
+numbers_more n numbers z all beyond negative = record {
+  at_most = λ i. at_end (λ y. is_beyond y ≡ false) numbers z i (λ lt. all.at_most i) (λ e. beyond) refl;
+  natural = λ i lt. at_end (λ y. is_negative y ≡ false) numbers z i (λ in'. all.natural i lt) (λ e. negative (omega (arith, e))) refl;
+}
+
+kept_at : (p : Progress) (line : ℕ) (number : Number) (z : ℤ) → IsInRange number → p.count < wanted p → wanted p ≡ skipped p + 3 * p.jobs → length p.numbers ≡ p.count - skipped p
+    → AreInRange p.jobs p.numbers → number_at p.jobs p.count line number ≡ Ok z → AreInRange p.jobs (with_number p z).numbers
+kept_at p line number z range more own tally all h = elim (cases_Bool (leb (skipped p) p.count)) [
+  | inl own' ↦
+      let le : skipped p ≤ p.count = leb-true _ _ own' in
+      let r = read_number p.jobs p.count line number z range h in
+      let there : (skipped p + length p.numbers) % (3 * p.jobs) ≡ length p.numbers = place p.jobs p.index (length p.numbers) (omega (arith, tally, more, own, le)) in
+      let count : p.count ≡ skipped p + length p.numbers = omega (arith, tally, le) in
+      rw own' (numbers_more p.jobs p.numbers z all r.0 (λ lt. r.1 (omega (arith, ap (λ (c : ℕ). c % (3 * p.jobs)) count, there, lt))))
+  | inr before ↦ rw before all
+]
+
+pub number_kept : (p : Progress) (line : ℕ) (number : Number) (r : Result ℤ ReadFault) → IsInRange number → p.count < wanted p → wanted p ≡ skipped p + 3 * p.jobs → length p.numbers ≡ p.count - skipped p
+    → AreInRange p.jobs p.numbers → number_at p.jobs p.count line number ≡ r → IfOk r (λ z. AreInRange p.jobs (with_number p z).numbers)
+number_kept p line number (Ok z) range more own tally all h = kept_at p line number z range more own tally all h
+number_kept p line number (Err e) range more own tally all h = tt
 
 -- no job that is made from a range passes
 none_made : (test : JobFields → Bool) (f : ℕ → JobFields) (a n : ℕ) → ((j : ℕ) → j < a + n → test (f j) ≡ false) → position_or_len test (map f (range_with_len a n)) ≡ length (map f (range_with_len a n))
@@ -128,47 +150,49 @@ whole_count p seen h m =
     let e : wanted p ≤ length w.all = w.ended in
     omega arith
 
+-- the words up to an instance's last
+pub all_before : (n k : ℕ) → 0 < k → 3 * n * (k - 1) + 3 * n ≡ 3 * n * k
+all_before n zero lt = absurd (omega arith)
+all_before n (suc k) lt = let e : suc k - 1 ≡ k = omega arith in rw e (sym (mul-suc (3 * n) k))
+
+pub all_near : (n k : ℕ) → n ≤ MOST_JOBS → 0 < k → k < 4294967296 → 3 * n * (k - 1) + 3 * n < 4611686018427387904
+all_near n k few some near =
+    let whole : 3 * n * k ≤ 3 * n * 4294967296 = mul-le-mul_left (3 * n) (let le : k ≤ 4294967296 = omega arith in le) in
+    omega (arith, all_before n k some, whole)
+
 block : (n k : ℕ) → 3 * n * (k - 1) < 3 * n * k → 3 * n * k ≡ 3 * n * (k - 1) + 3 * n
 block n zero lt = absurd (omega arith)
 block n (suc k) lt = let e : suc k - 1 ≡ k = omega arith in rw e (mul-suc (3 * n) k)
 
-own_ok : (p : Progress) (seen : List Word) (w : IsWhole p seen) (i : ℕ) → i < 3 * p.jobs → (i < 2 * p.jobs → is_negative (at p.numbers i) ≡ false) × (is_beyond (at p.numbers i) ≡ false)
-own_ok p seen w i lt =
-    let whole : wanted p ≡ skipped p + 3 * p.jobs = block p.jobs p.index (omega (arith, w.begun, w.ended, length_all p seen w)) in
-    let inside : skipped p + i < length w.all = omega (arith, w.ended) in
-    let n = number_ok p.jobs (skipped p + i) (take (wanted p) seen) w.all w.read inside in
-    let here : at p.numbers i ≡ at w.all (skipped p + i) = ap (λ ns. at ns i) w.numbers ∙ at_own w.all (skipped p) i in
-    let at_place : (skipped p + i) % (3 * p.jobs) ≡ i = place p.jobs p.index i lt in
-    (λ l. ap is_negative here ∙ n.0 (omega (arith, at_place)), ap is_beyond here ∙ n.1)
+job_ok : (n : ℕ) (numbers : List ℤ) → AreInRange n numbers → (j : ℕ) → j < n → (has_negative (job n numbers j) ≡ false) × (has_beyond (job n numbers j) ≡ false)
+job_ok n numbers all j lt = (
+  or_false _ _ (or_false _ _ (all.natural j (omega arith)) (all.natural (n + j) (omega arith))) refl,
+  or_false _ _ (or_false _ _ (or_false _ _ (all.at_most j) (all.at_most (n + j))) (all.at_most (2 * n + j))) refl,
+)
 
-job_ok : (p : Progress) (seen : List Word) → IsWhole p seen → (j : ℕ) → j < p.jobs → (has_negative (job p.jobs p.numbers j) ≡ false) × (has_beyond (job p.jobs p.numbers j) ≡ false)
-job_ok p seen w j lt =
-    let time = own_ok p seen w j (omega arith) in
-    let weight = own_ok p seen w (p.jobs + j) (omega arith) in
-    let due = own_ok p seen w (2 * p.jobs + j) (omega arith) in (
-      or_false _ _ (or_false _ _ (time.0 (omega arith)) (weight.0 (omega arith))) refl,
-      or_false _ _ (or_false _ _ (or_false _ _ time.1 weight.1) due.1) refl,
-    )
-
-pub whole_judged : (p : Progress) (seen : List Word) → HasRead p seen → missing p ≡ None → 0 < p.jobs → p.jobs ≤ MOST_JOBS → IsInstance (record { jobs = jobs_of p.jobs p.numbers; arcs = []; machines = None })
-whole_judged p seen h m some few =
-    let w = whole_at p.fault p seen h m in
-    let count : length (jobs_of p.jobs p.numbers) ≡ p.jobs = length-map-range_with_len (job p.jobs p.numbers) 0 p.jobs in
-    is_instance (record { jobs = jobs_of p.jobs p.numbers; arcs = []; machines = None }) (record {
+pub whole_judged : (n : ℕ) (numbers : List ℤ) → 0 < n → n ≤ MOST_JOBS → AreInRange n numbers → IsInstance (record { jobs = jobs_of n numbers; arcs = []; machines = None })
+whole_judged n numbers some few all =
+    let count : length (jobs_of n numbers) ≡ n = length-map-range_with_len (job n numbers) 0 n in
+    is_instance (record { jobs = jobs_of n numbers; arcs = []; machines = None }) (record {
       some = omega (arith, count);
       few = omega (arith, count);
       machines = refl;
       arcs = omega arith;
-      negative = none_at has_negative (job p.jobs p.numbers) p.jobs (λ j lt. (job_ok p seen w j lt).0);
-      beyond = none_at has_beyond (job p.jobs p.numbers) p.jobs (λ j lt. (job_ok p seen w j lt).1);
+      negative = none_at has_negative (job n numbers) n (λ j lt. (job_ok n numbers all j lt).0);
+      beyond = none_at has_beyond (job n numbers) n (λ j lt. (job_ok n numbers all j lt).1);
       bad_arc = refl;
     })
 
--- the numbers of the instance are all there
-pub whole_length : (p : Progress) (seen : List Word) → HasRead p seen → missing p ≡ None → length p.numbers ≡ 3 * p.jobs
-whole_length p seen h m =
-    let w = whole_at p.fault p seen h m in
-    let few : length w.all ≤ wanted p = length_all p seen w in
-    let whole : wanted p ≡ skipped p + 3 * p.jobs = block p.jobs p.index (omega (arith, w.begun, w.ended, few)) in
-    let own : length p.numbers ≡ length w.all - skipped p = ap length w.numbers ∙ length-drop (skipped p) w.all in
-    omega (arith, own, whole, few, w.ended)
+-- nothing is missing
+none_missing : (fault : Option ReadFault) (p : Progress) → option_or fault (cond (leb p.count (skipped p)) (Some NoInstance) (cond (ltb p.count (wanted p)) (Some EndsEarly) None)) ≡ None → wanted p ≤ p.count
+none_missing (Some d) p m = absurd (let f : ⊥ = cc in f)
+none_missing None p m = elim (cases_Bool (leb p.count (skipped p))) [
+  | inl early ↦ absurd (let d : Some NoInstance ≡ None = rw early at m in let f : ⊥ = cc in f)
+  | inr late ↦ elim (cases_Bool (ltb p.count (wanted p))) [
+    | inl cut ↦ absurd (let d : Some EndsEarly ≡ None = rw (late, cut) at m in let f : ⊥ = cc in f)
+    | inr whole ↦ ltb-false _ _ whole
+  ]
+]
+
+pub all_read : (p : Progress) → missing p ≡ None → wanted p ≤ p.count
+all_read p m = none_missing p.fault p m

@@ -4,8 +4,8 @@ use Rattle.std.specs.List.{onto_first}
 use Rattle.std.proofs.lemmas.Bool.{cases_Bool, and_parts, not-true}
 use Rattle.std.proofs.lemmas.List.{append-nil}
 use Rattle.std.proofs.lemmas.List.Folds.{list_all-append}
-use Rattle.tf_model.specs.Words.{is_white, words, lines}
-use Rattle.tf_model.proofs.Stream.{IsWordBytes, words_white, word_alone, word_before}
+use Rattle.tf_words.specs.Words.{is_white, words, lines}
+use Rattle.tf_words.proofs.Stream.{IsWordBytes, words_white, word_alone, word_before}
 use Rattle.tf_read.specs.PresentLine.{AreOfLine, IsInLine}
 
 word_with : (word : List ℕ) (b : ℕ) → IsWordBytes word → is_white b ≡ false → IsWordBytes (word ++ b ∷ [])

@@ -3,13 +3,13 @@ use Rattle.std.proofs.Common.{◌≡◌, ℕ, suc, ◌+◌, ◌*◌, ◌<◌, �
 use Rattle.std.proofs.lemmas.Bool.{cases_Bool, cases_lt, leb-true, leb-false}
 use Rattle.std.proofs.lemmas.List.{append-nil, take-append-drop, take-append-le, drop-append-le}
 use Rattle.std.proofs.Math.ListN.{drop_of_length-le}
-use Rattle.tf_model.specs.Words.{Word}
-use Rattle.tf_model.specs.Number.{number}
-use Rattle.tf_model.specs.declared.number.Number.{Number}
+use Rattle.tf_words.specs.Words.{Word}
+use Rattle.tf_words.specs.Number.{number}
+use Rattle.tf_words.specs.declared.number.Number.{Number}
 use Rattle.tf_read.specs.declared.fault.ReadFault.{ReadFault}
 use Rattle.tf_model.specs.Outcome.{◌>>=◌}
 use Rattle.tf_read.specs.Faults.{each_from}
-use Rattle.tf_read.specs.Scan.{IsOf}
+use Rattle.tf_words.specs.Scan.{IsOf}
 use Rattle.tf_read.specs.WeightedTardiness.{number_at, judged}
 use Rattle.tf_read.specs.Numbers.{Progress, skipped, wanted, Holds, HasRead}
 use Rattle.tf_read.proofs.Judged.{each_cons, each_none}

@@ -1,5 +1,5 @@
 -- The sizes of a flow shop, byte by byte.
-use Rattle.std.proofs.Common.{◌≡◌, ℕ, ◌+◌, ◌-◌, ◌*◌, ◌<◌, ◌≤◌, ◌&&◌, Bool, true, false, eqb, ltb, min, List, [], ◌∷◌, ◌++◌, length, Option, Some, None, refl, sym, ap, ◌∙◌, arith, inl, inr, append_assoc, length-append}
+use Rattle.std.proofs.Common.{◌≡◌, ℕ, ◌+◌, ◌-◌, ◌*◌, ◌<◌, ◌≤◌, ◌&&◌, Bool, true, false, eqb, ltb, min, pos, neg_ℤ, List, [], ◌∷◌, ◌++◌, length, Option, Some, None, refl, sym, ap, ◌∙◌, arith, inl, inr, append_assoc, length-append}
 use Rattle.std.specs.List.{list_all}
 use Rattle.std.specs.Char.{is_ascii_digit}
 use Rattle.std.specs.Str.Parse.{digits_value}
@@ -7,9 +7,12 @@ use Rattle.std.proofs.lemmas.Bool.{cases_Bool, and_parts, lt-ltb, ltb-true, ltb-
 use Rattle.std.proofs.lemmas.List.{append-nil}
 use Rattle.std.proofs.lemmas.List.Folds.{list_all-append}
 use Rattle.std.proofs.lemmas.Int.Digits.{digits_value_push}
-use Rattle.tf_model.specs.Words.{is_white, words}
-use Rattle.tf_model.specs.Number.{number, limit, is_numeral}
-use Rattle.tf_model.proofs.Digits.{digit_is}
+use Rattle.tf_words.specs.Words.{is_white, words}
+use Rattle.tf_words.specs.Digits.{is_numeral, numeral}
+use Rattle.tf_words.specs.Ranged.{judged}
+use Rattle.tf_words.specs.Number.{number, limit, within_limit}
+use Rattle.tf_words.proofs.DigitsRead.{digit_is}
+use Rattle.tf_words.proofs.Limited.{in_limit, above_limit}
 use Rattle.tf_read.specs.declared.sizes.SizesLine.{SizesLine}
 use Rattle.tf_read.specs.declared.sizes.SizesLine.TheVariants.{Blank, Jobs, Between, Machines, Both, Other}
 use Rattle.tf_read.specs.FlowShop.{size, sizes_in}
@@ -17,21 +20,24 @@ use Rattle.tf_read.specs.Sizes.{size_of, HasDigits, IsSize, SizesShown}
 use Rattle.tf_read.proofs.PresentLine.{with_letter, with_gap, with_end, words_at_gap, words_in_word, grows}
 
 -- the size of a word of digits
-numeral : (word : List ℕ) → 0 < length word → list_all is_ascii_digit word ≡ true → is_numeral word ≡ true
-numeral word some all = let long : ltb 0 (length word) ≡ true = lt-ltb _ _ some in rw (long, all) refl
+digits_only : (word : List ℕ) → 0 < length word → list_all is_ascii_digit word ≡ true → is_numeral word ≡ true
+digits_only word some all = let long : ltb 0 (length word) ≡ true = lt-ltb _ _ some in rw (long, all) refl
 
 no_sign : (c : ℕ) → is_ascii_digit c ≡ true → eqb c 45 ≡ false
 no_sign c h = ne_eqb c 45 (λ e. absurd (omega (arith, (digit_is c h).0, e)))
 
 size_is : (word : List ℕ) → 0 < length word → list_all is_ascii_digit word ≡ true → size (number word) ≡ size_of word
-unfolding number
+unfolding number numeral
 size_is [] some all = absurd (omega (arith, some))
 size_is (c ∷ cs) some all =
     let plain : eqb c 45 ≡ false = no_sign c (and_parts _ _ all).0 in
-    let one : is_numeral (c ∷ cs) ≡ true = numeral (c ∷ cs) some all in
-    elim (cases_Bool (ltb limit (digits_value 10 (c ∷ cs)))) [
-      | inl e ↦ let past : limit < digits_value 10 (c ∷ cs) = ltb-true _ _ e in rw (plain, one, e) (omega (arith, past))
-      | inr e ↦ let within : digits_value 10 (c ∷ cs) ≤ limit = ltb-false _ _ e in rw (plain, one, e) (omega (arith, within))
+    let one : is_numeral (c ∷ cs) ≡ true = digits_only (c ∷ cs) some all in
+    rw (plain, one) (judged_size (digits_value 10 (c ∷ cs)))
+  where
+    judged_size : (v : ℕ) → size (within_limit (judged (neg_ℤ (pos limit)) (pos limit) (pos v))) ≡ min v (limit + 1)
+    judged_size v = elim (cases_Bool (ltb limit v)) [
+      | inl e ↦ let past : limit < v = ltb-true _ _ e in rw (above_limit v past) (omega (arith, past))
+      | inr e ↦ let within : v ≤ limit = ltb-false _ _ e in rw (in_limit v within) (omega (arith, within))
     ]
 
 -- and with a digit more
@@ -69,8 +75,8 @@ no_second a w (c ∷ more) h = refl
 -- both words
 both : (jobs machines : ℕ) (a b : List ℕ) → IsSize jobs a → IsSize machines b → Some (jobs, machines) ≡ sizes_in (a ∷ b ∷ [])
 both jobs machines a b x y =
-    let one = numeral a x.0 x.1.0 in
-    let other = numeral b y.0 y.1.0 in
+    let one = digits_only a x.0 x.1.0 in
+    let other = digits_only b y.0 y.1.0 in
     let first : jobs ≡ size (number a) = x.1.1 ∙ sym (size_is a x.0 x.1.0) in
     let second : machines ≡ size (number b) = y.1.1 ∙ sym (size_is b y.0 y.1.0) in
     rw (one, other, ← first, ← second) refl

@@ -1,15 +1,23 @@
--- A text whose parameters are within the limits.
-use Rattle.std.proofs.Common.{◌≡◌, ℕ, ◌≤◌, ◌≢◌, eqb, ltb, false, List, length, refl}
-use Rattle.std.proofs.lemmas.Bool.{le-ltb, ne_eqb}
-use Rattle.tf_model.specs.Words.{lines, words_from, placed_words}
-use Rattle.tf_model.specs.declared.limit.TheConstants.{MOST_BYTES, MOST_JOBS}
-use Rattle.tf_read.specs.WeightedTardiness.{instance_of, weighted_tardiness}
+-- What a weighted tardiness text says by its length.
+use Rattle.std.proofs.Common.{◌≡◌, ℕ, ◌<◌, ◌≤◌, ltb, false, true, List, length, Some, None, Err, refl}
+use Rattle.std.proofs.lemmas.Bool.{le-ltb, lt-ltb}
+use Rattle.tf_words.specs.Words.{lines, words_from, placed_words}
+use Rattle.tf_model.specs.declared.limit.TheConstants.{MOST_BYTES}
+use Rattle.tf_read.specs.declared.fault.ReadFault.{ReadFault}
+use Rattle.tf_read.specs.declared.fault.ReadFault.TheVariants.{TooLong}
+use Rattle.tf_read.specs.WeightedTardiness.{request_fault, instance_of, weighted_tardiness}
 
-pub by_words : (n k : ℕ) (text : List ℕ) → length text ≤ MOST_BYTES → n ≢ 0 → n ≤ MOST_JOBS → k ≢ 0 → weighted_tardiness n k text ≡ instance_of n k (words_from 1 (lines text))
+-- a text that is too long is refused as such
+pub too_long : (n k : ℕ) (text : List ℕ) → MOST_BYTES < length text → weighted_tardiness n k text ≡ Err TooLong
+unfolding weighted_tardiness
+too_long n k text long = let e : ltb MOST_BYTES (length text) ≡ true = lt-ltb _ _ long in rw e refl
+
+-- any other where there can be no such instance
+pub refused : (n k : ℕ) (text : List ℕ) (fault : ReadFault) → length text ≤ MOST_BYTES → request_fault n k ≡ Some fault → weighted_tardiness n k text ≡ Err fault
+unfolding weighted_tardiness
+refused n k text fault short h = let e : ltb MOST_BYTES (length text) ≡ false = le-ltb _ _ short in rw (e, h) refl
+
+-- else it is read by its words
+pub by_words : (n k : ℕ) (text : List ℕ) → length text ≤ MOST_BYTES → request_fault n k ≡ None → weighted_tardiness n k text ≡ instance_of n k (words_from 1 (lines text))
 unfolding weighted_tardiness placed_words
-by_words n k text short some few from_one =
-    let a : ltb MOST_BYTES (length text) ≡ false = le-ltb _ _ short in
-    let b : eqb n 0 ≡ false = ne_eqb _ _ some in
-    let c : ltb MOST_JOBS n ≡ false = le-ltb _ _ few in
-    let d : eqb k 0 ≡ false = ne_eqb _ _ from_one in
-    rw (a, b, c, d) refl
+by_words n k text short h = let e : ltb MOST_BYTES (length text) ≡ false = le-ltb _ _ short in rw (e, h) refl

@@ -1,7 +1,7 @@
 -- The value of `h`: a base, and then any number of steps `,time:value`.
 use Rattle.std.specs.Prelude.{ℕ, Bool, false, not, List, [], ◌∷◌, Option, Some, None, Result, Ok, Err, ℤ, is_some, if◌then◌else◌}
 use Rattle.std.specs.List.{list_all}
-use Rattle.tf_model.specs.Number.{number}
+use Rattle.tf_words.specs.Number.{number}
 use Rattle.tf_model.specs.Steps.{Steps}
 use Rattle.tf_model.specs.StepFaults.{steps_fault}
 use Rattle.tf_model.specs.declared.cost.CostFault.{CostFault}
@@ -9,7 +9,7 @@ use Rattle.tf_read.specs.declared.fault.ReadFault.{ReadFault}
 use Rattle.tf_read.specs.declared.fault.ReadFault.TheVariants.{BadLine, BadCost}
 use Rattle.tf_model.specs.Outcome.{◌>>=◌}
 use Rattle.tf_read.specs.Faults.{each_from, natural, integer}
-use Rattle.tf_read.specs.WordParts.{divided, parts}
+use Rattle.tf_words.specs.WordParts.{divided, parts}
 
 -- a time and a value, with exactly one ':' between them
 abbrev pub is_pair : Option (List ℕ × List ℕ) → Bool

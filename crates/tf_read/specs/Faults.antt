@@ -2,8 +2,8 @@
 use Rattle.std.specs.Prelude.{ℕ, ◌+◌, List, [], ◌∷◌, Option, None, Some, Result, Ok, Err, ℤ, pos, negsuc}
 use Rattle.tf_model.specs.Outcome
 use Rattle.tf_model.specs.Outcome.{◌>>=◌}
-use Rattle.tf_model.specs.declared.number.Number.{Number}
-use Rattle.tf_model.specs.declared.number.Number.TheVariants.{NotANumber, TooLarge, Value}
+use Rattle.tf_words.specs.declared.number.Number.{Number}
+use Rattle.tf_words.specs.declared.number.Number.TheVariants.{NotANumber, TooLarge, Value}
 use Rattle.tf_read.specs.declared.fault.ReadFault.{ReadFault}
 use Rattle.tf_read.specs.declared.fault.ReadFault.TheVariants.{BadNumber, NumberTooLarge, Negative, OutOfMemory}
 

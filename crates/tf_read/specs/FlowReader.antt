@@ -1,52 +1,17 @@
--- The reading of a flow shop, byte by byte.
-use Rattle.std.specs.Prelude.{◌≡◌, ℕ, List, ◌++◌, Option}
-use Rattle.tf_model.specs.Words.{lines, words_from}
-use Rattle.tf_model.specs.declared.so_far.SoFar.{SoFar}
-use Rattle.tf_read.specs.declared.fault.ReadFault.{ReadFault}
-use Rattle.tf_read.specs.declared.heading.HeadingLine.{HeadingLine}
-use Rattle.tf_read.specs.declared.sizes.SizesLine.{SizesLine}
-use Rattle.tf_read.specs.declared.flow_shop.Stage.{Stage}
-use Rattle.tf_read.specs.declared.flow_shop.Stage.TheVariants.{Heading, Sizes, Pairs, Ended}
-use Rattle.tf_read.specs.Faults.{Fails}
-use Rattle.tf_read.specs.FlowShop.{first_machine, second_machine, pairs_of, from_sizes, from_heading}
-use Rattle.tf_read.specs.Pairs.{HasFed}
-use Rattle.tf_read.specs.Pairs.{Pairs as PairsSoFar}
-use Rattle.tf_read.specs.PresentLine.{AreOfLine}
-use Rattle.tf_read.specs.Heading.{HeadingShown}
-use Rattle.tf_read.specs.Sizes.{SizesShown}
+-- A reader of a flow shop, to which a text is fed.
+use Rattle.std.specs.Prelude.{◌≡◌, ℕ, ◌+◌, ◌≤◌, List, ◌++◌, length, min}
+use Rattle.tf_model.specs.declared.limit.TheConstants.{MOST_BYTES}
+use Rattle.tf_read.specs.declared.flow_shop.FlowReader.{FlowReader}
+use Rattle.tf_read.specs.FlowShop.{flow_shop}
+use Rattle.tf_read.specs.FlowStage.{HasTaken}
+use Rattle.tf_read.specs.Said.{TextSays}
 
--- The text `fed` was fed, where the instance of this name and this pair is wanted. Whatever follows it, the outcome of
--- the whole is the outcome of what is left to be read.
+-- it is wanted what `says` says of a text, and `fed` was fed of it
+pub record HasFed {A : Type 0} (reader : FlowReader A) (says : TextSays) (fed : List ℕ) : Type 0 where
+  pub wanted : (text : List ℕ) → says text ≡ flow_shop reader.wanted.name.now reader.wanted.pair text
+  pub length_is : reader.length.bytes ≡ min (length fed) (MOST_BYTES + 1)
+  pub taken : length fed ≤ MOST_BYTES → HasTaken reader.wanted.name.now reader.wanted.pair reader.stage fed
 
--- the heading is wanted, from the present line on, whose bytes have shown so much of it
-abbrev pub WantsHeading : List ℕ → Option (ℕ × ℕ) → ℕ → HeadingLine → List ℕ → Type 0
-WantsHeading name pair line shown fed = (bytes : List ℕ) × AreOfLine bytes × HeadingShown name bytes shown
-    × ((more : List ℕ) → from_heading name pair 1 (lines (fed ++ more)) ≡ from_heading name pair line (lines (bytes ++ more)))
-
--- the heading is over, and the sizes are wanted
-abbrev pub WantsSizes : List ℕ → Option (ℕ × ℕ) → ℕ → SizesLine → List ℕ → Type 0
-WantsSizes name pair line shown fed = (bytes : List ℕ) × AreOfLine bytes × SizesShown bytes shown
-    × ((more : List ℕ) → from_heading name pair 1 (lines (fed ++ more)) ≡ from_sizes pair line (lines (bytes ++ more)))
-
--- the sizes are over, and `behind` was fed since
-abbrev pub ReadsPairs : List ℕ → Option (ℕ × ℕ) → PairsSoFar → ℕ → SoFar → List ℕ → Type 0
-ReadsPairs name pair pairs line shown fed = (first : ℕ) × (behind : List ℕ) × HasFed first pairs line shown behind
-    × (pairs.first ≡ first_machine pair) × (pairs.second ≡ second_machine pairs.machines pair)
-    × ((more : List ℕ) → from_heading name pair 1 (lines (fed ++ more)) ≡ pairs_of pairs.jobs pairs.machines pair (words_from first (lines (behind ++ more))))
-
--- the outcome is settled, unless memory ran out
-abbrev pub HasEnded : List ℕ → Option (ℕ × ℕ) → ReadFault → List ℕ → Type 0
-HasEnded name pair fault fed = (more : List ℕ) → Fails fault (from_heading name pair 1 (lines (fed ++ more)))
-
-abbrev pub HasTaken : {A : Type 0} → List ℕ → Option (ℕ × ℕ) → Stage A → List ℕ → Type 0
-HasTaken name pair (Heading line shown) fed = WantsHeading name pair line shown fed
-HasTaken name pair (Sizes line shown) fed = WantsSizes name pair line shown fed
-HasTaken name pair (Pairs reader) fed = ReadsPairs name pair reader.pairs reader.scan.line reader.scan.shown fed
-HasTaken name pair (Ended fault) fed = HasEnded name pair fault fed
-
--- the present line, where its number still matters
-abbrev pub line_of : {A : Type 0} → Stage A → ℕ
-line_of (Heading line shown) = line
-line_of (Sizes line shown) = line
-line_of (Pairs reader) = reader.scan.line
-line_of (Ended fault) = 0
+-- whatever is wanted and was fed before, the piece was fed since
+abbrev pub Takes : {A : Type 0} → FlowReader A → List ℕ → FlowReader A → Type 0
+Takes old piece new = (says : TextSays) (fed : List ℕ) → HasFed old says fed → HasFed new says (fed ++ piece)

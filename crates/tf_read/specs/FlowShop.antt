@@ -3,15 +3,15 @@ use Rattle.std.specs.Prelude.{ℕ, ◌+◌, ◌*◌, ◌/◌, ◌%◌, Bool, tru
 use Rattle.std.specs.List.{range_with_len}
 use Rattle.std.specs.Str.{bytes_eq}
 use Rattle.std.specs.Cmp.Lexicographic.{pointwise}
-use Rattle.tf_model.specs.Number.{number, limit, is_numeral}
-use Rattle.tf_model.specs.Words.{Word, words, lines, words_from}
+use Rattle.tf_words.specs.Number.{number, limit, is_numeral}
+use Rattle.tf_words.specs.Words.{Word, words, lines, words_from}
 use Rattle.tf_model.specs.JobFields.{JobFields}
 use Rattle.tf_model.specs.InstanceData.{InstanceData}
 use Rattle.tf_model.specs.declared.job.Times.{Times}
 use Rattle.tf_model.specs.declared.job.Times.TheVariants.{One, Two}
 use Rattle.tf_model.specs.declared.limit.TheConstants.{MOST_BYTES, MOST_JOBS, MOST_MACHINES}
-use Rattle.tf_model.specs.declared.number.Number.{Number}
-use Rattle.tf_model.specs.declared.number.Number.TheVariants.{NotANumber, TooLarge, Value}
+use Rattle.tf_words.specs.declared.number.Number.{Number}
+use Rattle.tf_words.specs.declared.number.Number.TheVariants.{NotANumber, TooLarge, Value}
 use Rattle.tf_read.specs.declared.fault.ReadFault.{ReadFault}
 use Rattle.tf_read.specs.declared.fault.ReadFault.TheVariants.{TooLong, BadNumber, EndsEarly, NoInstance, NotAFlowShop, BadPair, BadLine, NoJobs, TooManyJobs}
 use Rattle.tf_model.specs.Outcome.{◌>>=◌}

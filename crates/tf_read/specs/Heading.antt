@@ -1,6 +1,6 @@
 -- The heading of a flow shop, byte by byte.
 use Rattle.std.specs.Prelude.{◌≡◌, ℕ, ◌≤◌, false, List, [], ◌∷◌, ◌++◌, length, take, codes}
-use Rattle.tf_model.specs.Words.{words}
+use Rattle.tf_words.specs.Words.{words}
 use Rattle.tf_read.specs.declared.heading.HeadingWord.{HeadingWord}
 use Rattle.tf_read.specs.declared.heading.HeadingWord.TheVariants.{Instance, Name}
 use Rattle.tf_read.specs.declared.heading.HeadingLine.{HeadingLine}

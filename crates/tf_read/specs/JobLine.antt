@@ -1,7 +1,7 @@
 -- The fields of a job line.
 use Rattle.std.specs.Prelude.{ℕ, not, ◌&&◌, List, [], ◌∷◌, Option, Some, None, Result, Ok, Err, ℤ, codes, is_some, if◌then◌else◌}
 use Rattle.std.specs.Str.{bytes_eq}
-use Rattle.tf_model.specs.Number.{number}
+use Rattle.tf_words.specs.Number.{number}
 use Rattle.tf_model.specs.Steps.{Steps}
 use Rattle.tf_model.specs.JobFields.{JobFields}
 use Rattle.tf_model.specs.declared.job.Times.{Times}
@@ -10,7 +10,7 @@ use Rattle.tf_read.specs.declared.fault.ReadFault.{ReadFault}
 use Rattle.tf_read.specs.declared.fault.ReadFault.TheVariants.{BadLine}
 use Rattle.tf_model.specs.Outcome.{◌>>=◌}
 use Rattle.tf_read.specs.Faults.{natural, integer}
-use Rattle.tf_read.specs.WordParts.{divided}
+use Rattle.tf_words.specs.WordParts.{divided}
 use Rattle.tf_read.specs.CostField.{cost_at}
 
 -- a number, or two divided by a ','. The form is judged before the numbers

@@ -1,15 +1,15 @@
 -- The job table: the instance that a text says, or its first fault.
-use Rattle.std.specs.Prelude.{ℕ, Bool, false, not, ◌&&◌, List, [], ◌∷◌, length, drop, Option, Some, None, Result, Ok, Err, pos, negsuc, codes, nat_lt, nat_le, ◌==◌, slice_index_or, if◌then◌else◌}
+use Rattle.std.specs.Prelude.{ℕ, Bool, false, not, ◌&&◌, List, [], ◌∷◌, length, drop, Option, Some, None, Result, Ok, Err, pos, negsuc, codes, nat_lt, nat_le, ◌==◌, if◌then◌else◌}
 use Rattle.std.specs.List.{before_first, position_or_len}
 use Rattle.std.specs.Str.{bytes_eq}
 use Rattle.std.specs.Cmp.Lexicographic.{pointwise}
-use Rattle.tf_model.specs.Number.{number, plain}
-use Rattle.tf_model.specs.Words.{Line, lines, kept_from}
+use Rattle.tf_words.specs.Number.{number, plain}
+use Rattle.tf_words.specs.Words.{Line, lines, first_is, kept_from}
 use Rattle.tf_model.specs.JobFields.{JobFields}
 use Rattle.tf_model.specs.InstanceData.{InstanceData, is_no_job}
 use Rattle.tf_model.specs.declared.limit.TheConstants.{MOST_BYTES, MOST_JOBS, MOST_MACHINES, MOST_ARCS}
-use Rattle.tf_model.specs.declared.number.Number.{Number}
-use Rattle.tf_model.specs.declared.number.Number.TheVariants.{NotANumber, TooLarge, Value}
+use Rattle.tf_words.specs.declared.number.Number.{Number}
+use Rattle.tf_words.specs.declared.number.Number.TheVariants.{NotANumber, TooLarge, Value}
 use Rattle.tf_read.specs.declared.fault.ReadFault.{ReadFault}
 use Rattle.tf_read.specs.declared.fault.ReadFault.TheVariants.{TooLong, BadNumber, EndsEarly, BadLine, NoJobs, TooManyJobs, TooManyArcs, BadArc}
 use Rattle.tf_model.specs.Outcome.{◌>>=◌}
@@ -28,10 +28,6 @@ machines_at line [] = Err (BadLine line)
 machines_at line (word ∷ []) = machine_count line (number word)
 machines_at line (word ∷ other ∷ more) = Err (BadLine line)
 
--- the word at a place, from 0, or no bytes where there is none
-abbrev pub word_at : ℕ → List (List ℕ) → List ℕ
-word_at i words = slice_index_or words i []
-
 abbrev pub is_number : ℕ → Option ℕ → Bool
 is_number k None = false
 is_number k (Some n) = n == k
@@ -44,13 +40,13 @@ numbered_job line k (word ∷ more) = if is_number k (plain MOST_JOBS word) then
 -- the line of job k
 unfoldable pub job_at : ℕ → Line → Result JobFields ReadFault
 job_at k line =
-    if not (bytes_eq (word_at 0 line.words) (codes "job")) then Err (BadLine line.number)
+    if not (first_is (codes "job") line.words) then Err (BadLine line.number)
     else if nat_lt MOST_JOBS k then Err TooManyJobs
     else numbered_job line.number k (drop 1 line.words)
 
 -- a line `prec ..`
 abbrev pub is_arc : Line → Bool
-is_arc line = bytes_eq (word_at 0 line.words) (codes "prec")
+is_arc line = first_is (codes "prec") line.words
 
 -- a job of an arc, from 1 to the number of jobs
 abbrev pub arc_job : ℕ → ℕ → Number → Result ℕ ReadFault
@@ -97,7 +93,7 @@ body_of machines all = do
 unfoldable pub below_heading : List Line → Result InstanceData ReadFault
 below_heading [] = body_of None []
 below_heading (line ∷ more) =
-    if bytes_eq (word_at 0 line.words) (codes "machines") then (machines_at line.number (drop 1 line.words) >>= λ m. body_of (Some m) more)
+    if first_is (codes "machines") line.words then (machines_at line.number (drop 1 line.words) >>= λ m. body_of (Some m) more)
     else body_of None (line ∷ more)
 
 -- the heading is exactly `table 1`

@@ -1,14 +1,19 @@
+-- what a caller has to believe
 pub mod Faults
-pub mod WordParts
+pub mod Said
 pub mod CostField
 pub mod JobLine
 pub mod JobTable
-pub mod Scan
 pub mod WeightedTardiness
-pub mod Numbers
 pub mod FlowShop
+-- within the crate
+pub mod WordFeed
+pub mod Numbers
+pub mod WtReading
+pub mod WtReader
 pub mod Pairs
 pub mod PresentLine
 pub mod Heading
 pub mod Sizes
+pub mod FlowStage
 pub mod FlowReader

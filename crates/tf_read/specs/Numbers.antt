@@ -1,13 +1,13 @@
 -- The numbers of one instance among those of a text.
-use Rattle.std.specs.Prelude.{◌≡◌, ℕ, ◌-◌, ◌*◌, List, length, take, drop, Option, Some, None, Result, Ok, Err, ℤ, nat_le, nat_lt, if◌then◌else◌}
+use Rattle.std.specs.Prelude.{◌≡◌, ℕ, ◌+◌, ◌-◌, ◌*◌, ◌<◌, false, List, [], ◌∷◌, ◌++◌, length, take, drop, Option, Some, None, Result, Ok, Err, ℤ, nat_le, nat_lt, if◌then◌else◌}
 use Rattle.std.specs.Option.{option_or}
-use Rattle.tf_model.specs.Words.{Word}
-use Rattle.tf_model.specs.declared.so_far.SoFar.{SoFar}
+use Rattle.tf_words.specs.Words.{Word}
+use Rattle.tf_model.specs.InstanceData.{is_negative, is_beyond}
 use Rattle.tf_read.specs.declared.fault.ReadFault.{ReadFault}
 use Rattle.tf_read.specs.declared.fault.ReadFault.TheVariants.{NoInstance, EndsEarly}
 use Rattle.tf_read.specs.Faults.{each_from}
-use Rattle.tf_read.specs.Scan.{IsAt}
-use Rattle.tf_read.specs.WeightedTardiness.{judged}
+use Rattle.tf_read.specs.Said.{Says}
+use Rattle.tf_read.specs.WeightedTardiness.{at, judged, instance_of}
 
 -- how far the reading of the instance of this index is, where each has so many jobs
 pub record Progress : Type 0 where
@@ -40,6 +40,18 @@ missing p =
     else if nat_lt p.count (wanted p) then Some EndsEarly
     else None)
 
--- the text that was fed
-abbrev pub HasFed : Progress → ℕ → SoFar → List ℕ → Type 0
-HasFed p line shown fed = (seen : List Word) × IsAt 1 fed seen line shown × HasRead p seen
+-- these are the words that were read, where it is wanted what they say of this instance
+abbrev pub Reads : Progress → Says → List Word → Type 0
+Reads p says seen = ((words : List Word) → says words ≡ instance_of p.jobs p.index words) × HasRead p seen
+
+-- with one number more
+abbrev pub with_number : Progress → ℤ → Progress
+with_number p z = record p {
+  count = p.count + 1;
+  numbers = if nat_le (skipped p) p.count then p.numbers ++ z ∷ [] else p.numbers;
+}
+
+-- no number is beyond the limit, and no time or weight is negative
+pub record AreInRange (jobs : ℕ) (numbers : List ℤ) : Type 0 where
+  pub at_most : (i : ℕ) → is_beyond (at numbers i) ≡ false
+  pub natural : (i : ℕ) → i < 2 * jobs → is_negative (at numbers i) ≡ false

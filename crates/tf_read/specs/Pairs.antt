@@ -1,26 +1,32 @@
 -- The times of a flow shop among the words of a text.
 use Rattle.std.specs.Prelude.{◌≡◌, ℕ, ◌+◌, ◌*◌, Bool, true, false, ◌==◌, nat_lt, List, [], ◌∷◌, ◌++◌, length, take, Option, Some, None, Result, Ok, Err, ℤ, if◌then◌else◌}
 use Rattle.std.specs.Option.{option_or}
-use Rattle.tf_model.specs.Words.{Word}
-use Rattle.tf_model.specs.declared.so_far.SoFar.{SoFar}
+use Rattle.tf_words.specs.Words.{Word}
+use Rattle.tf_model.specs.InstanceData.{is_negative, is_beyond}
 use Rattle.tf_read.specs.declared.fault.ReadFault.{ReadFault}
 use Rattle.tf_read.specs.declared.fault.ReadFault.TheVariants.{EndsEarly}
 use Rattle.tf_read.specs.Faults.{each_from}
-use Rattle.tf_read.specs.Scan.{IsAt}
-use Rattle.tf_read.specs.FlowShop.{judged, times_on}
+use Rattle.tf_read.specs.Said.{Says}
+use Rattle.tf_read.specs.FlowShop.{at, first_machine, second_machine, judged, times_on, pairs_of}
 
--- how far the reading of so many jobs on so many machines is, of which the times on two are kept
+-- how far the reading of so many jobs on so many machines is, of which the times on this pair are kept
 pub record Pairs : Type 0 where
   pub jobs : ℕ
   pub machines : ℕ
-  pub first : ℕ
-  pub second : ℕ
+  pub pair : Option (ℕ × ℕ)
   pub job : ℕ  -- the jobs that are over
   pub machine : ℕ  -- the next machine of the next job
   pub is_named : Bool  -- the machine was named, so its time follows
   pub firsts : List ℤ
   pub seconds : List ℤ
   pub fault : Option ReadFault
+
+-- the machines whose times are kept
+abbrev pub first : Pairs → ℕ
+first p = first_machine p.pair
+
+abbrev pub second : Pairs → ℕ
+second p = second_machine p.machines p.pair
 
 -- the words that were judged, and those that are wanted
 abbrev pub count : Pairs → ℕ
@@ -30,7 +36,7 @@ abbrev pub wanted : Pairs → ℕ
 wanted p = 2 * p.jobs * p.machines
 
 abbrev pub Holds : Option ReadFault → Pairs → Result (List ℤ) ReadFault → Type 0
-Holds None p read = (all : List ℤ) × (read ≡ Ok all) × (count p ≡ length all) × (p.firsts ≡ times_on p.machines p.first 0 all) × (p.seconds ≡ times_on p.machines p.second 0 all)
+Holds None p read = (all : List ℤ) × (read ≡ Ok all) × (count p ≡ length all) × (p.firsts ≡ times_on p.machines (first p) 0 all) × (p.seconds ≡ times_on p.machines (second p) 0 all)
 Holds (Some fault) p read = read ≡ Err fault
 
 -- these are the words that were read
@@ -56,14 +62,21 @@ after_time p (Ok z) = record p {
   job = if is_last p then p.job + 1 else p.job;
   machine = if is_last p then 0 else p.machine + 1;
   is_named = false;
-  firsts = with_time p.first p.machine p.firsts z;
-  seconds = with_time p.second p.machine p.seconds z;
+  firsts = with_time (first p) p.machine p.firsts z;
+  seconds = with_time (second p) p.machine p.seconds z;
 }
 
 -- the fault that was met, or what is missing at the end
 abbrev pub missing : Pairs → Option ReadFault
 missing p = option_or p.fault (if nat_lt p.job p.jobs then Some EndsEarly else None)
 
--- the text that was fed, on lines of which the first has this number
-abbrev pub HasFed : ℕ → Pairs → ℕ → SoFar → List ℕ → Type 0
-HasFed first p line shown fed = (seen : List Word) × IsAt first fed seen line shown × HasRead p seen
+-- these are the words that were read, where it is wanted what they say of these jobs
+abbrev pub Reads : Pairs → Says → List Word → Type 0
+Reads p says seen = ((words : List Word) → says words ≡ pairs_of p.jobs p.machines p.pair words) × HasRead p seen
+
+-- no time is negative or beyond the limit
+abbrev pub IsTime : ℤ → Type 0
+IsTime z = (is_negative z ≡ false) × (is_beyond z ≡ false)
+
+pub record AreTimes (times : List ℤ) : Type 0 where
+  pub each : (j : ℕ) → IsTime (at times j)

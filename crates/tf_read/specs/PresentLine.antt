@@ -1,7 +1,7 @@
 -- A line of a text, byte by byte.
 use Rattle.std.specs.Prelude.{◌≡◌, ℕ, true, not, List, ◌++◌, ◌==◌}
 use Rattle.std.specs.List.{list_all}
-use Rattle.tf_model.specs.Words.{is_white, words}
+use Rattle.tf_words.specs.Words.{is_white, words}
 
 -- none of them is a line feed
 abbrev pub AreOfLine : List ℕ → Type 0

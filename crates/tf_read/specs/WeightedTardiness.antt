@@ -1,16 +1,16 @@
 -- Weighted tardiness texts, after OR-Library's: the k-th instance of n jobs that a text holds, or its first fault.
-use Rattle.std.specs.Prelude.{ℕ, ◌+◌, ◌-◌, ◌*◌, ◌%◌, List, [], length, map, take, drop, Some, None, Result, Ok, Err, ℤ, pos, nat_lt, nat_le, ◌==◌, slice_index_or, if◌then◌else◌}
+use Rattle.std.specs.Prelude.{ℕ, ◌+◌, ◌-◌, ◌*◌, ◌%◌, List, [], length, map, take, drop, Option, Some, None, Result, Ok, Err, ℤ, pos, nat_lt, nat_le, ◌==◌, slice_index_or, if◌then◌else◌}
 use Rattle.std.specs.List.{range_with_len}
-use Rattle.tf_model.specs.Number.{number}
-use Rattle.tf_model.specs.Words.{Word, placed_words}
+use Rattle.tf_words.specs.Number.{number}
+use Rattle.tf_words.specs.Words.{Word, placed_words}
 use Rattle.tf_model.specs.JobFields.{JobFields}
 use Rattle.tf_model.specs.InstanceData.{InstanceData}
 use Rattle.tf_model.specs.declared.job.Times.TheVariants.{One}
 use Rattle.tf_model.specs.declared.limit.TheConstants.{MOST_BYTES, MOST_JOBS}
-use Rattle.tf_model.specs.declared.number.Number.{Number}
+use Rattle.tf_words.specs.declared.number.Number.{Number}
 use Rattle.tf_read.specs.declared.fault.ReadFault.{ReadFault}
 use Rattle.tf_read.specs.declared.fault.ReadFault.TheVariants.{TooLong, EndsEarly, NoInstance, NoJobs, TooManyJobs}
-use Rattle.tf_model.specs.Outcome.{◌>>=◌}
+use Rattle.tf_model.specs.Outcome.{◌>>=◌, unless}
 use Rattle.tf_read.specs.Faults.{each_from, natural, integer}
 
 -- Of each 3n words the first 2n are times and weights, and the last n are due dates, which may be negative. Words count from 0 here.
@@ -42,10 +42,15 @@ present n k numbers =
 unfoldable pub instance_of : ℕ → ℕ → List Word → Result InstanceData ReadFault
 instance_of n k words = each_from (judged n) 0 (take (3 * n * k) words) >>= λ numbers. present n k numbers
 
+-- why no text has instance k of n jobs
+abbrev pub request_fault : ℕ → ℕ → Option ReadFault
+request_fault n k =
+    if n == 0 then Some NoJobs
+    else if nat_lt MOST_JOBS n then Some TooManyJobs
+    else if k == 0 then Some NoInstance
+    else None
+
 unfoldable pub weighted_tardiness : ℕ → ℕ → List ℕ → Result InstanceData ReadFault
 weighted_tardiness n k text =
     if nat_lt MOST_BYTES (length text) then Err TooLong
-    else if n == 0 then Err NoJobs
-    else if nat_lt MOST_JOBS n then Err TooManyJobs
-    else if k == 0 then Err NoInstance
-    else instance_of n k (placed_words text)
+    else unless (request_fault n k) (instance_of n k (placed_words text))

@@ -1,17 +1,19 @@
 //! The arc lines of a job table.
-ghost use Rattle.std.specs.Prelude.{◌≡◌, ◌+◌, ◌^◌, ◌<◌, ◌≤◌, ◌∷◌, length};
-ghost use Rattle.tf_model.specs.Number.{number};
-ghost use Rattle.tf_model.specs.Words.{Line, words, lines, kept_from};
+ghost use Rattle.std.specs.Prelude.{◌≡◌};
+ghost use Rattle.tf_words.specs.Number.{number};
+ghost use Rattle.tf_words.specs.Words.{words};
+ghost use Rattle.tf_words.specs.Lines.{word_line_of, word_lines_of};
 ghost use Rattle.tf_read.specs.Faults.{Gives, each_from};
-ghost use Rattle.tf_read.specs.JobTable.{arc_job, arc_of, arc_at, no_job, arcs_of};
+ghost use Rattle.tf_read.specs.JobTable.{is_arc, arc_job, arc_of, arc_at, no_job, arcs_of};
 
 use crate::fault::ReadFault;
 use crate::room::room_for;
 use std::alloc::Allocator;
 use tf_model::ids::JobId;
 use tf_model::limit::MOST_ARCS;
-use tf_model::number::{Number, number_of};
-use tf_model::word::{Kept, first_word, is, next_kept};
+use tf_words::line::{Line, Lines};
+use tf_words::number::{Number, number_of};
+use tf_words::word::{behind_key, first_word};
 
 /// The bytes of the shortest line of an arc, `prec 1 1` and a line feed.
 const SHORTEST_LINE: usize = 9;
@@ -50,64 +52,64 @@ fn arc_of(jobs: u32, line: u32, text: &[u8]) -> Result<(JobId, JobId), ReadFault
     Ok((first, second))
 }
 
-#[tactic(auto, unfolding(crate::specs::JobTable::arc_at))]
-fn arc_at(jobs: u32, k: usize, line: &Kept<'_>) -> Result<(JobId, JobId), ReadFault>
-    ensures { result ≡ arc_at jobs k (record { number = line.now.number; words = line.now.first.now ∷ words line.now.after.now }) }
+/// Whether the line is one of an arc.
+pub(crate) fn is_arc(line: &Line<'_>) -> bool
+    ensures { result ≡ is_arc (word_line_of line.now) }
 {
-    if !is(line.first, b"prec") {
+    behind_key(line.bytes, b"prec").is_some()
+}
+
+#[tactic(auto, unfolding(crate::specs::JobTable::arc_at))]
+fn arc_at(jobs: u32, k: usize, line: &Line<'_>) -> Result<(JobId, JobId), ReadFault>
+    ensures { result ≡ arc_at jobs k (word_line_of line.now) }
+{
+    let Some(text) = behind_key(line.bytes, b"prec") else {
         return Err(ReadFault::BadLine(line.number));
-    }
+    };
     if k > MOST_ARCS {
         return Err(ReadFault::TooManyArcs);
     }
-    arc_of(jobs, line.number, line.after)
+    arc_of(jobs, line.number, text)
 }
 
 fn arcs_from<A: Allocator>(
     alloc: A,
     jobs: u32,
-    text: &[u8],
-    first: u32,
+    lines: &Lines<'_>,
 ) -> Result<Vec<(JobId, JobId), A>, ReadFault>
-    requires { first + length text.now < 2 ^ 32 }
-    ensures { Gives (λ v. v.items) result (each_from (arc_at jobs) 1 (kept_from first (lines text.now))) }
+    ensures { Gives (λ v. v.items) result (each_from (arc_at jobs) 1 (word_lines_of lines.now)) }
 {
-    let room = room_for(text, SHORTEST_LINE, MOST_ARCS);
+    let room = room_for(lines.bytes_left(), SHORTEST_LINE, MOST_ARCS);
     let mut arcs = Vec::with_capacity(alloc, room)?;
-    let mut rest = text;
-    let mut number = first;
-    while let Some(line) = next_kept(rest, number) {
+    let mut rest = *lines;
+    while let Some((line, after)) = rest.split_first() {
         let arc = arc_at(jobs, arcs.len() + 1, &line)?;
         arcs.push(arc)?;
-        rest = line.rest;
-        number = line.number + 1;
+        rest = after;
     }
     Ok(arcs)
 }
 
-fn no_job(text: &[u8], first: u32) -> ReadFault
-    requires { first + length text.now < 2 ^ 32 }
-    ensures { result ≡ no_job (kept_from first (lines text.now)) }
+fn no_job(lines: &Lines<'_>) -> ReadFault
+    ensures { result ≡ no_job (word_lines_of lines.now) }
 {
-    match next_kept(text, first) {
+    match lines.split_first() {
         None => ReadFault::NoJobs,
-        Some(line) => ReadFault::BadLine(line.number),
+        Some((line, _)) => ReadFault::BadLine(line.number),
     }
 }
 
-/// The arcs between this many jobs, a line for each, of a text whose first line has this number.
+/// The arcs between this many jobs, a line for each.
 #[tactic(auto, unfolding(crate::specs::JobTable::arcs_of))]
 pub(crate) fn arcs_of<A: Allocator>(
     alloc: A,
     jobs: u32,
-    text: &[u8],
-    first: u32,
+    lines: &Lines<'_>,
 ) -> Result<Vec<(JobId, JobId), A>, ReadFault>
-    requires { first + length text.now < 2 ^ 32 }
-    ensures { Gives (λ v. v.items) result (arcs_of jobs (kept_from first (lines text.now))) }
+    ensures { Gives (λ v. v.items) result (arcs_of jobs (word_lines_of lines.now)) }
 {
     if jobs == 0 {
-        return Err(no_job(text, first));
+        return Err(no_job(lines));
     }
-    arcs_from(alloc, jobs, text, first)
+    arcs_from(alloc, jobs, lines)
 }

@@ -2,14 +2,14 @@
 ghost use Rattle.std.specs.Prelude.{◌≡◌, ◌≤◌, length};
 ghost use Rattle.std.specs.List.{list_all};
 ghost use Rattle.tf_read.specs.Faults.{Gives};
-ghost use Rattle.tf_read.specs.WordParts.{later_parts};
+ghost use Rattle.tf_words.specs.WordParts.{later_parts};
 ghost use Rattle.tf_read.specs.CostField.{is_step, step_at, steps_at, rising, cost_at};
 
 use crate::fault::ReadFault;
 use crate::number::{integer, natural};
-use crate::part::{divided, first_part, next_part};
 use std::alloc::Allocator;
 use tf_model::cost::StepCost;
+use tf_words::part::{divided, first_part, next_part};
 
 fn is_step(part: &[u8]) -> bool
     ensures { result ≡ is_step part.now }

@@ -3,6 +3,7 @@ ghost use Rattle.std.specs.Prelude.{◌≡◌};
 ghost use Rattle.tf_read.specs.declared.fault.ReadFault.TheVariants.{OutOfMemory};
 
 use std::alloc::{AllocError, AllocFailed};
+use tf_model::memory::OutOfMemory as NoMemory;
 use thiserror::Error;
 
 /// Why a text holds no instance: the first fault from its front on. A fault's number is that of its line, from 1.
@@ -59,6 +60,14 @@ impl From<AllocError> for ReadFault {
     ghost from_gives = { λ _ e. e ≡ OutOfMemory };
 
     fn from(_: AllocError) -> ReadFault {
+        ReadFault::OutOfMemory
+    }
+}
+
+impl From<NoMemory> for ReadFault {
+    ghost from_gives = { λ _ e. e ≡ OutOfMemory };
+
+    fn from(_: NoMemory) -> ReadFault {
         ReadFault::OutOfMemory
     }
 }

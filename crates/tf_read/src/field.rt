@@ -1,18 +1,18 @@
 //! The fields of a job line.
 ghost use Rattle.std.specs.Prelude.{◌≡◌};
-ghost use Rattle.tf_model.specs.Words.{words};
+ghost use Rattle.tf_words.specs.Words.{words};
 ghost use Rattle.tf_read.specs.Faults.{Gives};
 ghost use Rattle.tf_read.specs.JobLine.{times_at, field_at, fields_at, no_fields};
 
 use crate::cost_field::cost_at;
 use crate::fault::ReadFault;
 use crate::number::{integer, natural};
-use crate::part::divided;
 use std::alloc::Allocator;
 use std::marker::Model;
 use tf_model::cost::StepCost;
 use tf_model::job::{Job, Times};
-use tf_model::word::{first_word, is};
+use tf_words::part::divided;
+use tf_words::word::{first_word, is};
 
 /// The fields of a job line so far.
 #[derive(Drop)]

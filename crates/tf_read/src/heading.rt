@@ -1,10 +1,10 @@
 //! The heading of a flow shop, a line of `instance` and a name, byte by byte.
 ghost use Rattle.std.specs.Prelude.{◌≡◌, ℕ, List, [], ◌∷◌, ◌++◌, length, true, false};
-ghost use Rattle.tf_model.specs.Words.{words, is_white};
+ghost use Rattle.tf_words.specs.Words.{words, is_white};
 ghost use Rattle.tf_read.specs.FlowShop.{is_heading};
 ghost use Rattle.tf_read.specs.Heading.{spelling, HeadingShown};
 
-use tf_model::word::is_white;
+use tf_words::word::is_white;
 
 #[derive(Clone, Copy, Debug)]
 pub(crate) enum HeadingWord {

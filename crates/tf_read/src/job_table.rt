@@ -1,23 +1,24 @@
 //! The job table: a line for each job.
-ghost use Rattle.std.specs.Prelude.{◌≡◌, ◌+◌, ◌^◌, ◌<◌, ◌≤◌, ◌∷◌, length, None, IfOk};
+ghost use Rattle.std.specs.Prelude.{◌≡◌, ◌≤◌, None, IfOk};
 ghost use Rattle.std.specs.List.{before_first};
-ghost use Rattle.tf_model.specs.Words.{Line, words, lines, kept_from};
-ghost use Rattle.tf_model.specs.Number.{number};
+ghost use Rattle.tf_words.specs.Words.{words};
+ghost use Rattle.tf_words.specs.Lines.{word_line_of, word_lines_of};
+ghost use Rattle.tf_words.specs.Number.{number};
 ghost use Rattle.tf_model.specs.InstanceData.{count_fault};
 ghost use Rattle.tf_read.specs.Faults.{Gives, each_from};
 ghost use Rattle.tf_read.specs.JobTable.{machine_count, machines_at, job_at, is_arc, from_first, body_of, below_heading, is_heading, job_table};
 
-use crate::arc::arcs_of;
+use crate::arc::{arcs_of, is_arc};
 use crate::fault::ReadFault;
 use crate::field::job_of;
-use crate::instance::judged;
 use crate::room::room_for;
 use std::alloc::Allocator;
 use tf_model::instance::Instance;
 use tf_model::job::Job;
 use tf_model::limit::{MOST_BYTES, MOST_JOBS, MOST_MACHINES};
-use tf_model::number::{Number, number_of, plain_of};
-use tf_model::word::{Kept, first_word, is, next_kept};
+use tf_words::line::{Line, Lines};
+use tf_words::number::{Number, number_of, plain_of};
+use tf_words::word::{behind_key, first_word, is};
 
 /// The bytes of the shortest line of a job, `job 1 p=1` and a line feed.
 const SHORTEST_LINE: usize = 10;
@@ -52,16 +53,16 @@ fn machines_at(line: u32, text: &[u8]) -> Result<u32, ReadFault>
 }
 
 #[tactic(auto, unfolding(crate::specs::JobTable::job_at))]
-fn job_at<A: Allocator + Copy>(alloc: A, k: u32, line: &Kept<'_>) -> Result<Job<A>, ReadFault>
-    ensures { Gives (λ j. j) result (job_at k (record { number = line.now.number; words = line.now.first.now ∷ words line.now.after.now })) }
+fn job_at<A: Allocator + Copy>(alloc: A, k: u32, line: &Line<'_>) -> Result<Job<A>, ReadFault>
+    ensures { Gives (λ j. j) result (job_at k (word_line_of line.now)) }
 {
-    if !is(line.first, b"job") {
+    let Some(text) = behind_key(line.bytes, b"job") else {
         return Err(ReadFault::BadLine(line.number));
-    }
+    };
     if k as usize > MOST_JOBS {
         return Err(ReadFault::TooManyJobs);
     }
-    let Some((word, after)) = first_word(line.after) else {
+    let Some((word, after)) = first_word(text) else {
         return Err(ReadFault::BadLine(line.number));
     };
     if plain_of(word, MOST_JOBS as u32) != Some(k) {
@@ -70,42 +71,37 @@ fn job_at<A: Allocator + Copy>(alloc: A, k: u32, line: &Kept<'_>) -> Result<Job<
     job_of(alloc, line.number, after)
 }
 
-/// The jobs, a line for each, up to the first arc, and the lines from it on with the first one's number.
-fn jobs_of<A: Allocator + Copy>(
+/// The jobs, a line for each, up to the first arc, and the lines from it on.
+fn jobs_of<'a, A: Allocator + Copy>(
     alloc: A,
-    text: &[u8],
-    first: u32,
-) -> Result<(Vec<Job<A>, A>, &[u8], u32), ReadFault>
-    requires { first + length text.now < 2 ^ 32 }
-    ensures jobs { Gives (λ x. x.0.items) result (each_from job_at 1 (before_first is_arc (kept_from first (lines text.now)))) }
-    ensures rest { IfOk result (λ x. kept_from x.2 (lines x.1.now) ≡ from_first is_arc (kept_from first (lines text.now))) }
-    ensures room { IfOk result (λ x. x.2 + length x.1.now ≤ first + length text.now) }
+    lines: &Lines<'a>,
+) -> Result<(Vec<Job<A>, A>, Lines<'a>), ReadFault>
+    ensures jobs { Gives (λ x. x.0.items) result (each_from job_at 1 (before_first is_arc (word_lines_of lines.now))) }
+    ensures rest { IfOk result (λ x. word_lines_of x.1 ≡ from_first is_arc (word_lines_of lines.now)) }
 {
-    let room = room_for(text, SHORTEST_LINE, MOST_JOBS);
+    let room = room_for(lines.bytes_left(), SHORTEST_LINE, MOST_JOBS);
     let mut jobs = Vec::with_capacity(alloc, room)?;
-    let mut rest = text;
-    let mut number = first;
-    while let Some(line) = next_kept(rest, number) {
-        if is(line.first, b"prec") {
-            return Ok((jobs, rest, number));
+    let mut rest = *lines;
+    while let Some((line, after)) = rest.split_first() {
+        if is_arc(&line) {
+            return Ok((jobs, rest));
         }
         let job = job_at(alloc, jobs.len() as u32 + 1, &line)?;
         jobs.push(job)?;
-        rest = line.rest;
-        number = line.number + 1;
+        rest = after;
     }
-    Ok((jobs, rest, number))
+    Ok((jobs, rest))
 }
 
-fn is_heading(line: &Kept<'_>) -> bool
-    ensures { result ≡ is_heading (line.now.first.now ∷ words line.now.after.now) }
+fn is_heading(line: &Line<'_>) -> bool
+    ensures { result ≡ is_heading (words line.now.bytes.now) }
 {
-    if !is(line.first, b"table") {
-        return false;
-    }
-    match first_word(line.after) {
+    match behind_key(line.bytes, b"table") {
         None => false,
-        Some((word, after)) => is(word, b"1") && first_word(after).is_none(),
+        Some(text) => match first_word(text) {
+            None => false,
+            Some((word, after)) => is(word, b"1") && first_word(after).is_none(),
+        },
     }
 }
 
@@ -113,56 +109,48 @@ fn is_heading(line: &Kept<'_>) -> bool
 fn body_of<A: Allocator + Copy>(
     alloc: A,
     machines: Option<u32>,
-    text: &[u8],
-    first: u32,
+    lines: &Lines<'_>,
 ) -> Result<Instance<A>, ReadFault>
-    requires room { first + length text.now < 2 ^ 32 }
-    requires machines { count_fault machines ≡ None }
-    ensures { Gives (λ i. i) result (body_of machines (kept_from first (lines text.now))) }
+    requires { count_fault machines ≡ None }
+    ensures { Gives (λ i. i) result (body_of machines (word_lines_of lines.now)) }
 {
-    let (jobs, rest, number) = jobs_of(alloc, text, first)?;
-    let arcs = arcs_of(alloc, jobs.len() as u32, rest, number)?;
-    Ok(judged(jobs, arcs, machines))
+    let (jobs, rest) = jobs_of(alloc, lines)?;
+    let arcs = arcs_of(alloc, jobs.len() as u32, &rest)?;
+    Ok(Instance::of(jobs, arcs, machines))
 }
 
 #[tactic(auto, unfolding(crate::specs::JobTable::below_heading))]
-fn below_heading<A: Allocator + Copy>(
-    alloc: A,
-    text: &[u8],
-    first: u32,
-) -> Result<Instance<A>, ReadFault>
-    requires { first + length text.now < 2 ^ 32 }
-    ensures { Gives (λ i. i) result (below_heading (kept_from first (lines text.now))) }
+fn below_heading<A: Allocator + Copy>(alloc: A, lines: &Lines<'_>) -> Result<Instance<A>, ReadFault>
+    ensures { Gives (λ i. i) result (below_heading (word_lines_of lines.now)) }
 {
-    match next_kept(text, first) {
-        None => body_of(alloc, None, text, first),
-        Some(line) => {
-            if is(line.first, b"machines") {
-                let machines = machines_at(line.number, line.after)?;
-                body_of(alloc, Some(machines), line.rest, line.number + 1)
-            } else {
-                body_of(alloc, None, text, first)
+    match lines.split_first() {
+        None => body_of(alloc, None, lines),
+        Some((line, after)) => match behind_key(line.bytes, b"machines") {
+            None => body_of(alloc, None, lines),
+            Some(text) => {
+                let machines = machines_at(line.number, text)?;
+                body_of(alloc, Some(machines), &after)
             }
-        }
+        },
     }
 }
 
 /// The instance that a job table says, or its first fault: the kept lines from the first to the last, in each line
 /// the words from left to right.
-#[tactic(auto, unfolding(crate::specs::JobTable::job_table, crate::specs::JobTable::table_of))]
+#[tactic(auto, unfolding(crate::specs::JobTable::job_table, crate::specs::JobTable::table_of, tf_words::specs::Words::kept_from))]
 pub fn read_table<A: Allocator + Copy>(alloc: A, text: &[u8]) -> Result<Instance<A>, ReadFault>
     ensures { Gives (λ i. i) result (job_table text.now) }
 {
     if text.len() > MOST_BYTES {
         return Err(ReadFault::TooLong);
     }
-    match next_kept(text, 1) {
+    match Lines::new(text).split_first() {
         None => Err(ReadFault::EndsEarly),
-        Some(heading) => {
+        Some((heading, lines)) => {
             if !is_heading(&heading) {
                 return Err(ReadFault::BadLine(heading.number));
             }
-            below_heading(alloc, heading.rest, heading.number + 1)
+            below_heading(alloc, &lines)
         }
     }
 }

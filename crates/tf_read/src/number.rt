@@ -1,10 +1,10 @@
 //! Numbers that are judged for their line.
 ghost use Rattle.std.specs.Prelude.{◌≡◌};
-ghost use Rattle.tf_model.specs.Number.{number};
+ghost use Rattle.tf_words.specs.Number.{number};
 ghost use Rattle.tf_read.specs.Faults.{natural, integer};
 
 use crate::fault::ReadFault;
-use tf_model::number::{Number, number_of};
+use tf_words::number::{Number, number_of};
 
 /// A number that may be negative.
 pub(crate) fn integer_of(line: u32, number: Number) -> Result<i64, ReadFault>

@@ -1,20 +1,20 @@
 //! The numbers of one instance among those of a text.
-ghost use Rattle.std.specs.Prelude.{◌≡◌, ℕ, ◌+◌, ◌-◌, ◌*◌, ◌^◌, ◌<◌, ◌≤◌, List, [], ◌∷◌, ◌++◌, length, Ok, Some, None, is_some, ◌||◌, nat_le, IfOk, min, vec_capacity, vec_len, if◌then◌else◌};
-ghost use Rattle.tf_model.specs.Words.{Word};
+ghost use Rattle.std.specs.Prelude.{◌≡◌, ℕ, ◌+◌, ◌-◌, ◌*◌, ◌%◌, ◌^◌, ◌<◌, ◌≤◌, List, [], ◌∷◌, ◌++◌, length, Some, false, is_some, ◌||◌, nat_le, IfOk, vec_capacity, vec_len, if◌then◌else◌};
+ghost use Rattle.tf_words.specs.Words.{Word};
 ghost use Rattle.tf_model.specs.declared.limit.TheConstants.{MOST_JOBS};
-ghost use Rattle.tf_read.specs.Faults.{Gives};
-ghost use Rattle.tf_read.specs.Scan.{IsOf};
-ghost use Rattle.tf_read.specs.Numbers.{skipped, wanted, missing, HasRead};
+ghost use Rattle.tf_read.specs.Said.{Says};
+ghost use Rattle.tf_words.specs.Scan.{IsInRange};
+ghost use Rattle.tf_read.specs.Numbers.{skipped, wanted, missing, with_number, AreInRange, Reads};
 ghost use Rattle.tf_read.specs.WeightedTardiness.{number_at, job, jobs_of, instance_of};
 
 use crate::fault::ReadFault;
-use crate::instance::judged;
 use crate::number::{integer_of, natural_of};
+use crate::word_feed::Judge;
 use std::alloc::{AllocError, Allocator};
 use std::marker::Model;
 use tf_model::instance::Instance;
 use tf_model::job::{Job, Times};
-use tf_model::number::Number;
+use tf_words::number::Number;
 
 /// The numbers of an instance so far, and the first fault among those up to its last one.
 #[derive(Drop)]
@@ -28,13 +28,15 @@ pub(crate) struct Numbers<A: Allocator> {
     /// The words that were judged.
     count: u64,
     numbers: Vec<i64, A>,
+    /// Room for the jobs.
+    room: Vec<Job<A>, A>,
     fault: Option<ReadFault>,
 }
 
 impl<A: Allocator> Model for Numbers<A> {
-    ghost use Rattle.std.specs.Prelude.{◌≡◌, ◌+◌, ◌-◌, ◌*◌, ◌^◌, ◌<◌, ◌≤◌, vec_len, vec_capacity};
+    ghost use Rattle.std.specs.Prelude.{◌≡◌, ◌+◌, ◌-◌, ◌*◌, ◌%◌, ◌^◌, ◌<◌, ◌≤◌, vec_len, vec_capacity};
     ghost use Rattle.tf_model.specs.declared.limit.TheConstants.{MOST_JOBS};
-    ghost use Rattle.tf_read.specs.Numbers.{Progress};
+    ghost use Rattle.tf_read.specs.Numbers.{Progress, AreInRange};
 
     ghost Value = { Progress };
 
@@ -48,7 +50,11 @@ impl<A: Allocator> Model for Numbers<A> {
       own : f.wanted ≡ f.skipped + 3 * f.jobs;
       near : f.wanted < 2 ^ 62;
       room : 3 * f.jobs ≤ vec_capacity f.numbers;
+      within : f.count ≤ f.wanted;
       tally : vec_len f.numbers ≡ f.count - f.skipped;
+      jobs_room : f.jobs ≤ vec_capacity f.room;
+      no_job : vec_len f.room ≡ 0;
+      in_range : AreInRange f.jobs f.numbers.items;
     } };
 }
 
@@ -68,13 +74,16 @@ fn number_at(jobs: u64, place: u64, line: u32, number: Number) -> Result<i64, Re
 impl<A: Allocator> Numbers<A> {
     /// Those of the instance of this index, from 1, where each has so many jobs. It makes all room.
     pub(crate) fn new(alloc: A, jobs: u64, index: u64) -> Result<Self, AllocError>
+    where
+        A: Copy,
         requires some { 0 < jobs }
         requires few { jobs ≤ MOST_JOBS }
         requires from_one { 0 < index }
         requires near { index < 2 ^ 32 }
-        ensures { IfOk result (λ p. p ≡ record { jobs = jobs; index = index; count = 0; numbers = []; fault = None }) }
+        ensures { IfOk result (λ p. Reads p (instance_of jobs index) []) }
     {
         let numbers = Vec::with_capacity(alloc, 3 * jobs as usize)?;
+        let room = Vec::with_capacity(alloc, jobs as usize)?;
         let skipped = 3 * jobs * (index - 1);
         Ok(Numbers {
             jobs,
@@ -83,6 +92,7 @@ impl<A: Allocator> Numbers<A> {
             wanted: skipped + 3 * jobs,
             count: 0,
             numbers,
+            room,
             fault: None,
         })
     }
@@ -95,14 +105,18 @@ impl<A: Allocator> Numbers<A> {
     }
 
     fn number(&self, line: u32, number: Number) -> Result<i64, ReadFault>
-        ensures { result ≡ number_at self.now.jobs self.now.count line number }
+        requires wanted { self.now.count < wanted self.now }
+        requires in_range { IsInRange number }
+        ensures value { result ≡ number_at self.now.jobs self.now.count line number }
+        ensures in_range { IfOk result (λ z. AreInRange self.now.jobs (with_number self.now z).numbers) }
     {
         number_at(self.jobs, self.count, line, number)
     }
 
     fn keep(&mut self, value: i64)
-        requires { self.old.count < wanted self.old }
-        ensures { self.new ≡ record self.old { count = self.old.count + 1; numbers = if nat_le (skipped self.old) self.old.count then self.old.numbers ++ value ∷ [] else self.old.numbers } }
+        requires wanted { self.old.count < wanted self.old }
+        requires in_range { AreInRange self.old.jobs (with_number self.old value).numbers }
+        ensures { self.new ≡ with_number self.old value }
     {
         let count = self.count;
         self.count = count + 1;
@@ -115,21 +129,6 @@ impl<A: Allocator> Numbers<A> {
         ensures { self.new ≡ record self.old { fault = Some fault } }
     {
         self.fault = Some(fault);
-    }
-
-    /// With one word more.
-    pub(crate) fn judge(&mut self, line: u32, number: Number)
-        ensures read { (seen : List Word) (word : Word) → IsOf word line number → HasRead self.old seen → HasRead self.new (seen ++ word ∷ []) }
-        ensures jobs { self.new.jobs ≡ self.old.jobs }
-        ensures index { self.new.index ≡ self.old.index }
-    {
-        if self.is_over() {
-            return;
-        }
-        match self.number(line, number) {
-            Err(fault) => self.fail(fault),
-            Ok(value) => self.keep(value),
-        }
     }
 
     /// The fault that was met, or what is missing at the end.
@@ -147,6 +146,35 @@ impl<A: Allocator> Numbers<A> {
         }
         None
     }
+
+    /// The instance that the words of a text say. It takes no memory.
+    pub(crate) fn instance(self, alloc: A) -> Result<Instance<A>, ReadFault>
+        ensures { (says : Says) (seen : List Word) → Reads self says seen → result ≡ says seen }
+    {
+        match self.missing() {
+            Some(fault) => Err(fault),
+            None => {
+                let jobs = jobs_of(self.room, self.jobs as usize, self.numbers.as_slice());
+                Ok(Instance::of(jobs, Vec::new(alloc), None))
+            }
+        }
+    }
+}
+
+impl<A: Allocator> Judge for Numbers<A> {
+    ghost use Rattle.tf_read.specs.Numbers.{Reads};
+
+    ghost HasRead = { Reads };
+
+    fn judge(&mut self, line: u32, number: Number) {
+        if self.is_over() {
+            return;
+        }
+        match self.number(line, number) {
+            Err(fault) => self.fail(fault),
+            Ok(value) => self.keep(value),
+        }
+    }
 }
 
 fn job<A: Allocator>(jobs: usize, numbers: &[i64], j: usize) -> Job<A>
@@ -163,46 +191,15 @@ fn job<A: Allocator>(jobs: usize, numbers: &[i64], j: usize) -> Job<A>
     }
 }
 
-/// The jobs of which these are the times, then the weights, then the due dates.
-fn jobs_of<A: Allocator + Copy>(
-    alloc: A,
-    jobs: usize,
-    numbers: &[i64],
-) -> Result<Vec<Job<A>, A>, ReadFault>
-    requires { length numbers.now ≡ 3 * jobs }
-    ensures { Gives (λ v. v.items) result (Ok (jobs_of jobs numbers.now)) }
+/// The jobs of which these are the times, then the weights, then the due dates, in room that was made for them.
+fn jobs_of<A: Allocator>(mut room: Vec<Job<A>, A>, jobs: usize, numbers: &[i64]) -> Vec<Job<A>, A>
+    requires all { length numbers.now ≡ 3 * jobs }
+    requires empty { vec_len room ≡ 0 }
+    requires room { jobs ≤ vec_capacity room }
+    ensures { result.items ≡ jobs_of jobs numbers.now }
 {
-    let mut made = Vec::with_capacity(alloc, jobs)?;
     for j in 0..jobs {
-        made.push(job(jobs, numbers, j))?;
+        room.push(job(jobs, numbers, j)).unwrap();
     }
-    Ok(made)
-}
-
-impl<A: Allocator + Copy> Numbers<A> {
-    fn jobs(&self) -> usize
-        ensures value { result ≡ self.now.jobs }
-        ensures some { 0 < result }
-        ensures few { result ≤ MOST_JOBS }
-    {
-        self.jobs as usize
-    }
-
-    fn as_slice(&self) -> &[i64]
-        ensures { result.now ≡ self.now.numbers }
-    {
-        &self.numbers
-    }
-
-    /// The instance, where these are the words of a text.
-    pub(crate) fn instance(&self, alloc: A) -> Result<Instance<A>, ReadFault>
-        requires { (seen : List Word) × HasRead self.now seen }
-        ensures { (seen : List Word) → HasRead self.now seen → Gives (λ i. i) result (instance_of self.now.jobs self.now.index seen) }
-    {
-        if let Some(fault) = self.missing() {
-            return Err(fault);
-        }
-        let jobs = jobs_of(alloc, self.jobs(), self.as_slice())?;
-        Ok(judged(jobs, Vec::new(alloc), None))
-    }
+    room
 }

@@ -1,26 +1,29 @@
 //! The times of a flow shop among the words of a text.
-ghost use Rattle.std.specs.Prelude.{◌≡◌, ℕ, ◌+◌, ◌-◌, ◌*◌, ◌^◌, ◌<◌, ◌≤◌, ◌==◌, List, [], ◌∷◌, ◌++◌, length, Ok, Some, None, true, false, is_some, ◌||◌, nat_le, IfOk, if◌then◌else◌};
-ghost use Rattle.tf_model.specs.Words.{Word};
-ghost use Rattle.tf_read.specs.Faults.{Gives, natural};
-ghost use Rattle.tf_read.specs.Scan.{IsOf};
-ghost use Rattle.tf_read.specs.FlowShop.{machine_is, first_machine, second_machine, machine_count, times_of, job, jobs_of, pairs_of};
-ghost use Rattle.tf_read.specs.Pairs.{HasRead, after_name, after_time, missing};
+ghost use Rattle.std.specs.Prelude.{◌≡◌, ℕ, ◌+◌, ◌-◌, ◌*◌, ◌^◌, ◌<◌, ◌≤◌, ◌==◌, List, [], ◌∷◌, ◌++◌, length, Ok, Some, None, true, false, is_some, ◌||◌, nat_le, IfOk, IsTrue, vec_len, vec_capacity, if◌then◌else◌};
+ghost use Rattle.tf_words.specs.Words.{Word};
+ghost use Rattle.tf_read.specs.Faults.{natural};
+ghost use Rattle.tf_read.specs.Said.{Says};
+ghost use Rattle.tf_words.specs.Scan.{IsInRange};
+ghost use Rattle.tf_read.specs.FlowShop.{is_pair, machine_is, first_machine, second_machine, machine_count, times_of, job, jobs_of, pairs_of};
+ghost use Rattle.tf_read.specs.Pairs.{Reads, IsTime, AreTimes, after_name, after_time, missing};
 
 use crate::fault::ReadFault;
-use crate::instance::judged;
 use crate::number::natural_of;
+use crate::word_feed::Judge;
 use std::alloc::{AllocError, Allocator};
 use std::marker::Model;
 use tf_model::instance::Instance;
 use tf_model::job::{Job, Times};
 use tf_model::limit::{MOST_JOBS, MOST_MACHINES};
-use tf_model::number::Number;
+use tf_words::number::Number;
 
 /// The times of the jobs on two machines so far, and the first fault among the words up to the last job's.
 #[derive(Drop)]
 pub(crate) struct Pairs<A: Allocator> {
     jobs: usize,
     machines: u32,
+    pair: Option<(u32, u32)>,
+    /// The machine whose times come first, and the one whose times come second.
     first: u32,
     second: u32,
     /// The jobs that are over.
@@ -31,22 +34,27 @@ pub(crate) struct Pairs<A: Allocator> {
     is_named: bool,
     firsts: Vec<i64, A>,
     seconds: Vec<i64, A>,
+    /// Room for the jobs.
+    room: Vec<Job<A>, A>,
     fault: Option<ReadFault>,
 }
 
 impl<A: Allocator> Model for Pairs<A> {
     ghost use Rattle.std.specs.Prelude.{◌≡◌, ◌+◌, ◌<◌, ◌≤◌, false, nat_lt, vec_len, vec_capacity, if◌then◌else◌};
     ghost use Rattle.tf_model.specs.declared.limit.TheConstants.{MOST_JOBS, MOST_MACHINES};
-    ghost use Rattle.tf_read.specs.Pairs.{Pairs as PairsSoFar};
+    ghost use Rattle.tf_read.specs.FlowShop.{first_machine, second_machine};
+    ghost use Rattle.tf_read.specs.Pairs.{Pairs as PairsSoFar, AreTimes};
 
     ghost Value = { PairsSoFar };
 
-    ghost view = { λ f. record { jobs = f.jobs; machines = f.machines; first = f.first; second = f.second; job = f.job; machine = f.machine; is_named = f.is_named; firsts = f.firsts.items; seconds = f.seconds.items; fault = f.fault } };
+    ghost view = { λ f. record { jobs = f.jobs; machines = f.machines; pair = f.pair; job = f.job; machine = f.machine; is_named = f.is_named; firsts = f.firsts.items; seconds = f.seconds.items; fault = f.fault } };
 
     ghost invariant = { λ f. record {
       some : 0 < f.jobs;
       within : f.machine < f.machines;
       machines_few : f.machines ≤ MOST_MACHINES;
+      first_is : f.first ≡ first_machine f.pair;
+      second_is : f.second ≡ second_machine f.machines f.pair;
       first_there : f.first < f.machines;
       second_there : f.second < f.machines;
       few : f.job ≤ f.jobs;
@@ -57,6 +65,10 @@ impl<A: Allocator> Model for Pairs<A> {
       seconds_len : vec_len f.seconds ≡ f.job + (if nat_lt f.second f.machine then 1 else 0);
       firsts_room : f.jobs ≤ vec_capacity f.firsts;
       seconds_room : f.jobs ≤ vec_capacity f.seconds;
+      jobs_room : f.jobs ≤ vec_capacity f.room;
+      no_job : vec_len f.room ≡ 0;
+      first_times : AreTimes f.firsts.items;
+      second_times : AreTimes f.seconds.items;
     } };
 }
 
@@ -77,29 +89,63 @@ fn machine_is(machine: u32, line: u32, number: Number) -> Result<i64, ReadFault>
     }
 }
 
+/// The machine whose times come first, and the one whose times come second.
+fn kept(machines: u32, pair: Option<(u32, u32)>) -> (u32, u32)
+    requires some { 0 < machines }
+    requires pair { IsTrue (is_pair machines pair) }
+    ensures first { result.0 ≡ first_machine pair }
+    ensures second { result.1 ≡ second_machine machines pair }
+    ensures first_there { result.0 < machines }
+    ensures second_there { result.1 < machines }
+{
+    match pair {
+        Some(pair) => pair,
+        None => { if machines == 1 { (0, 0) } else { (0, 1) } }
+    }
+}
+
+/// One time more of a machine, where it is of this one. There is room for it.
+#[tactic(auto, using(crate::proofs::FlowInstance::times_more))]
+fn keep_time<A: Allocator>(times: &mut Vec<i64, A>, is_here: bool, time: i64)
+    requires room { is_here ≡ true → vec_len times.old < vec_capacity times.old }
+    requires times { AreTimes times.old.items }
+    requires time { IsTime time }
+    ensures items { times.new.items ≡ (if is_here then times.old.items ++ time ∷ [] else times.old.items) }
+    ensures len { vec_len times.new ≡ vec_len times.old + (if is_here then 1 else 0) }
+    ensures capacity { vec_capacity times.old ≤ vec_capacity times.new }
+    ensures times { AreTimes times.new.items }
+{
+    if is_here {
+        times.push(time).unwrap();
+    }
+}
+
 impl<A: Allocator> Pairs<A> {
-    /// The times of so many jobs on the machines `first` and `second` of so many, counted from 0. It makes all room.
+    /// The times of so many jobs on this pair of so many machines, counted from 0, or on the first two. It makes all room.
+    #[tactic(auto, using(crate::proofs::FlowInstance::no_times))]
     pub(crate) fn new(
         alloc: A,
         jobs: usize,
         machines: u32,
-        first: u32,
-        second: u32,
+        pair: Option<(u32, u32)>,
     ) -> Result<Self, AllocError>
     where
         A: Copy,
         requires some { 0 < jobs }
         requires few { jobs ≤ MOST_JOBS }
+        requires machines_some { 0 < machines }
         requires machines_few { machines ≤ MOST_MACHINES }
-        requires first_there { first < machines }
-        requires second_there { second < machines }
-        ensures { IfOk result (λ p. p ≡ record { jobs = jobs; machines = machines; first = first; second = second; job = 0; machine = 0; is_named = false; firsts = []; seconds = []; fault = None }) }
+        requires pair { IsTrue (is_pair machines pair) }
+        ensures { IfOk result (λ p. Reads p (pairs_of jobs machines pair) []) }
     {
+        let (first, second) = kept(machines, pair);
         let firsts = Vec::with_capacity(alloc, jobs)?;
         let seconds = Vec::with_capacity(alloc, jobs)?;
+        let room = Vec::with_capacity(alloc, jobs)?;
         Ok(Pairs {
             jobs,
             machines,
+            pair,
             first,
             second,
             job: 0,
@@ -107,6 +153,7 @@ impl<A: Allocator> Pairs<A> {
             is_named: false,
             firsts,
             seconds,
+            room,
             fault: None,
         })
     }
@@ -140,7 +187,8 @@ impl<A: Allocator> Pairs<A> {
     }
 
     fn time(&mut self, line: u32, number: Number)
-        requires { self.old.job < self.old.jobs }
+        requires wanted { self.old.job < self.old.jobs }
+        requires in_range { IsInRange number }
         ensures { self.new ≡ after_time self.old (natural line number) }
     {
         match natural_of(line, number) {
@@ -150,15 +198,12 @@ impl<A: Allocator> Pairs<A> {
     }
 
     fn keep(&mut self, time: i64)
-        requires { self.old.job < self.old.jobs }
+        requires wanted { self.old.job < self.old.jobs }
+        requires time { IsTime time }
         ensures { self.new ≡ after_time self.old (Ok time) }
     {
-        if self.machine == self.first {
-            self.firsts.push(time).unwrap();
-        }
-        if self.machine == self.second {
-            self.seconds.push(time).unwrap();
-        }
+        keep_time(&mut self.firsts, self.machine == self.first, time);
+        keep_time(&mut self.seconds, self.machine == self.second, time);
         self.is_named = false;
         if self.machine + 1 == self.machines {
             self.machine = 0;
@@ -168,14 +213,44 @@ impl<A: Allocator> Pairs<A> {
         }
     }
 
-    /// With one word more.
-    pub(crate) fn judge(&mut self, line: u32, number: Number)
-        ensures read { (seen : List Word) (word : Word) → IsOf word line number → HasRead self.old seen → HasRead self.new (seen ++ word ∷ []) }
-        ensures jobs { self.new.jobs ≡ self.old.jobs }
-        ensures machines { self.new.machines ≡ self.old.machines }
-        ensures first { self.new.first ≡ self.old.first }
-        ensures second { self.new.second ≡ self.old.second }
+    /// The fault that was met, or what is missing at the end.
+    fn missing(&self) -> Option<ReadFault>
+        ensures value { result ≡ missing self.now }
+        ensures within { self.now.machine < self.now.machines }
+        ensures over { self.now.jobs ≤ self.now.job → self.now.machine ≡ 0 }
+        ensures over_named { self.now.jobs ≤ self.now.job → self.now.is_named ≡ false }
+        ensures few { self.now.job ≤ self.now.jobs }
     {
+        if self.fault.is_some() {
+            return self.fault;
+        }
+        if self.job < self.jobs {
+            return Some(ReadFault::EndsEarly);
+        }
+        None
+    }
+
+    /// The instance that the words of a text say. It takes no memory.
+    pub(crate) fn instance(self, alloc: A) -> Result<Instance<A>, ReadFault>
+        ensures { (says : Says) (seen : List Word) → Reads self says seen → result ≡ says seen }
+    {
+        match self.missing() {
+            Some(fault) => Err(fault),
+            None => {
+                let jobs = jobs_of(self.room, self.machines, &self.firsts, &self.seconds);
+                let machines = machine_count(self.machines, self.pair);
+                Ok(Instance::of(jobs, Vec::new(alloc), Some(machines)))
+            }
+        }
+    }
+}
+
+impl<A: Allocator> Judge for Pairs<A> {
+    ghost use Rattle.tf_read.specs.Pairs.{Reads};
+
+    ghost HasRead = { Reads };
+
+    fn judge(&mut self, line: u32, number: Number) {
         if self.is_over() {
             return;
         }
@@ -213,23 +288,22 @@ fn job<A: Allocator>(machines: u32, firsts: &[i64], seconds: &[i64], j: usize) -
     }
 }
 
-/// The jobs of which these are the times on two machines.
-fn jobs_of<A: Allocator + Copy>(
-    alloc: A,
-    jobs: usize,
+/// The jobs of which these are the times on two machines, in room that was made for them.
+fn jobs_of<A: Allocator>(
+    mut room: Vec<Job<A>, A>,
     machines: u32,
     firsts: &[i64],
     seconds: &[i64],
-) -> Result<Vec<Job<A>, A>, ReadFault>
-    requires first { length firsts.now ≡ jobs }
-    requires second { length seconds.now ≡ jobs }
-    ensures { Gives (λ v. v.items) result (Ok (jobs_of jobs machines firsts.now seconds.now)) }
+) -> Vec<Job<A>, A>
+    requires same { length seconds.now ≡ length firsts.now }
+    requires empty { vec_len room ≡ 0 }
+    requires room { length firsts.now ≤ vec_capacity room }
+    ensures { result.items ≡ jobs_of (length firsts.now) machines firsts.now seconds.now }
 {
-    let mut made = Vec::with_capacity(alloc, jobs)?;
-    for j in 0..jobs {
-        made.push(job(machines, firsts, seconds, j))?;
+    for j in 0..firsts.len() {
+        room.push(job(machines, firsts, seconds, j)).unwrap();
     }
-    Ok(made)
+    room
 }
 
 /// The number of machines of the instance.
@@ -237,81 +311,4 @@ fn machine_count(machines: u32, pair: Option<(u32, u32)>) -> u32
     ensures { result ≡ machine_count machines pair }
 {
     if pair.is_some() { 2 } else { machines }
-}
-
-impl<A: Allocator + Copy> Pairs<A> {
-    fn jobs(&self) -> usize
-        ensures value { result ≡ self.now.jobs }
-        ensures some { 0 < result }
-        ensures few { result ≤ MOST_JOBS }
-    {
-        self.jobs
-    }
-
-    fn machines(&self) -> u32
-        ensures value { result ≡ self.now.machines }
-        ensures some { 0 < result }
-        ensures few { result ≤ MOST_MACHINES }
-    {
-        self.machines
-    }
-
-    fn firsts(&self) -> &[i64]
-        ensures value { result.now ≡ self.now.firsts }
-        ensures all { self.now.jobs ≤ self.now.job → length result.now ≡ self.now.jobs }
-    {
-        &self.firsts
-    }
-
-    fn seconds(&self) -> &[i64]
-        ensures value { result.now ≡ self.now.seconds }
-        ensures all { self.now.jobs ≤ self.now.job → length result.now ≡ self.now.jobs }
-    {
-        &self.seconds
-    }
-
-    /// The fault that was met, or what is missing at the end.
-    fn missing(&self) -> Option<ReadFault>
-        ensures value { result ≡ missing self.now }
-        ensures within { self.now.machine < self.now.machines }
-        ensures over { self.now.jobs ≤ self.now.job → self.now.machine ≡ 0 }
-        ensures over_named { self.now.jobs ≤ self.now.job → self.now.is_named ≡ false }
-        ensures few { self.now.job ≤ self.now.jobs }
-    {
-        if self.fault.is_some() {
-            return self.fault;
-        }
-        if self.job < self.jobs {
-            return Some(ReadFault::EndsEarly);
-        }
-        None
-    }
-
-    /// The instance, where these are the words of a text.
-    pub(crate) fn instance(
-        &self,
-        alloc: A,
-        pair: Option<(u32, u32)>,
-    ) -> Result<Instance<A>, ReadFault>
-        requires read { (seen : List Word) × HasRead self.now seen }
-        requires first { self.now.first ≡ first_machine pair }
-        requires second { self.now.second ≡ second_machine self.now.machines pair }
-        ensures { (seen : List Word) → HasRead self.now seen → Gives (λ i. i) result (pairs_of self.now.jobs self.now.machines pair seen) }
-    {
-        if let Some(fault) = self.missing() {
-            return Err(fault);
-        }
-        let jobs = jobs_of(
-            alloc,
-            self.jobs(),
-            self.machines(),
-            self.firsts(),
-            self.seconds(),
-        )?;
-        Ok(judged(
-            jobs,
-            Vec::new(alloc),
-            Some(machine_count(self.machines(), pair)),
-        ))
-    }
 }

@@ -1,13 +1,14 @@
 //! The sizes of a flow shop, a line of two words of digits alone, byte by byte.
 ghost use Rattle.std.specs.Prelude.{◌≡◌, ℕ, ◌<◌, ◌≤◌, List, [], ◌∷◌, ◌++◌, IfOk, IsTrue, true, false};
 ghost use Rattle.std.specs.Char.{is_ascii_digit};
-ghost use Rattle.tf_model.specs.Words.{words, is_white};
+ghost use Rattle.tf_words.specs.Words.{words, is_white};
 ghost use Rattle.tf_read.specs.FlowShop.{is_pair, sizes_in};
 ghost use Rattle.tf_read.specs.Sizes.{HasDigits, IsSize, SizesShown, judged_sizes};
 
 use crate::fault::ReadFault;
 use tf_model::limit::{LIMIT, MOST_JOBS, MOST_MACHINES};
-use tf_model::word::is_white;
+use tf_words::digits::with_digit;
+use tf_words::word::is_white;
 
 /// What the bytes of a line have shown of sizes. A number above the limit is cut off.
 #[derive(Clone, Copy, Debug)]
@@ -26,16 +27,12 @@ pub(crate) enum SizesLine {
     Other,
 }
 
-/// A size with one digit more.
-fn with_digit(size: u64, byte: u8) -> u64
-    ensures { (word : List ℕ) → is_ascii_digit byte ≡ true → HasDigits size word → IsSize result (word ++ byte ∷ []) }
+/// A size with one digit more, cut off.
+fn size_with(size: u64, digit: u8) -> u64
+    requires { is_ascii_digit digit ≡ true }
+    ensures { (word : List ℕ) → HasDigits size word → IsSize result (word ++ digit ∷ []) }
 {
-    let size = u128::from(size) * 10 + u128::from(byte.saturating_sub(b'0'));
-    if size > LIMIT as u128 {
-        LIMIT as u64 + 1
-    } else {
-        size as u64
-    }
+    with_digit(size, digit).min(LIMIT as u64 + 1)
 }
 
 impl SizesLine {
@@ -59,14 +56,15 @@ impl SizesLine {
 
     /// With a digit more.
     fn digit(self, byte: u8) -> SizesLine
-        ensures { (bytes : List ℕ) → is_white byte ≡ false → is_ascii_digit byte ≡ true → SizesShown bytes self → SizesShown (bytes ++ byte ∷ []) result }
+        requires { is_ascii_digit byte ≡ true }
+        ensures { (bytes : List ℕ) → is_white byte ≡ false → SizesShown bytes self → SizesShown (bytes ++ byte ∷ []) result }
     {
         match self {
-            SizesLine::Blank => SizesLine::Jobs(with_digit(0, byte)),
-            SizesLine::Jobs(jobs) => SizesLine::Jobs(with_digit(jobs, byte)),
-            SizesLine::Between(jobs) => SizesLine::Machines(jobs, with_digit(0, byte)),
+            SizesLine::Blank => SizesLine::Jobs(size_with(0, byte)),
+            SizesLine::Jobs(jobs) => SizesLine::Jobs(size_with(jobs, byte)),
+            SizesLine::Between(jobs) => SizesLine::Machines(jobs, size_with(0, byte)),
             SizesLine::Machines(jobs, machines) => {
-                SizesLine::Machines(jobs, with_digit(machines, byte))
+                SizesLine::Machines(jobs, size_with(machines, byte))
             }
             SizesLine::Both(_, _) | SizesLine::Other => SizesLine::Other,
         }

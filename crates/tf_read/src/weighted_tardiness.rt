@@ -1,102 +1,122 @@
 //! Weighted tardiness files, after OR-Library's: instances one after the other, each of n times, then n weights, then
 //! n due dates.
-ghost use Rattle.std.specs.Prelude.{◌≡◌, ℕ, ◌+◌, ◌^◌, ◌<◌, ◌≤◌, List, [], ◌∷◌, ◌++◌, length, None, IfOk};
-ghost use Rattle.tf_model.specs.Words.{lines, words_from};
+ghost use Rattle.std.specs.Prelude.{◌≡◌, ◌+◌, ◌≤◌, List, [], ℕ, IfOk};
 ghost use Rattle.tf_read.specs.Faults.{Gives};
-ghost use Rattle.tf_read.specs.Numbers.{HasRead, HasFed};
-ghost use Rattle.tf_read.specs.WeightedTardiness.{instance_of, weighted_tardiness};
+ghost use Rattle.tf_read.specs.WeightedTardiness.{request_fault, weighted_tardiness};
+ghost use Rattle.tf_read.specs.WtReading.{line_in, HasTaken};
 
 use crate::fault::ReadFault;
+use crate::length::Length;
 use crate::numbers::Numbers;
-use crate::scan::Scan;
-use std::alloc::{AllocError, Allocator};
+use crate::word_feed::WordFeed;
+use std::alloc::{Allocator, Global};
 use tf_model::instance::Instance;
-use tf_model::limit::{MOST_BYTES, MOST_JOBS};
+use tf_model::limit::MOST_JOBS;
+use tf_model::memory::OutOfMemory;
+use tf_words::feed::Feed;
 
-/// The reader of one instance, to which the text is fed.
+/// A reader of one instance, to which a text is fed piece by piece.
+///
+/// Of the words from the first up to the instance's last, each is judged. The text is not kept, and feeding it takes no
+/// memory. After the first fault the rest of the text is passed over.
 #[derive(Drop)]
-struct WtReader<A: Allocator> {
-    scan: Scan,
-    numbers: Numbers<A>,
+pub struct WtReader<A: Allocator = Global> {
+    alloc: A,
+    length: Length,
+    /// The words, or why what was asked for is not there, whatever the text says.
+    reading: Result<WordFeed<Numbers<A>>, ReadFault>,
+    ghost early: { line_in reading ≤ length.bytes + 1 },
+}
+
+/// Why there is no such instance in any text.
+fn refusal(jobs: u32, index: u32) -> Option<ReadFault>
+    ensures { result ≡ request_fault jobs index }
+{
+    if jobs == 0 {
+        Some(ReadFault::NoJobs)
+    } else if jobs as usize > MOST_JOBS {
+        Some(ReadFault::TooManyJobs)
+    } else if index == 0 {
+        Some(ReadFault::NoInstance)
+    } else {
+        None
+    }
 }
 
 impl<A: Allocator + Copy> WtReader<A> {
-    /// The reader of the instance of this index, where each has so many jobs.
-    fn new(alloc: A, jobs: u64, index: u64) -> Result<Self, AllocError>
-        requires some { 0 < jobs }
-        requires few { jobs ≤ MOST_JOBS }
-        requires from_one { 0 < index }
-        requires near { index < 2 ^ 32 }
-        ensures { IfOk result (λ r. record {
-          fed : HasFed r.numbers r.scan.line r.scan.shown [];
-          line : r.scan.line ≡ 1;
-          jobs : r.numbers.jobs ≡ jobs;
-          index : r.numbers.index ≡ index;
-        }) }
-    {
-        let numbers = Numbers::new(alloc, jobs, index)?;
-        Ok(WtReader {
-            scan: Scan::new(1),
-            numbers,
-        })
-    }
+    ghost use Rattle.std.specs.Prelude.{◌≡◌, List, [], ℕ, IfOk};
+    ghost use Rattle.tf_read.specs.Said.{TextSays};
+    ghost use Rattle.tf_read.specs.WtReader.{HasFed};
 
-    fn push(&mut self, byte: u8)
-        requires { self.old.scan.line + 1 < 2 ^ 32 }
-        ensures later { self.new.scan.line ≤ self.old.scan.line + 1 }
-        ensures fed { (fed : List ℕ) → HasFed self.old.numbers self.old.scan.line self.old.scan.shown fed →
-            HasFed self.new.numbers self.new.scan.line self.new.scan.shown (fed ++ byte ∷ []) }
-        ensures jobs { self.new.numbers.jobs ≡ self.old.numbers.jobs }
-        ensures index { self.new.numbers.index ≡ self.old.numbers.index }
+    /// The reader of the instance of this index, from 1, where each has so many jobs. It makes all room that is needed,
+    /// and none where no text has such an instance.
+    pub fn new(alloc: A, jobs: u32, index: u32) -> Result<Self, OutOfMemory>
+        ensures { IfOk result (λ r. HasFed r (weighted_tardiness jobs index) []) }
     {
-        match self.scan.push(byte) {
-            None => {}
-            Some((line, number)) => self.numbers.judge(line, number),
-        }
-    }
-
-    /// The next piece of the text.
-    fn feed(&mut self, piece: &[u8])
-        requires { self.old.scan.line + length piece.now < 2 ^ 32 }
-        ensures fed { (fed : List ℕ) → HasFed self.old.numbers self.old.scan.line self.old.scan.shown fed →
-            HasFed self.new.numbers self.new.scan.line self.new.scan.shown (fed ++ piece.now) }
-        ensures jobs { self.new.numbers.jobs ≡ self.old.numbers.jobs }
-        ensures index { self.new.numbers.index ≡ self.old.numbers.index }
-    {
-        for byte in piece {
-            self.push(*byte);
-        }
-    }
-
-    /// With the word at the text's end.
-    fn ended(self) -> Numbers<A>
-        ensures read { (fed : List ℕ) → HasFed self.numbers self.scan.line self.scan.shown fed → HasRead result (words_from 1 (lines fed)) }
-        ensures jobs { result.jobs ≡ self.numbers.jobs }
-        ensures index { result.index ≡ self.numbers.index }
-    {
-        let mut numbers = self.numbers;
-        match self.scan.ended() {
-            None => numbers,
-            Some((line, number)) => {
-                numbers.judge(line, number);
-                numbers
+        match refusal(jobs, index) {
+            Some(fault) => Ok(WtReader::before(alloc, Err(fault))),
+            None => {
+                let numbers = Numbers::new(alloc, u64::from(jobs), u64::from(index))?;
+                Ok(WtReader::before(alloc, Ok(WordFeed::new(1, numbers))))
             }
         }
     }
 
-    /// The instance, where the text ends here.
-    fn finish(self, alloc: A) -> Result<Instance<A>, ReadFault>
-        requires { (fed : List ℕ) × HasFed self.numbers self.scan.line self.scan.shown fed }
-        ensures { (fed : List ℕ) → HasFed self.numbers self.scan.line self.scan.shown fed →
-            Gives (λ i. i) result (instance_of self.numbers.jobs self.numbers.index (words_from 1 (lines fed))) }
+    // Before the first byte.
+    fn before(alloc: A, reading: Result<WordFeed<Numbers<A>>, ReadFault>) -> Self
+        requires { line_in reading ≤ 1 }
+        ensures { (n k : ℕ) → HasTaken n k reading [] → HasFed result (weighted_tardiness n k) [] }
     {
-        self.ended().instance(alloc)
+        WtReader {
+            alloc,
+            length: Length::new(),
+            reading,
+        }
+    }
+
+    /// The instance that the text says, or its first fault, where no more is fed. It takes no memory.
+    pub fn finish(self) -> Result<Instance<A>, ReadFault>
+        ensures { (says : TextSays) (fed : List ℕ) → HasFed self says fed → result ≡ says fed }
+    {
+        let WtReader {
+            alloc,
+            length,
+            reading,
+        } = self;
+        if length.is_too_long() {
+            return Err(ReadFault::TooLong);
+        }
+        match reading {
+            Err(fault) => Err(fault),
+            Ok(words) => words.ended().instance(alloc),
+        }
     }
 }
 
-/// The instance of this index, from 1, where each has `jobs` jobs, or the first fault. Of the words from the first up
-/// to the instance's last, each is judged.
-#[tactic(auto, unfolding(crate::specs::WeightedTardiness::weighted_tardiness, tf_model::specs::Words::placed_words))]
+impl<A: Allocator + Copy> Feed for WtReader<A> {
+    ghost use Rattle.std.proofs.Common.{subst, sym, append_assoc};
+    ghost use Rattle.std.proofs.lemmas.List.{append-nil};
+    ghost use Rattle.tf_read.specs.WtReader.{HasFed, Takes};
+
+    ghost Takes = { Takes };
+
+    fn feed(&mut self, piece: &[u8]) {
+        self.length.grow(piece.len());
+        if self.length.is_too_long() {
+            return;
+        }
+        if let Ok(words) = &mut self.reading {
+            words.feed(piece);
+        }
+    }
+
+    ghost took_nothing = { λ x says fed h. subst (HasFed x says) (sym (append-nil fed)) h };
+
+    ghost took_both = { λ x y z front back first second says fed h.
+        subst (HasFed z says) (append_assoc fed front back) (second says _ (first says fed h)) };
+}
+
+/// The instance of this index, from 1, where each has `jobs` jobs, or the first fault, as a [`WtReader`] reads it.
 pub fn read_wt<A: Allocator + Copy>(
     alloc: A,
     text: &[u8],
@@ -105,19 +125,7 @@ pub fn read_wt<A: Allocator + Copy>(
 ) -> Result<Instance<A>, ReadFault>
     ensures { Gives (λ i. i) result (weighted_tardiness jobs index text.now) }
 {
-    if text.len() > MOST_BYTES {
-        return Err(ReadFault::TooLong);
-    }
-    if jobs == 0 {
-        return Err(ReadFault::NoJobs);
-    }
-    if jobs as usize > MOST_JOBS {
-        return Err(ReadFault::TooManyJobs);
-    }
-    if index == 0 {
-        return Err(ReadFault::NoInstance);
-    }
-    let mut reader = WtReader::new(alloc, u64::from(jobs), u64::from(index))?;
+    let mut reader = WtReader::new(alloc, jobs, index)?;
     reader.feed(text);
-    reader.finish(alloc)
+    reader.finish()
 }

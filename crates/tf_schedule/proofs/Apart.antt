@@ -6,7 +6,7 @@ use Rattle.std.proofs.lemmas.Bool.{cases_lt}
 use Rattle.std.proofs.lemmas.List.{get_or_default}
 use Rattle.tf_schedule.specs.declared.piece.Piece.{Piece}
 use Rattle.tf_schedule.specs.Piece.{machine_of, job_of, covers, runs, claims, places}
-use Rattle.tf_schedule.specs.Schedule.{IsSound, NoneTwice, JobsOnce}
+use Rattle.tf_schedule.specs.Schedule.{IsPiece, NoneTwice, JobsOnce}
 use Rattle.tf_schedule.specs.Drawing.{drawing, stop_of, IsGoing}
 use Rattle.tf_model.specs.Timetable.{cell}
 use Rattle.tf_schedule.proofs.Cells.{cell_exactly, on_some_machine}
@@ -191,7 +191,7 @@ module _ (S : ℕ → ℕ → ℕ → ℕ → Type 0) where
         ]
 
 -- on one machine the pieces are in the order of their starts
-pub starts_apart : (S : ℕ → ℕ → ℕ → ℕ → Type 0) (p q : Piece) → IsSound p → IsSound q
+pub starts_apart : (S : ℕ → ℕ → ℕ → ℕ → Type 0) (p q : Piece) → IsPiece p → IsPiece q
     → IsApart S p q → p.machine ≡ q.machine → p.start ≤ℤ q.start
 starts_apart S p q p_sound q_sound apart same =
     time_le_back p.start q.start q_sound.0.0

@@ -7,7 +7,7 @@ use Rattle.std.proofs.lemmas.Bool.{cases_lt}
 use Rattle.std.proofs.lemmas.Bool.Decides.{nat_tests}
 use Rattle.tf_schedule.specs.declared.piece.Piece.{Piece}
 use Rattle.tf_schedule.specs.Piece.{runs, places}
-use Rattle.tf_schedule.specs.Schedule.{IsSound}
+use Rattle.tf_schedule.specs.Schedule.{IsPiece}
 use Rattle.tf_schedule.specs.Drawing.{greatest_stop, work, greatest_by, least_by, start_of, stop_of}
 use Rattle.tf_schedule.proofs.Times.{sound_times, time_le}
 use Rattle.tf_schedule.proofs.Counting.{sum_by-same, sum_by-none}
@@ -118,7 +118,7 @@ busy_piece ps j t busy = let r = some_counted (runs j t) ps busy in (r.0, r.1, r
 pub piece_busy : (ps : List Piece) (j t : ℕ) → Any (Works j t) ps → IsBusy ps j t
 piece_busy ps j t (k, p, h, read, works) = counted_some (runs j t) ps k p h (subst (λ q. runs j t q ≡ true) (sym read) (test_from_works j t p works))
 
-module _ (ps : List Piece) (sound : All IsSound ps) (j : ℕ) where
+module _ (ps : List Piece) (sound : All IsPiece ps) (j : ℕ) where
   low : ℕ
   low = least_by start_of ps j
 
@@ -135,7 +135,7 @@ module _ (ps : List Piece) (sound : All IsSound ps) (j : ℕ) where
       (omega (arith, piece.4.started), omega (arith, piece.4.going))
 
   full : (k : ℕ) (p : Piece) → k < length ps → get_or ps k p ≡ p → start_of p < stop_of p
-  full k p h read = sound_times p (subst IsSound read (sound k p h))
+  full k p h read = sound_times p (subst IsPiece read (sound k p h))
 
   pub busy_at_stop : 0 < greatest_by stop_of ps j → IsBusy ps j (greatest_by stop_of ps j - 1)
   busy_at_stop some =
@@ -215,7 +215,7 @@ module _ (ps : List Piece) (sound : All IsSound ps) (j : ℕ) where
   ]
 
 -- ---- order
-module _ (qs rs : List Piece) (sound_q : All IsSound qs) (sound_r : All IsSound rs) (a b : ℕ) where
+module _ (qs rs : List Piece) (sound_q : All IsPiece qs) (sound_r : All IsPiece rs) (a b : ℕ) where
   pub order_from_stop : greatest_by stop_of qs a ≤ least_by start_of rs b → (s t : ℕ) → IsBusy qs a s → IsBusy rs b t → s < t
   order_from_stop le s t at_a at_b = omega (arith, (busy_within qs sound_q a s at_a).1, (busy_within rs sound_r b t at_b).0)
 

@@ -9,13 +9,13 @@ use Rattle.std.proofs.lemmas.Bool.Decides.{nat_tests}
 use Rattle.tf_model.specs.Limit.{limit}
 use Rattle.tf_model.specs.SchedulingTask.{SchedulingTask, IsJob, job_data, time_of, all_jobs}
 use Rattle.tf_model.specs.ClassTable.{is_sum}
-use Rattle.tf_model.specs.Sound.{IsSound as IsSoundTask}
+use Rattle.tf_model.specs.Sound.{IsSound}
 use Rattle.tf_model.specs.Timetable.{completion}
 use Rattle.tf_model.specs.Cost.{price, greatest_price, total_price}
 use Rattle.tf_model.proofs.Costs.{price-le-greatest, greatest_price_reached, term-le-all_jobs}
 use Rattle.tf_schedule.specs.declared.piece.Piece.{Piece}
 use Rattle.tf_schedule.specs.Piece.{covers}
-use Rattle.tf_schedule.specs.Schedule.{IsSchedule, IsSound, NoneTwice}
+use Rattle.tf_schedule.specs.Schedule.{IsSchedule, IsPiece, NoneTwice}
 use Rattle.tf_schedule.specs.Drawing.{drawing, last_stop, greatest_by, start_of, stop_of, IsOnMachine}
 use Rattle.tf_schedule.specs.Misfit.{IsKnown}
 use Rattle.tf_schedule.specs.Cost.{is_known, known_pieces, total_to, with_stop}
@@ -75,7 +75,7 @@ module _ (k : SchedulingTask) where
     pub completion_is : (j : ℕ) → 1 ≤ j → completion (drawing k.machines (known_pieces k ps)) j ≡ last_stop (known_pieces k ps) j
     completion_is j low = completion-drawing k.machines (known_pieces k ps) j known_once known_on known_full low
 
-    module _ (task : IsSoundTask k) where
+    module _ (task : IsSound k) where
       pub idle_below : (j : ℕ) → IsJob k j → price k j 0 ≤ℤ greatest_price k (drawing k.machines (known_pieces k ps))
       idle_below j job =
           let rows = drawing k.machines (known_pieces k ps) in
@@ -170,7 +170,7 @@ module _ (k : SchedulingTask) (qs : List Piece) where
       (subst (λ v. total_to k qs n + (job_data k (n + 1)).weight * last_stop qs (n + 1) ≤ v * limit) (sym (weights_more n))
       (scaled (job_data k (n + 1)).weight (last_stop qs (n + 1)) limit (total_to k qs n) (weights n) (stops (n + 1)) (total_le stops n))))
 
-  module _ (task : IsSoundTask k) (class : IsTrue (is_sum k.class)) where
+  module _ (task : IsSound k) (class : IsTrue (is_sum k.class)) where
     work_some : 1 ≤ sum_by (time_of k) (all_jobs k)
     work_some = omega (arith, task.worked (sum_plain k.class class) 1 (omega arith, task.some_job), term-le-all_jobs k (time_of k) 1 (omega arith, task.some_job))
 
@@ -190,5 +190,5 @@ pub total_is : (k : SchedulingTask) (ps : List Piece) → IsSchedule ps → tota
 total_is k ps schedule = sum_range-same (λ j. (job_data k j).weight * completion (drawing k.machines (known_pieces k ps)) j) (λ j. (job_data k j).weight * last_stop (known_pieces k ps) j) 1 (length k.jobs)
     (λ j low high. ap (λ c. (job_data k j).weight * c) (completion_is k ps schedule j low))
 
-pub stops_within : (k : SchedulingTask) (ps : List Piece) → All IsSound ps → (j : ℕ) → last_stop (known_pieces k ps) j ≤ limit
-stops_within k ps sound j = stop_within (known_pieces k ps) (All-filter (is_known k) IsSound ps sound) j
+pub stops_within : (k : SchedulingTask) (ps : List Piece) → All IsPiece ps → (j : ℕ) → last_stop (known_pieces k ps) j ≤ limit
+stops_within k ps sound j = stop_within (known_pieces k ps) (All-filter (is_known k) IsPiece ps sound) j

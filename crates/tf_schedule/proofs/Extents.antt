@@ -10,7 +10,7 @@ use Rattle.std.proofs.Common.{pos}
 use Rattle.tf_schedule.specs.declared.piece.Piece.{Piece}
 use Rattle.tf_schedule.specs.declared.extent.Extent.{Extent}
 use Rattle.tf_schedule.specs.Piece.{places, machine_of}
-use Rattle.tf_schedule.specs.Schedule.{IsSound, JobsOnce}
+use Rattle.tf_schedule.specs.Schedule.{IsPiece, JobsOnce}
 use Rattle.tf_schedule.specs.Drawing.{work, duration, greatest_stop, greatest_by, least_by, start_of, stop_of}
 use Rattle.tf_schedule.specs.Extent.{no_extent, extended, extent_of, HasExtents}
 use Rattle.tf_schedule.proofs.Times.{time_le}
@@ -24,7 +24,7 @@ work_le_stop ps j once =
     omega (arith, sum_places ps j (greatest_stop ps) (omega arith), each, length-range_with_len 0 (greatest_stop ps))
 
 -- a total stays within the limit
-pub add_fits : (ps : List Piece) (k : ℕ) (p : Piece) → k < length ps → p ≡ get_or ps k p → All IsSound ps → JobsOnce ps → work (take k ps) p.job + duration p ≤ limit
+pub add_fits : (ps : List Piece) (k : ℕ) (p : Piece) → k < length ps → p ≡ get_or ps k p → All IsPiece ps → JobsOnce ps → work (take k ps) p.job + duration p ≤ limit
 add_fits ps k p in_range read sound once =
     let same : eqb p.job p.job ≡ true = grind (arith, nat_tests) in
     let own : cond (eqb (get_or ps k p).job p.job) (duration (get_or ps k p)) 0 ≡ duration p = ap (λ (q : Piece). cond (eqb q.job p.job) (duration q) 0) (sym read) ∙ ap (λ (b : Bool). cond b (duration p) 0) same in

@@ -6,12 +6,12 @@ use Rattle.std.proofs.lemmas.Bool.{cases_lt}
 use Rattle.tf_model.specs.Limit.{limit}
 use Rattle.tf_model.specs.SchedulingTask.{SchedulingTask, job_data}
 use Rattle.tf_model.specs.ClassTable.{is_shop, is_flow}
-use Rattle.tf_model.specs.Sound.{IsSound as IsSoundTask}
+use Rattle.tf_model.specs.Sound.{IsSound}
 use Rattle.tf_model.specs.Timetable.{cell, all_units}
 use Rattle.tf_model.specs.Feasible.{Fits}
 use Rattle.tf_schedule.specs.declared.piece.Piece.{Piece}
 use Rattle.tf_schedule.specs.Piece.{machine_of}
-use Rattle.tf_schedule.specs.Schedule.{IsSchedule, IsSound, JobsOnce}
+use Rattle.tf_schedule.specs.Schedule.{IsSchedule, IsPiece, JobsOnce}
 use Rattle.tf_schedule.specs.Drawing.{drawing, work, greatest_by, least_by, start_of, stop_of, IsOnMachine}
 use Rattle.tf_schedule.specs.Misfit.{EachJob, IsKnown, HasAmount, IsWhole, IsReleased, IsKept, IsInFlow, AllOnce, AllReleased}
 use Rattle.tf_schedule.proofs.Times.{sound_times}
@@ -23,7 +23,7 @@ pub never_both : (b : Bool) → IsTrue b → IsFalse b → ⊥
 never_both true holds fails = cc
 never_both false holds fails = cc
 
-module _ (k : SchedulingTask) (task : IsSoundTask k) (ps : List Piece) (schedule : IsSchedule ps) (known : All (IsKnown k) ps) (once : JobsOnce ps) where
+module _ (k : SchedulingTask) (task : IsSound k) (ps : List Piece) (schedule : IsSchedule ps) (known : All (IsKnown k) ps) (once : JobsOnce ps) where
   pub on_machines : All (IsOnMachine k.machines) ps
   on_machines i d h = (known i d h).1
 
@@ -46,7 +46,7 @@ module _ (k : SchedulingTask) (task : IsSoundTask k) (ps : List Piece) (schedule
   busy_cell j t busy = let (n, p, h, read, works) = busy_piece ps j t busy in (p.machine - 1, piece_cell j t n p h read works.job works.started works.going)
 
   full : (n : ℕ) (p : Piece) → n < length ps → get_or ps n p ≡ p → start_of p < stop_of p
-  full n p h read = sound_times p (subst IsSound read (schedule.sound n p h))
+  full n p h read = sound_times p (subst IsPiece read (schedule.sound n p h))
 
   -- ---- the whole
 

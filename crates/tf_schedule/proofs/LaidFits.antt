@@ -9,11 +9,11 @@ use Rattle.tf_model.specs.Feasible.{Fits, IsOnce}
 use Rattle.tf_model.specs.SchedulingTask.{SchedulingTask, IsJob, time_of, time_on}
 use Rattle.tf_model.specs.ClassTable.{is_shop, is_flow, is_released}
 use Rattle.tf_model.specs.Limit.{limit}
-use Rattle.tf_model.specs.Sound.{IsSound as IsSoundTask}
+use Rattle.tf_model.specs.Sound.{IsSound}
 use Rattle.tf_model.specs.Timetable.{cell, units, all_units}
 use Rattle.tf_schedule.specs.declared.piece.Piece.{Piece}
 use Rattle.tf_schedule.specs.Piece.{machine_of}
-use Rattle.tf_schedule.specs.Schedule.{IsSound, NoneTwice, ComesBefore, IsSchedule}
+use Rattle.tf_schedule.specs.Schedule.{IsPiece, NoneTwice, ComesBefore, IsSchedule}
 use Rattle.tf_schedule.specs.Drawing.{drawing, greatest_stop, stop_of, IsOnMachine}
 use Rattle.tf_schedule.proofs.Drawing.{width-drawing, jobs-drawing, single_place-drawing, units-drawing, all_units-drawing, makespan-drawing}
 use Rattle.tf_model.proofs.Classes.{no_flow, shop_unreleased, shop_unordered}
@@ -43,14 +43,14 @@ pub record IsListed (S : ℕ → ℕ → ℕ → ℕ → Type 0) (task : Schedul
   pub total : sum_by (λ o. o.time) os ≤ limit
 
 module _ (S : ℕ → ℕ → ℕ → ℕ → Type 0) (task : SchedulingTask) (os : List Operation)
-    (sound : IsSoundTask task) (listed : IsListed S task os) where
+    (sound : IsSound task) (listed : IsListed S task os) where
   abbrev ps : List Piece
   ps = laid os
 
   pub is_laid : IsLaid S (length task.jobs) task.machines ps
   is_laid = laid_apart S (length task.jobs) task.machines os listed.known listed.keeps
 
-  pub laid_sound : All IsSound ps
+  pub laid_sound : All IsPiece ps
   laid_sound k d h =
       let p = is_laid.placed k d h in
       let stop : stop_of (get_or ps k d) ≤ limit =
@@ -169,8 +169,8 @@ module _ (S : ℕ → ℕ → ℕ → ℕ → Type 0) (task : SchedulingTask) (o
     sorted_none_twice i t =
         omega (arith, claims_permutation machine_of ps qs i t same, laid_none_twice i t)
 
-    pub sorted_sound : All IsSound qs
-    sorted_sound = All-permutation IsSound ps qs same laid_sound
+    pub sorted_sound : All IsPiece qs
+    sorted_sound = All-permutation IsPiece ps qs same laid_sound
 
     -- by machine and start they make a schedule
     pub sorted_schedule : AllPairs ComesBefore qs → IsSchedule qs

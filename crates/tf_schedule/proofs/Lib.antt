@@ -15,7 +15,7 @@ pub mod Fitting
 pub mod Plain
 pub mod Filters
 pub mod Shops
-pub mod JobOrder
+pub mod TwoPlaces
 pub mod Prices
 pub mod Costing
 pub mod Excludes

@@ -8,7 +8,7 @@ use Rattle.std.proofs.lemmas.Bool.{cases_lt}
 use Rattle.std.proofs.lemmas.Bool.Decides.{nat_tests}
 use Rattle.tf_schedule.specs.declared.piece.Piece.{Piece}
 use Rattle.tf_schedule.specs.Piece.{machine_of, as_time, covers, claims, has_started}
-use Rattle.tf_schedule.specs.Schedule.{IsSound, ComesBefore, IsSchedule}
+use Rattle.tf_schedule.specs.Schedule.{IsPiece, ComesBefore, IsSchedule}
 use Rattle.tf_schedule.specs.Drawing.{job_at}
 use Rattle.std.proofs.lemmas.List.{get_or_default}
 use Rattle.tf_schedule.proofs.Times.{time_le, time_le_back, sound_times}
@@ -92,7 +92,7 @@ module _ (ps : List Piece) (schedule : IsSchedule ps) (i : ℕ) (z : ℤ) (time 
         let same : p.machine ≡ i = omega (arith, f.0, order.0, c.on_line) in
         let rise : as_time q.start ≤ as_time p.start = time_le q.start p.start (order.1 (c.on_line ∙ sym same)) in
         let begun : as_time p.start ≤ as_time z = time_le p.start z (f.1 same) in
-        let full : as_time p.start < as_time p.stop = sound_times p (subst IsSound (is_p d) (schedule.sound (k - 1) d (omega arith))) in
+        let full : as_time p.start < as_time p.stop = sound_times p (subst IsPiece (is_p d) (schedule.sound (k - 1) d (omega arith))) in
         let by_q : covers i (as_time p.start) q ≡ true = test_from_claimed machine_of i (as_time p.start) q (record { on_line = c.on_line; started = rise; going = omega (arith, c.going) }) in
         let by_p : covers i (as_time p.start) p ≡ true = test_from_claimed machine_of i (as_time p.start) p (record { on_line = same; started = omega arith; going = full }) in
         omega (arith, schedule.none_twice i (as_time p.start), both_claim ps n (k - 1) d i (as_time p.start) earlier (omega arith) by_q (subst (λ x. covers i (as_time p.start) x ≡ true) (sym (is_p d)) by_p))

@@ -4,7 +4,7 @@ use Rattle.std.specs.Bool.{IsFalse}
 use Rattle.std.specs.List.{All}
 use Rattle.tf_model.specs.SchedulingTask.{SchedulingTask, IsJob, job_data}
 use Rattle.tf_model.specs.ClassTable.{is_shop, is_flow, may_break}
-use Rattle.tf_model.specs.Sound.{IsSound as IsSoundTask}
+use Rattle.tf_model.specs.Sound.{IsSound}
 use Rattle.tf_model.specs.Feasible.{Fits}
 use Rattle.tf_schedule.specs.declared.piece.Piece.{Piece}
 use Rattle.tf_schedule.specs.declared.extent.Extent.{Extent}
@@ -23,7 +23,7 @@ extent_is ps n extents has j low high =
     let same : j - 1 + 1 ≡ j = omega arith in
     has.each (j - 1) no_extent (omega arith) ∙ ap (extent_of ps) same
 
-module _ (k : SchedulingTask) (task : IsSoundTask k) (ps : List Piece) (schedule : IsSchedule ps) (known : All (IsKnown k) ps) (once : JobsOnce ps) (plain : IsFalse (is_shop k.class))
+module _ (k : SchedulingTask) (task : IsSound k) (ps : List Piece) (schedule : IsSchedule ps) (known : All (IsKnown k) ps) (once : JobsOnce ps) (plain : IsFalse (is_shop k.class))
     (extents : List Extent) (has : HasExtents ps (length k.jobs) extents) where
   is : (j : ℕ) → 1 ≤ j → j ≤ length k.jobs → extent_at extents j ≡ extent_of ps j
   is = extent_is ps (length k.jobs) extents has

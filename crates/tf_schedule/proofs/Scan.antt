@@ -9,7 +9,8 @@ use Rattle.std.proofs.lemmas.Int.{ints}
 use Rattle.std.proofs.lemmas.Bool.Decides.{nat_tests}
 use Rattle.tf_schedule.specs.declared.piece.Piece.{Piece}
 use Rattle.tf_schedule.specs.Piece.{as_time, covers_by, claims_by, OverlapBy}
-use Rattle.tf_schedule.specs.Schedule.{ComesBeforeBy, IsSound, NoneTwiceBy, IsFirstClashBy}
+use Rattle.tf_schedule.specs.Line.{StartsFirstClashBy}
+use Rattle.tf_schedule.specs.Schedule.{ComesBeforeBy, IsPiece, NoneTwiceBy, IsFirstClashBy}
 use Rattle.tf_schedule.proofs.Counting.{count_none}
 use Rattle.tf_schedule.proofs.Times.{time_le, time_lt, time_late, sound_times}
 
@@ -50,6 +51,19 @@ module _ (line : Piece → ℕ) where
   pub claims_permutation : (ps qs : List Piece) (i t : ℕ) → IsPermutation ps qs → claims_by line qs i t ≡ claims_by line ps i t
   claims_permutation ps qs i t h = sum_by-IsPermutation (λ p. cond (covers_by line i t p) 1 0) ps qs h
 
+  pub none_twice_permutation : (ps qs : List Piece) → IsPermutation ps qs → NoneTwiceBy line qs
+      → NoneTwiceBy line ps
+  none_twice_permutation ps qs same once i t =
+      omega (arith, claims_permutation ps qs i t same, once i t)
+
+  pub first_clash_permutation : (ps qs : List Piece) (i t : ℕ) → IsPermutation ps qs
+      → IsFirstClashBy line qs i t → IsFirstClashBy line ps i t
+  first_clash_permutation ps qs i t same clash = record {
+    here = omega (arith, claims_permutation ps qs i t same, clash.here);
+    smaller = λ h u lt. omega (arith, claims_permutation ps qs h u same, clash.smaller h u lt);
+    earlier = λ u lt. omega (arith, claims_permutation ps qs i u same, clash.earlier u lt);
+  }
+
   -- a cell that a piece claims is before its end
   pub covered_before_end : (i t : ℕ) (p : Piece) → covers_by line i t p ≡ true → IsBeforeEnd i t p
   covered_before_end i t p h = let f = claimed_from_test i t p h in (omega arith, λ e. f.going)
@@ -85,18 +99,18 @@ module _ (line : Piece → ℕ) where
 
   -- p and q are neighbors in a list in order
   module _ (ps : List Piece) (k : ℕ) (p q : Piece) (some : 0 < k) (in_range : k < length ps) (read_p : p ≡ get_or ps (k - 1) p) (read_q : q ≡ get_or ps k q)
-      (sound : All IsSound ps) (in_order : AllPairs (ComesBeforeBy line) ps) (scanned : IsScanned ps k) where
+      (sound : All IsPiece ps) (in_order : AllPairs (ComesBeforeBy line) ps) (scanned : IsScanned ps k) where
     is_p : (d : Piece) → get_or ps (k - 1) d ≡ p
     is_p d = get_or_default ps (k - 1) d p (omega arith) ∙ sym read_p
 
     is_q : (d : Piece) → get_or ps k d ≡ q
     is_q d = get_or_default ps k d q in_range ∙ sym read_q
 
-    sound_p : IsSound p
-    sound_p = subst IsSound (is_p p) (sound (k - 1) p (omega arith))
+    sound_p : IsPiece p
+    sound_p = subst IsPiece (is_p p) (sound (k - 1) p (omega arith))
 
-    sound_q : IsSound q
-    sound_q = subst IsSound (is_q q) (sound k q in_range)
+    sound_q : IsPiece q
+    sound_q = subst IsPiece (is_q q) (sound k q in_range)
 
     full : as_time q.start < as_time q.stop
     full = sound_times q sound_q
@@ -164,11 +178,11 @@ module _ (line : Piece → ℕ) where
           let by_p' : claims_by line (take k ps) (line q) (as_time q.start) ≡ claims_by line (take (k - 1) ps) (line q) (as_time q.start) + 1 = subst (λ n. claims_by line (take n ps) (line q) (as_time q.start) ≡ claims_by line (take (k - 1) ps) (line q) (as_time q.start) + 1) same by_p in
           omega (arith, by_q, sum_by-take-le (λ x. cond (covers_by line (line q) (as_time q.start) x) 1 0) ps (k + 1))
 
-      pub clash : IsFirstClashBy line ps (line q) (as_time q.start)
+      clash : IsFirstClashBy line ps (line q) (as_time q.start)
       clash = record { here = twice; smaller = λ h u lt. at_most_once h u (omega arith) (λ e. absurd (omega arith)); earlier = λ u lt. at_most_once (line q) u (omega arith) (λ e. lt) }
 
-      pub clash_time : pos 0 ≤ℤ q.start
-      clash_time = sound_q.0.0
+      pub first_clash : StartsFirstClashBy line ps q
+      first_clash = (sound_q.0.0, clash)
 
   -- after the last piece no cell is claimed twice
   pub scan_end : (ps : List Piece) (k : ℕ) → length ps ≤ k → IsScanned ps k → NoneTwiceBy line ps

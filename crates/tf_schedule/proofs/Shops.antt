@@ -6,14 +6,14 @@ use Rattle.std.proofs.lemmas.List.Elements.{All-filter}
 use Rattle.std.proofs.lemmas.Bool.Decides.{nat_tests}
 use Rattle.tf_model.specs.SchedulingTask.{SchedulingTask, time_on}
 use Rattle.tf_model.specs.ClassTable.{is_shop, is_flow, may_break}
-use Rattle.tf_model.specs.Sound.{IsSound as IsSoundTask}
+use Rattle.tf_model.specs.Sound.{IsSound}
 use Rattle.tf_model.specs.Timetable.{cell, units}
 use Rattle.tf_model.specs.Feasible.{Fits}
 use Rattle.tf_schedule.specs.declared.piece.Piece.{Piece}
 use Rattle.tf_schedule.specs.declared.extent.Extent.{Extent}
 use Rattle.tf_schedule.specs.declared.fit.Misfit.TheVariants.{WrongAmount, Broken, OutOfOrder}
 use Rattle.tf_schedule.specs.Piece.{runs}
-use Rattle.tf_schedule.specs.Schedule.{IsSchedule, IsSound, JobsOnce}
+use Rattle.tf_schedule.specs.Schedule.{IsSchedule, IsPiece, JobsOnce}
 use Rattle.tf_schedule.specs.Drawing.{drawing, duration, work, work_on, pieces_on, greatest_by, least_by, start_of, stop_of}
 use Rattle.tf_schedule.specs.Extent.{extent_at, extent_of, HasExtents, IsDoneInShop, IsSolidInShop, StartsInFlow}
 use Rattle.tf_schedule.specs.Misfit.{EachJob, IsSmallestNot, IsKnown, HasAmount, IsWhole, IsKept, IsInFlow, AllFull, AllWhole, AllReleased, HasFirstMisfit}
@@ -46,12 +46,12 @@ both_join : (a b : Bool) → a ≡ true → b ≡ true → (a && b) ≡ true
 both_join true b p q = q
 both_join false b p q = absurd (cc)
 
-module _ (k : SchedulingTask) (task : IsSoundTask k) (ps : List Piece) (schedule : IsSchedule ps) (known : All (IsKnown k) ps) (once : JobsOnce ps) (shop : IsTrue (is_shop k.class)) where
+module _ (k : SchedulingTask) (task : IsSound k) (ps : List Piece) (schedule : IsSchedule ps) (known : All (IsKnown k) ps) (once : JobsOnce ps) (shop : IsTrue (is_shop k.class)) where
   two : k.machines ≡ 2
   two = task.shop shop
 
-  sound_on : (i : ℕ) → All IsSound (pieces_on i ps)
-  sound_on i = All-filter (λ p. eqb p.machine i) IsSound ps schedule.sound
+  sound_on : (i : ℕ) → All IsPiece (pieces_on i ps)
+  sound_on i = All-filter (λ p. eqb p.machine i) IsPiece ps schedule.sound
 
   pub once_on : (i : ℕ) → JobsOnce (pieces_on i ps)
   once_on i j t = omega (arith, sum_by-filter-le (λ p. eqb p.machine i) (λ p. cond (runs j t p) 1 0) ps, once j t)

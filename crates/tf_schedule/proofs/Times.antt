@@ -4,7 +4,7 @@ use Rattle.std.proofs.lemmas.Bool.{cases_lt}
 use Rattle.std.proofs.lemmas.Int.{ints}
 use Rattle.tf_schedule.specs.declared.piece.Piece.{Piece}
 use Rattle.tf_schedule.specs.Piece.{as_time}
-use Rattle.tf_schedule.specs.Schedule.{IsSound}
+use Rattle.tf_schedule.specs.Schedule.{IsPiece}
 
 pub time_le : (a b : ℤ) → a ≤ℤ b → as_time a ≤ as_time b
 time_le (pos a) (pos b) h = omega (arith, ints)
@@ -44,5 +44,5 @@ pos_time (pos a) p = refl
 pos_time (negsuc a) p = absurd (omega (arith, ints))
 
 -- a sound piece covers the time at which it starts
-pub sound_times : (p : Piece) → IsSound p → as_time p.start < as_time p.stop
+pub sound_times : (p : Piece) → IsPiece p → as_time p.start < as_time p.stop
 sound_times p sound = time_lt p.start p.stop sound.0.0 sound.1

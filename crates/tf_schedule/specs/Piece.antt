@@ -2,7 +2,7 @@
 use Rattle.std.specs.Prelude.{◌≡◌, ℕ, ℤ, pos, ◌≤ℤ◌, ◌<ℤ◌, Bool, ◌==◌, nat_le, nat_lt, ◌&&◌, ◌||◌, int_le, List}
 use Rattle.std.specs.List.{count_by}
 use Rattle.tf_schedule.specs.declared.piece.Piece.{Piece}
-use Rattle.tf_model.specs.declared.limit.TheConstants.{LIMIT}
+use Rattle.tf_model.specs.Limit.{limit}
 pub use Rattle.tf_model.specs.Whole.{as_time}
 
 -- job j on machine i from time s up to time e
@@ -11,7 +11,7 @@ piece_of j i s e = record { job = j; machine = i; start = pos s; stop = pos e }
 
 -- the ends of the piece are times that are allowed
 abbrev pub IsInRange : Piece → Type 0
-IsInRange p = (pos 0 ≤ℤ p.start) × (p.stop ≤ℤ LIMIT)
+IsInRange p = (pos 0 ≤ℤ p.start) × (p.stop ≤ℤ pos limit)
 
 -- it covers a time
 abbrev pub IsNotEmpty : Piece → Type 0

@@ -7,8 +7,8 @@ use Rattle.tf_schedule.specs.declared.schedule.PieceFault.TheVariants.{OutOfRang
 use Rattle.tf_schedule.specs.Piece.{IsInRange, IsNotEmpty, machine_of, job_of, claims_by, as_time}
 
 -- the piece is in range and not empty
-abbrev pub IsSound : Piece → Type 0
-IsSound p = IsInRange p × IsNotEmpty p
+abbrev pub IsPiece : Piece → Type 0
+IsPiece p = IsInRange p × IsNotEmpty p
 
 -- by line, then by start
 abbrev pub ComesBeforeBy : (Piece → ℕ) → Piece → Piece → Type 0
@@ -42,13 +42,13 @@ IsFirstClash = IsFirstClashBy machine_of
 
 -- what a schedule keeps
 pub record IsSchedule (ps : List Piece) : Type 0 where
-  pub sound : All IsSound ps
+  pub sound : All IsPiece ps
   pub none_twice : NoneTwice ps
   pub in_order : AllPairs ComesBefore ps
 
--- piece k, counted from 1, is the first that is not sound, and P is what it is
+-- piece k, counted from 1, is the first that is out of range or empty, and P is what it is
 pub record IsFirstUnsound (P : Piece → Type 0) (ps : List Piece) (k : ℕ) : Type 0 where
-  pub before : All IsSound (take (k - 1) ps)
+  pub before : All IsPiece (take (k - 1) ps)
   pub counted : 0 < k
   pub here : IsSomeAnd (slice_get ps (k - 1)) P
 
@@ -56,4 +56,4 @@ pub record IsFirstUnsound (P : Piece → Type 0) (ps : List Piece) (k : ℕ) : T
 abbrev pub HasFirstFault : List Piece → PieceFault → Type 0
 HasFirstFault ps (OutOfRange k) = IsFirstUnsound (λ p. ¬ (IsInRange p)) ps k
 HasFirstFault ps (EmptyPiece k) = IsFirstUnsound (λ p. IsInRange p × ¬ (IsNotEmpty p)) ps k
-HasFirstFault ps (MachineTwice i t) = All IsSound ps × (pos 0 ≤ℤ t) × IsFirstClash ps i (as_time t)
+HasFirstFault ps (MachineTwice i t) = All IsPiece ps × (pos 0 ≤ℤ t) × IsFirstClash ps i (as_time t)

@@ -5,9 +5,9 @@ ghost use Rattle.tf_model.specs.Limit.{limit};
 ghost use Rattle.tf_model.specs.SchedulingTask.{IsJob};
 ghost use Rattle.tf_model.specs.ClassTable.{is_sum};
 ghost use Rattle.tf_model.specs.Cost.{price, greatest_price, total_price};
-ghost use Rattle.tf_model.specs.Sound.{IsSound as IsSoundTask};
+ghost use Rattle.tf_model.specs.Sound.{IsSound};
 ghost use Rattle.tf_schedule.specs.Piece.{as_time};
-ghost use Rattle.tf_schedule.specs.Schedule.{IsSchedule, IsSound};
+ghost use Rattle.tf_schedule.specs.Schedule.{IsSchedule, IsPiece};
 ghost use Rattle.tf_schedule.specs.Drawing.{drawing, stop_of};
 ghost use Rattle.tf_schedule.specs.Misfit.{IsKnown};
 ghost use Rattle.tf_schedule.specs.Cost.{known_pieces, schedule_cost, total_to, with_stop, HasStops};
@@ -36,7 +36,7 @@ pub fn cost<A: Allocator, B: Allocator>(task: &Task<A>, schedule: &Schedule<B>) 
 
 // No job gets cheaper by being late, so each piece of a job may stand for its last one.
 fn greatest_cost<A: Allocator>(task: &Task<A>, pieces: &[Piece]) -> i128
-    requires task { IsSoundTask task.now }
+    requires task { IsSound task.now }
     requires class { IsFalse (is_sum task.now.class) }
     requires schedule { IsSchedule pieces.now }
     ensures { result ≡ greatest_price task.now (drawing task.now.machines (known_pieces task.now pieces.now)) }
@@ -51,7 +51,7 @@ fn greatest_cost<A: Allocator>(task: &Task<A>, pieces: &[Piece]) -> i128
 // With one more piece.
 fn raised<A: Allocator>(task: &Task<A>, value: i128, piece: &Piece) -> i128
     requires class { IsFalse (is_sum task.now.class) }
-    requires sound { IsSound piece.now }
+    requires sound { IsPiece piece.now }
     ensures above { value ≤ℤ result }
     ensures own { IsKnown task.now piece.now → price task.now piece.now.job (stop_of piece.now) ≤ℤ result }
     ensures reached { (result ≡ value) ⊎ (IsKnown task.now piece.now × (result ≡ price task.now piece.now.job (stop_of piece.now))) }
@@ -100,7 +100,7 @@ pub fn price<A: Allocator>(task: &Task<A>, job: JobId, c: i64) -> i128
 const BLOCK: usize = 1_024;
 
 fn total_cost<A: Allocator>(task: &Task<A>, pieces: &[Piece]) -> i128
-    requires task { IsSoundTask task.now }
+    requires task { IsSound task.now }
     requires class { IsTrue (is_sum task.now.class) }
     requires schedule { IsSchedule pieces.now }
     ensures { result ≡ pos (total_price task.now (drawing task.now.machines (known_pieces task.now pieces.now))) }
@@ -119,7 +119,7 @@ fn total_cost<A: Allocator>(task: &Task<A>, pieces: &[Piece]) -> i128
 
 // The greatest stops of the jobs from `first` + 1 on.
 fn last_stops<A: Allocator>(task: &Task<A>, pieces: &[Piece], first: usize, stops: &mut [u64])
-    requires { All IsSound pieces.now }
+    requires { All IsPiece pieces.now }
     ensures { HasStops (known_pieces task.now pieces.now) first stops.new }
 {
     stops.fill(0);
@@ -130,7 +130,7 @@ fn last_stops<A: Allocator>(task: &Task<A>, pieces: &[Piece], first: usize, stop
 
 // With one more piece.
 fn note_stop<A: Allocator>(task: &Task<A>, piece: &Piece, first: usize, stops: &mut [u64])
-    requires { IsSound piece.now }
+    requires { IsPiece piece.now }
     ensures { (i : ℕ) → i < length stops.old → slice_index stops.new i ≡ with_stop task.now piece.now (first + i + 1) (slice_index stops.old i) }
 {
     if !is_known(task, piece) {
@@ -155,9 +155,9 @@ fn with_block<A: Allocator>(
     first: usize,
     stops: &[u64],
 ) -> u128
-    requires task { IsSoundTask task.now }
+    requires task { IsSound task.now }
     requires class { IsTrue (is_sum task.now.class) }
-    requires sound { All IsSound pieces.now }
+    requires sound { All IsPiece pieces.now }
     requires first { first ≤ length task.now.jobs }
     requires few { length stops.now ≤ 1024 }
     requires stops { HasStops (known_pieces task.now pieces.now) first stops.now }

@@ -1,7 +1,7 @@
 //! When and where jobs work.
 ghost use Rattle.std.specs.Prelude.{◌≡◌, ◌+◌, ◌<◌, ◌≤◌, ◌^◌, IfOk};
 ghost use Rattle.std.specs.List.{All};
-ghost use Rattle.tf_schedule.specs.Schedule.{IsSound, JobsOnce};
+ghost use Rattle.tf_schedule.specs.Schedule.{IsPiece, JobsOnce};
 ghost use Rattle.tf_schedule.specs.Drawing.{duration};
 ghost use Rattle.tf_schedule.specs.Extent.{HasExtents};
 
@@ -40,7 +40,7 @@ impl Extent {
 
     // With one more piece.
     fn extended(self, piece: &Piece) -> Self
-        requires sound { IsSound piece.now }
+        requires sound { IsPiece piece.now }
         requires fits { self.work + duration piece.now < 2 ^ 64 }
         ensures { result ≡ extended self piece.now }
     {
@@ -62,7 +62,7 @@ pub(crate) fn extents<A: Allocator>(
     pieces: &[Piece],
 ) -> Result<Vec<Extent, A>, AllocError>
     requires known { All (λ p. (0 < p.job) × (p.job ≤ jobs)) pieces.now }
-    requires sound { All IsSound pieces.now }
+    requires sound { All IsPiece pieces.now }
     requires once { JobsOnce pieces.now }
     ensures { IfOk result (λ v. HasExtents pieces.now jobs v.items) }
 {

@@ -1,18 +1,19 @@
 //! Whether a schedule fits a task.
-ghost use Rattle.std.specs.Prelude.{◌≡◌, ℕ, pos, ◌≤ℤ◌, ◌+◌, ◌-◌, ◌<◌, ◌≤◌, length, MatchResult, MatchOption, IsOkUnless, IfOk, IsTrue, IsFalse, ◌↔◌, take, drop};
+ghost use Rattle.std.specs.Prelude.{◌≡◌, ◌+◌, ◌-◌, ◌<◌, ◌≤◌, length, MatchResult, MatchOption, IsOkUnless, IfOk, IsTrue, IsFalse, ◌↔◌, take, drop};
 ghost use Rattle.std.specs.List.{All, AllPairs};
-ghost use Rattle.tf_model.specs.SchedulingTask.{IsJob};
 ghost use Rattle.tf_model.specs.ClassTable.{is_flow, is_shop, may_break};
 ghost use Rattle.tf_model.specs.Timetable.{Timetable};
 ghost use Rattle.tf_model.specs.Feasible.{Fits};
-ghost use Rattle.tf_schedule.specs.Piece.{as_time, job_of, OverlapBy};
-ghost use Rattle.tf_schedule.specs.Schedule.{ComesBefore, ComesBeforeBy, IsFirstClashBy, IsSchedule, IsSound, JobsOnce};
+ghost use Rattle.tf_schedule.specs.Piece.{job_of};
+ghost use Rattle.tf_schedule.specs.Line.{StartsFirstClashBy};
+ghost use Rattle.tf_schedule.specs.Schedule.{ComesBefore, IsSchedule, IsPiece, JobsOnce};
 ghost use Rattle.tf_schedule.specs.Drawing.{Draws, drawing, pieces_on};
-ghost use Rattle.tf_schedule.specs.Extent.{IsDone, IsDoneInShop, IsSolidOnOne, IsSolidInShop, StartsReleased, StartsAfter, StartsInFlow};
+ghost use Rattle.tf_schedule.specs.Extent.{HasExtents, IsDone, IsDoneInShop, IsSolidOnOne, IsSolidInShop, StartsReleased, StartsAfter, StartsInFlow};
 ghost use Rattle.tf_schedule.specs.Misfit.{EachJob, IsSmallestNot, FindsSmallestNot, IsFirstNot, IsKnown, HasFirstMisfit};
 ghost use Rattle.tf_schedule.specs.declared.fit.Misfit.TheVariants.{OutOfMemory};
 
 use crate::extent::{Extent, extents};
+use crate::line::Line;
 use crate::piece::Piece;
 use crate::schedule::Schedule;
 use std::alloc::{AllocError, Allocator};
@@ -75,8 +76,8 @@ pub fn fits<A: Allocator + Copy, B: Allocator, C: Allocator>(
     if let Some(piece) = first_stranger(task, pieces) {
         return Err(Misfit::Stranger(piece.job, piece.machine));
     }
-    if let Some(twice) = first_in_two_places(alloc, pieces)? {
-        return Err(Misfit::JobTwice(twice.0, twice.1));
+    if let Some(piece) = first_in_two_places(alloc, pieces)? {
+        return Err(Misfit::JobTwice(piece.job, piece.start));
     }
     if task.class().is_shop() {
         judge_in_shop(alloc, task, pieces)
@@ -98,17 +99,18 @@ fn judge_plain<A: Allocator, B: Allocator>(
     ensures { MatchResult result (λ _. Fits task.now (drawing task.now.machines pieces.now)) (HasFirstMisfit task.now pieces.now) }
 {
     let jobs = task.jobs();
-    let extents = extents(alloc, jobs.len(), pieces)?;
-    if let Some(job) = first_wrong_amount(jobs, &extents) {
+    let list = extents(alloc, jobs.len(), pieces)?;
+    let extents = list.as_slice();
+    if let Some(job) = first_wrong_amount(jobs, extents) {
         return Err(Misfit::WrongAmount(job));
     }
-    if let Some(job) = first_broken(task.class(), &extents) {
+    if let Some(job) = first_broken(task.class(), extents) {
         return Err(Misfit::Broken(job));
     }
-    if let Some(job) = first_too_early(jobs, &extents) {
+    if let Some(job) = first_too_early(jobs, extents) {
         return Err(Misfit::TooEarly(job));
     }
-    if let Some((before, after)) = first_out_of_order(task.arcs(), &extents) {
+    if let Some((before, after)) = first_out_of_order(task.arcs(), extents) {
         return Err(Misfit::OutOfOrder(before, after));
     }
     Ok(())
@@ -127,19 +129,41 @@ fn judge_in_shop<A: Allocator + Copy, B: Allocator>(
     ensures { MatchResult result (λ _. Fits task.now (drawing task.now.machines pieces.now)) (HasFirstMisfit task.now pieces.now) }
 {
     let jobs = task.jobs();
-    let split = end_of_first(pieces);
-    let first = extents(alloc, jobs.len(), &pieces[..split])?;
-    let second = extents(alloc, jobs.len(), &pieces[split..])?;
-    if let Some(job) = first_wrong_in_shop(jobs, &first, &second) {
+    let (on_first, on_second) = extents_by_machine(alloc, task, pieces)?;
+    let first = on_first.as_slice();
+    let second = on_second.as_slice();
+    if let Some(job) = first_wrong_in_shop(jobs, first, second) {
         return Err(Misfit::WrongAmount(job));
     }
-    if let Some(job) = first_broken_in_shop(task.class(), &first, &second) {
+    if let Some(job) = first_broken_in_shop(task.class(), first, second) {
         return Err(Misfit::Broken(job));
     }
-    if let Some(job) = first_out_of_flow(task.class(), &first, &second) {
+    if let Some(job) = first_out_of_flow(task.class(), first, second) {
         return Err(Misfit::OutOfOrder(job, job));
     }
     Ok(())
+}
+
+// When and where each job works on machine 1, and on machine 2.
+fn extents_by_machine<A: Allocator + Copy, B: Allocator>(
+    alloc: A,
+    task: &Task<B>,
+    pieces: &[Piece],
+) -> Result<(Vec<Extent, A>, Vec<Extent, A>), AllocError>
+    requires shop { IsTrue (is_shop task.now.class) }
+    requires schedule { IsSchedule pieces.now }
+    requires known { All (IsKnown task.now) pieces.now }
+    requires once { JobsOnce pieces.now }
+    ensures first { IfOk result (λ found.
+        HasExtents (pieces_on 1 pieces.now) (length task.now.jobs) found.0.items) }
+    ensures second { IfOk result (λ found.
+        HasExtents (pieces_on 2 pieces.now) (length task.now.jobs) found.1.items) }
+{
+    let jobs = task.len();
+    let split = end_of_first(pieces);
+    let first = extents(alloc, jobs, &pieces[..split])?;
+    let second = extents(alloc, jobs, &pieces[split..])?;
+    Ok((first, second))
 }
 
 // How many of the pieces are on machine 1: in their order the others are on machine 2.
@@ -153,17 +177,19 @@ fn end_of_first(pieces: &[Piece]) -> usize
     pieces.partition_point(|piece| piece.is_on_first())
 }
 
-// The smallest job that runs in two places at once, and the first such time.
+// A piece at whose start its job runs in two places: the smallest such job, and its first such
+// time.
 fn first_in_two_places<A: Allocator>(
     alloc: A,
     pieces: &[Piece],
-) -> Result<Option<(JobId, i64)>, AllocError>
-    requires { All IsSound pieces.now }
-    ensures { IfOk result (λ found. MatchOption found (JobsOnce pieces.now) (λ at. (pos 0 ≤ℤ at.1) × IsFirstClashBy job_of pieces.now at.0 (as_time at.1))) }
+) -> Result<Option<Piece>, AllocError>
+    requires { All IsPiece pieces.now }
+    ensures { IfOk result (λ found.
+        MatchOption found (JobsOnce pieces.now) (StartsFirstClashBy job_of pieces.now)) }
 {
     let mut by_job = copied(alloc, pieces)?;
-    by_job.sort_unstable_by_key(|piece| (piece.job, piece.start));
-    Ok(first_twice(&by_job))
+    Line::Job.sort(&mut by_job);
+    Ok(Line::Job.first_overlap(&by_job))
 }
 
 fn copied<A: Allocator>(alloc: A, pieces: &[Piece]) -> Result<Vec<Piece, A>, AllocError>
@@ -190,28 +216,6 @@ pub(crate) fn is_known<A: Allocator>(task: &Task<A>, piece: &Piece) -> bool
     let job = piece.job.get();
     let machine = piece.machine.get();
     job as usize <= task.len() && machine <= task.machines()
-}
-
-// The same of pieces by job and start.
-fn first_twice(pieces: &[Piece]) -> Option<(JobId, i64)>
-    requires sound { All IsSound pieces.now }
-    requires in_order { AllPairs (ComesBeforeBy job_of) pieces.now }
-    ensures { MatchOption result (JobsOnce pieces.now) (λ found. (pos 0 ≤ℤ found.1) × IsFirstClashBy job_of pieces.now found.0 (as_time found.1)) }
-{
-    for k in 1..pieces.len() {
-        let before = pieces[k - 1];
-        let piece = pieces[k];
-        if overlap_in_job(&before, &piece) {
-            return Some((piece.job, piece.start));
-        }
-    }
-    None
-}
-
-fn overlap_in_job(before: &Piece, piece: &Piece) -> bool
-    ensures { IsTrue result ↔ OverlapBy job_of before.now piece.now }
-{
-    before.job == piece.job && piece.start < before.stop
 }
 
 // ---- where a job has one time

@@ -4,6 +4,7 @@
 pub mod cost;
 mod extent;
 pub mod fit;
+mod line;
 pub mod piece;
 pub mod piece_list;
 pub mod schedule;

@@ -1,8 +1,8 @@
 //! Pieces of work.
 ghost use Rattle.std.specs.Prelude.{◌≡◌, ◌↔◌, IsTrue, pos, ◌≤ℤ◌, ◌==◌, ◌<◌, ◌≤◌};
 ghost use Rattle.tf_model.specs.Limit.{limit};
-ghost use Rattle.tf_schedule.specs.Piece.{IsInRange, covers, has_started, as_time, machine_of, piece_of, OverlapBy};
-ghost use Rattle.tf_schedule.specs.Schedule.{IsSound};
+ghost use Rattle.tf_schedule.specs.Piece.{IsInRange, covers, has_started, as_time, piece_of};
+ghost use Rattle.tf_schedule.specs.Schedule.{IsPiece};
 ghost use Rattle.tf_schedule.specs.Drawing.{duration};
 
 use tf_model::ids::{JobId, MachineId};
@@ -42,17 +42,10 @@ impl Piece {
 
     /// For how many time steps the job is on the machine.
     pub fn duration(&self) -> u64
-        requires { IsSound self.now }
+        requires { IsPiece self.now }
         ensures { result ≡ duration self.now }
     {
         (self.stop - self.start) as u64
-    }
-
-    // Whether the piece starts before the other one ends, on the same machine.
-    pub(crate) fn overlaps(&self, before: &Piece) -> bool
-        ensures { IsTrue result ↔ OverlapBy machine_of before.now self.now }
-    {
-        before.machine == self.machine && self.start < before.stop
     }
 
     // Whether the piece starts at or before this time of the machine.

@@ -1,11 +1,12 @@
 //! Schedules: pieces that claim no cell twice.
-ghost use Rattle.std.specs.Prelude.{◌≡◌, ℕ, pos, ◌≤ℤ◌, ◌<ℤ◌, unwrap_or, ◌<◌, IfSome, IfOk, IfErr, IsOk, MatchOption, MatchResult};
+ghost use Rattle.std.specs.Prelude.{◌≡◌, pos, ◌≤ℤ◌, ◌<ℤ◌, unwrap_or, ◌<◌, IfSome, IfOk, IfErr, IsOk, MatchResult};
 ghost use Rattle.std.specs.List.{All, AllPairs};
 ghost use Rattle.std.specs.List.Sorted.{IsPermutation};
 ghost use Rattle.tf_schedule.specs.Piece.{as_time};
 ghost use Rattle.tf_schedule.specs.Drawing.{greatest_stop, job_at};
-ghost use Rattle.tf_schedule.specs.Schedule.{ComesBefore, HasFirstFault, IsFirstClash, IsSchedule, IsSound, NoneTwice};
+ghost use Rattle.tf_schedule.specs.Schedule.{ComesBefore, HasFirstFault, IsSchedule, IsPiece, NoneTwice};
 
+use crate::line::Line;
 use crate::piece::Piece;
 use std::alloc::{Allocator, Global};
 use std::marker::Model;
@@ -50,13 +51,13 @@ impl<A: Allocator> Schedule<A> {
     pub fn new(mut pieces: Vec<Piece, A>) -> Result<Self, PieceFault>
         ensures kept { IfOk result (λ s. IsPermutation pieces.items s) }
         ensures schedule { IfOk result IsSchedule }
-        ensures accepted { All IsSound pieces.items → NoneTwice pieces.items → IsOk result }
+        ensures accepted { All IsPiece pieces.items → NoneTwice pieces.items → IsOk result }
         ensures fault { IfErr result (HasFirstFault pieces.items) }
     {
         judge_each(&pieces)?;
         sort_by_machine(&mut pieces);
-        match first_clash(&pieces) {
-            Some((machine, time)) => Err(PieceFault::MachineTwice(machine, time)),
+        match Line::Machine.first_overlap(&pieces) {
+            Some(piece) => Err(PieceFault::MachineTwice(piece.machine, piece.start)),
             None => Ok(Schedule { pieces }),
         }
     }
@@ -94,11 +95,11 @@ pub fn sort_by_machine<A: Allocator>(pieces: &mut Vec<Piece, A>)
     ensures kept { IsPermutation pieces.old.items pieces.new.items }
     ensures in_order { AllPairs ComesBefore pieces.new.items }
 {
-    pieces.sort_unstable_by_key(|piece| (piece.machine, piece.start));
+    Line::Machine.sort(pieces);
 }
 
 fn end_of(pieces: &[Piece]) -> i64
-    requires { All IsSound pieces.now }
+    requires { All IsPiece pieces.now }
     ensures { result ≡ pos (greatest_stop pieces.now) }
 {
     let mut end: i64 = 0;
@@ -130,7 +131,7 @@ fn job_on(pieces: &[Piece], machine: MachineId, t: i64) -> Option<JobId>
 
 // The first piece that is out of range or empty, if there is one.
 fn judge_each(pieces: &[Piece]) -> Result<(), PieceFault>
-    ensures { MatchResult result (λ _. All IsSound pieces.now) (HasFirstFault pieces.now) }
+    ensures { MatchResult result (λ _. All IsPiece pieces.now) (HasFirstFault pieces.now) }
 {
     for (k, piece) in pieces.iter().enumerate() {
         if !piece.is_in_range() {
@@ -141,22 +142,6 @@ fn judge_each(pieces: &[Piece]) -> Result<(), PieceFault>
         }
     }
     Ok(())
-}
-
-// The smallest machine that two pieces claim at one time, and the first such time.
-fn first_clash(pieces: &[Piece]) -> Option<(MachineId, i64)>
-    requires sound { All IsSound pieces.now }
-    requires in_order { AllPairs ComesBefore pieces.now }
-    ensures { MatchOption result (NoneTwice pieces.now) (λ cell. (pos 0 ≤ℤ cell.1) × IsFirstClash pieces.now cell.0 (as_time cell.1)) }
-{
-    for k in 1..pieces.len() {
-        let before = pieces[k - 1];
-        let piece = pieces[k];
-        if piece.overlaps(&before) {
-            return Some((piece.machine, piece.start));
-        }
-    }
-    None
 }
 
 #[cfg(test)]

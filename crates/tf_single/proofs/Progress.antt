@@ -7,7 +7,7 @@ use Rattle.std.proofs.lemmas.List.Elements.{All-head, All-tail, All-weaker, All-
 use Rattle.std.proofs.lemmas.List.Quantifiers.{all_pairs_push}
 use Rattle.tf_schedule.specs.declared.piece.Piece.{Piece}
 use Rattle.tf_schedule.specs.Piece.{as_time, covers, is_during, claims, places}
-use Rattle.tf_schedule.specs.Schedule.{IsSound as IsSoundPiece, IsSchedule, ComesBefore, NoneTwice}
+use Rattle.tf_schedule.specs.Schedule.{IsPiece, IsSchedule, ComesBefore, NoneTwice}
 use Rattle.tf_schedule.specs.Drawing.{job_at, work, last_stop, duration, drawing, IsOnMachine, Draws}
 use Rattle.tf_schedule.proofs.Drawing.{cell-drawing, completion-drawing, all_units-drawing, width-drawing, jobs-drawing, single_place-drawing}
 use Rattle.tf_schedule.proofs.Counting.{count_none}
@@ -43,7 +43,7 @@ module _ (k : SchedulingTask) where
   pub no_progress : (rest : ℕ → ℕ) → ((j : ℕ) → IsJob k j → rest j ≡ time_of k j) → IsProgress k [] rest 0
   no_progress rest whole = record {
     runs = All-nil (IsRun k 0);
-    schedule = record { sound = All-nil IsSoundPiece; none_twice = λ i t. omega arith; in_order = λ i j d lt h. absurd (omega arith) };
+    schedule = record { sound = All-nil IsPiece; none_twice = λ i t. omega arith; in_order = λ i j d lt h. absurd (omega arith) };
     amount = λ j h. omega (arith, whole j h);
     worked = λ j u h before from until. absurd (omega arith);
     waiting = λ j u h before from left. absurd (omega arith);
@@ -238,7 +238,7 @@ extends_push k ps x now b runs schedule job released lt within =
       );
       runs = All-push (IsRun k b) ps q (run_later k now b (omega arith) ps runs) (record { job = job; machine = refl; full = lt; stop = omega arith; released = released });
       schedule = record {
-        sound = All-push IsSoundPiece ps q schedule.sound ((omega (arith, ints), omega (arith, ints)), omega (arith, ints));
+        sound = All-push IsPiece ps q schedule.sound ((omega (arith, ints), omega (arith, ints)), omega (arith, ints));
         none_twice = λ i t. ⊎_elim
             (λ early. omega (arith, once i t, sum_by_push (λ p. cond (covers i t p) 1 0) ps q, ap as_one (not_before i t q early)))
             (λ late. omega (arith, no_claims ps i t (stops_by_later ps now t late (stops_by k ps now runs)), sum_by_push (λ p. cond (covers i t p) 1 0) ps q, one_or_none (covers i t q)))
@@ -259,7 +259,7 @@ extends_join k hs q now b stops runs schedule lt within =
     let once : NoneTwice (hs ++ q ∷ []) = schedule.none_twice in
     let front : All (IsRun k now) hs = All-front (IsRun k now) hs (q ∷ []) runs in
     let last : IsRun k now q = All-contains (IsRun k now) (hs ++ q ∷ []) q runs (Contains-push hs q) in
-    let sound : IsSoundPiece q = All-contains IsSoundPiece (hs ++ q ∷ []) q schedule.sound (Contains-push hs q) in
+    let sound : IsPiece q = All-contains IsPiece (hs ++ q ∷ []) q schedule.sound (Contains-push hs q) in
     let at : as_time q.stop ≡ now = ap as_time stops in
     let both_going : (i t : ℕ) → t < now → covers i t q ≡ covers i t r =
     λ i t early. ap (λ z. (q.machine == i) && (nat_le (as_time q.start) t && z)) (lt-ltb t (as_time q.stop) (omega arith) ∙ sym (lt-ltb t b (omega arith))) in
@@ -287,7 +287,7 @@ extends_join k hs q now b stops runs schedule lt within =
       );
       runs = All-push (IsRun k b) hs r (run_later k now b (omega arith) hs front) (record { job = last.job; machine = last.machine; full = omega (arith, last.full); stop = omega arith; released = last.released });
       schedule = record {
-        sound = All-push IsSoundPiece hs r (All-front IsSoundPiece hs (q ∷ []) schedule.sound) ((sound.0.0, omega (arith, ints)), omega (arith, ints, sound.1, stops));
+        sound = All-push IsPiece hs r (All-front IsPiece hs (q ∷ []) schedule.sound) ((sound.0.0, omega (arith, ints)), omega (arith, ints, sound.1, stops));
         none_twice = λ i t. ⊎_elim
             (λ early. omega (arith, once i t, sum_by_push (λ p. cond (covers i t p) 1 0) hs q, sum_by_push (λ p. cond (covers i t p) 1 0) hs r, ap as_one (both_going i t early)))
             (λ late. omega (arith, no_claims hs i t (stops_by_later hs now t late (stops_by k hs now front)), sum_by_push (λ p. cond (covers i t p) 1 0) hs r, one_or_none (covers i t r)))

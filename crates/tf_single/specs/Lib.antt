@@ -1,12 +1,14 @@
+-- what a caller has to believe
 pub mod EarliestDue
+pub mod Backward
+pub mod LawlerFault
+pub mod Costs
+-- within the crate
 pub mod Progress
 pub mod Agenda
 pub mod Ends
 pub mod Sequence
-pub mod Backward
 pub mod Open
 pub mod ByDue
-pub mod LawlerFault
 pub mod ArcsInto
 pub mod Successors
-pub mod Costs

@@ -1,5 +1,5 @@
 //! One machine with release dates, where jobs may be interrupted.
-ghost use Rattle.std.specs.Prelude.{◌≡◌, ℕ, ◌*◌, ◌≤◌, ◌&&◌, nat_le, length, IfOk};
+ghost use Rattle.std.specs.Prelude.{◌≡◌, ℕ, ◌*◌, ◌≤◌, ◌&&◌, nat_le, length, IfOk, Ok};
 ghost use Rattle.std.specs.List.{All, Any, filter};
 ghost use Rattle.tf_model.specs.Limit.{limit};
 ghost use Rattle.tf_model.specs.SchedulingTask.{IsJob, all_jobs, job_data};
@@ -7,12 +7,13 @@ ghost use Rattle.tf_model.specs.Sound.{IsSound};
 ghost use Rattle.tf_model.specs.declared.class.Class.TheVariants.{ReleaseLmax};
 ghost use Rattle.tf_model.specs.Cost.{IsBest};
 ghost use Rattle.tf_schedule.specs.Piece.{as_time};
-ghost use Rattle.tf_schedule.specs.Schedule.{IsSchedule, IsSound as IsSoundPiece};
+ghost use Rattle.tf_schedule.specs.Schedule.{IsSchedule, IsPiece};
 ghost use Rattle.tf_schedule.specs.Drawing.{drawing, Draws};
 ghost use Rattle.tf_check.specs.Accepted.{IsAccepted};
-ghost use Rattle.tf_single.specs.EarliestDue.{RunsEarliestDue, IsStretch, IsLastWindowClaim};
-ghost use Rattle.tf_single.specs.Progress.{of_job};
-ghost use Rattle.tf_single.specs.Ends.{AreEnds, AreInTurn, IsLatest, lateness, is_within};
+ghost use Rattle.tf_check.specs.Bound.{window_bound};
+ghost use Rattle.tf_single.specs.EarliestDue.{RunsEarliestDue, IsStretch, IsLastWindow, IsLastWindowClaim};
+ghost use Rattle.tf_single.specs.Progress.{of_job, IsTimeline};
+ghost use Rattle.tf_single.specs.Ends.{AreEnds, AreInTurn, IsLatest, IsStretchStart, lateness, is_within};
 
 use crate::timeline::timeline;
 use std::alloc::Allocator;
@@ -51,19 +52,37 @@ pub fn edd<A: Allocator + Copy, B: Allocator>(
 {
     let pieces = timeline(alloc, task)?;
     let ends = completions(alloc, task, &pieces)?;
-    let latest = latest(task, &ends);
-    let due = task.due(latest);
-    let end = ends[latest.get() as usize - 1];
-    let start = stretch_start(task, &pieces, due, end);
-    let jobs = jobs_within(alloc, task, &ends, start, end)?;
-    let value = lateness(task, &ends, latest);
+    let (window, value) = last_window(alloc, task, &pieces, &ends)?;
     Ok(Answer {
         pieces: PieceList::new(pieces),
         value,
-        certificate: Certificate::Window(Window {
-            jobs: JobList::new(jobs),
-        }),
+        certificate: Certificate::Window(window),
     })
+}
+
+// The window of the smallest job of greatest lateness, and how late that is.
+fn last_window<A: Allocator, B: Allocator>(
+    alloc: A,
+    task: &Task<B>,
+    pieces: &[Piece],
+    ends: &[u64],
+) -> Result<(Window<A>, i64), OutOfMemory>
+    requires class { task.now.class ≡ ReleaseLmax }
+    requires sound { IsSound task.now }
+    requires timeline { IsTimeline task.now pieces.now }
+    requires ends { AreEnds task.now pieces.now ends.now }
+    ensures window { IfOk result (λ found.
+        IsLastWindow task.now (drawing 1 pieces.now) found.0.jobs) }
+    ensures value { IfOk result (λ found. window_bound task.now found.0.jobs ≡ Ok found.1) }
+{
+    let latest = latest(task, ends);
+    let end = ends[latest.get() as usize - 1];
+    let start = stretch_start(task, pieces, task.due(latest), end);
+    let jobs = jobs_within(alloc, task, ends, start, end)?;
+    let window = Window {
+        jobs: JobList::new(jobs),
+    };
+    Ok((window, lateness(task, ends, latest)))
 }
 
 // When each job is over.
@@ -72,7 +91,7 @@ fn completions<A: Allocator, B: Allocator>(
     task: &Task<B>,
     pieces: &[Piece],
 ) -> Result<Vec<u64, A>, OutOfMemory>
-    requires sound { All IsSoundPiece pieces.now }
+    requires sound { All IsPiece pieces.now }
     requires turns { AreInTurn task.now pieces.now }
     ensures { IfOk result (λ v. AreEnds task.now pieces.now v.items) }
 {
@@ -85,14 +104,14 @@ fn completions<A: Allocator, B: Allocator>(
 }
 
 fn start_of(piece: &Piece) -> u64
-    requires { IsSoundPiece piece.now }
+    requires { IsPiece piece.now }
     ensures { result ≡ as_time piece.now.start }
 {
     piece.start as u64
 }
 
 fn stop_of(piece: &Piece) -> u64
-    requires { IsSoundPiece piece.now }
+    requires { IsPiece piece.now }
     ensures { result ≡ as_time piece.now.stop }
 {
     piece.stop as u64
@@ -138,19 +157,30 @@ fn stretch_start<B: Allocator>(task: &Task<B>, pieces: &[Piece], due: i64, end: 
     let mut start = 0;
     let mut over = 0;
     for piece in pieces {
-        let begin = start_of(piece);
-        let stop = stop_of(piece);
-        if due < task.due(piece.job) {
-            start = stop;
-        } else if over < begin {
-            start = begin;
-        }
-        if stop == end {
+        start = stretch_with(task, piece, due, start, over);
+        over = stop_of(piece);
+        if over == end {
             return start;
         }
-        over = stop;
     }
     start
+}
+
+// Where the stretch starts with one more piece, if it went from `start` to `over`.
+fn stretch_with<B: Allocator>(task: &Task<B>, piece: &Piece, due: i64, start: u64, over: u64) -> u64
+    requires class { task.now.class ≡ ReleaseLmax }
+    requires sound { IsPiece piece.now }
+    requires job { IsJob task.now piece.now.job }
+    ensures { IsStretchStart task.now due start over piece.now result }
+{
+    let begin = start_of(piece);
+    if due < task.due(piece.job) {
+        stop_of(piece)
+    } else if over < begin {
+        begin
+    } else {
+        start
+    }
 }
 
 // Whether the job, which is over at `over`, is released at `start` or later and over by `end`.

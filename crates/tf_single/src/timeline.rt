@@ -6,7 +6,7 @@ ghost use Rattle.tf_model.specs.Limit.{limit};
 ghost use Rattle.tf_model.specs.SchedulingTask.{all_jobs, job_data, time_of};
 ghost use Rattle.tf_model.specs.Sound.{IsSound};
 ghost use Rattle.tf_model.specs.declared.class.Class.TheVariants.{ReleaseLmax};
-ghost use Rattle.tf_single.specs.Progress.{IsProgress};
+ghost use Rattle.tf_single.specs.Progress.{IsTimeline};
 ghost use Rattle.tf_single.specs.Agenda.{AreByRelease, IsUnderway, IsLonger};
 
 use std::alloc::Allocator;
@@ -24,8 +24,7 @@ pub(crate) fn timeline<A: Allocator + Copy, B: Allocator>(
     task: &Task<B>,
 ) -> Result<Vec<Piece, A>, OutOfMemory>
     requires { task.now.class ≡ ReleaseLmax }
-    ensures progress { IfOk result (λ v.
-        (now : ℕ) × (now ≤ limit) × IsProgress task.now v.items (λ _. 0) now) }
+    ensures timeline { IfOk result (λ v. IsTimeline task.now v.items) }
     ensures few { IfOk result (λ v. length v.items ≤ 2 * length task.now.jobs) }
     ensures sound { IfOk result (λ _. IsSound task.now) }
 {

@@ -5,7 +5,7 @@ use Rattle.std.specs.Fmt.{decimal, signed_decimal}
 use Rattle.std.specs.Str.{bytes_eq}
 use Rattle.std.proofs.lemmas.Bool.{le-ltb}
 use Rattle.std.proofs.lemmas.Int.{ints}
-use Rattle.tf_model.specs.Words.{words, lines, KeptLine, kept_lines}
+use Rattle.tf_words.specs.Words.{words, lines, KeptLine, kept_lines}
 use Rattle.tf_model.specs.Whole.{IsWithin}
 use Rattle.tf_model.specs.declared.problem.Problem.{Problem}
 use Rattle.tf_notation.specs.Reading.{notation}
@@ -18,8 +18,8 @@ use Rattle.tf_text.specs.declared.answer.layout.Layout.TheVariants.{One, Two}
 use Rattle.tf_text.specs.JobWords.{job_words}
 use Rattle.tf_text.proofs.JobRuns.{list_read, list_words, list_form}
 use Rattle.tf_text.specs.AnswerText.{SheetData, version, piece_words, side_word, claim_words, result_lines, answer_lines, line_text, answer_text}
-use Rattle.tf_text.specs.LineParts.{after_word, without_return}
-use Rattle.tf_text.specs.Ranged.{is_number}
+use Rattle.tf_words.specs.LineParts.{after_word, without_return}
+use Rattle.tf_words.specs.Ranged.{is_number}
 use Rattle.tf_text.specs.Readable.{IsCount, IsReadablePiece, AreFew, AreListed, IsReadableClaim, IsReadable}
 use Rattle.tf_text.specs.AnswerReading.{count_in, time_in, value_in, side_of, most_job, most_machine, is_item, few, jobs_listed, jobs_in, exactly, heading_at, problem_in, problem_at, word_behind, count_at, value_at, piece_in, pieces_at, split_in, claim_in, kind_in, certificate_in, certificate_at, answer_at, sheet_of, answer_in}
 use Rattle.tf_notation.proofs.Again.{IsCounted, again}

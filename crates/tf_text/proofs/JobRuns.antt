@@ -1,24 +1,23 @@
 -- Lists of jobs as words, and back.
-use Rattle.std.proofs.Common.{◌≡◌, ℕ, zero, suc, ◌+◌, ◌-◌, ◌^◌, ◌<◌, ◌≤◌, true, false, eqb, ltb, List, [], ◌∷◌, ◌++◌, length, map, take, drop, Some, None, is_some, Ok, not, refl, sym, ap, ◌∙◌, arith, lit<, inl, inr, append_assoc}
-use Rattle.std.specs.List.{list_all, flat_map, range_with_len, position_or_len, before_first, after_first, AllByRecursion}
+use Rattle.std.proofs.Common.{◌≡◌, ℕ, zero, suc, ◌+◌, ◌-◌, ◌^◌, ◌<◌, ◌≤◌, Bool, true, false, eqb, ltb, List, [], ◌∷◌, ◌++◌, length, map, take, drop, Some, None, is_some, Ok, not, refl, sym, ap, ◌∙◌, arith, lit<, inl, inr, append_assoc}
+use Rattle.std.specs.List.{list_all, flat_map, range_with_len, position_or_len, AllByRecursion}
 use Rattle.std.specs.Fmt.{decimal}
 use Rattle.std.specs.Str.Parse.{AllDigits}
-use Rattle.std.proofs.lemmas.Bool.{cases_Bool, and_from, ne_eqb, eqb-true, ltb-true, lt-ltb}
+use Rattle.std.proofs.lemmas.Bool.{cases_Bool, and_from, ne_eqb, eqb-true, ltb-true, lt-ltb, le-ltb}
 use Rattle.std.proofs.lemmas.List.{append-nil, length-append}
-use Rattle.std.proofs.Math.Bool.{and-false, or-true}
+use Rattle.std.proofs.Math.Bool.{or-true}
 use Rattle.std.proofs.Math.Seq.{take-append_seam, drop-append-add}
-use Rattle.std.proofs.Math.ListN.{drop_of_length-le}
 use Rattle.std.proofs.lemmas.Str.Parse.{digit_from_value}
 use Rattle.std.proofs.lemmas.Fmt.{decimal_is_IsNumeral}
-use Rattle.tf_model.specs.Number.{is_numeral}
-use Rattle.tf_model.specs.Words.{is_white}
+use Rattle.tf_words.specs.Number.{is_numeral}
+use Rattle.tf_words.specs.Words.{is_white}
 use Rattle.tf_model.proofs.Ranges.{range_push}
 use Rattle.tf_text.specs.declared.answer.layout.Layout.{Layout}
 use Rattle.tf_text.specs.declared.answer.layout.Layout.TheVariants.{One, Two}
 use Rattle.tf_text.specs.declared.answer.run.Run.{Run}
-use Rattle.tf_text.specs.Ranged.{is_number}
+use Rattle.tf_words.specs.Ranged.{is_number}
 use Rattle.tf_text.specs.JobWords.{alone, run_jobs, runs_after, runs, range_word, run_words, job_words}
-use Rattle.tf_text.specs.AnswerReading.{most_job, is_dash, range_ends, is_item, count_in, run_in, jobs_from}
+use Rattle.tf_text.specs.AnswerReading.{most_job, range_ends, is_item, count_in, run_in, jobs_from}
 use Rattle.tf_text.specs.Readable.{IsCount, AreJobs}
 use Rattle.tf_text.proofs.Numerals.{decimal_numeral, word-decimal, numeral-decimal, count-decimal}
 use Rattle.tf_text.proofs.Reading.{with_jobs, no_jobs, word_read, with_twice}
@@ -45,6 +44,9 @@ range_are_jobs a (suc n) low high = ((low, omega arith), range_are_jobs (a + 1) 
 
 -- ---- the words of a run
 
+abbrev is_dash : ℕ → Bool
+is_dash b = eqb b 45
+
 -- digits have no '-'
 no_dash : (ds : List ℕ) → AllDigits 10 ds → position_or_len is_dash ds ≡ length ds
 no_dash [] h = refl
@@ -66,19 +68,20 @@ range_found : (a b : ℕ) → a < 2 ^ 64 → b < 2 ^ 64 → range_ends (decimal 
 unfolding range_ends
 range_found a b small-a small-b =
     let place : position_or_len is_dash (decimal a ++ 45 ∷ decimal b) ≡ length (decimal a) = dash_place (decimal a) (decimal b) (decimal_is_IsNumeral a small-a).0.1 in
-    let before : before_first is_dash (decimal a ++ 45 ∷ decimal b) ≡ decimal a = ap (λ n. take n (decimal a ++ 45 ∷ decimal b)) place ∙ take-append_seam (decimal a) (45 ∷ decimal b) in
-    let after : after_first is_dash (decimal a ++ 45 ∷ decimal b) ≡ decimal b = ap (λ n. drop (n + 1) (decimal a ++ 45 ∷ decimal b)) place ∙ drop-append-add (decimal a) (45 ∷ decimal b) 1 in
+    let there : ltb (length (decimal a)) (length (decimal a ++ 45 ∷ decimal b)) ≡ true = lt-ltb _ _ (omega (arith, length-append (decimal a) (45 ∷ decimal b))) in
+    let before : take (length (decimal a)) (decimal a ++ 45 ∷ decimal b) ≡ decimal a = take-append_seam (decimal a) (45 ∷ decimal b) in
+    let after : drop (length (decimal a) + 1) (decimal a ++ 45 ∷ decimal b) ≡ decimal b = drop-append-add (decimal a) (45 ∷ decimal b) 1 in
     let first : is_numeral (decimal a) ≡ true = decimal_numeral a small-a in
     let last : is_numeral (decimal b) ≡ true = decimal_numeral b small-b in
-    rw (before, after, first, last) refl
+    rw (place, there, before, after, first, last) refl
 
 -- a number is no range
 range_none : (a : ℕ) → a < 2 ^ 64 → range_ends (decimal a) ≡ None
 unfolding range_ends
 range_none a small =
     let place : position_or_len is_dash (decimal a) ≡ length (decimal a) = no_dash (decimal a) (decimal_is_IsNumeral a small).0.1 in
-    let after : after_first is_dash (decimal a) ≡ [] = ap (λ n. drop (n + 1) (decimal a)) place ∙ drop_of_length-le (decimal a) (omega arith) in
-    rw (after, and-false) refl
+    let nowhere : ltb (length (decimal a)) (length (decimal a)) ≡ false = le-ltb _ _ (omega arith) in
+    rw (place, nowhere) refl
 
 -- a job alone is read as a run of one
 alone_read : (line job : ℕ) → IsCount most_job job → run_in line (decimal job) ≡ Ok (alone job)

@@ -1,12 +1,10 @@
 pub mod Written
 pub mod Rows
-pub mod Saturated
 pub mod Reading
 pub mod WordLines
 pub mod Numerals
 pub mod BehindBlank
 pub mod NotationWord
-pub mod RangeWords
 pub mod JobRuns
 pub mod AnswerAgain
 pub mod ChartLines

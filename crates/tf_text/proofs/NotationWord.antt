@@ -3,7 +3,7 @@ use Rattle.std.proofs.Common.{◌≡◌, ℕ, suc, zero, ◌-◌, ◌<◌, ◌�
 use Rattle.std.specs.List.{list_all, filter, join_with_byte}
 use Rattle.std.specs.Fmt.{decimal}
 use Rattle.std.proofs.lemmas.Bool.{cases_Bool, and_parts, lt-ltb, eqb-true}
-use Rattle.tf_model.specs.Words.{is_white}
+use Rattle.tf_words.specs.Words.{is_white}
 use Rattle.tf_model.specs.declared.problem.Env.{Env}
 use Rattle.tf_model.specs.declared.problem.Env.TheVariants.{Single, Parallel, Uniform, Unrelated, Flow, OpenShop, JobShop}
 use Rattle.tf_model.specs.declared.problem.Goal.{Goal}
@@ -14,7 +14,7 @@ use Rattle.tf_notation.specs.declared.spelling.Condition.TheVariants.{Release, P
 use Rattle.tf_notation.specs.Spelling.{has}
 use Rattle.tf_notation.specs.Canonical.{environment_word, count_text, condition_word, goal_word, conditions_of, listed_text, all_conditions, canonical}
 use Rattle.tf_notation.proofs.Again.{IsCounted}
-use Rattle.tf_text.specs.LineParts.{after_word, without_return}
+use Rattle.tf_words.specs.LineParts.{after_word, without_return}
 use Rattle.tf_text.proofs.WordLines.{IsWord, append_all}
 use Rattle.tf_text.proofs.Numerals.{word-decimal}
 

@@ -9,11 +9,11 @@ use Rattle.std.proofs.lemmas.Int.{ints}
 use Rattle.std.proofs.lemmas.Str.Parse.{digit_from_value}
 use Rattle.std.proofs.lemmas.Fmt.{decimal_is_IsNumeral}
 use mir.Val.{SFits}
-use Rattle.tf_model.specs.Number.{is_numeral}
+use Rattle.tf_words.specs.Digits.{is_numeral, numeral}
 use Rattle.tf_model.specs.Whole.{IsWithin}
-use Rattle.tf_model.specs.Words.{is_white}
-use Rattle.tf_text.specs.Ranged.{numeral, judged, placed}
-use Rattle.tf_text.specs.declared.ranged.Ranged.TheVariants.{Within}
+use Rattle.tf_words.specs.Words.{is_white}
+use Rattle.tf_words.specs.Ranged.{judged, placed}
+use Rattle.tf_words.specs.declared.ranged.Ranged.TheVariants.{Within}
 use Rattle.tf_text.specs.AnswerReading.{counted, count_in, signed_within, time_in, value_in}
 use Rattle.tf_text.specs.Readable.{IsCount}
 use Rattle.tf_text.proofs.WordLines.{IsWord}

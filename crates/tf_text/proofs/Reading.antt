@@ -11,11 +11,11 @@ use Rattle.tf_model.specs.Outcome.{◌>>=◌}
 use Rattle.tf_model.proofs.Outcomes
 use Rattle.tf_model.proofs.Ranges.{range_push}
 use Rattle.std.specs.List.{range_with_len}
-use Rattle.tf_model.specs.Words.{words, KeptLine}
+use Rattle.tf_words.specs.Words.{words, first_is, KeptLine}
 use Rattle.tf_schedule.specs.declared.piece.Piece.{Piece}
 use Rattle.tf_text.specs.declared.answer.fault.AnswerFault.{AnswerFault}
 use Rattle.tf_text.specs.JobWords.{run_jobs}
-use Rattle.tf_text.specs.AnswerReading.{fault_in, Fails, run_in, jobs_from, are_many, name_many, few, jobs_listed, first_is, piece_in, pieces_at}
+use Rattle.tf_text.specs.AnswerReading.{fault_in, Fails, run_in, jobs_from, are_many, name_many, few, jobs_listed, piece_in, pieces_at}
 
 -- a fault of a step is one of what begins with it
 pub fails_then : {A B : Type 0} (e : AnswerFault) (r : Result A AnswerFault) (f : A → Result B AnswerFault) → Fails e r → Fails e (r >>= f)

@@ -2,8 +2,8 @@
 use Rattle.std.proofs.Common.{◌≡◌, ℕ, List, [], ◌∷◌, ◌++◌, Some, Ok, Err, true, false, pos, negsuc, codes, refl}
 use Rattle.std.specs.List.{flat_map}
 use Rattle.std.specs.Fmt.{digits}
-use Rattle.tf_model.specs.Words.{words, lines, kept_lines}
-use Rattle.tf_model.specs.Number.{plain}
+use Rattle.tf_words.specs.Words.{words, lines, kept_lines}
+use Rattle.tf_words.specs.Number.{plain}
 use Rattle.tf_model.specs.declared.problem.Env.TheVariants.{Parallel, Flow}
 use Rattle.tf_model.specs.declared.problem.Goal.TheVariants.{Cmax}
 use Rattle.tf_notation.specs.Canonical.{canonical}
@@ -13,7 +13,7 @@ use Rattle.tf_check.specs.Claim.{BySplit, ByLoad}
 use Rattle.tf_text.specs.AnswerText.{SheetData, line_text, claim_words, answer_text}
 use Rattle.tf_text.specs.declared.answer.layout.Layout.TheVariants.{One, Two}
 use Rattle.tf_text.specs.JobWords.{runs_after, runs, job_words}
-use Rattle.tf_text.specs.Ranged.{numeral}
+use Rattle.tf_words.specs.Digits.{numeral}
 use Rattle.tf_text.specs.AnswerReading.{value_in, range_ends, run_in, jobs_from, jobs_listed, jobs_in, heading_at, exactly, problem_in, problem_at, word_behind, count_at, value_at, piece_in, pieces_at, split_in, claim_in, certificate_in, certificate_at, answer_at, sheet_of, answer_in}
 use Rattle.tf_text.specs.declared.answer.fault.AnswerFault.TheVariants.{BadLine, NumberTooLarge, BadNotation, EndsEarly}
 

@@ -2,7 +2,7 @@
 use Rattle.std.proofs.Common.{◌≡◌, ℕ, ◌+◌, ◌<◌, Bool, true, false, not, eqb, ltb, List, [], ◌∷◌, ◌++◌, length, map, refl, ap, subst, inl, inr, ◌∙◌, append_assoc}
 use Rattle.std.specs.List.{slice_split, onto_first, filter, flat_map, join_with_byte, list_all, AllByRecursion}
 use Rattle.std.proofs.lemmas.Bool.{cases_Bool, and_parts, and_from, not-true, lt-ltb, eqb-true}
-use Rattle.tf_model.specs.Words.{is_white, words, lines, is_kept, KeptLine, kept_lines}
+use Rattle.tf_words.specs.Words.{is_white, words, lines, is_kept, KeptLine, kept_lines}
 use Rattle.tf_text.specs.AnswerText.{line_text}
 
 -- a word: one byte or more, none of them white

@@ -1,28 +1,30 @@
 -- What an answer text says, or its first fault. A line that is kept is read by its words.
-use Rattle.std.specs.Prelude.{ℕ, ℤ, pos, negsuc, Bool, true, false, ◌&&◌, ◌||◌, List, [], ◌∷◌, ◌++◌, length, drop, codes, Option, Some, None, is_some, Result, Ok, Err, nat_lt, ◌==◌, neg_ℤ, if◌then◌else◌}
-use Rattle.std.specs.List.{list_all, before_first, after_first}
+use Rattle.std.specs.Prelude.{ℕ, ℤ, pos, negsuc, Bool, true, false, ◌&&◌, ◌||◌, List, [], ◌∷◌, ◌++◌, length, drop, codes, Option, Some, None, is_some, Result, Ok, Err, nat_lt, neg_ℤ, if◌then◌else◌}
+use Rattle.std.specs.List.{list_all}
 use Rattle.std.specs.Option.{option_map_or}
 use Rattle.std.specs.Str.{bytes_eq}
 use Rattle.std.specs.Cmp.Lexicographic.{pointwise}
 use Rattle.tf_model.specs.Outcome
 use Rattle.tf_model.specs.Outcome.{◌>>=◌}
-use Rattle.tf_model.specs.Number.{is_numeral}
+use Rattle.tf_words.specs.Number.{is_numeral}
 use Rattle.tf_model.specs.Whole.{as_time}
-use Rattle.tf_model.specs.Words.{words, lines, KeptLine, kept_lines}
-use Rattle.tf_model.specs.declared.limit.TheConstants.{LIMIT, MOST_BYTES, MOST_JOBS, MOST_MACHINES}
+use Rattle.tf_words.specs.Words.{words, lines, first_is, KeptLine, kept_lines}
+use Rattle.tf_words.specs.declared.limit.TheConstants.{LIMIT}
+use Rattle.tf_model.specs.declared.limit.TheConstants.{MOST_BYTES, MOST_JOBS, MOST_MACHINES}
 use Rattle.tf_model.specs.declared.problem.Problem.{Problem}
 use Rattle.tf_notation.specs.Reading.{notation}
 use Rattle.tf_schedule.specs.declared.piece.Piece.{Piece}
 use Rattle.tf_check.specs.Claim.{Claim, AnswerData, ByPairs, ByLastOf, ByWindow, BySplit, ByLoad, ByMachine, ByOneJob, ByRanks}
 use Rattle.tf_text.specs.AnswerText.{SheetData, version}
 use Rattle.tf_text.specs.JobWords.{alone, run_jobs}
-use Rattle.tf_text.specs.LineParts.{after_word, without_return}
-use Rattle.tf_text.specs.Ranged.{is_number, number_in}
+use Rattle.tf_words.specs.LineParts.{after_word, without_return}
+use Rattle.tf_words.specs.WordParts.{divided}
+use Rattle.tf_words.specs.Ranged.{is_number, number_in}
 use Rattle.tf_text.specs.declared.answer.layout.Layout.{Layout}
 use Rattle.tf_text.specs.declared.answer.layout.Layout.TheVariants.{One, Two}
 use Rattle.tf_text.specs.declared.answer.run.Run.{Run}
-use Rattle.tf_text.specs.declared.ranged.Ranged.{Ranged}
-use Rattle.tf_text.specs.declared.ranged.Ranged.TheVariants.{NotANumber, Below, Above, Within}
+use Rattle.tf_words.specs.declared.ranged.Ranged.{Ranged}
+use Rattle.tf_words.specs.declared.ranged.Ranged.TheVariants.{NotANumber, Below, Above, Within}
 use Rattle.tf_text.specs.declared.answer.fault.AnswerFault.{AnswerFault}
 use Rattle.tf_text.specs.declared.answer.fault.AnswerFault.TheVariants.{TooLong, BadLine, NumberTooLarge, BadNotation, EndsEarly, OutOfMemory}
 
@@ -74,17 +76,17 @@ value_in line word = signed_within line (number_in (negsuc 9223372036854775807) 
 
 -- ---- lists of jobs
 
--- the byte '-'
-abbrev pub is_dash : ℕ → Bool
-is_dash b = b == 45
-
 -- both words, if each is of digits alone
 abbrev pub numerals : List ℕ → List ℕ → Option (List ℕ × List ℕ)
 numerals first last = if is_numeral first && is_numeral last then Some (first, last) else None
 
+abbrev pub ends_of : Option (List ℕ × List ℕ) → Option (List ℕ × List ℕ)
+ends_of None = None
+ends_of (Some parts) = numerals parts.0 parts.1
+
 -- the two numbers of a range: digits, one '-', digits
 unfoldable pub range_ends : List ℕ → Option (List ℕ × List ℕ)
-range_ends word = numerals (before_first is_dash word) (after_first is_dash word)
+range_ends word = ends_of (divided 45 word)
 
 -- a word of a list is a number, in version 2 a range as well
 abbrev pub is_item : Layout → List ℕ → Bool
@@ -172,11 +174,6 @@ behind_heading (Some layout) line more = Ok (layout, more)
 -- the heading, and those behind it
 unfoldable pub heading_at : List KeptLine → Result (Layout × List KeptLine) AnswerFault
 heading_at all = next all >>= λ line. behind_heading (version_in (words line.0.bytes)) line.0 line.1
-
--- the first word is this one
-abbrev pub first_is : List ℕ → List (List ℕ) → Bool
-first_is key [] = false
-first_is key (word ∷ words) = bytes_eq word key
 
 -- where no notation is, the byte of its fault plays no part
 abbrev pub meant : Result Problem ℕ → Result Problem AnswerFault

@@ -1,10 +1,8 @@
+-- what a caller has to believe
 pub mod Counted
 pub mod Input
 pub mod JobWords
 pub mod AnswerText
 pub mod Chart
-pub mod Ranged
-pub mod LineParts
-pub mod Lines
 pub mod AnswerReading
 pub mod Readable

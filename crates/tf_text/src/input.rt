@@ -1,14 +1,15 @@
 //! Whole texts from a reader.
-ghost use Rattle.std.specs.Prelude.{◌≡◌, ◌+◌, ◌<◌, ◌≤◌, true, false, length, OnOk, IfOk, IfSome, IfErr, IsErrOf};
+ghost use Rattle.std.specs.Prelude.{◌≡◌, ◌+◌, ◌<◌, ◌≤◌, true, false, length, OnOk, IfOk, OnErr, IfSome, IfErr, IsErr, IsErrOf};
 ghost use Rattle.std.specs.Io.KnownBytes.{IsAtEnd};
 ghost use Rattle.tf_text.specs.Counted.{inner_of, has_failed, ConsumesAtMost};
-ghost use Rattle.tf_text.specs.Input.{is_device, IsTextOf};
-ghost use Rattle.tf_text.specs.declared.input.InputFault.TheVariants.{Device as DeviceFault, OutOfMemory};
+ghost use Rattle.tf_text.specs.Input.{is_device, IsTextOf, Drains};
+ghost use Rattle.tf_text.specs.declared.input.InputFault.TheVariants.{Device as DeviceFault};
 
 use crate::counted::{Counted, Device};
-use std::alloc::{AllocError, Allocator};
+use std::alloc::Allocator;
 use std::io::Read;
 use tf_model::limit::MOST_BYTES;
+use tf_words::feed::Feed;
 use thiserror::Error;
 
 const CHUNK: usize = 4096;
@@ -35,12 +36,57 @@ impl From<Device> for InputFault {
     }
 }
 
-impl From<AllocError> for InputFault {
-    ghost from_gives = { λ _ e. e ≡ OutOfMemory };
-
-    fn from(_: AllocError) -> InputFault {
-        InputFault::OutOfMemory
+/// Feeds what the reader gives up to its end, or one byte more than [`MOST_BYTES`] where there are more.
+///
+/// Where the reader fails, what it gave before was fed.
+pub fn drain<R: Read, F: Feed>(reader: &mut Counted<R>, into: &mut F) -> Result<(), Device>
+    ensures taken { Drains F.Takes (R.remaining (inner_of reader.old)) (R.remaining (inner_of reader.new))
+        into.old into.new result }
+    ensures unfailed { OnOk result (has_failed reader.new ≡ false) }
+    ensures device { OnErr result (has_failed reader.new ≡ true) }
+    ensures failed_before { has_failed reader.old ≡ true → IsErr result × (reader.new ≡ reader.old) }
+{
+    let mut chunk = [0u8; CHUNK];
+    let mut left = MOST_BYTES + 1;
+    while left > 0 {
+        let most = CHUNK.min(left);
+        let n = reader.pull(&mut chunk[..most])?;
+        if n == 0 {
+            return Ok(());
+        }
+        into.feed(&chunk[..n]);
+        left -= n;
     }
+    Ok(())
+}
+
+// A text that is kept, as far as there was memory for it.
+#[derive(Drop)]
+struct Kept<A: Allocator> {
+    text: Vec<u8, A>,
+    is_whole: bool,
+}
+
+impl<A: Allocator> Feed for Kept<A> {
+    ghost use Rattle.std.specs.Prelude.{◌≡◌, ◌++◌, true};
+    ghost use Rattle.std.proofs.Common.{sym, ap, ◌∙◌, append_assoc};
+    ghost use Rattle.std.proofs.lemmas.List.{append-nil};
+
+    ghost Takes = { λ old piece new. new.is_whole ≡ true →
+        (old.is_whole ≡ true) × (new.text.items ≡ old.text.items ++ piece) };
+
+    fn feed(&mut self, piece: &[u8]) {
+        if self.is_whole {
+            self.is_whole = self.text.extend_from_slice(piece).is_ok();
+        }
+    }
+
+    ghost took_nothing = { λ x whole. (whole, sym (append-nil x.text.items)) };
+
+    ghost took_both = { λ x y z front back first second whole.
+        let after = second whole in
+        let before = first after.0 in
+        (before.0, after.1 ∙ ap (λ bs. bs ++ back) before.1 ∙ append_assoc x.text.items front back) };
 }
 
 /// All bytes that the reader gives up to its end. It takes no more than one byte past [`MOST_BYTES`].
@@ -60,17 +106,19 @@ pub fn read_all<A: Allocator, R: Read>(
     ensures failed_before { has_failed reader.old ≡ true →
         IsErrOf result InputFault.Device × (reader.new ≡ reader.old) }
 {
-    let mut chunk = [0u8; CHUNK];
-    let mut text = Vec::new(alloc);
-    while text.len() <= MOST_BYTES {
-        let most = CHUNK.min(MOST_BYTES + 1 - text.len());
-        let n = reader.pull(&mut chunk[..most])?;
-        if n == 0 {
-            return Ok(text);
-        }
-        text.extend_from_slice(&chunk[..n])?;
+    let mut kept = Kept {
+        text: Vec::new(alloc),
+        is_whole: true,
+    };
+    drain(reader, &mut kept)?;
+    let Kept { text, is_whole } = kept;
+    if !is_whole {
+        return Err(InputFault::OutOfMemory);
     }
-    Err(InputFault::TooLong)
+    if text.len() > MOST_BYTES {
+        return Err(InputFault::TooLong);
+    }
+    Ok(text)
 }
 
 #[cfg(test)]

@@ -5,5 +5,3 @@ pub mod answer;
 pub mod chart;
 pub mod counted;
 pub mod input;
-pub mod line;
-pub mod ranged;

@@ -6,9 +6,10 @@ use clap::error::ErrorKind;
 use clap::{Arg, ArgMatches, Command, Error};
 use std::alloc::{AllocError, Global};
 use tf_model::limit::{MOST_JOBS, MOST_MACHINES};
-use tf_model::number::{Number, is_numeral, number_of};
 use tf_text::answer::layout::Layout;
 use tf_text::chart::MOST_COLUMNS;
+use tf_words::digits::is_numeral;
+use tf_words::number::{Number, number_of};
 
 /// The problem and the instance that the words name.
 #[derive(Drop)]

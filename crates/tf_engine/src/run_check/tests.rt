@@ -1,13 +1,14 @@
+mod damaged;
 mod judged;
 mod schedules;
 
 use super::{Checked, run_check};
 use crate::devices::{Feed, Sink};
+use crate::examples::{Example, FOURS, ONES, headed, with_line};
 use crate::fault::RunFault;
-use crate::request::{Form, Request};
-use crate::text::Text;
-use refusing::Refusing;
-use std::alloc::{AllocError, Allocator};
+use crate::request::Request;
+use crate::trial::{check_into, ensure, request_in};
+use std::alloc::AllocError;
 use std::io::ErrorKind;
 use std::test::Fail;
 use tf_notation::reading::NotationFault;
@@ -16,41 +17,10 @@ use tf_text::answer::fault::AnswerFault;
 use tf_text::answer::layout::Layout;
 use tf_text::counted::Counted;
 
-const TABLE: &[u8] = b"table 1\njob 1 p=4\njob 2 p=4\njob 3 p=4\n";
-
-/// The lines of a good answer, of which a test changes one.
-const ANSWER: [&str; 11] = [
-    "answer 1",
-    "problem P2|prmp|Cmax",
-    "jobs 3",
-    "machines 2",
-    "value 6",
-    "piece 1 1 0 4",
-    "piece 2 1 4 6",
-    "piece 2 2 0 2",
-    "piece 3 2 2 6",
-    "cert load",
-    "end",
-];
+const LAYOUTS: [Layout; 2] = [Layout::One, Layout::Two];
 
 fn request(rt: &HostRuntime, problem: &str) -> Result<Request, AllocError> {
-    Ok(Request {
-        problem: Text::new(String::from_str(rt.alloc(), problem)?),
-        form: Form::Table,
-        machines: None,
-        layout: Layout::One,
-    })
-}
-
-/// The answer with one line, counted from 1, in place of its own; 0 for none.
-fn answer_with(rt: &HostRuntime, place: usize, line: &str) -> Result<Vec<u8>, AllocError> {
-    let mut text = Vec::new(rt.alloc());
-    for (k, own) in ANSWER.iter().enumerate() {
-        let line = if k + 1 == place { line } else { *own };
-        text.extend_from_slice(line.as_bytes())?;
-        text.push(b'\n')?;
-    }
-    Ok(text)
+    request_in(rt, problem, Layout::One)
 }
 
 /// What a check answers, and what it writes.
@@ -62,26 +32,8 @@ fn check_texts(
 ) -> Result<(Result<Checked, RunFault>, Vec<u8>), AllocError> {
     let request = request(rt, problem)?;
     let mut out = Vec::new(rt.alloc());
-    let mut instance = Counted::new(table);
-    let mut answer = Counted::new(answer);
-    let mut writer = Counted::new(&mut out);
-    let result = run_check(
-        rt.alloc(),
-        &request,
-        &mut instance,
-        &mut answer,
-        &mut writer,
-    );
-    drop(writer);
+    let result = check_into(rt.alloc(), &request, table, answer, &mut out);
     Ok((result, out))
-}
-
-fn ensure(is_so: bool, otherwise: &'static str) -> Result<(), Fail> {
-    if is_so {
-        Ok(())
-    } else {
-        Err(Fail::new(otherwise))
-    }
 }
 
 /// The check of this answer writes exactly this line.
@@ -97,28 +49,45 @@ fn writes(
     ensure(out.as_slice() == wanted.as_bytes(), "another line")
 }
 
-/// The good answer with one line changed is judged like this.
+/// This answer of version 1 is judged like this in each version.
+fn judges_text(
+    rt: &HostRuntime,
+    problem: &str,
+    table: &[u8],
+    answer: &[u8],
+    wanted: &str,
+) -> Result<(), Fail> {
+    for layout in LAYOUTS {
+        writes(rt, problem, table, &headed(rt, answer, layout)?, wanted)?;
+    }
+    Ok(())
+}
+
+/// The example's answer with one line, counted from 1, in place of its own is judged like this.
+fn changed(
+    rt: &HostRuntime,
+    example: &Example,
+    place: usize,
+    line: &str,
+    wanted: &str,
+) -> Result<(), Fail> {
+    let answer = with_line(rt, example.answer, place, line)?;
+    judges_text(rt, example.problem, example.table, &answer, wanted)
+}
+
+/// The same of the answer for three jobs of 4.
 fn judges(rt: &HostRuntime, place: usize, line: &str, wanted: &str) -> Result<(), Fail> {
-    let answer = answer_with(rt, place, line)?;
-    writes(rt, "P2|prmp|Cmax", TABLE, &answer, wanted)
+    changed(rt, &FOURS, place, line, wanted)
 }
 
 #[test]
 fn an_answer_and_its_problem(rt: HostRuntime) -> Result<(), Fail> {
-    judges(&rt, 0, "", "accepted\n")?;
     judges(&rt, 2, "problem P3|prmp|Cmax", "accepted\n")?;
     judges(&rt, 2, "problem P2||sumC", "rejected: OtherTask\n")?;
     judges(&rt, 3, "jobs 4", "rejected: OtherTask\n")?;
     judges(&rt, 10, "# no certificate\ncert load", "accepted\n")?;
-    let ones = b"table 1\njob 1 p=1\njob 2 p=1\njob 3 p=1\n";
-    let answer = answer_with(&rt, 0, "")?;
-    writes(
-        &rt,
-        "P2|prmp|Cmax",
-        ones,
-        &answer,
-        "rejected: WrongAmount 1\n",
-    )
+    let short = "rejected: WrongAmount 1\n";
+    writes(&rt, FOURS.problem, ONES.table, FOURS.answer, short)
 }
 
 #[test]
@@ -138,10 +107,17 @@ fn a_value_or_a_certificate_changed(rt: HostRuntime) -> Result<(), Fail> {
     judges(&rt, 10, "cert ranks 1", "rejected: OtherKind\n")
 }
 
-/// The check of the good answer with one line changed is refused, and writes nothing.
+/// The check of that answer with one line changed is refused in each version, and writes nothing.
 fn refuses(rt: &HostRuntime, place: usize, line: &str, fault: AnswerFault) -> Result<(), Fail> {
-    let answer = answer_with(rt, place, line)?;
-    let (result, out) = check_texts(rt, "P2|prmp|Cmax", TABLE, &answer)?;
+    for layout in LAYOUTS {
+        let answer = with_line(rt, &headed(rt, FOURS.answer, layout)?, place, line)?;
+        refuses_text(rt, &answer, fault)?;
+    }
+    Ok(())
+}
+
+fn refuses_text(rt: &HostRuntime, answer: &[u8], fault: AnswerFault) -> Result<(), Fail> {
+    let (result, out) = check_texts(rt, FOURS.problem, FOURS.table, answer)?;
     ensure(result == Err(RunFault::Answer(fault)), "another outcome")?;
     ensure(out.is_empty(), "something was written")
 }
@@ -155,11 +131,8 @@ fn refusals(rt: HostRuntime) -> Result<(), Fail> {
     let dear = "value 9223372036854775808";
     refuses(&rt, 5, dear, AnswerFault::NumberTooLarge(5))?;
     let cut = b"answer 1\nproblem P2|prmp|Cmax\njobs 3\nmachines 2\nvalue 6\n";
-    let (result, out) = check_texts(&rt, "P2|prmp|Cmax", TABLE, cut)?;
-    assert!(rt; result == Err(RunFault::Answer(AnswerFault::EndsEarly)));
-    assert!(rt; out.is_empty());
-    let good = answer_with(&rt, 0, "")?;
-    let (result, _) = check_texts(&rt, "P2|prmp|Cmax", b"table 1", &good)?;
+    refuses_text(&rt, cut, AnswerFault::EndsEarly)?;
+    let (result, _) = check_texts(&rt, FOURS.problem, b"table 1", FOURS.answer)?;
     assert!(rt; result == Err(RunFault::Text(ReadFault::NoJobs)));
     Ok(())
 }
@@ -168,8 +141,8 @@ fn refusals(rt: HostRuntime) -> Result<(), Fail> {
 fn nothing_is_read_before_the_problem(rt: HostRuntime) -> Result<(), Fail> {
     let request = request(&rt, "1||sumX")?;
     let mut out = Vec::new(rt.alloc());
-    let mut feed = Feed::new(TABLE);
-    let mut other = Feed::new(TABLE);
+    let mut feed = Feed::new(FOURS.table);
+    let mut other = Feed::new(FOURS.table);
     let mut instance = Counted::new(&mut feed);
     let mut answer = Counted::new(&mut other);
     let mut writer = Counted::new(&mut out);
@@ -192,11 +165,11 @@ fn nothing_is_read_before_the_problem(rt: HostRuntime) -> Result<(), Fail> {
 
 #[test]
 fn a_fault_of_the_instance_comes_before_the_second_reader(rt: HostRuntime) -> Result<(), Fail> {
-    let request = request(&rt, "P2|prmp|Cmax")?;
+    let request = request(&rt, FOURS.problem)?;
     let mut out = Vec::new(rt.alloc());
     let bad: &[u8] = b"table 2\n";
     let mut instance = Counted::new(bad);
-    let mut answer = Counted::new(Feed::new(TABLE).failing_at(1, ErrorKind::Other));
+    let mut answer = Counted::new(Feed::new(FOURS.table).failing_at(1, ErrorKind::Other));
     let mut writer = Counted::new(&mut out);
     let result = run_check(
         rt.alloc(),
@@ -211,9 +184,9 @@ fn a_fault_of_the_instance_comes_before_the_second_reader(rt: HostRuntime) -> Re
 }
 
 fn writer_fails(rt: &HostRuntime, text: &[u8], room: usize) -> Result<(), Fail> {
-    let request = request(rt, "P2|prmp|Cmax")?;
+    let request = request(rt, FOURS.problem)?;
     let mut out = Vec::new(rt.alloc());
-    let mut instance = Counted::new(TABLE);
+    let mut instance = Counted::new(FOURS.table);
     let mut answer = Counted::new(text);
     let mut writer = Counted::new(Sink::new(&mut out, 3, room, ErrorKind::Interrupted));
     let result = run_check(
@@ -232,57 +205,11 @@ fn writer_fails(rt: &HostRuntime, text: &[u8], room: usize) -> Result<(), Fail> 
 
 #[test]
 fn a_writer_that_fails_after_any_byte(rt: HostRuntime) -> Result<(), Fail> {
-    let text = answer_with(&rt, 0, "")?;
-    for room in 0..9 {
-        writer_fails(&rt, &text, room)?;
-    }
-    Ok(())
-}
-
-/// A check over room that was made before.
-fn check_in<A: Allocator + Copy>(
-    alloc: A,
-    request: &Request,
-    text: &[u8],
-    out: &mut Vec<u8>,
-) -> Result<Checked, RunFault<A>> {
-    let mut instance = Counted::new(TABLE);
-    let mut answer = Counted::new(text);
-    let mut writer = Counted::new(out);
-    run_check(alloc, request, &mut instance, &mut answer, &mut writer)
-}
-
-/// Whether a check asks for more growths than these. Where the next one is refused, it wants memory, or the growth
-/// was not needed and the verdict stands.
-fn asks_for_more(
-    rt: &HostRuntime,
-    growths: u64,
-    text: &[u8],
-    out: &mut Vec<u8>,
-) -> Result<bool, Fail> {
-    let request = request(rt, "P2|prmp|Cmax")?;
-    let heap = Refusing::new(rt.alloc(), growths);
-    out.clear();
-    let result = check_in(&heap, &request, text, out);
-    if heap.has_refused() && result == Err(RunFault::OutOfMemory) {
-        ensure(out.is_empty(), "something was written")?;
-    } else {
-        ensure(result == Ok(Checked::Accepted), "another outcome")?;
-        ensure(out.as_slice() == b"accepted\n".as_slice(), "another line")?;
-    }
-    Ok(heap.has_refused())
-}
-
-#[test]
-fn each_growth_refused(rt: HostRuntime) -> Result<(), Fail> {
-    let text = answer_with(&rt, 0, "")?;
-    let mut out = Vec::with_capacity(rt.alloc(), 400)?;
-    for growths in 0..200 {
-        if !asks_for_more(&rt, growths, &text, &mut out)? {
-            assert!(rt; growths > 4);
-            return Ok(());
+    for layout in LAYOUTS {
+        let text = headed(&rt, FOURS.answer, layout)?;
+        for room in 0..9 {
+            writer_fails(&rt, &text, room)?;
         }
     }
-    assert!(rt; false, "no check meets no refusal");
     Ok(())
 }

@@ -4,21 +4,16 @@ ghost use Rattle.tf_text.specs.declared.chart.TheConstants.{MOST_COLUMNS};
 
 use super::run_gantt;
 use crate::devices::{Feed, Sink};
+use crate::examples::{BROKEN_OFF, DEALT, FLOW_IDLE, FOURS, headed};
 use crate::fault::RunFault;
+use crate::trial::ensure;
 use std::alloc::AllocError;
 use std::io::ErrorKind;
 use std::test::Fail;
 use tf_schedule::schedule::PieceFault;
 use tf_text::answer::fault::AnswerFault;
+use tf_text::answer::layout::Layout;
 use tf_text::counted::Counted;
-
-fn ensure(is_so: bool, otherwise: &'static str) -> Result<(), Fail> {
-    if is_so {
-        Ok(())
-    } else {
-        Err(Fail::new(otherwise))
-    }
-}
 
 /// What drawing this answer gives, and what it writes.
 fn draw(
@@ -50,19 +45,6 @@ fn refuses(rt: &HostRuntime, answer: &[u8], fault: RunFault) -> Result<(), Fail>
     ensure(out.is_empty(), "something was written")
 }
 
-const FOURS: &[u8] = b"answer 1
-problem P2|prmp|Cmax
-jobs 3
-machines 2
-value 6
-piece 1 1 0 4
-piece 2 1 4 6
-piece 2 2 0 2
-piece 3 2 2 6
-cert load
-end
-";
-
 const FOURS_DRAWN: &[u8] = b"length 6
 machine 1 |111122|
 machine 2 |223333|
@@ -70,8 +52,12 @@ machine 2 |223333|
 
 #[test]
 fn a_column_for_each_time_step(rt: HostRuntime) -> Result<(), Fail> {
-    draws(&rt, FOURS, 72, FOURS_DRAWN)?;
-    draws(&rt, FOURS, 6, FOURS_DRAWN)
+    for layout in [Layout::One, Layout::Two] {
+        let answer = headed(&rt, FOURS.answer, layout)?;
+        draws(&rt, &answer, 72, FOURS_DRAWN)?;
+        draws(&rt, &answer, 6, FOURS_DRAWN)?;
+    }
+    Ok(())
 }
 
 #[test]
@@ -80,29 +66,16 @@ fn fewer_columns(rt: HostRuntime) -> Result<(), Fail> {
 machine 1 |112|
 machine 2 |233|
 ";
-    draws(&rt, FOURS, 3, chart)?;
-    let dealt = b"answer 1
-problem P2||sumC
-jobs 5
-machines 2
-value 22
-piece 1 1 0 1
-piece 3 1 1 4
-piece 5 1 4 9
-piece 2 2 0 2
-piece 4 2 2 6
-cert ranks 5 4 3 2 1
-end
-";
+    draws(&rt, FOURS.answer, 3, chart)?;
     draws(
         &rt,
-        dealt,
+        DEALT.answer,
         72,
         b"length 9\nmachine 1 |133355555|\nmachine 2 |224444...|\n",
     )?;
     draws(
         &rt,
-        dealt,
+        DEALT.answer,
         4,
         b"length 9\nmachine 1 |1355|\nmachine 2 |244.|\n",
     )
@@ -110,28 +83,10 @@ end
 
 #[test]
 fn idle_time_and_no_time(rt: HostRuntime) -> Result<(), Fail> {
-    let idle = b"answer 1
-problem 1|rj,prmp|Lmax
-jobs 3
-machines 1
-value 1
-piece 1 1 0 1
-piece 2 1 1 3
-piece 1 1 3 6
-piece 3 1 8 9
-cert window 3
-end
-";
-    draws(&rt, idle, 72, b"length 9\nmachine 1 |122111..3|\n")?;
-    let none = b"answer 1
-problem F2||Cmax
-jobs 2
-machines 2
-value 0
-cert split first 0
-end
-";
-    draws(&rt, none, 72, b"length 0\nmachine 1 ||\nmachine 2 ||\n")
+    let idle = b"length 9\nmachine 1 |122111..3|\n";
+    draws(&rt, BROKEN_OFF.answer, 72, idle)?;
+    let none = b"length 0\nmachine 1 ||\nmachine 2 ||\n";
+    draws(&rt, FLOW_IDLE.answer, 72, none)
 }
 
 #[test]
@@ -254,9 +209,9 @@ end
 }
 
 /// A writer that takes so many bytes and then fails has a prefix of the chart.
-fn is_cut(rt: &HostRuntime, bytes: usize) -> Result<(), Fail> {
+fn is_cut(rt: &HostRuntime, answer: &[u8], bytes: usize) -> Result<(), Fail> {
     let mut out = Vec::new(rt.alloc());
-    let mut reader = Counted::new(FOURS);
+    let mut reader = Counted::new(answer);
     let mut writer = Counted::new(Sink::new(&mut out, 7, bytes, ErrorKind::Other));
     let result = run_gantt(rt.alloc(), &mut reader, &mut writer, 72);
     ensure(result == Err(RunFault::Device), "another outcome")?;
@@ -269,8 +224,11 @@ fn is_cut(rt: &HostRuntime, bytes: usize) -> Result<(), Fail> {
 
 #[test]
 fn a_writer_that_fails(rt: HostRuntime) -> Result<(), Fail> {
-    for bytes in 0..FOURS_DRAWN.len() {
-        is_cut(&rt, bytes)?;
+    for layout in [Layout::One, Layout::Two] {
+        let answer = headed(&rt, FOURS.answer, layout)?;
+        for bytes in 0..FOURS_DRAWN.len() {
+            is_cut(&rt, &answer, bytes)?;
+        }
     }
     Ok(())
 }
@@ -278,7 +236,9 @@ fn a_writer_that_fails(rt: HostRuntime) -> Result<(), Fail> {
 #[test]
 fn a_reader_that_fails(rt: HostRuntime) -> Result<(), Fail> {
     let mut out = Vec::new(rt.alloc());
-    let mut feed = Feed::new(FOURS).by(10).failing_at(3, ErrorKind::Other);
+    let mut feed = Feed::new(FOURS.answer)
+        .by(10)
+        .failing_at(3, ErrorKind::Other);
     let mut reader = Counted::new(&mut feed);
     let mut writer = Counted::new(&mut out);
     let result = run_gantt(rt.alloc(), &mut reader, &mut writer, 72);

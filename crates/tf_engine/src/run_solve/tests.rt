@@ -3,13 +3,16 @@ mod devices_that_fail;
 mod faults_of_texts;
 mod forms;
 mod many_jobs;
+mod pieces;
 mod ranges;
 
 use super::run_solve;
 use crate::devices::Feed;
+use crate::examples::{FOURS, ONE_LONG};
 use crate::fault::RunFault;
 use crate::request::{Form, Request};
 use crate::text::Text;
+use crate::trial::{ensure, solve_into};
 use std::alloc::AllocError;
 use std::io::ErrorKind;
 use std::test::Fail;
@@ -19,30 +22,6 @@ use tf_notation::reading::NotationFault;
 use tf_text::answer::layout::Layout;
 use tf_text::counted::Counted;
 
-pub const TABLE: &[u8] = b"table 1\njob 1 p=4\njob 2 p=4\njob 3 p=4\n";
-
-/// What is written for that table on two machines.
-pub const ANSWER: &[u8] = b"answer 1
-problem P2|prmp|Cmax
-jobs 3
-machines 2
-value 6
-piece 1 1 0 4
-piece 2 1 4 6
-piece 2 2 0 2
-piece 3 2 2 6
-cert load
-end
-";
-
-pub fn ensure(is_so: bool, otherwise: &'static str) -> Result<(), Fail> {
-    if is_so {
-        Ok(())
-    } else {
-        Err(Fail::new(otherwise))
-    }
-}
-
 /// What a run answers, and what it writes.
 pub fn run(
     rt: &HostRuntime,
@@ -50,10 +29,7 @@ pub fn run(
     text: &[u8],
 ) -> Result<(Result<(), RunFault>, Vec<u8>), AllocError> {
     let mut out = Vec::new(rt.alloc());
-    let mut reader = Counted::new(text);
-    let mut writer = Counted::new(&mut out);
-    let result = run_solve(rt.alloc(), request, &mut reader, &mut writer);
-    drop(writer);
+    let result = solve_into(rt.alloc(), request, text, &mut out);
     Ok((result, out))
 }
 
@@ -101,38 +77,10 @@ pub fn on_two(rt: &HostRuntime) -> Result<Request, AllocError> {
 }
 
 #[test]
-fn whole_time_steps(rt: HostRuntime) -> Result<(), Fail> {
-    let table = b"table 1\njob 1 p=1\njob 2 p=1\njob 3 p=1\n";
-    let wanted = b"answer 1
-problem P2|prmp|Cmax
-jobs 3
-machines 2
-value 2
-piece 1 1 0 1
-piece 2 1 1 2
-piece 3 2 0 1
-cert load
-end
-";
-    answers(&rt, &on_two(&rt)?, table, wanted)
-}
-
-#[test]
 fn longest_job(rt: HostRuntime) -> Result<(), Fail> {
     let table = b"# three machines, one of them empty\n\ntable 1\njob 1 p=9\njob 2 p=1\njob 3 p=1";
-    let wanted = b"answer 1
-problem P3|prmp|Cmax
-jobs 3
-machines 3
-value 9
-piece 1 1 0 9
-piece 2 2 0 1
-piece 3 2 1 2
-cert job 1
-end
-";
     let request = request(&rt, "P3|pmtn|C_max", Form::Table, None)?;
-    answers(&rt, &request, table, wanted)
+    answers(&rt, &request, table, ONE_LONG.answer)
 }
 
 #[test]
@@ -208,7 +156,7 @@ fn problems_without_a_solver(rt: HostRuntime) -> Result<(), Fail> {
 fn reads_nothing(rt: &HostRuntime, problem: &str, fault: RunFault) -> Result<(), Fail> {
     let request = request(rt, problem, Form::Table, None)?;
     let mut out = Vec::new(rt.alloc());
-    let mut feed = Feed::new(TABLE).failing_at(1, ErrorKind::Other);
+    let mut feed = Feed::new(FOURS.table).failing_at(1, ErrorKind::Other);
     let mut reader = Counted::new(&mut feed);
     let mut writer = Counted::new(&mut out);
     let result = run_solve(rt.alloc(), &request, &mut reader, &mut writer);

@@ -1,20 +1,18 @@
 //! Answer texts, read.
 ghost use Rattle.std.specs.Prelude.{◌≡◌, ◌^◌, ◌-◌, ◌<◌, ◌≤◌, ◌∷◌, ◌++◌, [], true, false, length, drop, codes, option_map, position, OnOk, IfOk, MatchOption};
 ghost use Rattle.std.specs.List.{list_all};
-ghost use Rattle.tf_model.specs.Words.{words, lines, kept_lines};
+ghost use Rattle.tf_words.specs.Words.{words, lines, kept_lines, first_is};
 ghost use Rattle.tf_check.specs.Certificate.{claim_of};
-ghost use Rattle.tf_text.specs.Lines.{line_of, lines_of};
-ghost use Rattle.tf_text.specs.Ranged.{is_number};
+ghost use Rattle.tf_words.specs.Lines.{line_of, lines_of};
+ghost use Rattle.tf_words.specs.Ranged.{is_number};
 ghost use Rattle.tf_text.specs.JobWords.{run_jobs};
 ghost use Rattle.tf_text.specs.declared.answer.layout.Layout.TheVariants.{Two};
-ghost use Rattle.tf_text.specs.AnswerReading.{Gives, is_dash, numerals, range_ends, is_item, run_in, name_many, jobs_listed, version_in, heading_at, count_in, time_in, value_in, most_job, most_machine, jobs_from, jobs_in, first_is, is_exactly, next, exactly, problem_in, problem_at, only, word_behind, count_at, value_at, four, piece_in, pieces_at, bare, side_of, split_of, split_in, claim_in, kind_in, certificate_in, certificate_at, finished, answer_at, sheet_of, answer_in};
+ghost use Rattle.tf_text.specs.AnswerReading.{Gives, numerals, range_ends, is_item, run_in, name_many, jobs_listed, version_in, heading_at, count_in, time_in, value_in, most_job, most_machine, jobs_from, jobs_in, is_exactly, next, exactly, problem_in, problem_at, only, word_behind, count_at, value_at, four, piece_in, pieces_at, bare, side_of, split_of, split_in, claim_in, kind_in, certificate_in, certificate_at, finished, answer_at, sheet_of, answer_in};
 
 use crate::answer::fault::AnswerFault;
 use crate::answer::layout::Layout;
 use crate::answer::run::Run;
 use crate::answer::sheet::Sheet;
-use crate::line::{Line, Lines, after_word, without_return};
-use crate::ranged::{Ranged, is_number, number_in};
 use std::alloc::{AllocError, Allocator};
 use tf_check::answer::Answer;
 use tf_check::certificate::Certificate;
@@ -29,12 +27,15 @@ use tf_check::window::Window;
 use tf_model::ids::{JobId, MachineId};
 use tf_model::job_list::JobList;
 use tf_model::limit::{LIMIT, MOST_BYTES, MOST_JOBS, MOST_MACHINES};
-use tf_model::number::is_numeral;
 use tf_model::problem::Problem;
-use tf_model::word::{first_word, is};
 use tf_notation::reading::read;
 use tf_schedule::piece::Piece;
 use tf_schedule::piece_list::PieceList;
+use tf_words::digits::is_numeral;
+use tf_words::line::{Line, Lines, after_word, without_return};
+use tf_words::part::divided;
+use tf_words::ranged::{Ranged, is_number, number_in};
+use tf_words::word::{behind_key, first_word, is};
 
 const MOST_JOB: u32 = MOST_JOBS as u32;
 
@@ -83,12 +84,6 @@ fn value_in(line: u32, word: &[u8]) -> Result<i64, AnswerFault>
     }
 }
 
-fn dash_at(word: &[u8]) -> Option<usize>
-    ensures { result ≡ position is_dash word.now }
-{
-    word.iter().position(|byte| *byte == b'-')
-}
-
 fn numerals<'a>(first: &'a [u8], last: &'a [u8]) -> Option<(&'a [u8], &'a [u8])>
     ensures { option_map (λ ends. (ends.0.now, ends.1.now)) result ≡ numerals first.now last.now }
 {
@@ -102,16 +97,13 @@ fn numerals<'a>(first: &'a [u8], last: &'a [u8]) -> Option<(&'a [u8], &'a [u8])>
 }
 
 // The two numbers of a range.
+#[tactic(auto, unfolding(crate::specs::AnswerReading::range_ends))]
 fn range_ends(word: &[u8]) -> Option<(&[u8], &[u8])>
     ensures { option_map (λ ends. (ends.0.now, ends.1.now)) result ≡ range_ends word.now }
 {
-    match dash_at(word) {
+    match divided(word, b'-') {
         None => None,
-        Some(dash) => {
-            let (first, from) = word.split_at(dash);
-            let (_, last) = from.split_at(1);
-            numerals(first, last)
-        }
+        Some((first, last)) => numerals(first, last),
     }
 }
 
@@ -188,16 +180,6 @@ fn piece_in(line: u32, text: &[u8]) -> Result<Piece, AnswerFault>
         start,
         stop,
     })
-}
-
-// The words behind a key.
-fn behind_key<'a>(text: &'a [u8], key: &[u8]) -> Option<&'a [u8]>
-    ensures { MatchOption result (first_is key.now (words text.now) ≡ false)
-        (λ after. (first_is key.now (words text.now) ≡ true)
-        × (words after.now ≡ drop 1 (words text.now))) }
-{
-    let (first, after) = first_word(text)?;
-    if is(first, key) { Some(after) } else { None }
 }
 
 fn only(line: u32, text: &[u8]) -> Result<&[u8], AnswerFault>

@@ -4,7 +4,7 @@ use super::reading::read_answer;
 use super::sheet::Sheet;
 use super::writing::{answer_bytes, write_answer};
 use crate::counted::Counted;
-use std::alloc::{Allocator, Global};
+use std::alloc::{AllocError, Allocator, Global};
 use std::test::Fail;
 use tf_check::answer::Answer;
 use tf_check::certificate::Certificate;
@@ -14,9 +14,8 @@ use tf_model::problem::{Env, Goal, Problem};
 use tf_schedule::piece::Piece;
 use tf_schedule::piece_list::PieceList;
 
-// Three jobs of time 4 on two parallel machines, with preemption.
-const TWO_PARALLEL: &str = "answer 1
-problem P2|prmp|Cmax
+// Three jobs of time 4 on two parallel machines, with preemption, below the heading.
+const TWO_PARALLEL: &[u8] = b"problem P2|prmp|Cmax
 jobs 3
 machines 2
 value 6
@@ -27,6 +26,19 @@ piece 3 2 2 6
 cert load
 end
 ";
+
+fn heading(layout: Layout) -> &'static [u8] {
+    match layout {
+        Layout::One => b"answer 1\n",
+        Layout::Two => b"answer 2\n",
+    }
+}
+
+fn two_parallel_text(alloc: Global, layout: Layout) -> Result<Vec<u8>, AllocError> {
+    let mut text = Vec::from_slice(alloc, heading(layout))?;
+    text.extend_from_slice(TWO_PARALLEL)?;
+    Ok(text)
+}
 
 fn piece(job: u32, machine: u32, start: i64, stop: i64) -> Option<Piece> {
     let job = JobId::new(job)?;
@@ -70,25 +82,67 @@ fn two_parallel(alloc: Global) -> Result<Sheet, Fail> {
     })
 }
 
+fn ensure(is_so: bool, otherwise: &'static str) -> Result<(), Fail> {
+    if is_so {
+        Ok(())
+    } else {
+        Err(Fail::new(otherwise))
+    }
+}
+
+fn writes(alloc: Global, sheet: &Sheet, layout: Layout, wanted: &[u8]) -> Result<(), Fail> {
+    let mut taken = Vec::new(alloc);
+    let mut writer = Counted::new(&mut taken);
+    let result = write_answer(alloc, &mut writer, sheet, layout);
+    drop(writer);
+    ensure(result == Ok(()), "not written")?;
+    ensure(taken.as_slice() == wanted, "another text")
+}
+
 #[test]
 fn an_answer_is_written(rt: HostRuntime) -> Result<(), Fail> {
-    let sheet = two_parallel(rt.alloc())?;
-    let mut taken = Vec::new(rt.alloc());
-    let mut writer = Counted::new(&mut taken);
-    assert!(rt; write_answer(rt.alloc(), &mut writer, &sheet, Layout::One).is_ok());
-    drop(writer);
-    assert_eq!(rt; taken.as_slice(), TWO_PARALLEL.as_bytes());
+    let alloc = rt.alloc();
+    let sheet = two_parallel(alloc)?;
+    for layout in [Layout::One, Layout::Two] {
+        writes(alloc, &sheet, layout, &two_parallel_text(alloc, layout)?)?;
+    }
     Ok(())
 }
 
 #[test]
 fn an_answer_is_read_and_written_again(rt: HostRuntime) -> Result<(), Fail> {
-    let sheet = read_answer(rt.alloc(), TWO_PARALLEL.as_bytes())?;
-    let mut taken = Vec::new(rt.alloc());
-    let mut writer = Counted::new(&mut taken);
-    assert!(rt; write_answer(rt.alloc(), &mut writer, &sheet, Layout::One).is_ok());
-    drop(writer);
-    assert_eq!(rt; taken.as_slice(), TWO_PARALLEL.as_bytes());
+    let alloc = rt.alloc();
+    for layout in [Layout::One, Layout::Two] {
+        let text = two_parallel_text(alloc, layout)?;
+        let sheet = read_answer(alloc, &text)?;
+        writes(alloc, &sheet, layout, &text)?;
+    }
+    Ok(())
+}
+
+// A text that is cut behind its last word says the same, and any shorter one is at fault.
+fn is_judged_cut(alloc: Global, layout: Layout, text: &[u8], cut: &[u8]) -> Result<(), Fail> {
+    match read_answer(alloc, cut) {
+        Ok(sheet) => {
+            ensure(cut.ends_with(b"\nend"), "read without its end")?;
+            writes(alloc, &sheet, layout, text)
+        }
+        Err(AnswerFault::EndsEarly | AnswerFault::BadLine(_) | AnswerFault::BadNotation) => {
+            ensure(!cut.ends_with(b"\nend"), "not read with its end")
+        }
+        Err(_) => Err(Fail::new("another fault")),
+    }
+}
+
+#[test]
+fn an_answer_cut_anywhere(rt: HostRuntime) -> Result<(), Fail> {
+    let alloc = rt.alloc();
+    for layout in [Layout::One, Layout::Two] {
+        let text = two_parallel_text(alloc, layout)?;
+        for cut in 0..text.len() {
+            is_judged_cut(alloc, layout, &text, &text[..cut])?;
+        }
+    }
     Ok(())
 }
 

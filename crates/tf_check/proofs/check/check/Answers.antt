@@ -1,7 +1,7 @@
 use Rattle.tf_check.specs.Accepted.{IsAccepted}
 use Rattle.tf_check.specs.Verdict.{HasReason}
 use Rattle.tf_check.proofs.Best.{accepted-best}
-use Rattle.tf_check.proofs.Judged.{reason_excludes}
+use Rattle.tf_check.proofs.Verdicts.{reason_excludes}
 use Rattle.tf_check.proofs.check.check.Goals as goal
 
 pub returns-in-Some-clause-accepted : goal.returns-in-Some-clause-accepted

@@ -5,7 +5,7 @@ use Rattle.std.proofs.lemmas.Int.{to_z-of_z}
 use Rattle.tf_model.specs.Cost.{cost}
 use Rattle.tf_schedule.specs.Drawing.{drawing}
 use Rattle.tf_check.proofs.Costs.{schedule_cost_is}
-use Rattle.tf_check.proofs.Judged.{IsFitting, draws_fitting, feasible}
+use Rattle.tf_check.proofs.Verdicts.{IsFitting, draws_fitting, feasible}
 use Rattle.tf_check.proofs.check.reason_in_timetable.Goals as goal
 
 pub returns-then-cost-from : goal.returns-then-cost-from

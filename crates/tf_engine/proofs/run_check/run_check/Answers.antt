@@ -1,11 +1,11 @@
-use Rattle.std.proofs.Common.{◌≡◌, Ok, Err, IfErr, true, false, ap, sym, subst, ◌∙◌}
-use Rattle.tf_text.specs.Counted.{inner_of, has_failed}
-use Rattle.tf_text.specs.Input.{IsTextOf}
-use Rattle.tf_engine.specs.Faults.{of_input, stop_of, is_of_answer}
+use Rattle.std.proofs.Common.{arith, [], ◌≡◌, Ok, IfErr, true, false, ap, sym, ◌∙◌}
+use Rattle.std.proofs.KnownBytes.{Consumes-nil}
+use Rattle.tf_text.specs.Counted.{has_failed}
+use Rattle.tf_engine.specs.Faults.{stop_of, is_of_answer}
 use Rattle.tf_engine.specs.Refusal.{problem_for}
 use Rattle.tf_engine.specs.Checking.{IsCheckOf}
 use Rattle.tf_engine.proofs.Unread.{err_is, meant_by, not_of_answer}
-use Rattle.tf_engine.proofs.Unchecked.{check_unread, check_unended, check_untasked, check_unsaid}
+use Rattle.tf_engine.proofs.Unchecked.{check_unread, check_untasked, check_unsaid}
 use Rattle.tf_engine.proofs.run_check.run_check.Goals as goal
 
 pub returns-in_err-problem-clause-outcome : goal.returns-in_err-problem-clause-outcome
@@ -15,33 +15,28 @@ returns-in_err-problem-clause-outcome g c =
     err_is (IsCheckOf c.args.request.now _ _ _ _ _ _ _) c.in_err-problem.field-0.0 _ c.from_residual.ensures.1
     (check_unread g.row.A.Denot c.args.request.now _ _ _ _ _ _ c.in_err-problem.field-0.0 refused same (line ∙ is))
 
-pub returns-in_err-text-clause-outcome : goal.returns-in_err-text-clause-outcome
-returns-in_err-text-clause-outcome g c =
-    let line : problem_for c.args.request.now.problem ≡ Ok c.in_ok-problem.problem =
-    ap problem_for (ap (λ r. r.problem) (sym c.request.view_is) ∙ sym c.as_str.ensures) ∙ c.in_ok-problem.ensures in
-    err_is (IsCheckOf c.args.request.now _ _ _ _ _ _ _) (of_input c.in_err-text.field-0.0) _ c.from_residual-in_err-text.ensures.1
-    (check_unended g.row.A.Denot c.args.request.now _ _ _ _ _ _ c.in_ok-problem.problem c.in_err-text.field-0.0 line (λ e. c.in_err-text.ensures.too_long (ap Err e)) c.in_err-text.ensures.device)
-
 pub returns-in_err-task-clause-outcome : goal.returns-in_err-task-clause-outcome
 returns-in_err-task-clause-outcome g c =
     let line : problem_for c.args.request.now.problem ≡ Ok c.in_ok-problem.problem =
     ap problem_for (ap (λ r. r.problem) (sym c.request.view_is) ∙ sym c.as_str.ensures) ∙ c.in_ok-problem.ensures in
     err_is (IsCheckOf c.args.request.now _ _ _ _ _ _ _) c.in_err-task.field-0.0 _ c.from_residual-in_err-task.ensures.1
-    (check_untasked g.row.A.Denot c.args.request.now _ _ _ _ _ _ c.in_ok-problem.problem c.as_slice.result.now c.in_err-task.field-0.0 line
-    (subst (IsTextOf (g.R.Read.remaining (inner_of c.args.instance.now))) (sym c.as_slice.ensures.value) c.in_ok-text.ensures.text) c.in_err-task.ensures)
+    (check_untasked g.row.A.Denot c.args.request.now _ _ _ _ _ _ c.in_ok-problem.problem _ c.in_err-task.field-0.0 line c.in_err-task.ensures)
 
 pub returns-in_err-task-clause-read_answer : goal.returns-in_err-task-clause-read_answer
 returns-in_err-task-clause-read_answer g c =
     err_is (λ r. IfErr r (λ e. is_of_answer (stop_of e) ≡ true → has_failed c.args.answer.now ≡ false)) c.in_err-task.field-0.0 _ c.from_residual-in_err-task.ensures.1
     (λ h. let not : is_of_answer (stop_of c.in_err-task.field-0.0) ≡ false =
-    not_of_answer c.args.request.now c.in_ok-problem.problem c.as_slice.result.now (stop_of c.in_err-task.field-0.0) c.in_err-task.ensures in
+    not_of_answer c.args.request.now c.in_ok-problem.problem c.in_err-task.ensures.text _ (stop_of c.in_err-task.field-0.0) c.in_err-task.ensures.given in
     cc)
 
 pub returns-in_err-sheet-clause-outcome : goal.returns-in_err-sheet-clause-outcome
 returns-in_err-sheet-clause-outcome g c =
     let line : problem_for c.args.request.now.problem ≡ Ok c.in_ok-problem.problem =
     ap problem_for (ap (λ r. r.problem) (sym c.request.view_is) ∙ sym c.as_str.ensures) ∙ c.in_ok-problem.ensures in
+    let read = c.in_ok-task.ensures in
     err_is (IsCheckOf c.args.request.now _ _ _ _ _ _ _) c.in_err-sheet.field-0.0 _ c.from_residual-in_err-sheet.ensures.1
-    (check_unsaid g.row.A.Denot c.args.request.now _ _ _ _ _ _ c.as_slice.result.now _ c.in_err-sheet.field-0.0
-    (subst (IsTextOf (g.R.Read.remaining (inner_of c.args.instance.now))) (sym c.as_slice.ensures.value) c.in_ok-text.ensures.text)
-    (meant_by c.args.request.now c.in_ok-problem.problem c.as_slice.result.now line ∙ c.in_ok-task.ensures) c.in_err-sheet.ensures.device c.in_err-sheet.ensures.said)
+    (check_unsaid g.row.A.Denot c.args.request.now _ _ _ _ _ _ read.text _ c.in_err-sheet.field-0.0 read.is_all
+    (meant_by c.args.request.now c.in_ok-problem.problem read.text line ∙ read.given) c.in_err-sheet.ensures.device c.in_err-sheet.ensures.said)
+
+pub returns-in_err-task-clause-pulled_answer : goal.returns-in_err-task-clause-pulled_answer
+returns-in_err-task-clause-pulled_answer g c = ([], omega arith, Consumes-nil _)

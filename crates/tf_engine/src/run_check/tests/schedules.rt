@@ -1,5 +1,6 @@
 //! Schedules of others: each misfit, and of two the one that is judged first.
-use super::{TABLE, writes};
+use super::judges_text;
+use crate::examples::{BROKEN_OFF, COSTS, FOURS, ONE_LONG, ONES, RATIOS};
 use std::alloc::AllocError;
 use std::test::Fail;
 
@@ -18,7 +19,7 @@ fn answer_of(rt: &HostRuntime, head: &str, lines: &[&str]) -> Result<String, All
 fn judges(rt: &HostRuntime, lines: &[&str], wanted: &str) -> Result<(), Fail> {
     let head = "answer 1\nproblem P2|prmp|Cmax\njobs 3\nmachines 2";
     let answer = answer_of(rt, head, lines)?;
-    writes(rt, "P2|prmp|Cmax", TABLE, answer.as_bytes(), wanted)
+    judges_text(rt, FOURS.problem, FOURS.table, answer.as_bytes(), wanted)
 }
 
 #[test]
@@ -58,8 +59,8 @@ fn machines_that_wait(rt: HostRuntime) -> Result<(), Fail> {
         "cert job 1",
     ];
     let answer = answer_of(&rt, head, &lines)?;
-    let table = b"table 1\njob 1 p=9\njob 2 p=1\njob 3 p=1\n";
-    writes(&rt, "P3|prmp|Cmax", table, answer.as_bytes(), "accepted\n")
+    let bytes = answer.as_bytes();
+    judges_text(&rt, ONE_LONG.problem, ONE_LONG.table, bytes, "accepted\n")
 }
 
 #[test]
@@ -73,9 +74,8 @@ fn one_machine_for_all(rt: HostRuntime) -> Result<(), Fail> {
         "cert load",
     ];
     let answer = answer_of(&rt, head, &lines)?;
-    let ones = b"table 1\njob 1 p=1\njob 2 p=1\njob 3 p=1\n";
     let wanted = "rejected: BoundBelowValue\n";
-    writes(&rt, "P2|prmp|Cmax", ones, answer.as_bytes(), wanted)
+    judges_text(&rt, ONES.problem, ONES.table, answer.as_bytes(), wanted)
 }
 
 #[test]
@@ -175,8 +175,7 @@ fn a_wrong_value(rt: HostRuntime) -> Result<(), Fail> {
 fn judges_sum(rt: &HostRuntime, lines: &[&str], wanted: &str) -> Result<(), Fail> {
     let head = "answer 1\nproblem 1||sumwC\njobs 3\nmachines 1";
     let answer = answer_of(rt, head, lines)?;
-    let table = b"table 1\njob 1 p=3 w=3\njob 2 p=1 w=1\njob 3 p=2 w=2\n";
-    writes(rt, "1||sumwC", table, answer.as_bytes(), wanted)
+    judges_text(rt, RATIOS.problem, RATIOS.table, answer.as_bytes(), wanted)
 }
 
 #[test]
@@ -206,8 +205,8 @@ fn a_broken_job(rt: HostRuntime) -> Result<(), Fail> {
 fn judges_released(rt: &HostRuntime, lines: &[&str], wanted: &str) -> Result<(), Fail> {
     let head = "answer 1\nproblem 1|rj,prmp|Lmax\njobs 3\nmachines 1";
     let answer = answer_of(rt, head, lines)?;
-    let table = b"table 1\njob 1 r=0 p=4 d=10\njob 2 r=1 p=2 d=4\njob 3 r=8 p=1 d=8\n";
-    writes(rt, "1|rj,prmp|Lmax", table, answer.as_bytes(), wanted)
+    let bytes = answer.as_bytes();
+    judges_text(rt, BROKEN_OFF.problem, BROKEN_OFF.table, bytes, wanted)
 }
 
 #[test]
@@ -235,8 +234,7 @@ fn a_job_too_early(rt: HostRuntime) -> Result<(), Fail> {
 fn judges_arc(rt: &HostRuntime, lines: &[&str], wanted: &str) -> Result<(), Fail> {
     let head = "answer 1\nproblem 1|prec|hmax\njobs 3\nmachines 1";
     let answer = answer_of(rt, head, lines)?;
-    let table = b"table 1\njob 1 p=2 h=0,5:10\njob 2 p=3 h=0,9:7\njob 3 p=4 h=1,9:8\nprec 3 1\n";
-    writes(rt, "1|prec|hmax", table, answer.as_bytes(), wanted)
+    judges_text(rt, COSTS.problem, COSTS.table, answer.as_bytes(), wanted)
 }
 
 #[test]
@@ -266,7 +264,7 @@ fn judges_flow(rt: &HostRuntime, lines: &[&str], wanted: &str) -> Result<(), Fai
     let head = "answer 1\nproblem F2||Cmax\njobs 2\nmachines 2";
     let answer = answer_of(rt, head, lines)?;
     let table = b"table 1\njob 1 p=1,2\njob 2 p=1,2\n";
-    writes(rt, "F2||Cmax", table, answer.as_bytes(), wanted)
+    judges_text(rt, "F2||Cmax", table, answer.as_bytes(), wanted)
 }
 
 #[test]

@@ -1,5 +1,6 @@
 //! Arcs that form a cycle.
 use super::{Form, RunFault, ensure, request, run};
+use crate::examples::TWO_ARCS;
 use std::test::Fail;
 
 /// The run is refused for a cycle of these jobs, and writes nothing.
@@ -24,14 +25,6 @@ fn refuses_cycle(
         _ => Err(Fail::new("no cycle")),
     }
 }
-
-const TWO_ARCS: &[u8] = b"table 1
-job 1 p=2 h=0,5:10
-job 2 p=3 h=0,9:7
-job 3 p=4 h=1,9:8
-prec 1 2
-prec 2 1
-";
 
 const OWN_ARC: &[u8] = b"table 1
 job 1 p=2 h=0,5:10

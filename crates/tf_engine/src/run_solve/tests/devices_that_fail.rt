@@ -1,31 +1,33 @@
 //! Devices that give and take little at a time, that fail, that do not end; and memory that is refused.
-use super::{ANSWER, TABLE, ensure, on_two, run_solve};
+use super::{ensure, on_two, run_solve};
 use crate::devices::{Feed, Sink};
+use crate::examples::{FOURS, headed};
 use crate::fault::RunFault;
 use crate::request::Request;
+use crate::trial::{is_text, request_in, solve_into};
 use refusing::Refusing;
-use std::alloc::Allocator;
 use std::io::ErrorKind;
 use std::test::Fail;
 use tf_read::fault::ReadFault;
+use tf_text::answer::layout::Layout;
 use tf_text::counted::Counted;
 
 #[test]
 fn one_byte_a_call(rt: HostRuntime) -> Result<(), Fail> {
     let request = on_two(&rt)?;
     let mut out = Vec::new(rt.alloc());
-    let mut reader = Counted::new(Feed::new(TABLE).by(1));
+    let mut reader = Counted::new(Feed::new(FOURS.table).by(1));
     let mut writer = Counted::new(Sink::new(&mut out, 1, usize::MAX, ErrorKind::Other));
     assert!(rt; run_solve(rt.alloc(), &request, &mut reader, &mut writer) == Ok(()));
     drop(writer);
-    assert_eq!(rt; out.as_slice(), ANSWER);
+    assert_eq!(rt; out.as_slice(), FOURS.answer);
     Ok(())
 }
 
 fn reader_fails(rt: &HostRuntime, call: u64, kind: ErrorKind) -> Result<(), Fail> {
     let request = on_two(rt)?;
     let mut out = Vec::new(rt.alloc());
-    let mut reader = Counted::new(Feed::new(TABLE).by(5).failing_at(call, kind));
+    let mut reader = Counted::new(Feed::new(FOURS.table).by(5).failing_at(call, kind));
     let mut writer = Counted::new(&mut out);
     let result = run_solve(rt.alloc(), &request, &mut reader, &mut writer);
     ensure(result == Err(RunFault::Device), "another outcome")?;
@@ -43,26 +45,35 @@ fn a_reader_that_fails_at_any_call(rt: HostRuntime) -> Result<(), Fail> {
     Ok(())
 }
 
-fn writer_fails(rt: &HostRuntime, room: usize, kind: ErrorKind) -> Result<(), Fail> {
-    let request = on_two(rt)?;
+fn writer_fails(
+    rt: &HostRuntime,
+    request: &Request,
+    wanted: &[u8],
+    room: usize,
+    kind: ErrorKind,
+) -> Result<(), Fail> {
     let mut out = Vec::new(rt.alloc());
-    let mut reader = Counted::new(TABLE);
+    let mut reader = Counted::new(FOURS.table);
     let mut writer = Counted::new(Sink::new(&mut out, 7, room, kind));
-    let result = run_solve(rt.alloc(), &request, &mut reader, &mut writer);
+    let result = run_solve(rt.alloc(), request, &mut reader, &mut writer);
     ensure(result == Err(RunFault::Device), "another outcome")?;
     ensure(writer.failed() && !reader.failed(), "another device")?;
     drop(writer);
     ensure(
-        out.len() == room && ANSWER.starts_with(&out),
+        out.len() == room && wanted.starts_with(&out),
         "no prefix of the answer",
     )
 }
 
 #[test]
 fn a_writer_that_fails_after_any_byte(rt: HostRuntime) -> Result<(), Fail> {
-    for room in 0..ANSWER.len() {
-        writer_fails(&rt, room, ErrorKind::Other)?;
-        writer_fails(&rt, room, ErrorKind::Interrupted)?;
+    for layout in [Layout::One, Layout::Two] {
+        let request = request_in(&rt, FOURS.problem, layout)?;
+        let wanted = headed(&rt, FOURS.answer, layout)?;
+        for room in 0..wanted.len() {
+            writer_fails(&rt, &request, &wanted, room, ErrorKind::Other)?;
+            writer_fails(&rt, &request, &wanted, room, ErrorKind::Interrupted)?;
+        }
     }
     Ok(())
 }
@@ -71,7 +82,7 @@ fn a_writer_that_fails_after_any_byte(rt: HostRuntime) -> Result<(), Fail> {
 fn a_write_of_no_bytes(rt: HostRuntime) -> Result<(), Fail> {
     let request = on_two(&rt)?;
     let mut out = Vec::new(rt.alloc());
-    let mut reader = Counted::new(TABLE);
+    let mut reader = Counted::new(FOURS.table);
     let mut writer = Counted::new(Sink::new(&mut out, 0, 9, ErrorKind::Other));
     let result = run_solve(rt.alloc(), &request, &mut reader, &mut writer);
     assert!(rt; result == Err(RunFault::Device));
@@ -93,17 +104,6 @@ fn an_endless_text(rt: HostRuntime) -> Result<(), Fail> {
     Ok(())
 }
 
-/// A run over room that was made before.
-fn run_in<A: Allocator + Copy>(
-    alloc: A,
-    request: &Request,
-    out: &mut Vec<u8>,
-) -> Result<(), RunFault<A>> {
-    let mut reader = Counted::new(TABLE);
-    let mut writer = Counted::new(out);
-    run_solve(alloc, request, &mut reader, &mut writer)
-}
-
 /// Whether a run asks for more growths than these. The next one is refused, and then nothing is written.
 fn asks_for_more(
     rt: &HostRuntime,
@@ -113,13 +113,13 @@ fn asks_for_more(
 ) -> Result<bool, Fail> {
     let heap = Refusing::new(rt.alloc(), growths);
     out.clear();
-    let result = run_in(&heap, request, out);
+    let result = solve_into(&heap, request, FOURS.table, out);
     if heap.has_refused() {
         ensure(result == Err(RunFault::OutOfMemory), "no want of memory")?;
         ensure(out.is_empty(), "something was written")?;
     } else {
         ensure(result == Ok(()), "refused")?;
-        ensure(out.as_slice() == ANSWER, "another answer")?;
+        ensure(is_text(out, FOURS.answer), "another answer")?;
     }
     Ok(heap.has_refused())
 }

@@ -1,5 +1,6 @@
 //! The forms of an instance.
-use super::{ANSWER, answers, on_two, refuses, request};
+use super::{answers, ensure, on_two, refuses, request, run};
+use crate::examples::FOURS;
 use crate::fault::RunFault;
 use crate::request::{Form, Request};
 use crate::text::Text;
@@ -12,17 +13,17 @@ use tf_read::fault::ReadFault;
 #[test]
 fn a_table_with_returns(rt: HostRuntime) -> Result<(), Fail> {
     let table = b"table 1\r\njob 1 p=4\r\n\r\njob 2 p=4\r\njob 3 p=4\r\n";
-    answers(&rt, &on_two(&rt)?, table, ANSWER)
+    answers(&rt, &on_two(&rt)?, table, FOURS.answer)
 }
 
 #[test]
 fn a_table_with_tabs_and_leading_zeros(rt: HostRuntime) -> Result<(), Fail> {
     let table = b"\ttable\t1\n machines 02\njob\t1  p=0004\t\njob 2 w=-0 p=4\njob 3 d=-05 p=04";
-    answers(&rt, &on_two(&rt)?, table, ANSWER)
+    answers(&rt, &on_two(&rt)?, table, FOURS.answer)
 }
 
 /// Instances of three jobs. The second one has times 4, 1 and 3.
-const TARDINESS: &[u8] = b"2 3 1\n1 2 4\n5 -2 9\n4 1 3\n2 2 3\n6 7 8\n";
+pub const TARDINESS: &[u8] = b"2 3 1\n1 2 4\n5 -2 9\n4 1 3\n2 2 3\n6 7 8\n";
 
 /// What is written for the second instance on two machines.
 const SECOND: &[u8] = b"answer 1
@@ -84,7 +85,7 @@ fn jobs_without_release_dates(rt: HostRuntime) -> Result<(), Fail> {
     refuses(&rt, &request, TARDINESS, missing)
 }
 
-const SHOP: &[u8] = b" instance demo
+pub const SHOP: &[u8] = b" instance demo
  +++++++++++++
  three machines, own example
  2 3
@@ -204,4 +205,35 @@ cert load
 end
 ";
     answers(&rt, &shop(&rt, "P|prmp|Cmax", "demo", None)?, text, wanted)
+}
+
+/// What is left of a text is answered or at fault, and a fault writes nothing.
+fn is_judged(rt: &HostRuntime, request: &Request, text: &[u8]) -> Result<(), Fail> {
+    match run(rt, request, text)? {
+        (Ok(()), out) => ensure(out.ends_with(b"\nend\n"), "an answer without its end"),
+        (Err(RunFault::Text(_)), out) => ensure(out.is_empty(), "something was written"),
+        _ => Err(Fail::new("another refusal")),
+    }
+}
+
+fn is_judged_cut(rt: &HostRuntime, request: &Request, text: &[u8]) -> Result<(), Fail> {
+    for cut in 0..text.len() {
+        is_judged(rt, request, &text[..cut])?;
+    }
+    Ok(())
+}
+
+#[test]
+fn texts_cut_anywhere(rt: HostRuntime) -> Result<(), Fail> {
+    is_judged_cut(&rt, &on_two(&rt)?, FOURS.table)?;
+    is_judged_cut(&rt, &tardiness(&rt, "1||sumwC", 3, 2)?, TARDINESS)?;
+    is_judged_cut(&rt, &shop(&rt, "F2||Cmax", "demo", Some((0, 2)))?, SHOP)
+}
+
+#[test]
+fn a_table_cut_between_two_lines(rt: HostRuntime) -> Result<(), Fail> {
+    let (result, out) = run(&rt, &on_two(&rt)?, b"table 1\njob 1 p=4\njob 2 p=4\n")?;
+    ensure(result == Ok(()), "refused")?;
+    let head = b"answer 1\nproblem P2|prmp|Cmax\njobs 2\nmachines 2\nvalue 4\n";
+    ensure(out.starts_with(head), "another answer")
 }

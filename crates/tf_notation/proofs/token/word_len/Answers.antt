@@ -1,7 +1,7 @@
 use Rattle.std.proofs.Common.{not, length, arith, sym, ◌∙◌}
 use Rattle.std.specs.List.{position_or_len}
 use Rattle.std.proofs.lemmas.List.Sums.{prefix_len-le-length}
-use Rattle.tf_model.proofs.Parts.{no_place}
+use Rattle.tf_words.proofs.Parts.{no_place}
 use Rattle.tf_notation.specs.Tokens.{is_word_byte}
 use Rattle.tf_notation.proofs.token.word_len.Goals as goal
 

@@ -1,6 +1,6 @@
 use Rattle.std.proofs.Common.{◌≡◌, length}
 use Rattle.std.specs.List.{list_all}
-use Rattle.tf_read.specs.WordParts.{later_parts}
+use Rattle.tf_words.specs.WordParts.{later_parts}
 use Rattle.tf_read.specs.CostField.{is_step}
 use Rattle.tf_read.proofs.cost_field.are_steps.Given as goal
 

@@ -1,6 +1,6 @@
 use Rattle.std.proofs.Common.{◌≡◌, ◌+◌, length, vec_len}
 use Rattle.tf_read.specs.Faults.{each_from}
-use Rattle.tf_read.specs.WordParts.{later_parts}
+use Rattle.tf_words.specs.WordParts.{later_parts}
 use Rattle.tf_read.specs.CostField.{step_at, steps_at}
 use Rattle.tf_read.proofs.Each.{with_front}
 use Rattle.tf_read.proofs.cost_field.steps_at.Given as goal

@@ -1,5 +1,5 @@
 use Rattle.std.proofs.Common.{◌≡◌, length}
-use Rattle.tf_model.specs.Words.{words}
+use Rattle.tf_words.specs.Words.{words}
 use Rattle.tf_read.specs.JobLine.{fields_at, no_fields}
 use Rattle.tf_read.proofs.field.job_of.Given as goal
 

@@ -1,6 +1,7 @@
 use Rattle.std.proofs.Common.{◌≡◌, ◌+◌, ◌≤◌, length, vec_len}
 use Rattle.std.specs.List.{before_first}
-use Rattle.tf_model.specs.Words.{lines, kept_from}
+use Rattle.tf_words.specs.Lines.{word_lines_of}
+use Rattle.tf_model.specs.declared.limit.TheConstants.{MOST_JOBS}
 use Rattle.tf_read.specs.Faults.{each_from}
 use Rattle.tf_read.specs.JobTable.{is_arc, from_first, job_at}
 use Rattle.tf_read.proofs.Each.{with_front}
@@ -8,11 +9,10 @@ use Rattle.tf_read.proofs.job_table.jobs_of.Given as goal
 
 abbrev pub invariant-loop-line : goal.invariant-loop-line
 invariant-loop-line g l = record {
-  room : l.number + length l.rest ≤ l.fn.first + length l.fn.text;
-  few : vec_len l.jobs ≤ l.number;
-  same : with_front l.jobs.items (each_from job_at (vec_len l.jobs + 1) (before_first is_arc (kept_from l.number (lines l.rest)))) ≡ each_from job_at 1 (before_first is_arc (kept_from l.fn.first (lines l.fn.text)));
-  left : from_first is_arc (kept_from l.number (lines l.rest)) ≡ from_first is_arc (kept_from l.fn.first (lines l.fn.text));
+  few : vec_len l.jobs ≤ MOST_JOBS;
+  same : with_front l.jobs.items (each_from job_at (vec_len l.jobs + 1) (before_first is_arc (word_lines_of l.rest))) ≡ each_from job_at 1 (before_first is_arc (word_lines_of l.lines));
+  left : from_first is_arc (word_lines_of l.rest) ≡ from_first is_arc (word_lines_of l.lines);
 }
 
 abbrev pub decreases-loop-line : goal.decreases-loop-line
-decreases-loop-line g l = length l.rest
+decreases-loop-line g l = length (word_lines_of l.rest)

@@ -1,7 +1,27 @@
-use Rattle.std.proofs.Common.{◌∷◌, [], ◌++◌, ap, sym, ◌∙◌, arith}
+use Rattle.std.proofs.Common.{◌<◌, ◌∷◌, [], ◌++◌, ap, sym, ◌∙◌, arith, IsOk, vec_len, vec_capacity, ◌+◌, map}
+use Rattle.std.specs.List.{range_with_len}
 use Rattle.std.proofs.lemmas.List.FromFn.{map-range_with_len_more}
 use Rattle.tf_read.specs.FlowShop.{job}
+use Rattle.tf_read.proofs.RoomKept.{when_ok}
 use Rattle.tf_read.proofs.pairs.jobs_of.Goals as goal
 
 pub loop-j-preserved : goal.loop-j-preserved
-loop-j-preserved g c = c.in_ok-push.ensures.items ∙ ap (λ x. c.loop-j.made.items ++ x ∷ []) c.job.ensures ∙ ap (λ js. js ++ job c.args.machines c.args.firsts.now c.args.seconds.now c.loop-j.j ∷ []) c.loop-j.invariant ∙ sym (map-range_with_len_more (job c.args.machines c.args.firsts.now c.args.seconds.now) 0 c.loop-j.j c.loop-j.j (omega arith))
+loop-j-preserved g c =
+    let kept = c.loop-j.invariant in
+    let more = c.loop-j-test.true in
+    let left : vec_len c.loop-j.room < vec_capacity c.loop-j.room = omega (arith, kept.length, kept.room, more) in
+    let ok : IsOk c.push.result = c.push.ensures.succeeds left in
+    record {
+      made =
+          when_ok c.push.result _ _ _ ok c.push.ensures.items
+          ∙ ap (λ x. c.loop-j.room.items ++ x ∷ []) c.job.ensures
+          ∙ ap (λ js. js ++ job c.args.machines c.args.firsts.now c.args.seconds.now c.loop-j.j ∷ []) kept.made
+          ∙ sym (map-range_with_len_more (job c.args.machines c.args.firsts.now c.args.seconds.now) 0 c.loop-j.j c.loop-j.j (omega arith));
+      length = when_ok c.push.result _ _ _ ok c.push.ensures.len ∙ ap (λ n. n + 1) kept.length;
+      room = omega (arith, c.push.ensures.capacity, kept.room);
+    }
+
+pub returns : goal.returns
+returns g c =
+    c.loop-j.invariant.made
+    ∙ ap (λ n. map (job c.args.machines c.args.firsts.now c.args.seconds.now) (range_with_len 0 n)) (omega (arith, c.loop-j-test.false, c.loop-j.auto.j-end))

@@ -11,14 +11,14 @@ use Rattle.tf_schedule.specs.Drawing.{drawing, Draws}
 use Rattle.tf_schedule.specs.Misfit.{IsFirstNot, IsKnown, HasFirstMisfit}
 use Rattle.tf_schedule.proofs.Permuted.{draws_drawing, drawing_only}
 use Rattle.tf_schedule.proofs.Excludes.{no_misfit}
-use Rattle.tf_schedule.proofs.JobOrder.{twice_stored}
+use Rattle.tf_schedule.proofs.TwoPlaces.{twice_stored}
 use Rattle.tf_schedule.proofs.Transport.{match_weaker}
 use Rattle.tf_schedule.proofs.fit.fits.Goals as goal
 
 pub returns-in-Some-2-clause-judged : goal.returns-in-Some-2-clause-judged
 returns-in-Some-2-clause-judged g c =
     let known : All (IsKnown c.args.task.now) c.args.schedule.now = rw c.pieces-pieces.ensures.all at c.in_default.ensures in
-    let found = rw c.in-Some-2.is at c.in_ok-twice.ensures in
+    let found = rw c.in-Some-2.is at c.in_ok-piece.ensures in
     twice_stored c.args.task.now c.args.schedule.now c.pieces-pieces.ensures.schedule known _ _ (rw c.pieces-pieces.ensures.all at found) (search rules)
 
 -- the pieces that are judged draw their drawing
@@ -65,7 +65,7 @@ returns-in-Some-clause-fitting g c rows draws fits =
 pub returns-in-Some-2-clause-fitting : goal.returns-in-Some-2-clause-fitting
 returns-in-Some-2-clause-fitting g c rows draws fits =
     let known : All (IsKnown c.args.task.now) c.args.schedule.now = rw c.pieces-pieces.ensures.all at c.in_default.ensures in
-    let found = rw c.in-Some-2.is at c.in_ok-twice.ensures in
+    let found = rw c.in-Some-2.is at c.in_ok-piece.ensures in
     no_misfit_drawn c.args.task.now c.args.schedule.now c.pieces-pieces.ensures.schedule rows draws fits _
     (twice_stored c.args.task.now c.args.schedule.now c.pieces-pieces.ensures.schedule known _ _ (rw c.pieces-pieces.ensures.all at found) (search rules))
 

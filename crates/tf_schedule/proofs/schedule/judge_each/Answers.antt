@@ -4,7 +4,7 @@ use Rattle.std.proofs.lemmas.List.{take_all}
 use Rattle.std.proofs.lemmas.List.Elements.{All-more}
 use Rattle.std.proofs.lemmas.Int.{ints}
 use Rattle.tf_schedule.specs.Piece.{IsInRange, IsNotEmpty}
-use Rattle.tf_schedule.specs.Schedule.{IsSound}
+use Rattle.tf_schedule.specs.Schedule.{IsPiece}
 use Rattle.tf_schedule.proofs.Faults.{first_unsound}
 use Rattle.tf_schedule.proofs.schedule.judge_each.Goals as goal
 
@@ -17,7 +17,7 @@ returns-then-piece c =
 pub loop-k-preserved : goal.loop-k-preserved
 loop-k-preserved c =
     let t : IsTrue c.is_in_range.result = c.if-not-is_in_range.false in
-    All-more IsSound c.args.pieces.now c.loop-k.k c.index-pieces-k.result c.loop-k-test.true c.loop-k.invariant (subst IsSound c.index-pieces-k.is (c.is_in_range.ensures.0 t, omega (arith, ints)))
+    All-more IsPiece c.args.pieces.now c.loop-k.k c.index-pieces-k.result c.loop-k-test.true c.loop-k.invariant (subst IsPiece c.index-pieces-k.is (c.is_in_range.ensures.0 t, omega (arith, ints)))
 
 pub returns : goal.returns
-returns c = subst (All IsSound) (take_all c.loop-k.k c.args.pieces.now c.loop-k-test.false) c.loop-k.invariant
+returns c = subst (All IsPiece) (take_all c.loop-k.k c.args.pieces.now c.loop-k-test.false) c.loop-k.invariant

@@ -1,24 +1,25 @@
-use Rattle.std.proofs.Common.{◌≡◌, ◌*◌, ℕ, length, sym, ap, ◌∙◌, refl, arith, Ok}
-use Rattle.tf_read.specs.WeightedTardiness.{jobs_of}
-use Rattle.tf_read.proofs.Each.{fault_of}
-use Rattle.tf_read.proofs.Judged.{same_ok}
-use Rattle.tf_read.proofs.OneInstance.{missing_is, whole_is, whole_length, whole_judged}
+use Rattle.std.proofs.Common.{◌≡◌, ◌*◌, ◌≤◌, sym, ap, ◌∙◌, arith, refl}
+use Rattle.tf_read.specs.Numbers.{Progress, wanted}
+use Rattle.tf_read.proofs.OneInstance.{all_read, missing_is, whole_is, whole_judged}
 use Rattle.tf_read.proofs.numbers.Numbers.instance.Goals as goal
 
 pub returns-in-Some : goal.returns-in-Some
-returns-in-Some g c = λ seen h. fault_of c.in-Some.fault _ (missing_is c.args.self.now seen c.in-Some.fault h (sym c.in-Some.ensures))
+returns-in-Some g c = λ says seen h. sym (h.0 seen ∙ missing_is c.args.self seen c.in-Some.fault h.1 (sym c.in-Some.ensures))
 
-pub jobs_of-requires : goal.jobs_of-requires
-jobs_of-requires g c = ap length c.as_slice.ensures ∙ whole_length c.args.self.now c.requires.0 c.requires.1 (sym c.missing.ensures ∙ c.in_default.is) ∙ sym (ap (λ (n : ℕ). 3 * n) c.jobs.ensures.value)
+pub jobs_of-jobs-requires-clause-all : goal.jobs_of-jobs-requires-clause-all
+jobs_of-jobs-requires-clause-all g c =
+    let kept = c.self.invariant in
+    let all : wanted c.args.self ≤ c.args.self.count = all_read c.args.self (sym c.missing.ensures ∙ c.in-None.is) in
+    let wanted_is : 3 * c.self.inside.jobs * c.self.inside.index ≡ wanted c.args.self = ap wanted c.self.view_is in
+    let count_is : c.self.inside.count ≡ c.args.self.count = ap (λ (p : Progress). p.count) c.self.view_is in
+    omega (arith, all, wanted_is, count_is, kept.up_to, kept.own, kept.within, kept.tally, c.as_slice.ensures.len)
 
-pub judged-requires : goal.judged-requires
-judged-requires g c =
-    let made = rw (c.jobs.ensures.value, c.as_slice.ensures) at c.in_ok-jobs.ensures in
-    let same : jobs_of c.args.self.now.jobs c.args.self.now.numbers ≡ c.in_ok-jobs.jobs.items = same_ok (Ok (jobs_of c.args.self.now.jobs c.args.self.now.numbers)) refl made in
-    rw (← same, c.new.ensures.items) (whole_judged c.args.self.now c.requires.0 c.requires.1 (sym c.missing.ensures ∙ c.in_default.is) (omega (arith, c.jobs.ensures.some, c.jobs.ensures.value)) (omega (arith, c.jobs.ensures.few, c.jobs.ensures.value)))
+pub of-requires : goal.of-requires
+of-requires g c =
+    rw (c.jobs_of-jobs.ensures, c.new.ensures.items, c.as_slice.ensures.value)
+    (whole_judged c.self.inside.jobs c.self.inside.numbers.items c.self.invariant.some c.self.invariant.few c.self.invariant.in_range)
 
-pub returns : goal.returns
-returns g c = λ seen h.
-    let made = rw (c.jobs.ensures.value, c.as_slice.ensures) at c.in_ok-jobs.ensures in
-    let same : jobs_of c.args.self.now.jobs c.args.self.now.numbers ≡ c.in_ok-jobs.jobs.items = same_ok (Ok (jobs_of c.args.self.now.jobs c.args.self.now.numbers)) refl made in
-    whole_is c.args.self.now seen h (sym c.missing.ensures ∙ c.in_default.is) ∙ rw (c.judged.ensures, c.new.ensures.items, same) refl
+pub returns-in-None : goal.returns-in-None
+returns-in-None g c = λ says seen h.
+    rw (c.of.ensures, c.jobs_of-jobs.ensures, c.new.ensures.items, c.as_slice.ensures.value)
+    (sym (h.0 seen ∙ whole_is c.args.self seen h.1 (sym c.missing.ensures ∙ c.in-None.is) ∙ rw (← c.self.view_is) refl))

@@ -1,23 +1,31 @@
-use Rattle.std.proofs.Common.{◌≡◌, ℕ, sym, ap, ◌∙◌, refl, arith, Ok}
-use Rattle.tf_read.specs.FlowShop.{jobs_of, machine_count}
-use Rattle.tf_read.proofs.Each.{fault_of}
-use Rattle.tf_read.proofs.Judged.{same_ok}
-use Rattle.tf_read.proofs.FlowInstance.{missing_is, whole_is, whole_judged}
+use Rattle.std.proofs.Common.{◌≡◌, ◌≤◌, length, sym, ap, ◌∙◌, arith, refl}
+use Rattle.tf_read.specs.Pairs.{Pairs}
+use Rattle.tf_read.proofs.FlowInstance.{all_over, missing_is, whole_is, whole_judged, whole_length}
 use Rattle.tf_read.proofs.pairs.Pairs.instance.Goals as goal
 
 pub returns-in-Some : goal.returns-in-Some
-returns-in-Some g c = λ seen h. fault_of c.in-Some.fault _ (missing_is c.args.self.now c.args.pair seen c.in-Some.fault c.missing.ensures.within h (sym c.missing.ensures.value ∙ c.in-Some.is))
+returns-in-Some g c = λ says seen h. sym (h.0 seen ∙ missing_is c.args.self seen c.in-Some.fault c.missing.ensures.within h.1 (sym c.missing.ensures.value ∙ c.in-Some.is))
 
-pub judged-requires : goal.judged-requires
-judged-requires g c =
-    let made = rw (c.jobs.ensures.value, c.machines.ensures.value, c.firsts.ensures.value, c.seconds.ensures.value) at c.in_ok-jobs.ensures in
-    let same : jobs_of c.args.self.now.jobs c.args.self.now.machines c.args.self.now.firsts c.args.self.now.seconds ≡ c.in_ok-jobs.jobs.items = same_ok (Ok (jobs_of c.args.self.now.jobs c.args.self.now.machines c.args.self.now.firsts c.args.self.now.seconds)) refl made in
-    let count : c.machine_count.result ≡ machine_count c.args.self.now.machines c.args.pair = c.machine_count.ensures ∙ ap (λ (m : ℕ). machine_count m c.args.pair) c.machines-2.ensures.value in
-    rw (← same, c.new.ensures.items, count) (whole_judged c.args.self.now c.args.pair c.requires.read.0 (omega (arith, c.jobs.ensures.some, c.jobs.ensures.value)) (omega (arith, c.jobs.ensures.few, c.jobs.ensures.value)) (omega (arith, c.machines.ensures.some, c.machines.ensures.value)) (omega (arith, c.machines.ensures.few, c.machines.ensures.value)) c.requires.read.1 (sym c.missing.ensures.value ∙ c.in_default.is))
+pub of-requires : goal.of-requires
+of-requires g c =
+    let kept = c.self.invariant in
+    let inside = c.self.inside in
+    let over = all_over c.args.self (sym c.missing.ensures.value ∙ c.in-None.is) in
+    let over_here : inside.jobs ≤ inside.job = omega (arith, over, ap (λ (p : Pairs). p.jobs) c.self.view_is, ap (λ (p : Pairs). p.job) c.self.view_is) in
+    let all : length inside.firsts.items ≡ inside.jobs =
+    omega (arith, inside.firsts.ok.0, whole_length _ _ _ _ inside.first kept.firsts_len (kept.over over_here) over_here kept.few) in
+    rw (c.jobs_of-jobs.ensures, c.new.ensures.items, c.machine_count-machines.ensures, c.deref.ensures.value, c.deref-in-None.ensures.value)
+    (whole_judged (length inside.firsts.items) inside.machines inside.pair inside.firsts.items inside.seconds.items
+    (omega (arith, all, kept.some)) (omega (arith, all, kept.jobs_few)) (omega (arith, kept.within)) kept.machines_few kept.first_times kept.second_times)
 
-pub returns : goal.returns
-returns g c = λ seen h.
-    let made = rw (c.jobs.ensures.value, c.machines.ensures.value, c.firsts.ensures.value, c.seconds.ensures.value) at c.in_ok-jobs.ensures in
-    let same : jobs_of c.args.self.now.jobs c.args.self.now.machines c.args.self.now.firsts c.args.self.now.seconds ≡ c.in_ok-jobs.jobs.items = same_ok (Ok (jobs_of c.args.self.now.jobs c.args.self.now.machines c.args.self.now.firsts c.args.self.now.seconds)) refl made in
-    let count : c.machine_count.result ≡ machine_count c.args.self.now.machines c.args.pair = c.machine_count.ensures ∙ ap (λ (m : ℕ). machine_count m c.args.pair) c.machines-2.ensures.value in
-    whole_is c.args.self.now c.args.pair seen c.requires.first c.requires.second c.missing.ensures.few c.missing.ensures.over c.missing.ensures.over_named h (sym c.missing.ensures.value ∙ c.in_default.is) ∙ rw (c.judged.ensures, c.new.ensures.items, same, count) refl
+pub returns-in-None : goal.returns-in-None
+returns-in-None g c = λ says seen h.
+    let kept = c.self.invariant in
+    let inside = c.self.inside in
+    let over = all_over c.args.self (sym c.missing.ensures.value ∙ c.in-None.is) in
+    let over_here : inside.jobs ≤ inside.job = omega (arith, over, ap (λ (p : Pairs). p.jobs) c.self.view_is, ap (λ (p : Pairs). p.job) c.self.view_is) in
+    let all : length inside.firsts.items ≡ inside.jobs =
+    omega (arith, inside.firsts.ok.0, whole_length _ _ _ _ inside.first kept.firsts_len (kept.over over_here) over_here kept.few) in
+    rw (c.of.ensures, c.jobs_of-jobs.ensures, c.new.ensures.items, c.machine_count-machines.ensures, c.deref.ensures.value, c.deref-in-None.ensures.value, all)
+    (sym (h.0 seen ∙ whole_is c.args.self seen c.missing.ensures.few c.missing.ensures.over c.missing.ensures.over_named h.1 (sym c.missing.ensures.value ∙ c.in-None.is)
+    ∙ rw (← c.self.view_is) refl))

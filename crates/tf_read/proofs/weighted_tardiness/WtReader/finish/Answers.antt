@@ -1,14 +1,26 @@
-use Rattle.std.proofs.Common.{ℕ, ap, ◌∙◌}
-use Rattle.tf_model.specs.Words.{lines, words_from}
-use Rattle.tf_read.specs.WeightedTardiness.{instance_of}
-use Rattle.tf_read.proofs.Each.{gives_same}
+use Rattle.std.proofs.Common.{◌≤◌, length, sym, ◌∙◌, arith, subst}
+use Rattle.std.proofs.lemmas.Bool.{ltb-true, ltb-false}
+use Rattle.tf_words.specs.Words.{lines, words_from}
+use Rattle.tf_model.specs.declared.limit.TheConstants.{MOST_BYTES}
+use Rattle.tf_read.specs.WtReading.{HasTaken}
+use Rattle.tf_read.proofs.Wt.{too_long, refused, by_words}
 use Rattle.tf_read.proofs.weighted_tardiness.WtReader.finish.Goals as goal
 
-pub instance-requires : goal.instance-requires
-instance-requires g c = (words_from 1 (lines c.requires.0), c.ended.ensures.read c.requires.0 c.requires.1)
+pub returns-then-is_too_long : goal.returns-then-is_too_long
+returns-then-is_too_long g c = λ says fed h.
+    let long = ltb-true _ _ (sym c.is_too_long.ensures ∙ c.if-is_too_long.true) in
+    sym (h.wanted fed ∙ too_long h.jobs h.index fed (omega (arith, long, h.length_is)))
 
-pub returns : goal.returns
-returns g c = λ fed h.
-    gives_same _ _ _ _
-    (ap (λ (n : ℕ). instance_of n c.ended.result.index (words_from 1 (lines fed))) c.ended.ensures.jobs ∙ ap (λ (k : ℕ). instance_of c.args.self.numbers.jobs k (words_from 1 (lines fed))) c.ended.ensures.index)
-    (c.instance-2.ensures (words_from 1 (lines fed)) (c.ended.ensures.read fed h))
+pub returns-in-Err : goal.returns-in-Err
+returns-in-Err g c = λ says fed h.
+    let short = ltb-false _ _ (sym c.is_too_long.ensures ∙ c.if-is_too_long.false) in
+    let few : length fed ≤ MOST_BYTES = omega (arith, short, h.length_is) in
+    sym (h.wanted fed ∙ refused h.jobs h.index fed c.in-Err.fault few (subst (λ r. HasTaken h.jobs h.index r fed) c.in-Err.is (h.taken few)))
+
+pub returns-in-Ok : goal.returns-in-Ok
+returns-in-Ok g c = λ says fed h.
+    let short = ltb-false _ _ (sym c.is_too_long.ensures ∙ c.if-is_too_long.false) in
+    let few : length fed ≤ MOST_BYTES = omega (arith, short, h.length_is) in
+    let taken = subst (λ r. HasTaken h.jobs h.index r fed) c.in-Ok.is (h.taken few) in
+    c.instance.ensures _ (words_from 1 (lines fed)) (c.ended.ensures 1 _ fed taken.1)
+    ∙ sym (h.wanted fed ∙ by_words h.jobs h.index fed few taken.0)

@@ -1,46 +1,44 @@
-use Rattle.std.proofs.Common.{rules, subst}
-use Rattle.std.specs.List.{All}
+use Rattle.std.proofs.Common.{rules}
 use Rattle.std.proofs.lemmas.List.Sorted.{All-permutation}
-use Rattle.tf_schedule.specs.Schedule.{IsSound, NoneTwice}
+use Rattle.tf_schedule.specs.Schedule.{IsPiece}
 use Rattle.tf_schedule.proofs.Faults.{clash_fault, no_clash, no_fault}
+use Rattle.tf_schedule.proofs.Order.{schedule_from_sort}
 use Rattle.tf_schedule.proofs.schedule.Schedule.new.Goals as goal
 
-pub first_clash-requires-clause-sound : goal.first_clash-requires-clause-sound
-first_clash-requires-clause-sound g c =
-    let before : All IsSound c.args.pieces.items = rw c.deref.ensures.value at c.in_ok-judge_each.ensures in
-    rw c.deref-2.ensures.value (All-permutation IsSound c.args.pieces.items c.sort_by_machine.new.pieces.items c.sort_by_machine.ensures.kept before)
+pub first_overlap-requires-clause-sound : goal.first_overlap-requires-clause-sound
+first_overlap-requires-clause-sound g c =
+    rw c.deref-2.ensures.value
+    (All-permutation IsPiece _ _ c.sort_by_machine.ensures.kept
+    (rw c.deref.ensures.value at c.in_ok-judge_each.ensures))
 
-pub first_clash-requires-clause-in_order : goal.first_clash-requires-clause-in_order
-first_clash-requires-clause-in_order g c =
+pub first_overlap-requires-clause-in_order : goal.first_overlap-requires-clause-in_order
+first_overlap-requires-clause-in_order g c =
     rw c.deref-2.ensures.value c.sort_by_machine.ensures.in_order
 
 pub invariant_of-result : goal.invariant_of-result
 invariant_of-result g c =
-    let before : All IsSound c.args.pieces.items = rw c.deref.ensures.value at c.in_ok-judge_each.ensures in
-    record {
-      sound = All-permutation IsSound c.args.pieces.items c.sort_by_machine.new.pieces.items c.sort_by_machine.ensures.kept before;
-      none_twice = subst NoneTwice c.deref-2.ensures.value c.in-None.ensures;
-      in_order = c.sort_by_machine.ensures.in_order;
-    }
+    schedule_from_sort _ _ c.sort_by_machine.ensures.kept
+    (rw c.deref.ensures.value at c.in_ok-judge_each.ensures)
+    (rw c.deref-2.ensures.value at c.in-None.ensures) c.sort_by_machine.ensures.in_order
 
 pub returns-in-Some-clause-fault : goal.returns-in-Some-clause-fault
 returns-in-Some-clause-fault g c =
-    let before : All IsSound c.args.pieces.items = rw c.deref.ensures.value at c.in_ok-judge_each.ensures in
-    clash_fault c.args.pieces.items c.sort_by_machine.new.pieces.items _ _ c.sort_by_machine.ensures.kept before (rw c.deref-2.ensures.value at c.in-Some.ensures) (search rules)
+    clash_fault _ _ _ _ c.sort_by_machine.ensures.kept
+    (rw c.deref.ensures.value at c.in_ok-judge_each.ensures)
+    (rw c.deref-2.ensures.value at c.in-Some.ensures) (search rules)
 
 pub returns-in-None-clause-schedule : goal.returns-in-None-clause-schedule
 returns-in-None-clause-schedule g c =
-    let before : All IsSound c.args.pieces.items = rw c.deref.ensures.value at c.in_ok-judge_each.ensures in
-    record {
-      sound = All-permutation IsSound c.args.pieces.items c.sort_by_machine.new.pieces.items c.sort_by_machine.ensures.kept before;
-      none_twice = subst NoneTwice c.deref-2.ensures.value c.in-None.ensures;
-      in_order = c.sort_by_machine.ensures.in_order;
-    }
+    schedule_from_sort _ _ c.sort_by_machine.ensures.kept
+    (rw c.deref.ensures.value at c.in_ok-judge_each.ensures)
+    (rw c.deref-2.ensures.value at c.in-None.ensures) c.sort_by_machine.ensures.in_order
 
 pub returns-in_err-judge_each-clause-accepted : goal.returns-in_err-judge_each-clause-accepted
-returns-in_err-judge_each-clause-accepted g c sound once = absurd (no_fault c.args.pieces.items sound once c.in_err-judge_each.field-0.0 (rw c.deref.ensures.value at c.in_err-judge_each.ensures))
+returns-in_err-judge_each-clause-accepted g c sound once =
+    absurd (no_fault c.args.pieces.items sound once c.in_err-judge_each.field-0.0
+    (rw c.deref.ensures.value at c.in_err-judge_each.ensures))
 
 pub returns-in-Some-clause-accepted : goal.returns-in-Some-clause-accepted
 returns-in-Some-clause-accepted g c sound once =
     let clash = rw c.deref-2.ensures.value at c.in-Some.ensures in
-    absurd (no_clash c.args.pieces.items c.sort_by_machine.new.pieces.items _ _ c.sort_by_machine.ensures.kept once clash.1)
+    absurd (no_clash _ _ _ _ c.sort_by_machine.ensures.kept once clash.1)

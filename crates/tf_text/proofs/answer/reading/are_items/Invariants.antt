@@ -1,6 +1,6 @@
 use Rattle.std.proofs.Common.{◌≡◌, length}
 use Rattle.std.specs.List.{list_all}
-use Rattle.tf_model.specs.Words.{words}
+use Rattle.tf_words.specs.Words.{words}
 use Rattle.tf_text.specs.AnswerReading.{is_item}
 use Rattle.tf_text.proofs.answer.reading.are_items.Given as goal
 

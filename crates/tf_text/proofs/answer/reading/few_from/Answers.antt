@@ -1,6 +1,6 @@
 use Rattle.std.proofs.Common.{◌≡◌, Bool, true, false, Ok, ap, ◌∙◌}
 use Rattle.std.proofs.lemmas.Result.{err_from_is_err_and}
-use Rattle.tf_model.specs.Words.{words}
+use Rattle.tf_words.specs.Words.{words}
 use Rattle.tf_text.specs.AnswerReading.{name_many}
 use Rattle.tf_text.proofs.Reading.{listed_many, listed_few, listed_fails}
 use Rattle.tf_text.proofs.answer.reading.few_from.Goals as goal

@@ -1,6 +1,6 @@
 use Rattle.std.proofs.Common.{ℕ, List, Ok, sym, ap, ◌∙◌}
 use Rattle.std.proofs.lemmas.Result.{err_from_is_err_and}
-use Rattle.tf_model.specs.Words.{words}
+use Rattle.tf_words.specs.Words.{words}
 use Rattle.tf_text.specs.AnswerReading.{jobs_from}
 use Rattle.tf_text.proofs.Reading.{with_jobs, job_read, job_fails, jobs_end}
 use Rattle.tf_text.proofs.answer.reading.jobs_from.Goals as goal

@@ -1,5 +1,5 @@
 use Rattle.std.proofs.Common.{◌≡◌, length}
-use Rattle.tf_model.specs.Words.{words}
+use Rattle.tf_words.specs.Words.{words}
 use Rattle.tf_text.specs.AnswerReading.{jobs_from}
 use Rattle.tf_text.proofs.Reading.{with_jobs}
 use Rattle.tf_text.proofs.answer.reading.jobs_from.Given as goal

@@ -1,4 +1,4 @@
-use Rattle.tf_model.specs.Words.{words}
+use Rattle.tf_words.specs.Words.{words}
 use Rattle.tf_text.proofs.Reading.{listed_one}
 use Rattle.tf_text.proofs.answer.reading.jobs_listed.Goals as goal
 

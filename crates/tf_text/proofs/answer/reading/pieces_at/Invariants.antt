@@ -1,5 +1,5 @@
 use Rattle.std.proofs.Common.{◌≡◌, length}
-use Rattle.tf_text.specs.Lines.{lines_of}
+use Rattle.tf_words.specs.Lines.{lines_of}
 use Rattle.tf_text.specs.AnswerReading.{pieces_at}
 use Rattle.tf_text.proofs.Reading.{with_pieces}
 use Rattle.tf_text.proofs.answer.reading.pieces_at.Given as goal

@@ -1,0 +1,199 @@
+use crate::drawn::{Drawn, Machines};
+use std::alloc::AllocError;
+use std::test::Fail;
+use tf_engine::request::{Form, Request};
+use tf_engine::run_check::run_check;
+use tf_engine::run_gantt::run_gantt;
+use tf_engine::run_solve::run_solve;
+use tf_engine::text::Text;
+use tf_text::answer::layout::Layout;
+use tf_text::counted::Counted;
+
+/// Classes of one machine with as many jobs as there may be.
+const SINGLE: [&str; 9] = [
+    "1||sumwC",
+    "1|prmp|sumwC",
+    "1||sumC",
+    "1|prmp|sumC",
+    "1||Lmax",
+    "1|prmp|Lmax",
+    "1|prec|Lmax",
+    "1|prec,prmp|Lmax",
+    "1|rj,prmp|Lmax",
+];
+
+/// Classes with a cost function for each job.
+const COSTED: [&str; 4] = ["1||hmax", "1|prmp|hmax", "1|prec|hmax", "1|prec,prmp|hmax"];
+
+const PARALLEL: [&str; 2] = ["P||sumC", "P|prmp|Cmax"];
+
+const SHOPS: [&str; 4] = ["F2||Cmax", "F2|prmp|Cmax", "O2||Cmax", "O2|prmp|Cmax"];
+
+fn ensure(is_so: bool, otherwise: &'static str) -> Result<(), Fail> {
+    if is_so {
+        Ok(())
+    } else {
+        Err(Fail::new(otherwise))
+    }
+}
+
+fn request(
+    rt: &HostRuntime,
+    problem: &str,
+    form: Form,
+    layout: Layout,
+) -> Result<Request, AllocError> {
+    Ok(Request {
+        problem: Text::new(String::from_str(rt.alloc(), problem)?),
+        form,
+        machines: None,
+        layout,
+    })
+}
+
+fn solves(rt: &HostRuntime, request: &Request, instance: &[u8]) -> Result<Vec<u8>, Fail> {
+    let mut answer = Vec::new(rt.alloc());
+    let mut reader = Counted::new(instance);
+    let mut writer = Counted::new(&mut answer);
+    let solved = run_solve(rt.alloc(), request, &mut reader, &mut writer);
+    drop(writer);
+    ensure(solved == Ok(()), "not solved")?;
+    Ok(answer)
+}
+
+fn accepts(
+    rt: &HostRuntime,
+    request: &Request,
+    instance: &[u8],
+    answer: &[u8],
+) -> Result<(), Fail> {
+    let mut line = Vec::new(rt.alloc());
+    let mut instance = Counted::new(instance);
+    let mut reader = Counted::new(answer);
+    let mut writer = Counted::new(&mut line);
+    let checked = run_check(rt.alloc(), request, &mut instance, &mut reader, &mut writer);
+    drop(writer);
+    ensure(checked.is_ok(), "not checked")?;
+    ensure(line.as_slice() == b"accepted\n".as_slice(), "rejected")
+}
+
+fn draws(rt: &HostRuntime, answer: &[u8]) -> Result<(), Fail> {
+    let mut chart = Vec::new(rt.alloc());
+    let mut reader = Counted::new(answer);
+    let mut writer = Counted::new(&mut chart);
+    let drawn = run_gantt(rt.alloc(), &mut reader, &mut writer, 72);
+    ensure(drawn == Ok(()), "not drawn")
+}
+
+/// The answer of an instance, which is accepted and drawn.
+fn answers(rt: &HostRuntime, request: &Request, instance: &[u8]) -> Result<Vec<u8>, Fail> {
+    let answer = solves(rt, request, instance)?;
+    accepts(rt, request, instance, &answer)?;
+    draws(rt, &answer)?;
+    Ok(answer)
+}
+
+/// So many jobs are answered under each of the problems in each version.
+fn are_answered(
+    rt: &HostRuntime,
+    problems: &[&str],
+    machines: Machines,
+    jobs: u32,
+) -> Result<(), Fail> {
+    let table = Drawn::new(rt, machines, jobs)?.table(rt)?;
+    for problem in problems {
+        for layout in [Layout::One, Layout::Two] {
+            let request = request(rt, problem, Form::Table, layout)?;
+            answers(rt, &request, &table)?;
+        }
+    }
+    Ok(())
+}
+
+#[test]
+fn up_to_a_hundred_jobs(rt: HostRuntime) -> Result<(), Fail> {
+    for jobs in 1..101 {
+        are_answered(&rt, &SINGLE, Machines::One, jobs)?;
+        are_answered(&rt, &COSTED, Machines::One, jobs)?;
+        are_answered(&rt, &PARALLEL, Machines::Seven, jobs)?;
+        are_answered(&rt, &SHOPS, Machines::Shop, jobs)?;
+    }
+    Ok(())
+}
+
+#[test]
+fn most_jobs_on_one_machine(rt: HostRuntime) -> Result<(), Fail> {
+    are_answered(&rt, &SINGLE, Machines::One, 100_000)
+}
+
+#[test]
+fn most_jobs_with_costs(rt: HostRuntime) -> Result<(), Fail> {
+    are_answered(&rt, &COSTED, Machines::One, 2_000)
+}
+
+#[test]
+fn most_jobs_in_parallel(rt: HostRuntime) -> Result<(), Fail> {
+    are_answered(&rt, &PARALLEL, Machines::Seven, 100_000)
+}
+
+#[test]
+fn most_jobs_of_shops(rt: HostRuntime) -> Result<(), Fail> {
+    are_answered(&rt, &SHOPS, Machines::Shop, 100_000)
+}
+
+/// The jobs of a table have the same answer as those of a file in this form.
+fn are_answered_alike(
+    rt: &HostRuntime,
+    problem: &str,
+    table: &[u8],
+    form: Form,
+    file: &[u8],
+) -> Result<(), Fail> {
+    let of_table = request(rt, problem, Form::Table, Layout::Two)?;
+    let of_file = request(rt, problem, form, Layout::Two)?;
+    let same = answers(rt, &of_table, table)? == answers(rt, &of_file, file)?;
+    ensure(same, "another answer")
+}
+
+/// So many jobs of one machine from a table and from a weighted tardiness file.
+fn is_tardiness_alike(rt: &HostRuntime, jobs: u32) -> Result<(), Fail> {
+    let drawn = Drawn::new(rt, Machines::One, jobs)?;
+    let form = Form::Wt { jobs, index: 1 };
+    are_answered_alike(
+        rt,
+        "1||Lmax",
+        &drawn.table(rt)?,
+        form,
+        &drawn.tardiness(rt)?,
+    )
+}
+
+#[test]
+fn weighted_tardiness_files(rt: HostRuntime) -> Result<(), Fail> {
+    for jobs in 1..101 {
+        is_tardiness_alike(&rt, jobs)?;
+    }
+    is_tardiness_alike(&rt, 100_000)
+}
+
+/// So many jobs of a flow shop from a table and from a flow shop file.
+fn is_flow_shop_alike(rt: &HostRuntime, jobs: u32) -> Result<(), Fail> {
+    let drawn = Drawn::new(rt, Machines::Shop, jobs)?;
+    let name = Text::new(String::from_str(rt.alloc(), "drawn")?);
+    let form = Form::Flow { name, pair: None };
+    are_answered_alike(
+        rt,
+        "F2||Cmax",
+        &drawn.table(rt)?,
+        form,
+        &drawn.flow_shop(rt)?,
+    )
+}
+
+#[test]
+fn flow_shop_files(rt: HostRuntime) -> Result<(), Fail> {
+    for jobs in 1..101 {
+        is_flow_shop_alike(&rt, jobs)?;
+    }
+    is_flow_shop_alike(&rt, 100_000)
+}

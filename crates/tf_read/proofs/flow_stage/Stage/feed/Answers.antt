@@ -1,0 +1,30 @@
+use Rattle.std.proofs.Common.{ℕ, List, ◌++◌, take, ap, ◌∙◌, subst, arith}
+use Rattle.tf_read.specs.declared.flow_stage.Stage.{Stage}
+use Rattle.tf_read.specs.FlowStage.{ReadsPairs, HasTaken}
+use Rattle.tf_words.proofs.Pieces.{byte_more, all_taken, part_more}
+use Rattle.tf_read.proofs.FlowReading.{pairs_more}
+use Rattle.tf_read.proofs.flow_stage.Stage.feed.Goals as goal
+
+pub loop-k-preserved : goal.loop-k-preserved
+loop-k-preserved g c = record {
+  taken = λ fed h.
+      subst (HasTaken c.args.wanted.now.name.now c.args.wanted.now.pair c.push.new.self) (byte_more fed c.args.piece.now c.loop-k.k c.loop-k-test.true)
+      (c.push.ensures.taken _ (c.loop-k.invariant.taken fed h));
+  line = omega (arith, c.push.ensures.later, c.loop-k.invariant.line);
+}
+
+pub returns-clause-taken : goal.returns-clause-taken
+returns-clause-taken g c = λ fed h.
+    subst (HasTaken c.args.wanted.now.name.now c.args.wanted.now.pair c.loop-k.self) (all_taken fed c.args.piece.now c.loop-k.k c.loop-k-test.false)
+    (c.loop-k.invariant.taken fed h)
+
+pub returns-in-Pairs-clause-taken : goal.returns-in-Pairs-clause-taken
+returns-in-Pairs-clause-taken g c = λ fed h.
+    let name = c.args.wanted.now.name.now in
+    let pair = c.args.wanted.now.pair in
+    let front : List ℕ = fed ++ take c.loop-k.k c.args.piece.now in
+    let held : ReadsPairs name pair c.in-Pairs.words front =
+    subst (λ (s : Stage g.row.A.Denot). HasTaken name pair s front) c.in-Pairs.is (c.loop-k.invariant.taken fed h) in
+    subst (ReadsPairs name pair c.feed.new.self)
+    (ap (λ (bs : List ℕ). front ++ bs) c.split_at.ensures.back ∙ part_more fed c.args.piece.now c.loop-k.k)
+    (pairs_more name pair c.in-Pairs.words c.feed.new.self front c.split_at.result.1.now c.feed.ensures.fed held)

@@ -1,5 +1,0 @@
-use Rattle.std.proofs.Common.{[], ◌∷◌, ◌++◌}
-use Rattle.tf_read.proofs.weighted_tardiness.WtReader.push.Goals as goal
-
-pub returns-in-Some-clause-fed : goal.returns-in-Some-clause-fed
-returns-in-Some-clause-fed g c = λ fed h. let w = c.in-Some.ensures.fed 1 fed h.0 h.1 in (h.0 ++ w.0 ∷ [], w.2, c.judge.ensures.read h.0 w.0 w.1 h.2)

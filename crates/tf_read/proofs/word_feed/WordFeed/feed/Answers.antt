@@ -1,0 +1,41 @@
+use Rattle.std.proofs.Common.{◌≡◌, ℕ, List, ◌++◌, ◌∷◌, [], take, drop, length, Some, None, arith, sym, ap, ◌∙◌, subst, MatchOption}
+use Rattle.std.proofs.lemmas.Bool.{eqb-true}
+use Rattle.std.proofs.lemmas.List.{append-nil}
+use Rattle.tf_words.specs.Words.{Word}
+use Rattle.tf_words.specs.Scan.{IsAt, IsOf}
+use Rattle.tf_words.proofs.Pieces.{part_more, none_left}
+use Rattle.tf_read.specs.WordFeed.{HasFed}
+use Rattle.tf_read.proofs.word_feed.WordFeed.feed.Goals as goal
+
+pub loop-rest-preserved-in-None : goal.loop-rest-preserved-in-None
+loop-rest-preserved-in-None g c = record {
+  fed = λ first says fed h.
+      let (before, held, same) = c.loop-rest.invariant.fed first says fed h in
+      let n = c.advance-taken.result.0 in
+      let next = rw c.in-None.is at (c.advance-taken.ensures.fed first before held.0 held.1) in (
+        before ++ take n c.loop-rest.rest.now,
+        (held.0, next, held.2),
+        ap (λ (bs : List ℕ). (before ++ take n c.loop-rest.rest.now) ++ bs) c.split_at.ensures.back ∙ part_more before c.loop-rest.rest.now n ∙ same,
+      );
+  line = omega (arith, c.advance-taken.ensures.later, c.split_at.ensures.back_len, c.advance-taken.ensures.within, c.loop-rest.invariant.line);
+}
+
+pub loop-rest-preserved : goal.loop-rest-preserved
+loop-rest-preserved g c = record {
+  fed = λ first says fed h.
+      let (before, held, same) = c.loop-rest.invariant.fed first says fed h in
+      let n = c.advance-taken.result.0 in
+      let next = rw c.in-Some.is at (c.advance-taken.ensures.fed first before held.0 held.1) in (
+        before ++ take n c.loop-rest.rest.now,
+        (held.0 ++ next.0 ∷ [], next.2, c.judge.ensures says held.0 next.0 next.1 held.2),
+        ap (λ (bs : List ℕ). (before ++ take n c.loop-rest.rest.now) ++ bs) c.split_at.ensures.back ∙ part_more before c.loop-rest.rest.now n ∙ same,
+      );
+  line = omega (arith, c.advance-taken.ensures.later, c.split_at.ensures.back_len, c.advance-taken.ensures.within, c.loop-rest.invariant.line);
+}
+
+pub returns-clause-fed : goal.returns-clause-fed
+returns-clause-fed g c = λ first says fed h.
+    let (before, held, same) = c.loop-rest.invariant.fed first says fed h in
+    let none : c.loop-rest.rest.now ≡ [] = none_left c.loop-rest.rest.now (eqb-true _ _ (sym c.loop-rest-test.ensures)) in
+    subst (HasFed g.J.Judge.HasRead first says c.loop-rest.self)
+    (sym (append-nil before) ∙ ap (λ (bs : List ℕ). before ++ bs) (sym none) ∙ same) held

@@ -1,0 +1,19 @@
+-- A reader of a weighted tardiness instance, to which a text is fed.
+use Rattle.std.specs.Prelude.{◌≡◌, ℕ, ◌+◌, ◌≤◌, List, ◌++◌, length, min}
+use Rattle.tf_model.specs.declared.limit.TheConstants.{MOST_BYTES}
+use Rattle.tf_read.specs.declared.weighted_tardiness.WtReader.{WtReader}
+use Rattle.tf_read.specs.Said.{TextSays}
+use Rattle.tf_read.specs.WeightedTardiness.{weighted_tardiness}
+use Rattle.tf_read.specs.WtReading.{HasTaken}
+
+-- it is wanted what `says` says of a text, and `fed` was fed of it
+pub record HasFed {A : Type 0} (reader : WtReader A) (says : TextSays) (fed : List ℕ) : Type 0 where
+  pub jobs : ℕ
+  pub index : ℕ
+  pub wanted : (text : List ℕ) → says text ≡ weighted_tardiness jobs index text
+  pub length_is : reader.length.bytes ≡ min (length fed) (MOST_BYTES + 1)
+  pub taken : length fed ≤ MOST_BYTES → HasTaken jobs index reader.reading fed
+
+-- whatever is wanted and was fed before, the piece was fed since
+abbrev pub Takes : {A : Type 0} → WtReader A → List ℕ → WtReader A → Type 0
+Takes old piece new = (says : TextSays) (fed : List ℕ) → HasFed old says fed → HasFed new says (fed ++ piece)

@@ -1,0 +1,186 @@
+//! Where the reading of a flow shop stands: at the heading, at the sizes, or at the pairs.
+ghost use Rattle.std.specs.Prelude.{◌≡◌, ℕ, ◌+◌, ◌^◌, ◌<◌, ◌≤◌, List, [], ◌∷◌, ◌++◌, length, Option};
+ghost use Rattle.tf_words.specs.Words.{lines, words_from};
+ghost use Rattle.tf_read.specs.Faults.{Gives};
+ghost use Rattle.tf_read.specs.PresentLine.{AreOfLine};
+ghost use Rattle.tf_read.specs.Heading.{HeadingShown};
+ghost use Rattle.tf_read.specs.Sizes.{SizesShown};
+ghost use Rattle.tf_read.specs.FlowShop.{sized, from_sizes, from_heading};
+ghost use Rattle.tf_read.specs.FlowStage.{line_of, WantsHeading, WantsSizes, HasTaken};
+
+use crate::fault::ReadFault;
+use crate::heading::HeadingLine;
+use crate::pairs::Pairs;
+use crate::sizes::{SizesLine, judged_sizes};
+use crate::word_feed::WordFeed;
+use std::alloc::Allocator;
+use tf_model::instance::Instance;
+
+/// Where the reading of a text stands.
+#[derive(Drop)]
+pub(crate) enum Stage<A: Allocator> {
+    /// The heading is wanted, and the bytes of this line have shown so much of it.
+    Heading(u32, HeadingLine),
+    /// The sizes are wanted, and the bytes of this line have shown so much of them.
+    Sizes(u32, SizesLine),
+    /// The pairs are read.
+    Pairs(WordFeed<Pairs<A>>),
+    /// A fault was met, or a growth was refused.
+    Ended(ReadFault),
+}
+
+/// Behind a line on which the heading was wanted.
+fn below_heading<A: Allocator>(line: u32, shown: HeadingLine, name: &[u8]) -> Stage<A>
+    requires { line + 1 < 2 ^ 32 }
+    ensures later { line_of result ≤ line + 1 }
+    ensures taken { (pair : Option (ℕ × ℕ)) (fed : List ℕ) → WantsHeading name.now pair line shown fed → HasTaken name.now pair result (fed ++ 10 ∷ []) }
+{
+    if shown.is_heading(name) {
+        Stage::Sizes(line + 1, SizesLine::new())
+    } else {
+        Stage::Heading(line + 1, HeadingLine::new())
+    }
+}
+
+/// Behind a line of sizes. It makes all room.
+fn below_found<A: Allocator + Copy>(
+    alloc: A,
+    pair: Option<(u32, u32)>,
+    line: u32,
+    sizes: (u64, u64),
+) -> Stage<A>
+    requires { line + 1 < 2 ^ 32 }
+    ensures later { line_of result ≤ line + 1 }
+    ensures taken { (name : List ℕ) (fed : List ℕ) →
+        ((more : List ℕ) → from_heading name pair 1 (lines (fed ++ more)) ≡ sized pair line sizes.0 sizes.1 (words_from (line + 1) (lines more))) →
+        HasTaken name pair result fed }
+{
+    match judged_sizes(pair, line, sizes) {
+        Err(fault) => Stage::Ended(fault),
+        Ok((jobs, machines)) => {
+            match Pairs::new(alloc, jobs, machines, pair) {
+                Err(_) => Stage::Ended(ReadFault::OutOfMemory),
+                Ok(pairs) => Stage::Pairs(WordFeed::new(line + 1, pairs)),
+            }
+        }
+    }
+}
+
+/// Behind a line on which the sizes were wanted.
+fn below_sizes<A: Allocator + Copy>(
+    alloc: A,
+    pair: Option<(u32, u32)>,
+    line: u32,
+    shown: SizesLine,
+) -> Stage<A>
+    requires { line + 1 < 2 ^ 32 }
+    ensures later { line_of result ≤ line + 1 }
+    ensures taken { (name : List ℕ) (fed : List ℕ) → WantsSizes name pair line shown fed → HasTaken name pair result (fed ++ 10 ∷ []) }
+{
+    match shown.sizes() {
+        None => Stage::Sizes(line + 1, SizesLine::new()),
+        Some(sizes) => below_found(alloc, pair, line, sizes),
+    }
+}
+
+/// The fault of a text that ends on a line on which the heading was wanted.
+fn without_sizes(name: &[u8], shown: HeadingLine) -> ReadFault
+    ensures { (pair : Option (ℕ × ℕ)) (line : ℕ) (bytes : List ℕ) → AreOfLine bytes → HeadingShown name.now bytes shown → from_heading name.now pair line (lines bytes) ≡ Err result }
+{
+    if shown.is_heading(name) {
+        ReadFault::EndsEarly
+    } else {
+        ReadFault::NoInstance
+    }
+}
+
+/// The fault of a text that ends on a line on which the sizes were wanted.
+fn without_pairs(pair: Option<(u32, u32)>, line: u32, shown: SizesLine) -> ReadFault
+    ensures { (bytes : List ℕ) → AreOfLine bytes → SizesShown bytes shown → from_sizes pair line (lines bytes) ≡ Err result }
+{
+    match shown.sizes() {
+        None => ReadFault::EndsEarly,
+        Some(sizes) => {
+            match judged_sizes(pair, line, sizes) {
+                Err(fault) => fault,
+                Ok(_) => ReadFault::EndsEarly,
+            }
+        }
+    }
+}
+
+/// What is wanted of a flow shop: the instance of a name, on all machines or on a pair of them, counted from 0.
+#[derive(Clone, Copy)]
+pub(crate) struct Wanted<'a> {
+    pub name: &'a [u8],
+    pub pair: Option<(u32, u32)>,
+}
+
+impl<A: Allocator + Copy> Stage<A> {
+    /// Before the first byte.
+    pub(crate) fn new() -> Self
+        ensures taken { (name : List ℕ) (pair : Option (ℕ × ℕ)) → HasTaken name pair result [] }
+        ensures line { line_of result ≡ 1 }
+    {
+        Stage::Heading(1, HeadingLine::new())
+    }
+
+    /// With one byte more.
+    fn push(&mut self, alloc: A, wanted: &Wanted<'_>, byte: u8)
+        requires { line_of self.old + 1 < 2 ^ 32 }
+        ensures later { line_of self.new ≤ line_of self.old + 1 }
+        ensures taken { (fed : List ℕ) → HasTaken wanted.now.name.now wanted.now.pair self.old fed →
+            HasTaken wanted.now.name.now wanted.now.pair self.new (fed ++ byte ∷ []) }
+    {
+        match self {
+            Stage::Heading(line, shown) => {
+                if byte == b'\n' {
+                    *self = below_heading(*line, *shown, wanted.name);
+                } else {
+                    *shown = shown.push(wanted.name, byte);
+                }
+            }
+            Stage::Sizes(line, shown) => {
+                if byte == b'\n' {
+                    *self = below_sizes(alloc, wanted.pair, *line, *shown);
+                } else {
+                    *shown = shown.push(byte);
+                }
+            }
+            Stage::Pairs(words) => words.push(byte),
+            Stage::Ended(_) => {}
+        }
+    }
+
+    /// With the next piece of the text.
+    pub(crate) fn feed(&mut self, alloc: A, wanted: &Wanted<'_>, piece: &[u8])
+        requires { line_of self.old + length piece.now < 2 ^ 32 }
+        ensures later { line_of self.new ≤ line_of self.old + length piece.now }
+        ensures taken { (fed : List ℕ) → HasTaken wanted.now.name.now wanted.now.pair self.old fed →
+            HasTaken wanted.now.name.now wanted.now.pair self.new (fed ++ piece.now) }
+    {
+        for k in 0..piece.len() {
+            match self {
+                Stage::Pairs(words) => {
+                    let (_, rest) = piece.split_at(k);
+                    words.feed(rest);
+                    return;
+                }
+                _ => self.push(alloc, wanted, piece[k]),
+            }
+        }
+    }
+
+    /// The instance, where the text ends here, or the first fault. It takes no memory.
+    pub(crate) fn ended(self, alloc: A, wanted: &Wanted<'_>) -> Result<Instance<A>, ReadFault>
+        ensures { (fed : List ℕ) → HasTaken wanted.now.name.now wanted.now.pair self fed →
+            Gives (λ i. i) result (from_heading wanted.now.name.now wanted.now.pair 1 (lines fed)) }
+    {
+        match self {
+            Stage::Heading(_, shown) => Err(without_sizes(wanted.name, shown)),
+            Stage::Sizes(line, shown) => Err(without_pairs(wanted.pair, line, shown)),
+            Stage::Pairs(words) => words.ended().instance(alloc),
+            Stage::Ended(fault) => Err(fault),
+        }
+    }
+}

@@ -1,0 +1,20 @@
+use Rattle.std.proofs.Common.{◌≡◌, ℕ, ◌+◌, ◌<◌, true, false, List, length}
+use Rattle.std.specs.Io.KnownBytes.{Consumes}
+use Rattle.tf_model.specs.declared.limit.TheConstants.{MOST_BYTES}
+use Rattle.tf_text.specs.Counted.{inner_of, has_failed}
+use Rattle.tf_text.proofs.input.drain.Given as goal
+
+-- what the reader gave was taken, and nothing failed
+abbrev pub invariant-loop-left : goal.invariant-loop-left
+invariant-loop-left g l =
+    let remaining = g.R.Read.remaining in
+    record {
+      room : length l.chunk ≡ 4096;
+      taken : (bytes : List ℕ) × (length bytes + l.left ≡ MOST_BYTES + 1)
+          × Consumes (remaining (inner_of l.fn.reader)) (remaining (inner_of l.reader)) bytes × g.F.Feed.Takes l.fn.into bytes l.into;
+      unfailed : l.left < MOST_BYTES + 1 → has_failed l.reader ≡ false;
+      failed_before : has_failed l.fn.reader ≡ true → (l.reader ≡ l.fn.reader) × (l.left ≡ MOST_BYTES + 1);
+    }
+
+abbrev pub decreases-loop-left : goal.decreases-loop-left
+decreases-loop-left g l = l.left

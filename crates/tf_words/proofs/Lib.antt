@@ -1,0 +1,10 @@
+pub mod Parts
+pub mod Lines
+pub mod Comma
+pub mod DigitsRead
+pub mod Saturated
+pub mod Limited
+pub mod Stream
+pub mod Grows
+pub mod Scanned
+pub mod Pieces
