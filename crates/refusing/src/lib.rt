@@ -10,7 +10,8 @@ use std::cell::Cell;
 /// An allocator over another one, which refuses the growth that comes after `left` others.
 pub struct Refusing<B: Allocator> {
     inner: B,
-    // How many growths are granted before the one that is refused; from then on it is at the top of its range.
+    // How many growths are granted before the one that is refused; from then on it is at the top of
+    // its range.
     left: Cell<u64>,
 }
 
@@ -35,7 +36,8 @@ impl<B: Allocator> Drop for Refusing<B> {
     }
 }
 
-// Counts a growth, and tells whether it is the one to be refused. The count wraps behind it, so no later one is.
+// Counts a growth, and tells whether it is the one to be refused. The count wraps behind it, so no
+// later one is.
 fn is_refused(left: &Cell<u64>) -> bool {
     let before = left.get();
     left.set(before.wrapping_sub(1));

@@ -10,7 +10,8 @@ use Rattle.tf_check.specs.Claim.{AnswerData}
 use Rattle.tf_check.specs.Accepted.{IsAccepted, IsBestAnswer}
 use Rattle.tf_check.specs.Laws.{bound_law}
 
-pub accepted-best : (k : SchedulingTask) (a : AnswerData) → IsSound k → IsAccepted k a → IsBestAnswer k a
+pub accepted-best : (k : SchedulingTask) (a : AnswerData) → IsSound k → IsAccepted k a
+    → IsBestAnswer k a
 accepted-best k a sound accepted = record {
   rows = accepted.rows;
   pieces = accepted.pieces;
@@ -18,7 +19,12 @@ accepted-best k a sound accepted = record {
   best = record {
     fits = accepted.fits;
     value = accepted.value;
-    least = λ other fits. omega (arith, ints, accepted.enough, bound_law a.certificate k other accepted.bound sound accepted.bounded fits);
+    least = λ other fits. omega (
+      arith,
+      ints,
+      accepted.enough,
+      bound_law a.certificate k other accepted.bound sound accepted.bounded fits,
+    );
   };
 }
 
@@ -27,5 +33,6 @@ pub accepted-best_drawing : (k : SchedulingTask) (a : AnswerData) → IsSound k 
     → IsBest k (drawing k.machines a.pieces) a.value
 accepted-best_drawing k a sound accepted =
     let answer = accepted-best k a sound accepted in
-    subst (λ rows. IsBest k rows a.value) (drawing_only k.machines a.pieces answer.rows answer.draws)
+    subst (λ rows. IsBest k rows a.value)
+    (drawing_only k.machines a.pieces answer.rows answer.draws)
     answer.best

@@ -26,7 +26,8 @@ module _ (S : ℕ → ℕ → ℕ → ℕ → Type 0) (task : SchedulingTask) (o
       → IsAccepted task (record { pieces = qs; value = v; certificate = claim })
   laid_accepted fits v claim bounded most =
       let drawn : drawing task.machines qs ≡ drawing task.machines (laid os) =
-      drawing_permutation task.machines (laid os) qs (laid_none_twice S task os sound listed) same in
+      drawing_permutation task.machines (laid os) qs (laid_none_twice S task os sound listed)
+      same in
       solution_accepted task qs v claim sound
       (record {
         rows = drawing task.machines qs;

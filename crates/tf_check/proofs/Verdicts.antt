@@ -32,23 +32,32 @@ pub record IsFitting (k : SchedulingTask) (a : AnswerData) (qs : List Piece) : T
   pub draws : Draws k.machines qs (drawing k.machines qs)
   pub fits : Fits k (drawing k.machines qs)
 
-pub draws_fitting : (k : SchedulingTask) (a : AnswerData) (qs : List Piece) → IsFitting k a qs → DrawsFitting k a.pieces (drawing k.machines qs)
+pub draws_fitting : (k : SchedulingTask) (a : AnswerData) (qs : List Piece) → IsFitting k a qs
+    → DrawsFitting k a.pieces (drawing k.machines qs)
 draws_fitting k a qs h =
     let back = IsPermutation-sym a.pieces qs h.kept in
-    let once : NoneTwice a.pieces = λ n t. omega (arith, claims_permutation machine_of a.pieces qs n t h.kept, h.schedule.none_twice n t) in
-    let numbered : All (λ p. 0 < p.job) a.pieces = All-permutation (λ p. 0 < p.job) qs a.pieces back h.draws.numbered in
-    let on : All (IsOnMachine k.machines) a.pieces = All-permutation (IsOnMachine k.machines) qs a.pieces back h.draws.on_machines in
-    let same : drawing k.machines qs ≡ drawing k.machines a.pieces = sym (drawing_permutation k.machines qs a.pieces h.schedule.none_twice back) in
+    let once : NoneTwice a.pieces =
+    λ n t. omega
+    (arith, claims_permutation machine_of a.pieces qs n t h.kept, h.schedule.none_twice n t) in
+    let numbered : All (λ p. 0 < p.job) a.pieces =
+    All-permutation (λ p. 0 < p.job) qs a.pieces back h.draws.numbered in
+    let on : All (IsOnMachine k.machines) a.pieces =
+    All-permutation (IsOnMachine k.machines) qs a.pieces back h.draws.on_machines in
+    let same : drawing k.machines qs ≡ drawing k.machines a.pieces =
+    sym (drawing_permutation k.machines qs a.pieces h.schedule.none_twice back) in
     record {
       pieces = All-permutation IsPiece qs a.pieces back h.schedule.sound;
       draws = rw same (draws_drawing k.machines a.pieces once numbered on);
       fits = h.fits;
     }
 
-pub feasible : (k : SchedulingTask) (a : AnswerData) (qs : List Piece) → IsFitting k a qs → cost k (drawing k.machines qs) ≡ a.value → IsFeasible k a
-feasible k a qs h value = record { rows = drawing k.machines qs; fitting = draws_fitting k a qs h; value = value }
+pub feasible : (k : SchedulingTask) (a : AnswerData) (qs : List Piece) → IsFitting k a qs
+    → cost k (drawing k.machines qs) ≡ a.value → IsFeasible k a
+feasible k a qs h value =
+    record { rows = drawing k.machines qs; fitting = draws_fitting k a qs h; value = value }
 
-pub accepted_from : (k : SchedulingTask) (a : AnswerData) (bound : ℤ) → IsFeasible k a → bound_by a.certificate k ≡ Ok bound → a.value ≤ℤ bound → IsAccepted k a
+pub accepted_from : (k : SchedulingTask) (a : AnswerData) (bound : ℤ) → IsFeasible k a
+    → bound_by a.certificate k ≡ Ok bound → a.value ≤ℤ bound → IsAccepted k a
 accepted_from k a bound h bounded enough = record {
   rows = h.rows;
   pieces = h.fitting.pieces;
@@ -61,32 +70,52 @@ accepted_from k a bound h bounded enough = record {
 }
 
 -- pieces draw one timetable, which has one cost
-cost_is : (k : SchedulingTask) (a : AnswerData) (rows : Timetable) → DrawsFitting k a.pieces rows → IsAccepted k a → cost k rows ≡ a.value
-cost_is k a rows h accepted = ap (cost k) (drawing_only k.machines a.pieces rows h.draws ∙ sym (drawing_only k.machines a.pieces accepted.rows accepted.draws)) ∙ accepted.value
+cost_is : (k : SchedulingTask) (a : AnswerData) (rows : Timetable) → DrawsFitting k a.pieces rows
+    → IsAccepted k a → cost k rows ≡ a.value
+cost_is k a rows h accepted =
+    ap (cost k)
+    (drawing_only k.machines a.pieces rows h.draws
+    ∙ sym (drawing_only k.machines a.pieces accepted.rows accepted.draws)) ∙ accepted.value
 
 -- what holds of each element holds of the one at n
-element : {X : Type 0} (P : X → Type 0) (xs : List X) (n : ℕ) (x : X) → All P xs → slice_get xs n ≡ Some x → P x
-element P xs n x all here = subst P (get_or_from_slice_get xs n x x here) (all n x (slice_get_within xs n x here))
+element : {X : Type 0} (P : X → Type 0) (xs : List X) (n : ℕ) (x : X) → All P xs
+    → slice_get xs n ≡ Some x → P x
+element P xs n x all here =
+    subst P (get_or_from_slice_get xs n x x here) (all n x (slice_get_within xs n x here))
 
-none_here : {X : Type 0} (Q P : X → Type 0) (o : Option X) → ((x : X) → o ≡ Some x → P x) → IsSomeAnd o Q → ((x : X) → P x → Q x → ⊥) → ⊥
+none_here : {X : Type 0} (Q P : X → Type 0) (o : Option X) → ((x : X) → o ≡ Some x → P x)
+    → IsSomeAnd o Q → ((x : X) → P x → Q x → ⊥) → ⊥
 none_here Q P None good bad both = bad
 none_here Q P (Some x) good bad both = both x (good x refl) bad
 
 -- pieces with a fault are out of range, empty, or claim a cell twice
-fault_excludes : (ps : List Piece) (fault : PieceFault) → All IsPiece ps → NoneTwice ps → HasFirstFault ps fault → ⊥
-fault_excludes ps (OutOfRange n) sound once h = none_here (λ p. ¬ (IsInRange p)) IsPiece (slice_get ps (n - 1)) (λ p e. element IsPiece ps (n - 1) p sound e) h.here (λ p good bad. bad good.0)
-fault_excludes ps (EmptyPiece n) sound once h = none_here (λ p. IsInRange p × ¬ (IsNotEmpty p)) IsPiece (slice_get ps (n - 1)) (λ p e. element IsPiece ps (n - 1) p sound e) h.here (λ p good bad. bad.1 good.1)
+fault_excludes : (ps : List Piece) (fault : PieceFault) → All IsPiece ps → NoneTwice ps
+    → HasFirstFault ps fault → ⊥
+fault_excludes ps (OutOfRange n) sound once h =
+    none_here (λ p. ¬ (IsInRange p)) IsPiece (slice_get ps (n - 1))
+    (λ p e. element IsPiece ps (n - 1) p sound e) h.here (λ p good bad. bad good.0)
+fault_excludes ps (EmptyPiece n) sound once h =
+    none_here (λ p. IsInRange p × ¬ (IsNotEmpty p)) IsPiece (slice_get ps (n - 1))
+    (λ p e. element IsPiece ps (n - 1) p sound e) h.here (λ p good bad. bad.1 good.1)
 fault_excludes ps (MachineTwice i t) sound once h = omega (arith, h.2.here, once i (as_time t))
 
 -- an answer is not both accepted and rejected
-pub reason_excludes : (k : SchedulingTask) (a : AnswerData) (reason : Reason) → HasReason k a reason → IsAccepted k a → ⊥
-reason_excludes k a (Pieces fault) h accepted = fault_excludes a.pieces fault accepted.pieces accepted.draws.none_twice h
+pub reason_excludes : (k : SchedulingTask) (a : AnswerData) (reason : Reason) → HasReason k a reason
+    → IsAccepted k a → ⊥
+reason_excludes k a (Pieces fault) h accepted =
+    fault_excludes a.pieces fault accepted.pieces accepted.draws.none_twice h
 reason_excludes k a (Misfit misfit) h accepted =
     let qs = h.0 in
-    let same : drawing k.machines qs ≡ drawing k.machines a.pieces = sym (drawing_permutation k.machines qs a.pieces h.2.none_twice (IsPermutation-sym a.pieces qs h.1)) in
-    let rows : accepted.rows ≡ drawing k.machines qs = drawing_only k.machines a.pieces accepted.rows accepted.draws ∙ sym same in
-    let on : All (IsOnMachine k.machines) qs = All-permutation (IsOnMachine k.machines) a.pieces qs h.1 accepted.draws.on_machines in
-    h.4 (no_misfit k qs h.2 (All-permutation (λ p. 0 < p.job) a.pieces qs h.1 accepted.draws.numbered) on (subst (Fits k) rows accepted.fits) misfit h.3)
+    let same : drawing k.machines qs ≡ drawing k.machines a.pieces =
+    sym (drawing_permutation k.machines qs a.pieces h.2.none_twice
+    (IsPermutation-sym a.pieces qs h.1)) in
+    let rows : accepted.rows ≡ drawing k.machines qs =
+    drawing_only k.machines a.pieces accepted.rows accepted.draws ∙ sym same in
+    let on : All (IsOnMachine k.machines) qs =
+    All-permutation (IsOnMachine k.machines) a.pieces qs h.1 accepted.draws.on_machines in
+    h.4 (no_misfit k qs h.2
+    (All-permutation (λ p. 0 < p.job) a.pieces qs h.1 accepted.draws.numbered) on
+    (subst (Fits k) rows accepted.fits) misfit h.3)
 reason_excludes k a WrongValue h accepted = h.2 (cost_is k a h.0 h.1 accepted)
 reason_excludes k a (Bound fault) h accepted = cc (h.1, accepted.bounded)
 reason_excludes k a BoundBelowValue h accepted =

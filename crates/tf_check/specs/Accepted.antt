@@ -10,7 +10,8 @@ use Rattle.tf_schedule.specs.Drawing.{Draws}
 use Rattle.tf_check.specs.Claim.{AnswerData}
 use Rattle.tf_check.specs.Bound.{bound_by}
 
--- the pieces draw a timetable that fits the task, the value is its cost, and the certificate's bound is no less
+-- the pieces draw a timetable that fits the task, the value is its cost, and the certificate's
+-- bound is no less
 pub record IsAccepted (k : SchedulingTask) (a : AnswerData) : Type 0 where
   pub rows : Timetable
   pub pieces : All IsPiece a.pieces

@@ -1,4 +1,5 @@
--- The bound of each kind of certificate on a task, or its first fault. Each line of a bound is one fault, in order.
+-- The bound of each kind of certificate on a task, or its first fault. Each line of a bound is one
+-- fault, in order.
 use Rattle.std.specs.Prelude.{◌≡◌, ◌⊎◌, ℕ, ◌+◌, ℤ, pos, List, [], ◌∷◌, ◌++◌, map, Bool, true, false, not, ◌&&◌, ◌==◌, nat_lt, nat_le, ◌||◌, ◌-ℤ◌, int_le, unsigned_abs, ◌-◌, if◌then◌else◌, length, min, Option, Some, None, Result, Ok, Err}
 use Rattle.std.specs.List.{fold, sum_by, filter, list_any, list_all, find}
 use Rattle.std.specs.Int.{int_min, int_max}
@@ -55,7 +56,8 @@ one_job_bound k j =
     (Ok (pos (time_of k j))))
 
 abbrev pub machine_fault : ℕ → Option BoundFault
-machine_fault machine = if nat_lt 0 machine && nat_le machine 2 then None else Some (BadMachine machine)
+machine_fault machine =
+    if nat_lt 0 machine && nat_le machine 2 then None else Some (BadMachine machine)
 
 -- the time of all jobs on the machine, which is 1 or 2
 abbrev pub machine_bound : SchedulingTask → ℕ → Result ℤ BoundFault
@@ -131,7 +133,8 @@ window_bound k jobs =
 -- the first job that is longer than the one before it, which has the time t
 abbrev pub longer_fault : SchedulingTask → ℕ → List ℕ → Option BoundFault
 longer_fault k t [] = None
-longer_fault k t (j ∷ jobs) = if nat_lt t (time_of k j) then Some (Condition j) else longer_fault k (time_of k j) jobs
+longer_fault k t (j ∷ jobs) =
+    if nat_lt t (time_of k j) then Some (Condition j) else longer_fault k (time_of k j) jobs
 
 abbrev pub ranks_fault : SchedulingTask → List ℕ → Option BoundFault
 ranks_fault k [] = None
@@ -163,7 +166,8 @@ keeps_side k side delta false j =
 
 -- the smallest job that does not
 abbrev pub side_fault : SchedulingTask → List ℕ → ℤ → Bool → Option BoundFault
-side_fault k side delta first = option_map Condition (find (λ j. not (keeps_side k side delta first j)) (all_jobs k))
+side_fault k side delta first =
+    option_map Condition (find (λ j. not (keeps_side k side delta first j)) (all_jobs k))
 
 -- whether j, of the side that has to reach delta, does
 abbrev pub reaches_delta : SchedulingTask → List ℕ → ℤ → Bool → ℕ → Bool
@@ -172,7 +176,8 @@ reaches_delta k side delta false j = stands_in side j && reaches k delta 1 j
 
 abbrev pub delta_fault : SchedulingTask → List ℕ → ℤ → Bool → Option BoundFault
 delta_fault k side delta first =
-    if int_le (pos 0) delta && list_any (reaches_delta k side delta first) (all_jobs k) then None else Some BadDelta
+    if int_le (pos 0) delta
+    && list_any (reaches_delta k side delta first) (all_jobs k) then None else Some BadDelta
 
 -- the side on machine 1, the others on machine 2, and delta
 abbrev pub split_bound : SchedulingTask → List ℕ → ℤ → Bool → Result ℤ BoundFault

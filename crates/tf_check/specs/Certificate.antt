@@ -1,4 +1,5 @@
--- A certificate as definitions see it. They speak of its `Claim` (see Claim.antt), which has no allocator.
+-- A certificate as definitions see it. They speak of its `Claim` (see Claim.antt), which has no
+-- allocator.
 use Rattle.tf_check.specs.Claim.{Claim, ByPairs, ByLastOf, ByWindow, BySplit, ByLoad, ByMachine, ByOneJob, ByRanks}
 use Rattle.tf_check.specs.declared.certificate.Certificate.{Certificate}
 use Rattle.tf_check.specs.declared.certificate.Certificate.TheVariants.{Pairs, LastOf, Window, Split, Load, Machine, OneJob, Ranks}

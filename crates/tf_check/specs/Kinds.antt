@@ -1,4 +1,5 @@
--- Which kind of certificate bounds the tasks of which class: each kind asks of the class what its bound rests on.
+-- Which kind of certificate bounds the tasks of which class: each kind asks of the class what its
+-- bound rests on.
 use Rattle.std.specs.Prelude.{Bool, not, ◌&&◌}
 use Rattle.tf_model.specs.declared.class.Class.{Class}
 use Rattle.tf_model.specs.ClassTable.{is_single, is_parallel, is_shop, is_flow, may_break, is_released, is_span, is_due, is_sum}

@@ -31,7 +31,8 @@ use Rattle.tf_model.specs.Outcome.{unless}
 use Rattle.tf_check.specs.Bound.{bound_by, other_kind, is_job, job_fault, list_fault, empty_fault, is_free, free_jobs, no_free_fault, least, load_bound, one_job_bound, pairs_bound, last_of_bound, machine_fault, machine_bound, window_bound, least_number, greatest, longer_fault, ranks_fault, ranks_bound, keeps_side, side_fault, reaches_delta, delta_fault, split_bound}
 
 -- what a bound that is given says of the faults before it
-pub unless_ok : (o : Option BoundFault) (r : Result ℤ BoundFault) (b : ℤ) → unless o r ≡ Ok b → (o ≡ None) × (r ≡ Ok b)
+pub unless_ok : (o : Option BoundFault) (r : Result ℤ BoundFault) (b : ℤ) → unless o r ≡ Ok b
+    → (o ≡ None) × (r ≡ Ok b)
 unless_ok (Some fault) r b e = cc
 unless_ok None r b e = (refl, e)
 
@@ -48,7 +49,8 @@ bound_in (Err fault) = pos 0
 
 is_job_says : (k : SchedulingTask) (j : ℕ) → is_job k j ≡ true → IsJob k j
 is_job_says k j e =
-    let p = and_parts (nat_lt 0 j) (nat_le j (length k.jobs)) e in (ltb-true 0 j p.0, leb-true j (length k.jobs) p.1)
+    let p = and_parts (nat_lt 0 j) (nat_le j (length k.jobs)) e in
+    (ltb-true 0 j p.0, leb-true j (length k.jobs) p.1)
 
 job_fault_says : (k : SchedulingTask) (j : ℕ) → job_fault k j ≡ None → IsJob k j
 job_fault_says k j e = by_test (is_job k j) refl e
@@ -59,9 +61,11 @@ job_fault_says k j e = by_test (is_job k j) refl e
 
 stands_in_last : (seen : List ℕ) (j c : ℕ) → (j == c) ≡ true → stands_in (seen ++ j ∷ []) c ≡ true
 stands_in_last [] j c e = or_left (j == c) false e
-stands_in_last (x ∷ seen) j c e = or_right (x == c) (stands_in (seen ++ j ∷ []) c) (stands_in_last seen j c e)
+stands_in_last (x ∷ seen) j c e =
+    or_right (x == c) (stands_in (seen ++ j ∷ []) c) (stands_in_last seen j c e)
 
-stands_in_before : (seen : List ℕ) (j c : ℕ) → stands_in seen c ≡ true → stands_in (seen ++ j ∷ []) c ≡ true
+stands_in_before : (seen : List ℕ) (j c : ℕ) → stands_in seen c ≡ true
+    → stands_in (seen ++ j ∷ []) c ≡ true
 stands_in_before [] j c e = absurd (false≢true e)
 stands_in_before (x ∷ seen) j c e =
     ⊎_elim
@@ -70,27 +74,51 @@ stands_in_before (x ∷ seen) j c e =
     (or_cases (x == c) (stands_in seen c) e)
 
 -- the numbers are jobs, none stands twice, and none is among those seen before
-pub list_fault_says : (k : SchedulingTask) (seen jobs : List ℕ) → list_fault k seen jobs ≡ None → All (IsJob k) jobs × ((c : ℕ) → (stands_in seen c ≡ true → count_by (λ j. c == j) jobs ≡ 0) × (count_by (λ j. c == j) jobs ≤ 1))
+pub list_fault_says : (k : SchedulingTask) (seen jobs : List ℕ) → list_fault k seen jobs ≡ None
+    → All (IsJob k) jobs
+    × ((c : ℕ) → (stands_in seen c ≡ true → count_by (λ j. c == j) jobs ≡ 0)
+    × (count_by (λ j. c == j) jobs ≤ 1))
 list_fault_says k seen [] e = (All-nil (IsJob k), λ c. (λ _. refl, omega arith))
-list_fault_says k seen (j ∷ jobs) e = by_tests (is_job k j) (stands_in seen j) refl refl e (list_fault_says k (seen ++ j ∷ []) jobs)
+list_fault_says k seen (j ∷ jobs) e =
+    by_tests (is_job k j) (stands_in seen j) refl refl e (list_fault_says k (seen ++ j ∷ []) jobs)
   where
-    by_tests : (t s : Bool) → is_job k j ≡ t → stands_in seen j ≡ s → cond (not t) (Some (BadJob j)) (cond s (Some (Repeated j)) (list_fault k (seen ++ j ∷ []) jobs)) ≡ None
-        → (list_fault k (seen ++ j ∷ []) jobs ≡ None → All (IsJob k) jobs × ((c : ℕ) → (stands_in (seen ++ j ∷ []) c ≡ true → count_by (λ i. c == i) jobs ≡ 0) × (count_by (λ i. c == i) jobs ≤ 1)))
-        → All (IsJob k) (j ∷ jobs) × ((c : ℕ) → (stands_in seen c ≡ true → count_by (λ i. c == i) (j ∷ jobs) ≡ 0) × (count_by (λ i. c == i) (j ∷ jobs) ≤ 1))
+    by_tests : (t s : Bool) → is_job k j ≡ t → stands_in seen j ≡ s
+        → cond (not t) (Some (BadJob j))
+        (cond s (Some (Repeated j)) (list_fault k (seen ++ j ∷ []) jobs)) ≡ None
+        → (list_fault k (seen ++ j ∷ []) jobs ≡ None → All (IsJob k) jobs
+        × ((c : ℕ) → (stands_in (seen ++ j ∷ []) c ≡ true → count_by (λ i. c == i) jobs ≡ 0)
+        × (count_by (λ i. c == i) jobs ≤ 1)))
+        → All (IsJob k) (j ∷ jobs)
+        × ((c : ℕ) → (stands_in seen c ≡ true → count_by (λ i. c == i) (j ∷ jobs) ≡ 0)
+        × (count_by (λ i. c == i) (j ∷ jobs) ≤ 1))
     by_tests false s et es h rest = cc
     by_tests true true et es h rest = cc
     by_tests true false et es h rest =
         let further = rest h in (
           All-cons (IsJob k) j jobs (is_job_says k j et) further.0,
           λ c.
-              let add : count_by (λ i. c == i) (j ∷ jobs) ≡ cond (c == j) 1 0 + count_by (λ i. c == i) jobs = sum_by-cons (λ i. cond (c == i) 1 0) j jobs in
+              let add : count_by (λ i. c == i) (j ∷ jobs) ≡ cond (c == j) 1 0
+              + count_by (λ i. c == i) jobs = sum_by-cons (λ i. cond (c == i) 1 0) j jobs in
               ⊎_elim
               (λ same.
-              let none : count_by (λ i. c == i) jobs ≡ 0 = (further.1 c).0 (stands_in_last seen j c (eq-eqb j c (sym same))) in
-              (λ in'. absurd (false≢true (sym es ∙ ap (stands_in seen) (sym same) ∙ in')), omega (arith, add, none, ap {B = ℕ} (λ t. cond t 1 0) (eq-eqb c j same))))
+              let none : count_by (λ i. c == i) jobs ≡ 0 =
+              (further.1 c).0 (stands_in_last seen j c (eq-eqb j c (sym same))) in (
+                λ in'. absurd (false≢true (sym es ∙ ap (stands_in seen) (sym same) ∙ in')),
+                omega (arith, add, none, ap {B = ℕ} (λ t. cond t 1 0) (eq-eqb c j same)),
+              ))
               (λ differ. (
-                λ in'. omega (arith, add, (further.1 c).0 (stands_in_before seen j c in'), ap {B = ℕ} (λ t. cond t 1 0) (ne_eqb c j differ)),
-                omega (arith, add, (further.1 c).1, ap {B = ℕ} (λ t. cond t 1 0) (ne_eqb c j differ)),
+                λ in'. omega (
+                  arith,
+                  add,
+                  (further.1 c).0 (stands_in_before seen j c in'),
+                  ap {B = ℕ} (λ t. cond t 1 0) (ne_eqb c j differ),
+                ),
+                omega (
+                  arith,
+                  add,
+                  (further.1 c).1,
+                  ap {B = ℕ} (λ t. cond t 1 0) (ne_eqb c j differ),
+                ),
               ))
               (cases_eq c j),
         )
@@ -101,9 +129,12 @@ empty_fault_says (j ∷ jobs) e = omega arith
 
 -- ---- the least and the greatest of a list
 
-All-of_map : {X : Type 0} (P : X → Type 0) (f : ℕ → X) (xs : List ℕ) → All P (map f xs) → All (λ x. P (f x)) xs
+All-of_map : {X : Type 0} (P : X → Type 0) (f : ℕ → X) (xs : List ℕ) → All P (map f xs)
+    → All (λ x. P (f x)) xs
 All-of_map P f [] all = All-nil (λ x. P (f x))
-All-of_map P f (x ∷ xs) all = All-cons (λ y. P (f y)) x xs (All-head P (f x) (map f xs) all) (All-of_map P f xs (All-tail P (f x) (map f xs) all))
+All-of_map P f (x ∷ xs) all =
+    All-cons (λ y. P (f y)) x xs (All-head P (f x) (map f xs) all)
+    (All-of_map P f xs (All-tail P (f x) (map f xs) all))
 
 least_says : (f : ℕ → ℤ) (jobs : List ℕ) → All (λ j. least f jobs ≤ℤ f j) jobs
 least_says f [] = All-nil (λ j. pos 0 ≤ℤ f j)
@@ -120,8 +151,10 @@ greatest_says f (j ∷ jobs) =
 fold-min-le : (a : ℕ) (xs : List ℕ) → (fold min a xs ≤ a) × All (λ x. fold min a xs ≤ x) xs
 fold-min-le a [] = (omega arith, All-nil (λ x. a ≤ x))
 fold-min-le a (x ∷ xs) =
-    let rest = fold-min-le (min a x) xs in
-    (omega (arith, rest.0), All-cons (λ y. fold min (min a x) xs ≤ y) x xs (omega (arith, rest.0)) rest.1)
+    let rest = fold-min-le (min a x) xs in (
+      omega (arith, rest.0),
+      All-cons (λ y. fold min (min a x) xs ≤ y) x xs (omega (arith, rest.0)) rest.1,
+    )
 
 least_number_says : (f : ℕ → ℕ) (jobs : List ℕ) → All (λ j. least_number f jobs ≤ f j) jobs
 least_number_says f [] = All-nil (λ j. 0 ≤ f j)
@@ -129,13 +162,19 @@ least_number_says f (j ∷ jobs) =
     let r : ℕ = fold min (f j) (map f (j ∷ jobs)) in
     All-of_map (λ z. r ≤ z) f (j ∷ jobs) (fold-min-le (f j) (map f (j ∷ jobs))).1
 
-filter_says : (P : ℕ → Type 0) (test : ℕ → Bool) (jobs : List ℕ) → All P (filter test jobs) → All (λ j. test j ≡ true → P j) jobs
+filter_says : (P : ℕ → Type 0) (test : ℕ → Bool) (jobs : List ℕ) → All P (filter test jobs)
+    → All (λ j. test j ≡ true → P j) jobs
 filter_says P test [] all = All-nil (λ j. test j ≡ true → P j)
 filter_says P test (j ∷ jobs) all = by_test (test j) refl all (filter_says P test jobs)
   where
-    by_test : (t : Bool) → test j ≡ t → All P (cond t (j ∷ filter test jobs) (filter test jobs)) → (All P (filter test jobs) → All (λ i. test i ≡ true → P i) jobs) → All (λ i. test i ≡ true → P i) (j ∷ jobs)
-    by_test true e all rest = All-cons (λ i. test i ≡ true → P i) j jobs (λ _. All-head P j (filter test jobs) all) (rest (All-tail P j (filter test jobs) all))
-    by_test false e all rest = All-cons (λ i. test i ≡ true → P i) j jobs (λ t. absurd (false≢true (sym e ∙ t))) (rest all)
+    by_test : (t : Bool) → test j ≡ t → All P (cond t (j ∷ filter test jobs) (filter test jobs))
+        → (All P (filter test jobs) → All (λ i. test i ≡ true → P i) jobs)
+        → All (λ i. test i ≡ true → P i) (j ∷ jobs)
+    by_test true e all rest =
+        All-cons (λ i. test i ≡ true → P i) j jobs (λ _. All-head P j (filter test jobs) all)
+        (rest (All-tail P j (filter test jobs) all))
+    by_test false e all rest =
+        All-cons (λ i. test i ≡ true → P i) j jobs (λ t. absurd (false≢true (sym e ∙ t))) (rest all)
 
 -- ---- tests along a list
 
@@ -147,7 +186,8 @@ stands_in_says (j ∷ jobs) c e =
     (λ later. let rest = stands_in_says jobs c later in (suc rest.0, omega (arith, rest.1), rest.2))
     (or_cases (j == c) (stands_in jobs c) e)
 
-list_any_says : (P : ℕ → Type 0) (test : ℕ → Bool) (jobs : List ℕ) → All P jobs → list_any test jobs ≡ true → (x : ℕ) × P x × (test x ≡ true)
+list_any_says : (P : ℕ → Type 0) (test : ℕ → Bool) (jobs : List ℕ) → All P jobs
+    → list_any test jobs ≡ true → (x : ℕ) × P x × (test x ≡ true)
 list_any_says P test [] all e = absurd (false≢true e)
 list_any_says P test (j ∷ jobs) all e =
     ⊎_elim
@@ -155,11 +195,15 @@ list_any_says P test (j ∷ jobs) all e =
     (λ later. list_any_says P test jobs (All-tail P j jobs all) later)
     (or_cases (test j) (list_any test jobs) e)
 
-find_says : (test : ℕ → Bool) (jobs : List ℕ) → option_map Condition (find test jobs) ≡ None → All (λ j. test j ≡ false) jobs
+find_says : (test : ℕ → Bool) (jobs : List ℕ) → option_map Condition (find test jobs) ≡ None
+    → All (λ j. test j ≡ false) jobs
 find_says test [] e = All-nil (λ j. test j ≡ false)
 find_says test (j ∷ jobs) e = by_test (test j) refl e (find_says test jobs)
   where
-    by_test : (t : Bool) → test j ≡ t → option_map Condition (cond t (Some j) (find test jobs)) ≡ None → (option_map Condition (find test jobs) ≡ None → All (λ i. test i ≡ false) jobs) → All (λ i. test i ≡ false) (j ∷ jobs)
+    by_test : (t : Bool) → test j ≡ t
+        → option_map Condition (cond t (Some j) (find test jobs)) ≡ None
+        → (option_map Condition (find test jobs) ≡ None → All (λ i. test i ≡ false) jobs)
+        → All (λ i. test i ≡ false) (j ∷ jobs)
     by_test true e h rest = cc
     by_test false e h rest = All-cons (λ i. test i ≡ false) j jobs e (rest h)
 
@@ -170,35 +214,43 @@ load_class c e =
     let facts = and_parts (is_span c) (is_parallel c) e in
     (spanning c facts.0, parallel_is_no_shop c facts.1)
 
-pub load_law : (k : SchedulingTask) (rows : Timetable) (b : ℤ) → IsSound k → load_bound k ≡ Ok b → FitsBroken k rows → b ≤ℤ cost k rows
+pub load_law : (k : SchedulingTask) (rows : Timetable) (b : ℤ) → IsSound k → load_bound k ≡ Ok b
+    → FitsBroken k rows → b ≤ℤ cost k rows
 load_law k rows b sound is fits =
     let parts = unless_ok (other_kind (takes_load k.class)) (Ok (pos (load_value k))) b is in
     let class = load_class k.class (for_class (takes_load k.class) parts.0) in
-    subst (λ z. z ≤ℤ cost k rows) (ap bound_in parts.1) (load-le-cost k rows sound fits class.0 class.1)
+    subst (λ z. z ≤ℤ cost k rows) (ap bound_in parts.1)
+    (load-le-cost k rows sound fits class.0 class.1)
 
 one_job_class : (c : Class) → takes_one_job c ≡ true → objective_of c ≡ Makespan
 one_job_class c e = spanning c (and_parts (is_span c) (not (is_flow c)) e).0
 
-pub one_job_law : (k : SchedulingTask) (j : ℕ) (rows : Timetable) (b : ℤ) → IsSound k → one_job_bound k j ≡ Ok b → FitsBroken k rows → b ≤ℤ cost k rows
+pub one_job_law : (k : SchedulingTask) (j : ℕ) (rows : Timetable) (b : ℤ) → IsSound k
+    → one_job_bound k j ≡ Ok b → FitsBroken k rows → b ≤ℤ cost k rows
 one_job_law k j rows b sound is fits =
     let given : Result ℤ BoundFault = Ok (pos (time_of k j)) in
-    let at_class = unless_ok (other_kind (takes_one_job k.class)) (unless (job_fault k j) given) b is in
+    let at_class =
+    unless_ok (other_kind (takes_one_job k.class)) (unless (job_fault k j) given) b is in
     let at_job = unless_ok (job_fault k j) given b at_class.1 in
     let class = one_job_class k.class (for_class (takes_one_job k.class) at_class.0) in
-    subst (λ z. z ≤ℤ cost k rows) (ap bound_in at_job.1) (one_job-le-cost k rows fits class j (job_fault_says k j at_job.0))
+    subst (λ z. z ≤ℤ cost k rows) (ap bound_in at_job.1)
+    (one_job-le-cost k rows fits class j (job_fault_says k j at_job.0))
 
 pairs_class : (c : Class) → takes_pairs c ≡ true → (objective_of c ≡ Total) × (is_single c ≡ true)
 pairs_class c e =
     let facts = and_parts (is_sum c) (is_single c) e in
     (total c facts.0, facts.1)
 
-pub pairs_law : (k : SchedulingTask) (rows : Timetable) (b : ℤ) → IsSound k → pairs_bound k ≡ Ok b → FitsBroken k rows → b ≤ℤ cost k rows
+pub pairs_law : (k : SchedulingTask) (rows : Timetable) (b : ℤ) → IsSound k → pairs_bound k ≡ Ok b
+    → FitsBroken k rows → b ≤ℤ cost k rows
 pairs_law k rows b sound is fits =
     let parts = unless_ok (other_kind (takes_pairs k.class)) (Ok (pos (pairs_value k))) b is in
     let class = pairs_class k.class (for_class (takes_pairs k.class) parts.0) in
-    subst (λ z. z ≤ℤ cost k rows) (ap bound_in parts.1) (pairs-le-cost k rows sound fits class.1 class.0)
+    subst (λ z. z ≤ℤ cost k rows) (ap bound_in parts.1)
+    (pairs-le-cost k rows sound fits class.1 class.0)
 
-machine_class : (c : Class) → takes_machine c ≡ true → (objective_of c ≡ Makespan) × (is_shop c ≡ true)
+machine_class : (c : Class) → takes_machine c ≡ true
+    → (objective_of c ≡ Makespan) × (is_shop c ≡ true)
 machine_class c e =
     let facts = and_parts (is_span c) (is_shop c && not (is_flow c)) e in
     (spanning c facts.0, (and_parts (is_shop c) (not (is_flow c)) facts.1).0)
@@ -206,71 +258,105 @@ machine_class c e =
 machine_fault_says : (machine : ℕ) → machine_fault machine ≡ None → machine - 1 < 2
 machine_fault_says machine e = by_test (nat_lt 0 machine && nat_le machine 2) refl e
   where
-    by_test : (t : Bool) → (nat_lt 0 machine && nat_le machine 2) ≡ t → cond t None (Some (BadMachine machine)) ≡ None → machine - 1 < 2
-    by_test true e h = let p = and_parts (nat_lt 0 machine) (nat_le machine 2) e in omega (arith, leb-true machine 2 p.1)
+    by_test : (t : Bool) → (nat_lt 0 machine && nat_le machine 2) ≡ t
+        → cond t None (Some (BadMachine machine)) ≡ None → machine - 1 < 2
+    by_test true e h = let p = and_parts (nat_lt 0 machine) (nat_le machine 2) e in
+        omega (arith, leb-true machine 2 p.1)
     by_test false e h = cc
 
-pub machine_law : (k : SchedulingTask) (machine : ℕ) (rows : Timetable) (b : ℤ) → IsSound k → machine_bound k machine ≡ Ok b → FitsBroken k rows → b ≤ℤ cost k rows
+pub machine_law : (k : SchedulingTask) (machine : ℕ) (rows : Timetable) (b : ℤ) → IsSound k
+    → machine_bound k machine ≡ Ok b → FitsBroken k rows → b ≤ℤ cost k rows
 machine_law k machine rows b sound is fits =
-    let given : Result ℤ BoundFault = Ok (pos (sum_by (λ j. time_on k j (machine - 1)) (all_jobs k))) in
-    let at_class = unless_ok (other_kind (takes_machine k.class)) (unless (machine_fault machine) given) b is in
+    let given : Result ℤ BoundFault =
+    Ok (pos (sum_by (λ j. time_on k j (machine - 1)) (all_jobs k))) in
+    let at_class =
+    unless_ok (other_kind (takes_machine k.class)) (unless (machine_fault machine) given) b
+    is in
     let at_machine = unless_ok (machine_fault machine) given b at_class.1 in
     let class = machine_class k.class (for_class (takes_machine k.class) at_class.0) in
-    subst (λ z. z ≤ℤ cost k rows) (ap bound_in at_machine.1) (machine-le-cost k rows sound fits class.0 class.1 (machine - 1) (machine_fault_says machine at_machine.0))
+    subst (λ z. z ≤ℤ cost k rows) (ap bound_in at_machine.1)
+    (machine-le-cost k rows sound fits class.0 class.1 (machine - 1)
+    (machine_fault_says machine at_machine.0))
 
-last_of_class : (c : Class) → takes_last_of c ≡ true → ((o : Objective) × (objective_of c ≡ o) × ((k : SchedulingTask) (rows : Timetable) → cost_by o k rows ≡ greatest_price k rows)) × (is_single c ≡ true)
+last_of_class : (c : Class) → takes_last_of c ≡ true
+    → ((o : Objective) × (objective_of c ≡ o)
+    × ((k : SchedulingTask) (rows : Timetable) → cost_by o k rows ≡ greatest_price k rows))
+    × (is_single c ≡ true)
 last_of_class c e =
-    let facts = and_parts (not (is_sum c)) (is_single c && not (is_released c)) e in
-    ((objective_of c, refl, by (objective_of c) (not-true (is_sum c) facts.0)), (and_parts (is_single c) (not (is_released c)) facts.1).0)
+    let facts = and_parts (not (is_sum c)) (is_single c && not (is_released c)) e in (
+      (objective_of c, refl, by (objective_of c) (not-true (is_sum c) facts.0)),
+      (and_parts (is_single c) (not (is_released c)) facts.1).0,
+    )
   where
-    by : (o : Objective) → is_total o ≡ false → (k : SchedulingTask) (rows : Timetable) → cost_by o k rows ≡ greatest_price k rows
+    by : (o : Objective) → is_total o ≡ false → (k : SchedulingTask) (rows : Timetable)
+        → cost_by o k rows ≡ greatest_price k rows
     by Total h k rows = absurd (false≢true (sym h))
     by _ h k rows = refl
 
-is_free_says : (k : SchedulingTask) (jobs : List ℕ) (j : ℕ) → HasNoSuccessorIn k jobs j → is_free k jobs j ≡ true
+is_free_says : (k : SchedulingTask) (jobs : List ℕ) (j : ℕ) → HasNoSuccessorIn k jobs j
+    → is_free k jobs j ≡ true
 is_free_says k jobs j none =
     list_all-from_AllPass (λ arc. not ((arc.0 == j) && stands_in jobs arc.1)) k.arcs
     (λ i d h.
     let arc : ℕ × ℕ = slice_index_or k.arcs i d in
     ⊎_elim
-    (λ both. let p = and_parts (arc.0 == j) (stands_in jobs arc.1) both in absurd (none i d h (eqb-true arc.0 j p.0) (stands_in_says jobs arc.1 p.1)))
+    (λ both. let p = and_parts (arc.0 == j) (stands_in jobs arc.1) both in
+    absurd (none i d h (eqb-true arc.0 j p.0) (stands_in_says jobs arc.1 p.1)))
     (λ no. ap not no)
     (cases_Bool ((arc.0 == j) && stands_in jobs arc.1)))
 
-pub last_of_law : (k : SchedulingTask) (jobs : List ℕ) (rows : Timetable) (b : ℤ) → IsSound k → last_of_bound k jobs ≡ Ok b → FitsBroken k rows → b ≤ℤ cost k rows
+pub last_of_law : (k : SchedulingTask) (jobs : List ℕ) (rows : Timetable) (b : ℤ) → IsSound k
+    → last_of_bound k jobs ≡ Ok b → FitsBroken k rows → b ≤ℤ cost k rows
 last_of_law k jobs rows b sound is fits =
     let h : ℕ → ℤ = λ j. price k j (sum_by (time_of k) jobs) in
     let given : Result ℤ BoundFault = Ok (least h (free_jobs k jobs)) in
-    let at_class = unless_ok (other_kind (takes_last_of k.class)) (unless (list_fault k [] jobs) (unless (empty_fault jobs) (unless (no_free_fault (free_jobs k jobs) jobs) given))) b is in
-    let at_list = unless_ok (list_fault k [] jobs) (unless (empty_fault jobs) (unless (no_free_fault (free_jobs k jobs) jobs) given)) b at_class.1 in
-    let at_empty = unless_ok (empty_fault jobs) (unless (no_free_fault (free_jobs k jobs) jobs) given) b at_list.1 in
+    let at_class =
+    unless_ok (other_kind (takes_last_of k.class))
+    (unless (list_fault k [] jobs)
+    (unless (empty_fault jobs) (unless (no_free_fault (free_jobs k jobs) jobs) given))) b is in
+    let at_list =
+    unless_ok (list_fault k [] jobs)
+    (unless (empty_fault jobs) (unless (no_free_fault (free_jobs k jobs) jobs) given)) b
+    at_class.1 in
+    let at_empty =
+    unless_ok (empty_fault jobs) (unless (no_free_fault (free_jobs k jobs) jobs) given) b
+    at_list.1 in
     let at_free = unless_ok (no_free_fault (free_jobs k jobs) jobs) given b at_empty.1 in
     let class = last_of_class k.class (for_class (takes_last_of k.class) at_class.0) in
     let list = list_fault_says k [] jobs at_list.0 in
-    let all = filter_says (λ j. least h (free_jobs k jobs) ≤ℤ h j) (is_free k jobs) jobs (least_says h (free_jobs k jobs)) in
+    let all = filter_says (λ j. least h (free_jobs k jobs) ≤ℤ h j) (is_free k jobs) jobs
+    (least_says h (free_jobs k jobs)) in
     subst (λ z. z ≤ℤ cost k rows) (ap bound_in at_free.1)
-    (last_of-le-cost k rows sound fits class.1 (class.0).0 (class.0).1 ((class.0).2 k rows) jobs (λ c. (list.1 c).1) list.0 (empty_fault_says jobs at_empty.0)
+    (last_of-le-cost k rows sound fits class.1 (class.0).0 (class.0).1 ((class.0).2 k rows) jobs
+    (λ c. (list.1 c).1) list.0 (empty_fault_says jobs at_empty.0)
     (least h (free_jobs k jobs))
-    (λ j in' none. All-contains (λ i. is_free k jobs i ≡ true → least h (free_jobs k jobs) ≤ℤ h i) jobs j all in' (is_free_says k jobs j none)))
+    (λ j in' none. All-contains (λ i. is_free k jobs i ≡ true → least h (free_jobs k jobs) ≤ℤ h i)
+    jobs j all in' (is_free_says k jobs j none)))
 
-window_class : (c : Class) → takes_window c ≡ true → (objective_of c ≡ Lateness) × (is_single c ≡ true)
+window_class : (c : Class) → takes_window c ≡ true
+    → (objective_of c ≡ Lateness) × (is_single c ≡ true)
 window_class c e =
     let facts = and_parts (is_due c) (is_single c && is_released c) e in
     (late c facts.0, (and_parts (is_single c) (is_released c) facts.1).0)
 
-pub window_law : (k : SchedulingTask) (jobs : List ℕ) (rows : Timetable) (b : ℤ) → IsSound k → window_bound k jobs ≡ Ok b → FitsBroken k rows → b ≤ℤ cost k rows
+pub window_law : (k : SchedulingTask) (jobs : List ℕ) (rows : Timetable) (b : ℤ) → IsSound k
+    → window_bound k jobs ≡ Ok b → FitsBroken k rows → b ≤ℤ cost k rows
 window_law k jobs rows b sound is fits =
     let r : ℕ = least_number (λ j. (job_data k j).release) jobs in
     let due : ℤ = greatest (λ j. (job_data k j).due) jobs in
     let given : Result ℤ BoundFault = Ok (pos (r + sum_by (time_of k) jobs) -ℤ due) in
-    let at_class = unless_ok (other_kind (takes_window k.class)) (unless (list_fault k [] jobs) (unless (empty_fault jobs) given)) b is in
+    let at_class =
+    unless_ok (other_kind (takes_window k.class))
+    (unless (list_fault k [] jobs) (unless (empty_fault jobs) given)) b is in
     let at_list = unless_ok (list_fault k [] jobs) (unless (empty_fault jobs) given) b at_class.1 in
     let at_empty = unless_ok (empty_fault jobs) given b at_list.1 in
     let class = window_class k.class (for_class (takes_window k.class) at_class.0) in
     let list = list_fault_says k [] jobs at_list.0 in
     subst (λ z. z ≤ℤ cost k rows) (ap bound_in at_empty.1)
-    (window-le-cost k rows sound fits class.1 class.0 jobs (λ c. (list.1 c).1) list.0 (empty_fault_says jobs at_empty.0)
-    r (least_number_says (λ j. (job_data k j).release) jobs) due (greatest_says (λ j. (job_data k j).due) jobs))
+    (window-le-cost k rows sound fits class.1 class.0 jobs (λ c. (list.1 c).1) list.0
+    (empty_fault_says jobs at_empty.0)
+    r (least_number_says (λ j. (job_data k j).release) jobs) due
+    (greatest_says (λ j. (job_data k j).due) jobs))
 
 record OfRanks (c : Class) : Type 0 where
   total : objective_of c ≡ Total
@@ -282,32 +368,52 @@ ranks_class : (c : Class) → takes_ranks c ≡ true → OfRanks c
 ranks_class c e =
     let facts = and_parts (is_sum c) (is_parallel c && not (may_break c)) e in
     let dealt = and_parts (is_parallel c) (not (may_break c)) facts.1 in
-    record { total = total c facts.0; one_time = parallel_is_no_shop c dealt.0; unweighted = parallel_unweighted c dealt.0; whole = not-true (may_break c) dealt.1 }
+    record {
+      total = total c facts.0;
+      one_time = parallel_is_no_shop c dealt.0;
+      unweighted =
+          parallel_unweighted c dealt.0;
+      whole = not-true (may_break c) dealt.1;
+    }
 
-longer_fault_says : (k : SchedulingTask) (t : ℕ) (jobs : List ℕ) → longer_fault k t jobs ≡ None → Falling (time_of k) t jobs
+longer_fault_says : (k : SchedulingTask) (t : ℕ) (jobs : List ℕ) → longer_fault k t jobs ≡ None
+    → Falling (time_of k) t jobs
 longer_fault_says k t [] e = tt
-longer_fault_says k t (j ∷ jobs) e = by_test (nat_lt t (time_of k j)) refl e (longer_fault_says k (time_of k j) jobs)
+longer_fault_says k t (j ∷ jobs) e =
+    by_test (nat_lt t (time_of k j)) refl e (longer_fault_says k (time_of k j) jobs)
   where
-    by_test : (s : Bool) → nat_lt t (time_of k j) ≡ s → cond s (Some (Condition j)) (longer_fault k (time_of k j) jobs) ≡ None → (longer_fault k (time_of k j) jobs ≡ None → Falling (time_of k) (time_of k j) jobs) → Falling (time_of k) t (j ∷ jobs)
+    by_test : (s : Bool) → nat_lt t (time_of k j) ≡ s
+        → cond s (Some (Condition j)) (longer_fault k (time_of k j) jobs) ≡ None
+        → (longer_fault k (time_of k j) jobs ≡ None → Falling (time_of k) (time_of k j) jobs)
+        → Falling (time_of k) t (j ∷ jobs)
     by_test true s h rest = cc
     by_test false s h rest = (ltb-false t (time_of k j) s, rest h)
 
-ranks_fault_says : (k : SchedulingTask) (jobs : List ℕ) → ranks_fault k jobs ≡ None → (t : ℕ) × Falling (time_of k) t jobs
+ranks_fault_says : (k : SchedulingTask) (jobs : List ℕ) → ranks_fault k jobs ≡ None
+    → (t : ℕ) × Falling (time_of k) t jobs
 ranks_fault_says k [] e = (0, tt)
-ranks_fault_says k (j ∷ jobs) e = (time_of k j, (omega arith, longer_fault_says k (time_of k j) jobs e))
+ranks_fault_says k (j ∷ jobs) e =
+    (time_of k j, (omega arith, longer_fault_says k (time_of k j) jobs e))
 
-pub ranks_law : (k : SchedulingTask) (jobs : List ℕ) (rows : Timetable) (b : ℤ) → IsSound k → ranks_bound k jobs ≡ Ok b → Fits k rows → b ≤ℤ cost k rows
+pub ranks_law : (k : SchedulingTask) (jobs : List ℕ) (rows : Timetable) (b : ℤ) → IsSound k
+    → ranks_bound k jobs ≡ Ok b → Fits k rows → b ≤ℤ cost k rows
 ranks_law k jobs rows b sound is fits =
     let given : Result ℤ BoundFault = Ok (pos (ranks_value k jobs)) in
-    let at_class = unless_ok (other_kind (takes_ranks k.class)) (unless (list_fault k [] jobs) (unless (empty_fault jobs) (unless (ranks_fault k jobs) given))) b is in
-    let at_list = unless_ok (list_fault k [] jobs) (unless (empty_fault jobs) (unless (ranks_fault k jobs) given)) b at_class.1 in
+    let at_class =
+    unless_ok (other_kind (takes_ranks k.class))
+    (unless (list_fault k [] jobs)
+    (unless (empty_fault jobs) (unless (ranks_fault k jobs) given))) b is in
+    let at_list =
+    unless_ok (list_fault k [] jobs)
+    (unless (empty_fault jobs) (unless (ranks_fault k jobs) given)) b at_class.1 in
     let at_empty = unless_ok (empty_fault jobs) (unless (ranks_fault k jobs) given) b at_list.1 in
     let at_ranks = unless_ok (ranks_fault k jobs) given b at_empty.1 in
     let class = ranks_class k.class (for_class (takes_ranks k.class) at_class.0) in
     let list = list_fault_says k [] jobs at_list.0 in
     let falling = ranks_fault_says k jobs at_ranks.0 in
     subst (λ z. z ≤ℤ cost k rows) (ap bound_in at_ranks.1)
-    (ranks-le-cost k rows sound fits.broken (fits.unbroken class.whole) class.one_time class.total falling.0 jobs (λ c. (list.1 c).1) list.0 falling.1 class.unweighted)
+    (ranks-le-cost k rows sound fits.broken (fits.unbroken class.whole) class.one_time class.total
+    falling.0 jobs (λ c. (list.1 c).1) list.0 falling.1 class.unweighted)
 
 split_class : (c : Class) → takes_split c ≡ true → (objective_of c ≡ Makespan) × (is_flow c ≡ true)
 split_class c e =
@@ -315,22 +421,41 @@ split_class c e =
     (spanning c facts.0, facts.1)
 
 -- each job keeps its condition
-side_fault_says : (k : SchedulingTask) (side : List ℕ) (delta : ℤ) (first : Bool) → side_fault k side delta first ≡ None → (j : ℕ) → IsJob k j → keeps_side k side delta first j ≡ true
+side_fault_says : (k : SchedulingTask) (side : List ℕ) (delta : ℤ) (first : Bool)
+    → side_fault k side delta first ≡ None → (j : ℕ) → IsJob k j
+    → keeps_side k side delta first j ≡ true
 side_fault_says k side delta first e j job =
     not-false (keeps_side k side delta first j)
-    (All-contains (λ i. not (keeps_side k side delta first i) ≡ false) (all_jobs k) j (find_says (λ i. not (keeps_side k side delta first i)) (all_jobs k) e) (Contains-all_jobs k j job))
+    (All-contains (λ i. not (keeps_side k side delta first i) ≡ false) (all_jobs k) j
+    (find_says (λ i. not (keeps_side k side delta first i)) (all_jobs k) e)
+    (Contains-all_jobs k j job))
 
-pub delta_fault_says : (k : SchedulingTask) (side : List ℕ) (delta : ℤ) (first : Bool) → delta_fault k side delta first ≡ None → (int_le (pos 0) delta ≡ true) × ((x : ℕ) × IsJob k x × (reaches_delta k side delta first x ≡ true))
-delta_fault_says k side delta first e = by_test (int_le (pos 0) delta && list_any (reaches_delta k side delta first) (all_jobs k)) refl e
+pub delta_fault_says : (k : SchedulingTask) (side : List ℕ) (delta : ℤ) (first : Bool)
+    → delta_fault k side delta first ≡ None
+    → (int_le (pos 0) delta ≡ true)
+    × ((x : ℕ) × IsJob k x × (reaches_delta k side delta first x ≡ true))
+delta_fault_says k side delta first e =
+    by_test (int_le (pos 0) delta && list_any (reaches_delta k side delta first) (all_jobs k)) refl
+    e
   where
-    by_test : (t : Bool) → (int_le (pos 0) delta && list_any (reaches_delta k side delta first) (all_jobs k)) ≡ t → cond t None (Some BadDelta) ≡ None → (int_le (pos 0) delta ≡ true) × ((x : ℕ) × IsJob k x × (reaches_delta k side delta first x ≡ true))
+    by_test : (t : Bool)
+        → (int_le (pos 0) delta && list_any (reaches_delta k side delta first) (all_jobs k)) ≡ t
+        → cond t None (Some BadDelta) ≡ None
+        → (int_le (pos 0) delta ≡ true)
+        × ((x : ℕ) × IsJob k x × (reaches_delta k side delta first x ≡ true))
     by_test true e h =
-        let p = and_parts (int_le (pos 0) delta) (list_any (reaches_delta k side delta first) (all_jobs k)) e in
-        (p.0, list_any_says (IsJob k) (reaches_delta k side delta first) (all_jobs k) (All-all_jobs k (IsJob k) (λ j h. h)) p.1)
+        let p = and_parts (int_le (pos 0) delta)
+        (list_any (reaches_delta k side delta first) (all_jobs k)) e in (
+          p.0,
+          list_any_says (IsJob k) (reaches_delta k side delta first) (all_jobs k)
+              (All-all_jobs k (IsJob k) (λ j h. h)) p.1,
+        )
     by_test false e h = cc
 
-split_from : (k : SchedulingTask) (rows : Timetable) (side : List ℕ) (delta : ℤ) (first : Bool) → IsSound k → FitsBroken k rows → objective_of k.class ≡ Makespan → is_flow k.class ≡ true
-    → ((j : ℕ) → IsJob k j → keeps_side k side delta first j ≡ true) → (int_le (pos 0) delta ≡ true) × ((x : ℕ) × IsJob k x × (reaches_delta k side delta first x ≡ true))
+split_from : (k : SchedulingTask) (rows : Timetable) (side : List ℕ) (delta : ℤ) (first : Bool)
+    → IsSound k → FitsBroken k rows → objective_of k.class ≡ Makespan → is_flow k.class ≡ true
+    → ((j : ℕ) → IsJob k j → keeps_side k side delta first j ≡ true) → (int_le (pos 0) delta ≡ true)
+    × ((x : ℕ) × IsJob k x × (reaches_delta k side delta first x ≡ true))
     → pos (split_value k side (unsigned_abs delta)) ≤ℤ cost k rows
 split_from k rows side (negsuc d) first sound fits is flow keeps reach = absurd (false≢true reach.0)
 split_from k rows side (pos d) true sound fits is flow keeps reach =
@@ -338,45 +463,69 @@ split_from k rows side (pos d) true sound fits is flow keeps reach =
     let at_x = and_parts (not (stands_in side x.0)) (nat_le d (time_on k x.0 0)) x.2 in
     split_first-le-cost k rows sound fits is flow side d
     (λ j job e. leb-true (time_on k j 0) (time_on k j 1)
-    (sym (ap (λ t. cond t (nat_le (time_on k j 0) (time_on k j 1)) (nat_le d (time_on k j 0) || nat_le (time_on k j 1) (time_on k j 0))) e) ∙ keeps j job))
+    (sym (ap (λ t. cond t (nat_le (time_on k j 0) (time_on k j 1))
+    (nat_le d (time_on k j 0) || nat_le (time_on k j 1) (time_on k j 0))) e) ∙ keeps j job))
     (λ j job e. either d (time_on k j 0) (time_on k j 1)
-    (sym (ap (λ t. cond t (nat_le (time_on k j 0) (time_on k j 1)) (nat_le d (time_on k j 0) || nat_le (time_on k j 1) (time_on k j 0))) e) ∙ keeps j job))
+    (sym (ap (λ t. cond t (nat_le (time_on k j 0) (time_on k j 1))
+    (nat_le d (time_on k j 0) || nat_le (time_on k j 1) (time_on k j 0))) e) ∙ keeps j job))
     x.0 x.1 (not-true (stands_in side x.0) at_x.0) (leb-true d (time_on k x.0 0) at_x.1)
   where
     either : (d a b : ℕ) → (nat_le d a || nat_le b a) ≡ true → (d ≤ a) ⊎ (b ≤ a)
-    either d a b e = ⊎_elim (λ p. inl (leb-true d a p)) (λ p. inr (leb-true b a p)) (or_cases (nat_le d a) (nat_le b a) e)
+    either d a b e =
+        ⊎_elim (λ p. inl (leb-true d a p)) (λ p. inr (leb-true b a p))
+        (or_cases (nat_le d a) (nat_le b a) e)
 split_from k rows side (pos d) false sound fits is flow keeps reach =
     let x = reach.1 in
     let at_x = and_parts (stands_in side x.0) (nat_le d (time_on k x.0 1)) x.2 in
     split_second-le-cost k rows sound fits is flow side d
     (λ j job e. leb-true (time_on k j 1) (time_on k j 0)
-    (sym (ap (λ t. cond t (nat_le d (time_on k j 1) || nat_le (time_on k j 0) (time_on k j 1)) (nat_le (time_on k j 1) (time_on k j 0))) e) ∙ keeps j job))
+    (sym (ap (λ t. cond t (nat_le d (time_on k j 1) || nat_le (time_on k j 0) (time_on k j 1))
+    (nat_le (time_on k j 1) (time_on k j 0))) e) ∙ keeps j job))
     (λ j job e. either d (time_on k j 1) (time_on k j 0)
-    (sym (ap (λ t. cond t (nat_le d (time_on k j 1) || nat_le (time_on k j 0) (time_on k j 1)) (nat_le (time_on k j 1) (time_on k j 0))) e) ∙ keeps j job))
+    (sym (ap (λ t. cond t (nat_le d (time_on k j 1) || nat_le (time_on k j 0) (time_on k j 1))
+    (nat_le (time_on k j 1) (time_on k j 0))) e) ∙ keeps j job))
     x.0 x.1 at_x.0 (leb-true d (time_on k x.0 1) at_x.1)
   where
     either : (d a b : ℕ) → (nat_le d a || nat_le b a) ≡ true → (d ≤ a) ⊎ (b ≤ a)
-    either d a b e = ⊎_elim (λ p. inl (leb-true d a p)) (λ p. inr (leb-true b a p)) (or_cases (nat_le d a) (nat_le b a) e)
+    either d a b e =
+        ⊎_elim (λ p. inl (leb-true d a p)) (λ p. inr (leb-true b a p))
+        (or_cases (nat_le d a) (nat_le b a) e)
 
-pub split_law : (k : SchedulingTask) (side : List ℕ) (delta : ℤ) (first : Bool) (rows : Timetable) (b : ℤ) → IsSound k → split_bound k side delta first ≡ Ok b → FitsBroken k rows → b ≤ℤ cost k rows
+pub split_law : (k : SchedulingTask) (side : List ℕ) (delta : ℤ) (first : Bool) (rows : Timetable)
+    (b : ℤ)
+    → IsSound k → split_bound k side delta first ≡ Ok b → FitsBroken k rows → b ≤ℤ cost k rows
 split_law k side delta first rows b sound is fits =
     let given : Result ℤ BoundFault = Ok (pos (split_value k side (unsigned_abs delta))) in
-    let at_class = unless_ok (other_kind (takes_split k.class)) (unless (list_fault k [] side) (unless (side_fault k side delta first) (unless (delta_fault k side delta first) given))) b is in
-    let at_list = unless_ok (list_fault k [] side) (unless (side_fault k side delta first) (unless (delta_fault k side delta first) given)) b at_class.1 in
-    let at_side = unless_ok (side_fault k side delta first) (unless (delta_fault k side delta first) given) b at_list.1 in
+    let at_class =
+    unless_ok (other_kind (takes_split k.class))
+    (unless (list_fault k [] side)
+    (unless (side_fault k side delta first) (unless (delta_fault k side delta first) given))) b
+    is in
+    let at_list =
+    unless_ok (list_fault k [] side)
+    (unless (side_fault k side delta first) (unless (delta_fault k side delta first) given)) b
+    at_class.1 in
+    let at_side =
+    unless_ok (side_fault k side delta first) (unless (delta_fault k side delta first) given) b
+    at_list.1 in
     let at_delta = unless_ok (delta_fault k side delta first) given b at_side.1 in
     let class = split_class k.class (for_class (takes_split k.class) at_class.0) in
     subst (λ z. z ≤ℤ cost k rows) (ap bound_in at_delta.1)
-    (split_from k rows side delta first sound fits class.0 class.1 (side_fault_says k side delta first at_side.0) (delta_fault_says k side delta first at_delta.0))
+    (split_from k rows side delta first sound fits class.0 class.1
+    (side_fault_says k side delta first at_side.0)
+    (delta_fault_says k side delta first at_delta.0))
 
 -- ---- any kind
 
-pub bound_law : (c : Claim) (k : SchedulingTask) (rows : Timetable) (b : ℤ) → IsSound k → bound_by c k ≡ Ok b → Fits k rows → b ≤ℤ cost k rows
+pub bound_law : (c : Claim) (k : SchedulingTask) (rows : Timetable) (b : ℤ) → IsSound k
+    → bound_by c k ≡ Ok b → Fits k rows → b ≤ℤ cost k rows
 bound_law ByPairs k rows b sound is fits = pairs_law k rows b sound is fits.broken
 bound_law (ByLastOf jobs) k rows b sound is fits = last_of_law k jobs rows b sound is fits.broken
 bound_law (ByWindow jobs) k rows b sound is fits = window_law k jobs rows b sound is fits.broken
-bound_law (BySplit side delta first) k rows b sound is fits = split_law k side delta first rows b sound is fits.broken
+bound_law (BySplit side delta first) k rows b sound is fits =
+    split_law k side delta first rows b sound is fits.broken
 bound_law ByLoad k rows b sound is fits = load_law k rows b sound is fits.broken
-bound_law (ByMachine machine) k rows b sound is fits = machine_law k machine rows b sound is fits.broken
+bound_law (ByMachine machine) k rows b sound is fits =
+    machine_law k machine rows b sound is fits.broken
 bound_law (ByOneJob j) k rows b sound is fits = one_job_law k j rows b sound is fits.broken
 bound_law (ByRanks jobs) k rows b sound is fits = ranks_law k jobs rows b sound is fits

@@ -34,10 +34,13 @@ pub record IsFeasible (k : SchedulingTask) (a : AnswerData) : Type 0 where
 -- this is what is wrong with the answer, and nothing that is judged before it
 abbrev pub HasReason : SchedulingTask → AnswerData → Reason → Type 0
 HasReason k a (Pieces fault) = HasFirstFault a.pieces fault
-HasReason k a (Misfit misfit) = (ps : List Piece) × IsPermutation a.pieces ps × IsSchedule ps × HasFirstMisfit k ps misfit × (misfit ≢ OutOfMemory)
-HasReason k a WrongValue = (rows : Timetable) × DrawsFitting k a.pieces rows × (cost k rows ≢ a.value)
+HasReason k a (Misfit misfit) = (ps : List Piece) × IsPermutation a.pieces ps × IsSchedule ps
+    × HasFirstMisfit k ps misfit × (misfit ≢ OutOfMemory)
+HasReason k a WrongValue = (rows : Timetable) × DrawsFitting k a.pieces rows
+    × (cost k rows ≢ a.value)
 HasReason k a (Bound fault) = IsFeasible k a × (bound_by a.certificate k ≡ Err fault)
-HasReason k a BoundBelowValue = IsFeasible k a × (bound : ℤ) × (bound_by a.certificate k ≡ Ok bound) × (bound <ℤ a.value)
+HasReason k a BoundBelowValue = IsFeasible k a × (bound : ℤ) × (bound_by a.certificate k ≡ Ok bound)
+    × (bound <ℤ a.value)
 
 -- the verdict on the answer
 abbrev pub HasVerdict : SchedulingTask → AnswerData → Verdict → Type 0

@@ -4,7 +4,8 @@ use std::alloc::{Allocator, Global};
 use std::marker::Model;
 use tf_schedule::piece_list::PieceList;
 
-/// An answer to a task: the pieces of a timetable, what it costs, and the certificate that none costs less.
+/// An answer to a task: the pieces of a timetable, what it costs, and the certificate that none
+/// costs less.
 #[derive(Drop)]
 pub struct Answer<A: Allocator = Global> {
     pub pieces: PieceList<A>,
@@ -19,5 +20,6 @@ impl<A: Allocator> Model for Answer<A> {
 
     ghost Value = { AnswerData };
 
-    ghost view = { λ a. record { pieces = a.pieces; value = a.value; certificate = claim_of a.certificate } };
+    ghost view = { λ a.
+        record { pieces = a.pieces; value = a.value; certificate = claim_of a.certificate } };
 }

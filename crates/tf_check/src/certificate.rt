@@ -12,7 +12,8 @@ use crate::window::Window;
 use std::alloc::{Allocator, Global};
 use tf_model::task::Task;
 
-/// What an answer hands over to show that it is best: no timetable of the task costs less than its bound.
+/// What an answer hands over to show that it is best: no timetable of the task costs less than its
+/// bound.
 #[derive(Drop)]
 pub enum Certificate<A: Allocator = Global> {
     Pairs(Pairs),

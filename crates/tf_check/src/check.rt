@@ -22,8 +22,10 @@ pub fn check<A: Allocator + Copy, B: Allocator, C: Allocator>(
     answer: &Answer<C>,
 ) -> Result<Verdict, OutOfMemory>
     ensures verdict { IfOk result (HasVerdict task.now answer.now) }
-    ensures accepted { IsAccepted task.now answer.now → IfOk result (λ verdict. verdict ≡ Verdict.Accepted) }
-    ensures best { IfOk result (λ verdict. verdict ≡ Verdict.Accepted → IsBestAnswer task.now answer.now) }
+    ensures accepted { IsAccepted task.now answer.now →
+        IfOk result (λ verdict. verdict ≡ Verdict.Accepted) }
+    ensures best { IfOk result
+        (λ verdict. verdict ≡ Verdict.Accepted → IsBestAnswer task.now answer.now) }
 {
     // Each reader of a task says that it is sound, as the bounds ask.
     let _class = task.class();
@@ -42,7 +44,9 @@ fn reason_in_timetable<A: Allocator + Copy, B: Allocator, C: Allocator>(
     task: &Task<B>,
     answer: &Answer<C>,
 ) -> Result<Option<Reason>, OutOfMemory>
-    ensures { IfOk result (λ reason. MatchOption reason (IsFeasible task.now answer.now) (HasReason task.now answer.now)) }
+    ensures { IfOk result
+        (λ reason. MatchOption reason (IsFeasible task.now answer.now)
+        (HasReason task.now answer.now)) }
 {
     let schedule = match Schedule::new(answer.pieces.as_slice().to_vec(alloc)?) {
         Ok(schedule) => schedule,
@@ -66,7 +70,9 @@ fn reason_in_bound<A: Allocator + Copy, B: Allocator, C: Allocator>(
     answer: &Answer<C>,
 ) -> Result<Option<Reason>, OutOfMemory>
     requires { IsFeasible task.now answer.now }
-    ensures { IfOk result (λ reason. MatchOption reason (IsAccepted task.now answer.now) (HasReason task.now answer.now)) }
+    ensures { IfOk result
+        (λ reason. MatchOption reason (IsAccepted task.now answer.now)
+        (HasReason task.now answer.now)) }
 {
     match answer.certificate.bound(alloc, task) {
         Ok(bound) if i128::from(answer.value) <= bound => Ok(None),

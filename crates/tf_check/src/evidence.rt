@@ -26,5 +26,6 @@ pub trait Evidence {
         ensures { IsBoundOrNoMemory result (bound_of self.now task.now) };
 
     /// A bound that is given is at most the cost of every timetable that fits.
-    ghost law: { (c : Self) (k : SchedulingTask) (rows : Timetable) (b : ℤ) → IsSound k → bound_of c k ≡ Ok b → Fits k rows → b ≤ℤ cost k rows };
+    ghost law: { (c : Self) (k : SchedulingTask) (rows : Timetable) (b : ℤ) → IsSound k →
+        bound_of c k ≡ Ok b → Fits k rows → b ≤ℤ cost k rows };
 }

@@ -11,13 +11,15 @@ use std::alloc::Allocator;
 use tf_model::ids::JobId;
 use tf_model::task::Task;
 
-// The first job, from left to right, that the task does not have or that stood before, is the fault.
+// The first job, from left to right, that the task does not have or that stood before, is the
+// fault.
 pub(crate) fn judge_list<A: Allocator, B: Allocator>(
     alloc: A,
     task: &Task<B>,
     jobs: &[JobId],
 ) -> Result<(), BoundFault>
-    ensures { MatchResult result (λ _. list_fault task.now [] jobs.now ≡ None) (λ fault. (fault ≡ OutOfMemory) ⊎ (list_fault task.now [] jobs.now ≡ Some fault)) }
+    ensures { MatchResult result (λ _. list_fault task.now [] jobs.now ≡ None)
+        (λ fault. (fault ≡ OutOfMemory) ⊎ (list_fault task.now [] jobs.now ≡ Some fault)) }
 {
     let Ok(mut seen) = vec![in alloc; false; task.len()] else {
         return Err(BoundFault::OutOfMemory);

@@ -16,8 +16,8 @@ use tf_model::ids::JobId;
 use tf_model::job_list::JobList;
 use tf_model::task::Task;
 
-/// Jobs by falling time: on m machines the k-th from the end counts at least k / m times, rounded up
-/// (Conway, Maxwell and Miller 1967).
+/// Jobs by falling time: on m machines the k-th from the end counts at least k / m times, rounded
+/// up (Conway, Maxwell and Miller 1967).
 #[derive(Drop)]
 pub struct Ranks<A: Allocator = Global> {
     pub jobs: JobList<A>,

@@ -17,68 +17,124 @@ use Rattle.tf_engine.specs.Refusal.{refused_by}
 use Rattle.tf_engine.proofs.Unread.{text_for, long_text_for}
 
 -- bytes that were given up to the reader's end are its text
-pub all_given : (old new : Option (List ℕ)) (bytes : List ℕ) → Consumes old new bytes → IsAtEnd new → IsTextOf old bytes
+pub all_given : (old new : Option (List ℕ)) (bytes : List ℕ) → Consumes old new bytes → IsAtEnd new
+    → IsTextOf old bytes
 all_given old new bytes given end = Consumes-whole old new bytes (λ all. bytes ≡ all) given end refl
 
 -- a reader that gave too many has a text that is too long
-longer : (old new : Option (List ℕ)) (bytes : List ℕ) → Consumes old new bytes → MOST_BYTES < length bytes → IfSome old (λ all. MOST_BYTES < length all)
+longer : (old new : Option (List ℕ)) (bytes : List ℕ) → Consumes old new bytes
+    → MOST_BYTES < length bytes → IfSome old (λ all. MOST_BYTES < length all)
 longer None new bytes given more = tt
 longer (Some all) None bytes given more = absurd given
-longer (Some all) (Some rest) bytes given more = omega (arith, ap length given, length-append bytes rest, more)
+longer (Some all) (Some rest) bytes given more =
+    omega (arith, ap length given, length-append bytes rest, more)
 
-module _ (X A : Type 0) (says : List ℕ → Result X ReadFault) (old new : Option (List ℕ)) (failed : Bool) where
+module _ (X A : Type 0) (says : List ℕ → Result X ReadFault) (old new : Option (List ℕ))
+    (failed : Bool) where
   -- what is said of the text, as a part of a run says it
   abbrev said : List ℕ → Result X Refused
   said text = refused_by ByText (says text)
 
   -- where memory was wanting nothing is said of any text
-  pub reads_wanting : ConsumesAtMost (MOST_BYTES + 1) old new → ReadsTo {A = A} said old new failed (Err OutOfMemory)
+  pub reads_wanting : ConsumesAtMost (MOST_BYTES + 1) old new
+      → ReadsTo {A = A} said old new failed (Err OutOfMemory)
   reads_wanting pulled =
       let (text, is) = text_for old in
-      record { text = text; is_all = is; given = tt; unfailed = tt; unhidden = λ h. cc; ended = λ h. cc; pulled = pulled }
+      record {
+        text = text;
+        is_all = is;
+        given = tt;
+        unfailed = tt;
+        unhidden = λ h. cc;
+        ended =
+            λ h. cc;
+        pulled = pulled;
+      }
 
   -- nor where the reader failed
-  pub reads_failing : failed ≡ true → ConsumesAtMost (MOST_BYTES + 1) old new → ReadsTo {A = A} said old new failed (Err Device)
+  pub reads_failing : failed ≡ true → ConsumesAtMost (MOST_BYTES + 1) old new
+      → ReadsTo {A = A} said old new failed (Err Device)
   reads_failing h pulled =
       let (text, is) = text_for old in
-      record { text = text; is_all = is; given = h; unfailed = tt; unhidden = λ h. cc; ended = λ h. cc; pulled = pulled }
+      record {
+        text = text;
+        is_all = is;
+        given = h;
+        unfailed = tt;
+        unhidden = λ h. cc;
+        ended =
+            λ h. cc;
+        pulled = pulled;
+      }
 
   -- a fault of a text that is all that is known
-  faulty : (e : ReadFault) (text : List ℕ) → IsTextOf old text → says text ≡ Err e → failed ≡ false → (is_of_whole {X = X} {A = A} (Err (of_read e)) ≡ true → IsAtEnd new)
-      → ConsumesAtMost (MOST_BYTES + 1) old new → ReadsTo {A = A} said old new failed (Err (of_read e))
+  faulty : (e : ReadFault) (text : List ℕ) → IsTextOf old text → says text ≡ Err e → failed ≡ false
+      → (is_of_whole {X = X} {A = A} (Err (of_read e)) ≡ true → IsAtEnd new)
+      → ConsumesAtMost (MOST_BYTES + 1) old new
+      → ReadsTo {A = A} said old new failed (Err (of_read e))
   faulty reads.OutOfMemory text is h ok end pulled = reads_wanting pulled
   faulty _ text is h ok end pulled =
-      record { text = text; is_all = is; given = ap (refused_by ByText) h; unfailed = tt; unhidden = λ r. ok; ended = end; pulled = pulled }
+      record {
+        text = text;
+        is_all = is;
+        given = ap (refused_by ByText) h;
+        unfailed = tt;
+        unhidden =
+            λ r. ok;
+        ended = end;
+        pulled = pulled;
+      }
 
   -- the instance that all bytes hold
-  pub reads_value : (bytes : List ℕ) → length bytes ≤ MOST_BYTES + 1 → Consumes old new bytes → IsAtEnd new ⊎ (MOST_BYTES < length bytes) → failed ≡ false
+  pub reads_value : (bytes : List ℕ) → length bytes ≤ MOST_BYTES + 1 → Consumes old new bytes
+      → IsAtEnd new ⊎ (MOST_BYTES < length bytes) → failed ≡ false
       → ((text : List ℕ) → MOST_BYTES < length text → says text ≡ Err reads.TooLong)
       → (x : X) → says bytes ≡ Ok x → ReadsTo {A = A} said old new failed (Ok x)
   reads_value bytes few given (inl end) ok long x h =
-      record { text = bytes; is_all = all_given old new bytes given end; given = ap (refused_by ByText) h; unfailed = ok; unhidden = tt; ended = λ r. end; pulled = (bytes, few, given) }
-  reads_value bytes few given (inr more) ok long x h = absurd (let both : Err reads.TooLong ≡ Ok x = sym (long bytes more) ∙ h in let f : ⊥ = cc in f)
+      record {
+        text = bytes;
+        is_all = all_given old new bytes given end;
+        given =
+            ap (refused_by ByText) h;
+        unfailed = ok;
+        unhidden = tt;
+        ended = λ r. end;
+        pulled = (bytes, few, given);
+      }
+  reads_value bytes few given (inr more) ok long x h =
+      absurd (let both : Err reads.TooLong ≡ Ok x = sym (long bytes more) ∙ h in let f : ⊥ = cc in
+      f)
 
   -- or their first fault
-  pub reads_fault : (bytes : List ℕ) → length bytes ≤ MOST_BYTES + 1 → Consumes old new bytes → IsAtEnd new ⊎ (MOST_BYTES < length bytes) → failed ≡ false
+  pub reads_fault : (bytes : List ℕ) → length bytes ≤ MOST_BYTES + 1 → Consumes old new bytes
+      → IsAtEnd new ⊎ (MOST_BYTES < length bytes) → failed ≡ false
       → ((text : List ℕ) → MOST_BYTES < length text → says text ≡ Err reads.TooLong)
       → (e : ReadFault) → says bytes ≡ Err e → ReadsTo {A = A} said old new failed (Err (of_read e))
-  reads_fault bytes few given (inl end) ok long e h = faulty e bytes (all_given old new bytes given end) h ok (λ r. end) (bytes, few, given)
+  reads_fault bytes few given (inl end) ok long e h =
+      faulty e bytes (all_given old new bytes given end) h ok (λ r. end) (bytes, few, given)
   reads_fault bytes few given (inr more) ok long e h =
-      let (text, is, longer_than) = long_text_for old MOST_BYTES (longer old new bytes given more) in
-      let same : e ≡ reads.TooLong = let both : Err e ≡ Err reads.TooLong = sym h ∙ long bytes more in cc in
-      faulty e text is (long text longer_than ∙ ap Err (sym same)) ok (λ r. let whole : false ≡ true = rw same at r in cc) (bytes, few, given)
+      let (text, is, longer_than) =
+      long_text_for old MOST_BYTES (longer old new bytes given more) in
+      let same : e ≡ reads.TooLong = let both : Err e ≡ Err reads.TooLong = sym h
+      ∙ long bytes more in cc in
+      faulty e text is (long text longer_than ∙ ap Err (sym same)) ok
+      (λ r. let whole : false ≡ true = rw same at r in cc) (bytes, few, given)
 
   -- the same where a growth may have been refused on the way
-  pub reads_fails : (bytes : List ℕ) → length bytes ≤ MOST_BYTES + 1 → Consumes old new bytes → IsAtEnd new ⊎ (MOST_BYTES < length bytes) → failed ≡ false
+  pub reads_fails : (bytes : List ℕ) → length bytes ≤ MOST_BYTES + 1 → Consumes old new bytes
+      → IsAtEnd new ⊎ (MOST_BYTES < length bytes) → failed ≡ false
       → ((text : List ℕ) → MOST_BYTES < length text → says text ≡ Err reads.TooLong)
-      → (e : ReadFault) → Fails e (says bytes) → ReadsTo {A = A} said old new failed (Err (of_read e))
+      → (e : ReadFault) → Fails e (says bytes)
+      → ReadsTo {A = A} said old new failed (Err (of_read e))
   reads_fails bytes few given ended ok long reads.OutOfMemory h = reads_wanting (bytes, few, given)
   reads_fails bytes few given ended ok long e h = reads_fault bytes few given ended ok long e h
 
   -- where the text could not be read to its end, or is too long
-  pub reads_input : (f : InputFault) → (f ≡ inputs.TooLong → IfSome old (λ all. MOST_BYTES < length all)) → failed ≡ is_device f
+  pub reads_input : (f : InputFault)
+      → (f ≡ inputs.TooLong → IfSome old (λ all. MOST_BYTES < length all)) → failed ≡ is_device f
       → ((text : List ℕ) → MOST_BYTES < length text → says text ≡ Err reads.TooLong)
-      → ConsumesAtMost (MOST_BYTES + 1) old new → ReadsTo {A = A} said old new failed (Err (of_input f))
+      → ConsumesAtMost (MOST_BYTES + 1) old new
+      → ReadsTo {A = A} said old new failed (Err (of_input f))
   reads_input inputs.Device more h long pulled = reads_failing h pulled
   reads_input inputs.OutOfMemory more h long pulled = reads_wanting pulled
   reads_input inputs.TooLong more h long pulled =

@@ -54,21 +54,32 @@ by_recursion P (x ∷ xs) all = (All-head P x xs all, by_recursion P xs (All-tai
 job_count : (k : SchedulingTask) (j : ℕ) → IsSound k → IsJob k j → IsCount MOST_JOBS j
 job_count k j sound is = (is.0, omega (arith, is.1, sound.few_jobs))
 
-jobs_count : (k : SchedulingTask) (jobs : List ℕ) → IsSound k → list_fault k [] jobs ≡ None → AreJobs jobs
-jobs_count k jobs sound none = by_recursion (IsCount MOST_JOBS) jobs (λ n d h. job_count k (get_or jobs n d) sound (jobs_in_task k jobs none n d h))
+jobs_count : (k : SchedulingTask) (jobs : List ℕ) → IsSound k → list_fault k [] jobs ≡ None
+    → AreJobs jobs
+jobs_count k jobs sound none =
+    by_recursion (IsCount MOST_JOBS) jobs
+    (λ n d h. job_count k (get_or jobs n d) sound (jobs_in_task k jobs none n d h))
 
 ones : (xs : List ℕ) → sum_by (λ (x : ℕ). 1) xs ≡ length xs
 ones [] = refl
 ones (x ∷ xs) = omega (arith, sum_by-cons (λ (y : ℕ). 1) x xs, ones xs)
 
 -- a job set without a fault has no more jobs than the task
-jobs_listed : (k : SchedulingTask) (layout : Layout) (jobs : List ℕ) → IsSound k → list_fault k [] jobs ≡ None → AreListed layout jobs
+jobs_listed : (k : SchedulingTask) (layout : Layout) (jobs : List ℕ) → IsSound k
+    → list_fault k [] jobs ≡ None → AreListed layout jobs
 jobs_listed k One jobs sound none = (jobs_count k jobs sound none, tt)
 jobs_listed k Two jobs sound none =
     let distinct : IsDistinct jobs = λ c. ((list_fault_says k [] jobs none).1 c).1 in
     let all : length (all_jobs k) ≡ length k.jobs = length-range_with_len 1 (length k.jobs) in (
       jobs_count k jobs sound none,
-      omega (arith, sum_by-le-all_jobs k (λ (x : ℕ). 1) jobs distinct (jobs_in_task k jobs none), ones jobs, ones (all_jobs k), all, sound.few_jobs),
+      omega (
+        arith,
+        sum_by-le-all_jobs k (λ (x : ℕ). 1) jobs distinct (jobs_in_task k jobs none),
+        ones jobs,
+        ones (all_jobs k),
+        all,
+        sound.few_jobs,
+      ),
     )
 
 -- a time of the task is within the limit
@@ -76,15 +87,25 @@ time_limit : (k : SchedulingTask) (j : ℕ) → IsSound k → IsJob k j → time
 time_limit k j sound is = omega (arith, sound.total, term-le-all_jobs k (time_of k) j is)
 
 -- the pieces that draw a fitting timetable are in their ranges
-pub pieces_readable : (k : SchedulingTask) (ps : List Piece) (rows : Timetable) → IsSound k → All IsPiece ps → Draws k.machines ps rows → Fits k rows → All IsReadablePiece ps
+pub pieces_readable : (k : SchedulingTask) (ps : List Piece) (rows : Timetable) → IsSound k
+    → All IsPiece ps → Draws k.machines ps rows → Fits k rows → All IsReadablePiece ps
 pieces_readable k ps rows sound pieces draws fits n d h =
     let p = get_or ps n d in
     let on = draws.on_machines n d h in
     let some = draws.numbered n d h in
     let range = pieces n d h in
-    let going : IsGoing (p.machine - 1 + 1) (start_of p) p.job p = record { job = refl; machine = omega (arith, on.0); started = omega arith; going = time_lt p.start p.stop range.0.0 range.1 } in
-    let stands = (draws.cells (p.machine - 1) (start_of p) p.job (omega (arith, on.0, on.1)) some).1 (n, p, h, get_or_default ps n p d h, going) in
-    let within = cell_within (length k.jobs) rows (start_of p) (p.machine - 1) fits.broken.jobs_only in (
+    let going : IsGoing (p.machine - 1 + 1) (start_of p) p.job p =
+    record {
+      job = refl;
+      machine = omega (arith, on.0);
+      started = omega arith;
+      going = time_lt p.start p.stop range.0.0 range.1;
+    } in
+    let stands =
+    (draws.cells (p.machine - 1) (start_of p) p.job (omega (arith, on.0, on.1)) some).1
+    (n, p, h, get_or_default ps n p d h, going) in
+    let within =
+    cell_within (length k.jobs) rows (start_of p) (p.machine - 1) fits.broken.jobs_only in (
       (omega (arith, some), omega (arith, stands, within, sound.few_jobs)),
       (omega (arith, on.0), omega (arith, on.1, sound.few_machines)),
       (omega (arith, ints, range.0.0), omega (arith, ints, range.0.1, range.1)),
@@ -92,12 +113,15 @@ pieces_readable k ps rows sound pieces draws fits n d h =
     )
 
 -- a job that has no fault is one of the task
-one_job : (k : SchedulingTask) (j : ℕ) (t : Bool) → is_job k j ≡ t → cond t None (Some (BadJob j)) ≡ None → IsJob k j
-one_job k j true is e = let facts = and_parts (nat_lt 0 j) (nat_le j (length k.jobs)) is in (ltb-true 0 j facts.0, leb-true j (length k.jobs) facts.1)
+one_job : (k : SchedulingTask) (j : ℕ) (t : Bool) → is_job k j ≡ t
+    → cond t None (Some (BadJob j)) ≡ None → IsJob k j
+one_job k j true is e = let facts = and_parts (nat_lt 0 j) (nat_le j (length k.jobs)) is in
+    (ltb-true 0 j facts.0, leb-true j (length k.jobs) facts.1)
 one_job k j false is e = cc
 
 -- a machine that has no fault is 1 or 2
-machine_count : (machine : ℕ) (t : Bool) → (nat_lt 0 machine && nat_le machine 2) ≡ t → cond t None (Some (BadMachine machine)) ≡ None → IsCount MOST_MACHINES machine
+machine_count : (machine : ℕ) (t : Bool) → (nat_lt 0 machine && nat_le machine 2) ≡ t
+    → cond t None (Some (BadMachine machine)) ≡ None → IsCount MOST_MACHINES machine
 machine_count machine true is e =
     let facts = and_parts (nat_lt 0 machine) (nat_le machine 2) is in
     (ltb-true 0 machine facts.0, omega (arith, leb-true machine 2 facts.1))
@@ -105,17 +129,23 @@ machine_count machine false is e = cc
 
 -- a delta that some job reaches is within the limit
 delta_within : (k : SchedulingTask) (side : List ℕ) (delta : ℤ) (first : Bool) → IsSound k
-    → (int_le (pos 0) delta ≡ true) × ((x : ℕ) × IsJob k x × (reaches_delta k side delta first x ≡ true)) → IsWithin delta
+    → (int_le (pos 0) delta ≡ true)
+    × ((x : ℕ) × IsJob k x × (reaches_delta k side delta first x ≡ true)) → IsWithin delta
 delta_within k side (negsuc d) first sound reach = absurd (false≢true reach.0)
 delta_within k side (pos d) true sound (above, (x, is, reached)) =
-    let le : d ≤ time_on k x 0 = leb-true d (time_on k x 0) (and_parts (not (stands_in side x)) (nat_le d (time_on k x 0)) reached).1 in
+    let le : d ≤ time_on k x 0 =
+    leb-true d (time_on k x 0)
+    (and_parts (not (stands_in side x)) (nat_le d (time_on k x 0)) reached).1 in
     (omega (arith, ints), omega (arith, ints, le, time_limit k x sound is))
 delta_within k side (pos d) false sound (above, (x, is, reached)) =
-    let le : d ≤ time_on k x 1 = leb-true d (time_on k x 1) (and_parts (stands_in side x) (nat_le d (time_on k x 1)) reached).1 in
+    let le : d ≤ time_on k x 1 =
+    leb-true d (time_on k x 1)
+    (and_parts (stands_in side x) (nat_le d (time_on k x 1)) reached).1 in
     (omega (arith, ints), omega (arith, ints, le, time_limit k x sound is))
 
 -- what a certificate that bounds the task says is in its ranges
-pub claim_readable : (k : SchedulingTask) (layout : Layout) (claim : Claim) (b : ℤ) → IsSound k → bound_by claim k ≡ Ok b → IsReadableClaim layout claim
+pub claim_readable : (k : SchedulingTask) (layout : Layout) (claim : Claim) (b : ℤ) → IsSound k
+    → bound_by claim k ≡ Ok b → IsReadableClaim layout claim
 claim_readable k layout ByPairs b sound e = tt
 claim_readable k layout (ByLastOf jobs) b sound e =
     let at_class = unless_ok (other_kind (takes_last_of k.class)) _ b e in
@@ -127,12 +157,15 @@ claim_readable k layout (BySplit side delta first) b sound e =
     let at_class = unless_ok (other_kind (takes_split k.class)) _ b e in
     let at_list = unless_ok (list_fault k [] side) _ b at_class.1 in
     let at_side = unless_ok (side_fault k side delta first) _ b at_list.1 in
-    let at_delta = unless_ok (delta_fault k side delta first) _ b at_side.1 in
-    (jobs_listed k layout side sound at_list.0, delta_within k side delta first sound (delta_fault_says k side delta first at_delta.0))
+    let at_delta = unless_ok (delta_fault k side delta first) _ b at_side.1 in (
+      jobs_listed k layout side sound at_list.0,
+      delta_within k side delta first sound (delta_fault_says k side delta first at_delta.0),
+    )
 claim_readable k layout ByLoad b sound e = tt
 claim_readable k layout (ByMachine machine) b sound e =
     let at_class = unless_ok (other_kind (takes_machine k.class)) _ b e in
-    machine_count machine (nat_lt 0 machine && nat_le machine 2) refl (unless_ok (machine_fault machine) _ b at_class.1).0
+    machine_count machine (nat_lt 0 machine && nat_le machine 2) refl
+    (unless_ok (machine_fault machine) _ b at_class.1).0
 claim_readable k layout (ByOneJob j) b sound e =
     let at_class = unless_ok (other_kind (takes_one_job k.class)) _ b e in
     job_count k j sound (one_job k j (is_job k j) refl (unless_ok (job_fault k j) _ b at_class.1).0)
@@ -148,19 +181,29 @@ problem_read line problem ok = by_notation (notation line) refl ok
     by_class p None e = cc
     by_class p (Some class) e = cc
 
-    by_notation : (r : Result Problem ℕ) → notation line ≡ r → (refused_by ByNotation r >>= λ p. with_class p (class_of p)) ≡ Ok problem → IsRead problem
+    by_notation : (r : Result Problem ℕ) → notation line ≡ r
+        → (refused_by ByNotation r >>= λ p. with_class p (class_of p)) ≡ Ok problem → IsRead problem
     by_notation (Ok p) is e = (line, is ∙ ap Ok (by_class p (class_of p) e))
     by_notation (Err byte) is e = cc
 
 -- the sheet of an accepted answer can be read back in either layout
-pub sheet_readable : (request : RequestData) (k : SchedulingTask) (sheet : SheetData) (layout : Layout) → IsSound k
-    → problem_for request.problem ≡ Ok sheet.problem → sheet.jobs ≡ length k.jobs → sheet.machines ≡ k.machines → IsAccepted k sheet.answer
+pub sheet_readable : (request : RequestData) (k : SchedulingTask) (sheet : SheetData)
+    (layout : Layout)
+    → IsSound k
+    → problem_for request.problem ≡ Ok sheet.problem → sheet.jobs ≡ length k.jobs
+    → sheet.machines ≡ k.machines → IsAccepted k sheet.answer
     → FitsSigned w64 sheet.answer.value → IsReadable layout sheet
 sheet_readable request k sheet layout sound problem jobs machines accepted value = record {
   problem = problem_read request.problem sheet.problem problem;
   jobs = (omega (arith, jobs, sound.some_job), omega (arith, jobs, sound.few_jobs));
-  machines = (omega (arith, machines, sound.some_machine), omega (arith, machines, sound.few_machines));
+  machines = (
+    omega (arith, machines, sound.some_machine),
+    omega (arith, machines, sound.few_machines),
+  );
   value = value;
-  pieces = by_recursion IsReadablePiece sheet.answer.pieces (pieces_readable k sheet.answer.pieces accepted.rows sound accepted.pieces accepted.draws accepted.fits);
-  certificate = claim_readable k layout sheet.answer.certificate accepted.bound sound accepted.bounded;
+  pieces = by_recursion IsReadablePiece sheet.answer.pieces
+      (pieces_readable k sheet.answer.pieces accepted.rows sound accepted.pieces accepted.draws
+      accepted.fits);
+  certificate =
+      claim_readable k layout sheet.answer.certificate accepted.bound sound accepted.bounded;
 }

@@ -23,23 +23,35 @@ use Rattle.tf_engine.specs.Charting.{IsChartOf, IsOfPieces, IsRefusedChart, IsDr
 use Rattle.tf_engine.proofs.Unread.{text_for, part_stops}
 
 -- what is left where the answer says no sheet
-unsaid : (known held : Option (List ℕ)) (columns : ℕ) (reader writer : Bool) (s : Stop) → reader ≡ is_failure s → StopsSaying known s
-    → (text : List ℕ) × IsTextOf known text × Leaves (IsChartOf text columns) (IsRefusedChart text) (reader ≡ true) (writer ≡ true) held held s
-unsaid known held columns reader writer (Refuses (ByAnswer fault)) failed (text, is, says) = (text, is, inl (fault, refl, says))
+unsaid : (known held : Option (List ℕ)) (columns : ℕ) (reader writer : Bool) (s : Stop)
+    → reader ≡ is_failure s → StopsSaying known s
+    → (text : List ℕ) × IsTextOf known text
+    × Leaves (IsChartOf text columns) (IsRefusedChart text) (reader ≡ true) (writer ≡ true) held
+    held s
+unsaid known held columns reader writer (Refuses (ByAnswer fault)) failed (text, is, says) =
+    (text, is, inl (fault, refl, says))
 unsaid known held columns reader writer (Refuses (ByNotation byte)) failed said = absurd said
 unsaid known held columns reader writer (Refuses (ByText fault)) failed said = absurd said
 unsaid known held columns reader writer (Refuses (ByTask refusal)) failed said = absurd said
 unsaid known held columns reader writer (Refuses (ByCycle jobs)) failed said = absurd said
 unsaid known held columns reader writer (Refuses (ByPieces fault)) failed said = absurd said
-unsaid known held columns reader writer Fails failed said = let (text, is) = text_for known in (text, is, inl (failed, Keeps-refl held))
-unsaid known held columns reader writer Wants failed said = let (text, is) = text_for known in (text, is, tt)
+unsaid known held columns reader writer Fails failed said = let (text, is) = text_for known in
+    (text, is, inl (failed, Keeps-refl held))
+unsaid known held columns reader writer Wants failed said = let (text, is) = text_for known in
+    (text, is, tt)
 
 -- the chart of the schedule that keeps a sheet's pieces is the chart of the sheet
-chart_of : (text : List ℕ) (columns : ℕ) (sheet : SheetData) (qs : List Piece) → answer_in text ≡ Ok sheet → IsPermutation sheet.answer.pieces qs → IsSchedule qs
+chart_of : (text : List ℕ) (columns : ℕ) (sheet : SheetData) (qs : List Piece)
+    → answer_in text ≡ Ok sheet → IsPermutation sheet.answer.pieces qs → IsSchedule qs
     → IsChartOf text columns (chart_text qs sheet.machines columns)
 chart_of text columns sheet qs says kept schedule =
     let back = IsPermutation-sym sheet.answer.pieces qs kept in
-    let once : NoneTwice sheet.answer.pieces = λ n t. omega (arith, claims_permutation machine_of sheet.answer.pieces qs n t kept, schedule.none_twice n t) in
+    let once : NoneTwice sheet.answer.pieces =
+    λ n t. omega (
+      arith,
+      claims_permutation machine_of sheet.answer.pieces qs n t kept,
+      schedule.none_twice n t,
+    ) in
     record {
       sheet = sheet;
       said = says;
@@ -50,26 +62,54 @@ chart_of text columns sheet qs says kept schedule =
 
 module _ (A : Type 0) (known before : Option (List ℕ)) (columns : ℕ) (reader writer : Bool) where
   -- nothing was written where the answer says no sheet
-  pub gantt_unsaid : (e : RunFault A) → reader ≡ is_failure (stop_of e) → GivesSaid known (Err e) → IsDrawingOf columns known reader writer before before (Err e)
+  pub gantt_unsaid : (e : RunFault A) → reader ≡ is_failure (stop_of e) → GivesSaid known (Err e)
+      → IsDrawingOf columns known reader writer before before (Err e)
   gantt_unsaid e failed said = unsaid known before columns reader writer (stop_of e) failed said
 
   -- nor where its pieces are no schedule
-  pub gantt_unscheduled : (sheet : SheetData) (e : RunFault A) → GivesSaid {A = A} known (Ok sheet) → StopsBy (IsOfPieces sheet.answer.pieces) (stop_of e)
+  pub gantt_unscheduled : (sheet : SheetData) (e : RunFault A) → GivesSaid {A = A} known (Ok sheet)
+      → StopsBy (IsOfPieces sheet.answer.pieces) (stop_of e)
       → IsDrawingOf columns known reader writer before before (Err e)
   gantt_unscheduled sheet e (text, is, says) stopped = (
     text,
     is,
-    part_stops (IsChartOf text columns) (IsOfPieces sheet.answer.pieces) (IsRefusedChart text) (reader ≡ true) (writer ≡ true) before
-        (λ refused first. inr (record { sheet = sheet; said = says; first = first })) (stop_of e) stopped,
+    part_stops (IsChartOf text columns) (IsOfPieces sheet.answer.pieces) (IsRefusedChart text)
+        (reader ≡ true) (writer ≡ true) before
+        (λ refused first. inr (record { sheet = sheet; said = says; first = first })) (stop_of e)
+        stopped,
   )
 
-  module _ (after : Option (List ℕ)) (sheet : SheetData) (qs : List Piece) (said : GivesSaid {A = A} known (Ok sheet)) (kept : IsPermutation sheet.answer.pieces qs) (schedule : IsSchedule qs) where
+  module _ (after : Option (List ℕ)) (sheet : SheetData) (qs : List Piece)
+      (said : GivesSaid {A = A} known (Ok sheet)) (kept : IsPermutation sheet.answer.pieces qs)
+      (schedule : IsSchedule qs) where
     -- the chart was written
-    pub gantt_drawn : Appends before after (chart_text qs sheet.machines columns) → IsDrawingOf {A = A} columns known reader writer before after (Ok tt)
+    pub gantt_drawn : Appends before after (chart_text qs sheet.machines columns)
+        → IsDrawingOf {A = A} columns known reader writer before after (Ok tt)
     gantt_drawn written =
-        let (text, is, says) = said in (text, is, (chart_text qs sheet.machines columns, chart_of text columns sheet qs says kept schedule, written))
+        let (text, is, says) = said in (
+          text,
+          is,
+          (
+            chart_text qs sheet.machines columns,
+            chart_of text columns sheet qs says kept schedule,
+            written,
+          ),
+        )
 
     -- a prefix of it was where the writer failed
-    pub gantt_undrawn : writer ≡ true → AppendsPrefix before after (chart_text qs sheet.machines columns) → IsDrawingOf {A = A} columns known reader writer before after (Err Device)
+    pub gantt_undrawn : writer ≡ true
+        → AppendsPrefix before after (chart_text qs sheet.machines columns)
+        → IsDrawingOf {A = A} columns known reader writer before after (Err Device)
     gantt_undrawn failed prefix =
-        let (text, is, says) = said in (text, is, inr (failed, (chart_text qs sheet.machines columns, chart_of text columns sheet qs says kept schedule, prefix)))
+        let (text, is, says) = said in (
+          text,
+          is,
+          inr (
+            failed,
+            (
+              chart_text qs sheet.machines columns,
+              chart_of text columns sheet qs says kept schedule,
+              prefix,
+            ),
+          ),
+        )

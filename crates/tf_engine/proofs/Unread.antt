@@ -41,56 +41,76 @@ text_for None = ([], tt)
 text_for (Some all) = (all, refl)
 
 -- the same, longer than n
-pub long_text_for : (known : Option (List ℕ)) (n : ℕ) → IfSome known (λ all. n < length all) → (text : List ℕ) × IsTextOf known text × (n < length text)
+pub long_text_for : (known : Option (List ℕ)) (n : ℕ) → IfSome known (λ all. n < length all)
+    → (text : List ℕ) × IsTextOf known text × (n < length text)
 long_text_for None n h = let (text, e) = list_of (n + 1) in (text, tt, omega (arith, e))
 long_text_for (Some all) n h = (all, refl, h)
 
 -- a problem that is refused is refused whatever the text
-pub refused_task : (request : RequestData) (text : List ℕ) (refused : Refused) → problem_for request.problem ≡ Err refused → task_for request text ≡ Err refused
+pub refused_task : (request : RequestData) (text : List ℕ) (refused : Refused)
+    → problem_for request.problem ≡ Err refused → task_for request text ≡ Err refused
 refused_task request text refused h = ap (λ r. r >>= λ problem. task_in request problem text) h
 
 -- a text that is too long is refused as such in every form
-pub too_long : (form : FormData) (text : List ℕ) → MOST_BYTES < length text → instance_in form text ≡ Err TooLong
+pub too_long : (form : FormData) (text : List ℕ) → MOST_BYTES < length text
+    → instance_in form text ≡ Err TooLong
 unfolding job_table
 too_long InTable text h = rw (lt-ltb MOST_BYTES (length text) h) refl
 too_long (InWt jobs index) text h = wt.too_long jobs index text h
 too_long (InFlow name pair) text h = flow.too_long name pair text h
 
 -- and so no task is meant
-pub long_task : (request : RequestData) (problem : Problem) (text : List ℕ) → problem_for request.problem ≡ Ok problem → MOST_BYTES < length text → task_for request text ≡ Err (ByText TooLong)
+pub long_task : (request : RequestData) (problem : Problem) (text : List ℕ)
+    → problem_for request.problem ≡ Ok problem → MOST_BYTES < length text
+    → task_for request text ≡ Err (ByText TooLong)
 long_task request problem text ok h =
     meant_by request problem text ok
-    ∙ ap (λ r. refused_by ByText r >>= λ instance. refused_by ByTask (prepared instance problem request.machines)) (too_long request.form text h)
+    ∙ ap (λ r. refused_by ByText r
+    >>= λ instance. refused_by ByTask (prepared instance problem request.machines))
+    (too_long request.form text h)
 
 -- no refusal for the instance's sake is of the answer text
-pub not_of_answer : (request : RequestData) (problem : Problem) (text : List ℕ) (R : Type 0) (s : Stop) → StopsReading (λ refused. task_in request problem text ≡ Err refused) R s → is_of_answer s ≡ false
+pub not_of_answer : (request : RequestData) (problem : Problem) (text : List ℕ) (R : Type 0)
+    (s : Stop)
+    → StopsReading (λ refused. task_in request problem text ≡ Err refused) R s
+    → is_of_answer s ≡ false
 not_of_answer request problem text R Fails h = refl
 not_of_answer request problem text R Wants h = refl
-not_of_answer request problem text R (Refuses refused) h = by_instance (instance_in request.form text) h
+not_of_answer request problem text R (Refuses refused) h =
+    by_instance (instance_in request.form text) h
   where
-    by_task : (r : Result SchedulingTask Refusal) → refused_by ByTask r ≡ Err refused → is_of_answer (Refuses refused) ≡ false
+    by_task : (r : Result SchedulingTask Refusal) → refused_by ByTask r ≡ Err refused
+        → is_of_answer (Refuses refused) ≡ false
     by_task (Ok task) e = cc
     by_task (Err refusal) e = let is : refused ≡ ByTask refusal = cc in rw is refl
 
-    by_instance : (r : Result InstanceData ReadFault) → (refused_by ByText r >>= λ instance. refused_by ByTask (prepared instance problem request.machines)) ≡ Err refused
+    by_instance : (r : Result InstanceData ReadFault)
+        → (refused_by ByText r
+        >>= λ instance. refused_by ByTask (prepared instance problem request.machines))
+        ≡ Err refused
         → is_of_answer (Refuses refused) ≡ false
     by_instance (Ok instance) e = by_task (prepared instance problem request.machines) e
     by_instance (Err fault) e = let is : refused ≡ ByText fault = cc in rw is refl
 
 -- what holds of a fault holds of what `?` makes of it
-pub err_is : {X E : Type 0} (P : Result X E → Type 0) (f : E) (r : Result X E) → IsErrAnd r (λ e. e ≡ f) → P (Err f) → P r
+pub err_is : {X E : Type 0} (P : Result X E → Type 0) (f : E) (r : Result X E)
+    → IsErrAnd r (λ e. e ≡ f) → P (Err f) → P r
 err_is P f (Ok x) h p = absurd h
 err_is P f (Err e) h p = subst (λ e. P (Err e)) (sym h) p
 
 -- a part that reads and writes nothing stops the run as it stopped
-pub part_stops : (Says : List ℕ → Type 0) (P Q : Refused → Type 0) (R W : Type 0) (held : Option (List ℕ)) → ((refused : Refused) → P refused → Q refused)
+pub part_stops : (Says : List ℕ → Type 0) (P Q : Refused → Type 0) (R W : Type 0)
+    (held : Option (List ℕ))
+    → ((refused : Refused) → P refused → Q refused)
     → (s : Stop) → StopsBy P s → Leaves Says Q R W held held s
 part_stops Says P Q R W held more (Refuses refused) h = more refused h
 part_stops Says P Q R W held more Fails h = absurd h
 part_stops Says P Q R W held more Wants h = tt
 
 -- and so does a part that reads alone
-pub reading_stops : (Says : List ℕ → Type 0) (P Q : Refused → Type 0) (F R W : Type 0) (held : Option (List ℕ)) → ((refused : Refused) → P refused → Q refused) → (F → R)
+pub reading_stops : (Says : List ℕ → Type 0) (P Q : Refused → Type 0) (F R W : Type 0)
+    (held : Option (List ℕ))
+    → ((refused : Refused) → P refused → Q refused) → (F → R)
     → (s : Stop) → StopsReading P F s → Leaves Says Q R W held held s
 reading_stops Says P Q F R W held more failed (Refuses refused) h = more refused h
 reading_stops Says P Q F R W held more failed Fails h = inl (failed h, Keeps-refl held)
@@ -98,34 +118,60 @@ reading_stops Says P Q F R W held more failed Wants h = tt
 
 -- ---- of a solving run
 
-module _ (A : Type 0) (request : RequestData) (known before : Option (List ℕ)) (reader writer : Bool) where
+module _ (A : Type 0) (request : RequestData) (known before : Option (List ℕ))
+    (reader writer : Bool) where
   -- nothing was written where the problem line was refused
-  pub run_unread : (e : RunFault A) (refused : Refused) → stop_of e ≡ Refuses refused → problem_for request.problem ≡ Err refused
+  pub run_unread : (e : RunFault A) (refused : Refused) → stop_of e ≡ Refuses refused
+      → problem_for request.problem ≡ Err refused
       → IsRunOf request known reader writer before before (Err e)
   run_unread e refused same h =
-      let (text, is) = text_for known in
-      (text, is, subst (Leaves (Answers request text) (IsRefusedRun request text) (reader ≡ true) (writer ≡ true) before before) (sym same) (inl (refused_task request text refused h)))
+      let (text, is) = text_for known in (
+        text,
+        is,
+        subst
+            (Leaves (Answers request text) (IsRefusedRun request text) (reader ≡ true) (writer ≡ true)
+            before before) (sym same) (inl (refused_task request text refused h)),
+      )
 
   -- nor where no task was read
-  pub run_untasked : (problem : Problem) (new : Option (List ℕ)) (e : RunFault A) → problem_for request.problem ≡ Ok problem
-      → ReadsTo (task_in request problem) known new reader (Err e) → IsRunOf request known reader writer before before (Err e)
+  pub run_untasked : (problem : Problem) (new : Option (List ℕ)) (e : RunFault A)
+      → problem_for request.problem ≡ Ok problem
+      → ReadsTo (task_in request problem) known new reader (Err e)
+      → IsRunOf request known reader writer before before (Err e)
   run_untasked problem new e ok h = (
     h.text,
     h.is_all,
-    reading_stops (Answers request h.text) (λ refused. task_in request problem h.text ≡ Err refused) (IsRefusedRun request h.text) (reader ≡ true) (reader ≡ true) (writer ≡ true) before
-        (λ refused same. inl (meant_by request problem h.text ok ∙ same)) (λ failed. failed) (stop_of e) h.given,
+    reading_stops (Answers request h.text) (λ refused. task_in request problem h.text ≡ Err refused)
+        (IsRefusedRun request h.text) (reader ≡ true) (reader ≡ true) (writer ≡ true) before
+        (λ refused same. inl (meant_by request problem h.text ok ∙ same)) (λ failed. failed)
+        (stop_of e) h.given,
   )
 
   -- nor where no sheet answers the text
-  pub run_unsolved : (text : List ℕ) (e : RunFault A) → IsTextOf known text → StopsBy (IsRefusedRun request text) (stop_of e)
+  pub run_unsolved : (text : List ℕ) (e : RunFault A) → IsTextOf known text
+      → StopsBy (IsRefusedRun request text) (stop_of e)
       → IsRunOf request known reader writer before before (Err e)
-  run_unsolved text e is h =
-      (text, is, part_stops (Answers request text) (IsRefusedRun request text) (IsRefusedRun request text) (reader ≡ true) (writer ≡ true) before (λ refused same. same) (stop_of e) h)
+  run_unsolved text e is h = (
+    text,
+    is,
+    part_stops (Answers request text) (IsRefusedRun request text)
+        (IsRefusedRun request text) (reader ≡ true) (writer ≡ true) before (λ refused same. same)
+        (stop_of e) h,
+  )
 
   -- a prefix of the answer was written where the writer failed
-  pub run_unwritten : (after : Option (List ℕ)) (text : List ℕ) (sheet : SheetData) (f : WriteFault) → IsTextOf known text → IsSolved request text sheet
-      → (f ≡ writes.Device → (writer ≡ true) × AppendsPrefix before after (answer_text request.layout sheet)) → IsRunOf request known reader writer before after (Err (of_write {A = A} f))
+  pub run_unwritten : (after : Option (List ℕ)) (text : List ℕ) (sheet : SheetData) (f : WriteFault)
+      → IsTextOf known text → IsSolved request text sheet
+      → (f ≡ writes.Device → (writer ≡ true)
+      × AppendsPrefix before after (answer_text request.layout sheet))
+      → IsRunOf request known reader writer before after (Err (of_write {A = A} f))
   run_unwritten after text sheet writes.OutOfMemory is solved prefix = (text, is, tt)
   run_unwritten after text sheet writes.Device is solved prefix =
-      let (failed, written) = prefix refl in
-      (text, is, inr (failed, (answer_text request.layout sheet, answers_of request text sheet solved, written)))
+      let (failed, written) = prefix refl in (
+        text,
+        is,
+        inr (
+          failed,
+          (answer_text request.layout sheet, answers_of request text sheet solved, written),
+        ),
+      )

@@ -24,7 +24,8 @@ pub record IsChartOf (text : List ℕ) (columns : ℕ) (out : List ℕ) : Type 0
 
 -- the refusal is the first fault of the pieces
 abbrev pub IsOfPieces : List Piece → Refused → Type 0
-IsOfPieces pieces refused = (fault : PieceFault) × (refused ≡ ByPieces fault) × HasFirstFault pieces fault
+IsOfPieces pieces refused = (fault : PieceFault) × (refused ≡ ByPieces fault)
+    × HasFirstFault pieces fault
 
 -- the text says a sheet whose pieces are no schedule, for this reason
 pub record IsUndrawn (text : List ℕ) (refused : Refused) : Type 0 where
@@ -38,15 +39,22 @@ IsRefusedChart text refused =
     ((fault : AnswerFault) × (refused ≡ ByAnswer fault) × (answer_in text ≡ Err fault))
     ⊎ IsUndrawn text refused
 
--- A drawing run writes the chart, or gives the one refusal. Where memory was wanting it gives neither; where the reader
+-- A drawing run writes the chart, or gives the one refusal. Where memory was wanting it gives
+-- neither; where the reader
 -- failed nothing was written, and where the writer failed a prefix of the chart was.
-abbrev pub ChartOutcome : {A : Type 0} → ℕ → List ℕ → Bool → Bool → Option (List ℕ) → Option (List ℕ) → Result (Unit {0}) (RunFault A) → Type 0
-ChartOutcome columns text reader writer before after (Ok _) = (out : List ℕ) × IsChartOf text columns out × Appends before after out
+abbrev pub ChartOutcome : {A : Type 0} → ℕ → List ℕ → Bool → Bool → Option (List ℕ)
+    → Option (List ℕ) → Result (Unit {0}) (RunFault A) → Type 0
+ChartOutcome columns text reader writer before after (Ok _) = (out : List ℕ)
+    × IsChartOf text columns out × Appends before after out
 ChartOutcome columns text reader writer before after (Err e) =
-    Leaves (IsChartOf text columns) (IsRefusedChart text) (reader ≡ true) (writer ≡ true) before after (stop_of e)
+    Leaves (IsChartOf text columns) (IsRefusedChart text) (reader ≡ true) (writer ≡ true) before
+    after (stop_of e)
 
--- The outcome is that of a text, which is all bytes of the reader up to its end where they are known. `reader` and
+-- The outcome is that of a text, which is all bytes of the reader up to its end where they are
+-- known. `reader` and
 -- `writer` tell whether they remember a failure.
-abbrev pub IsDrawingOf : {A : Type 0} → ℕ → Option (List ℕ) → Bool → Bool → Option (List ℕ) → Option (List ℕ) → Result (Unit {0}) (RunFault A) → Type 0
+abbrev pub IsDrawingOf : {A : Type 0} → ℕ → Option (List ℕ) → Bool → Bool → Option (List ℕ)
+    → Option (List ℕ) → Result (Unit {0}) (RunFault A) → Type 0
 IsDrawingOf columns known reader writer before after result =
-    (text : List ℕ) × IsTextOf known text × ChartOutcome columns text reader writer before after result
+    (text : List ℕ) × IsTextOf known text
+    × ChartOutcome columns text reader writer before after result

@@ -30,16 +30,19 @@ IsVerdict k sheet Accepted = IsFor k sheet × IsAccepted k sheet.answer × IsBes
 IsVerdict k sheet OtherTask = ¬ (IsFor k sheet)
 IsVerdict k sheet (Rejected reason) = IsFor k sheet × HasReason k sheet.answer reason
 
--- the request and the instance text mean a task, the answer text says a sheet, and this is the verdict on it
-pub record IsChecked (request : RequestData) (instance answer : List ℕ) (checked : Checked) : Type 0 where
-  pub task : SchedulingTask
-  pub meant : task_for request instance ≡ Ok task
-  pub sheet : SheetData
-  pub said : answer_in answer ≡ Ok sheet
-  pub verdict : IsVerdict task sheet checked
+-- the request and the instance text mean a task, the answer text says a sheet, and this is the
+-- verdict on it
+pub record IsChecked (request : RequestData) (instance answer : List ℕ) (checked : Checked) : Type 0
+  where
+    pub task : SchedulingTask
+    pub meant : task_for request instance ≡ Ok task
+    pub sheet : SheetData
+    pub said : answer_in answer ≡ Ok sheet
+    pub verdict : IsVerdict task sheet checked
 
 -- the request and the instance text mean a task, and the answer text has this fault
-pub record IsMisread (request : RequestData) (instance answer : List ℕ) (fault : AnswerFault) : Type 0 where
+pub record IsMisread (request : RequestData) (instance answer : List ℕ) (fault : AnswerFault) : Type
+    0 where
   pub task : SchedulingTask
   pub meant : task_for request instance ≡ Ok task
   pub said : answer_in answer ≡ Err fault
@@ -57,20 +60,25 @@ IsRefusedCheck request instance answer refused =
 
 -- the instance's reader failed, or there is a task and the answer's reader failed
 abbrev pub HasReaderFailed : RequestData → List ℕ → Bool → Bool → Type 0
-HasReaderFailed request instance first second = (first ≡ true) ⊎ (IsOk (task_for request instance) × (second ≡ true))
+HasReaderFailed request instance first second =
+    (first ≡ true) ⊎ (IsOk (task_for request instance) × (second ≡ true))
 
--- A check says its verdict in one line, or gives the one refusal. Where memory was wanting it gives neither; where a
+-- A check says its verdict in one line, or gives the one refusal. Where memory was wanting it gives
+-- neither; where a
 -- reader failed nothing was written, and where the writer failed a prefix of the line was.
-abbrev pub CheckOutcome : {A : Type 0} → RequestData → List ℕ → List ℕ → Bool → Bool → Bool → Option (List ℕ) → Option (List ℕ) → Result Checked (RunFault A) → Type 0
+abbrev pub CheckOutcome : {A : Type 0} → RequestData → List ℕ → List ℕ → Bool → Bool → Bool
+    → Option (List ℕ) → Option (List ℕ) → Result Checked (RunFault A) → Type 0
 CheckOutcome request instance answer first second writer before after (Ok checked) =
     IsChecked request instance answer checked × Appends before after (verdict_line checked)
 CheckOutcome request instance answer first second writer before after (Err e) =
     Leaves (SaysVerdict request instance answer) (IsRefusedCheck request instance answer)
     (HasReaderFailed request instance first second) (writer ≡ true) before after (stop_of e)
 
--- The outcome is that of two texts, which are all bytes of the readers up to their ends where they are known. `first`,
+-- The outcome is that of two texts, which are all bytes of the readers up to their ends where they
+-- are known. `first`,
 -- `second` and `writer` tell whether the readers and the writer remember a failure.
-abbrev pub IsCheckOf : {A : Type 0} → RequestData → Option (List ℕ) → Option (List ℕ) → Bool → Bool → Bool → Option (List ℕ) → Option (List ℕ) → Result Checked (RunFault A) → Type 0
+abbrev pub IsCheckOf : {A : Type 0} → RequestData → Option (List ℕ) → Option (List ℕ) → Bool → Bool
+    → Bool → Option (List ℕ) → Option (List ℕ) → Result Checked (RunFault A) → Type 0
 IsCheckOf request known known_answer first second writer before after result =
     (instance : List ℕ) × (answer : List ℕ) × IsTextOf known instance × IsTextOf known_answer answer
     × CheckOutcome request instance answer first second writer before after result

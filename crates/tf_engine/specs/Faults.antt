@@ -1,4 +1,5 @@
--- Why a run gives no answer: what definitions see of it, and what `?` makes of the faults of its parts.
+-- Why a run gives no answer: what definitions see of it, and what `?` makes of the faults of its
+-- parts.
 use Rattle.std.specs.Prelude.{ℕ, List, Bool, true, false, not, ◌&&◌, Result, Ok, Err}
 use Rattle.tf_notation.specs.declared.reading.NotationFault.{NotationFault}
 use Rattle.tf_model.specs.declared.prepare.Refusal.{Refusal}
@@ -55,7 +56,8 @@ abbrev pub is_of_answer : Stop → Bool
 is_of_answer (Refuses (ByAnswer fault)) = true
 is_of_answer _ = false
 
--- what is said only after the whole instance text was read: a value, and each refusal but that of a text that is too long
+-- what is said only after the whole instance text was read: a value, and each refusal but that of a
+-- text that is too long
 abbrev pub is_of_whole : {X A : Type 0} → Result X (RunFault A) → Bool
 is_of_whole (Ok x) = true
 is_of_whole (Err e) = is_refusal (stop_of e) && not (is_too_long (stop_of e))

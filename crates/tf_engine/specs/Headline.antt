@@ -16,15 +16,17 @@ use Rattle.tf_engine.specs.Checking.{IsChecked}
 use Rattle.tf_engine.specs.Refusal.{problem_for, task_for}
 use Rattle.tf_engine.specs.Runs.{Leaves}
 
--- a sheet with the request's problem, the task's sizes, and a best answer, whose certificate shows that it is best
-pub record IsSheetFor (request : RequestData) (k : SchedulingTask) (sheet : SheetData) : Type 0 where
-  pub problem : problem_for request.problem ≡ Ok sheet.problem
-  pub jobs : sheet.jobs ≡ length k.jobs
-  pub machines : sheet.machines ≡ k.machines
-  pub accepted : IsAccepted k sheet.answer
-  pub best : IsBestAnswer k sheet.answer
-  -- its numbers are in the ranges of an answer text
-  pub readable : IsReadable request.layout sheet
+-- a sheet with the request's problem, the task's sizes, and a best answer, whose certificate shows
+-- that it is best
+pub record IsSheetFor (request : RequestData) (k : SchedulingTask) (sheet : SheetData) : Type 0
+  where
+    pub problem : problem_for request.problem ≡ Ok sheet.problem
+    pub jobs : sheet.jobs ≡ length k.jobs
+    pub machines : sheet.machines ≡ k.machines
+    pub accepted : IsAccepted k sheet.answer
+    pub best : IsBestAnswer k sheet.answer
+    -- its numbers are in the ranges of an answer text
+    pub readable : IsReadable request.layout sheet
 
 -- the request and the text mean a task, and the sheet answers it
 pub record IsSolved (request : RequestData) (text : List ℕ) (sheet : SheetData) : Type 0 where
@@ -32,7 +34,8 @@ pub record IsSolved (request : RequestData) (text : List ℕ) (sheet : SheetData
   pub meant : task_for request text ≡ Ok task
   pub solved : IsSheetFor request task sheet
 
--- `out` is the text, in the request's layout, of a sheet that answers the request and the text. Where it is not too long,
+-- `out` is the text, in the request's layout, of a sheet that answers the request and the text.
+-- Where it is not too long,
 -- a check of it for the same request and text accepts it.
 pub record Answers (request : RequestData) (text out : List ℕ) : Type 0 where
   pub sheet : SheetData
@@ -40,7 +43,8 @@ pub record Answers (request : RequestData) (text out : List ℕ) : Type 0 where
   pub written : out ≡ answer_text request.layout sheet
   pub again : length out ≤ MOST_BYTES → IsChecked request text out Accepted
 
--- the request and the text mean a task, and the jobs are a cycle of its arcs, so that no timetable fits
+-- the request and the text mean a task, and the jobs are a cycle of its arcs, so that no timetable
+-- fits
 pub record IsCyclic (request : RequestData) (text : List ℕ) (jobs : List ℕ) : Type 0 where
   pub task : SchedulingTask
   pub meant : task_for request text ≡ Ok task
@@ -52,15 +56,21 @@ IsRefusedRun request text refused =
     (task_for request text ≡ Err refused)
     ⊎ ((jobs : List ℕ) × (refused ≡ ByCycle jobs) × IsCyclic request text jobs)
 
--- A run answers in full, or gives the one refusal. Where memory was wanting it gives neither; where the reader failed
+-- A run answers in full, or gives the one refusal. Where memory was wanting it gives neither; where
+-- the reader failed
 -- nothing was written, and where the writer failed a prefix of an answer was.
-abbrev pub Outcome : {A : Type 0} → RequestData → List ℕ → Bool → Bool → Option (List ℕ) → Option (List ℕ) → Result (Unit {0}) (RunFault A) → Type 0
-Outcome request text reader writer before after (Ok _) = (out : List ℕ) × Answers request text out × Appends before after out
+abbrev pub Outcome : {A : Type 0} → RequestData → List ℕ → Bool → Bool → Option (List ℕ)
+    → Option (List ℕ) → Result (Unit {0}) (RunFault A) → Type 0
+Outcome request text reader writer before after (Ok _) = (out : List ℕ) × Answers request text out
+    × Appends before after out
 Outcome request text reader writer before after (Err e) =
-    Leaves (Answers request text) (IsRefusedRun request text) (reader ≡ true) (writer ≡ true) before after (stop_of e)
+    Leaves (Answers request text) (IsRefusedRun request text) (reader ≡ true) (writer ≡ true) before
+    after (stop_of e)
 
--- The outcome is that of a text, which is all bytes of the reader up to its end where they are known. `reader` and
+-- The outcome is that of a text, which is all bytes of the reader up to its end where they are
+-- known. `reader` and
 -- `writer` tell whether they remember a failure.
-abbrev pub IsRunOf : {A : Type 0} → RequestData → Option (List ℕ) → Bool → Bool → Option (List ℕ) → Option (List ℕ) → Result (Unit {0}) (RunFault A) → Type 0
+abbrev pub IsRunOf : {A : Type 0} → RequestData → Option (List ℕ) → Bool → Bool → Option (List ℕ)
+    → Option (List ℕ) → Result (Unit {0}) (RunFault A) → Type 0
 IsRunOf request known reader writer before after result =
     (text : List ℕ) × IsTextOf known text × Outcome request text reader writer before after result

@@ -17,17 +17,22 @@ use Rattle.tf_engine.specs.Headline.{IsSolved, IsRefusedRun}
 use Rattle.tf_engine.specs.Runs.{StopsBy, StopsReading}
 
 -- exactly the problem or the refusal that is wanted
-abbrev pub GivesProblem : {A : Type 0} → Result Problem (RunFault A) → Result Problem Refused → Type 0
+abbrev pub GivesProblem : {A : Type 0} → Result Problem (RunFault A) → Result Problem Refused
+    → Type 0
 GivesProblem result wanted =
     MatchResult result (λ problem. wanted ≡ Ok problem)
     (λ e. (refused : Refused) × (stop_of e ≡ Refuses refused) × (wanted ≡ Err refused))
 
--- A part that reads gives what `says` says of the text, which is all bytes of the reader up to its end where they are
--- known. `old` and `new` are what the reader has left before and after, and `failed` tells whether it remembers a failure.
-pub record ReadsTo {X A : Type 0} (says : List ℕ → Result X Refused) (old new : Option (List ℕ)) (failed : Bool) (result : Result X (RunFault A)) : Type 0 where
+-- A part that reads gives what `says` says of the text, which is all bytes of the reader up to its
+-- end where they are
+-- known. `old` and `new` are what the reader has left before and after, and `failed` tells whether
+-- it remembers a failure.
+pub record ReadsTo {X A : Type 0} (says : List ℕ → Result X Refused) (old new : Option (List ℕ))
+    (failed : Bool) (result : Result X (RunFault A)) : Type 0 where
   pub text : List ℕ
   pub is_all : IsTextOf old text
-  pub given : MatchResult result (λ x. says text ≡ Ok x) (λ e. StopsReading (λ refused. says text ≡ Err refused) (failed ≡ true) (stop_of e))
+  pub given : MatchResult result (λ x. says text ≡ Ok x)
+      (λ e. StopsReading (λ refused. says text ≡ Err refused) (failed ≡ true) (stop_of e))
   pub unfailed : OnOk result (failed ≡ false)
   pub unhidden : IfErr result (λ e. is_refusal (stop_of e) ≡ true → failed ≡ false)
   pub ended : is_of_whole result ≡ true → IsAtEnd new
@@ -39,16 +44,20 @@ instance_said form text = refused_by ByText (instance_in form text)
 
 -- a sheet that answers the request and the text, or why there is none
 abbrev pub GivesSheet : {A : Type 0} → RequestData → List ℕ → Result SheetData (RunFault A) → Type 0
-GivesSheet request text result = MatchResult result (IsSolved request text) (λ e. StopsBy (IsRefusedRun request text) (stop_of e))
+GivesSheet request text result =
+    MatchResult result (IsSolved request text)
+    (λ e. StopsBy (IsRefusedRun request text) (stop_of e))
 
 -- the fault of the answer text, unless memory ran out or the reader failed
 abbrev pub StopsSaying : Option (List ℕ) → Stop → Type 0
-StopsSaying known (Refuses (ByAnswer fault)) = (answer : List ℕ) × IsTextOf known answer × (answer_in answer ≡ Err fault)
+StopsSaying known (Refuses (ByAnswer fault)) = (answer : List ℕ) × IsTextOf known answer
+    × (answer_in answer ≡ Err fault)
 StopsSaying known (Refuses _) = ⊥
 StopsSaying known Fails = Unit {0}
 StopsSaying known Wants = Unit {0}
 
 -- the sheet that the answer text says, or why there is none
 abbrev pub GivesSaid : {A : Type 0} → Option (List ℕ) → Result SheetData (RunFault A) → Type 0
-GivesSaid known (Ok sheet) = (answer : List ℕ) × IsTextOf known answer × (answer_in answer ≡ Ok sheet)
+GivesSaid known (Ok sheet) = (answer : List ℕ) × IsTextOf known answer
+    × (answer_in answer ≡ Ok sheet)
 GivesSaid known (Err e) = StopsSaying known (stop_of e)

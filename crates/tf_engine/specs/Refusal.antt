@@ -1,4 +1,5 @@
--- The task that a request and a text mean, or the one refusal: notation, class, the text's first fault, and then the
+-- The task that a request and a text mean, or the one refusal: notation, class, the text's first
+-- fault, and then the
 -- first reason why the instance is no task of the problem.
 use Rattle.std.specs.Prelude.{ℕ, List, Option, None, Some, Result, Ok, Err}
 use Rattle.tf_model.specs.declared.class.Class.{Class}
@@ -29,7 +30,8 @@ with_class problem (Some class) = Ok problem
 
 -- the problem, which has a class
 abbrev pub problem_for : List ℕ → Result Problem Refused
-problem_for text = refused_by ByNotation (notation text) >>= λ problem. with_class problem (class_of problem)
+problem_for text =
+    refused_by ByNotation (notation text) >>= λ problem. with_class problem (class_of problem)
 
 -- the instance that a text of this form holds
 abbrev pub instance_in : FormData → List ℕ → Result InstanceData ReadFault

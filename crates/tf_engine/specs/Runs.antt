@@ -4,7 +4,8 @@ use Rattle.std.specs.Io.KnownBytes.{Keeps}
 use Rattle.tf_text.specs.Counted.{AppendsPrefix}
 use Rattle.tf_engine.specs.Faults.{Refused, Stop, Refuses, Fails, Wants}
 
--- A refusal is one that may be given. Where a reader failed nothing was written, and where the writer failed a prefix of
+-- A refusal is one that may be given. Where a reader failed nothing was written, and where the
+-- writer failed a prefix of
 -- what may be written was. Where memory was wanting this says nothing.
 abbrev pub Leaves : (List ℕ → Type 0) → (Refused → Type 0) → Type 0 → Type 0
     → Option (List ℕ) → Option (List ℕ) → Stop → Type 0

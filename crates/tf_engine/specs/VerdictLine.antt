@@ -17,7 +17,8 @@ use Rattle.tf_engine.specs.declared.run_check.Checked.TheVariants.{Accepted, Oth
 abbrev pub piece_fault_words : PieceFault → List (List ℕ)
 piece_fault_words (OutOfRange piece) = codes "OutOfRange" ∷ decimal piece ∷ []
 piece_fault_words (EmptyPiece piece) = codes "EmptyPiece" ∷ decimal piece ∷ []
-piece_fault_words (MachineTwice machine time) = codes "MachineTwice" ∷ decimal machine ∷ signed_decimal time ∷ []
+piece_fault_words (MachineTwice machine time) =
+    codes "MachineTwice" ∷ decimal machine ∷ signed_decimal time ∷ []
 
 abbrev pub misfit_words : Misfit → List (List ℕ)
 misfit_words (misfits.Stranger job machine) = codes "Stranger" ∷ decimal job ∷ decimal machine ∷ []
@@ -25,7 +26,8 @@ misfit_words (misfits.JobTwice job time) = codes "JobTwice" ∷ decimal job ∷ 
 misfit_words (misfits.WrongAmount job) = codes "WrongAmount" ∷ decimal job ∷ []
 misfit_words (misfits.Broken job) = codes "Broken" ∷ decimal job ∷ []
 misfit_words (misfits.TooEarly job) = codes "TooEarly" ∷ decimal job ∷ []
-misfit_words (misfits.OutOfOrder before after) = codes "OutOfOrder" ∷ decimal before ∷ decimal after ∷ []
+misfit_words (misfits.OutOfOrder before after) =
+    codes "OutOfOrder" ∷ decimal before ∷ decimal after ∷ []
 misfit_words misfits.OutOfMemory = codes "OutOfMemory" ∷ []
 
 abbrev pub bound_fault_words : BoundFault → List (List ℕ)
@@ -49,4 +51,5 @@ reason_words reasons.BoundBelowValue = codes "BoundBelowValue" ∷ []
 abbrev pub verdict_line : Checked → List ℕ
 verdict_line Accepted = codes "accepted\n"
 verdict_line OtherTask = codes "rejected: OtherTask\n"
-verdict_line (Rejected reason) = codes "rejected: " ++ join_with_byte 32 (reason_words reason) ++ codes "\n"
+verdict_line (Rejected reason) =
+    codes "rejected: " ++ join_with_byte 32 (reason_words reason) ++ codes "\n"

@@ -2,8 +2,8 @@
 use std::io;
 use std::io::{ErrorKind, Read, Write};
 
-/// A reader that gives at most `step` bytes a call and fails at a call, counted from 1. An endless one begins again at
-/// its end.
+/// A reader that gives at most `step` bytes a call and fails at a call, counted from 1. An endless
+/// one begins again at its end.
 #[derive(Drop)]
 pub struct Feed<'a> {
     text: &'a [u8],

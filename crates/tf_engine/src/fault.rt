@@ -17,7 +17,8 @@ use tf_text::counted::Device;
 use tf_text::input::InputFault;
 use thiserror::Error;
 
-/// Why a run gives no answer. Want of memory is always [`RunFault::OutOfMemory`], and never within another variant.
+/// Why a run gives no answer. Want of memory is always [`RunFault::OutOfMemory`], and never within
+/// another variant.
 #[derive(Drop, Error)]
 #[derive_where(Debug, PartialEq, Eq)]
 pub enum RunFault<A: Allocator = Global> {

@@ -55,7 +55,8 @@ fn flow_read<A: Allocator + Copy, R: Read>(
     Ok(flow.finish()?)
 }
 
-/// The instance that the reader's text holds, which is in this form. The reader is read to its end, unless it fails.
+/// The instance that the reader's text holds, which is in this form. The reader is read to its end,
+/// unless it fails.
 pub(crate) fn instance_read<A: Allocator + Copy, B: Allocator, R: Read>(
     alloc: A,
     form: &Form<B>,

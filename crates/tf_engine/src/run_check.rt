@@ -33,12 +33,14 @@ pub enum Checked {
     Rejected(Reason),
 }
 
-/// Reads an instance and an answer to their ends, judges the answer, and writes the verdict in one line.
+/// Reads an instance and an answer to their ends, judges the answer, and writes the verdict in one
+/// line.
 ///
-/// The refusals come in the order of [`crate::run_solve::run_solve`], and after them reading the answer and its first
-/// fault. After a refusal nothing was written, unless it is [`RunFault::Device`], after which a prefix of the line may
-/// have been. An answer that is accepted is best: its pieces draw a timetable that fits the task and costs the value,
-/// and none that fits costs less.
+/// The refusals come in the order of [`crate::run_solve::run_solve`], and after them reading the
+/// answer and its first fault. After a refusal nothing was written, unless it is
+/// [`RunFault::Device`], after which a prefix of the line may have been. An answer that is accepted
+/// is best: its pieces draw a timetable that fits the task and costs the value, and none that fits
+/// costs less.
 pub fn run_check<A: Allocator + Copy, B: Allocator, R: Read, S: Read, W: Write>(
     alloc: A,
     request: &Request<B>,
@@ -46,23 +48,30 @@ pub fn run_check<A: Allocator + Copy, B: Allocator, R: Read, S: Read, W: Write>(
     answer: &mut Counted<S>,
     writer: &mut Counted<W>,
 ) -> Result<Checked, RunFault<A>>
-    ensures outcome { IsCheckOf request.now (R.remaining (inner_of instance.old)) (S.remaining (inner_of answer.old))
+    ensures outcome { IsCheckOf request.now (R.remaining (inner_of instance.old))
+        (S.remaining (inner_of answer.old))
         (has_failed instance.new) (has_failed answer.new) (has_failed writer.new)
         (W.contents (inner_of writer.old)) (W.contents (inner_of writer.new)) result }
     ensures unfailed { OnOk result
-        ((has_failed instance.new ≡ false) × (has_failed answer.new ≡ false) × (has_failed writer.new ≡ false)) }
-    ensures unwritten { IfErr result (λ e. is_failure (stop_of e) ≡ false → writer.new ≡ writer.old) }
-    // Nothing is read before the notation and the class are accepted, and no other refusal hides a failed reader.
-    ensures unread { IfErr (problem_for request.now.problem) (λ refused. IsErrAnd result (λ e. stop_of e ≡ Refuses refused)
+        ((has_failed instance.new ≡ false) × (has_failed answer.new ≡ false)
+        × (has_failed writer.new ≡ false)) }
+    ensures unwritten { IfErr result
+        (λ e. is_failure (stop_of e) ≡ false → writer.new ≡ writer.old) }
+    // Nothing is read before the notation and the class are accepted, and no other refusal hides a
+    // failed reader.
+    ensures unread { IfErr (problem_for request.now.problem)
+        (λ refused. IsErrAnd result (λ e. stop_of e ≡ Refuses refused)
         × (instance.new ≡ instance.old) × (answer.new ≡ answer.old)) }
     ensures read { IsOk (problem_for request.now.problem) →
         IfErr result (λ e. is_refusal (stop_of e) ≡ true → has_failed instance.new ≡ false) }
     ensures ended { IsOk (problem_for request.now.problem) →
         is_of_whole result ≡ true → IsAtEnd (R.remaining (inner_of instance.new)) }
-    ensures read_answer { IfErr result (λ e. is_of_answer (stop_of e) ≡ true → has_failed answer.new ≡ false) }
+    ensures read_answer { IfErr result
+        (λ e. is_of_answer (stop_of e) ≡ true → has_failed answer.new ≡ false) }
     // A refusal for the instance's sake leaves the answer unread.
     ensures answer_later { IfErr result (λ e.
-        is_refusal (stop_of e) ≡ true → is_of_answer (stop_of e) ≡ false → answer.new ≡ answer.old) }
+        is_refusal (stop_of e) ≡ true → is_of_answer (stop_of e) ≡ false →
+        answer.new ≡ answer.old) }
     ensures pulled { ConsumesAtMost (MOST_BYTES + 1) (R.remaining (inner_of instance.old))
         (R.remaining (inner_of instance.new)) }
     ensures pulled_answer { ConsumesAtMost (MOST_BYTES + 1) (S.remaining (inner_of answer.old))

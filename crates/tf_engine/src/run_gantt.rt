@@ -32,11 +32,16 @@ pub fn run_gantt<A: Allocator + Copy, R: Read, W: Write>(
     columns: u32,
 ) -> Result<(), RunFault<A>>
     requires columns { (1 ≤ columns) × (columns ≤ MOST_COLUMNS) }
-    ensures outcome { IsDrawingOf columns (R.remaining (inner_of reader.old)) (has_failed reader.new)
-        (has_failed writer.new) (W.contents (inner_of writer.old)) (W.contents (inner_of writer.new)) result }
-    ensures unfailed { OnOk result ((has_failed reader.new ≡ false) × (has_failed writer.new ≡ false)) }
-    ensures unwritten { IfErr result (λ e. is_failure (stop_of e) ≡ false → writer.new ≡ writer.old) }
-    ensures read { IfErr result (λ e. is_refusal (stop_of e) ≡ true → has_failed reader.new ≡ false) }
+    ensures outcome { IsDrawingOf columns (R.remaining (inner_of reader.old))
+        (has_failed reader.new)
+        (has_failed writer.new) (W.contents (inner_of writer.old))
+        (W.contents (inner_of writer.new)) result }
+    ensures unfailed { OnOk result
+        ((has_failed reader.new ≡ false) × (has_failed writer.new ≡ false)) }
+    ensures unwritten { IfErr result
+        (λ e. is_failure (stop_of e) ≡ false → writer.new ≡ writer.old) }
+    ensures read { IfErr result
+        (λ e. is_refusal (stop_of e) ≡ true → has_failed reader.new ≡ false) }
     ensures pulled { ConsumesAtMost (MOST_BYTES + 1) (R.remaining (inner_of reader.old))
         (R.remaining (inner_of reader.new)) }
 {

@@ -23,20 +23,25 @@ use tf_text::counted::Counted;
 /// Reads an instance to its end, solves it, and writes the answer in the request's layout and
 /// nothing else.
 ///
-/// The refusals come in this order: notation, class, reading the input, its text, the rest of what makes no task. A
-/// notation fault and a missing class are answered before anything is read. After a refusal nothing was written,
-/// unless it is [`RunFault::Device`], after which a prefix of the answer may have been.
+/// The refusals come in this order: notation, class, reading the input, its text, the rest of what
+/// makes no task. A notation fault and a missing class are answered before anything is read. After
+/// a refusal nothing was written, unless it is [`RunFault::Device`], after which a prefix of the
+/// answer may have been.
 pub fn run_solve<A: Allocator + Copy, B: Allocator, R: Read, W: Write>(
     alloc: A,
     request: &Request<B>,
     reader: &mut Counted<R>,
     writer: &mut Counted<W>,
 ) -> Result<(), RunFault<A>>
-    ensures outcome { IsRunOf request.now (R.remaining (inner_of reader.old)) (has_failed reader.new) (has_failed writer.new)
+    ensures outcome { IsRunOf request.now (R.remaining (inner_of reader.old))
+        (has_failed reader.new) (has_failed writer.new)
         (W.contents (inner_of writer.old)) (W.contents (inner_of writer.new)) result }
-    ensures unfailed { OnOk result ((has_failed reader.new ≡ false) × (has_failed writer.new ≡ false)) }
-    ensures unwritten { IfErr result (λ e. is_failure (stop_of e) ≡ false → writer.new ≡ writer.old) }
-    // Nothing is read before the notation and the class are accepted, and no other refusal hides a failed reader.
+    ensures unfailed { OnOk result
+        ((has_failed reader.new ≡ false) × (has_failed writer.new ≡ false)) }
+    ensures unwritten { IfErr result
+        (λ e. is_failure (stop_of e) ≡ false → writer.new ≡ writer.old) }
+    // Nothing is read before the notation and the class are accepted, and no other refusal hides a
+    // failed reader.
     ensures unread { IfErr (problem_for request.now.problem) (λ refused.
         IsErrAnd result (λ e. stop_of e ≡ Refuses refused) × (reader.new ≡ reader.old)) }
     ensures read { IsOk (problem_for request.now.problem) →
@@ -61,7 +66,8 @@ fn sheet_for<A: Allocator + Copy, B: Allocator>(
     task: &Task<A>,
 ) -> Result<Sheet<A>, RunFault<A>>
     requires { problem_for request.now.problem ≡ Ok problem.now }
-    ensures { (text : List ℕ) → task_in request.now problem.now text ≡ Ok task.now → GivesSheet request.now text result }
+    ensures { (text : List ℕ) → task_in request.now problem.now text ≡ Ok task.now →
+        GivesSheet request.now text result }
 {
     let answer = solve(alloc, task)?;
     // A number that is read is known to fit its type, as the text of the sheet asks.

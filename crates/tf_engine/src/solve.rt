@@ -25,7 +25,8 @@ use thiserror::Error;
 #[derive(Drop, Error)]
 #[derive_where(Debug, PartialEq, Eq)]
 pub enum SolveFault<A: Allocator = Global> {
-    /// Each of these jobs precedes the next by an arc, and the last precedes the first, so that no timetable fits.
+    /// Each of these jobs precedes the next by an arc, and the last precedes the first, so that no
+    /// timetable fits.
     #[error("the arcs form a cycle")]
     Cycle(JobList<A>),
     /// A growth was refused.
@@ -52,8 +53,8 @@ impl<A: Allocator> From<OutOfMemory> for SolveFault<A> {
     }
 }
 
-/// A best timetable of the task, what it costs, and the certificate that none costs less. The class alone decides which
-/// solver is asked; a cycle of arcs is refused, since then no timetable fits.
+/// A best timetable of the task, what it costs, and the certificate that none costs less. The class
+/// alone decides which solver is asked; a cycle of arcs is refused, since then no timetable fits.
 pub fn solve<A: Allocator + Copy, B: Allocator>(
     alloc: A,
     task: &Task<B>,

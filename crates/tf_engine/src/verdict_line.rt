@@ -34,7 +34,8 @@ pub fn verdict_bytes<A: Allocator + Copy>(
 }
 
 fn push_reason<A: Allocator>(text: &mut Vec<u8, A>, reason: &Reason) -> Result<(), OutOfMemory>
-    ensures { OnOk result (text.new.items ≡ text.old.items ++ join_with_byte 32 (reason_words reason.now)) }
+    ensures { OnOk result
+        (text.new.items ≡ text.old.items ++ join_with_byte 32 (reason_words reason.now)) }
 {
     match reason {
         Reason::Pieces(fault) => push_piece_fault(text, fault),
@@ -51,7 +52,8 @@ fn push_one<A: Allocator, I: Integer>(
     name: &[u8],
     number: I,
 ) -> Result<(), OutOfMemory>
-    ensures { OnOk result (text.new.items ≡ text.old.items ++ join_with_byte 32 (name.now ∷ I.text number ∷ [])) }
+    ensures { OnOk result
+        (text.new.items ≡ text.old.items ++ join_with_byte 32 (name.now ∷ I.text number ∷ [])) }
 {
     text.extend_from_slice(name)?;
     push_number(text, number)
@@ -64,7 +66,9 @@ fn push_two<A: Allocator, I: Integer, J: Integer>(
     first: I,
     second: J,
 ) -> Result<(), OutOfMemory>
-    ensures { OnOk result (text.new.items ≡ text.old.items ++ join_with_byte 32 (name.now ∷ I.text first ∷ J.text second ∷ [])) }
+    ensures { OnOk result
+        (text.new.items ≡ text.old.items
+        ++ join_with_byte 32 (name.now ∷ I.text first ∷ J.text second ∷ [])) }
 {
     text.extend_from_slice(name)?;
     push_number(text, first)?;
@@ -83,7 +87,8 @@ fn push_piece_fault<A: Allocator>(
     text: &mut Vec<u8, A>,
     fault: &PieceFault,
 ) -> Result<(), OutOfMemory>
-    ensures { OnOk result (text.new.items ≡ text.old.items ++ join_with_byte 32 (piece_fault_words fault.now)) }
+    ensures { OnOk result
+        (text.new.items ≡ text.old.items ++ join_with_byte 32 (piece_fault_words fault.now)) }
 {
     match *fault {
         PieceFault::OutOfRange(piece) => push_one(text, b"OutOfRange", piece),
@@ -95,7 +100,8 @@ fn push_piece_fault<A: Allocator>(
 }
 
 fn push_misfit<A: Allocator>(text: &mut Vec<u8, A>, misfit: &Misfit) -> Result<(), OutOfMemory>
-    ensures { OnOk result (text.new.items ≡ text.old.items ++ join_with_byte 32 (misfit_words misfit.now)) }
+    ensures { OnOk result
+        (text.new.items ≡ text.old.items ++ join_with_byte 32 (misfit_words misfit.now)) }
 {
     match *misfit {
         Misfit::Stranger(job, machine) => push_two(text, b"Stranger", job.get(), machine.get()),
@@ -114,7 +120,8 @@ fn push_bound_fault<A: Allocator>(
     text: &mut Vec<u8, A>,
     fault: &BoundFault,
 ) -> Result<(), OutOfMemory>
-    ensures { OnOk result (text.new.items ≡ text.old.items ++ join_with_byte 32 (bound_fault_words fault.now)) }
+    ensures { OnOk result
+        (text.new.items ≡ text.old.items ++ join_with_byte 32 (bound_fault_words fault.now)) }
 {
     match *fault {
         BoundFault::OtherKind => push_name(text, b"OtherKind"),

@@ -125,7 +125,9 @@ pub sum_plain : (c : Class) → IsTrue (is_sum c) → IsFalse (is_shop c)
 sum_plain c = second_fails (is_sum c) (is_shop c) (sum_or_shop c)
 
 pub shop_by_makespan : (c : Class) → IsTrue (is_shop c) → objective_of c ≡ Makespan
-shop_by_makespan c h = spanning c (not-false (is_span c) (second_fails (is_shop c) (not (is_span c)) (shop_or_not_span c) h))
+shop_by_makespan c h =
+    spanning c
+    (not-false (is_span c) (second_fails (is_shop c) (not (is_span c)) (shop_or_not_span c) h))
 
 pub sum_unreleased : (c : Class) → IsTrue (is_sum c) → IsFalse (is_released c)
 sum_unreleased c = second_fails (is_sum c) (is_released c) (sum_or_released c)

@@ -35,7 +35,8 @@ use Rattle.tf_model.proofs.Costs.{sum_by-all_jobs}
 
 -- ---- what an absent fault says
 
-none_of_two : {A : Type 0} (o later : Option A) → option_or o later ≡ None → (o ≡ None) × (later ≡ None)
+none_of_two : {A : Type 0} (o later : Option A) → option_or o later ≡ None
+    → (o ≡ None) × (later ≡ None)
 none_of_two (Some x) later e = cc
 none_of_two None later e = (refl, e)
 
@@ -58,10 +59,14 @@ not_both false b e t = cc
 not_below : (n : ℕ) → ltb n 1 ≡ false → 1 ≤ n
 not_below n e = ltb-false n 1 e
 
-none_at : {X : Type 0} (p : X → Bool) (xs : List X) → position p xs ≡ None → All (λ x. p x ≡ false) xs
-none_at p xs e k d h = fails_before_first p xs k d (omega (arith, h, beyond (ltb (position_or_len p xs) (length xs)) refl e))
+none_at : {X : Type 0} (p : X → Bool) (xs : List X) → position p xs ≡ None
+    → All (λ x. p x ≡ false) xs
+none_at p xs e k d h =
+    fails_before_first p xs k d
+    (omega (arith, h, beyond (ltb (position_or_len p xs) (length xs)) refl e))
   where
-    beyond : (b : Bool) → ltb (position_or_len p xs) (length xs) ≡ b → cond b (Some (position_or_len p xs)) None ≡ None → length xs ≤ position_or_len p xs
+    beyond : (b : Bool) → ltb (position_or_len p xs) (length xs) ≡ b
+        → cond b (Some (position_or_len p xs)) None ≡ None → length xs ≤ position_or_len p xs
     beyond true is e = cc
     beyond false is e = ltb-false _ _ is
 
@@ -74,17 +79,26 @@ count_for-Ok class n m e = let is : n ≡ m = same _ e in subst (λ z. count_for
     same true e = cc
     same false e = cc
 
-pub IsCountFor-machine_count : (class : Class) (notation argument instance : Option ℕ) (m : ℕ) → machine_count class notation argument instance ≡ Ok m → IsCountFor class m
+pub IsCountFor-machine_count : (class : Class) (notation argument instance : Option ℕ) (m : ℕ)
+    → machine_count class notation argument instance ≡ Ok m → IsCountFor class m
 IsCountFor-machine_count class notation argument instance m = by_single (is_single class)
   where
-    at_last : (agreed notation argument >>= λ x. agreed x instance >>= λ y. given y >>= λ n. count_for class n) ≡ Ok m → count_for class m ≡ Ok m
+    at_last : (agreed notation argument >>= λ x. agreed x instance >>= λ y. given y
+        >>= λ n. count_for class n) ≡ Ok m
+        → count_for class m ≡ Ok m
     at_last e =
-        let first = bind_ok (agreed notation argument) (λ x. agreed x instance >>= λ y. given y >>= λ n. count_for class n) m e in
-        let second = bind_ok (agreed first.0 instance) (λ y. given y >>= λ n. count_for class n) m first.2 in
+        let first = bind_ok (agreed notation argument)
+        (λ x. agreed x instance >>= λ y. given y >>= λ n. count_for class n) m e in
+        let second =
+        bind_ok (agreed first.0 instance) (λ y. given y >>= λ n. count_for class n) m first.2 in
         let third = bind_ok (given second.0) (λ n. count_for class n) m second.2 in
         count_for-Ok class third.0 m third.2
 
-    by_single : (s : Bool) → cond s (Ok 1) (agreed notation argument >>= λ x. agreed x instance >>= λ y. given y >>= λ n. count_for class n) ≡ Ok m → cond s (Ok 1) (count_for class m) ≡ Ok m
+    by_single : (s : Bool)
+        → cond s (Ok 1)
+        (agreed notation argument >>= λ x. agreed x instance >>= λ y. given y
+        >>= λ n. count_for class n) ≡ Ok m
+        → cond s (Ok 1) (count_for class m) ≡ Ok m
     by_single true e = e
     by_single false e = at_last e
 
@@ -105,7 +119,8 @@ counted class m = by_single (is_single class) refl
     is_two_of true is e = grind (arith, is)
     is_two_of false is e = cc
 
-    by_single : (s : Bool) → is_single class ≡ s → cond s (Ok 1) (count_for class m) ≡ Ok m → FitsMachines class m
+    by_single : (s : Bool) → is_single class ≡ s → cond s (Ok 1) (count_for class m) ≡ Ok m
+        → FitsMachines class m
     by_single true is e =
         let one : m ≡ 1 = cc in
         record {
@@ -115,7 +130,8 @@ counted class m = by_single (is_single class) refl
           shop = λ h. let not : is_single class ≡ false = shop_not_single class h in cc;
         }
     by_single false is e =
-        let tests = neither (ltb m 1 || ltb MOST_MACHINES m) (is_shop class && not (eqb m 2)) (accepted _ e) in
+        let tests = neither (ltb m 1 || ltb MOST_MACHINES m) (is_shop class && not (eqb m 2))
+        (accepted _ e) in
         let counts = neither (ltb m 1) (ltb MOST_MACHINES m) tests.0 in
         record {
           some = ltb-false m 1 counts.0;
@@ -130,7 +146,8 @@ counted class m = by_single (is_single class) refl
 abbrev no_fields : JobFields
 no_fields = record { times = One (pos 0); weight = None; due = None; release = None; cost = None }
 
-one_work : (times : Times) → is_two times ≡ false → any_time (λ p. int_lt p (pos 1)) times ≡ false → 1 ≤ as_time (first_time times) + as_time (second_time times)
+one_work : (times : Times) → is_two times ≡ false → any_time (λ p. int_lt p (pos 1)) times ≡ false
+    → 1 ≤ as_time (first_time times) + as_time (second_time times)
 one_work (One (pos n)) one worked = omega (arith, ints)
 one_work (One (negsuc n)) one worked = cc
 one_work (Two a b) one worked = cc
@@ -140,8 +157,10 @@ no_second (One a) one = refl
 no_second (Two a b) one = cc
 
 within : (z : ℤ) → is_beyond z ≡ false → IsWithin z
-within (pos n) e = let le : n ≤ limit = ltb-false _ _ e in (omega (arith, ints), omega (arith, ints))
-within (negsuc n) e = let le : suc n ≤ limit = ltb-false _ _ e in (omega (arith, ints), omega (arith, ints))
+within (pos n) e = let le : n ≤ limit = ltb-false _ _ e in
+    (omega (arith, ints), omega (arith, ints))
+within (negsuc n) e = let le : suc n ≤ limit = ltb-false _ _ e in
+    (omega (arith, ints), omega (arith, ints))
 
 due_within : (due : Option ℤ) → any_given is_beyond due ≡ false → IsWithin (unwrap_or due (pos 0))
 due_within None e = within (pos 0) refl
@@ -151,50 +170,91 @@ kept_within : (b : Bool) (z : ℤ) → IsWithin z → IsWithin (cond b z (pos 0)
 kept_within true z h = h
 kept_within false z h = within (pos 0) refl
 
-release-le-greatest : (jobs : List JobData) (i : ℕ) (d : JobData) → i < length jobs → (get_or jobs i d).release ≤ greatest_of (map (λ (job : JobData). job.release) jobs)
+release-le-greatest : (jobs : List JobData) (i : ℕ) (d : JobData) → i < length jobs
+    → (get_or jobs i d).release ≤ greatest_of (map (λ (job : JobData). job.release) jobs)
 release-le-greatest [] i d h = absurd (omega (arith, h))
 release-le-greatest (job ∷ jobs) zero d h = omega arith
-release-le-greatest (job ∷ jobs) (suc i) d h = omega (arith, release-le-greatest jobs i d (omega (arith, h)))
+release-le-greatest (job ∷ jobs) (suc i) d h =
+    omega (arith, release-le-greatest jobs i d (omega (arith, h)))
 
 -- ---- costs
 
-price_rises : (o : Objective) (k : SchedulingTask) (j c e : ℕ) → (o ≡ Dearest → IsStepCost (costs_of k j)) → c ≤ e → price_by o k j c ≤ℤ price_by o k j e
+price_rises : (o : Objective) (k : SchedulingTask) (j c e : ℕ)
+    → (o ≡ Dearest → IsStepCost (costs_of k j)) → c ≤ e → price_by o k j c ≤ℤ price_by o k j e
 price_rises Makespan k j c e steps le = omega (arith, ints)
 price_rises Lateness k j c e steps le = late_law (job_data k j).due c e le
 price_rises Dearest k j c e steps le = step_law (costs_of k j) c e (steps refl) le
-price_rises Total k j c e steps le = let less : (job_data k j).weight * c ≤ (job_data k j).weight * e = mul-le-mul_left (job_data k j).weight le in omega (arith, ints)
+price_rises Total k j c e steps le =
+    let less : (job_data k j).weight * c ≤ (job_data k j).weight * e =
+    mul-le-mul_left (job_data k j).weight le in omega (arith, ints)
 
 -- ---- the task
 
-module _ (class : Class) (m : ℕ) (i : InstanceData) (instance : IsInstance i) (refusal : jobs_refusal class i.jobs ≡ None) where
+module _ (class : Class) (m : ℕ) (i : InstanceData) (instance : IsInstance i)
+    (refusal : jobs_refusal class i.jobs ≡ None) where
   few_jobs : (1 ≤ length i.jobs) × (length i.jobs ≤ MOST_JOBS)
   few_jobs =
-      let counts = none_of_two (counts_fault (length i.jobs) i.machines (length i.arcs)) (option_or (option_map NegativeNumber (first_with has_negative i.jobs)) (option_or (option_map OutOfRange (first_with has_beyond i.jobs)) (option_map BadArc (first_with (is_bad_arc (length i.jobs)) i.arcs)))) instance in
-      let no_jobs = none_of_two (then_some (eqb (length i.jobs) 0) NoJobs) (option_or (then_some (ltb MOST_JOBS (length i.jobs)) TooManyJobs) (option_or (count_fault i.machines) (then_some (ltb MOST_ARCS (length i.arcs)) TooManyArcs))) counts.0 in
-      let many_jobs = none_of_two (then_some (ltb MOST_JOBS (length i.jobs)) TooManyJobs) (option_or (count_fault i.machines) (then_some (ltb MOST_ARCS (length i.arcs)) TooManyArcs)) no_jobs.1 in
+      let counts =
+      none_of_two (counts_fault (length i.jobs) i.machines (length i.arcs))
+      (option_or (option_map NegativeNumber (first_with has_negative i.jobs))
+      (option_or (option_map OutOfRange (first_with has_beyond i.jobs))
+      (option_map BadArc (first_with (is_bad_arc (length i.jobs)) i.arcs)))) instance in
+      let no_jobs =
+      none_of_two (then_some (eqb (length i.jobs) 0) NoJobs)
+      (option_or (then_some (ltb MOST_JOBS (length i.jobs)) TooManyJobs)
+      (option_or (count_fault i.machines)
+      (then_some (ltb MOST_ARCS (length i.arcs)) TooManyArcs))) counts.0 in
+      let many_jobs =
+      none_of_two (then_some (ltb MOST_JOBS (length i.jobs)) TooManyJobs)
+      (option_or (count_fault i.machines)
+      (then_some (ltb MOST_ARCS (length i.arcs)) TooManyArcs)) no_jobs.1 in
       (not_zero (length i.jobs) (not_then _ _ no_jobs.0), ltb-false _ _ (not_then _ _ many_jobs.0))
     where
       not_zero : (n : ℕ) → eqb n 0 ≡ false → 1 ≤ n
       not_zero zero e = cc
       not_zero (suc n) e = omega arith
 
-  good_jobs : All (λ job. has_beyond job ≡ false) i.jobs × All (λ arc. is_bad_arc (length i.jobs) arc ≡ false) i.arcs
+  good_jobs : All (λ job. has_beyond job ≡ false) i.jobs
+      × All (λ arc. is_bad_arc (length i.jobs) arc ≡ false) i.arcs
   good_jobs =
-      let counts = none_of_two (counts_fault (length i.jobs) i.machines (length i.arcs)) (option_or (option_map NegativeNumber (first_with has_negative i.jobs)) (option_or (option_map OutOfRange (first_with has_beyond i.jobs)) (option_map BadArc (first_with (is_bad_arc (length i.jobs)) i.arcs)))) instance in
-      let negative = none_of_two (option_map NegativeNumber (first_with has_negative i.jobs)) (option_or (option_map OutOfRange (first_with has_beyond i.jobs)) (option_map BadArc (first_with (is_bad_arc (length i.jobs)) i.arcs))) counts.1 in
-      let beyond = none_of_two (option_map OutOfRange (first_with has_beyond i.jobs)) (option_map BadArc (first_with (is_bad_arc (length i.jobs)) i.arcs)) negative.1 in
-      (none_at has_beyond i.jobs (none_mapped _ _ (none_mapped _ _ beyond.0)), none_at (is_bad_arc (length i.jobs)) i.arcs (none_mapped _ _ (none_mapped _ _ beyond.1)))
+      let counts =
+      none_of_two (counts_fault (length i.jobs) i.machines (length i.arcs))
+      (option_or (option_map NegativeNumber (first_with has_negative i.jobs))
+      (option_or (option_map OutOfRange (first_with has_beyond i.jobs))
+      (option_map BadArc (first_with (is_bad_arc (length i.jobs)) i.arcs)))) instance in
+      let negative =
+      none_of_two (option_map NegativeNumber (first_with has_negative i.jobs))
+      (option_or (option_map OutOfRange (first_with has_beyond i.jobs))
+      (option_map BadArc (first_with (is_bad_arc (length i.jobs)) i.arcs))) counts.1 in
+      let beyond =
+      none_of_two (option_map OutOfRange (first_with has_beyond i.jobs))
+      (option_map BadArc (first_with (is_bad_arc (length i.jobs)) i.arcs)) negative.1 in (
+        none_at has_beyond i.jobs (none_mapped _ _ (none_mapped _ _ beyond.0)),
+        none_at (is_bad_arc (length i.jobs)) i.arcs (none_mapped _ _ (none_mapped _ _ beyond.1)),
+      )
 
   right_times : All (λ job. has_wrong_times class job ≡ false) i.jobs
   right_times =
-      let parts = none_of_two (option_map WrongTimes (first_with (has_wrong_times class) i.jobs)) (option_or (missing_from class 1 i.jobs) (option_or (zero_time class i.jobs) (then_some (is_too_large class (map (data_of class) i.jobs)) TotalTooLarge))) refusal in
+      let parts = none_of_two (option_map WrongTimes (first_with (has_wrong_times class) i.jobs))
+      (option_or (missing_from class 1 i.jobs)
+      (option_or (zero_time class i.jobs)
+      (then_some (is_too_large class (map (data_of class) i.jobs)) TotalTooLarge))) refusal in
       none_at (has_wrong_times class) i.jobs (none_mapped _ _ (none_mapped _ _ parts.0))
 
-  enough : (zero_time class i.jobs ≡ None) × (is_too_large class (map (data_of class) i.jobs) ≡ false)
+  enough : (zero_time class i.jobs ≡ None)
+      × (is_too_large class (map (data_of class) i.jobs) ≡ false)
   enough =
-      let parts = none_of_two (option_map WrongTimes (first_with (has_wrong_times class) i.jobs)) (option_or (missing_from class 1 i.jobs) (option_or (zero_time class i.jobs) (then_some (is_too_large class (map (data_of class) i.jobs)) TotalTooLarge))) refusal in
-      let missing = none_of_two (missing_from class 1 i.jobs) (option_or (zero_time class i.jobs) (then_some (is_too_large class (map (data_of class) i.jobs)) TotalTooLarge)) parts.1 in
-      let zero_times = none_of_two (zero_time class i.jobs) (then_some (is_too_large class (map (data_of class) i.jobs)) TotalTooLarge) missing.1 in
+      let parts = none_of_two (option_map WrongTimes (first_with (has_wrong_times class) i.jobs))
+      (option_or (missing_from class 1 i.jobs)
+      (option_or (zero_time class i.jobs)
+      (then_some (is_too_large class (map (data_of class) i.jobs)) TotalTooLarge))) refusal in
+      let missing =
+      none_of_two (missing_from class 1 i.jobs)
+      (option_or (zero_time class i.jobs)
+      (then_some (is_too_large class (map (data_of class) i.jobs)) TotalTooLarge)) parts.1 in
+      let zero_times =
+      none_of_two (zero_time class i.jobs)
+      (then_some (is_too_large class (map (data_of class) i.jobs)) TotalTooLarge) missing.1 in
       (zero_times.0, not_then _ _ zero_times.1)
 
   totals : (jobs : List JobData) → is_too_large class jobs ≡ false
@@ -204,45 +264,73 @@ module _ (class : Class) (m : ℕ) (i : InstanceData) (instance : IsInstance i) 
   totals jobs e =
       let last : ℕ = greatest_of (map (λ (job : JobData). job.release) jobs) in
       let weight : ℕ = sum_by (λ (job : JobData). job.weight) jobs in
-      let tests = neither (ltb limit (work_of jobs) || ltb limit (last + work_of jobs)) (is_sum class && ltb limit (weight * work_of jobs)) e in
-      let first = neither (ltb limit (work_of jobs)) (ltb limit (last + work_of jobs)) tests.0 in
-      (ltb-false _ _ first.0, ltb-false _ _ first.1, λ h. ltb-false _ _ (not_both (is_sum class) (ltb limit (weight * work_of jobs)) tests.1 h))
+      let tests = neither (ltb limit (work_of jobs) || ltb limit (last + work_of jobs))
+      (is_sum class && ltb limit (weight * work_of jobs)) e in
+      let first = neither (ltb limit (work_of jobs)) (ltb limit (last + work_of jobs)) tests.0 in (
+        ltb-false _ _ first.0,
+        ltb-false _ _ first.1,
+        λ h. ltb-false _ _
+            (not_both (is_sum class) (ltb limit (weight * work_of jobs)) tests.1 h),
+      )
 
   fields : ℕ → JobFields
   fields j = get_or i.jobs (j - 1) no_fields
 
-  data-at : (j : ℕ) → IsJob (task_of class m i) j → job_data (task_of class m i) j ≡ data_of class (fields j)
+  data-at : (j : ℕ) → IsJob (task_of class m i) j
+      → job_data (task_of class m i) j ≡ data_of class (fields j)
   unfolding fields
-  data-at j h = get_or-map (data_of class) i.jobs (j - 1) no_fields no_job (omega (arith, h.0, h.1, length-map i.jobs (data_of class)))
+  data-at j h =
+      get_or-map (data_of class) i.jobs (j - 1) no_fields no_job
+      (omega (arith, h.0, h.1, length-map i.jobs (data_of class)))
 
-  each : (p : JobFields → Bool) → All (λ job. p job ≡ false) i.jobs → (j : ℕ) → IsJob (task_of class m i) j → p (fields j) ≡ false
+  each : (p : JobFields → Bool) → All (λ job. p job ≡ false) i.jobs → (j : ℕ)
+      → IsJob (task_of class m i) j → p (fields j) ≡ false
   unfolding fields
-  each p all j h = all (j - 1) no_fields (omega (arith, h.0, h.1, length-map i.jobs (data_of class)))
+  each p all j h =
+      all (j - 1) no_fields (omega (arith, h.0, h.1, length-map i.jobs (data_of class)))
 
-  one_time : IsFalse (is_shop class) → (job : JobFields) → has_wrong_times class job ≡ false → is_two job.times ≡ false
-  one_time plain job e = sym (cond-false (is_shop class) (not (is_two job.times)) (is_two job.times) plain) ∙ e
+  one_time : IsFalse (is_shop class) → (job : JobFields) → has_wrong_times class job ≡ false
+      → is_two job.times ≡ false
+  one_time plain job e =
+      sym (cond-false (is_shop class) (not (is_two job.times)) (is_two job.times) plain) ∙ e
 
   worked : IsFalse (is_shop class) → All (λ job. has_zero_time job ≡ false) i.jobs
-  worked plain = none_at has_zero_time i.jobs (none_mapped _ _ (none_mapped _ _ (sym (cond-false (is_shop class) None (option_map ZeroTime (first_with has_zero_time i.jobs)) plain) ∙ enough.0)))
+  worked plain =
+      none_at has_zero_time i.jobs
+      (none_mapped _ _
+      (none_mapped _ _
+      (sym (cond-false (is_shop class) None (option_map ZeroTime (first_with has_zero_time i.jobs))
+      plain) ∙ enough.0)))
 
-  arcs_in : (b : Bool) → All (λ arc. IsJob (task_of class m i) arc.0 × IsJob (task_of class m i) arc.1) (cond b i.arcs [])
+  arcs_in : (b : Bool)
+      → All (λ arc. IsJob (task_of class m i) arc.0 × IsJob (task_of class m i) arc.1)
+      (cond b i.arcs [])
   arcs_in true n d h =
-      let tests = neither (is_no_job (length i.jobs) (get_or i.arcs n d).0) (is_no_job (length i.jobs) (get_or i.arcs n d).1) (good_jobs.1 n d h) in
+      let tests = neither (is_no_job (length i.jobs) (get_or i.arcs n d).0)
+      (is_no_job (length i.jobs) (get_or i.arcs n d).1) (good_jobs.1 n d h) in
       (there _ tests.0, there _ tests.1)
     where
       there : (j : ℕ) → is_no_job (length i.jobs) j ≡ false → IsJob (task_of class m i) j
-      there j e = let parts = neither (ltb j 1) (ltb (length i.jobs) j) e in (ltb-false j 1 parts.0, omega (arith, ltb-false (length i.jobs) j parts.1, length-map i.jobs (data_of class)))
+      there j e = let parts = neither (ltb j 1) (ltb (length i.jobs) j) e in (
+        ltb-false j 1 parts.0,
+        omega (arith, ltb-false (length i.jobs) j parts.1, length-map i.jobs (data_of class)),
+      )
   arcs_in false n d h = absurd (omega (arith, h))
 
-  pub task_of-IsSound : IsCountFor class m → All IsStepCost (kept_costs class i.jobs) → IsSound (task_of class m i)
+  pub task_of-IsSound : IsCountFor class m → All IsStepCost (kept_costs class i.jobs)
+      → IsSound (task_of class m i)
   task_of-IsSound machines steps =
       let k : SchedulingTask = task_of class m i in
       let fits : FitsMachines class m = counted class m machines in
       let same : length k.jobs ≡ length i.jobs = length-map i.jobs (data_of class) in
       let sums = totals k.jobs enough.1 in
-      let work : sum_by (time_of k) (all_jobs k) ≡ work_of k.jobs = sum_by-all_jobs k (λ job. job.first + job.second) in
-      let weights : sum_by (λ j. (job_data k j).weight) (all_jobs k) ≡ sum_by (λ (job : JobData). job.weight) k.jobs = sum_by-all_jobs k (λ job. job.weight) in
-      let costed : IsTrue (is_costed class) → length k.costs ≡ length k.jobs = λ h. ap length (cond-true (is_costed class) (map cost_of i.jobs) [] h) ∙ length-map i.jobs cost_of ∙ sym same in
+      let work : sum_by (time_of k) (all_jobs k) ≡ work_of k.jobs =
+      sum_by-all_jobs k (λ job. job.first + job.second) in
+      let weights : sum_by (λ j. (job_data k j).weight) (all_jobs k)
+      ≡ sum_by (λ (job : JobData). job.weight) k.jobs = sum_by-all_jobs k (λ job. job.weight) in
+      let costed : IsTrue (is_costed class) → length k.costs ≡ length k.jobs =
+      λ h. ap length (cond-true (is_costed class) (map cost_of i.jobs) [] h)
+      ∙ length-map i.jobs cost_of ∙ sym same in
       record {
         some_job = omega (arith, same, few_jobs.0);
         few_jobs = omega (arith, same, few_jobs.1);
@@ -252,24 +340,45 @@ module _ (class : Class) (m : ℕ) (i : InstanceData) (instance : IsInstance i) 
         shop = fits.shop;
         worked = λ plain j h.
             subst (λ (job : JobData). 1 ≤ job.first + job.second) (sym (data-at j h))
-            (one_work (fields j).times (one_time plain (fields j) (each (has_wrong_times class) right_times j h)) (each has_zero_time (worked plain) j h));
-        one_time = λ plain j h. ap (λ (job : JobData). job.second) (data-at j h) ∙ no_second (fields j).times (one_time plain (fields j) (each (has_wrong_times class) right_times j h));
-        unit_weights = λ plain j h. ap (λ (job : JobData). job.weight) (data-at j h) ∙ cond-false (is_weighted class) _ 1 plain;
-        unreleased = λ plain j h. ap (λ (job : JobData). job.release) (data-at j h) ∙ cond-false (is_released class) _ 0 plain;
+            (one_work (fields j).times
+            (one_time plain (fields j) (each (has_wrong_times class) right_times j h))
+            (each has_zero_time (worked plain) j h));
+        one_time = λ plain j h. ap (λ (job : JobData). job.second) (data-at j h)
+            ∙ no_second (fields j).times
+            (one_time plain (fields j) (each (has_wrong_times class) right_times j h));
+        unit_weights = λ plain j h. ap (λ (job : JobData). job.weight) (data-at j h)
+            ∙ cond-false (is_weighted class) _ 1 plain;
+        unreleased = λ plain j h. ap (λ (job : JobData). job.release) (data-at j h)
+            ∙ cond-false (is_released class) _ 0 plain;
         unordered = λ plain. cond-false (is_ordered class) i.arcs [] plain;
         uncosted = λ plain. cond-false (is_costed class) (map cost_of i.jobs) [] plain;
         costed = costed;
         arcs_in = arcs_in (is_ordered class);
         dues = λ j h.
             subst (λ (job : JobData). IsWithin job.due) (sym (data-at j h))
-            (kept_within (is_due class) (unwrap_or (fields j).due (pos 0)) (due_within (fields j).due (due_not_beyond (fields j) (each has_beyond good_jobs.0 j h))));
+            (kept_within (is_due class) (unwrap_or (fields j).due (pos 0))
+            (due_within (fields j).due
+            (due_not_beyond (fields j) (each has_beyond good_jobs.0 j h))));
         total = omega (arith, work, sums.0);
-        horizon = λ j h. omega (arith, work, sums.1, release-le-greatest k.jobs (j - 1) no_job (omega (arith, h.0, h.1)));
-        weighted_total = λ h. subst (λ n. n ≤ limit) (sym (ap (λ n. n * sum_by (time_of k) (all_jobs k)) weights ∙ ap (λ n. sum_by (λ (job : JobData). job.weight) k.jobs * n) work)) (sums.2 h);
-        rising = λ j c e h le. price_rises (objective_of class) k j c e (λ o. steps (j - 1) no_steps (omega (arith, h.0, h.1, costed (ap is_dearest o)))) le;
+        horizon = λ j h. omega (
+          arith,
+          work,
+          sums.1,
+          release-le-greatest k.jobs (j - 1) no_job (omega (arith, h.0, h.1)),
+        );
+        weighted_total =
+            λ h. subst (λ n. n ≤ limit)
+            (sym (ap (λ n. n * sum_by (time_of k) (all_jobs k)) weights
+            ∙ ap (λ n. sum_by (λ (job : JobData). job.weight) k.jobs * n) work)) (sums.2 h);
+        rising = λ j c e h le. price_rises (objective_of class) k j c e
+            (λ o. steps (j - 1) no_steps (omega (arith, h.0, h.1, costed (ap is_dearest o)))) le;
       }
     where
-      due_not_beyond : (job : JobFields) → has_beyond job ≡ false → any_given is_beyond job.due ≡ false
+      due_not_beyond : (job : JobFields) → has_beyond job ≡ false
+          → any_given is_beyond job.due ≡ false
       due_not_beyond job e =
-          let most = neither (any_time is_beyond job.times || any_given is_beyond job.weight || any_given is_beyond job.due) (any_given is_beyond job.release) e in
-          (neither (any_time is_beyond job.times || any_given is_beyond job.weight) (any_given is_beyond job.due) most.0).1
+          let most = neither
+          (any_time is_beyond job.times || any_given is_beyond job.weight
+          || any_given is_beyond job.due) (any_given is_beyond job.release) e in
+          (neither (any_time is_beyond job.times || any_given is_beyond job.weight)
+          (any_given is_beyond job.due) most.0).1

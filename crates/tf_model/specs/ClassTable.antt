@@ -12,7 +12,19 @@ use Rattle.tf_model.specs.declared.problem.Problem.{Problem}
 
 -- an environment and an objective, no number of machines and no condition
 abbrev pub plain_problem : Env → Goal → Problem
-plain_problem env goal = record { env = env; count = None; release = false; prec = false; prmp = false; prmu = false; nwt = false; block = false; rcrc = false; goal = goal }
+plain_problem env goal =
+    record {
+      env = env;
+      count = None;
+      release = false;
+      prec = false;
+      prmp = false;
+      prmu = false;
+      nwt = false;
+      block = false;
+      rcrc = false;
+      goal = goal;
+    }
 
 abbrev pub notation_of : Class → Problem
 notation_of WeightedSum = plain_problem Single goals.SumWC
@@ -177,7 +189,9 @@ is_two (Some m) = m == 2
 
 -- a shop with no condition, or with preemption alone
 abbrev pub shop_class : Problem → Class → Class → Option Class
-shop_class p plain broken = if is_makespan p.goal && is_two p.count && not (p.release || p.prec) then Some (if p.prmp then broken else plain) else None
+shop_class p plain broken =
+    if is_makespan p.goal && is_two p.count
+    && not (p.release || p.prec) then Some (if p.prmp then broken else plain) else None
 
 abbrev pub class_of : Problem → Option Class
 class_of p = if p.prmu || p.nwt || p.block || p.rcrc then None else by_environment p.env

@@ -20,7 +20,9 @@ price k = price_by (objective_of k.class) k
 
 -- the greatest price of the jobs 1 to n, each at its completion
 abbrev pub greatest_price : SchedulingTask → Timetable → ℤ
-greatest_price k rows = fold int_max (price k 1 (completion rows 1)) (map (λ j. price k j (completion rows j)) (all_jobs k))
+greatest_price k rows =
+    fold int_max (price k 1 (completion rows 1))
+    (map (λ j. price k j (completion rows j)) (all_jobs k))
 
 -- the weighted sum of the completions
 abbrev pub total_price : SchedulingTask → Timetable → ℕ

@@ -22,9 +22,14 @@ not_below a b h = grind (arith, ints)
 
 -- a step without a fault does not fall
 step_rises : (time value : ℤ) (step : ℤ × ℤ) → step_fault time value step ≡ None → value ≤ℤ step.1
-step_rises time value step e = by_tests (is_negative step.0 || is_beyond step.0 || is_beyond step.1) (int_le step.0 time) (int_lt step.1 value) refl e
+step_rises time value step e =
+    by_tests (is_negative step.0 || is_beyond step.0 || is_beyond step.1) (int_le step.0 time)
+    (int_lt step.1 value) refl e
   where
-    by_tests : (a b c : Bool) → int_lt step.1 value ≡ c → cond a (Some OutOfRange) (cond b (Some TimesNotRising) (cond c (Some CostFalls) None)) ≡ None → value ≤ℤ step.1
+    by_tests : (a b c : Bool) → int_lt step.1 value ≡ c
+        → cond a (Some OutOfRange) (cond b (Some TimesNotRising) (cond c (Some CostFalls) None))
+        ≡ None
+        → value ≤ℤ step.1
     by_tests true b c is e = cc
     by_tests false true c is e = cc
     by_tests false false true is e = cc
@@ -37,7 +42,8 @@ both_come : (z : ℤ) (c e : ℕ) → c ≤ e → int_le z (pos c) ≡ true → 
 both_come z c e h p q = grind (arith, ints)
 
 -- what is no greater at c than at e stays so along steps that rise
-climbs : (time value : ℤ) (steps : List (ℤ × ℤ)) (c e : ℕ) (v w : ℤ) → rise_fault time value steps ≡ None → c ≤ e → v ≤ℤ w → w ≤ℤ value
+climbs : (time value : ℤ) (steps : List (ℤ × ℤ)) (c e : ℕ) (v w : ℤ)
+    → rise_fault time value steps ≡ None → c ≤ e → v ≤ℤ w → w ≤ℤ value
     → fold (after c) v steps ≤ℤ fold (after e) w steps
 climbs time value [] c e v w h le vw wv = vw
 climbs time value (step ∷ steps) c e v w h le vw wv =
@@ -46,7 +52,8 @@ climbs time value (step ∷ steps) c e v w h le vw wv =
     by_tests (int_le step.0 (pos c)) (int_le step.0 (pos e)) refl refl rises
     (λ v w vw ws. climbs step.0 step.1 steps c e v w parts.1 le vw ws)
   where
-    by_tests : (a b : Bool) → int_le step.0 (pos c) ≡ a → int_le step.0 (pos e) ≡ b → value ≤ℤ step.1
+    by_tests : (a b : Bool) → int_le step.0 (pos c) ≡ a → int_le step.0 (pos e) ≡ b
+        → value ≤ℤ step.1
         → ((v w : ℤ) → v ≤ℤ w → w ≤ℤ step.1 → fold (after c) v steps ≤ℤ fold (after e) w steps)
         → fold (after c) (cond a step.1 v) steps ≤ℤ fold (after e) (cond b step.1 w) steps
     by_tests true true p q rises on = on step.1 step.1 (omega (arith, ints)) (omega (arith, ints))
@@ -54,10 +61,13 @@ climbs time value (step ∷ steps) c e v w h le vw wv =
     by_tests false true p q rises on = on v step.1 (omega (arith, ints)) (omega (arith, ints))
     by_tests false false p q rises on = on v w vw (omega (arith, ints))
 
-no_base_fault : (b : Bool) (rest : Option CostFault) → cond b (Some OutOfRange) rest ≡ None → rest ≡ None
+no_base_fault : (b : Bool) (rest : Option CostFault) → cond b (Some OutOfRange) rest ≡ None
+    → rest ≡ None
 no_base_fault true rest e = cc
 no_base_fault false rest e = e
 
 pub step_law : (s : Steps) (c e : ℕ) → IsStepCost s → c ≤ e → step_value s c ≤ℤ step_value s e
 step_law s c e h le =
-    climbs (negsuc 0) s.base s.steps c e s.base s.base (no_base_fault (is_beyond s.base) (rise_fault (negsuc 0) s.base s.steps) h) le (omega (arith, ints)) (omega (arith, ints))
+    climbs (negsuc 0) s.base s.steps c e s.base s.base
+    (no_base_fault (is_beyond s.base) (rise_fault (negsuc 0) s.base s.steps) h) le
+    (omega (arith, ints)) (omega (arith, ints))

@@ -34,11 +34,15 @@ is_beyond z = nat_lt limit (unsigned_abs z)
 
 -- a time, the weight or the release date is negative
 abbrev pub has_negative : JobFields → Bool
-has_negative job = any_time is_negative job.times || any_given is_negative job.weight || any_given is_negative job.release
+has_negative job =
+    any_time is_negative job.times || any_given is_negative job.weight
+    || any_given is_negative job.release
 
 -- a number of the job is beyond the limit
 abbrev pub has_beyond : JobFields → Bool
-has_beyond job = any_time is_beyond job.times || any_given is_beyond job.weight || any_given is_beyond job.due || any_given is_beyond job.release
+has_beyond job =
+    any_time is_beyond job.times || any_given is_beyond job.weight || any_given is_beyond job.due
+    || any_given is_beyond job.release
 
 -- the job is not there: it is not one of 1 to `jobs`
 abbrev pub is_no_job : ℕ → ℕ → Bool

@@ -1,4 +1,5 @@
--- Steps that end at the first fault, and what a function returns that may run out of memory on the way.
+-- Steps that end at the first fault, and what a function returns that may run out of memory on the
+-- way.
 use Rattle.std.specs.Prelude.{◌≡◌, Option, None, Some, Result, Ok, Err}
 
 -- one step after another, up to the first fault
@@ -17,7 +18,8 @@ abbrev pub IsFault : {Y F : Type 0} → Option F → Result Y F → Type 0
 IsFault (Some fault) wanted = wanted ≡ Err fault
 IsFault None wanted = Unit {0}
 
--- what a function returned, its value seen by `view` and its error by `fault_in`, is the wanted outcome
+-- what a function returned, its value seen by `view` and its error by `fault_in`, is the wanted
+-- outcome
 abbrev pub Gives : {X Y E F : Type 0} → (E → Option F) → (X → Y) → Result X E → Result Y F → Type 0
 Gives fault_in view (Ok x) wanted = wanted ≡ Ok (view x)
 Gives fault_in view (Err e) wanted = IsFault (fault_in e) wanted

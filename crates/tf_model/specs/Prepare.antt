@@ -1,4 +1,5 @@
--- The task of an instance and a problem, or the first refusal. A field that the class does not use is ignored.
+-- The task of an instance and a problem, or the first refusal. A field that the class does not use
+-- is ignored.
 use Rattle.std.specs.Prelude.{◌≡◌, ℕ, ◌+◌, ◌*◌, Bool, true, false, not, ◌&&◌, ◌||◌, ◌==◌, nat_lt, ℤ, pos, List, [], ◌∷◌, map, length, Option, None, Some, Result, Ok, Err, is_none, unwrap_or, int_lt, if◌then◌else◌, IsOk}
 use Rattle.std.specs.Bool.{then_some}
 use Rattle.std.specs.Option.{option_map, option_or, ok_or}
@@ -46,7 +47,9 @@ given count = ok_or count MachinesMissing
 
 -- a shop has two machines, and machines in parallel are 1 to 1000
 abbrev pub count_for : Class → ℕ → Result ℕ Refusal
-count_for class m = if nat_lt m 1 || nat_lt MOST_MACHINES m || (is_shop class && not (m == 2)) then Err (MachineCount m) else Ok m
+count_for class m =
+    if nat_lt m 1 || nat_lt MOST_MACHINES m
+    || (is_shop class && not (m == 2)) then Err (MachineCount m) else Ok m
 
 -- a count that the class takes
 abbrev pub IsCountFor : Class → ℕ → Type 0
@@ -56,7 +59,8 @@ IsCountFor class m = (if is_single class then Ok 1 else count_for class m) ≡ O
 abbrev pub machine_count : Class → Option ℕ → Option ℕ → Option ℕ → Result ℕ Refusal
 machine_count class notation argument instance =
     if is_single class then Ok 1
-    else (agreed notation argument >>= λ m. agreed m instance >>= λ n. given n >>= λ count. count_for class count)
+    else (agreed notation argument >>= λ m. agreed m instance >>= λ n. given n
+    >>= λ count. count_for class count)
 
 -- ---- the jobs
 
@@ -80,14 +84,16 @@ lacking class job =
 -- the first job that lacks a field, of jobs of which the first has this number
 abbrev pub missing_from : Class → ℕ → List JobFields → Option Refusal
 missing_from class j [] = None
-missing_from class j (job ∷ jobs) = option_or (option_map (MissingField j) (lacking class job)) (missing_from class (j + 1) jobs)
+missing_from class j (job ∷ jobs) =
+    option_or (option_map (MissingField j) (lacking class job)) (missing_from class (j + 1) jobs)
 
 abbrev pub has_zero_time : JobFields → Bool
 has_zero_time job = any_time (λ p. int_lt p (pos 1)) job.times
 
 -- on single and parallel machines a time is at least 1
 abbrev pub zero_time : Class → List JobFields → Option Refusal
-zero_time class jobs = if is_shop class then None else option_map ZeroTime (first_with has_zero_time jobs)
+zero_time class jobs =
+    if is_shop class then None else option_map ZeroTime (first_with has_zero_time jobs)
 
 -- ---- the task
 
@@ -129,7 +135,8 @@ task_of class machines i = record {
   arcs = kept_arcs class i.arcs;
 }
 
--- all the work, the work behind the last release date, or for a sum of completion times the weights times the work
+-- all the work, the work behind the last release date, or for a sum of completion times the weights
+-- times the work
 abbrev pub is_too_large : Class → List JobData → Bool
 is_too_large class jobs =
     nat_lt limit (work_of jobs)
@@ -147,7 +154,8 @@ jobs_refusal class jobs =
 abbrev pub prepared : InstanceData → Problem → Option ℕ → Result SchedulingTask Refusal
 prepared i problem argument = do
   class ← classified problem
-  machines ← unless (then_some (is_too_many class (length i.jobs)) TooManyJobs) (machine_count class problem.count argument i.machines)
+  machines ← unless (then_some (is_too_many class (length i.jobs)) TooManyJobs)
+      (machine_count class problem.count argument i.machines)
   unless (jobs_refusal class i.jobs) (Ok (task_of class machines i))
 
 -- what `prepare` answers: what is prepared or refused, or want of memory once nothing is refused

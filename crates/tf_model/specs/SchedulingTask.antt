@@ -4,7 +4,8 @@ use Rattle.std.specs.List.{range_with_len}
 use Rattle.tf_model.specs.Steps.{Steps, no_steps}
 use Rattle.tf_model.specs.declared.class.Class.{Class}
 
--- What a class does not use has its neutral value: second time 0, weight 1, release date 0, due date 0.
+-- What a class does not use has its neutral value: second time 0, weight 1, release date 0, due
+-- date 0.
 pub record JobData : Type 0 where
   pub first : ℕ  -- the job's time; in a shop its time on machine 1
   pub second : ℕ  -- in a shop its time on machine 2
@@ -15,7 +16,8 @@ pub record JobData : Type 0 where
 abbrev pub no_job : JobData
 no_job = record { first = 0; second = 0; weight = 1; release = 0; due = pos 0 }
 
--- A task (Pinedo, section 2.1): the jobs, numbered from 1; their cost functions, where the class has them; and the arcs,
+-- A task (Pinedo, section 2.1): the jobs, numbered from 1; their cost functions, where the class
+-- has them; and the arcs,
 -- of which the first job is over before the second begins.
 pub record SchedulingTask : Type 0 where
   pub class : Class

@@ -28,7 +28,9 @@ pub record IsSound (k : SchedulingTask) : Type 0 where
   pub dues : (j : ℕ) → IsJob k j → IsWithin (job_data k j).due
   -- the totals: all the work, the work behind any release date, and the weights times the work
   pub total : sum_by (time_of k) (all_jobs k) ≤ limit
-  pub horizon : (j : ℕ) → IsJob k j → (job_data k j).release + sum_by (time_of k) (all_jobs k) ≤ limit
-  pub weighted_total : IsTrue (is_sum k.class) → sum_by (λ j. (job_data k j).weight) (all_jobs k) * sum_by (time_of k) (all_jobs k) ≤ limit
+  pub horizon : (j : ℕ) → IsJob k j
+      → (job_data k j).release + sum_by (time_of k) (all_jobs k) ≤ limit
+  pub weighted_total : IsTrue (is_sum k.class)
+      → sum_by (λ j. (job_data k j).weight) (all_jobs k) * sum_by (time_of k) (all_jobs k) ≤ limit
   -- no job gets cheaper by being late
   pub rising : (j c e : ℕ) → IsJob k j → c ≤ e → price k j c ≤ℤ price k j e

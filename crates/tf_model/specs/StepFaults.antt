@@ -17,7 +17,8 @@ step_fault time value step =
 -- the first fault of the steps behind it
 abbrev pub rise_fault : ℤ → ℤ → List (ℤ × ℤ) → Option CostFault
 rise_fault time value [] = None
-rise_fault time value (step ∷ steps) = option_or (step_fault time value step) (rise_fault step.0 step.1 steps)
+rise_fault time value (step ∷ steps) =
+    option_or (step_fault time value step) (rise_fault step.0 step.1 steps)
 
 -- the base, which stands before time 0, and then the steps
 abbrev pub steps_fault : Steps → Option CostFault

@@ -1,4 +1,5 @@
--- A cost that steps up: the base before the first step, then the value of the last step whose time has come.
+-- A cost that steps up: the base before the first step, then the value of the last step whose time
+-- has come.
 use Rattle.std.specs.Prelude.{ℕ, ℤ, pos, List, [], if◌then◌else◌, int_le}
 use Rattle.std.specs.List.{fold}
 

@@ -1,5 +1,6 @@
 -- A timetable is a list of rows. Row t, counted from 0, is what happens from time t to t + 1.
--- A row is a list of cells, one for each machine. A cell is the number of a job, from 1, or 0 where the machine is empty.
+-- A row is a list of cells, one for each machine. A cell is the number of a job, from 1, or 0 where
+-- the machine is empty.
 -- A row past the end is empty, and so is a cell past the end of a row.
 use Rattle.std.specs.Prelude.{ℕ, ◌+◌, max, map, List, [], ◌∷◌, ◌==◌, ◌||◌, Bool, nat_lt, if◌then◌else◌, slice_index, slice_index_or}
 use Rattle.std.specs.List.{sum_by, count_by, range_with_len}
@@ -33,7 +34,8 @@ all_units rows j = sum_by (cells_of j) rows
 -- 1 plus the number of the last row that has the job, or 0 where no row has it
 abbrev pub completion : Timetable → ℕ → ℕ
 completion [] j = 0
-completion (row ∷ rows) j = if has j row || nat_lt 0 (completion rows j) then completion rows j + 1 else 0
+completion (row ∷ rows) j =
+    if has j row || nat_lt 0 (completion rows j) then completion rows j + 1 else 0
 
 -- the greatest of the numbers, 0 if there are none
 abbrev pub greatest_of : List ℕ → ℕ

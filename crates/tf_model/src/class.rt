@@ -47,8 +47,9 @@ pub enum Class {
     PrmpOpenTwo,
 }
 
-/// The class of a problem, if it has one: its environment, exactly its conditions, and its objective. A shop has a
-/// class only with two machines, or where the notation does not say how many. It takes no memory.
+/// The class of a problem, if it has one: its environment, exactly its conditions, and its
+/// objective. A shop has a class only with two machines, or where the notation does not say how
+/// many. It takes no memory.
 pub fn class_of(problem: &Problem) -> Option<Class>
     ensures { result ≡ class_of problem.now }
 {

@@ -68,7 +68,8 @@ pub enum CostFault {
     CostFalls,
 }
 
-/// A cost that steps up with the completion time: a base, and from each step's time on that step's value.
+/// A cost that steps up with the completion time: a base, and from each step's time on that step's
+/// value.
 #[derive(Drop)]
 pub struct StepCost<A: Allocator = Global> {
     base: i64,
@@ -91,8 +92,9 @@ impl<A: Allocator> StepCost<A> {
     ghost use Rattle.tf_model.specs.Steps.{no_steps};
     ghost use Rattle.tf_model.specs.StepFaults.{IsStepCost, steps_fault};
 
-    /// The cost with this base and these steps, each a time and a value, or the first fault: the base, and then the
-    /// steps in order, each for its range, its time and its value. It takes no memory.
+    /// The cost with this base and these steps, each a time and a value, or the first fault: the
+    /// base, and then the steps in order, each for its range, its time and its value. It takes no
+    /// memory.
     pub fn new(base: i64, steps: Vec<(i64, i64), A>) -> Result<Self, CostFault>
         ensures { MatchResult result
             (λ s. (s ≡ record { base = base; steps = steps.items }) × IsStepCost s)

@@ -48,19 +48,22 @@ impl<A: Allocator> Model for Instance<A> {
 
     ghost Value = { InstanceData };
 
-    ghost view = { λ i. record { jobs = i.jobs.items; arcs = i.arcs.items; machines = i.machines } };
+    ghost view = { λ i.
+        record { jobs = i.jobs.items; arcs = i.arcs.items; machines = i.machines } };
 
-    ghost invariant = { λ i. IsInstance (record { jobs = i.jobs.items; arcs = i.arcs.items; machines = i.machines }) };
+    ghost invariant = { λ i. IsInstance
+        (record { jobs = i.jobs.items; arcs = i.arcs.items; machines = i.machines }) };
 }
 
 impl<A: Allocator> Instance<A> {
     ghost use Rattle.std.specs.Prelude.{◌≡◌, ◌-◌, ◌<◌, ◌≤◌, length, Some, MatchResult, slice_get};
     ghost use Rattle.tf_model.specs.InstanceData.{InstanceData, IsInstance, instance_fault};
 
-    /// The instance of these jobs and arcs, with this number of machines if one is given, where they are known to be
-    /// one: nothing is judged.
+    /// The instance of these jobs and arcs, with this number of machines if one is given, where
+    /// they are known to be one: nothing is judged.
     pub fn of(jobs: Vec<Job<A>, A>, arcs: Vec<(JobId, JobId), A>, machines: Option<u32>) -> Self
-        requires { IsInstance (record { jobs = jobs.items; arcs = arcs.items; machines = machines }) }
+        requires { IsInstance
+            (record { jobs = jobs.items; arcs = arcs.items; machines = machines }) }
         ensures { result ≡ record { jobs = jobs.items; arcs = arcs.items; machines = machines } }
     {
         Instance {
@@ -70,16 +73,19 @@ impl<A: Allocator> Instance<A> {
         }
     }
 
-    /// The instance of these jobs and arcs, with this number of machines if one is given, or the first fault:
-    /// each kind over all jobs before the next kind, with the smallest job. It takes no memory.
+    /// The instance of these jobs and arcs, with this number of machines if one is given, or the
+    /// first fault: each kind over all jobs before the next kind, with the smallest job. It takes
+    /// no memory.
     pub fn new(
         jobs: Vec<Job<A>, A>,
         arcs: Vec<(JobId, JobId), A>,
         machines: Option<u32>,
     ) -> Result<Self, InstanceFault>
         ensures { MatchResult result
-            (λ i. i ≡ record { jobs = jobs.items; arcs = arcs.items; machines = machines } × IsInstance i)
-            (λ fault. instance_fault (record { jobs = jobs.items; arcs = arcs.items; machines = machines }) ≡ Some fault) }
+            (λ i. i ≡ record { jobs = jobs.items; arcs = arcs.items; machines = machines }
+            × IsInstance i)
+            (λ fault. instance_fault
+            (record { jobs = jobs.items; arcs = arcs.items; machines = machines }) ≡ Some fault) }
     {
         if let Some(fault) = count_fault(jobs.len(), machines, arcs.len()) {
             return Err(fault);

@@ -31,5 +31,12 @@ impl<A: Allocator> Model for Job<A> {
 
     ghost Value = { JobFields };
 
-    ghost view = { λ j. record { times = j.times; weight = j.weight; due = j.due; release = j.release; cost = j.cost } };
+    ghost view = { λ j.
+        record {
+          times = j.times;
+          weight = j.weight;
+          due = j.due;
+          release = j.release;
+          cost = j.cost;
+        } };
 }

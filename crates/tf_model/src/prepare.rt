@@ -81,9 +81,9 @@ impl<T: Drop> From<AllocFailed<T>> for Refusal {
     }
 }
 
-/// The task of an instance and a problem: the fields that the class uses, with the number of machines that the
-/// notation, the argument or the instance gives. Otherwise the first refusal, each kind over all jobs before the next
-/// kind, with the smallest job; want of memory comes last.
+/// The task of an instance and a problem: the fields that the class uses, with the number of
+/// machines that the notation, the argument or the instance gives. Otherwise the first refusal,
+/// each kind over all jobs before the next kind, with the smallest job; want of memory comes last.
 pub fn prepare<A: Allocator + Copy, B: Allocator>(
     alloc: A,
     instance: &Instance<B>,
@@ -350,7 +350,8 @@ fn costs_of<A: Allocator + Copy, B: Allocator>(
     alloc: A,
     jobs: &[Job<B>],
 ) -> Result<Vec<StepCost<A>, A>, AllocError>
-    ensures { IfOk result (λ costs. (costs.items ≡ map cost_of jobs.now) × All IsStepCost costs.items) }
+    ensures { IfOk result
+        (λ costs. (costs.items ≡ map cost_of jobs.now) × All IsStepCost costs.items) }
 {
     let mut costs = Vec::with_capacity(alloc, jobs.len())?;
     for job in jobs {
@@ -365,7 +366,8 @@ fn kept_costs<A: Allocator + Copy, B: Allocator>(
     class: Class,
     jobs: &[Job<B>],
 ) -> Result<Vec<StepCost<A>, A>, AllocError>
-    ensures { IfOk result (λ costs. (costs.items ≡ kept_costs class jobs.now) × All IsStepCost costs.items) }
+    ensures { IfOk result
+        (λ costs. (costs.items ≡ kept_costs class jobs.now) × All IsStepCost costs.items) }
 {
     if class.is_costed() {
         costs_of(alloc, jobs)

@@ -48,7 +48,8 @@ pub enum Goal {
 #[derive(Clone, Copy, Debug, PartialEq, Eq)]
 pub struct Problem {
     pub env: Env,
-    /// The number of machines where the notation names one. It means nothing beside [`Env::Single`].
+    /// The number of machines where the notation names one. It means nothing beside
+    /// [`Env::Single`].
     pub count: Option<u32>,
     /// `rj`: a job has a release date.
     pub release: bool,

@@ -9,8 +9,8 @@ use crate::job::Times;
 use std::alloc::{Allocator, Global};
 use std::marker::Model;
 
-/// What a task knows of one job. What the class does not use is neutral: second time 0, weight 1, release date 0,
-/// due date 0.
+/// What a task knows of one job. What the class does not use is neutral: second time 0, weight 1,
+/// release date 0, due date 0.
 #[derive(Clone, Copy, Debug)]
 pub struct JobRow {
     /// Its time, in time steps; in a shop its time on machine 1.
@@ -42,9 +42,23 @@ impl Model for JobRow {
 
     ghost Value = { JobData };
 
-    ghost view = { λ j. record { first = j.first; second = j.second; weight = j.weight; release = j.release; due = j.due } };
+    ghost view = { λ j.
+        record {
+          first = j.first;
+          second = j.second;
+          weight = j.weight;
+          release = j.release;
+          due = j.due;
+        } };
 
-    ghost inverse = { λ d. record { first = d.first; second = d.second; weight = d.weight; release = d.release; due = d.due } };
+    ghost inverse = { λ d.
+        record {
+          first = d.first;
+          second = d.second;
+          weight = d.weight;
+          release = d.release;
+          due = d.due;
+        } };
 }
 
 fn as_signed(time: u64) -> i64
@@ -54,7 +68,8 @@ fn as_signed(time: u64) -> i64
     time as i64
 }
 
-/// An instance cut to what its class uses. Its numbers and totals are within [`crate::limit::LIMIT`].
+/// An instance cut to what its class uses. Its numbers and totals are within
+/// [`crate::limit::LIMIT`].
 #[derive(Drop)]
 pub struct Task<A: Allocator = Global> {
     class: Class,
@@ -70,9 +85,23 @@ impl<A: Allocator> Model for Task<A> {
 
     ghost Value = { SchedulingTask };
 
-    ghost view = { λ t. record { class = t.class; machines = t.machines; jobs = t.jobs.items; costs = t.costs.items; arcs = t.arcs.items } };
+    ghost view = { λ t.
+        record {
+          class = t.class;
+          machines = t.machines;
+          jobs = t.jobs.items;
+          costs = t.costs.items;
+          arcs = t.arcs.items;
+        } };
 
-    ghost invariant = { λ t. IsSound (record { class = t.class; machines = t.machines; jobs = t.jobs.items; costs = t.costs.items; arcs = t.arcs.items }) };
+    ghost invariant = { λ t. IsSound
+        (record {
+          class = t.class;
+          machines = t.machines;
+          jobs = t.jobs.items;
+          costs = t.costs.items;
+          arcs = t.arcs.items;
+        }) };
 }
 
 impl<A: Allocator> Task<A> {
@@ -91,8 +120,22 @@ impl<A: Allocator> Task<A> {
         costs: Vec<StepCost<A>, A>,
         arcs: Vec<(JobId, JobId), A>,
     ) -> Self
-        requires { IsSound (record { class = class; machines = machines; jobs = jobs.items; costs = costs.items; arcs = arcs.items }) }
-        ensures { result ≡ record { class = class; machines = machines; jobs = jobs.items; costs = costs.items; arcs = arcs.items } }
+        requires { IsSound
+            (record {
+              class = class;
+              machines = machines;
+              jobs = jobs.items;
+              costs = costs.items;
+              arcs = arcs.items;
+            }) }
+        ensures { result
+            ≡ record {
+              class = class;
+              machines = machines;
+              jobs = jobs.items;
+              costs = costs.items;
+              arcs = arcs.items;
+            } }
     {
         Task {
             class,
@@ -146,8 +189,11 @@ impl<A: Allocator> Task<A> {
     /// The times of a job that is there: one for each machine of a shop, else one.
     pub fn times(&self, job: JobId) -> Times
         requires { IsJob self.now job }
-        ensures shop { IsTrue (is_shop self.now.class) → result ≡ Times.Two (pos (job_data self.now job).first) (pos (job_data self.now job).second) }
-        ensures one { IsFalse (is_shop self.now.class) → result ≡ Times.One (pos (job_data self.now job).first) }
+        ensures shop { IsTrue (is_shop self.now.class) →
+            result ≡ Times.Two (pos (job_data self.now job).first)
+            (pos (job_data self.now job).second) }
+        ensures one { IsFalse (is_shop self.now.class) →
+            result ≡ Times.One (pos (job_data self.now job).first) }
     {
         let row = self.job(job);
         if self.class.is_shop() {
@@ -208,7 +254,8 @@ impl<A: Allocator> Task<A> {
 
     /// The time of all jobs on a machine of a shop, which are 1 and 2.
     pub fn work_on(&self, machine: MachineId) -> u64
-        ensures value { result ≡ sum_by (λ j. time_on self.now j (machine - 1)) (all_jobs self.now) }
+        ensures value { result
+            ≡ sum_by (λ j. time_on self.now j (machine - 1)) (all_jobs self.now) }
         ensures small { result ≤ limit }
     {
         let mut work: u64 = 0;
@@ -239,7 +286,8 @@ impl<A: Allocator> Task<A> {
         self.costs.as_slice()
     }
 
-    /// The arcs: the first job of each is over before the second starts. None where the class has no precedence.
+    /// The arcs: the first job of each is over before the second starts. None where the class has
+    /// no precedence.
     pub fn arcs(&self) -> &[(JobId, JobId)]
         ensures value { result.now ≡ self.now.arcs }
         ensures sound { IsSound self.now }

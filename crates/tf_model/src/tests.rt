@@ -91,7 +91,8 @@ fn problem(env: Env, count: Option<u32>, goal: Goal, prmp: bool) -> Problem {
     }
 }
 
-/// What is refused of these jobs without arcs, with these numbers of machines of the caller and of the instance.
+/// What is refused of these jobs without arcs, with these numbers of machines of the caller and of
+/// the instance.
 fn refusal(
     rt: &HostRuntime,
     problem: &Problem,

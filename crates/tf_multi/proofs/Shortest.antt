@@ -37,12 +37,15 @@ abbrev total : SchedulingTask → ℕ
 total task = sum_by (time_of task) (all_jobs task)
 
 pub div_ceil_le : (a m : ℕ) → 0 < m → div_ceil a m ≤ a
-div_ceil_le a m some = div_ceil_least a m a some (let wide : a * 1 ≤ a * m = mul-le-mul_left a some in omega arith)
+div_ceil_le a m some =
+    div_ceil_least a m a some (let wide : a * 1 ≤ a * m = mul-le-mul_left a some in omega arith)
 
 -- the load of the machines suffices for all the work
-pub load_room : (task : SchedulingTask) (v : ℕ) → IsSound task → load_value task ≤ v → total task ≤ task.machines * v
+pub load_room : (task : SchedulingTask) (v : ℕ) → IsSound task → load_value task ≤ v
+    → total task ≤ task.machines * v
 load_room task v sound le =
-    let product : task.machines * load_value task ≤ task.machines * v = mul-le-mul_left task.machines le in
+    let product : task.machines * load_value task ≤ task.machines * v =
+    mul-le-mul_left task.machines le in
     omega (arith, (div_ceil_times (total task) task.machines sound.some_machine).0, product)
 
 pub load_le_total : (task : SchedulingTask) → IsSound task → load_value task ≤ total task
@@ -62,16 +65,28 @@ module _ (task : SchedulingTask) (sound : IsSound task) (is : task.class ≡ Par
   pub by_makespan : objective_of task.class ≡ Makespan
   by_makespan = ap objective_of is
 
-  module _ (v : ℕ) (ps : List Piece) (i t : ℕ) (room : total task ≤ task.machines * v) (filled : IsFilled v (time_of task) (length task.jobs) ps i t) where
+  module _ (v : ℕ) (ps : List Piece) (i t : ℕ) (room : total task ≤ task.machines * v)
+      (filled : IsFilled v (time_of task) (length task.jobs) ps i t) where
     on_machines : All (IsOnMachine task.machines) ps
     on_machines k d h =
-        let p = filled.placed k d h in
-        (p.machine.0, omega (arith, p.machine.1, front_in_range v (time_of task) (length task.jobs) ps i t task.machines sound.some_machine room filled))
+        let p = filled.placed k d h in (
+          p.machine.0,
+          omega (
+            arith,
+            p.machine.1,
+            front_in_range v (time_of task) (length task.jobs) ps i t task.machines
+                sound.some_machine room filled,
+          ),
+        )
 
     pub filled_draws : Draws task.machines ps (drawing task.machines ps)
-    filled_draws = draws_drawing task.machines ps filled.schedule.none_twice (λ k d h. (filled.placed k d h).job.0) on_machines
+    filled_draws =
+        draws_drawing task.machines ps filled.schedule.none_twice
+        (λ k d h. (filled.placed k d h).job.0) on_machines
 
-    filled_in_order : (arcs : List (ℕ × ℕ)) → arcs ≡ [] → All (λ arc. (s u a b : ℕ) → cell (drawing task.machines ps) s a ≡ arc.0 → cell (drawing task.machines ps) u b ≡ arc.1 → s < u) arcs
+    filled_in_order : (arcs : List (ℕ × ℕ)) → arcs ≡ []
+        → All (λ arc. (s u a b : ℕ) → cell (drawing task.machines ps) s a ≡ arc.0
+        → cell (drawing task.machines ps) u b ≡ arc.1 → s < u) arcs
     filled_in_order [] none k d h = absurd (omega arith)
     filled_in_order (arc ∷ arcs) none k d h = cc
 
@@ -79,13 +94,18 @@ module _ (task : SchedulingTask) (sound : IsSound task) (is : task.class ≡ Par
     filled_fits_task = record {
       broken = record {
         width = width-drawing task.machines ps;
-        jobs_only = jobs-drawing task.machines ps (length task.jobs) (λ k d h. (filled.placed k d h).job.1);
-        single_place = λ j low _. single_place-drawing task.machines ps filled.schedule.none_twice on_machines filled.one_place j low;
+        jobs_only = jobs-drawing task.machines ps (length task.jobs)
+            (λ k d h. (filled.placed k d h).job.1);
+        single_place =
+            λ j low _. single_place-drawing task.machines ps filled.schedule.none_twice on_machines
+            filled.one_place j low;
         amount = λ j low high. record {
-          in_all = λ _. all_units-drawing task.machines ps j filled.schedule.none_twice on_machines low ∙ filled.amounts j low high;
+          in_all = λ _. all_units-drawing task.machines ps j filled.schedule.none_twice on_machines
+              low ∙ filled.amounts j low high;
           on_each = λ shop. absurd (false≢true (sym no_shop ∙ shop));
         };
-        released = λ j low high u h here. omega (arith, sound.unreleased (in_class is_released false refl) j (low, high));
+        released = λ j low high u h here. omega
+            (arith, sound.unreleased (in_class is_released false refl) j (low, high));
         in_order = filled_in_order task.arcs (sound.unordered (in_class is_ordered false refl));
         in_flow = λ flow. absurd (false≢true (sym (in_class is_flow false refl) ∙ flow));
       };
@@ -96,8 +116,11 @@ module _ (task : SchedulingTask) (sound : IsSound task) (is : task.class ≡ Par
     filled_cost =
         let priced : cost task (drawing task.machines ps) ≡ pos (greatest_stop ps) =
         cost-makespan task sound by_makespan (drawing task.machines ps)
-        ∙ ap pos (makespan-drawing task.machines (length task.jobs) ps filled.schedule.none_twice on_machines (λ k d h. sound_times (get_or ps k d) (filled.placed k d h).sound) (λ k d h. (filled.placed k d h).job)) in
-        let most : greatest_stop ps ≤ v = greatest_stop_le ps v (λ k d h. (filled.placed k d h).stop) in
+        ∙ ap pos (makespan-drawing task.machines (length task.jobs) ps filled.schedule.none_twice
+        on_machines (λ k d h. sound_times (get_or ps k d) (filled.placed k d h).sound)
+        (λ k d h. (filled.placed k d h).job)) in
+        let most : greatest_stop ps ≤ v =
+        greatest_stop_le ps v (λ k d h. (filled.placed k d h).stop) in
         omega (arith, ints)
 
     pub filled_accepted : (claim : Claim) → bound_by claim task ≡ Ok (pos v)
@@ -118,11 +141,13 @@ module _ (task : SchedulingTask) (sound : IsSound task) (is : task.class ≡ Par
   pub load_bounds : bound_by ByLoad task ≡ Ok (pos (load_value task))
   load_bounds = load_given task (in_class takes_load true refl)
 
-  pub one_job_bounds : (j : ℕ) → IsJob task j → bound_by (ByOneJob j) task ≡ Ok (pos (time_of task j))
+  pub one_job_bounds : (j : ℕ) → IsJob task j
+      → bound_by (ByOneJob j) task ≡ Ok (pos (time_of task j))
   one_job_bounds j job = one_job_given task j (in_class takes_one_job true refl) job
 
   -- machines that are filled up to the load or, if that is more, the time of the longest job
-  module _ (load time v j : ℕ) (is_load : load ≡ load_value task) (job : IsJob task j) (is_time : time ≡ time_of task j) (is_value : v ≡ max load time) where
+  module _ (load time v j : ℕ) (is_load : load ≡ load_value task) (job : IsJob task j)
+      (is_time : time ≡ time_of task j) (is_value : v ≡ max load time) where
     pub value_room : total task ≤ task.machines * v
     value_room = load_room task v sound (omega arith)
 

@@ -14,7 +14,8 @@ pub record IsPlaced (v n i t : ℕ) (p : Piece) : Type 0 where
   pub stop : as_time p.stop ≤ v
   pub before : p.machine ≡ i → as_time p.stop ≤ t
 
--- the jobs 1 to n, each in its time, fill the machines before machine i up to v, and machine i up to t
+-- the jobs 1 to n, each in its time, fill the machines before machine i up to v, and machine i up
+-- to t
 pub record IsFilled (v : ℕ) (times : ℕ → ℕ) (n : ℕ) (ps : List Piece) (i t : ℕ) : Type 0 where
   pub placed : All (IsPlaced v n i t) ps
   pub schedule : IsSchedule ps

@@ -39,7 +39,8 @@ pub fn mcnaughton<A: Allocator + Copy, B: Allocator>(
 ) -> Result<Answer<A>, OutOfMemory>
     requires { task.now.class ≡ ParallelPrmp }
     ensures schedule { IfOk result (λ a. IsSchedule a.pieces) }
-    ensures draws { IfOk result (λ a. Draws task.now.machines a.pieces (drawing task.now.machines a.pieces)) }
+    ensures draws { IfOk result
+        (λ a. Draws task.now.machines a.pieces (drawing task.now.machines a.pieces)) }
     ensures accepted { IfOk result (IsAccepted task.now) }
     ensures best { IfOk result (λ a. IsBest task.now (drawing task.now.machines a.pieces) a.value) }
     ensures certificate { IfOk result (λ a. IsLoadOrLongest task.now a.certificate) }
@@ -74,10 +75,12 @@ fn fill<A: Allocator + Copy, B: Allocator>(
     value: u64,
 ) -> Result<Vec<Piece, A>, OutOfMemory>
     requires within { value ≤ limit }
-    requires worked { (j : ℕ) → IsJob task.now j → (0 < time_of task.now j) × (time_of task.now j ≤ value) }
+    requires worked { (j : ℕ) → IsJob task.now j → (0 < time_of task.now j)
+        × (time_of task.now j ≤ value) }
     requires room { sum_by (time_of task.now) (all_jobs task.now) ≤ task.now.machines * value }
     ensures { IfOk result (λ pieces.
-        (i : ℕ) × (t : ℕ) × IsFilled value (time_of task.now) (length task.now.jobs) pieces.items i t) }
+        (i : ℕ) × (t : ℕ)
+        × IsFilled value (time_of task.now) (length task.now.jobs) pieces.items i t) }
 {
     let mut pieces = Vec::with_capacity(alloc, task.len() + task.machines() as usize)?;
     let mut front = Front {
@@ -102,7 +105,8 @@ fn place<A: Allocator, B: Allocator>(
     requires job { IsJob task.now job }
     requires worked { (0 < time_of task.now job) × (time_of task.now job ≤ value) }
     requires machine { front.machine ≤ MOST_MACHINES }
-    requires filled { IsFilled value (time_of task.now) (job - 1) pieces.old.items front.machine front.at }
+    requires filled { IsFilled value (time_of task.now) (job - 1) pieces.old.items front.machine
+        front.at }
     ensures { IfOk result (λ next.
         IsFilled value (time_of task.now) job pieces.new.items next.machine next.at) }
 {

@@ -22,21 +22,23 @@ use Rattle.tf_notation.proofs.Again.{IsCounted, again}
 -- a plain number is above 0
 plain_range : (most n : ℕ) (word : List ℕ) → plain most word ≡ Some n → (0 < n) × (n ≤ most)
 unfolding plain
-plain_range most n word h = elim (cases_Bool ((is_numeral word && not (eqb (get_or word 0 0) 48)) && leb (digits_value 10 word) most)) [
-  | inr e ↦ absurd (let k = rw e at h in cc)
-  | inl e ↦
-      let k = rw e at h in
-      let v : digits_value 10 word ≡ n = cc in
-      let outer = and_parts _ _ e in
-      let inner = and_parts _ _ outer.0 in
-      let digits = and_parts _ _ inner.0 in
-      let some : 0 < length word = ltb-true _ _ digits.0 in
-      let first = one_more word 0 digits.1 some in
-      let le = digits_value-take-le 10 word 1 (omega arith) in
-      let high : get_or word 0 0 ≡ 48 → ⊥ = eqb-false _ _ (not-true _ inner.1) in
-      let one : digits_value 10 (take 1 word) ≡ 0 + (get_or word 0 0 - 48) = first.2 in
-      (omega (arith, first.0, one, le, v, high), omega (arith, leb-true _ _ outer.1, v))
-]
+plain_range most n word h =
+    elim (cases_Bool
+    ((is_numeral word && not (eqb (get_or word 0 0) 48)) && leb (digits_value 10 word) most)) [
+      | inr e ↦ absurd (let k = rw e at h in cc)
+      | inl e ↦
+          let k = rw e at h in
+          let v : digits_value 10 word ≡ n = cc in
+          let outer = and_parts _ _ e in
+          let inner = and_parts _ _ outer.0 in
+          let digits = and_parts _ _ inner.0 in
+          let some : 0 < length word = ltb-true _ _ digits.0 in
+          let first = one_more word 0 digits.1 some in
+          let le = digits_value-take-le 10 word 1 (omega arith) in
+          let high : get_or word 0 0 ≡ 48 → ⊥ = eqb-false _ _ (not-true _ inner.1) in
+          let one : digits_value 10 (take 1 word) ≡ 0 + (get_or word 0 0 - 48) = first.2 in
+          (omega (arith, first.0, one, le, v, high), omega (arith, leb-true _ _ outer.1, v))
+    ]
 
 not_single : (word : List ℕ) → meaning environments word ≡ Some Single → ⊥
 not_single word h = elim (cases_Bool (bytes_eq word (codes "P"))) [
@@ -59,7 +61,8 @@ not_single word h = elim (cases_Bool (bytes_eq word (codes "P"))) [
   ]
 ]
 
-counted_shop : (env : Env) (count : Option ℕ) (word : List ℕ) → meaning environments word ≡ Some env → ((n : ℕ) → count ≡ Some n → (0 < n) × (n ≤ 1000)) → IsCounted env count
+counted_shop : (env : Env) (count : Option ℕ) (word : List ℕ) → meaning environments word ≡ Some env
+    → ((n : ℕ) → count ≡ Some n → (0 < n) × (n ≤ 1000)) → IsCounted env count
 counted_shop Single None word h range = tt
 counted_shop Parallel None word h range = tt
 counted_shop Uniform None word h range = tt
@@ -75,15 +78,18 @@ counted_shop Flow (Some n) word h range = range n refl
 counted_shop OpenShop (Some n) word h range = range n refl
 counted_shop JobShop (Some n) word h range = range n refl
 
-and_then_some : {A B : Type 0} (o : Option A) (f : A → Option B) (y : B) → option_and_then f o ≡ Some y → (x : A) × (o ≡ Some x) × (f x ≡ Some y)
+and_then_some : {A B : Type 0} (o : Option A) (f : A → Option B) (y : B)
+    → option_and_then f o ≡ Some y → (x : A) × (o ≡ Some x) × (f x ≡ Some y)
 and_then_some None f y e = absurd cc
 and_then_some (Some x) f y e = (x, refl, e)
 
-map_some : {A B : Type 0} (o : Option A) (f : A → B) (y : B) → option_map f o ≡ Some y → (x : A) × (o ≡ Some x) × (f x ≡ y)
+map_some : {A B : Type 0} (o : Option A) (f : A → B) (y : B) → option_map f o ≡ Some y
+    → (x : A) × (o ≡ Some x) × (f x ≡ y)
 map_some None f y e = absurd cc
 map_some (Some x) f y e = (x, refl, cc)
 
-count_range : (word : List ℕ) (count : Option ℕ) → count_of word ≡ Some count → (n : ℕ) → count ≡ Some n → (0 < n) × (n ≤ 1000)
+count_range : (word : List ℕ) (count : Option ℕ) → count_of word ≡ Some count → (n : ℕ)
+    → count ≡ Some n → (0 < n) × (n ≤ 1000)
 count_range word count h n is = elim (cases_Bool (bytes_eq word [])) [
   | inl e ↦ absurd (let k = rw e at h in cc)
   | inr e ↦ let k = rw e at h in elim (cases_Bool (bytes_eq word (codes "m"))) [
@@ -98,7 +104,8 @@ count_range word count h n is = elim (cases_Bool (bytes_eq word [])) [
 paired : Env → Option ℕ → Env × Option ℕ
 paired env count = (env, count)
 
-environment_counted : (word : List ℕ) (x : Env × Option ℕ) → environment word ≡ Some x → IsCounted x.0 x.1
+environment_counted : (word : List ℕ) (x : Env × Option ℕ) → environment word ≡ Some x
+    → IsCounted x.0 x.1
 unfolding paired
 environment_counted word x h = elim (cases_Bool (bytes_eq word (codes "1"))) [
   | inl e ↦
@@ -107,19 +114,25 @@ environment_counted word x h = elim (cases_Bool (bytes_eq word (codes "1"))) [
       subst (λ (y : Env × Option ℕ). IsCounted y.0 y.1) same tt
   | inr e ↦
       let k = rw e at h in
-      let a = and_then_some (meaning environments (take 1 word)) (λ (env : Env). option_map (paired env) (count_of (drop 1 word))) x k in
+      let a = and_then_some (meaning environments (take 1 word))
+      (λ (env : Env). option_map (paired env) (count_of (drop 1 word))) x k in
       let b = map_some (count_of (drop 1 word)) (paired a.0) x a.2 in
-      subst (λ (y : Env × Option ℕ). IsCounted y.0 y.1) b.2 (counted_shop a.0 b.0 (take 1 word) a.1 (count_range (drop 1 word) b.0 b.1))
+      subst (λ (y : Env × Option ℕ). IsCounted y.0 y.1) b.2
+      (counted_shop a.0 b.0 (take 1 word) a.1 (count_range (drop 1 word) b.0 b.1))
 ]
 
 abbrev pair_of : {A : Type 0} → A → List Token → A × List Token
 pair_of y ts = (y, ts)
 
-chosen : {A : Type 0} (o : Option A) (ts : List Token) (e : ℕ) (x : A × List Token) → option_map_or (λ y. Ok (y, ts)) o (Err e) ≡ Ok x → o ≡ Some x.0
+chosen : {A : Type 0} (o : Option A) (ts : List Token) (e : ℕ) (x : A × List Token)
+    → option_map_or (λ y. Ok (y, ts)) o (Err e) ≡ Ok x → o ≡ Some x.0
 chosen None ts e x h = absurd cc
-chosen {A} (Some y) ts e x h = let same : pair_of y ts ≡ x = cc in ap (λ (z : A × List Token). Some z.0) same
+chosen {A} (Some y) ts e x h = let same : pair_of y ts ≡ x = cc in
+    ap (λ (z : A × List Token). Some z.0) same
 
-expect_ok : {A : Type 0} (means : List ℕ → Option A) (end : ℕ) (ts : List Token) (x : A × List Token) → expect means end ts ≡ Ok x → (w : List ℕ) × (means w ≡ Some x.0)
+expect_ok : {A : Type 0} (means : List ℕ → Option A) (end : ℕ) (ts : List Token)
+    (x : A × List Token)
+    → expect means end ts ≡ Ok x → (w : List ℕ) × (means w ≡ Some x.0)
 unfolding expect
 expect_ok means end [] x h = absurd cc
 expect_ok {A} means end (t ∷ ts) x h = (t.bytes, chosen (means t.bytes) ts t.start x h)
@@ -132,14 +145,25 @@ pub is_counted : (text : List ℕ) (p : Problem) → notation text ≡ Ok p → 
 unfolding notation
 is_counted text p h =
     let end : ℕ = length text in
-    let a = bind_ok (expect environment end (tokens_from 0 text)) (λ env. expect (meaning bar) end env.1 >>= λ divided. conditions_at end divided.1 >>= λ named. expect (meaning goals) end named.1 >>= λ goal. ended (problem_of env.0 named.0 goal.0) goal.1) p h in
-    let b = bind_ok (expect (meaning bar) end a.0.1) (λ divided. conditions_at end divided.1 >>= λ named. expect (meaning goals) end named.1 >>= λ goal. ended (problem_of a.0.0 named.0 goal.0) goal.1) p a.2 in
-    let c = bind_ok (conditions_at end b.0.1) (λ named. expect (meaning goals) end named.1 >>= λ goal. ended (problem_of a.0.0 named.0 goal.0) goal.1) p b.2 in
-    let d = bind_ok (expect (meaning goals) end c.0.1) (λ goal. ended (problem_of a.0.0 c.0.0 goal.0) goal.1) p c.2 in
-    let same : problem_of a.0.0 c.0.0 d.0.0 ≡ p = ended_ok (problem_of a.0.0 c.0.0 d.0.0) p d.0.1 d.2 in
+    let a = bind_ok (expect environment end (tokens_from 0 text))
+    (λ env. expect (meaning bar) end env.1 >>= λ divided. conditions_at end divided.1
+    >>= λ named. expect (meaning goals) end named.1
+    >>= λ goal. ended (problem_of env.0 named.0 goal.0) goal.1) p h in
+    let b = bind_ok (expect (meaning bar) end a.0.1)
+    (λ divided. conditions_at end divided.1 >>= λ named. expect (meaning goals) end named.1
+    >>= λ goal. ended (problem_of a.0.0 named.0 goal.0) goal.1) p a.2 in
+    let c = bind_ok (conditions_at end b.0.1)
+    (λ named. expect (meaning goals) end named.1
+    >>= λ goal. ended (problem_of a.0.0 named.0 goal.0) goal.1) p b.2 in
+    let d = bind_ok (expect (meaning goals) end c.0.1)
+    (λ goal. ended (problem_of a.0.0 c.0.0 goal.0) goal.1) p c.2 in
+    let same : problem_of a.0.0 c.0.0 d.0.0 ≡ p =
+    ended_ok (problem_of a.0.0 c.0.0 d.0.0) p d.0.1 d.2 in
     let w = expect_ok environment end (tokens_from 0 text) a.0 a.1 in
-    subst (λ (q : Problem). IsCounted q.env q.count) {x = problem_of a.0.0 c.0.0 d.0.0} same (environment_counted w.0 a.0.0 w.1)
+    subst (λ (q : Problem). IsCounted q.env q.count) {x = problem_of a.0.0 c.0.0 d.0.0} same
+    (environment_counted w.0 a.0.0 w.1)
 
-pub means_again : {S E : Type 0} (bytes : S → List ℕ) (r : Result S E) (p : Problem) → IfOk r (λ s. bytes s ≡ canonical p) → IfOk r (λ s. IsRead p → notation (bytes s) ≡ Ok p)
+pub means_again : {S E : Type 0} (bytes : S → List ℕ) (r : Result S E) (p : Problem)
+    → IfOk r (λ s. bytes s ≡ canonical p) → IfOk r (λ s. IsRead p → notation (bytes s) ≡ Ok p)
 means_again bytes (Ok s) p h = λ read. ap notation h ∙ again p (is_counted read.0 p read.1)
 means_again bytes (Err e) p h = tt

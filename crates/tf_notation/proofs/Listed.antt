@@ -18,32 +18,56 @@ pub divided : ℕ → Conditions → Read Bool → Read Conditions
 divided end named (Ok x) = cond x.0 (listed end true named x.1) (Ok (named, x.1))
 divided end named (Err e) = Err e
 
-next_condition : (end : ℕ) (named : Conditions) (ts : List Token) → listed end true named ts ≡ after end (expect (adds named) end ts)
+next_condition : (end : ℕ) (named : Conditions) (ts : List Token)
+    → listed end true named ts ≡ after end (expect (adds named) end ts)
 unfolding listed expect after
 next_condition end named [] = refl
-next_condition end named (t ∷ ts) = elim (adds named t.bytes) as (λ o. option_map_or (λ more. listed end false more ts) o (Err t.start) ≡ after end (option_map_or (λ x. Ok (x, ts)) o (Err t.start))) [ None ↦ refl | Some x ↦ refl ]
+next_condition end named (t ∷ ts) =
+    elim (adds named t.bytes) as
+    (λ o. option_map_or (λ more. listed end false more ts) o (Err t.start)
+    ≡ after end (option_map_or (λ x. Ok (x, ts)) o (Err t.start))) [ None ↦ refl | Some x ↦ refl ]
 
-next_divider : (end : ℕ) (named : Conditions) (ts : List Token) → listed end false named ts ≡ divided end named (expect (meaning dividers) end ts)
+next_divider : (end : ℕ) (named : Conditions) (ts : List Token)
+    → listed end false named ts ≡ divided end named (expect (meaning dividers) end ts)
 unfolding listed expect divided
 next_divider end named [] = refl
-next_divider end named (t ∷ ts) = elim (meaning dividers t.bytes) as (λ o. option_map_or (λ another. cond another (listed end true named ts) (Ok (named, ts))) o (Err t.start) ≡ divided end named (option_map_or (λ x. Ok (x, ts)) o (Err t.start))) [ None ↦ refl | Some x ↦ refl ]
+next_divider end named (t ∷ ts) =
+    elim (meaning dividers t.bytes) as
+    (λ o. option_map_or (λ another. cond another (listed end true named ts) (Ok (named, ts))) o
+    (Err t.start) ≡ divided end named (option_map_or (λ x. Ok (x, ts)) o (Err t.start))) [
+      | None ↦
+          refl
+      | Some x ↦ refl
+    ]
 
-pub fault_condition : (end : ℕ) (named : Conditions) (ts : List Token) (e : ℕ) → expect (adds named) end ts ≡ Err e → listed end true named ts ≡ Err e
+pub fault_condition : (end : ℕ) (named : Conditions) (ts : List Token) (e : ℕ)
+    → expect (adds named) end ts ≡ Err e → listed end true named ts ≡ Err e
 unfolding after
 fault_condition end named ts e h = next_condition end named ts ∙ ap (after end) h
 
-pub read_on : (end : ℕ) (named more : Conditions) (ts us : List Token) → expect (adds named) end ts ≡ Ok (more, us) → listed end true named ts ≡ divided end more (expect (meaning dividers) end us)
+pub read_on : (end : ℕ) (named more : Conditions) (ts us : List Token)
+    → expect (adds named) end ts ≡ Ok (more, us)
+    → listed end true named ts ≡ divided end more (expect (meaning dividers) end us)
 unfolding after
-read_on end named more ts us h = next_condition end named ts ∙ ap (after end) h ∙ next_divider end more us
+read_on end named more ts us h = next_condition end named ts ∙ ap (after end) h
+    ∙ next_divider end more us
 
-pub fault_divider : (end : ℕ) (named more : Conditions) (ts us : List Token) (e : ℕ) → expect (adds named) end ts ≡ Ok (more, us) → expect (meaning dividers) end us ≡ Err e → listed end true named ts ≡ Err e
+pub fault_divider : (end : ℕ) (named more : Conditions) (ts us : List Token) (e : ℕ)
+    → expect (adds named) end ts ≡ Ok (more, us) → expect (meaning dividers) end us ≡ Err e
+    → listed end true named ts ≡ Err e
 unfolding divided
 fault_divider end named more ts us e h k = read_on end named more ts us h ∙ ap (divided end more) k
 
-pub last : (end : ℕ) (named more : Conditions) (ts us vs : List Token) (b : Bool) → expect (adds named) end ts ≡ Ok (more, us) → expect (meaning dividers) end us ≡ Ok (b, vs) → b ≡ false → listed end true named ts ≡ Ok (more, vs)
+pub last : (end : ℕ) (named more : Conditions) (ts us vs : List Token) (b : Bool)
+    → expect (adds named) end ts ≡ Ok (more, us) → expect (meaning dividers) end us ≡ Ok (b, vs)
+    → b ≡ false → listed end true named ts ≡ Ok (more, vs)
 unfolding divided
-last end named more ts us vs b h k e = read_on end named more ts us h ∙ ap (divided end more) k ∙ rw e refl
+last end named more ts us vs b h k e = read_on end named more ts us h ∙ ap (divided end more) k
+    ∙ rw e refl
 
-pub another : (end : ℕ) (named more : Conditions) (ts us vs : List Token) (b : Bool) → expect (adds named) end ts ≡ Ok (more, us) → expect (meaning dividers) end us ≡ Ok (b, vs) → b ≡ true → listed end true named ts ≡ listed end true more vs
+pub another : (end : ℕ) (named more : Conditions) (ts us vs : List Token) (b : Bool)
+    → expect (adds named) end ts ≡ Ok (more, us) → expect (meaning dividers) end us ≡ Ok (b, vs)
+    → b ≡ true → listed end true named ts ≡ listed end true more vs
 unfolding divided
-another end named more ts us vs b h k e = read_on end named more ts us h ∙ ap (divided end more) k ∙ rw e refl
+another end named more ts us vs b h k e = read_on end named more ts us h ∙ ap (divided end more) k
+    ∙ rw e refl

@@ -7,7 +7,19 @@ use Rattle.tf_notation.specs.Tokens.{tokens_from}
 use Rattle.tf_notation.specs.Reading.{notation, expect, listed, conditions_at}
 use Rattle.tf_notation.specs.Canonical.{canonical}
 
-spaced : notation (codes "1 | pmtn , r_j | L_max") ≡ Ok (record { env = Single; count = None; release = true; prec = false; prmp = true; prmu = false; nwt = false; block = false; rcrc = false; goal = Lmax })
+spaced : notation (codes "1 | pmtn , r_j | L_max")
+    ≡ Ok (record {
+      env = Single;
+      count = None;
+      release = true;
+      prec = false;
+      prmp = true;
+      prmu = false;
+      nwt = false;
+      block = false;
+      rcrc = false;
+      goal = Lmax;
+    })
 unfolding notation expect listed conditions_at tokens_from plain
 spaced = refl
 
@@ -51,27 +63,99 @@ case : notation (codes "1||cmax") ≡ Err 3
 unfolding notation expect listed conditions_at tokens_from plain
 case = refl
 
-letter_m : notation (codes "Pm|pmtn|C_max") ≡ Ok (record { env = Parallel; count = None; release = false; prec = false; prmp = true; prmu = false; nwt = false; block = false; rcrc = false; goal = Cmax })
+letter_m : notation (codes "Pm|pmtn|C_max")
+    ≡ Ok (record {
+      env = Parallel;
+      count = None;
+      release = false;
+      prec = false;
+      prmp = true;
+      prmu = false;
+      nwt = false;
+      block = false;
+      rcrc = false;
+      goal = Cmax;
+    })
 unfolding notation expect listed conditions_at tokens_from plain
 letter_m = refl
 
-counted : notation (codes "P1000|prmp|Cmax") ≡ Ok (record { env = Parallel; count = Some 1000; release = false; prec = false; prmp = true; prmu = false; nwt = false; block = false; rcrc = false; goal = Cmax })
+counted : notation (codes "P1000|prmp|Cmax")
+    ≡ Ok (record {
+      env = Parallel;
+      count = Some 1000;
+      release = false;
+      prec = false;
+      prmp = true;
+      prmu = false;
+      nwt = false;
+      block = false;
+      rcrc = false;
+      goal = Cmax;
+    })
 unfolding notation expect listed conditions_at tokens_from plain
 counted = refl
 
-any_order : notation (codes "1|nwt,rj|sumwjCj") ≡ Ok (record { env = Single; count = None; release = true; prec = false; prmp = false; prmu = false; nwt = true; block = false; rcrc = false; goal = SumWC })
+any_order : notation (codes "1|nwt,rj|sumwjCj")
+    ≡ Ok (record {
+      env = Single;
+      count = None;
+      release = true;
+      prec = false;
+      prmp = false;
+      prmu = false;
+      nwt = true;
+      block = false;
+      rcrc = false;
+      goal = SumWC;
+    })
 unfolding notation expect listed conditions_at tokens_from plain
 any_order = refl
 
 -- the canonical text
-written : canonical (record { env = Single; count = None; release = true; prec = false; prmp = false; prmu = false; nwt = true; block = false; rcrc = false; goal = SumWC }) ≡ codes "1|rj,nwt|sumwC"
+written : canonical
+    (record {
+      env = Single;
+      count = None;
+      release = true;
+      prec = false;
+      prmp = false;
+      prmu = false;
+      nwt = true;
+      block = false;
+      rcrc = false;
+      goal = SumWC;
+    }) ≡ codes "1|rj,nwt|sumwC"
 unfolding canonical
 written = refl
 
-written_letter : canonical (record { env = Parallel; count = None; release = false; prec = false; prmp = true; prmu = false; nwt = false; block = false; rcrc = false; goal = Cmax }) ≡ codes "P|prmp|Cmax"
+written_letter : canonical
+    (record {
+      env = Parallel;
+      count = None;
+      release = false;
+      prec = false;
+      prmp = true;
+      prmu = false;
+      nwt = false;
+      block = false;
+      rcrc = false;
+      goal = Cmax;
+    }) ≡ codes "P|prmp|Cmax"
 unfolding canonical
 written_letter = refl
 
-single_uncounted : canonical (record { env = Single; count = Some 2; release = false; prec = false; prmp = false; prmu = false; nwt = false; block = false; rcrc = false; goal = Cmax }) ≡ codes "1||Cmax"
+single_uncounted : canonical
+    (record {
+      env = Single;
+      count = Some 2;
+      release = false;
+      prec = false;
+      prmp = false;
+      prmu = false;
+      nwt = false;
+      block = false;
+      rcrc = false;
+      goal = Cmax;
+    }) ≡ codes "1||Cmax"
 unfolding canonical
 single_uncounted = refl

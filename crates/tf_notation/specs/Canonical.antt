@@ -52,7 +52,16 @@ goal_word SumWU = codes "sumwU"
 
 -- the conditions that a problem names
 abbrev pub conditions_of : Problem → Conditions
-conditions_of p = record { release = p.release; prec = p.prec; prmp = p.prmp; prmu = p.prmu; nwt = p.nwt; block = p.block; rcrc = p.rcrc }
+conditions_of p =
+    record {
+      release = p.release;
+      prec = p.prec;
+      prmp = p.prmp;
+      prmu = p.prmu;
+      nwt = p.nwt;
+      block = p.block;
+      rcrc = p.rcrc;
+    }
 
 -- all conditions, in the order in which they are written
 abbrev pub all_conditions : List Condition
@@ -60,12 +69,16 @@ all_conditions = Release ∷ Prec ∷ Prmp ∷ Prmu ∷ Nwt ∷ Block ∷ Rcrc �
 
 -- the words of those that are named, with a ',' between each two
 abbrev pub listed_text : Conditions → List Condition → List ℕ
-listed_text named conditions = join_with_byte 44 (map condition_word (filter (has named) conditions))
+listed_text named conditions =
+    join_with_byte 44 (map condition_word (filter (has named) conditions))
 
 -- a list of words with a ',' between each two, and one word more
 abbrev pub one_more : List ℕ → List ℕ → List ℕ
 one_more list word = if length list == 0 then word else list ++ 44 ∷ word
 
--- The canonical text: the three fields without blanks. An environment without a count is its letter alone.
+-- The canonical text: the three fields without blanks. An environment without a count is its letter
+-- alone.
 unfoldable pub canonical : Problem → List ℕ
-canonical p = environment_word p.env ++ count_text p.env p.count ++ codes "|" ++ listed_text (conditions_of p) all_conditions ++ codes "|" ++ goal_word p.goal
+canonical p =
+    environment_word p.env ++ count_text p.env p.count ++ codes "|"
+    ++ listed_text (conditions_of p) all_conditions ++ codes "|" ++ goal_word p.goal

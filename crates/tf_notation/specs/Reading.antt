@@ -1,4 +1,5 @@
--- The problem that a text means. A fault is the offset of the first token that is not expected at its place, or the length of the text where the text ends too early.
+-- The problem that a text means. A fault is the offset of the first token that is not expected at
+-- its place, or the length of the text where the text ends too early.
 use Rattle.std.specs.Prelude.{◌≡◌, ℕ, Bool, true, false, List, [], ◌∷◌, length, Option, Some, Result, Ok, Err, codes, if◌then◌else◌}
 use Rattle.std.specs.Option.{option_map_or}
 use Rattle.std.specs.Str.{bytes_eq}
@@ -17,15 +18,20 @@ abbrev pub Gives : {X Y : Type 0} → (X → Y) → Result X NotationFault → R
 Gives = Outcome.Gives (λ (e : NotationFault). Some e.byte)
 
 -- a token that is expected, as what it means: its meaning, and the tokens after it
-unfoldable pub expect : {A : Type 0} → (List ℕ → Option A) → ℕ → List Token → Result (A × List Token) ℕ
+unfoldable pub expect : {A : Type 0} → (List ℕ → Option A) → ℕ → List Token
+    → Result (A × List Token) ℕ
 expect means end [] = Err end
 expect means end (t ∷ ts) = option_map_or (λ x. Ok (x, ts)) (means t.bytes) (Err t.start)
 
--- Conditions with a ',' between each two, and a '|' after the last. At true a condition that was not named is expected, at false a divider.
+-- Conditions with a ',' between each two, and a '|' after the last. At true a condition that was
+-- not named is expected, at false a divider.
 unfoldable pub listed : ℕ → Bool → Conditions → List Token → Result (Conditions × List Token) ℕ
 listed end another named [] = Err end
-listed end true named (t ∷ ts) = option_map_or (λ more. listed end false more ts) (adds named t.bytes) (Err t.start)
-listed end false named (t ∷ ts) = option_map_or (λ another. if another then listed end true named ts else Ok (named, ts)) (meaning dividers t.bytes) (Err t.start)
+listed end true named (t ∷ ts) =
+    option_map_or (λ more. listed end false more ts) (adds named t.bytes) (Err t.start)
+listed end false named (t ∷ ts) =
+    option_map_or (λ another. if another then listed end true named ts else Ok (named, ts))
+    (meaning dividers t.bytes) (Err t.start)
 
 -- nothing more
 abbrev pub ended : {A : Type 0} → A → List Token → Result A ℕ
@@ -35,11 +41,25 @@ ended x (t ∷ ts) = Err t.start
 -- a '|', or conditions up to their '|'
 unfoldable pub conditions_at : ℕ → List Token → Result (Conditions × List Token) ℕ
 conditions_at end [] = Err end
-conditions_at end (t ∷ ts) = if bytes_eq t.bytes (codes "|") then Ok (no_conditions, ts) else listed end true no_conditions (t ∷ ts)
+conditions_at end (t ∷ ts) =
+    if bytes_eq t.bytes (codes "|") then Ok (no_conditions, ts) else listed end true no_conditions
+    (t ∷ ts)
 
 -- a problem by its three fields
 abbrev pub problem_of : Env × Option ℕ → Conditions → Goal → Problem
-problem_of env named goal = record { env = env.0; count = env.1; release = named.release; prec = named.prec; prmp = named.prmp; prmu = named.prmu; nwt = named.nwt; block = named.block; rcrc = named.rcrc; goal = goal }
+problem_of env named goal =
+    record {
+      env = env.0;
+      count = env.1;
+      release = named.release;
+      prec = named.prec;
+      prmp = named.prmp;
+      prmu = named.prmu;
+      nwt = named.nwt;
+      block = named.block;
+      rcrc = named.rcrc;
+      goal = goal;
+    }
 
 -- the divider of fields
 abbrev pub bar : List (List ℕ × Unit {0})

@@ -1,4 +1,5 @@
--- The words of three-field notation, each with its meaning. In a table the first spelling of each meaning is the canonical one.
+-- The words of three-field notation, each with its meaning. In a table the first spelling of each
+-- meaning is the canonical one.
 use Rattle.std.specs.Prelude.{ℕ, Bool, true, false, List, [], ◌∷◌, take, drop, Option, Some, None, codes, if◌then◌else◌}
 use Rattle.std.specs.List.{find}
 use Rattle.std.specs.Option.{option_map, option_and_then}
@@ -19,18 +20,22 @@ meaning table word = option_map (λ entry. entry.1) (find (λ entry. bytes_eq wo
 
 -- the environments of several machines, by their letters
 abbrev pub environments : List (List ℕ × Env)
-environments = (codes "P", Parallel) ∷ (codes "Q", Uniform) ∷ (codes "R", Unrelated) ∷ (codes "F", Flow) ∷ (codes "O", OpenShop) ∷ (codes "J", JobShop) ∷ []
+environments =
+    (codes "P", Parallel) ∷ (codes "Q", Uniform) ∷ (codes "R", Unrelated) ∷ (codes "F", Flow)
+    ∷ (codes "O", OpenShop) ∷ (codes "J", JobShop) ∷ []
 
 -- the conditions, all spellings
 abbrev pub conditions : List (List ℕ × Condition)
 conditions =
-    (codes "rj", Release) ∷ (codes "r_j", Release) ∷ (codes "prec", Prec) ∷ (codes "prmp", Prmp) ∷ (codes "pmtn", Prmp)
+    (codes "rj", Release) ∷ (codes "r_j", Release) ∷ (codes "prec", Prec) ∷ (codes "prmp", Prmp)
+    ∷ (codes "pmtn", Prmp)
     ∷ (codes "prmu", Prmu) ∷ (codes "nwt", Nwt) ∷ (codes "block", Block) ∷ (codes "rcrc", Rcrc) ∷ []
 
 -- the objectives, all spellings
 abbrev pub goals : List (List ℕ × Goal)
 goals =
-    (codes "Cmax", Cmax) ∷ (codes "C_max", Cmax) ∷ (codes "Lmax", Lmax) ∷ (codes "L_max", Lmax) ∷ (codes "hmax", Hmax) ∷ (codes "h_max", Hmax)
+    (codes "Cmax", Cmax) ∷ (codes "C_max", Cmax) ∷ (codes "Lmax", Lmax) ∷ (codes "L_max", Lmax)
+    ∷ (codes "hmax", Hmax) ∷ (codes "h_max", Hmax)
     ∷ (codes "sumC", SumC) ∷ (codes "sumCj", SumC) ∷ (codes "sumC_j", SumC)
     ∷ (codes "sumwC", SumWC) ∷ (codes "sumwjCj", SumWC) ∷ (codes "sumw_jC_j", SumWC)
     ∷ (codes "sumT", SumT) ∷ (codes "sumTj", SumT) ∷ (codes "sumT_j", SumT)
@@ -42,7 +47,8 @@ goals =
 abbrev pub dividers : List (List ℕ × Bool)
 dividers = (codes ",", true) ∷ (codes "|", false) ∷ []
 
--- what may stand behind the letter of an environment: nothing, an 'm', or a count of machines in digits without a leading zero
+-- what may stand behind the letter of an environment: nothing, an 'm', or a count of machines in
+-- digits without a leading zero
 abbrev pub count_of : List ℕ → Option (Option ℕ)
 count_of word =
     if bytes_eq word [] then Some None
@@ -53,11 +59,21 @@ count_of word =
 abbrev pub environment : List ℕ → Option (Env × Option ℕ)
 environment word =
     if bytes_eq word (codes "1") then Some (Single, None)
-    else option_and_then (λ env. option_map (λ count. (env, count)) (count_of (drop 1 word))) (meaning environments (take 1 word))
+    else option_and_then (λ env. option_map (λ count. (env, count)) (count_of (drop 1 word)))
+    (meaning environments (take 1 word))
 
 -- no condition is named
 abbrev pub no_conditions : Conditions
-no_conditions = record { release = false; prec = false; prmp = false; prmu = false; nwt = false; block = false; rcrc = false }
+no_conditions =
+    record {
+      release = false;
+      prec = false;
+      prmp = false;
+      prmu = false;
+      nwt = false;
+      block = false;
+      rcrc = false;
+    }
 
 -- whether a condition is named
 abbrev pub has : Conditions → Condition → Bool
@@ -81,4 +97,7 @@ with_condition named Rcrc = record named { rcrc = true }
 
 -- the conditions with the one that the word names, if it names one that is not among them
 abbrev pub adds : Conditions → List ℕ → Option Conditions
-adds named word = option_and_then (λ condition. if has named condition then None else Some (with_condition named condition)) (meaning conditions word)
+adds named word =
+    option_and_then
+    (λ condition. if has named condition then None else Some (with_condition named condition))
+    (meaning conditions word)

@@ -25,7 +25,8 @@ abbrev pub lengthen : ℕ → ℕ → List Token → List Token
 lengthen start b [] = []
 lengthen start b (t ∷ ts) = record { start = start; bytes = b ∷ t.bytes } ∷ ts
 
--- The tokens of a text whose first byte has this offset. A word is a longest run of its bytes; each other byte that is no gap is a token by itself.
+-- The tokens of a text whose first byte has this offset. A word is a longest run of its bytes; each
+-- other byte that is no gap is a token by itself.
 unfoldable pub tokens_from : ℕ → List ℕ → List Token
 tokens_from offset [] = []
 tokens_from offset (b ∷ bs) =

@@ -14,8 +14,8 @@ use thiserror::Error;
 #[derive(Clone, Copy, Debug, PartialEq, Eq, Error)]
 #[error("byte {byte} of the notation is not expected")]
 pub struct NotationFault {
-    /// The offset, from 0, of the first token that is not expected at its place, or the text's length where the text
-    /// ends too early.
+    /// The offset, from 0, of the first token that is not expected at its place, or the text's
+    /// length where the text ends too early.
     pub byte: usize,
 }
 
@@ -26,7 +26,8 @@ fn read_environment(
     offset: usize,
 ) -> Result<((Env, Option<u32>), usize), NotationFault>
     requires { offset ≤ length text.now }
-    ensures read { Gives (λ x. (x.0, tokens_after text.now x.1)) result (expect environment (length text.now) (tokens_after text.now offset)) }
+    ensures read { Gives (λ x. (x.0, tokens_after text.now x.1)) result
+        (expect environment (length text.now) (tokens_after text.now offset)) }
     ensures inside { IfOk result (λ x. (offset < x.1) × (x.1 ≤ length text.now)) }
 {
     match next_token(text, offset) {
@@ -42,7 +43,8 @@ fn read_environment(
 #[tactic(auto, unfolding(crate::specs::Reading::expect))]
 fn read_bar(text: &[u8], offset: usize) -> Result<usize, NotationFault>
     requires { offset ≤ length text.now }
-    ensures read { Gives (λ at. (tt, tokens_after text.now at)) result (expect (meaning bar) (length text.now) (tokens_after text.now offset)) }
+    ensures read { Gives (λ at. (tt, tokens_after text.now at)) result
+        (expect (meaning bar) (length text.now) (tokens_after text.now offset)) }
     ensures inside { IfOk result (λ at. (offset < at) × (at ≤ length text.now)) }
 {
     match next_token(text, offset) {
@@ -61,7 +63,8 @@ fn read_bar(text: &[u8], offset: usize) -> Result<usize, NotationFault>
 #[tactic(auto, unfolding(crate::specs::Reading::expect))]
 fn read_goal(text: &[u8], offset: usize) -> Result<(Goal, usize), NotationFault>
     requires { offset ≤ length text.now }
-    ensures read { Gives (λ x. (x.0, tokens_after text.now x.1)) result (expect (meaning goals) (length text.now) (tokens_after text.now offset)) }
+    ensures read { Gives (λ x. (x.0, tokens_after text.now x.1)) result
+        (expect (meaning goals) (length text.now) (tokens_after text.now offset)) }
     ensures inside { IfOk result (λ x. (offset < x.1) × (x.1 ≤ length text.now)) }
 {
     match next_token(text, offset) {
@@ -81,7 +84,8 @@ fn read_condition(
     named: Conditions,
 ) -> Result<(Conditions, usize), NotationFault>
     requires { offset ≤ length text.now }
-    ensures read { Gives (λ x. (x.0, tokens_after text.now x.1)) result (expect (adds named) (length text.now) (tokens_after text.now offset)) }
+    ensures read { Gives (λ x. (x.0, tokens_after text.now x.1)) result
+        (expect (adds named) (length text.now) (tokens_after text.now offset)) }
     ensures inside { IfOk result (λ x. (offset < x.1) × (x.1 ≤ length text.now)) }
 {
     match next_token(text, offset) {
@@ -97,7 +101,8 @@ fn read_condition(
 #[tactic(auto, unfolding(crate::specs::Reading::expect))]
 fn read_divider(text: &[u8], offset: usize) -> Result<(bool, usize), NotationFault>
     requires { offset ≤ length text.now }
-    ensures read { Gives (λ x. (x.0, tokens_after text.now x.1)) result (expect (meaning dividers) (length text.now) (tokens_after text.now offset)) }
+    ensures read { Gives (λ x. (x.0, tokens_after text.now x.1)) result
+        (expect (meaning dividers) (length text.now) (tokens_after text.now offset)) }
     ensures inside { IfOk result (λ x. (offset < x.1) × (x.1 ≤ length text.now)) }
 {
     match next_token(text, offset) {
@@ -112,7 +117,8 @@ fn read_divider(text: &[u8], offset: usize) -> Result<(bool, usize), NotationFau
 /// Conditions, of which there is at least one, and the offset behind the bar after the last.
 fn read_listed(text: &[u8], offset: usize) -> Result<(Conditions, usize), NotationFault>
     requires { offset ≤ length text.now }
-    ensures read { Gives (λ x. (x.0, tokens_after text.now x.1)) result (listed (length text.now) true no_conditions (tokens_after text.now offset)) }
+    ensures read { Gives (λ x. (x.0, tokens_after text.now x.1)) result
+        (listed (length text.now) true no_conditions (tokens_after text.now offset)) }
     ensures inside { IfOk result (λ x. (offset < x.1) × (x.1 ≤ length text.now)) }
 {
     let mut named = Conditions::none();
@@ -132,7 +138,8 @@ fn read_listed(text: &[u8], offset: usize) -> Result<(Conditions, usize), Notati
 #[tactic(auto, unfolding(crate::specs::Reading::conditions_at))]
 fn read_conditions(text: &[u8], offset: usize) -> Result<(Conditions, usize), NotationFault>
     requires { offset ≤ length text.now }
-    ensures read { Gives (λ x. (x.0, tokens_after text.now x.1)) result (conditions_at (length text.now) (tokens_after text.now offset)) }
+    ensures read { Gives (λ x. (x.0, tokens_after text.now x.1)) result
+        (conditions_at (length text.now) (tokens_after text.now offset)) }
     ensures inside { IfOk result (λ x. (offset < x.1) × (x.1 ≤ length text.now)) }
 {
     match next_token(text, offset) {
@@ -147,14 +154,16 @@ fn read_conditions(text: &[u8], offset: usize) -> Result<(Conditions, usize), No
     }
 }
 
-/// The problem that a text means, by the three fields `environment|conditions|objective`. Blanks and tabs may stand
-/// between words, upper and lower case differ, and conditions stand in any order, none of them twice. Takes no memory.
+/// The problem that a text means, by the three fields `environment|conditions|objective`. Blanks
+/// and tabs may stand between words, upper and lower case differ, and conditions stand in any
+/// order, none of them twice. Takes no memory.
 ///
 /// Some problems that are read have no solver.
 ///
 /// # Errors
 ///
-/// The byte of the first token that is not expected, or the text's length in bytes where the text ends too early.
+/// The byte of the first token that is not expected, or the text's length in bytes where the text
+/// ends too early.
 #[tactic(auto, unfolding(crate::specs::Reading::notation))]
 pub fn read(text: &[u8]) -> Result<Problem, NotationFault>
     ensures { Gives (λ x. x) result (notation text.now) }

@@ -14,7 +14,8 @@ pub enum Condition {
     Release,
     /// `prec`: a job may not start before the jobs are over that go before it.
     Prec,
-    /// `prmp`: preemption, a job may be interrupted and taken up again. The older literature writes `pmtn`.
+    /// `prmp`: preemption, a job may be interrupted and taken up again. The older literature writes
+    /// `pmtn`.
     Prmp,
     /// `prmu`: permutation, the jobs pass all machines of a flow shop in one order.
     Prmu,

@@ -46,7 +46,8 @@ fn token_len(text: &[u8]) -> usize
     requires some { 0 < length text.now }
     requires at_token { is_gap (slice_index text.now 0) ≡ false }
     ensures token { (offset : ℕ) → tokens_from offset text.now
-        ≡ record { start = offset; bytes = take result text.now } ∷ tokens_from (offset + result) (drop result text.now) }
+        ≡ record { start = offset; bytes = take result text.now }
+        ∷ tokens_from (offset + result) (drop result text.now) }
     ensures inside { result ≤ length text.now }
     ensures some { 0 < result }
 {
@@ -71,7 +72,8 @@ pub(crate) struct Token<'a> {
 pub(crate) fn next_token(text: &[u8], offset: usize) -> Option<Token<'_>>
     requires { offset ≤ length text.now }
     ensures token { MatchOption result (tokens_after text.now offset ≡ [])
-        (λ t. tokens_after text.now offset ≡ record { start = t.start; bytes = t.word.now } ∷ tokens_after text.now t.end) }
+        (λ t. tokens_after text.now offset ≡ record { start = t.start; bytes = t.word.now }
+        ∷ tokens_after text.now t.end) }
     ensures inside { IfSome result (λ t. (offset < t.end) × (t.end ≤ length text.now)) }
 {
     let (_, rest) = text.split_at(offset);

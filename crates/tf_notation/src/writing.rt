@@ -130,9 +130,10 @@ fn canonical<A: Allocator + Copy>(alloc: A, problem: &Problem) -> Result<String<
     Ok(text)
 }
 
-/// The canonical text of a problem: no blanks, the first spelling of each word, and the conditions in the order `rj`,
-/// `prec`, `prmp`, `prmu`, `nwt`, `block`, `rcrc`. A count beside [`Env::Single`] is left out; any other is written in
-/// decimal, also one above the most machines, which no text gives.
+/// The canonical text of a problem: no blanks, the first spelling of each word, and the conditions
+/// in the order `rj`, `prec`, `prmp`, `prmu`, `nwt`, `block`, `rcrc`. A count beside
+/// [`Env::Single`] is left out; any other is written in decimal, also one above the most machines,
+/// which no text gives.
 ///
 /// Preemption is written `prmp`, as Pinedo writes it, and not `pmtn`, as the older literature does.
 pub fn notation_text<A: Allocator + Copy>(
@@ -141,7 +142,8 @@ pub fn notation_text<A: Allocator + Copy>(
 ) -> Result<String<A>, OutOfMemory>
     ensures text { IfOk result (λ s. string_bytes s ≡ canonical problem.now) }
     // The canonical text of a problem that was read means that problem again.
-    ensures round_trip { IfOk result (λ s. IsRead problem.now → notation (string_bytes s) ≡ Ok problem.now) }
+    ensures round_trip { IfOk result
+        (λ s. IsRead problem.now → notation (string_bytes s) ≡ Ok problem.now) }
 {
     canonical(alloc, problem)
 }

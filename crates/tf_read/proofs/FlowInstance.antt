@@ -18,27 +18,39 @@ use Rattle.tf_read.proofs.Judged.{in_range, natural_within, judged as is_instanc
 use Rattle.tf_read.proofs.OneInstance.{none_at}
 use Rattle.tf_read.proofs.FlowWords.{count_below, count_all}
 
-goes_on : (n m : ℕ) (pair : Option (ℕ × ℕ)) (seen : List Word) (r : Result (List ℤ) ReadFault) → each_from (judged m) 0 (take (2 * n * m) seen) ≡ r → pairs_of n m pair seen ≡ (r >>= λ numbers. present n m pair numbers)
+goes_on : (n m : ℕ) (pair : Option (ℕ × ℕ)) (seen : List Word) (r : Result (List ℤ) ReadFault)
+    → each_from (judged m) 0 (take (2 * n * m) seen) ≡ r
+    → pairs_of n m pair seen ≡ (r >>= λ numbers. present n m pair numbers)
 unfolding pairs_of
 goes_on n m pair seen r h = ap (λ x. x >>= λ numbers. present n m pair numbers) h
 
 -- the fault
-missing_at : (fault : Option ReadFault) (p : Pairs) (pair : Option (ℕ × ℕ)) (seen : List Word) (e : ReadFault) → p.machine < p.machines → Holds fault p (each_from (judged p.machines) 0 (take (wanted p) seen)) → option_or fault (cond (ltb p.job p.jobs) (Some EndsEarly) None) ≡ Some e → pairs_of p.jobs p.machines pair seen ≡ Err e
-missing_at (Some d) p pair seen e within h m = goes_on p.jobs p.machines pair seen (Err d) h ∙ (let same : d ≡ e = cc in ap (λ x. Err x) same)
+missing_at : (fault : Option ReadFault) (p : Pairs) (pair : Option (ℕ × ℕ)) (seen : List Word)
+    (e : ReadFault)
+    → p.machine < p.machines
+    → Holds fault p (each_from (judged p.machines) 0 (take (wanted p) seen))
+    → option_or fault (cond (ltb p.job p.jobs) (Some EndsEarly) None) ≡ Some e
+    → pairs_of p.jobs p.machines pair seen ≡ Err e
+missing_at (Some d) p pair seen e within h m = goes_on p.jobs p.machines pair seen (Err d) h
+    ∙ (let same : d ≡ e = cc in ap (λ x. Err x) same)
 missing_at None p pair seen e within h m = elim (cases_Bool (ltb p.job p.jobs)) [
   | inl early ↦
       let same : EndsEarly ≡ e = let d : Some EndsEarly ≡ Some e = rw early at m in cc in
       let lt : count p < wanted p = count_below p (ltb-true p.job p.jobs early) within in
-      let cut : ltb (length h.0) (2 * p.jobs * p.machines) ≡ true = lt-ltb _ _ (omega (arith, lt, h.2)) in
+      let cut : ltb (length h.0) (2 * p.jobs * p.machines) ≡ true =
+      lt-ltb _ _ (omega (arith, lt, h.2)) in
       goes_on p.jobs p.machines pair seen (Ok h.0) h.1 ∙ rw cut (ap (λ x. Err x) same)
   | inr over ↦ absurd (let d : None ≡ Some e = rw over at m in let f : ⊥ = cc in f)
 ]
 
-pub missing_is : (p : Pairs) (seen : List Word) (e : ReadFault) → p.machine < p.machines → HasRead p seen → missing p ≡ Some e → pairs_of p.jobs p.machines p.pair seen ≡ Err e
+pub missing_is : (p : Pairs) (seen : List Word) (e : ReadFault) → p.machine < p.machines
+    → HasRead p seen → missing p ≡ Some e → pairs_of p.jobs p.machines p.pair seen ≡ Err e
 missing_is p seen e within h m = missing_at p.fault p p.pair seen e within h m
 
 -- nothing is missing
-none_missing : (fault : Option ReadFault) (p : Pairs) → option_or fault (cond (ltb p.job p.jobs) (Some EndsEarly) None) ≡ None → (fault ≡ None) × (p.jobs ≤ p.job)
+none_missing : (fault : Option ReadFault) (p : Pairs)
+    → option_or fault (cond (ltb p.job p.jobs) (Some EndsEarly) None) ≡ None
+    → (fault ≡ None) × (p.jobs ≤ p.job)
 none_missing (Some d) p m = absurd (let f : ⊥ = cc in f)
 none_missing None p m = elim (cases_Bool (ltb p.job p.jobs)) [
   | inl early ↦ absurd (let d : Some EndsEarly ≡ None = rw early at m in let f : ⊥ = cc in f)
@@ -48,22 +60,33 @@ none_missing None p m = elim (cases_Bool (ltb p.job p.jobs)) [
 pub all_over : (p : Pairs) → missing p ≡ None → p.jobs ≤ p.job
 all_over p m = (none_missing p.fault p m).1
 
-holds : (p : Pairs) (seen : List Word) → missing p ≡ None → HasRead p seen → Holds None p (each_from (judged p.machines) 0 (take (wanted p) seen))
-holds p seen m h = subst (λ (o : Option ReadFault). Holds o p (each_from (judged p.machines) 0 (take (wanted p) seen))) (none_missing p.fault p m).0 h
+holds : (p : Pairs) (seen : List Word) → missing p ≡ None → HasRead p seen
+    → Holds None p (each_from (judged p.machines) 0 (take (wanted p) seen))
+holds p seen m h =
+    subst (λ (o : Option ReadFault). Holds o p
+    (each_from (judged p.machines) 0 (take (wanted p) seen))) (none_missing p.fault p m).0 h
 
-pub whole_is : (p : Pairs) (seen : List Word) → p.job ≤ p.jobs → (p.jobs ≤ p.job → p.machine ≡ 0) → (p.jobs ≤ p.job → p.is_named ≡ false) → HasRead p seen → missing p ≡ None
-    → pairs_of p.jobs p.machines p.pair seen ≡ Ok (record { jobs = jobs_of p.jobs p.machines p.firsts p.seconds; arcs = []; machines = Some (machine_count p.machines p.pair) })
+pub whole_is : (p : Pairs) (seen : List Word) → p.job ≤ p.jobs → (p.jobs ≤ p.job → p.machine ≡ 0)
+    → (p.jobs ≤ p.job → p.is_named ≡ false) → HasRead p seen → missing p ≡ None
+    → pairs_of p.jobs p.machines p.pair seen
+    ≡ Ok (record {
+      jobs = jobs_of p.jobs p.machines p.firsts p.seconds;
+      arcs = [];
+      machines = Some (machine_count p.machines p.pair);
+    })
 whole_is p seen few machine named h m =
     let le = all_over p m in
     let w = holds p seen m h in
     let all : count p ≡ wanted p = count_all p (omega arith) (machine le) (named le) in
-    let long : ltb (length w.0) (2 * p.jobs * p.machines) ≡ false = le-ltb _ _ (omega (arith, all, w.2)) in
+    let long : ltb (length w.0) (2 * p.jobs * p.machines) ≡ false =
+    le-ltb _ _ (omega (arith, all, w.2)) in
     let firsts : times_on p.machines (first p) 0 w.0 ≡ p.firsts = sym w.3 in
     let seconds : times_on p.machines (second p) 0 w.0 ≡ p.seconds = sym w.4 in
     goes_on p.jobs p.machines p.pair seen (Ok w.0) w.1 ∙ rw (long, firsts, seconds) refl
 
 -- behind the last job no time is left over
-pub whole_length : (n jobs job machine first : ℕ) → n ≡ job + cond (ltb first machine) 1 0 → machine ≡ 0 → jobs ≤ job → job ≤ jobs → n ≡ jobs
+pub whole_length : (n jobs job machine first : ℕ) → n ≡ job + cond (ltb first machine) 1 0
+    → machine ≡ 0 → jobs ≤ job → job ≤ jobs → n ≡ jobs
 whole_length n jobs job machine first is none over few =
     let here : ltb first machine ≡ false = le-ltb _ _ (omega (arith, none)) in
     let same : n ≡ job + 0 = rw here at is in
@@ -82,7 +105,8 @@ none_there = record { each = λ j. (refl, refl) }
 pub no_times : (times : List ℤ) → times ≡ [] → AreTimes times
 no_times times none = subst AreTimes (sym none) none_there
 
-each_time : (times : List ℤ) (z : ℤ) → ((j : ℕ) → IsTime (at times j)) → IsTime z → (j : ℕ) → IsTime (at (times ++ z ∷ []) j)
+each_time : (times : List ℤ) (z : ℤ) → ((j : ℕ) → IsTime (at times j)) → IsTime z → (j : ℕ)
+    → IsTime (at (times ++ z ∷ []) j)
 each_time [] z all here zero = here
 each_time [] z all here (suc j) = (refl, refl)
 each_time (y ∷ ys) z all here zero = all 0
@@ -91,33 +115,53 @@ each_time (y ∷ ys) z all here (suc j) = each_time ys z (λ i. all (suc i)) her
 more_there : (times : List ℤ) (z : ℤ) → AreTimes times → IsTime z → AreTimes (times ++ z ∷ [])
 more_there times z all here = record { each = each_time times z all.each here }
 
-pub times_more : (times new : List ℤ) (z : ℤ) → AreTimes times → IsTime z → new ≡ times ++ z ∷ [] → AreTimes new
+pub times_more : (times new : List ℤ) (z : ℤ) → AreTimes times → IsTime z → new ≡ times ++ z ∷ []
+    → AreTimes new
 times_more times new z all here more = subst AreTimes (sym more) (more_there times z all here)
 
 -- a job's times
-job_ok : (m : ℕ) (firsts seconds : List ℤ) (j : ℕ) → IsTime (at firsts j) → IsTime (at seconds j) → (has_negative (job m firsts seconds j) ≡ false) × (has_beyond (job m firsts seconds j) ≡ false)
+job_ok : (m : ℕ) (firsts seconds : List ℤ) (j : ℕ) → IsTime (at firsts j) → IsTime (at seconds j)
+    → (has_negative (job m firsts seconds j) ≡ false)
+    × (has_beyond (job m firsts seconds j) ≡ false)
 job_ok m firsts seconds j a b = elim (cases_Bool (eqb m 1)) [
   | inl e ↦ (rw (e, a.0) refl, rw (e, a.1) refl)
   | inr e ↦ (rw (e, a.0, b.0) refl, rw (e, a.1, b.1) refl)
 ]
 
-machines_ok : (m : ℕ) (pair : Option (ℕ × ℕ)) → 0 < m → m ≤ MOST_MACHINES → count_fault (Some (machine_count m pair)) ≡ None
+machines_ok : (m : ℕ) (pair : Option (ℕ × ℕ)) → 0 < m → m ≤ MOST_MACHINES
+    → count_fault (Some (machine_count m pair)) ≡ None
 machines_ok m None some few =
     let low : ltb m 1 ≡ false = le-ltb _ _ (omega arith) in
     let high : ltb MOST_MACHINES m ≡ false = le-ltb _ _ few in
     rw (low, high) refl
 machines_ok m (Some pair) some few = refl
 
-pub whole_judged : (jobs machines : ℕ) (pair : Option (ℕ × ℕ)) (firsts seconds : List ℤ) → 0 < jobs → jobs ≤ MOST_JOBS → 0 < machines → machines ≤ MOST_MACHINES → AreTimes firsts → AreTimes seconds
-    → IsInstance (record { jobs = jobs_of jobs machines firsts seconds; arcs = []; machines = Some (machine_count machines pair) })
-whole_judged jobs machines pair firsts seconds some few machines_some machines_few first_times second_times =
-    let length_is : length (jobs_of jobs machines firsts seconds) ≡ jobs = length-map-range_with_len (job machines firsts seconds) 0 jobs in
-    is_instance (record { jobs = jobs_of jobs machines firsts seconds; arcs = []; machines = Some (machine_count machines pair) }) (record {
+pub whole_judged : (jobs machines : ℕ) (pair : Option (ℕ × ℕ)) (firsts seconds : List ℤ) → 0 < jobs
+    → jobs ≤ MOST_JOBS → 0 < machines → machines ≤ MOST_MACHINES → AreTimes firsts
+    → AreTimes seconds
+    → IsInstance
+    (record {
+      jobs = jobs_of jobs machines firsts seconds;
+      arcs = [];
+      machines = Some (machine_count machines pair);
+    })
+whole_judged jobs machines pair firsts seconds some few machines_some machines_few first_times
+    second_times =
+    let length_is : length (jobs_of jobs machines firsts seconds) ≡ jobs =
+    length-map-range_with_len (job machines firsts seconds) 0 jobs in
+    is_instance (record {
+      jobs = jobs_of jobs machines firsts seconds;
+      arcs = [];
+      machines =
+          Some (machine_count machines pair);
+    }) (record {
       some = omega (arith, length_is);
       few = omega (arith, length_is);
       machines = machines_ok machines pair machines_some machines_few;
       arcs = omega arith;
-      negative = none_at has_negative (job machines firsts seconds) jobs (λ j lt. (job_ok machines firsts seconds j (first_times.each j) (second_times.each j)).0);
-      beyond = none_at has_beyond (job machines firsts seconds) jobs (λ j lt. (job_ok machines firsts seconds j (first_times.each j) (second_times.each j)).1);
+      negative = none_at has_negative (job machines firsts seconds) jobs
+          (λ j lt. (job_ok machines firsts seconds j (first_times.each j) (second_times.each j)).0);
+      beyond = none_at has_beyond (job machines firsts seconds) jobs
+          (λ j lt. (job_ok machines firsts seconds j (first_times.each j) (second_times.each j)).1);
       bad_arc = refl;
     })

@@ -8,7 +8,9 @@ use Rattle.tf_model.specs.declared.limit.TheConstants.{MOST_BYTES, MOST_JOBS, MO
 use Rattle.tf_read.specs.declared.fault.ReadFault.{ReadFault}
 use Rattle.tf_read.specs.declared.fault.ReadFault.TheVariants.{TooLong, EndsEarly, NoInstance}
 use Rattle.tf_read.specs.declared.heading.HeadingLine.{HeadingLine}
+use Rattle.tf_read.specs.declared.heading.HeadingLine.TheVariants as heading
 use Rattle.tf_read.specs.declared.sizes.SizesLine.{SizesLine}
+use Rattle.tf_read.specs.declared.sizes.SizesLine.TheVariants as sizes
 use Rattle.tf_model.specs.Outcome.{◌>>=◌}
 use Rattle.tf_read.specs.Faults.{Fails, each_from}
 use Rattle.tf_read.specs.FlowShop.{is_pair, judged, present, pairs_of, sized, sizes_in, from_sizes, is_heading, from_heading, flow_shop}
@@ -25,66 +27,152 @@ use Rattle.tf_read.proofs.Progress.{all_of}
 use Rattle.tf_read.proofs.PresentLine.{line_over, line_last}
 
 -- a text that is too long is refused as such, and any other is read from its first line on
-pub too_long : (name : List ℕ) (pair : Option (ℕ × ℕ)) (text : List ℕ) → MOST_BYTES < length text → flow_shop name pair text ≡ Err TooLong
+pub too_long : (name : List ℕ) (pair : Option (ℕ × ℕ)) (text : List ℕ) → MOST_BYTES < length text
+    → flow_shop name pair text ≡ Err TooLong
 unfolding flow_shop
-too_long name pair text long = let e : ltb MOST_BYTES (length text) ≡ true = lt-ltb _ _ long in rw e refl
+too_long name pair text long = let e : ltb MOST_BYTES (length text) ≡ true = lt-ltb _ _ long in
+    rw e refl
 
-pub within : (name : List ℕ) (pair : Option (ℕ × ℕ)) (text : List ℕ) → length text ≤ MOST_BYTES → flow_shop name pair text ≡ from_heading name pair 1 (lines text)
+pub within : (name : List ℕ) (pair : Option (ℕ × ℕ)) (text : List ℕ) → length text ≤ MOST_BYTES
+    → flow_shop name pair text ≡ from_heading name pair 1 (lines text)
 unfolding flow_shop
-within name pair text short = let e : ltb MOST_BYTES (length text) ≡ false = le-ltb _ _ short in rw e refl
+within name pair text short = let e : ltb MOST_BYTES (length text) ≡ false = le-ltb _ _ short in
+    rw e refl
 
 -- a byte more of the present line
 of_line : (bytes : List ℕ) (b : ℕ) → AreOfLine bytes → (b ≡ 10 → ⊥) → AreOfLine (bytes ++ b ∷ [])
-of_line bytes b all other = let no' : eqb b 10 ≡ false = ne_eqb b 10 other in list_all-append (λ c. not (eqb c 10)) bytes (b ∷ []) ∙ rw (all, no') refl
+of_line bytes b all other = let no' : eqb b 10 ≡ false = ne_eqb b 10 other in
+    list_all-append (λ c. not (eqb c 10)) bytes (b ∷ []) ∙ rw (all, no') refl
 
-pub heading_byte : (name : List ℕ) (pair : Option (ℕ × ℕ)) (line b : ℕ) (shown next : HeadingLine) (fed : List ℕ) → (b ≡ 10 → ⊥) → ((bytes : List ℕ) → HeadingShown name bytes shown → HeadingShown name (bytes ++ b ∷ []) next) → WantsHeading name pair line shown fed → WantsHeading name pair line next (fed ++ b ∷ [])
+pub heading_byte : (name : List ℕ) (pair : Option (ℕ × ℕ)) (line b : ℕ) (shown next : HeadingLine)
+    (fed : List ℕ)
+    → (b ≡ 10 → ⊥)
+    → ((bytes : List ℕ) → HeadingShown name bytes shown → HeadingShown name (bytes ++ b ∷ []) next)
+    → WantsHeading name pair line shown fed → WantsHeading name pair line next (fed ++ b ∷ [])
 heading_byte name pair line b shown next fed other push h = (
   h.0 ++ b ∷ [],
   of_line h.0 b h.1 other,
   push h.0 h.2,
-  λ more. ap (λ text. from_heading name pair 1 (lines text)) (append_assoc fed (b ∷ []) more) ∙ h.3 (b ∷ more) ∙ ap (λ text. from_heading name pair line (lines text)) (sym (append_assoc h.0 (b ∷ []) more)),
+  λ more. ap (λ text. from_heading name pair 1 (lines text)) (append_assoc fed (b ∷ []) more)
+      ∙ h.3 (b ∷ more)
+      ∙ ap (λ text. from_heading name pair line (lines text))
+      (sym (append_assoc h.0 (b ∷ []) more)),
 )
 
-pub sizes_byte : (name : List ℕ) (pair : Option (ℕ × ℕ)) (line b : ℕ) (shown next : SizesLine) (fed : List ℕ) → (b ≡ 10 → ⊥) → ((bytes : List ℕ) → SizesShown bytes shown → SizesShown (bytes ++ b ∷ []) next) → WantsSizes name pair line shown fed → WantsSizes name pair line next (fed ++ b ∷ [])
+pub sizes_byte : (name : List ℕ) (pair : Option (ℕ × ℕ)) (line b : ℕ) (shown next : SizesLine)
+    (fed : List ℕ)
+    → (b ≡ 10 → ⊥) → ((bytes : List ℕ) → SizesShown bytes shown → SizesShown (bytes ++ b ∷ []) next)
+    → WantsSizes name pair line shown fed → WantsSizes name pair line next (fed ++ b ∷ [])
 sizes_byte name pair line b shown next fed other push h = (
   h.0 ++ b ∷ [],
   of_line h.0 b h.1 other,
   push h.0 h.2,
-  λ more. ap (λ text. from_heading name pair 1 (lines text)) (append_assoc fed (b ∷ []) more) ∙ h.3 (b ∷ more) ∙ ap (λ text. from_sizes pair line (lines text)) (sym (append_assoc h.0 (b ∷ []) more)),
+  λ more. ap (λ text. from_heading name pair 1 (lines text)) (append_assoc fed (b ∷ []) more)
+      ∙ h.3 (b ∷ more)
+      ∙ ap (λ text. from_sizes pair line (lines text)) (sym (append_assoc h.0 (b ∷ []) more)),
 )
 
+-- bytes more of a line that is not the wanted one
+of_line_all : (bytes front : List ℕ) → AreOfLine bytes → AreOfLine front
+    → AreOfLine (bytes ++ front)
+of_line_all bytes front all more =
+    list_all-append (λ c. not (eqb c 10)) bytes front ∙ rw (all, more) refl
+
+pub heading_idle : (name : List ℕ) (pair : Option (ℕ × ℕ)) (line : ℕ) (fed front : List ℕ)
+    → AreOfLine front → WantsHeading name pair line heading.Other fed
+    → WantsHeading name pair line heading.Other (fed ++ front)
+heading_idle name pair line fed front own h = (
+  h.0 ++ front,
+  of_line_all h.0 front h.1 own,
+  λ more. ap (λ text. is_heading name (words text)) (append_assoc h.0 front more)
+      ∙ h.2 (front ++ more),
+  λ more. ap (λ text. from_heading name pair 1 (lines text)) (append_assoc fed front more)
+      ∙ h.3 (front ++ more)
+      ∙ ap (λ text. from_heading name pair line (lines text)) (sym (append_assoc h.0 front more)),
+)
+
+pub sizes_idle : (name : List ℕ) (pair : Option (ℕ × ℕ)) (line : ℕ) (fed front : List ℕ)
+    → AreOfLine front → WantsSizes name pair line sizes.Other fed
+    → WantsSizes name pair line sizes.Other (fed ++ front)
+sizes_idle name pair line fed front own h = (
+  h.0 ++ front,
+  of_line_all h.0 front h.1 own,
+  λ more. ap (λ text. sizes_in (words text)) (append_assoc h.0 front more) ∙ h.2 (front ++ more),
+  λ more. ap (λ text. from_heading name pair 1 (lines text)) (append_assoc fed front more)
+      ∙ h.3 (front ++ more)
+      ∙ ap (λ text. from_sizes pair line (lines text)) (sym (append_assoc h.0 front more)),
+)
+
+-- whatever follows a fault
+pub ended_idle : (name : List ℕ) (pair : Option (ℕ × ℕ)) (fault : ReadFault) (fed front : List ℕ)
+    → HasEnded name pair fault fed → HasEnded name pair fault (fed ++ front)
+ended_idle name pair fault fed front h = λ more.
+    subst (λ text. Fails fault (from_heading name pair 1 (lines text)))
+    (sym (append_assoc fed front more)) (h (front ++ more))
+
 -- the end of a line on which the heading was wanted
-pub heading_read : (name : List ℕ) (pair : Option (ℕ × ℕ)) (line : ℕ) (shown : HeadingLine) (front : SizesLine) (fed : List ℕ) → ((bytes : List ℕ) → HeadingShown name bytes shown → is_heading name (words bytes) ≡ true) → SizesShown [] front → WantsHeading name pair line shown fed → WantsSizes name pair (line + 1) front (fed ++ 10 ∷ [])
+pub heading_read : (name : List ℕ) (pair : Option (ℕ × ℕ)) (line : ℕ) (shown : HeadingLine)
+    (front : SizesLine) (fed : List ℕ)
+    → ((bytes : List ℕ) → HeadingShown name bytes shown → is_heading name (words bytes) ≡ true)
+    → SizesShown [] front → WantsHeading name pair line shown fed
+    → WantsSizes name pair (line + 1) front (fed ++ 10 ∷ [])
 heading_read name pair line shown front fed yes' at h = (
   [],
   refl,
   at,
-  λ more. ap (λ text. from_heading name pair 1 (lines text)) (append_assoc fed (10 ∷ []) more) ∙ h.3 (10 ∷ more) ∙ heading_found name pair line h.0 (lines more) (lines (h.0 ++ (10 ∷ more))) (line_over h.0 more h.1) (yes' h.0 h.2),
+  λ more. ap (λ text. from_heading name pair 1 (lines text)) (append_assoc fed (10 ∷ []) more)
+      ∙ h.3 (10 ∷ more)
+      ∙ heading_found name pair line h.0 (lines more) (lines (h.0 ++ (10 ∷ more)))
+      (line_over h.0 more h.1) (yes' h.0 h.2),
 )
 
-pub heading_missed : (name : List ℕ) (pair : Option (ℕ × ℕ)) (line : ℕ) (shown front : HeadingLine) (fed : List ℕ) → ((bytes : List ℕ) → HeadingShown name bytes shown → is_heading name (words bytes) ≡ false) → HeadingShown name [] front → WantsHeading name pair line shown fed → WantsHeading name pair (line + 1) front (fed ++ 10 ∷ [])
+pub heading_missed : (name : List ℕ) (pair : Option (ℕ × ℕ)) (line : ℕ) (shown front : HeadingLine)
+    (fed : List ℕ)
+    → ((bytes : List ℕ) → HeadingShown name bytes shown → is_heading name (words bytes) ≡ false)
+    → HeadingShown name [] front → WantsHeading name pair line shown fed
+    → WantsHeading name pair (line + 1) front (fed ++ 10 ∷ [])
 heading_missed name pair line shown front fed no' at h = (
   [],
   refl,
   at,
-  λ more. ap (λ text. from_heading name pair 1 (lines text)) (append_assoc fed (10 ∷ []) more) ∙ h.3 (10 ∷ more) ∙ heading_later name pair line h.0 (lines more) (lines (h.0 ++ (10 ∷ more))) (line_over h.0 more h.1) (no' h.0 h.2),
+  λ more. ap (λ text. from_heading name pair 1 (lines text)) (append_assoc fed (10 ∷ []) more)
+      ∙ h.3 (10 ∷ more)
+      ∙ heading_later name pair line h.0 (lines more) (lines (h.0 ++ (10 ∷ more)))
+      (line_over h.0 more h.1) (no' h.0 h.2),
 )
 
 -- the end of a line on which the sizes were wanted
-pub sizes_missed : (name : List ℕ) (pair : Option (ℕ × ℕ)) (line : ℕ) (shown front : SizesLine) (fed : List ℕ) → ((bytes : List ℕ) → SizesShown bytes shown → sizes_in (words bytes) ≡ None) → SizesShown [] front → WantsSizes name pair line shown fed → WantsSizes name pair (line + 1) front (fed ++ 10 ∷ [])
+pub sizes_missed : (name : List ℕ) (pair : Option (ℕ × ℕ)) (line : ℕ) (shown front : SizesLine)
+    (fed : List ℕ)
+    → ((bytes : List ℕ) → SizesShown bytes shown → sizes_in (words bytes) ≡ None)
+    → SizesShown [] front → WantsSizes name pair line shown fed
+    → WantsSizes name pair (line + 1) front (fed ++ 10 ∷ [])
 sizes_missed name pair line shown front fed none at h = (
   [],
   refl,
   at,
-  λ more. ap (λ text. from_heading name pair 1 (lines text)) (append_assoc fed (10 ∷ []) more) ∙ h.3 (10 ∷ more) ∙ sizes_later pair line h.0 (lines more) (lines (h.0 ++ (10 ∷ more))) (line_over h.0 more h.1) (none h.0 h.2),
+  λ more. ap (λ text. from_heading name pair 1 (lines text)) (append_assoc fed (10 ∷ []) more)
+      ∙ h.3 (10 ∷ more)
+      ∙ sizes_later pair line h.0 (lines more) (lines (h.0 ++ (10 ∷ more))) (line_over h.0 more h.1)
+      (none h.0 h.2),
 )
 
-pub sizes_read : (name : List ℕ) (pair : Option (ℕ × ℕ)) (line : ℕ) (shown : SizesLine) (sizes : ℕ × ℕ) (fed : List ℕ) → ((bytes : List ℕ) → SizesShown bytes shown → sizes_in (words bytes) ≡ Some sizes) → WantsSizes name pair line shown fed → (more : List ℕ) → from_heading name pair 1 (lines (fed ++ 10 ∷ [] ++ more)) ≡ sized pair line sizes.0 sizes.1 (words_from (line + 1) (lines more))
+pub sizes_read : (name : List ℕ) (pair : Option (ℕ × ℕ)) (line : ℕ) (shown : SizesLine)
+    (sizes : ℕ × ℕ) (fed : List ℕ)
+    → ((bytes : List ℕ) → SizesShown bytes shown → sizes_in (words bytes) ≡ Some sizes)
+    → WantsSizes name pair line shown fed → (more : List ℕ)
+    → from_heading name pair 1 (lines (fed ++ 10 ∷ [] ++ more))
+    ≡ sized pair line sizes.0 sizes.1 (words_from (line + 1) (lines more))
 sizes_read name pair line shown sizes fed some h more =
-    ap (λ text. from_heading name pair 1 (lines text)) (append_assoc fed (10 ∷ []) more) ∙ h.3 (10 ∷ more) ∙ sizes_found pair line h.0 (lines more) (lines (h.0 ++ (10 ∷ more))) sizes (line_over h.0 more h.1) (some h.0 h.2)
+    ap (λ text. from_heading name pair 1 (lines text)) (append_assoc fed (10 ∷ []) more)
+    ∙ h.3 (10 ∷ more)
+    ∙ sizes_found pair line h.0 (lines more) (lines (h.0 ++ (10 ∷ more))) sizes
+    (line_over h.0 more h.1) (some h.0 h.2)
 
 -- what the sizes say
-sized_is : (pair : Option (ℕ × ℕ)) (line jobs machines : ℕ) (words : List Word) → sized pair line jobs machines words ≡ (judged_sizes pair line (jobs, machines) >>= λ sizes. pairs_of sizes.0 sizes.1 pair words)
+sized_is : (pair : Option (ℕ × ℕ)) (line jobs machines : ℕ) (words : List Word)
+    → sized pair line jobs machines words
+    ≡ (judged_sizes pair line (jobs, machines) >>= λ sizes. pairs_of sizes.0 sizes.1 pair words)
 unfolding sized
 sized_is pair line jobs machines words = elim (cases_Bool (eqb jobs 0)) [
   | inl e ↦ rw e refl
@@ -100,36 +188,60 @@ sized_is pair line jobs machines words = elim (cases_Bool (eqb jobs 0)) [
   ]
 ]
 
-pub sized_by : (pair : Option (ℕ × ℕ)) (line jobs machines : ℕ) (words : List Word) (r : Result (ℕ × ℕ) ReadFault) → judged_sizes pair line (jobs, machines) ≡ r → sized pair line jobs machines words ≡ (r >>= λ sizes. pairs_of sizes.0 sizes.1 pair words)
-sized_by pair line jobs machines words r h = sized_is pair line jobs machines words ∙ ap (λ s. s >>= λ sizes. pairs_of sizes.0 sizes.1 pair words) h
+pub sized_by : (pair : Option (ℕ × ℕ)) (line jobs machines : ℕ) (words : List Word)
+    (r : Result (ℕ × ℕ) ReadFault)
+    → judged_sizes pair line (jobs, machines) ≡ r
+    → sized pair line jobs machines words ≡ (r >>= λ sizes. pairs_of sizes.0 sizes.1 pair words)
+sized_by pair line jobs machines words r h = sized_is pair line jobs machines words
+    ∙ ap (λ s. s >>= λ sizes. pairs_of sizes.0 sizes.1 pair words) h
 
 -- the end of the text
-pub heading_last : (name : List ℕ) (pair : Option (ℕ × ℕ)) (line : ℕ) (bytes : List ℕ) (found : Bool) → AreOfLine bytes → is_heading name (words bytes) ≡ found → from_heading name pair line (lines bytes) ≡ Err (cond found EndsEarly NoInstance)
+pub heading_last : (name : List ℕ) (pair : Option (ℕ × ℕ)) (line : ℕ) (bytes : List ℕ)
+    (found : Bool)
+    → AreOfLine bytes → is_heading name (words bytes) ≡ found
+    → from_heading name pair line (lines bytes) ≡ Err (cond found EndsEarly NoInstance)
 unfolding lines words
 heading_last name pair line [] true all h = absurd (false≢true h)
 heading_last name pair line [] false all h = no_heading name pair line (lines []) refl
-heading_last name pair line (c ∷ cs) true all h = heading_found name pair line (c ∷ cs) [] (lines (c ∷ cs)) (line_last c cs all) h ∙ no_sizes pair (line + 1) [] refl
-heading_last name pair line (c ∷ cs) false all h = heading_later name pair line (c ∷ cs) [] (lines (c ∷ cs)) (line_last c cs all) h ∙ no_heading name pair (line + 1) [] refl
+heading_last name pair line (c ∷ cs) true all h =
+    heading_found name pair line (c ∷ cs) [] (lines (c ∷ cs)) (line_last c cs all) h
+    ∙ no_sizes pair (line + 1) [] refl
+heading_last name pair line (c ∷ cs) false all h =
+    heading_later name pair line (c ∷ cs) [] (lines (c ∷ cs)) (line_last c cs all) h
+    ∙ no_heading name pair (line + 1) [] refl
 
-pub no_sizes_last : (pair : Option (ℕ × ℕ)) (line : ℕ) (bytes : List ℕ) → AreOfLine bytes → sizes_in (words bytes) ≡ None → from_sizes pair line (lines bytes) ≡ Err EndsEarly
+pub no_sizes_last : (pair : Option (ℕ × ℕ)) (line : ℕ) (bytes : List ℕ) → AreOfLine bytes
+    → sizes_in (words bytes) ≡ None → from_sizes pair line (lines bytes) ≡ Err EndsEarly
 unfolding lines words
 no_sizes_last pair line [] all h = no_sizes pair line (lines []) refl
-no_sizes_last pair line (c ∷ cs) all h = sizes_later pair line (c ∷ cs) [] (lines (c ∷ cs)) (line_last c cs all) h ∙ no_sizes pair (line + 1) [] refl
+no_sizes_last pair line (c ∷ cs) all h =
+    sizes_later pair line (c ∷ cs) [] (lines (c ∷ cs)) (line_last c cs all) h
+    ∙ no_sizes pair (line + 1) [] refl
 
-pub sizes_last : (pair : Option (ℕ × ℕ)) (line : ℕ) (bytes : List ℕ) (sizes : ℕ × ℕ) → AreOfLine bytes → sizes_in (words bytes) ≡ Some sizes → from_sizes pair line (lines bytes) ≡ sized pair line sizes.0 sizes.1 []
+pub sizes_last : (pair : Option (ℕ × ℕ)) (line : ℕ) (bytes : List ℕ) (sizes : ℕ × ℕ)
+    → AreOfLine bytes → sizes_in (words bytes) ≡ Some sizes
+    → from_sizes pair line (lines bytes) ≡ sized pair line sizes.0 sizes.1 []
 unfolding lines words words_from
 sizes_last pair line [] sizes all h = absurd (let f : ⊥ = cc in f)
-sizes_last pair line (c ∷ cs) sizes all h = sizes_found pair line (c ∷ cs) [] (lines (c ∷ cs)) sizes (line_last c cs all) h
+sizes_last pair line (c ∷ cs) sizes all h =
+    sizes_found pair line (c ∷ cs) [] (lines (c ∷ cs)) sizes (line_last c cs all) h
 
-pub no_pairs : (jobs machines : ℕ) (pair : Option (ℕ × ℕ)) → 0 < jobs → 0 < machines → pairs_of jobs machines pair [] ≡ Err EndsEarly
+pub no_pairs : (jobs machines : ℕ) (pair : Option (ℕ × ℕ)) → 0 < jobs → 0 < machines
+    → pairs_of jobs machines pair [] ≡ Err EndsEarly
 unfolding pairs_of each_from
 no_pairs jobs machines pair some machines_some =
-    let product : 2 * jobs * 1 ≤ 2 * jobs * machines = mul-le-mul_left (2 * jobs) (let d : 1 ≤ machines = omega arith in d) in
+    let product : 2 * jobs * 1 ≤ 2 * jobs * machines =
+    mul-le-mul_left (2 * jobs) (let d : 1 ≤ machines = omega arith in d) in
     let wanted : ltb 0 (2 * jobs * machines) ≡ true = lt-ltb _ _ (omega (arith, product)) in
-    ap (λ ws. each_from (judged machines) 0 ws >>= λ numbers. present jobs machines pair numbers) (all_of (2 * jobs * machines) [] (omega arith)) ∙ rw wanted refl
+    ap (λ ws. each_from (judged machines) 0 ws >>= λ numbers. present jobs machines pair numbers)
+    (all_of (2 * jobs * machines) [] (omega arith)) ∙ rw wanted refl
 
 -- more of the pairs
-pub pairs_more : (name : List ℕ) (pair : Option (ℕ × ℕ)) (old new : WordFeed Pairs) (fed piece : List ℕ) → ((first : ℕ) (says : Says) (behind : List ℕ) → HasFed Reads first says old behind → HasFed Reads first says new (behind ++ piece)) → ReadsPairs name pair old fed → ReadsPairs name pair new (fed ++ piece)
+pub pairs_more : (name : List ℕ) (pair : Option (ℕ × ℕ)) (old new : WordFeed Pairs)
+    (fed piece : List ℕ)
+    → ((first : ℕ) (says : Says) (behind : List ℕ) → HasFed Reads first says old behind
+    → HasFed Reads first says new (behind ++ piece))
+    → ReadsPairs name pair old fed → ReadsPairs name pair new (fed ++ piece)
 pairs_more name pair old new fed piece push (first, says, behind, h, same) = (
   first,
   says,
@@ -142,17 +254,33 @@ pairs_more name pair old new fed piece push (first, says, behind, h, same) = (
 )
 
 -- the outcome at the end of the text
-pub heading_outcome : (name : List ℕ) (pair : Option (ℕ × ℕ)) (line : ℕ) (shown : HeadingLine) (fed : List ℕ) (fault : ReadFault) → ((bytes : List ℕ) → AreOfLine bytes → HeadingShown name bytes shown → from_heading name pair line (lines bytes) ≡ Err fault) → WantsHeading name pair line shown fed → from_heading name pair 1 (lines fed) ≡ Err fault
+pub heading_outcome : (name : List ℕ) (pair : Option (ℕ × ℕ)) (line : ℕ) (shown : HeadingLine)
+    (fed : List ℕ) (fault : ReadFault)
+    → ((bytes : List ℕ) → AreOfLine bytes → HeadingShown name bytes shown
+    → from_heading name pair line (lines bytes) ≡ Err fault)
+    → WantsHeading name pair line shown fed → from_heading name pair 1 (lines fed) ≡ Err fault
 heading_outcome name pair line shown fed fault last h =
-    ap (λ text. from_heading name pair 1 (lines text)) (sym (append-nil fed)) ∙ h.3 [] ∙ ap (λ text. from_heading name pair line (lines text)) (append-nil h.0) ∙ last h.0 h.1 h.2
+    ap (λ text. from_heading name pair 1 (lines text)) (sym (append-nil fed)) ∙ h.3 []
+    ∙ ap (λ text. from_heading name pair line (lines text)) (append-nil h.0) ∙ last h.0 h.1 h.2
 
-pub sizes_outcome : (name : List ℕ) (pair : Option (ℕ × ℕ)) (line : ℕ) (shown : SizesLine) (fed : List ℕ) (fault : ReadFault) → ((bytes : List ℕ) → AreOfLine bytes → SizesShown bytes shown → from_sizes pair line (lines bytes) ≡ Err fault) → WantsSizes name pair line shown fed → from_heading name pair 1 (lines fed) ≡ Err fault
+pub sizes_outcome : (name : List ℕ) (pair : Option (ℕ × ℕ)) (line : ℕ) (shown : SizesLine)
+    (fed : List ℕ) (fault : ReadFault)
+    → ((bytes : List ℕ) → AreOfLine bytes → SizesShown bytes shown
+    → from_sizes pair line (lines bytes) ≡ Err fault)
+    → WantsSizes name pair line shown fed → from_heading name pair 1 (lines fed) ≡ Err fault
 sizes_outcome name pair line shown fed fault last h =
-    ap (λ text. from_heading name pair 1 (lines text)) (sym (append-nil fed)) ∙ h.3 [] ∙ ap (λ text. from_sizes pair line (lines text)) (append-nil h.0) ∙ last h.0 h.1 h.2
+    ap (λ text. from_heading name pair 1 (lines text)) (sym (append-nil fed)) ∙ h.3 []
+    ∙ ap (λ text. from_sizes pair line (lines text)) (append-nil h.0) ∙ last h.0 h.1 h.2
 
-pub pairs_outcome : (name : List ℕ) (pair : Option (ℕ × ℕ)) (words : WordFeed Pairs) (fed : List ℕ) (h : ReadsPairs name pair words fed) → from_heading name pair 1 (lines fed) ≡ h.1 (words_from h.0 (lines h.2))
+pub pairs_outcome : (name : List ℕ) (pair : Option (ℕ × ℕ)) (words : WordFeed Pairs) (fed : List ℕ)
+    (h : ReadsPairs name pair words fed)
+    → from_heading name pair 1 (lines fed) ≡ h.1 (words_from h.0 (lines h.2))
 pairs_outcome name pair words fed h =
-    ap (λ text. from_heading name pair 1 (lines text)) (sym (append-nil fed)) ∙ h.4 [] ∙ ap (λ text. h.1 (words_from h.0 (lines text))) (append-nil h.2)
+    ap (λ text. from_heading name pair 1 (lines text)) (sym (append-nil fed)) ∙ h.4 []
+    ∙ ap (λ text. h.1 (words_from h.0 (lines text))) (append-nil h.2)
 
-pub ended_outcome : (name : List ℕ) (pair : Option (ℕ × ℕ)) (fault : ReadFault) (fed : List ℕ) → HasEnded name pair fault fed → Fails fault (from_heading name pair 1 (lines fed))
-ended_outcome name pair fault fed h = subst (λ (text : List ℕ). Fails fault (from_heading name pair 1 (lines text))) (append-nil fed) (h [])
+pub ended_outcome : (name : List ℕ) (pair : Option (ℕ × ℕ)) (fault : ReadFault) (fed : List ℕ)
+    → HasEnded name pair fault fed → Fails fault (from_heading name pair 1 (lines fed))
+ended_outcome name pair fault fed h =
+    subst (λ (text : List ℕ). Fails fault (from_heading name pair 1 (lines text))) (append-nil fed)
+    (h [])

@@ -19,17 +19,21 @@ use Rattle.tf_read.specs.JobTable.{machine_count, machines_at, numbered_job, job
 use Rattle.tf_model.proofs.Outcomes.{bind_ok}
 use Rattle.tf_read.proofs.Judged.{same_ok, then_ok, else_ok, GivesOnly, on_fault, on_test, on_value, or_false, value_within, integer_within, natural_within, none_there, few, judged}
 
-natural_ok : (line : ℕ) (word : List ℕ) (z : ℤ) → natural line (number word) ≡ Ok z → (is_negative z ≡ false) × (is_beyond z ≡ false)
-natural_ok line word z h = let n = natural_within line (number word) z h in (n.1, value_within word z n.0)
+natural_ok : (line : ℕ) (word : List ℕ) (z : ℤ) → natural line (number word) ≡ Ok z
+    → (is_negative z ≡ false) × (is_beyond z ≡ false)
+natural_ok line word z h = let n = natural_within line (number word) z h in
+    (n.1, value_within word z n.0)
 
-integer_ok : (line : ℕ) (word : List ℕ) (z : ℤ) → integer line (number word) ≡ Ok z → is_beyond z ≡ false
+integer_ok : (line : ℕ) (word : List ℕ) (z : ℤ) → integer line (number word) ≡ Ok z
+    → is_beyond z ≡ false
 integer_ok line word z h = value_within word z (integer_within line (number word) z h)
 
 -- times that were judged
 abbrev AreTimes : Times → Type 0
 AreTimes t = (any_time is_negative t ≡ false) × (any_time is_beyond t ≡ false)
 
-times_in_ok : (line : ℕ) (value : List ℕ) (parts : Option (List ℕ × List ℕ)) (t : Times) → times_in line value parts ≡ Ok t → AreTimes t
+times_in_ok : (line : ℕ) (value : List ℕ) (parts : Option (List ℕ × List ℕ)) (t : Times)
+    → times_in line value parts ≡ Ok t → AreTimes t
 times_in_ok line value None t h =
     let a = bind_ok _ _ _ h in
     let n = natural_ok line value a.0 a.1 in
@@ -39,7 +43,8 @@ times_in_ok line value (Some parts) t h =
     let b = bind_ok _ _ _ a.2 in
     let m = natural_ok line parts.0 a.0 a.1 in
     let n = natural_ok line parts.1 b.0 b.1 in
-    subst (λ (u : Times). AreTimes u) (same_ok (Ok (Two a.0 b.0)) refl b.2) (or_false _ _ m.0 n.0, or_false _ _ m.1 n.1)
+    subst (λ (u : Times). AreTimes u) (same_ok (Ok (Two a.0 b.0)) refl b.2)
+    (or_false _ _ m.0 n.0, or_false _ _ m.1 n.1)
 
 times_ok : (line : ℕ) (value : List ℕ) (t : Times) → times_at line value ≡ Ok t → AreTimes t
 unfolding times_at
@@ -59,24 +64,84 @@ record AreFields (f : SomeFields) : Type 0 where
   release_beyond : any_given is_beyond f.release ≡ false
 
 none_ok : AreFields no_fields
-none_ok = record { times = tt; weight_negative = refl; weight_beyond = refl; due_beyond = refl; release_negative = refl; release_beyond = refl }
+none_ok = record {
+  times = tt;
+  weight_negative = refl;
+  weight_beyond = refl;
+  due_beyond = refl;
+  release_negative = refl;
+  release_beyond = refl;
+}
 
-with_times : (line : ℕ) (value : List ℕ) (f : SomeFields) → AreFields f → GivesOnly AreFields (times_at line value >>= λ x. Ok (record f { times = Some x }))
-with_times line value f j = on_value AreFields (times_at line value) (λ x. record f { times = Some x }) (λ x e. record { times = times_ok line value x e; weight_negative = j.weight_negative; weight_beyond = j.weight_beyond; due_beyond = j.due_beyond; release_negative = j.release_negative; release_beyond = j.release_beyond })
+with_times : (line : ℕ) (value : List ℕ) (f : SomeFields) → AreFields f
+    → GivesOnly AreFields (times_at line value >>= λ x. Ok (record f { times = Some x }))
+with_times line value f j =
+    on_value AreFields (times_at line value) (λ x. record f { times = Some x })
+    (λ x e. record {
+      times = times_ok line value x e;
+      weight_negative = j.weight_negative;
+      weight_beyond = j.weight_beyond;
+      due_beyond = j.due_beyond;
+      release_negative = j.release_negative;
+      release_beyond = j.release_beyond;
+    })
 
-with_weight : (line : ℕ) (value : List ℕ) (f : SomeFields) → AreFields f → GivesOnly AreFields (natural line (number value) >>= λ x. Ok (record f { weight = Some x }))
-with_weight line value f j = on_value AreFields (natural line (number value)) (λ x. record f { weight = Some x }) (λ x e. let n = natural_ok line value x e in record { times = j.times; weight_negative = n.0; weight_beyond = n.1; due_beyond = j.due_beyond; release_negative = j.release_negative; release_beyond = j.release_beyond })
+with_weight : (line : ℕ) (value : List ℕ) (f : SomeFields) → AreFields f
+    → GivesOnly AreFields (natural line (number value) >>= λ x. Ok (record f { weight = Some x }))
+with_weight line value f j =
+    on_value AreFields (natural line (number value)) (λ x. record f { weight = Some x })
+    (λ x e. let n = natural_ok line value x e in
+    record {
+      times = j.times;
+      weight_negative = n.0;
+      weight_beyond = n.1;
+      due_beyond = j.due_beyond;
+      release_negative = j.release_negative;
+      release_beyond = j.release_beyond;
+    })
 
-with_due : (line : ℕ) (value : List ℕ) (f : SomeFields) → AreFields f → GivesOnly AreFields (integer line (number value) >>= λ x. Ok (record f { due = Some x }))
-with_due line value f j = on_value AreFields (integer line (number value)) (λ x. record f { due = Some x }) (λ x e. record { times = j.times; weight_negative = j.weight_negative; weight_beyond = j.weight_beyond; due_beyond = integer_ok line value x e; release_negative = j.release_negative; release_beyond = j.release_beyond })
+with_due : (line : ℕ) (value : List ℕ) (f : SomeFields) → AreFields f
+    → GivesOnly AreFields (integer line (number value) >>= λ x. Ok (record f { due = Some x }))
+with_due line value f j =
+    on_value AreFields (integer line (number value)) (λ x. record f { due = Some x })
+    (λ x e. record {
+      times = j.times;
+      weight_negative = j.weight_negative;
+      weight_beyond = j.weight_beyond;
+      due_beyond = integer_ok line value x e;
+      release_negative = j.release_negative;
+      release_beyond = j.release_beyond;
+    })
 
-with_release : (line : ℕ) (value : List ℕ) (f : SomeFields) → AreFields f → GivesOnly AreFields (natural line (number value) >>= λ x. Ok (record f { release = Some x }))
-with_release line value f j = on_value AreFields (natural line (number value)) (λ x. record f { release = Some x }) (λ x e. let n = natural_ok line value x e in record { times = j.times; weight_negative = j.weight_negative; weight_beyond = j.weight_beyond; due_beyond = j.due_beyond; release_negative = n.0; release_beyond = n.1 })
+with_release : (line : ℕ) (value : List ℕ) (f : SomeFields) → AreFields f
+    → GivesOnly AreFields (natural line (number value) >>= λ x. Ok (record f { release = Some x }))
+with_release line value f j =
+    on_value AreFields (natural line (number value)) (λ x. record f { release = Some x })
+    (λ x e. let n = natural_ok line value x e in
+    record {
+      times = j.times;
+      weight_negative = j.weight_negative;
+      weight_beyond = j.weight_beyond;
+      due_beyond = j.due_beyond;
+      release_negative = n.0;
+      release_beyond = n.1;
+    })
 
-with_cost : (line : ℕ) (value : List ℕ) (f : SomeFields) → AreFields f → GivesOnly AreFields (cost_at line value >>= λ x. Ok (record f { cost = Some x }))
-with_cost line value f j = on_value AreFields (cost_at line value) (λ x. record f { cost = Some x }) (λ x e. record { times = j.times; weight_negative = j.weight_negative; weight_beyond = j.weight_beyond; due_beyond = j.due_beyond; release_negative = j.release_negative; release_beyond = j.release_beyond })
+with_cost : (line : ℕ) (value : List ℕ) (f : SomeFields) → AreFields f
+    → GivesOnly AreFields (cost_at line value >>= λ x. Ok (record f { cost = Some x }))
+with_cost line value f j =
+    on_value AreFields (cost_at line value) (λ x. record f { cost = Some x })
+    (λ x e. record {
+      times = j.times;
+      weight_negative = j.weight_negative;
+      weight_beyond = j.weight_beyond;
+      due_beyond = j.due_beyond;
+      release_negative = j.release_negative;
+      release_beyond = j.release_beyond;
+    })
 
-field_in_ok : (line : ℕ) (f : SomeFields) (parts : Option (List ℕ × List ℕ)) → AreFields f → GivesOnly AreFields (field_in line f parts)
+field_in_ok : (line : ℕ) (f : SomeFields) (parts : Option (List ℕ × List ℕ)) → AreFields f
+    → GivesOnly AreFields (field_in line f parts)
 field_in_ok line f None j = on_fault AreFields _
 field_in_ok line f (Some parts) j =
     on_test AreFields _ _ _ (with_times line parts.1 f j)
@@ -85,7 +150,8 @@ field_in_ok line f (Some parts) j =
     (on_test AreFields _ _ _ (with_release line parts.1 f j)
     (on_test AreFields _ _ _ (with_cost line parts.1 f j) (on_fault AreFields _)))))
 
-field_ok : (line : ℕ) (f next : SomeFields) (word : List ℕ) → AreFields f → field_at line f word ≡ Ok next → AreFields next
+field_ok : (line : ℕ) (f next : SomeFields) (word : List ℕ) → AreFields f
+    → field_at line f word ≡ Ok next → AreFields next
 unfolding field_at
 field_ok line f next word j h = (field_in_ok line f (divided 61 word) j).each next h
 
@@ -93,24 +159,40 @@ field_ok line f next word j h = (field_in_ok line f (divided 61 word) j).each ne
 abbrev IsJob : JobFields → Type 0
 IsJob job = (has_negative job ≡ false) × (has_beyond job ≡ false)
 
-complete_ok : (line : ℕ) (f : SomeFields) (times : Option Times) (job : JobFields) → OnTimes times → AreFields f → complete line f times ≡ Ok job → IsJob job
+complete_ok : (line : ℕ) (f : SomeFields) (times : Option Times) (job : JobFields) → OnTimes times
+    → AreFields f → complete line f times ≡ Ok job → IsJob job
 complete_ok line f None job t j h = cc
 complete_ok line f (Some times) job t j h =
-    subst (λ (x : JobFields). IsJob x) (same_ok (Ok (record { times = times; weight = f.weight; due = f.due; release = f.release; cost = f.cost })) refl h)
-    (or_false _ _ (or_false _ _ t.0 j.weight_negative) j.release_negative, or_false _ _ (or_false _ _ (or_false _ _ t.1 j.weight_beyond) j.due_beyond) j.release_beyond)
+    subst (λ (x : JobFields). IsJob x)
+    (same_ok
+    (Ok (record {
+      times = times;
+      weight = f.weight;
+      due = f.due;
+      release = f.release;
+      cost = f.cost;
+    })) refl h) (
+      or_false _ _ (or_false _ _ t.0 j.weight_negative) j.release_negative,
+      or_false _ _ (or_false _ _ (or_false _ _ t.1 j.weight_beyond) j.due_beyond)
+          j.release_beyond,
+    )
 
-fields_ok : (line : ℕ) (f : SomeFields) (words : List (List ℕ)) (job : JobFields) → AreFields f → fields_at line f words ≡ Ok job → IsJob job
+fields_ok : (line : ℕ) (f : SomeFields) (words : List (List ℕ)) (job : JobFields) → AreFields f
+    → fields_at line f words ≡ Ok job → IsJob job
 unfolding fields_at
 fields_ok line f [] job j h = complete_ok line f f.times job j.times j h
 fields_ok line f (word ∷ more) job j h =
     let a = bind_ok (field_at line f word) _ _ h in
     fields_ok line a.0 more job (field_ok line f a.0 word j a.1) a.2
 
-numbered_ok : (line k : ℕ) (words : List (List ℕ)) (job : JobFields) → numbered_job line k words ≡ Ok job → IsJob job
+numbered_ok : (line k : ℕ) (words : List (List ℕ)) (job : JobFields)
+    → numbered_job line k words ≡ Ok job → IsJob job
 numbered_ok line k [] job h = cc
-numbered_ok line k (word ∷ more) job h = fields_ok line no_fields more job none_ok (then_ok _ _ _ _ h).1
+numbered_ok line k (word ∷ more) job h =
+    fields_ok line no_fields more job none_ok (then_ok _ _ _ _ h).1
 
-pub job_ok : (k : ℕ) (line : Line) (job : JobFields) → job_at k line ≡ Ok job → (k ≤ MOST_JOBS) × IsJob job
+pub job_ok : (k : ℕ) (line : Line) (job : JobFields) → job_at k line ≡ Ok job
+    → (k ≤ MOST_JOBS) × IsJob job
 unfolding job_at
 job_ok k line job h =
     let e = else_ok _ _ _ _ (else_ok _ _ _ _ h).1 in
@@ -118,7 +200,8 @@ job_ok k line job h =
     (below, numbered_ok line.number k _ job e.1)
 
 -- a number of machines that was judged, or none
-count_ok : (line : ℕ) (n : Number) (m : ℕ) → machine_count line n ≡ Ok m → (1 ≤ m) × (m ≤ MOST_MACHINES)
+count_ok : (line : ℕ) (n : Number) (m : ℕ) → machine_count line n ≡ Ok m
+    → (1 ≤ m) × (m ≤ MOST_MACHINES)
 count_ok line NotANumber m h = cc
 count_ok line TooLarge m h = cc
 count_ok line (Value (negsuc k)) m h = cc
@@ -130,7 +213,8 @@ count_ok line (Value (pos k)) m h =
     let below : k ≤ MOST_MACHINES = leb-true k MOST_MACHINES both.1 in
     (subst (λ (n : ℕ). 1 ≤ n) same above, subst (λ (n : ℕ). n ≤ MOST_MACHINES) same below)
 
-pub machines_ok : (line : ℕ) (words : List (List ℕ)) (m : ℕ) → machines_at line words ≡ Ok m → count_fault (Some m) ≡ None
+pub machines_ok : (line : ℕ) (words : List (List ℕ)) (m : ℕ) → machines_at line words ≡ Ok m
+    → count_fault (Some m) ≡ None
 unfolding machines_at
 machines_ok line [] m h = cc
 machines_ok line (word ∷ []) m h =
@@ -141,7 +225,8 @@ machines_ok line (word ∷ []) m h =
 machines_ok line (word ∷ other ∷ more) m h = cc
 
 -- a job of an arc is there
-arc_job_ok : (jobs line : ℕ) (n : Number) (j : ℕ) → arc_job jobs line n ≡ Ok j → is_no_job jobs j ≡ false
+arc_job_ok : (jobs line : ℕ) (n : Number) (j : ℕ) → arc_job jobs line n ≡ Ok j
+    → is_no_job jobs j ≡ false
 arc_job_ok jobs line NotANumber j h = cc
 arc_job_ok jobs line TooLarge j h = cc
 arc_job_ok jobs line (Value (negsuc k)) j h = cc
@@ -149,17 +234,21 @@ arc_job_ok jobs line (Value (pos k)) j h =
     let e = else_ok _ _ _ _ h in
     subst (λ (i : ℕ). is_no_job jobs i ≡ false) (same_ok (Ok k) refl e.1) e.0
 
-arc_of_ok : (jobs line : ℕ) (words : List (List ℕ)) (arc : ℕ × ℕ) → arc_of jobs line words ≡ Ok arc → is_bad_arc jobs arc ≡ false
+arc_of_ok : (jobs line : ℕ) (words : List (List ℕ)) (arc : ℕ × ℕ) → arc_of jobs line words ≡ Ok arc
+    → is_bad_arc jobs arc ≡ false
 unfolding arc_of
 arc_of_ok jobs line [] arc h = cc
 arc_of_ok jobs line (a ∷ []) arc h = cc
 arc_of_ok jobs line (a ∷ b ∷ []) arc h =
     let x = bind_ok (arc_job jobs line (number a)) _ _ h in
     let y = bind_ok (arc_job jobs line (number b)) _ _ x.2 in
-    subst (λ (p : ℕ × ℕ). is_bad_arc jobs p ≡ false) (same_ok (Ok (x.0, y.0)) refl y.2) (or_false _ _ (arc_job_ok jobs line (number a) x.0 x.1) (arc_job_ok jobs line (number b) y.0 y.1))
+    subst (λ (p : ℕ × ℕ). is_bad_arc jobs p ≡ false) (same_ok (Ok (x.0, y.0)) refl y.2)
+    (or_false _ _ (arc_job_ok jobs line (number a) x.0 x.1)
+    (arc_job_ok jobs line (number b) y.0 y.1))
 arc_of_ok jobs line (a ∷ b ∷ c ∷ more) arc h = cc
 
-pub arc_ok : (jobs k : ℕ) (line : Line) (arc : ℕ × ℕ) → arc_at jobs k line ≡ Ok arc → (k ≤ MOST_ARCS) × (is_bad_arc jobs arc ≡ false)
+pub arc_ok : (jobs k : ℕ) (line : Line) (arc : ℕ × ℕ) → arc_at jobs k line ≡ Ok arc
+    → (k ≤ MOST_ARCS) × (is_bad_arc jobs arc ≡ false)
 unfolding arc_at
 arc_ok jobs k line arc h =
     let e = else_ok _ _ _ _ (else_ok _ _ _ _ h).1 in
@@ -167,24 +256,36 @@ arc_ok jobs k line arc h =
     (below, arc_of_ok jobs line.number _ arc e.1)
 
 -- the jobs of a table are few enough
-pub jobs_few : (lines : List Line) (jobs : List JobFields) → each_from job_at 1 lines ≡ Ok jobs → length jobs ≤ MOST_JOBS
+pub jobs_few : (lines : List Line) (jobs : List JobFields) → each_from job_at 1 lines ≡ Ok jobs
+    → length jobs ≤ MOST_JOBS
 jobs_few lines jobs h =
-    let le : length jobs + 1 ≤ MOST_JOBS + 1 = few job_at MOST_JOBS (λ k line job r. (job_ok k line job r).0) 1 lines jobs (omega arith) h in
+    let le : length jobs + 1 ≤ MOST_JOBS + 1 =
+    few job_at MOST_JOBS (λ k line job r. (job_ok k line job r).0) 1 lines jobs (omega arith)
+    h in
     omega arith
 
 -- the jobs and the arcs of a table make an instance
-pub table_judged : (lines later : List Line) (jobs : List JobFields) (n : ℕ) (arcs : List (ℕ × ℕ)) (machines : Option ℕ) → each_from job_at 1 lines ≡ Ok jobs → n ≡ length jobs → arcs_of n later ≡ Ok arcs → count_fault machines ≡ None → IsInstance (record { jobs = jobs; arcs = arcs; machines = machines })
+pub table_judged : (lines later : List Line) (jobs : List JobFields) (n : ℕ) (arcs : List (ℕ × ℕ))
+    (machines : Option ℕ)
+    → each_from job_at 1 lines ≡ Ok jobs → n ≡ length jobs → arcs_of n later ≡ Ok arcs
+    → count_fault machines ≡ None
+    → IsInstance (record { jobs = jobs; arcs = arcs; machines = machines })
 unfolding arcs_of
 table_judged lines later jobs n arcs machines h count g m =
     let e = else_ok _ _ _ _ (subst (λ (k : ℕ). arcs_of k later ≡ Ok arcs) count g) in
     let d : length jobs ≢ 0 = eqb-false _ _ e.0 in
-    let le : length arcs + 1 ≤ MOST_ARCS + 1 = few (arc_at (length jobs)) MOST_ARCS (λ k line arc r. (arc_ok (length jobs) k line arc r).0) 1 later arcs (omega arith) e.1 in
+    let le : length arcs + 1 ≤ MOST_ARCS + 1 =
+    few (arc_at (length jobs)) MOST_ARCS (λ k line arc r. (arc_ok (length jobs) k line arc r).0)
+    1 later arcs (omega arith) e.1 in
     judged (record { jobs = jobs; arcs = arcs; machines = machines }) (record {
       some = omega arith;
       few = jobs_few lines jobs h;
       machines = m;
       arcs = omega arith;
-      negative = none_there job_at has_negative (λ k line job r. (job_ok k line job r).1.0) 1 lines jobs h;
-      beyond = none_there job_at has_beyond (λ k line job r. (job_ok k line job r).1.1) 1 lines jobs h;
-      bad_arc = none_there (arc_at (length jobs)) (is_bad_arc (length jobs)) (λ k line arc r. (arc_ok (length jobs) k line arc r).1) 1 later arcs e.1;
+      negative = none_there job_at has_negative (λ k line job r. (job_ok k line job r).1.0) 1 lines
+          jobs h;
+      beyond = none_there job_at has_beyond (λ k line job r. (job_ok k line job r).1.1) 1 lines jobs
+          h;
+      bad_arc = none_there (arc_at (length jobs)) (is_bad_arc (length jobs))
+          (λ k line arc r. (arc_ok (length jobs) k line arc r).1) 1 later arcs e.1;
     })

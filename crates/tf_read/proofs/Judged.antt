@@ -19,23 +19,31 @@ pub same_ok : {A : Type 0} {x y : A} (r : Result A ReadFault) → r ≡ Ok x →
 same_ok r g h = let both = sym g ∙ h in cc
 
 -- the first that was read, and the others
-pub each_cons : {X Y : Type 0} (read : ℕ → X → Result Y ReadFault) (k : ℕ) (x : X) (xs : List X) (ys : List Y) → each_from read k (x ∷ xs) ≡ Ok ys → (first : Y) × (others : List Y) × (read k x ≡ Ok first) × (each_from read (k + 1) xs ≡ Ok others) × (first ∷ others ≡ ys)
+pub each_cons : {X Y : Type 0} (read : ℕ → X → Result Y ReadFault) (k : ℕ) (x : X) (xs : List X)
+    (ys : List Y)
+    → each_from read k (x ∷ xs) ≡ Ok ys
+    → (first : Y) × (others : List Y) × (read k x ≡ Ok first)
+    × (each_from read (k + 1) xs ≡ Ok others) × (first ∷ others ≡ ys)
 unfolding each_from
 each_cons read k x xs ys h =
-    let a = bind_ok (read k x) (λ first. each_from read (k + 1) xs >>= λ others. Ok (first ∷ others)) ys h in
+    let a = bind_ok (read k x)
+    (λ first. each_from read (k + 1) xs >>= λ others. Ok (first ∷ others)) ys h in
     let b = bind_ok (each_from read (k + 1) xs) (λ others. Ok (a.0 ∷ others)) ys a.2 in
     (a.0, b.0, a.1, b.1, same_ok (Ok (a.0 ∷ b.0)) refl b.2)
 
-pub each_none : {X Y : Type 0} (read : ℕ → X → Result Y ReadFault) (k : ℕ) (ys : List Y) → each_from read k [] ≡ Ok ys → [] ≡ ys
+pub each_none : {X Y : Type 0} (read : ℕ → X → Result Y ReadFault) (k : ℕ) (ys : List Y)
+    → each_from read k [] ≡ Ok ys → [] ≡ ys
 unfolding each_from
 each_none read k ys h = same_ok (Ok []) refl h
 
 -- a test behind which there is a value
-pub then_ok : {A : Type 0} (b : Bool) (x : Result A ReadFault) (e : ReadFault) (z : A) → cond b x (Err e) ≡ Ok z → (b ≡ true) × (x ≡ Ok z)
+pub then_ok : {A : Type 0} (b : Bool) (x : Result A ReadFault) (e : ReadFault) (z : A)
+    → cond b x (Err e) ≡ Ok z → (b ≡ true) × (x ≡ Ok z)
 then_ok true x e z h = (refl, h)
 then_ok false x e z h = cc
 
-pub else_ok : {A : Type 0} (b : Bool) (e : ReadFault) (y : Result A ReadFault) (z : A) → cond b (Err e) y ≡ Ok z → (b ≡ false) × (y ≡ Ok z)
+pub else_ok : {A : Type 0} (b : Bool) (e : ReadFault) (y : Result A ReadFault) (z : A)
+    → cond b (Err e) y ≡ Ok z → (b ≡ false) × (y ≡ Ok z)
 else_ok true e y z h = cc
 else_ok false e y z h = (refl, h)
 
@@ -46,12 +54,18 @@ pub record GivesOnly {A : Type 0} (P : A → Type 0) (r : Result A ReadFault) : 
 pub on_fault : {A : Type 0} (P : A → Type 0) (e : ReadFault) → GivesOnly P (Err e)
 on_fault P e = record { each = λ x h. cc }
 
-pub on_test : {A : Type 0} (P : A → Type 0) (b : Bool) (x y : Result A ReadFault) → GivesOnly P x → GivesOnly P y → GivesOnly P (cond b x y)
+pub on_test : {A : Type 0} (P : A → Type 0) (b : Bool) (x y : Result A ReadFault) → GivesOnly P x
+    → GivesOnly P y → GivesOnly P (cond b x y)
 on_test P true x y p q = p
 on_test P false x y p q = q
 
-pub on_value : {A B : Type 0} (P : B → Type 0) (r : Result A ReadFault) (f : A → B) → ((x : A) → r ≡ Ok x → P (f x)) → GivesOnly P (r >>= λ x. Ok (f x))
-on_value P r f h = record { each = λ y e. let a = bind_ok r (λ x. Ok (f x)) y e in subst P (same_ok (Ok (f a.0)) refl a.2) (h a.0 a.1) }
+pub on_value : {A B : Type 0} (P : B → Type 0) (r : Result A ReadFault) (f : A → B)
+    → ((x : A) → r ≡ Ok x → P (f x)) → GivesOnly P (r >>= λ x. Ok (f x))
+on_value P r f h =
+    record {
+      each = λ y e. let a = bind_ok r (λ x. Ok (f x)) y e in
+          subst P (same_ok (Ok (f a.0)) refl a.2) (h a.0 a.1);
+    }
 
 pub or_false : (a b : Bool) → a ≡ false → b ≡ false → (a || b) ≡ false
 or_false a b e d = rw (e, d) refl
@@ -71,7 +85,8 @@ integer_within line NotANumber z h = cc
 integer_within line TooLarge z h = cc
 integer_within line (Value y) z h = cc
 
-pub natural_within : (line : ℕ) (n : Number) (z : ℤ) → natural line n ≡ Ok z → (n ≡ Value z) × (is_negative z ≡ false)
+pub natural_within : (line : ℕ) (n : Number) (z : ℤ) → natural line n ≡ Ok z
+    → (n ≡ Value z) × (is_negative z ≡ false)
 natural_within line NotANumber z h = cc
 natural_within line TooLarge z h = cc
 natural_within line (Value (negsuc m)) z h = cc
@@ -80,28 +95,42 @@ natural_within line (Value (pos m)) z h =
     (ap Value e, subst (λ (y : ℤ). is_negative y ≡ false) e (le-ltb m 0 (omega arith)))
 
 -- no element passes
-pub past_end : {Y : Type 0} (test : Y → Bool) (y : Y) (ys : List Y) → test y ≡ false → position_or_len test ys ≡ length ys → position_or_len test (y ∷ ys) ≡ length (y ∷ ys)
+pub past_end : {Y : Type 0} (test : Y → Bool) (y : Y) (ys : List Y) → test y ≡ false
+    → position_or_len test ys ≡ length ys → position_or_len test (y ∷ ys) ≡ length (y ∷ ys)
 past_end test y ys e h = rw (e, h) (omega arith)
 
-none_passes : {X Y : Type 0} (read : ℕ → X → Result Y ReadFault) (test : Y → Bool) → ((k : ℕ) (x : X) (y : Y) → read k x ≡ Ok y → test y ≡ false) → (k : ℕ) (xs : List X) (ys : List Y) → each_from read k xs ≡ Ok ys → position_or_len test ys ≡ length ys
-none_passes read test ok k [] ys h = subst (λ zs. position_or_len test zs ≡ length zs) (each_none read k ys h) refl
+none_passes : {X Y : Type 0} (read : ℕ → X → Result Y ReadFault) (test : Y → Bool)
+    → ((k : ℕ) (x : X) (y : Y) → read k x ≡ Ok y → test y ≡ false)
+    → (k : ℕ) (xs : List X) (ys : List Y) → each_from read k xs ≡ Ok ys
+    → position_or_len test ys ≡ length ys
+none_passes read test ok k [] ys h =
+    subst (λ zs. position_or_len test zs ≡ length zs) (each_none read k ys h) refl
 none_passes read test ok k (x ∷ xs) ys h =
     let r = each_cons read k x xs ys h in
-    subst (λ zs. position_or_len test zs ≡ length zs) r.4 (past_end test r.0 r.1 (ok k x r.0 r.2) (none_passes read test ok (k + 1) xs r.1 r.3))
+    subst (λ zs. position_or_len test zs ≡ length zs) r.4
+    (past_end test r.0 r.1 (ok k x r.0 r.2) (none_passes read test ok (k + 1) xs r.1 r.3))
 
-pub none_there : {X Y : Type 0} (read : ℕ → X → Result Y ReadFault) (test : Y → Bool) → ((k : ℕ) (x : X) (y : Y) → read k x ≡ Ok y → test y ≡ false) → (k : ℕ) (xs : List X) (ys : List Y) → each_from read k xs ≡ Ok ys → position test ys ≡ None
-none_there read test ok k xs ys h = let e = none_passes read test ok k xs ys h in let t : ltb (length ys) (length ys) ≡ false = le-ltb _ _ (omega arith) in rw (e, t) refl
+pub none_there : {X Y : Type 0} (read : ℕ → X → Result Y ReadFault) (test : Y → Bool)
+    → ((k : ℕ) (x : X) (y : Y) → read k x ≡ Ok y → test y ≡ false)
+    → (k : ℕ) (xs : List X) (ys : List Y) → each_from read k xs ≡ Ok ys → position test ys ≡ None
+none_there read test ok k xs ys h = let e = none_passes read test ok k xs ys h in
+    let t : ltb (length ys) (length ys) ≡ false = le-ltb _ _ (omega arith) in rw (e, t) refl
 
 -- no more than the number up to which they are read
-pub few : {X Y : Type 0} (read : ℕ → X → Result Y ReadFault) (most : ℕ) → ((k : ℕ) (x : X) (y : Y) → read k x ≡ Ok y → k ≤ most) → (k : ℕ) (xs : List X) (ys : List Y) → k ≤ most + 1 → each_from read k xs ≡ Ok ys → length ys + k ≤ most + 1
-few read most ok k [] ys from h = subst (λ (zs : List _). length zs + k ≤ most + 1) (each_none read k ys h) (omega arith)
+pub few : {X Y : Type 0} (read : ℕ → X → Result Y ReadFault) (most : ℕ)
+    → ((k : ℕ) (x : X) (y : Y) → read k x ≡ Ok y → k ≤ most) → (k : ℕ) (xs : List X) (ys : List Y)
+    → k ≤ most + 1 → each_from read k xs ≡ Ok ys → length ys + k ≤ most + 1
+few read most ok k [] ys from h =
+    subst (λ (zs : List _). length zs + k ≤ most + 1) (each_none read k ys h) (omega arith)
 few read most ok k (x ∷ xs) ys from h =
     let r = each_cons read k x xs ys h in
     let le : k ≤ most = ok k x r.0 r.2 in
-    let more : length r.1 + (k + 1) ≤ most + 1 = few read most ok (k + 1) xs r.1 (omega arith) r.3 in
+    let more : length r.1 + (k + 1) ≤ most + 1 =
+    few read most ok (k + 1) xs r.1 (omega arith) r.3 in
     omega (arith, ap length r.4, more)
 
--- counts within the limits, no number that is negative or beyond the limit, and no arc of a job that isn't there
+-- counts within the limits, no number that is negative or beyond the limit, and no arc of a job
+-- that isn't there
 pub record IsJudged (i : InstanceData) : Type 0 where
   pub some : 0 < length i.jobs
   pub few : length i.jobs ≤ MOST_JOBS

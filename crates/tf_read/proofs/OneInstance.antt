@@ -1,11 +1,11 @@
 -- The instance of the numbers that were read.
-use Rattle.std.proofs.Common.{◌≡◌, ℕ, zero, suc, ◌+◌, ◌-◌, ◌*◌, ◌%◌, ◌<◌, ◌≤◌, Bool, false, cond, leb, ltb, List, [], ◌∷◌, ◌++◌, length, map, take, drop, ℤ, pos, Option, Some, None, Result, Ok, Err, refl, sym, ap, subst, ◌∙◌, arith, inl, inr, IfOk, position, min, mul-le-mul_left}
+use Rattle.std.proofs.Common.{◌≡◌, ℕ, zero, suc, ◌+◌, ◌-◌, ◌*◌, ◌%◌, ◌<◌, ◌≤◌, Bool, false, cond, eqb, leb, ltb, List, [], ◌∷◌, ◌++◌, length, map, take, drop, ℤ, pos, Option, Some, None, Result, Ok, Err, refl, sym, ap, subst, ◌∙◌, arith, inl, inr, IfOk, position, min, mul-le-mul_left, add-one}
 use Rattle.std.specs.List.{range_with_len, position_or_len}
 use Rattle.std.specs.Option.{option_or}
-use Rattle.std.proofs.lemmas.Bool.{cases_Bool, leb-true, leb-false, ltb-false, lt-leb, le-ltb}
+use Rattle.std.proofs.lemmas.Bool.{cases_Bool, leb-true, leb-false, ltb-false, lt-leb, le-ltb, eqb-true, eqb-false}
 use Rattle.std.proofs.lemmas.List.{get_or-drop}
 use Rattle.std.proofs.lemmas.List.FromFn.{length-map-range_with_len}
-use Rattle.std.proofs.Math.Nat.{mul-suc, mul-add-mod_self_left, mod-eq_of_lt}
+use Rattle.std.proofs.Math.Nat.{mul-suc, mul-add-mod_self_left, mod-eq_of_lt, mod-lt, mod_self, suc-mod}
 use Rattle.tf_words.specs.Words.{Word}
 use Rattle.tf_words.specs.declared.number.Number.{Number}
 use Rattle.tf_model.specs.JobFields.{JobFields}
@@ -22,24 +22,39 @@ use Rattle.tf_read.proofs.Progress.{counted}
 use Rattle.tf_read.proofs.Judged.{in_range, or_false, natural_within, integer_within, past_end, judged as is_instance}
 
 -- how a whole reading goes on
-pub goes_on : (n k : ℕ) (seen : List Word) (r : Result (List ℤ) ReadFault) → each_from (judged n) 0 (take (3 * n * k) seen) ≡ r → instance_of n k seen ≡ (r >>= λ numbers. present n k numbers)
+pub goes_on : (n k : ℕ) (seen : List Word) (r : Result (List ℤ) ReadFault)
+    → each_from (judged n) 0 (take (3 * n * k) seen) ≡ r
+    → instance_of n k seen ≡ (r >>= λ numbers. present n k numbers)
 unfolding instance_of
 goes_on n k seen r h = ap (λ x. x >>= λ numbers. present n k numbers) h
 
-judge_end : (n k count : ℕ) (all : List ℤ) (e : ReadFault) → count ≡ length all → cond (leb count (3 * n * (k - 1))) (Some NoInstance) (cond (ltb count (3 * n * k)) (Some EndsEarly) None) ≡ Some e → present n k all ≡ Err e
+judge_end : (n k count : ℕ) (all : List ℤ) (e : ReadFault) → count ≡ length all
+    → cond (leb count (3 * n * (k - 1))) (Some NoInstance)
+    (cond (ltb count (3 * n * k)) (Some EndsEarly) None) ≡ Some e
+    → present n k all ≡ Err e
 judge_end n k count all e c h = elim (cases_Bool (leb (length all) (3 * n * (k - 1)))) [
-  | inl early ↦ let same : NoInstance ≡ e = let d : Some NoInstance ≡ Some e = rw (c, early) at h in cc in rw early (ap (λ x. Err x) same)
+  | inl early ↦ let same : NoInstance ≡ e = let d : Some NoInstance ≡ Some e = rw (c, early) at h in
+      cc in rw early (ap (λ x. Err x) same)
   | inr late ↦ elim (cases_Bool (ltb (length all) (3 * n * k))) [
-    | inl cut ↦ let same : EndsEarly ≡ e = let d : Some EndsEarly ≡ Some e = rw (c, late, cut) at h in cc in rw (late, cut) (ap (λ x. Err x) same)
+    | inl cut ↦ let same : EndsEarly ≡ e = let d : Some EndsEarly ≡ Some e =
+        rw (c, late, cut) at h in cc in rw (late, cut) (ap (λ x. Err x) same)
     | inr whole ↦ absurd (let d : None ≡ Some e = rw (c, late, whole) at h in let f : ⊥ = cc in f)
   ]
 ]
 
-missing_at : (fault : Option ReadFault) (p : Progress) (seen : List Word) (e : ReadFault) → Holds fault p (each_from (judged p.jobs) 0 (take (wanted p) seen)) → option_or fault (cond (leb p.count (skipped p)) (Some NoInstance) (cond (ltb p.count (wanted p)) (Some EndsEarly) None)) ≡ Some e → instance_of p.jobs p.index seen ≡ Err e
-missing_at (Some d) p seen e h m = goes_on p.jobs p.index seen (Err d) h ∙ (let same : d ≡ e = cc in ap (λ x. Err x) same)
-missing_at None p seen e h m = goes_on p.jobs p.index seen (Ok h.0) h.1 ∙ judge_end p.jobs p.index p.count h.0 e h.2 m
+missing_at : (fault : Option ReadFault) (p : Progress) (seen : List Word) (e : ReadFault)
+    → Holds fault p (each_from (judged p.jobs) 0 (take (wanted p) seen))
+    → option_or fault
+    (cond (leb p.count (skipped p)) (Some NoInstance)
+    (cond (ltb p.count (wanted p)) (Some EndsEarly) None)) ≡ Some e
+    → instance_of p.jobs p.index seen ≡ Err e
+missing_at (Some d) p seen e h m = goes_on p.jobs p.index seen (Err d) h
+    ∙ (let same : d ≡ e = cc in ap (λ x. Err x) same)
+missing_at None p seen e h m = goes_on p.jobs p.index seen (Ok h.0) h.1
+    ∙ judge_end p.jobs p.index p.count h.0 e h.2 m
 
-pub missing_is : (p : Progress) (seen : List Word) (e : ReadFault) → HasRead p seen → missing p ≡ Some e → instance_of p.jobs p.index seen ≡ Err e
+pub missing_is : (p : Progress) (seen : List Word) (e : ReadFault) → HasRead p seen
+    → missing p ≡ Some e → instance_of p.jobs p.index seen ≡ Err e
 missing_is p seen e h m = missing_at p.fault p seen e h m
 
 -- the numbers of a text that are all there
@@ -51,7 +66,12 @@ record IsWhole (p : Progress) (seen : List Word) : Type 0 where
   begun : skipped p < length all
   ended : wanted p ≤ length all
 
-whole_at : (fault : Option ReadFault) (p : Progress) (seen : List Word) → Holds fault p (each_from (judged p.jobs) 0 (take (wanted p) seen)) → option_or fault (cond (leb p.count (skipped p)) (Some NoInstance) (cond (ltb p.count (wanted p)) (Some EndsEarly) None)) ≡ None → IsWhole p seen
+whole_at : (fault : Option ReadFault) (p : Progress) (seen : List Word)
+    → Holds fault p (each_from (judged p.jobs) 0 (take (wanted p) seen))
+    → option_or fault
+    (cond (leb p.count (skipped p)) (Some NoInstance)
+    (cond (ltb p.count (wanted p)) (Some EndsEarly) None)) ≡ None
+    → IsWhole p seen
 whole_at (Some d) p seen h m = absurd (let f : ⊥ = cc in f)
 whole_at None p seen h m = elim (cases_Bool (leb p.count (skipped p))) [
   | inl early ↦ absurd (let d : Some NoInstance ≡ None = rw early at m in let f : ⊥ = cc in f)
@@ -60,30 +80,57 @@ whole_at None p seen h m = elim (cases_Bool (leb p.count (skipped p))) [
     | inr all ↦
         let begun : skipped p < p.count = leb-false p.count (skipped p) late in
         let ended : wanted p ≤ p.count = ltb-false p.count (wanted p) all in
-        record { all = h.0; read = h.1; count = h.2; numbers = h.3; begun = omega (arith, h.2); ended = omega (arith, h.2) }
+        record {
+          all = h.0;
+          read = h.1;
+          count = h.2;
+          numbers = h.3;
+          begun = omega (arith, h.2);
+          ended = omega (arith, h.2);
+        }
   ]
 ]
 
 length_all : (p : Progress) (seen : List Word) (w : IsWhole p seen) → length w.all ≤ wanted p
-length_all p seen w = let c : length w.all ≡ min (wanted p) (length seen) = counted (judged p.jobs) (wanted p) seen w.all w.read in omega arith
+length_all p seen w = let c : length w.all ≡ min (wanted p) (length seen) =
+    counted (judged p.jobs) (wanted p) seen w.all w.read in omega arith
 
 at_own : (numbers : List ℤ) (start i : ℕ) → at (drop start numbers) i ≡ at numbers (start + i)
 at_own numbers start i = get_or-drop start numbers i (pos 0)
 
-pub whole_is : (p : Progress) (seen : List Word) → HasRead p seen → missing p ≡ None → instance_of p.jobs p.index seen ≡ Ok (record { jobs = jobs_of p.jobs p.numbers; arcs = []; machines = None })
+pub whole_is : (p : Progress) (seen : List Word) → HasRead p seen → missing p ≡ None
+    → instance_of p.jobs p.index seen
+    ≡ Ok (record { jobs = jobs_of p.jobs p.numbers; arcs = []; machines = None })
 whole_is p seen h m =
     let w = whole_at p.fault p seen h m in
     let late : leb (length w.all) (3 * p.jobs * (p.index - 1)) ≡ false = lt-leb _ _ w.begun in
     let long : ltb (length w.all) (3 * p.jobs * p.index) ≡ false = le-ltb _ _ w.ended in
-    let own : jobs_of p.jobs (drop (skipped p) w.all) ≡ jobs_of p.jobs p.numbers = ap (jobs_of p.jobs) (sym w.numbers) in
-    goes_on p.jobs p.index seen (Ok w.all) w.read ∙ rw (late, long) (ap (λ js. Ok (record { jobs = js; arcs = []; machines = None })) own)
+    let own : jobs_of p.jobs (drop (skipped p) w.all) ≡ jobs_of p.jobs p.numbers =
+    ap (jobs_of p.jobs) (sym w.numbers) in
+    goes_on p.jobs p.index seen (Ok w.all) w.read
+    ∙ rw (late, long) (ap (λ js. Ok (record { jobs = js; arcs = []; machines = None })) own)
 
 -- a place within the instance is that among its own words
 place : (n k j : ℕ) → j < 3 * n → (3 * n * (k - 1) + j) % (3 * n) ≡ j
 place n k j lt = mul-add-mod_self_left (3 * n) (k - 1) j ∙ mod-eq_of_lt lt
 
+-- the place behind a place among so many, of which the first is behind the last
+pub place_behind : (m c p next : ℕ) → 0 < m → p ≡ c % m
+    → next ≡ cond (eqb (p + 1) m) 0 (p + 1) → next ≡ (c + 1) % m
+place_behind m c p next some is then =
+    let within : c % m < m = mod-lt c some in
+    let on : suc p % m ≡ (c + 1) % m =
+    ap (λ (r : ℕ). suc r % m) is ∙ sym (suc-mod c m) ∙ ap (λ (n : ℕ). n % m) (sym (add-one c)) in
+    elim (cases_Bool (eqb (p + 1) m)) [
+      | inl e ↦
+          let last : suc p ≡ m = sym (add-one p) ∙ eqb-true (p + 1) m e in
+          then ∙ rw e (sym (mod_self m)) ∙ ap (λ (n : ℕ). n % m) (sym last) ∙ on
+      | inr e ↦ then ∙ rw e (add-one p ∙ sym (mod-eq_of_lt (omega (arith, is, within, eqb-false (p + 1) m e))) ∙ on)
+    ]
+
 -- a number that is read is within the limit, and not negative where a time or a weight stands
-read_number : (n i line : ℕ) (number : Number) (z : ℤ) → IsInRange number → number_at n i line number ≡ Ok z
+read_number : (n i line : ℕ) (number : Number) (z : ℤ) → IsInRange number
+    → number_at n i line number ≡ Ok z
     → (is_beyond z ≡ false) × (i % (3 * n) < 2 * n → is_negative z ≡ false)
 read_number n i line number z range h = elim (cases_Bool (ltb (i % (3 * n)) (2 * n))) [
   | inl early ↦
@@ -101,51 +148,74 @@ none_there n = record { at_most = λ i. refl; natural = λ i lt. refl }
 pub no_numbers : (n : ℕ) (numbers : List ℤ) → numbers ≡ [] → AreInRange n numbers
 no_numbers n numbers none = subst (AreInRange n) (sym none) (none_there n)
 
-at_end : (P : ℤ → Type 0) (numbers : List ℤ) (z : ℤ) (i : ℕ) → (i < length numbers → P (at numbers i)) → (i ≡ length numbers → P z) → P (pos 0) → P (at (numbers ++ z ∷ []) i)
+at_end : (P : ℤ → Type 0) (numbers : List ℤ) (z : ℤ) (i : ℕ)
+    → (i < length numbers → P (at numbers i)) → (i ≡ length numbers → P z) → P (pos 0)
+    → P (at (numbers ++ z ∷ []) i)
 at_end P [] z zero before here after = here refl
 at_end P [] z (suc i) before here after = after
 at_end P (y ∷ ys) z zero before here after = before (omega arith)
-at_end P (y ∷ ys) z (suc i) before here after = at_end P ys z i (λ lt. before (omega arith)) (λ e. here (ap suc e)) after
+at_end P (y ∷ ys) z (suc i) before here after =
+    at_end P ys z i (λ lt. before (omega arith)) (λ e. here (ap suc e)) after
 
-numbers_more : (n : ℕ) (numbers : List ℤ) (z : ℤ) → AreInRange n numbers → is_beyond z ≡ false → (length numbers < 2 * n → is_negative z ≡ false) → AreInRange n (numbers ++ z ∷ [])
+numbers_more : (n : ℕ) (numbers : List ℤ) (z : ℤ) → AreInRange n numbers → is_beyond z ≡ false
+    → (length numbers < 2 * n → is_negative z ≡ false) → AreInRange n (numbers ++ z ∷ [])
 numbers_more n numbers z all beyond negative = record {
-  at_most = λ i. at_end (λ y. is_beyond y ≡ false) numbers z i (λ lt. all.at_most i) (λ e. beyond) refl;
-  natural = λ i lt. at_end (λ y. is_negative y ≡ false) numbers z i (λ in'. all.natural i lt) (λ e. negative (omega (arith, e))) refl;
+  at_most = λ i. at_end (λ y. is_beyond y ≡ false) numbers z i (λ lt. all.at_most i) (λ e. beyond)
+      refl;
+  natural = λ i lt. at_end (λ y. is_negative y ≡ false) numbers z i (λ in'. all.natural i lt)
+      (λ e. negative (omega (arith, e))) refl;
 }
 
-kept_at : (p : Progress) (line : ℕ) (number : Number) (z : ℤ) → IsInRange number → p.count < wanted p → wanted p ≡ skipped p + 3 * p.jobs → length p.numbers ≡ p.count - skipped p
-    → AreInRange p.jobs p.numbers → number_at p.jobs p.count line number ≡ Ok z → AreInRange p.jobs (with_number p z).numbers
+kept_at : (p : Progress) (line : ℕ) (number : Number) (z : ℤ) → IsInRange number
+    → p.count < wanted p → wanted p ≡ skipped p + 3 * p.jobs
+    → length p.numbers ≡ p.count - skipped p
+    → AreInRange p.jobs p.numbers → number_at p.jobs p.count line number ≡ Ok z
+    → AreInRange p.jobs (with_number p z).numbers
 kept_at p line number z range more own tally all h = elim (cases_Bool (leb (skipped p) p.count)) [
   | inl own' ↦
       let le : skipped p ≤ p.count = leb-true _ _ own' in
       let r = read_number p.jobs p.count line number z range h in
-      let there : (skipped p + length p.numbers) % (3 * p.jobs) ≡ length p.numbers = place p.jobs p.index (length p.numbers) (omega (arith, tally, more, own, le)) in
+      let there : (skipped p + length p.numbers) % (3 * p.jobs) ≡ length p.numbers =
+      place p.jobs p.index (length p.numbers) (omega (arith, tally, more, own, le)) in
       let count : p.count ≡ skipped p + length p.numbers = omega (arith, tally, le) in
-      rw own' (numbers_more p.jobs p.numbers z all r.0 (λ lt. r.1 (omega (arith, ap (λ (c : ℕ). c % (3 * p.jobs)) count, there, lt))))
+      rw own' (numbers_more p.jobs p.numbers z all r.0
+      (λ lt. r.1 (omega (arith, ap (λ (c : ℕ). c % (3 * p.jobs)) count, there, lt))))
   | inr before ↦ rw before all
 ]
 
-pub number_kept : (p : Progress) (line : ℕ) (number : Number) (r : Result ℤ ReadFault) → IsInRange number → p.count < wanted p → wanted p ≡ skipped p + 3 * p.jobs → length p.numbers ≡ p.count - skipped p
-    → AreInRange p.jobs p.numbers → number_at p.jobs p.count line number ≡ r → IfOk r (λ z. AreInRange p.jobs (with_number p z).numbers)
-number_kept p line number (Ok z) range more own tally all h = kept_at p line number z range more own tally all h
+pub number_kept : (p : Progress) (line : ℕ) (number : Number) (r : Result ℤ ReadFault)
+    → IsInRange number → p.count < wanted p → wanted p ≡ skipped p + 3 * p.jobs
+    → length p.numbers ≡ p.count - skipped p
+    → AreInRange p.jobs p.numbers → number_at p.jobs p.count line number ≡ r
+    → IfOk r (λ z. AreInRange p.jobs (with_number p z).numbers)
+number_kept p line number (Ok z) range more own tally all h =
+    kept_at p line number z range more own tally all h
 number_kept p line number (Err e) range more own tally all h = tt
 
 -- no job that is made from a range passes
-none_made : (test : JobFields → Bool) (f : ℕ → JobFields) (a n : ℕ) → ((j : ℕ) → j < a + n → test (f j) ≡ false) → position_or_len test (map f (range_with_len a n)) ≡ length (map f (range_with_len a n))
+none_made : (test : JobFields → Bool) (f : ℕ → JobFields) (a n : ℕ)
+    → ((j : ℕ) → j < a + n → test (f j) ≡ false)
+    → position_or_len test (map f (range_with_len a n)) ≡ length (map f (range_with_len a n))
 none_made test f a zero h = refl
-none_made test f a (suc n) h = past_end test (f a) (map f (range_with_len (a + 1) n)) (h a (omega arith)) (none_made test f (a + 1) n (λ j lt. h j (omega arith)))
+none_made test f a (suc n) h =
+    past_end test (f a) (map f (range_with_len (a + 1) n)) (h a (omega arith))
+    (none_made test f (a + 1) n (λ j lt. h j (omega arith)))
 
-pub none_at : (test : JobFields → Bool) (f : ℕ → JobFields) (n : ℕ) → ((j : ℕ) → j < n → test (f j) ≡ false) → position test (map f (range_with_len 0 n)) ≡ None
+pub none_at : (test : JobFields → Bool) (f : ℕ → JobFields) (n : ℕ)
+    → ((j : ℕ) → j < n → test (f j) ≡ false) → position test (map f (range_with_len 0 n)) ≡ None
 none_at test f n h =
     let e = none_made test f 0 n (λ j lt. h j (omega arith)) in
-    let t : ltb (length (map f (range_with_len 0 n))) (length (map f (range_with_len 0 n))) ≡ false = le-ltb _ _ (omega arith) in
+    let t : ltb (length (map f (range_with_len 0 n))) (length (map f (range_with_len 0 n)))
+    ≡ false = le-ltb _ _ (omega arith) in
     rw (e, t) refl
 
 -- all words up to the instance's last were judged
-pub whole_count : (p : Progress) (seen : List Word) → HasRead p seen → missing p ≡ None → p.count ≡ wanted p
+pub whole_count : (p : Progress) (seen : List Word) → HasRead p seen → missing p ≡ None
+    → p.count ≡ wanted p
 whole_count p seen h m =
     let w = whole_at p.fault p seen h m in
-    let c : length w.all ≡ min (wanted p) (length seen) = counted (judged p.jobs) (wanted p) seen w.all w.read in
+    let c : length w.all ≡ min (wanted p) (length seen) =
+    counted (judged p.jobs) (wanted p) seen w.all w.read in
     let d : p.count ≡ length w.all = w.count in
     let e : wanted p ≤ length w.all = w.ended in
     omega arith
@@ -155,22 +225,29 @@ pub all_before : (n k : ℕ) → 0 < k → 3 * n * (k - 1) + 3 * n ≡ 3 * n * k
 all_before n zero lt = absurd (omega arith)
 all_before n (suc k) lt = let e : suc k - 1 ≡ k = omega arith in rw e (sym (mul-suc (3 * n) k))
 
-pub all_near : (n k : ℕ) → n ≤ MOST_JOBS → 0 < k → k < 4294967296 → 3 * n * (k - 1) + 3 * n < 4611686018427387904
+pub all_near : (n k : ℕ) → n ≤ MOST_JOBS → 0 < k → k < 4294967296
+    → 3 * n * (k - 1) + 3 * n < 4611686018427387904
 all_near n k few some near =
-    let whole : 3 * n * k ≤ 3 * n * 4294967296 = mul-le-mul_left (3 * n) (let le : k ≤ 4294967296 = omega arith in le) in
+    let whole : 3 * n * k ≤ 3 * n * 4294967296 =
+    mul-le-mul_left (3 * n) (let le : k ≤ 4294967296 = omega arith in le) in
     omega (arith, all_before n k some, whole)
 
 block : (n k : ℕ) → 3 * n * (k - 1) < 3 * n * k → 3 * n * k ≡ 3 * n * (k - 1) + 3 * n
 block n zero lt = absurd (omega arith)
 block n (suc k) lt = let e : suc k - 1 ≡ k = omega arith in rw e (mul-suc (3 * n) k)
 
-job_ok : (n : ℕ) (numbers : List ℤ) → AreInRange n numbers → (j : ℕ) → j < n → (has_negative (job n numbers j) ≡ false) × (has_beyond (job n numbers j) ≡ false)
+job_ok : (n : ℕ) (numbers : List ℤ) → AreInRange n numbers → (j : ℕ) → j < n
+    → (has_negative (job n numbers j) ≡ false) × (has_beyond (job n numbers j) ≡ false)
 job_ok n numbers all j lt = (
-  or_false _ _ (or_false _ _ (all.natural j (omega arith)) (all.natural (n + j) (omega arith))) refl,
-  or_false _ _ (or_false _ _ (or_false _ _ (all.at_most j) (all.at_most (n + j))) (all.at_most (2 * n + j))) refl,
+  or_false _ _ (or_false _ _ (all.natural j (omega arith)) (all.natural (n + j) (omega arith)))
+      refl,
+  or_false _ _
+      (or_false _ _ (or_false _ _ (all.at_most j) (all.at_most (n + j))) (all.at_most (2 * n + j)))
+      refl,
 )
 
-pub whole_judged : (n : ℕ) (numbers : List ℤ) → 0 < n → n ≤ MOST_JOBS → AreInRange n numbers → IsInstance (record { jobs = jobs_of n numbers; arcs = []; machines = None })
+pub whole_judged : (n : ℕ) (numbers : List ℤ) → 0 < n → n ≤ MOST_JOBS → AreInRange n numbers
+    → IsInstance (record { jobs = jobs_of n numbers; arcs = []; machines = None })
 whole_judged n numbers some few all =
     let count : length (jobs_of n numbers) ≡ n = length-map-range_with_len (job n numbers) 0 n in
     is_instance (record { jobs = jobs_of n numbers; arcs = []; machines = None }) (record {
@@ -184,7 +261,11 @@ whole_judged n numbers some few all =
     })
 
 -- nothing is missing
-none_missing : (fault : Option ReadFault) (p : Progress) → option_or fault (cond (leb p.count (skipped p)) (Some NoInstance) (cond (ltb p.count (wanted p)) (Some EndsEarly) None)) ≡ None → wanted p ≤ p.count
+none_missing : (fault : Option ReadFault) (p : Progress)
+    → option_or fault
+    (cond (leb p.count (skipped p)) (Some NoInstance)
+    (cond (ltb p.count (wanted p)) (Some EndsEarly) None)) ≡ None
+    → wanted p ≤ p.count
 none_missing (Some d) p m = absurd (let f : ⊥ = cc in f)
 none_missing None p m = elim (cases_Bool (leb p.count (skipped p))) [
   | inl early ↦ absurd (let d : Some NoInstance ≡ None = rw early at m in let f : ⊥ = cc in f)

@@ -21,7 +21,9 @@ is_step part = is_pair (divided 58 part)
 
 abbrev pub step_in : ℕ → Option (List ℕ × List ℕ) → Result (ℤ × ℤ) ReadFault
 step_in line None = Err (BadLine line)
-step_in line (Some sides) = natural line (number sides.0) >>= λ time. integer line (number sides.1) >>= λ value. Ok (time, value)
+step_in line (Some sides) =
+    natural line (number sides.0) >>= λ time. integer line (number sides.1)
+    >>= λ value. Ok (time, value)
 
 unfoldable pub step_at : ℕ → List ℕ → Result (ℤ × ℤ) ReadFault
 step_at line part = step_in line (divided 58 part)
@@ -43,7 +45,8 @@ abbrev pub cost_of : ℕ → List (List ℕ) → Result Steps ReadFault
 cost_of line [] = Err (BadLine line)
 cost_of line (first ∷ more) =
     if not (list_all is_step more) then Err (BadLine line)
-    else (integer line (number first) >>= λ base. steps_at line more >>= λ steps. rising line (record { base = base; steps = steps }))
+    else (integer line (number first) >>= λ base. steps_at line more
+    >>= λ steps. rising line (record { base = base; steps = steps }))
 
 unfoldable pub cost_at : ℕ → List ℕ → Result Steps ReadFault
 cost_at line value = cost_of line (parts value)

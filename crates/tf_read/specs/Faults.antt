@@ -19,7 +19,8 @@ abbrev pub Gives : {X Y : Type 0} → (X → Y) → Result X ReadFault → Resul
 Gives = Outcome.Gives fault_in
 
 -- what is read of each, of which the first is the k-th, or the first fault
-unfoldable pub each_from : {X Y : Type 0} → (ℕ → X → Result Y ReadFault) → ℕ → List X → Result (List Y) ReadFault
+unfoldable pub each_from : {X Y : Type 0} → (ℕ → X → Result Y ReadFault) → ℕ → List X
+    → Result (List Y) ReadFault
 each_from read k [] = Ok []
 each_from read k (x ∷ xs) = do
   first ← read k x

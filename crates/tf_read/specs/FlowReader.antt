@@ -7,11 +7,15 @@ use Rattle.tf_read.specs.FlowStage.{HasTaken}
 use Rattle.tf_read.specs.Said.{TextSays}
 
 -- it is wanted what `says` says of a text, and `fed` was fed of it
-pub record HasFed {A : Type 0} (reader : FlowReader A) (says : TextSays) (fed : List ℕ) : Type 0 where
-  pub wanted : (text : List ℕ) → says text ≡ flow_shop reader.wanted.name.now reader.wanted.pair text
-  pub length_is : reader.length.bytes ≡ min (length fed) (MOST_BYTES + 1)
-  pub taken : length fed ≤ MOST_BYTES → HasTaken reader.wanted.name.now reader.wanted.pair reader.stage fed
+pub record HasFed {A : Type 0} (reader : FlowReader A) (says : TextSays) (fed : List ℕ) : Type 0
+  where
+    pub wanted : (text : List ℕ)
+        → says text ≡ flow_shop reader.wanted.name.now reader.wanted.pair text
+    pub length_is : reader.length.bytes ≡ min (length fed) (MOST_BYTES + 1)
+    pub taken : length fed ≤ MOST_BYTES
+        → HasTaken reader.wanted.name.now reader.wanted.pair reader.stage fed
 
 -- whatever is wanted and was fed before, the piece was fed since
 abbrev pub Takes : {A : Type 0} → FlowReader A → List ℕ → FlowReader A → Type 0
-Takes old piece new = (says : TextSays) (fed : List ℕ) → HasFed old says fed → HasFed new says (fed ++ piece)
+Takes old piece new = (says : TextSays) (fed : List ℕ) → HasFed old says fed
+    → HasFed new says (fed ++ piece)

@@ -17,7 +17,8 @@ use Rattle.tf_read.specs.declared.fault.ReadFault.TheVariants.{TooLong, BadNumbe
 use Rattle.tf_model.specs.Outcome.{◌>>=◌}
 use Rattle.tf_read.specs.Faults.{each_from, natural}
 
--- Words count from 0 here, those behind the line of the sizes. Each second word is a time, and the word before it names the machine, from 0.
+-- Words count from 0 here, those behind the line of the sizes. Each second word is a time, and the
+-- word before it names the machine, from 0.
 abbrev pub is_time : ℕ → Bool
 is_time i = i % 2 == 1
 
@@ -32,7 +33,8 @@ machine_is wanted line (Value (negsuc i)) = Err (NotAFlowShop line)
 machine_is wanted line (Value (pos i)) = if i == wanted then Ok (pos i) else Err (NotAFlowShop line)
 
 abbrev pub number_at : ℕ → ℕ → ℕ → Number → Result ℤ ReadFault
-number_at machines i line read = if is_time i then natural line read else machine_is (machine_at machines i) line read
+number_at machines i line read =
+    if is_time i then natural line read else machine_is (machine_at machines i) line read
 
 abbrev pub judged : ℕ → ℕ → Word → Result ℤ ReadFault
 judged machines i word = number_at machines i word.line (number word.bytes)
@@ -64,10 +66,18 @@ at times j = slice_index_or times j (pos 0)
 
 -- one time where there is one machine
 abbrev pub times_of : ℕ → List ℤ → List ℤ → ℕ → Times
-times_of machines firsts seconds j = if machines == 1 then One (at firsts j) else Two (at firsts j) (at seconds j)
+times_of machines firsts seconds j =
+    if machines == 1 then One (at firsts j) else Two (at firsts j) (at seconds j)
 
 abbrev pub job : ℕ → List ℤ → List ℤ → ℕ → JobFields
-job machines firsts seconds j = record { times = times_of machines firsts seconds j; weight = None; due = None; release = None; cost = None }
+job machines firsts seconds j =
+    record {
+      times = times_of machines firsts seconds j;
+      weight = None;
+      due = None;
+      release = None;
+      cost = None;
+    }
 
 abbrev pub jobs_of : ℕ → ℕ → List ℤ → List ℤ → List JobFields
 jobs_of jobs machines firsts seconds = map (job machines firsts seconds) (range_with_len 0 jobs)
@@ -77,19 +87,23 @@ abbrev pub present : ℕ → ℕ → Option (ℕ × ℕ) → List ℤ → Result
 present jobs machines pair numbers =
     if nat_lt (length numbers) (2 * jobs * machines) then Err EndsEarly
     else Ok (record {
-      jobs = jobs_of jobs machines (times_on machines (first_machine pair) 0 numbers) (times_on machines (second_machine machines pair) 0 numbers);
+      jobs = jobs_of jobs machines (times_on machines (first_machine pair) 0 numbers)
+          (times_on machines (second_machine machines pair) 0 numbers);
       arcs = [];
       machines = Some (machine_count machines pair);
     })
 
 -- for each job and each machine the machine and the time, however the lines are broken
 unfoldable pub pairs_of : ℕ → ℕ → Option (ℕ × ℕ) → List Word → Result InstanceData ReadFault
-pairs_of jobs machines pair words = each_from (judged machines) 0 (take (2 * jobs * machines) words) >>= λ numbers. present jobs machines pair numbers
+pairs_of jobs machines pair words =
+    each_from (judged machines) 0 (take (2 * jobs * machines) words)
+    >>= λ numbers. present jobs machines pair numbers
 
 -- two machines that are there, and not the same
 abbrev pub is_pair : ℕ → Option (ℕ × ℕ) → Bool
 is_pair machines None = true
-is_pair machines (Some pair) = not (pair.0 == pair.1) && nat_lt pair.0 machines && nat_lt pair.1 machines
+is_pair machines (Some pair) =
+    not (pair.0 == pair.1) && nat_lt pair.0 machines && nat_lt pair.1 machines
 
 -- a size of digits alone; of those above the limit each is as good as another
 abbrev pub size : Number → ℕ
@@ -111,27 +125,34 @@ sized pair line jobs machines words =
 abbrev pub sizes_in : List (List ℕ) → Option (ℕ × ℕ)
 sizes_in [] = None
 sizes_in (a ∷ []) = None
-sizes_in (a ∷ b ∷ []) = if is_numeral a && is_numeral b then Some (size (number a), size (number b)) else None
+sizes_in (a ∷ b ∷ []) =
+    if is_numeral a && is_numeral b then Some (size (number a), size (number b)) else None
 sizes_in (a ∷ b ∷ c ∷ more) = None
 
 -- from the first line of sizes on, of lines of which the first has this number
-abbrev pub at_sizes : Option (ℕ × ℕ) → ℕ → Option (ℕ × ℕ) → List (List ℕ) → Result InstanceData ReadFault → Result InstanceData ReadFault
+abbrev pub at_sizes : Option (ℕ × ℕ) → ℕ → Option (ℕ × ℕ) → List (List ℕ)
+    → Result InstanceData ReadFault → Result InstanceData ReadFault
 at_sizes pair line None more later = later
-at_sizes pair line (Some sizes) more later = sized pair line sizes.0 sizes.1 (words_from (line + 1) more)
+at_sizes pair line (Some sizes) more later =
+    sized pair line sizes.0 sizes.1 (words_from (line + 1) more)
 
 unfoldable pub from_sizes : Option (ℕ × ℕ) → ℕ → List (List ℕ) → Result InstanceData ReadFault
 from_sizes pair n [] = Err EndsEarly
-from_sizes pair n (line ∷ more) = at_sizes pair n (sizes_in (words line)) more (from_sizes pair (n + 1) more)
+from_sizes pair n (line ∷ more) =
+    at_sizes pair n (sizes_in (words line)) more (from_sizes pair (n + 1) more)
 
 -- exactly `instance` and the name
 abbrev pub is_heading : List ℕ → List (List ℕ) → Bool
 is_heading name words = pointwise bytes_eq words (codes "instance" ∷ name ∷ [])
 
 -- from the first heading of the name on
-unfoldable pub from_heading : List ℕ → Option (ℕ × ℕ) → ℕ → List (List ℕ) → Result InstanceData ReadFault
+unfoldable pub from_heading : List ℕ → Option (ℕ × ℕ) → ℕ → List (List ℕ)
+    → Result InstanceData ReadFault
 from_heading name pair n [] = Err NoInstance
 from_heading name pair n (line ∷ more) =
-    if is_heading name (words line) then from_sizes pair (n + 1) more else from_heading name pair (n + 1) more
+    if is_heading name (words line) then from_sizes pair (n + 1) more else from_heading name pair
+    (n + 1) more
 
 unfoldable pub flow_shop : List ℕ → Option (ℕ × ℕ) → List ℕ → Result InstanceData ReadFault
-flow_shop name pair text = if nat_lt MOST_BYTES (length text) then Err TooLong else from_heading name pair 1 (lines text)
+flow_shop name pair text =
+    if nat_lt MOST_BYTES (length text) then Err TooLong else from_heading name pair 1 (lines text)

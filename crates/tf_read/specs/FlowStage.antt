@@ -16,27 +16,37 @@ use Rattle.tf_read.specs.PresentLine.{AreOfLine}
 use Rattle.tf_read.specs.Heading.{HeadingShown}
 use Rattle.tf_read.specs.Sizes.{SizesShown}
 
--- The text `fed` was fed, where the instance of this name and this pair is wanted. Whatever follows it, the outcome of
+-- The text `fed` was fed, where the instance of this name and this pair is wanted. Whatever follows
+-- it, the outcome of
 -- the whole is the outcome of what is left to be read.
 
 -- the heading is wanted, from the present line on, whose bytes have shown so much of it
 abbrev pub WantsHeading : List ℕ → Option (ℕ × ℕ) → ℕ → HeadingLine → List ℕ → Type 0
-WantsHeading name pair line shown fed = (bytes : List ℕ) × AreOfLine bytes × HeadingShown name bytes shown
-    × ((more : List ℕ) → from_heading name pair 1 (lines (fed ++ more)) ≡ from_heading name pair line (lines (bytes ++ more)))
+WantsHeading name pair line shown fed = (bytes : List ℕ) × AreOfLine bytes
+    × HeadingShown name bytes shown
+    × ((more : List ℕ)
+    → from_heading name pair 1 (lines (fed ++ more))
+    ≡ from_heading name pair line (lines (bytes ++ more)))
 
 -- the heading is over, and the sizes are wanted
 abbrev pub WantsSizes : List ℕ → Option (ℕ × ℕ) → ℕ → SizesLine → List ℕ → Type 0
 WantsSizes name pair line shown fed = (bytes : List ℕ) × AreOfLine bytes × SizesShown bytes shown
-    × ((more : List ℕ) → from_heading name pair 1 (lines (fed ++ more)) ≡ from_sizes pair line (lines (bytes ++ more)))
+    × ((more : List ℕ)
+    → from_heading name pair 1 (lines (fed ++ more))
+    ≡ from_sizes pair line (lines (bytes ++ more)))
 
 -- the sizes are over, and `behind` was fed since
 abbrev pub ReadsPairs : List ℕ → Option (ℕ × ℕ) → WordFeed PairsSoFar → List ℕ → Type 0
-ReadsPairs name pair words fed = (first : ℕ) × (says : Says) × (behind : List ℕ) × HasFed Reads first says words behind
-    × ((more : List ℕ) → from_heading name pair 1 (lines (fed ++ more)) ≡ says (words_from first (lines (behind ++ more))))
+ReadsPairs name pair words fed = (first : ℕ) × (says : Says) × (behind : List ℕ)
+    × HasFed Reads first says words behind
+    × ((more : List ℕ)
+    → from_heading name pair 1 (lines (fed ++ more))
+    ≡ says (words_from first (lines (behind ++ more))))
 
 -- the outcome is settled, unless memory ran out
 abbrev pub HasEnded : List ℕ → Option (ℕ × ℕ) → ReadFault → List ℕ → Type 0
-HasEnded name pair fault fed = (more : List ℕ) → Fails fault (from_heading name pair 1 (lines (fed ++ more)))
+HasEnded name pair fault fed = (more : List ℕ)
+    → Fails fault (from_heading name pair 1 (lines (fed ++ more)))
 
 abbrev pub HasTaken : {A : Type 0} → List ℕ → Option (ℕ × ℕ) → Stage A → List ℕ → Type 0
 HasTaken name pair (Heading line shown) fed = WantsHeading name pair line shown fed

@@ -18,6 +18,7 @@ words_before Name = codes "instance" ∷ []
 
 -- what the bytes with which a line begins have shown of a heading of this name
 abbrev pub HeadingShown : List ℕ → List ℕ → HeadingLine → Type 0
-HeadingShown name bytes (Spelled word matched) = (matched ≤ length (spelling word name)) × IsInLine bytes (words_before word) (take matched (spelling word name))
+HeadingShown name bytes (Spelled word matched) = (matched ≤ length (spelling word name))
+    × IsInLine bytes (words_before word) (take matched (spelling word name))
 HeadingShown name bytes Whole = IsInLine bytes (codes "instance" ∷ name ∷ []) []
 HeadingShown name bytes Other = (more : List ℕ) → is_heading name (words (bytes ++ more)) ≡ false

@@ -18,7 +18,8 @@ abbrev pub times_in : ℕ → List ℕ → Option (List ℕ × List ℕ) → Res
 times_in line value None = natural line (number value) >>= λ n. Ok (One n)
 times_in line value (Some parts) =
     if is_some (divided 44 parts.1) then Err (BadLine line)
-    else (natural line (number parts.0) >>= λ a. natural line (number parts.1) >>= λ b. Ok (Two a b))
+    else (natural line (number parts.0) >>= λ a. natural line (number parts.1)
+    >>= λ b. Ok (Two a b))
 
 unfoldable pub times_at : ℕ → List ℕ → Result Times ReadFault
 times_at line value = times_in line value (divided 44 value)
@@ -35,11 +36,21 @@ pub record SomeFields : Type 0 where
 abbrev pub field_in : ℕ → SomeFields → Option (List ℕ × List ℕ) → Result SomeFields ReadFault
 field_in line so_far None = Err (BadLine line)
 field_in line so_far (Some parts) =
-    if bytes_eq parts.0 (codes "p") && not (is_some so_far.times) then (times_at line parts.1 >>= λ x. Ok (record so_far { times = Some x }))
-    else if bytes_eq parts.0 (codes "w") && not (is_some so_far.weight) then (natural line (number parts.1) >>= λ x. Ok (record so_far { weight = Some x }))
-    else if bytes_eq parts.0 (codes "d") && not (is_some so_far.due) then (integer line (number parts.1) >>= λ x. Ok (record so_far { due = Some x }))
-    else if bytes_eq parts.0 (codes "r") && not (is_some so_far.release) then (natural line (number parts.1) >>= λ x. Ok (record so_far { release = Some x }))
-    else if bytes_eq parts.0 (codes "h") && not (is_some so_far.cost) then (cost_at line parts.1 >>= λ x. Ok (record so_far { cost = Some x }))
+    if bytes_eq parts.0 (codes "p")
+    && not (is_some so_far.times)
+    then (times_at line parts.1 >>= λ x. Ok (record so_far { times = Some x }))
+    else if bytes_eq parts.0 (codes "w")
+    && not (is_some so_far.weight)
+    then (natural line (number parts.1) >>= λ x. Ok (record so_far { weight = Some x }))
+    else if bytes_eq parts.0 (codes "d")
+    && not (is_some so_far.due)
+    then (integer line (number parts.1) >>= λ x. Ok (record so_far { due = Some x }))
+    else if bytes_eq parts.0 (codes "r")
+    && not (is_some so_far.release)
+    then (natural line (number parts.1) >>= λ x. Ok (record so_far { release = Some x }))
+    else if bytes_eq parts.0 (codes "h")
+    && not (is_some so_far.cost)
+    then (cost_at line parts.1 >>= λ x. Ok (record so_far { cost = Some x }))
     else Err (BadLine line)
 
 unfoldable pub field_at : ℕ → SomeFields → List ℕ → Result SomeFields ReadFault
@@ -50,7 +61,14 @@ no_fields = record { times = None; weight = None; due = None; release = None; co
 
 abbrev pub complete : ℕ → SomeFields → Option Times → Result JobFields ReadFault
 complete line so_far None = Err (BadLine line)
-complete line so_far (Some times) = Ok (record { times = times; weight = so_far.weight; due = so_far.due; release = so_far.release; cost = so_far.cost })
+complete line so_far (Some times) =
+    Ok (record {
+      times = times;
+      weight = so_far.weight;
+      due = so_far.due;
+      release = so_far.release;
+      cost = so_far.cost;
+    })
 
 -- the fields from left to right, and then whether `p` was there
 unfoldable pub fields_at : ℕ → SomeFields → List (List ℕ) → Result JobFields ReadFault

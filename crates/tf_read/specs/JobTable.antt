@@ -21,7 +21,8 @@ abbrev pub machine_count : ℕ → Number → Result ℕ ReadFault
 machine_count line NotANumber = Err (BadNumber line)
 machine_count line TooLarge = Err (BadLine line)
 machine_count line (Value (negsuc m)) = Err (BadLine line)
-machine_count line (Value (pos m)) = if nat_le 1 m && nat_le m MOST_MACHINES then Ok m else Err (BadLine line)
+machine_count line (Value (pos m)) =
+    if nat_le 1 m && nat_le m MOST_MACHINES then Ok m else Err (BadLine line)
 
 unfoldable pub machines_at : ℕ → List (List ℕ) → Result ℕ ReadFault
 machines_at line [] = Err (BadLine line)
@@ -35,7 +36,8 @@ is_number k (Some n) = n == k
 -- the number k without leading zeros, and the fields
 abbrev pub numbered_job : ℕ → ℕ → List (List ℕ) → Result JobFields ReadFault
 numbered_job line k [] = Err (BadLine line)
-numbered_job line k (word ∷ more) = if is_number k (plain MOST_JOBS word) then fields_at line no_fields more else Err (BadLine line)
+numbered_job line k (word ∷ more) =
+    if is_number k (plain MOST_JOBS word) then fields_at line no_fields more else Err (BadLine line)
 
 -- the line of job k
 unfoldable pub job_at : ℕ → Line → Result JobFields ReadFault
@@ -59,7 +61,9 @@ arc_job jobs line (Value (pos j)) = if is_no_job jobs j then Err (BadArc line) e
 unfoldable pub arc_of : ℕ → ℕ → List (List ℕ) → Result (ℕ × ℕ) ReadFault
 arc_of jobs line [] = Err (BadLine line)
 arc_of jobs line (a ∷ []) = Err (BadLine line)
-arc_of jobs line (a ∷ b ∷ []) = arc_job jobs line (number a) >>= λ first. arc_job jobs line (number b) >>= λ second. Ok (first, second)
+arc_of jobs line (a ∷ b ∷ []) =
+    arc_job jobs line (number a) >>= λ first. arc_job jobs line (number b)
+    >>= λ second. Ok (first, second)
 arc_of jobs line (a ∷ b ∷ c ∷ more) = Err (BadLine line)
 
 -- the line of arc k
@@ -93,7 +97,8 @@ body_of machines all = do
 unfoldable pub below_heading : List Line → Result InstanceData ReadFault
 below_heading [] = body_of None []
 below_heading (line ∷ more) =
-    if first_is (codes "machines") line.words then (machines_at line.number (drop 1 line.words) >>= λ m. body_of (Some m) more)
+    if first_is (codes "machines") line.words
+    then (machines_at line.number (drop 1 line.words) >>= λ m. body_of (Some m) more)
     else body_of None (line ∷ more)
 
 -- the heading is exactly `table 1`
@@ -102,8 +107,10 @@ is_heading words = pointwise bytes_eq words (codes "table" ∷ codes "1" ∷ [])
 
 unfoldable pub table_of : List Line → Result InstanceData ReadFault
 table_of [] = Err EndsEarly
-table_of (heading ∷ more) = if is_heading heading.words then below_heading more else Err (BadLine heading.number)
+table_of (heading ∷ more) =
+    if is_heading heading.words then below_heading more else Err (BadLine heading.number)
 
 -- a text by its kept lines
 unfoldable pub job_table : List ℕ → Result InstanceData ReadFault
-job_table text = if nat_lt MOST_BYTES (length text) then Err TooLong else table_of (kept_from 1 (lines text))
+job_table text =
+    if nat_lt MOST_BYTES (length text) then Err TooLong else table_of (kept_from 1 (lines text))

@@ -25,7 +25,8 @@ abbrev pub wanted : Progress → ℕ
 wanted p = 3 * p.jobs * p.index
 
 abbrev pub Holds : Option ReadFault → Progress → Result (List ℤ) ReadFault → Type 0
-Holds None p read = (all : List ℤ) × (read ≡ Ok all) × (p.count ≡ length all) × (p.numbers ≡ drop (skipped p) all)
+Holds None p read = (all : List ℤ) × (read ≡ Ok all) × (p.count ≡ length all)
+    × (p.numbers ≡ drop (skipped p) all)
 Holds (Some fault) p read = read ≡ Err fault
 
 -- these are the words that were read
@@ -42,7 +43,8 @@ missing p =
 
 -- these are the words that were read, where it is wanted what they say of this instance
 abbrev pub Reads : Progress → Says → List Word → Type 0
-Reads p says seen = ((words : List Word) → says words ≡ instance_of p.jobs p.index words) × HasRead p seen
+Reads p says seen = ((words : List Word) → says words ≡ instance_of p.jobs p.index words)
+    × HasRead p seen
 
 -- with one number more
 abbrev pub with_number : Progress → ℤ → Progress

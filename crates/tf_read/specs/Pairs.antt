@@ -9,7 +9,8 @@ use Rattle.tf_read.specs.Faults.{each_from}
 use Rattle.tf_read.specs.Said.{Says}
 use Rattle.tf_read.specs.FlowShop.{at, first_machine, second_machine, judged, times_on, pairs_of}
 
--- how far the reading of so many jobs on so many machines is, of which the times on this pair are kept
+-- how far the reading of so many jobs on so many machines is, of which the times on this pair are
+-- kept
 pub record Pairs : Type 0 where
   pub jobs : ℕ
   pub machines : ℕ
@@ -36,7 +37,9 @@ abbrev pub wanted : Pairs → ℕ
 wanted p = 2 * p.jobs * p.machines
 
 abbrev pub Holds : Option ReadFault → Pairs → Result (List ℤ) ReadFault → Type 0
-Holds None p read = (all : List ℤ) × (read ≡ Ok all) × (count p ≡ length all) × (p.firsts ≡ times_on p.machines (first p) 0 all) × (p.seconds ≡ times_on p.machines (second p) 0 all)
+Holds None p read = (all : List ℤ) × (read ≡ Ok all) × (count p ≡ length all)
+    × (p.firsts ≡ times_on p.machines (first p) 0 all)
+    × (p.seconds ≡ times_on p.machines (second p) 0 all)
 Holds (Some fault) p read = read ≡ Err fault
 
 -- these are the words that were read
@@ -72,7 +75,8 @@ missing p = option_or p.fault (if nat_lt p.job p.jobs then Some EndsEarly else N
 
 -- these are the words that were read, where it is wanted what they say of these jobs
 abbrev pub Reads : Pairs → Says → List Word → Type 0
-Reads p says seen = ((words : List Word) → says words ≡ pairs_of p.jobs p.machines p.pair words) × HasRead p seen
+Reads p says seen = ((words : List Word) → says words ≡ pairs_of p.jobs p.machines p.pair words)
+    × HasRead p seen
 
 -- no time is negative or beyond the limit
 abbrev pub IsTime : ℤ → Type 0

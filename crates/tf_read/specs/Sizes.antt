@@ -30,8 +30,10 @@ abbrev pub SizesShown : List ℕ → SizesLine → Type 0
 SizesShown bytes Blank = IsInLine bytes [] []
 SizesShown bytes (Jobs jobs) = (a : List ℕ) × IsInLine bytes [] a × IsSize jobs a
 SizesShown bytes (Between jobs) = (a : List ℕ) × IsInLine bytes (a ∷ []) [] × IsSize jobs a
-SizesShown bytes (Machines jobs machines) = (a : List ℕ) × (b : List ℕ) × IsInLine bytes (a ∷ []) b × IsSize jobs a × IsSize machines b
-SizesShown bytes (Both jobs machines) = (a : List ℕ) × (b : List ℕ) × IsInLine bytes (a ∷ b ∷ []) [] × IsSize jobs a × IsSize machines b
+SizesShown bytes (Machines jobs machines) = (a : List ℕ) × (b : List ℕ) × IsInLine bytes (a ∷ []) b
+    × IsSize jobs a × IsSize machines b
+SizesShown bytes (Both jobs machines) = (a : List ℕ) × (b : List ℕ) × IsInLine bytes (a ∷ b ∷ []) []
+    × IsSize jobs a × IsSize machines b
 SizesShown bytes Other = (more : List ℕ) → sizes_in (words (bytes ++ more)) ≡ None
 
 -- the sizes on a line, as they are judged

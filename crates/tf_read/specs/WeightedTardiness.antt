@@ -1,4 +1,5 @@
--- Weighted tardiness texts, after OR-Library's: the k-th instance of n jobs that a text holds, or its first fault.
+-- Weighted tardiness texts, after OR-Library's: the k-th instance of n jobs that a text holds, or
+-- its first fault.
 use Rattle.std.specs.Prelude.{ℕ, ◌+◌, ◌-◌, ◌*◌, ◌%◌, List, [], length, map, take, drop, Option, Some, None, Result, Ok, Err, ℤ, pos, nat_lt, nat_le, ◌==◌, slice_index_or, if◌then◌else◌}
 use Rattle.std.specs.List.{range_with_len}
 use Rattle.tf_words.specs.Number.{number}
@@ -13,9 +14,11 @@ use Rattle.tf_read.specs.declared.fault.ReadFault.TheVariants.{TooLong, EndsEarl
 use Rattle.tf_model.specs.Outcome.{◌>>=◌, unless}
 use Rattle.tf_read.specs.Faults.{each_from, natural, integer}
 
--- Of each 3n words the first 2n are times and weights, and the last n are due dates, which may be negative. Words count from 0 here.
+-- Of each 3n words the first 2n are times and weights, and the last n are due dates, which may be
+-- negative. Words count from 0 here.
 abbrev pub number_at : ℕ → ℕ → ℕ → Number → Result ℤ ReadFault
-number_at n i line read = if nat_lt (i % (3 * n)) (2 * n) then natural line read else integer line read
+number_at n i line read =
+    if nat_lt (i % (3 * n)) (2 * n) then natural line read else integer line read
 
 abbrev pub judged : ℕ → ℕ → Word → Result ℤ ReadFault
 judged n i word = number_at n i word.line (number word.bytes)
@@ -26,7 +29,14 @@ at numbers i = slice_index_or numbers i (pos 0)
 
 -- job j, from 0, where the n weights stand behind the n times, and the n due dates behind these
 abbrev pub job : ℕ → List ℤ → ℕ → JobFields
-job n numbers j = record { times = One (at numbers j); weight = Some (at numbers (n + j)); due = Some (at numbers (2 * n + j)); release = None; cost = None }
+job n numbers j =
+    record {
+      times = One (at numbers j);
+      weight = Some (at numbers (n + j));
+      due = Some (at numbers (2 * n + j));
+      release = None;
+      cost = None;
+    }
 
 abbrev pub jobs_of : ℕ → List ℤ → List JobFields
 jobs_of n numbers = map (job n numbers) (range_with_len 0 n)
@@ -36,11 +46,17 @@ abbrev pub present : ℕ → ℕ → List ℤ → Result InstanceData ReadFault
 present n k numbers =
     if nat_le (length numbers) (3 * n * (k - 1)) then Err NoInstance
     else if nat_lt (length numbers) (3 * n * k) then Err EndsEarly
-    else Ok (record { jobs = jobs_of n (drop (3 * n * (k - 1)) numbers); arcs = []; machines = None })
+    else Ok (record {
+      jobs = jobs_of n (drop (3 * n * (k - 1)) numbers);
+      arcs = [];
+      machines =
+          None;
+    })
 
 -- the words up to the last one of instance k are judged, as far as there are some
 unfoldable pub instance_of : ℕ → ℕ → List Word → Result InstanceData ReadFault
-instance_of n k words = each_from (judged n) 0 (take (3 * n * k) words) >>= λ numbers. present n k numbers
+instance_of n k words =
+    each_from (judged n) 0 (take (3 * n * k) words) >>= λ numbers. present n k numbers
 
 -- why no text has instance k of n jobs
 abbrev pub request_fault : ℕ → ℕ → Option ReadFault

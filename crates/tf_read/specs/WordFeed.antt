@@ -6,6 +6,8 @@ use Rattle.tf_read.specs.Said.{Says}
 use Rattle.tf_words.specs.Scan.{IsAt}
 
 -- `fed` was fed, on lines of which the first has this number, and its words were judged
-abbrev pub HasFed : {J : Type 0} → (J → Says → List Word → Type 0) → ℕ → Says → WordFeed J → List ℕ → Type 0
+abbrev pub HasFed : {J : Type 0} → (J → Says → List Word → Type 0) → ℕ → Says → WordFeed J → List ℕ
+    → Type 0
 HasFed HasRead first says feed fed =
-    (seen : List Word) × IsAt first fed seen feed.scan.line feed.scan.shown × HasRead feed.judge says seen
+    (seen : List Word) × IsAt first fed seen feed.scan.line feed.scan.shown
+    × HasRead feed.judge says seen

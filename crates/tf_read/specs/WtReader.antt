@@ -16,4 +16,5 @@ pub record HasFed {A : Type 0} (reader : WtReader A) (says : TextSays) (fed : Li
 
 -- whatever is wanted and was fed before, the piece was fed since
 abbrev pub Takes : {A : Type 0} → WtReader A → List ℕ → WtReader A → Type 0
-Takes old piece new = (says : TextSays) (fed : List ℕ) → HasFed old says fed → HasFed new says (fed ++ piece)
+Takes old piece new = (says : TextSays) (fed : List ℕ) → HasFed old says fed
+    → HasFed new says (fed ++ piece)

@@ -6,9 +6,11 @@ use Rattle.tf_read.specs.Numbers.{Progress, Reads}
 use Rattle.tf_read.specs.WeightedTardiness.{request_fault, instance_of}
 use Rattle.tf_read.specs.WordFeed.{HasFed}
 
--- The text `fed` was fed, where instance k of n jobs is wanted: its words are read, or no text has such an instance.
+-- The text `fed` was fed, where instance k of n jobs is wanted: its words are read, or no text has
+-- such an instance.
 abbrev pub HasTaken : ℕ → ℕ → Result (WordFeed Progress) ReadFault → List ℕ → Type 0
-HasTaken n k (Ok words) fed = (request_fault n k ≡ None) × HasFed Reads 1 (instance_of n k) words fed
+HasTaken n k (Ok words) fed = (request_fault n k ≡ None)
+    × HasFed Reads 1 (instance_of n k) words fed
 HasTaken n k (Err fault) fed = request_fault n k ≡ Some fault
 
 -- the present line, where its number still matters

@@ -6,7 +6,8 @@ use std::alloc::{AllocError, AllocFailed};
 use tf_model::memory::OutOfMemory as NoMemory;
 use thiserror::Error;
 
-/// Why a text holds no instance: the first fault from its front on. A fault's number is that of its line, from 1.
+/// Why a text holds no instance: the first fault from its front on. A fault's number is that of its
+/// line, from 1.
 #[derive(Clone, Copy, Debug, PartialEq, Eq, Error)]
 pub enum ReadFault {
     /// The text has more than [`MOST_BYTES`](tf_model::limit::MOST_BYTES) bytes.

@@ -29,7 +29,14 @@ impl<A: Allocator> Model for Fields<A> {
 
     ghost Value = { SomeFields };
 
-    ghost view = { λ f. record { times = f.times; weight = f.weight; due = f.due; release = f.release; cost = f.cost } };
+    ghost view = { λ f.
+        record {
+          times = f.times;
+          weight = f.weight;
+          due = f.due;
+          release = f.release;
+          cost = f.cost;
+        } };
 }
 
 #[tactic(auto, unfolding(crate::specs::JobLine::times_at))]

@@ -13,9 +13,10 @@ use tf_words::feed::Feed;
 
 /// A reader of the instance of a name, to which a text is fed piece by piece.
 ///
-/// With a pair of machines, counted from 0, the times are those on the two, as on machines 1 and 2; without one they
-/// are those on the first two machines, or on the only one. The text is not kept. Feeding it takes memory once, behind
-/// the sizes; where that is refused, and after the first fault, the rest of the text is passed over.
+/// With a pair of machines, counted from 0, the times are those on the two, as on machines 1 and 2;
+/// without one they are those on the first two machines, or on the only one. The text is not kept.
+/// Feeding it takes memory once, behind the sizes; where that is refused, and after the first
+/// fault, the rest of the text is passed over.
 #[derive(Drop)]
 pub struct FlowReader<'a, A: Allocator = Global> {
     alloc: A,
@@ -30,7 +31,8 @@ impl<'a, A: Allocator + Copy> FlowReader<'a, A> {
     ghost use Rattle.tf_read.specs.Said.{TextSays};
     ghost use Rattle.tf_read.specs.FlowReader.{HasFed};
 
-    /// The reader of the instance of this name, and of this pair of machines, if there is one. It takes no memory.
+    /// The reader of the instance of this name, and of this pair of machines, if there is one. It
+    /// takes no memory.
     pub fn new(alloc: A, name: &'a [u8], pair: Option<(u32, u32)>) -> Self
         ensures { HasFed result (flow_shop name.now pair) [] }
     {
@@ -42,10 +44,11 @@ impl<'a, A: Allocator + Copy> FlowReader<'a, A> {
         }
     }
 
-    /// The instance that the text says, or its first fault, where no more is fed. It takes no memory; a growth that was
-    /// refused as the text was fed is [`ReadFault::OutOfMemory`].
+    /// The instance that the text says, or its first fault, where no more is fed. It takes no
+    /// memory; a growth that was refused as the text was fed is [`ReadFault::OutOfMemory`].
     pub fn finish(self) -> Result<Instance<A>, ReadFault>
-        ensures { (says : TextSays) (fed : List ℕ) → HasFed self.entry says fed → Gives (λ i. i) result (says fed) }
+        ensures { (says : TextSays) (fed : List ℕ) → HasFed self.entry says fed →
+            Gives (λ i. i) result (says fed) }
     {
         if self.length.is_too_long() {
             return Err(ReadFault::TooLong);

@@ -1,5 +1,5 @@
 //! Where the reading of a flow shop stands: at the heading, at the sizes, or at the pairs.
-ghost use Rattle.std.specs.Prelude.{◌≡◌, ℕ, ◌+◌, ◌^◌, ◌<◌, ◌≤◌, List, [], ◌∷◌, ◌++◌, length, Option};
+ghost use Rattle.std.specs.Prelude.{◌≡◌, ℕ, ◌+◌, ◌^◌, ◌<◌, ◌≤◌, List, [], ◌∷◌, ◌++◌, length, take, Option};
 ghost use Rattle.tf_words.specs.Words.{lines, words_from};
 ghost use Rattle.tf_read.specs.Faults.{Gives};
 ghost use Rattle.tf_read.specs.PresentLine.{AreOfLine};
@@ -15,6 +15,7 @@ use crate::sizes::{SizesLine, judged_sizes};
 use crate::word_feed::WordFeed;
 use std::alloc::Allocator;
 use tf_model::instance::Instance;
+use tf_words::line::line_len;
 
 /// Where the reading of a text stands.
 #[derive(Drop)]
@@ -33,7 +34,8 @@ pub(crate) enum Stage<A: Allocator> {
 fn below_heading<A: Allocator>(line: u32, shown: HeadingLine, name: &[u8]) -> Stage<A>
     requires { line + 1 < 2 ^ 32 }
     ensures later { line_of result ≤ line + 1 }
-    ensures taken { (pair : Option (ℕ × ℕ)) (fed : List ℕ) → WantsHeading name.now pair line shown fed → HasTaken name.now pair result (fed ++ 10 ∷ []) }
+    ensures taken { (pair : Option (ℕ × ℕ)) (fed : List ℕ) →
+        WantsHeading name.now pair line shown fed → HasTaken name.now pair result (fed ++ 10 ∷ []) }
 {
     if shown.is_heading(name) {
         Stage::Sizes(line + 1, SizesLine::new())
@@ -52,7 +54,9 @@ fn below_found<A: Allocator + Copy>(
     requires { line + 1 < 2 ^ 32 }
     ensures later { line_of result ≤ line + 1 }
     ensures taken { (name : List ℕ) (fed : List ℕ) →
-        ((more : List ℕ) → from_heading name pair 1 (lines (fed ++ more)) ≡ sized pair line sizes.0 sizes.1 (words_from (line + 1) (lines more))) →
+        ((more : List ℕ) →
+        from_heading name pair 1 (lines (fed ++ more))
+        ≡ sized pair line sizes.0 sizes.1 (words_from (line + 1) (lines more))) →
         HasTaken name pair result fed }
 {
     match judged_sizes(pair, line, sizes) {
@@ -75,7 +79,8 @@ fn below_sizes<A: Allocator + Copy>(
 ) -> Stage<A>
     requires { line + 1 < 2 ^ 32 }
     ensures later { line_of result ≤ line + 1 }
-    ensures taken { (name : List ℕ) (fed : List ℕ) → WantsSizes name pair line shown fed → HasTaken name pair result (fed ++ 10 ∷ []) }
+    ensures taken { (name : List ℕ) (fed : List ℕ) → WantsSizes name pair line shown fed →
+        HasTaken name pair result (fed ++ 10 ∷ []) }
 {
     match shown.sizes() {
         None => Stage::Sizes(line + 1, SizesLine::new()),
@@ -85,7 +90,9 @@ fn below_sizes<A: Allocator + Copy>(
 
 /// The fault of a text that ends on a line on which the heading was wanted.
 fn without_sizes(name: &[u8], shown: HeadingLine) -> ReadFault
-    ensures { (pair : Option (ℕ × ℕ)) (line : ℕ) (bytes : List ℕ) → AreOfLine bytes → HeadingShown name.now bytes shown → from_heading name.now pair line (lines bytes) ≡ Err result }
+    ensures { (pair : Option (ℕ × ℕ)) (line : ℕ) (bytes : List ℕ) → AreOfLine bytes →
+        HeadingShown name.now bytes shown →
+        from_heading name.now pair line (lines bytes) ≡ Err result }
 {
     if shown.is_heading(name) {
         ReadFault::EndsEarly
@@ -96,7 +103,8 @@ fn without_sizes(name: &[u8], shown: HeadingLine) -> ReadFault
 
 /// The fault of a text that ends on a line on which the sizes were wanted.
 fn without_pairs(pair: Option<(u32, u32)>, line: u32, shown: SizesLine) -> ReadFault
-    ensures { (bytes : List ℕ) → AreOfLine bytes → SizesShown bytes shown → from_sizes pair line (lines bytes) ≡ Err result }
+    ensures { (bytes : List ℕ) → AreOfLine bytes → SizesShown bytes shown →
+        from_sizes pair line (lines bytes) ≡ Err result }
 {
     match shown.sizes() {
         None => ReadFault::EndsEarly,
@@ -109,7 +117,8 @@ fn without_pairs(pair: Option<(u32, u32)>, line: u32, shown: SizesLine) -> ReadF
     }
 }
 
-/// What is wanted of a flow shop: the instance of a name, on all machines or on a pair of them, counted from 0.
+/// What is wanted of a flow shop: the instance of a name, on all machines or on a pair of them,
+/// counted from 0.
 #[derive(Clone, Copy)]
 pub(crate) struct Wanted<'a> {
     pub name: &'a [u8],
@@ -147,8 +156,30 @@ impl<A: Allocator + Copy> Stage<A> {
                     *shown = shown.push(byte);
                 }
             }
-            Stage::Pairs(words) => words.push(byte),
+            Stage::Pairs(words) => words.feed(&[byte]),
             Stage::Ended(_) => {}
+        }
+    }
+
+    /// How many of the next bytes change nothing: those of a line that is not the wanted one, and
+    /// all behind a fault.
+    fn idle(&self, piece: &[u8]) -> usize
+        ensures within { result ≤ length piece.now }
+        ensures taken { (name : List ℕ) (pair : Option (ℕ × ℕ)) (fed : List ℕ) →
+            HasTaken name pair self.now fed →
+            HasTaken name pair self.now (fed ++ take result piece.now) }
+    {
+        match self {
+            Stage::Heading(_, shown) => match shown {
+                HeadingLine::Other => line_len(piece),
+                _ => 0,
+            },
+            Stage::Sizes(_, shown) => match shown {
+                SizesLine::Other => line_len(piece),
+                _ => 0,
+            },
+            Stage::Pairs(_) => 0,
+            Stage::Ended(_) => piece.len(),
         }
     }
 
@@ -159,14 +190,17 @@ impl<A: Allocator + Copy> Stage<A> {
         ensures taken { (fed : List ℕ) → HasTaken wanted.now.name.now wanted.now.pair self.old fed →
             HasTaken wanted.now.name.now wanted.now.pair self.new (fed ++ piece.now) }
     {
-        for k in 0..piece.len() {
-            match self {
-                Stage::Pairs(words) => {
-                    let (_, rest) = piece.split_at(k);
-                    words.feed(rest);
-                    return;
-                }
-                _ => self.push(alloc, wanted, piece[k]),
+        let mut k = 0;
+        while k < piece.len() {
+            let (_, rest) = piece.split_at(k);
+            if let Stage::Pairs(words) = self {
+                words.feed(rest);
+                return;
+            }
+            k += self.idle(rest);
+            if k < piece.len() {
+                self.push(alloc, wanted, piece[k]);
+                k += 1;
             }
         }
     }

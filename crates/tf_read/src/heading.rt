@@ -34,8 +34,10 @@ fn spelling(word: HeadingWord, name: &[u8]) -> &[u8]
 
 /// With a byte more, which is not white, where so many bytes of the wanted word are there.
 fn grown(word: HeadingWord, matched: usize, wanted: &[u8], byte: u8) -> HeadingLine
-    ensures { (name : List ℕ) (bytes : List ℕ) → wanted.now ≡ spelling word name → is_white byte ≡ false →
-        HeadingShown name bytes (HeadingLine.Spelled word matched) → HeadingShown name (bytes ++ byte ∷ []) result }
+    ensures { (name : List ℕ) (bytes : List ℕ) → wanted.now ≡ spelling word name →
+        is_white byte ≡ false →
+        HeadingShown name bytes (HeadingLine.Spelled word matched) →
+        HeadingShown name (bytes ++ byte ∷ []) result }
 {
     if matched >= wanted.len() {
         return HeadingLine::Other;
@@ -48,8 +50,10 @@ fn grown(word: HeadingWord, matched: usize, wanted: &[u8], byte: u8) -> HeadingL
 
 /// With a white byte more, where so many bytes are there of a word of this length.
 fn ended(word: HeadingWord, matched: usize, len: usize) -> HeadingLine
-    ensures { (name : List ℕ) (bytes : List ℕ) (byte : ℕ) → len ≡ length (spelling word name) → is_white byte ≡ true →
-        HeadingShown name bytes (HeadingLine.Spelled word matched) → HeadingShown name (bytes ++ byte ∷ []) result }
+    ensures { (name : List ℕ) (bytes : List ℕ) (byte : ℕ) → len ≡ length (spelling word name) →
+        is_white byte ≡ true →
+        HeadingShown name bytes (HeadingLine.Spelled word matched) →
+        HeadingShown name (bytes ++ byte ∷ []) result }
 {
     if matched == 0 {
         return HeadingLine::Spelled(word, 0);
@@ -65,7 +69,8 @@ fn ended(word: HeadingWord, matched: usize, len: usize) -> HeadingLine
 
 /// Whether the word is the name and all of it is there.
 fn is_whole(word: HeadingWord, matched: usize, name: &[u8]) -> bool
-    ensures { (bytes : List ℕ) → HeadingShown name.now bytes (HeadingLine.Spelled word matched) → result ≡ is_heading name.now (words bytes) }
+    ensures { (bytes : List ℕ) → HeadingShown name.now bytes (HeadingLine.Spelled word matched) →
+        result ≡ is_heading name.now (words bytes) }
 {
     match word {
         HeadingWord::Instance => false,
@@ -83,7 +88,8 @@ impl HeadingLine {
 
     /// With one byte more of the line.
     pub(crate) fn push(self, name: &[u8], byte: u8) -> HeadingLine
-        ensures { (bytes : List ℕ) → HeadingShown name.now bytes self → HeadingShown name.now (bytes ++ byte ∷ []) result }
+        ensures { (bytes : List ℕ) → HeadingShown name.now bytes self →
+            HeadingShown name.now (bytes ++ byte ∷ []) result }
     {
         match self {
             HeadingLine::Other => HeadingLine::Other,
@@ -107,7 +113,8 @@ impl HeadingLine {
 
     /// Whether the line is a heading, where it ends here.
     pub(crate) fn is_heading(self, name: &[u8]) -> bool
-        ensures { (bytes : List ℕ) → HeadingShown name.now bytes self → result ≡ is_heading name.now (words bytes) }
+        ensures { (bytes : List ℕ) → HeadingShown name.now bytes self →
+            result ≡ is_heading name.now (words bytes) }
     {
         match self {
             HeadingLine::Whole => true,

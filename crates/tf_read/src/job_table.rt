@@ -76,8 +76,10 @@ fn jobs_of<'a, A: Allocator + Copy>(
     alloc: A,
     lines: &Lines<'a>,
 ) -> Result<(Vec<Job<A>, A>, Lines<'a>), ReadFault>
-    ensures jobs { Gives (λ x. x.0.items) result (each_from job_at 1 (before_first is_arc (word_lines_of lines.now))) }
-    ensures rest { IfOk result (λ x. word_lines_of x.1 ≡ from_first is_arc (word_lines_of lines.now)) }
+    ensures jobs { Gives (λ x. x.0.items) result
+        (each_from job_at 1 (before_first is_arc (word_lines_of lines.now))) }
+    ensures rest { IfOk result
+        (λ x. word_lines_of x.1 ≡ from_first is_arc (word_lines_of lines.now)) }
 {
     let room = room_for(lines.bytes_left(), SHORTEST_LINE, MOST_JOBS);
     let mut jobs = Vec::with_capacity(alloc, room)?;
@@ -135,8 +137,8 @@ fn below_heading<A: Allocator + Copy>(alloc: A, lines: &Lines<'_>) -> Result<Ins
     }
 }
 
-/// The instance that a job table says, or its first fault: the kept lines from the first to the last, in each line
-/// the words from left to right.
+/// The instance that a job table says, or its first fault: the kept lines from the first to the
+/// last, in each line the words from left to right.
 #[tactic(auto, unfolding(crate::specs::JobTable::job_table, crate::specs::JobTable::table_of, tf_words::specs::Words::kept_from))]
 pub fn read_table<A: Allocator + Copy>(alloc: A, text: &[u8]) -> Result<Instance<A>, ReadFault>
     ensures { Gives (λ i. i) result (job_table text.now) }

@@ -5,10 +5,11 @@ ghost use Rattle.tf_model.specs.declared.limit.TheConstants.{MOST_JOBS};
 ghost use Rattle.tf_read.specs.Said.{Says};
 ghost use Rattle.tf_words.specs.Scan.{IsInRange};
 ghost use Rattle.tf_read.specs.Numbers.{skipped, wanted, missing, with_number, AreInRange, Reads};
-ghost use Rattle.tf_read.specs.WeightedTardiness.{number_at, job, jobs_of, instance_of};
+ghost use Rattle.tf_read.specs.WeightedTardiness.{number_at, job, instance_of};
 
 use crate::fault::ReadFault;
 use crate::number::{integer_of, natural_of};
+use crate::room::filled;
 use crate::word_feed::Judge;
 use std::alloc::{AllocError, Allocator};
 use std::marker::Model;
@@ -27,6 +28,8 @@ pub(crate) struct Numbers<A: Allocator> {
     wanted: u64,
     /// The words that were judged.
     count: u64,
+    /// The place of the next word among those of its instance.
+    place: u64,
     numbers: Vec<i64, A>,
     /// Room for the jobs.
     room: Vec<Job<A>, A>,
@@ -40,7 +43,14 @@ impl<A: Allocator> Model for Numbers<A> {
 
     ghost Value = { Progress };
 
-    ghost view = { λ f. record { jobs = f.jobs; index = f.index; count = f.count; numbers = f.numbers.items; fault = f.fault } };
+    ghost view = { λ f.
+        record {
+          jobs = f.jobs;
+          index = f.index;
+          count = f.count;
+          numbers = f.numbers.items;
+          fault = f.fault;
+        } };
 
     ghost invariant = { λ f. record {
       some : 0 < f.jobs;
@@ -51,24 +61,12 @@ impl<A: Allocator> Model for Numbers<A> {
       near : f.wanted < 2 ^ 62;
       room : 3 * f.jobs ≤ vec_capacity f.numbers;
       within : f.count ≤ f.wanted;
+      place : f.place ≡ f.count % (3 * f.jobs);
       tally : vec_len f.numbers ≡ f.count - f.skipped;
       jobs_room : f.jobs ≤ vec_capacity f.room;
       no_job : vec_len f.room ≡ 0;
       in_range : AreInRange f.jobs f.numbers.items;
     } };
-}
-
-/// The number of a word at a place, from 0, of instances of so many jobs.
-fn number_at(jobs: u64, place: u64, line: u32, number: Number) -> Result<i64, ReadFault>
-    requires some { 0 < jobs }
-    requires few { jobs ≤ MOST_JOBS }
-    ensures { result ≡ number_at jobs place line number }
-{
-    if place % (3 * jobs) < 2 * jobs {
-        natural_of(line, number)
-    } else {
-        integer_of(line, number)
-    }
 }
 
 impl<A: Allocator> Numbers<A> {
@@ -91,6 +89,7 @@ impl<A: Allocator> Numbers<A> {
             skipped,
             wanted: skipped + 3 * jobs,
             count: 0,
+            place: 0,
             numbers,
             room,
             fault: None,
@@ -108,27 +107,29 @@ impl<A: Allocator> Numbers<A> {
         requires wanted { self.now.count < wanted self.now }
         requires in_range { IsInRange number }
         ensures value { result ≡ number_at self.now.jobs self.now.count line number }
-        ensures in_range { IfOk result (λ z. AreInRange self.now.jobs (with_number self.now z).numbers) }
+        ensures in_range { IfOk result
+            (λ z. AreInRange self.now.jobs (with_number self.now z).numbers) }
     {
-        number_at(self.jobs, self.count, line, number)
+        if self.place < 2 * self.jobs {
+            natural_of(line, number)
+        } else {
+            integer_of(line, number)
+        }
     }
 
+    #[tactic(auto, using(crate::proofs::OneInstance::place_behind))]
     fn keep(&mut self, value: i64)
         requires wanted { self.old.count < wanted self.old }
         requires in_range { AreInRange self.old.jobs (with_number self.old value).numbers }
         ensures { self.new ≡ with_number self.old value }
     {
         let count = self.count;
+        let place = self.place + 1;
         self.count = count + 1;
+        self.place = if place == 3 * self.jobs { 0 } else { place };
         if self.skipped <= count {
             self.numbers.push(value).unwrap();
         }
-    }
-
-    fn fail(&mut self, fault: ReadFault)
-        ensures { self.new ≡ record self.old { fault = Some fault } }
-    {
-        self.fault = Some(fault);
     }
 
     /// The fault that was met, or what is missing at the end.
@@ -154,7 +155,14 @@ impl<A: Allocator> Numbers<A> {
         match self.missing() {
             Some(fault) => Err(fault),
             None => {
-                let jobs = jobs_of(self.room, self.jobs as usize, self.numbers.as_slice());
+                let Numbers {
+                    jobs,
+                    numbers,
+                    room,
+                    ..
+                } = self;
+                let (count, numbers) = (jobs as usize, numbers.as_slice());
+                let jobs = filled(room, count, |j| job(count, numbers, j));
                 Ok(Instance::of(jobs, Vec::new(alloc), None))
             }
         }
@@ -171,7 +179,7 @@ impl<A: Allocator> Judge for Numbers<A> {
             return;
         }
         match self.number(line, number) {
-            Err(fault) => self.fail(fault),
+            Err(fault) => self.fault = Some(fault),
             Ok(value) => self.keep(value),
         }
     }
@@ -189,17 +197,4 @@ fn job<A: Allocator>(jobs: usize, numbers: &[i64], j: usize) -> Job<A>
         release: None,
         cost: None,
     }
-}
-
-/// The jobs of which these are the times, then the weights, then the due dates, in room that was made for them.
-fn jobs_of<A: Allocator>(mut room: Vec<Job<A>, A>, jobs: usize, numbers: &[i64]) -> Vec<Job<A>, A>
-    requires all { length numbers.now ≡ 3 * jobs }
-    requires empty { vec_len room ≡ 0 }
-    requires room { jobs ≤ vec_capacity room }
-    ensures { result.items ≡ jobs_of jobs numbers.now }
-{
-    for j in 0..jobs {
-        room.push(job(jobs, numbers, j)).unwrap();
-    }
-    room
 }

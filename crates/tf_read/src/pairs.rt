@@ -4,11 +4,12 @@ ghost use Rattle.tf_words.specs.Words.{Word};
 ghost use Rattle.tf_read.specs.Faults.{natural};
 ghost use Rattle.tf_read.specs.Said.{Says};
 ghost use Rattle.tf_words.specs.Scan.{IsInRange};
-ghost use Rattle.tf_read.specs.FlowShop.{is_pair, machine_is, first_machine, second_machine, machine_count, times_of, job, jobs_of, pairs_of};
+ghost use Rattle.tf_read.specs.FlowShop.{is_pair, machine_is, first_machine, second_machine, machine_count, job, pairs_of};
 ghost use Rattle.tf_read.specs.Pairs.{Reads, IsTime, AreTimes, after_name, after_time, missing};
 
 use crate::fault::ReadFault;
 use crate::number::natural_of;
+use crate::room::filled;
 use crate::word_feed::Judge;
 use std::alloc::{AllocError, Allocator};
 use std::marker::Model;
@@ -17,7 +18,8 @@ use tf_model::job::{Job, Times};
 use tf_model::limit::{MOST_JOBS, MOST_MACHINES};
 use tf_words::number::Number;
 
-/// The times of the jobs on two machines so far, and the first fault among the words up to the last job's.
+/// The times of the jobs on two machines so far, and the first fault among the words up to the last
+/// job's.
 #[derive(Drop)]
 pub(crate) struct Pairs<A: Allocator> {
     jobs: usize,
@@ -47,7 +49,18 @@ impl<A: Allocator> Model for Pairs<A> {
 
     ghost Value = { PairsSoFar };
 
-    ghost view = { λ f. record { jobs = f.jobs; machines = f.machines; pair = f.pair; job = f.job; machine = f.machine; is_named = f.is_named; firsts = f.firsts.items; seconds = f.seconds.items; fault = f.fault } };
+    ghost view = { λ f.
+        record {
+          jobs = f.jobs;
+          machines = f.machines;
+          pair = f.pair;
+          job = f.job;
+          machine = f.machine;
+          is_named = f.is_named;
+          firsts = f.firsts.items;
+          seconds = f.seconds.items;
+          fault = f.fault;
+        } };
 
     ghost invariant = { λ f. record {
       some : 0 < f.jobs;
@@ -110,7 +123,8 @@ fn keep_time<A: Allocator>(times: &mut Vec<i64, A>, is_here: bool, time: i64)
     requires room { is_here ≡ true → vec_len times.old < vec_capacity times.old }
     requires times { AreTimes times.old.items }
     requires time { IsTime time }
-    ensures items { times.new.items ≡ (if is_here then times.old.items ++ time ∷ [] else times.old.items) }
+    ensures items { times.new.items
+        ≡ (if is_here then times.old.items ++ time ∷ [] else times.old.items) }
     ensures len { vec_len times.new ≡ vec_len times.old + (if is_here then 1 else 0) }
     ensures capacity { vec_capacity times.old ≤ vec_capacity times.new }
     ensures times { AreTimes times.new.items }
@@ -121,7 +135,8 @@ fn keep_time<A: Allocator>(times: &mut Vec<i64, A>, is_here: bool, time: i64)
 }
 
 impl<A: Allocator> Pairs<A> {
-    /// The times of so many jobs on this pair of so many machines, counted from 0, or on the first two. It makes all room.
+    /// The times of so many jobs on this pair of so many machines, counted from 0, or on the first
+    /// two. It makes all room.
     #[tactic(auto, using(crate::proofs::FlowInstance::no_times))]
     pub(crate) fn new(
         alloc: A,
@@ -237,9 +252,20 @@ impl<A: Allocator> Pairs<A> {
         match self.missing() {
             Some(fault) => Err(fault),
             None => {
-                let jobs = jobs_of(self.room, self.machines, &self.firsts, &self.seconds);
-                let machines = machine_count(self.machines, self.pair);
-                Ok(Instance::of(jobs, Vec::new(alloc), Some(machines)))
+                let Pairs {
+                    jobs,
+                    machines,
+                    pair,
+                    firsts,
+                    seconds,
+                    room,
+                    ..
+                } = self;
+                let firsts = firsts.as_slice();
+                let seconds = seconds.as_slice();
+                let jobs = filled(room, jobs, |j| job(machines, firsts, seconds, j));
+                let count = machine_count(machines, pair);
+                Ok(Instance::of(jobs, Vec::new(alloc), Some(count)))
             }
         }
     }
@@ -262,48 +288,22 @@ impl<A: Allocator> Judge for Pairs<A> {
     }
 }
 
-fn times_of(machines: u32, firsts: &[i64], seconds: &[i64], j: usize) -> Times
-    requires first { j < length firsts.now }
-    requires second { j < length seconds.now }
-    ensures { result ≡ times_of machines firsts.now seconds.now j }
-{
-    if machines == 1 {
-        Times::One(firsts[j])
-    } else {
-        Times::Two(firsts[j], seconds[j])
-    }
-}
-
 fn job<A: Allocator>(machines: u32, firsts: &[i64], seconds: &[i64], j: usize) -> Job<A>
     requires first { j < length firsts.now }
     requires second { j < length seconds.now }
     ensures { result ≡ job machines firsts.now seconds.now j }
 {
     Job {
-        times: times_of(machines, firsts, seconds, j),
+        times: if machines == 1 {
+            Times::One(firsts[j])
+        } else {
+            Times::Two(firsts[j], seconds[j])
+        },
         weight: None,
         due: None,
         release: None,
         cost: None,
     }
-}
-
-/// The jobs of which these are the times on two machines, in room that was made for them.
-fn jobs_of<A: Allocator>(
-    mut room: Vec<Job<A>, A>,
-    machines: u32,
-    firsts: &[i64],
-    seconds: &[i64],
-) -> Vec<Job<A>, A>
-    requires same { length seconds.now ≡ length firsts.now }
-    requires empty { vec_len room ≡ 0 }
-    requires room { length firsts.now ≤ vec_capacity room }
-    ensures { result.items ≡ jobs_of (length firsts.now) machines firsts.now seconds.now }
-{
-    for j in 0..firsts.len() {
-        room.push(job(machines, firsts, seconds, j)).unwrap();
-    }
-    room
 }
 
 /// The number of machines of the instance.

@@ -45,7 +45,8 @@ impl SizesLine {
 
     /// With a white byte more.
     fn gap(self) -> SizesLine
-        ensures { (bytes : List ℕ) (byte : ℕ) → is_white byte ≡ true → SizesShown bytes self → SizesShown (bytes ++ byte ∷ []) result }
+        ensures { (bytes : List ℕ) (byte : ℕ) → is_white byte ≡ true → SizesShown bytes self →
+            SizesShown (bytes ++ byte ∷ []) result }
     {
         match self {
             SizesLine::Jobs(jobs) => SizesLine::Between(jobs),
@@ -57,7 +58,8 @@ impl SizesLine {
     /// With a digit more.
     fn digit(self, byte: u8) -> SizesLine
         requires { is_ascii_digit byte ≡ true }
-        ensures { (bytes : List ℕ) → is_white byte ≡ false → SizesShown bytes self → SizesShown (bytes ++ byte ∷ []) result }
+        ensures { (bytes : List ℕ) → is_white byte ≡ false → SizesShown bytes self →
+            SizesShown (bytes ++ byte ∷ []) result }
     {
         match self {
             SizesLine::Blank => SizesLine::Jobs(size_with(0, byte)),
@@ -72,7 +74,8 @@ impl SizesLine {
 
     /// With one byte more of the line.
     pub(crate) fn push(self, byte: u8) -> SizesLine
-        ensures { (bytes : List ℕ) → SizesShown bytes self → SizesShown (bytes ++ byte ∷ []) result }
+        ensures { (bytes : List ℕ) → SizesShown bytes self →
+            SizesShown (bytes ++ byte ∷ []) result }
     {
         if is_white(byte) {
             self.gap()

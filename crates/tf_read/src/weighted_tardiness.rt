@@ -17,8 +17,8 @@ use tf_words::feed::Feed;
 
 /// A reader of one instance, to which a text is fed piece by piece.
 ///
-/// Of the words from the first up to the instance's last, each is judged. The text is not kept, and feeding it takes no
-/// memory. After the first fault the rest of the text is passed over.
+/// Of the words from the first up to the instance's last, each is judged. The text is not kept, and
+/// feeding it takes no memory. After the first fault the rest of the text is passed over.
 #[derive(Drop)]
 pub struct WtReader<A: Allocator = Global> {
     alloc: A,
@@ -48,8 +48,8 @@ impl<A: Allocator + Copy> WtReader<A> {
     ghost use Rattle.tf_read.specs.Said.{TextSays};
     ghost use Rattle.tf_read.specs.WtReader.{HasFed};
 
-    /// The reader of the instance of this index, from 1, where each has so many jobs. It makes all room that is needed,
-    /// and none where no text has such an instance.
+    /// The reader of the instance of this index, from 1, where each has so many jobs. It makes all
+    /// room that is needed, and none where no text has such an instance.
     pub fn new(alloc: A, jobs: u32, index: u32) -> Result<Self, OutOfMemory>
         ensures { IfOk result (λ r. HasFed r (weighted_tardiness jobs index) []) }
     {
@@ -74,7 +74,8 @@ impl<A: Allocator + Copy> WtReader<A> {
         }
     }
 
-    /// The instance that the text says, or its first fault, where no more is fed. It takes no memory.
+    /// The instance that the text says, or its first fault, where no more is fed. It takes no
+    /// memory.
     pub fn finish(self) -> Result<Instance<A>, ReadFault>
         ensures { (says : TextSays) (fed : List ℕ) → HasFed self says fed → result ≡ says fed }
     {
@@ -116,7 +117,8 @@ impl<A: Allocator + Copy> Feed for WtReader<A> {
         subst (HasFed z says) (append_assoc fed front back) (second says _ (first says fed h)) };
 }
 
-/// The instance of this index, from 1, where each has `jobs` jobs, or the first fault, as a [`WtReader`] reads it.
+/// The instance of this index, from 1, where each has `jobs` jobs, or the first fault, as a
+/// [`WtReader`] reads it.
 pub fn read_wt<A: Allocator + Copy>(
     alloc: A,
     text: &[u8],

@@ -34,7 +34,8 @@ pub(crate) struct WordFeed<J: Judge> {
 impl<J: Judge> WordFeed<J> {
     /// Before the first byte, which stands on this line.
     pub(crate) fn new(line: u32, judge: J) -> Self
-        ensures fed { (says : Says) → J.HasRead judge says [] → HasFed J.HasRead line says result [] }
+        ensures fed { (says : Says) → J.HasRead judge says [] →
+            HasFed J.HasRead line says result [] }
         ensures line { result.scan.line ≡ line }
     {
         WordFeed {
@@ -43,25 +44,13 @@ impl<J: Judge> WordFeed<J> {
         }
     }
 
-    /// With one byte more of the text.
-    pub(crate) fn push(&mut self, byte: u8)
-        requires { self.old.scan.line + 1 < 2 ^ 32 }
-        ensures later { self.new.scan.line ≤ self.old.scan.line + 1 }
-        ensures fed { (first : ℕ) (says : Says) (fed : List ℕ) →
-            HasFed J.HasRead first says self.old fed → HasFed J.HasRead first says self.new (fed ++ byte ∷ []) }
-    {
-        match self.scan.push(byte) {
-            None => {}
-            Some((line, number)) => self.judge.judge(line, number),
-        }
-    }
-
     /// With the next piece of the text.
     pub(crate) fn feed(&mut self, piece: &[u8])
         requires { self.old.scan.line + length piece.now < 2 ^ 32 }
         ensures later { self.new.scan.line ≤ self.old.scan.line + length piece.now }
         ensures fed { (first : ℕ) (says : Says) (fed : List ℕ) →
-            HasFed J.HasRead first says self.old fed → HasFed J.HasRead first says self.new (fed ++ piece.now) }
+            HasFed J.HasRead first says self.old fed →
+            HasFed J.HasRead first says self.new (fed ++ piece.now) }
     {
         let mut rest = piece;
         while !rest.is_empty() {
@@ -78,7 +67,8 @@ impl<J: Judge> WordFeed<J> {
     /// With the word at the text's end.
     pub(crate) fn ended(self) -> J
         ensures { (first : ℕ) (says : Says) (fed : List ℕ) →
-            HasFed J.HasRead first says self fed → J.HasRead result says (words_from first (lines fed)) }
+            HasFed J.HasRead first says self fed →
+            J.HasRead result says (words_from first (lines fed)) }
     {
         let WordFeed { scan, mut judge } = self;
         match scan.ended() {

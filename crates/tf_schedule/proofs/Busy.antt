@@ -17,16 +17,28 @@ use Rattle.tf_model.specs.Limit.{limit}
 
 -- ---- elements that pass a test
 
-pub counted_some : {X : Type 0} (q : X → Bool) (xs : List X) (k : ℕ) (d : X) → k < length xs → q (get_or xs k d) ≡ true → 0 < count_by q xs
-counted_some q xs k d h e = omega (arith, ap {B = ℕ} (λ (b : Bool). cond b 1 0) e, get_or-le-sum_by (λ x. cond (q x) 1 0) xs k d h)
+pub counted_some : {X : Type 0} (q : X → Bool) (xs : List X) (k : ℕ) (d : X) → k < length xs
+    → q (get_or xs k d) ≡ true → 0 < count_by q xs
+counted_some q xs k d h e =
+    omega (
+      arith,
+      ap {B = ℕ} (λ (b : Bool). cond b 1 0) e,
+      get_or-le-sum_by (λ x. cond (q x) 1 0) xs k d h,
+    )
 
-some_step : {X : Type 0} (q : X → Bool) (x : X) (xs : List X) (b : Bool) (n : ℕ) → q x ≡ b → n ≡ cond b 1 0 + count_by q xs → 0 < n → (0 < count_by q xs → Any (λ y. q y ≡ true) xs) → Any (λ y. q y ≡ true) (x ∷ xs)
+some_step : {X : Type 0} (q : X → Bool) (x : X) (xs : List X) (b : Bool) (n : ℕ) → q x ≡ b
+    → n ≡ cond b 1 0 + count_by q xs → 0 < n → (0 < count_by q xs → Any (λ y. q y ≡ true) xs)
+    → Any (λ y. q y ≡ true) (x ∷ xs)
 some_step q x xs true n e more some rest = (0, x, omega arith, refl, e)
-some_step q x xs false n e more some rest = let r = rest (omega arith) in (suc r.0, r.1, omega (arith, r.2), r.3, r.4)
+some_step q x xs false n e more some rest = let r = rest (omega arith) in
+    (suc r.0, r.1, omega (arith, r.2), r.3, r.4)
 
-pub some_counted : {X : Type 0} (q : X → Bool) (xs : List X) → 0 < count_by q xs → Any (λ x. q x ≡ true) xs
+pub some_counted : {X : Type 0} (q : X → Bool) (xs : List X) → 0 < count_by q xs
+    → Any (λ x. q x ≡ true) xs
 some_counted q [] h = absurd (omega arith)
-some_counted q (x ∷ xs) h = some_step q x xs (q x) (count_by q (x ∷ xs)) refl (sum_by-cons (λ y. cond (q y) 1 0) x xs) h (some_counted q xs)
+some_counted q (x ∷ xs) h =
+    some_step q x xs (q x) (count_by q (x ∷ xs)) refl (sum_by-cons (λ y. cond (q y) 1 0) x xs) h
+    (some_counted q xs)
 
 -- ---- the greatest and the least
 
@@ -34,21 +46,32 @@ greatest_ge_step : (b : Bool) (x g v : ℕ) → v ≤ g → v ≤ cond b (max x 
 greatest_ge_step true x g v h = omega arith
 greatest_ge_step false x g v h = h
 
-pub greatest_ge : (f : Piece → ℕ) (ps : List Piece) (j k : ℕ) (d : Piece) → k < length ps → (get_or ps k d).job ≡ j → f (get_or ps k d) ≤ greatest_by f ps j
+pub greatest_ge : (f : Piece → ℕ) (ps : List Piece) (j k : ℕ) (d : Piece) → k < length ps
+    → (get_or ps k d).job ≡ j → f (get_or ps k d) ≤ greatest_by f ps j
 greatest_ge f [] j k d h own = absurd (omega arith)
-greatest_ge f (p ∷ ps) j zero d h own = let test : eqb p.job j ≡ true = grind (arith, nat_tests) in subst (λ b. f p ≤ cond b (max (f p) (greatest_by f ps j)) (greatest_by f ps j)) (sym test) (omega arith)
-greatest_ge f (p ∷ ps) j (suc k) d h own = greatest_ge_step (eqb p.job j) (f p) (greatest_by f ps j) (f (get_or ps k d)) (greatest_ge f ps j k d (omega arith) own)
+greatest_ge f (p ∷ ps) j zero d h own = let test : eqb p.job j ≡ true = grind (arith, nat_tests) in
+    subst (λ b. f p ≤ cond b (max (f p) (greatest_by f ps j)) (greatest_by f ps j)) (sym test)
+    (omega arith)
+greatest_ge f (p ∷ ps) j (suc k) d h own =
+    greatest_ge_step (eqb p.job j) (f p) (greatest_by f ps j) (f (get_or ps k d))
+    (greatest_ge f ps j k d (omega arith) own)
 
-pub greatest_le : (f : Piece → ℕ) (ps : List Piece) (j v : ℕ) → All (λ p. f p ≤ v) ps → greatest_by f ps j ≤ v
+pub greatest_le : (f : Piece → ℕ) (ps : List Piece) (j v : ℕ) → All (λ p. f p ≤ v) ps
+    → greatest_by f ps j ≤ v
 greatest_le f [] j v h = omega arith
-greatest_le f (p ∷ ps) j v h = step (eqb p.job j) (h 0 p (omega arith)) (greatest_le f ps j v (All-tail (λ q. f q ≤ v) p ps h))
+greatest_le f (p ∷ ps) j v h =
+    step (eqb p.job j) (h 0 p (omega arith)) (greatest_le f ps j v (All-tail (λ q. f q ≤ v) p ps h))
   where
-    step : (b : Bool) → f p ≤ v → greatest_by f ps j ≤ v → cond b (max (f p) (greatest_by f ps j)) (greatest_by f ps j) ≤ v
+    step : (b : Bool) → f p ≤ v → greatest_by f ps j ≤ v
+        → cond b (max (f p) (greatest_by f ps j)) (greatest_by f ps j) ≤ v
     step true here rest = omega arith
     step false here rest = rest
 
-greatest_step : (f : Piece → ℕ) (j : ℕ) (p : Piece) (ps : List Piece) (b : Bool) → eqb p.job j ≡ b → 0 < cond b (max (f p) (greatest_by f ps j)) (greatest_by f ps j)
-    → (0 < greatest_by f ps j → Any (λ q. (q.job ≡ j) × (f q ≡ greatest_by f ps j)) ps) → Any (λ q. (q.job ≡ j) × (f q ≡ cond b (max (f p) (greatest_by f ps j)) (greatest_by f ps j))) (p ∷ ps)
+greatest_step : (f : Piece → ℕ) (j : ℕ) (p : Piece) (ps : List Piece) (b : Bool) → eqb p.job j ≡ b
+    → 0 < cond b (max (f p) (greatest_by f ps j)) (greatest_by f ps j)
+    → (0 < greatest_by f ps j → Any (λ q. (q.job ≡ j) × (f q ≡ greatest_by f ps j)) ps)
+    → Any (λ q. (q.job ≡ j)
+    × (f q ≡ cond b (max (f p) (greatest_by f ps j)) (greatest_by f ps j))) (p ∷ ps)
 greatest_step f j p ps true e some rest = elim (cases_lt (f p) (greatest_by f ps j)) [
   | inl less ↦
       let r = rest (omega arith) in
@@ -56,18 +79,25 @@ greatest_step f j p ps true e some rest = elim (cases_lt (f p) (greatest_by f ps
       (suc r.0, r.1, omega (arith, r.2), r.3, (r.4.0, same))
   | inr le ↦ (0, p, omega arith, refl, (grind (arith, nat_tests), omega arith))
 ]
-greatest_step f j p ps false e some rest = let r = rest some in (suc r.0, r.1, omega (arith, r.2), r.3, r.4)
+greatest_step f j p ps false e some rest = let r = rest some in
+    (suc r.0, r.1, omega (arith, r.2), r.3, r.4)
 
-pub greatest_reached : (f : Piece → ℕ) (ps : List Piece) (j : ℕ) → 0 < greatest_by f ps j → Any (λ q. (q.job ≡ j) × (f q ≡ greatest_by f ps j)) ps
+pub greatest_reached : (f : Piece → ℕ) (ps : List Piece) (j : ℕ) → 0 < greatest_by f ps j
+    → Any (λ q. (q.job ≡ j) × (f q ≡ greatest_by f ps j)) ps
 greatest_reached f [] j some = absurd (omega arith)
-greatest_reached f (p ∷ ps) j some = greatest_step f j p ps (eqb p.job j) refl some (greatest_reached f ps j)
+greatest_reached f (p ∷ ps) j some =
+    greatest_step f j p ps (eqb p.job j) refl some (greatest_reached f ps j)
 
-pub least_le : (f : Piece → ℕ) (ps : List Piece) (j k : ℕ) (d : Piece) → k < length ps → (get_or ps k d).job ≡ j → least_by f ps j ≤ f (get_or ps k d)
+pub least_le : (f : Piece → ℕ) (ps : List Piece) (j k : ℕ) (d : Piece) → k < length ps
+    → (get_or ps k d).job ≡ j → least_by f ps j ≤ f (get_or ps k d)
 least_le f [] j k d h own = absurd (omega arith)
-least_le f (p ∷ ps) j zero d h own = let test : eqb p.job j ≡ true = grind (arith, nat_tests) in subst (λ b. cond b (min (f p) (least_by f ps j)) (least_by f ps j) ≤ f p) (sym test) (omega arith)
+least_le f (p ∷ ps) j zero d h own = let test : eqb p.job j ≡ true = grind (arith, nat_tests) in
+    subst (λ b. cond b (min (f p) (least_by f ps j)) (least_by f ps j) ≤ f p) (sym test)
+    (omega arith)
 least_le f (p ∷ ps) j (suc k) d h own = step (eqb p.job j) (least_le f ps j k d (omega arith) own)
   where
-    step : (b : Bool) → least_by f ps j ≤ f (get_or ps k d) → cond b (min (f p) (least_by f ps j)) (least_by f ps j) ≤ f (get_or ps k d)
+    step : (b : Bool) → least_by f ps j ≤ f (get_or ps k d)
+        → cond b (min (f p) (least_by f ps j)) (least_by f ps j) ≤ f (get_or ps k d)
     step true le = omega arith
     step false le = le
 
@@ -75,12 +105,16 @@ pub least_at_most : (f : Piece → ℕ) (ps : List Piece) (j : ℕ) → least_by
 least_at_most f [] j = omega arith
 least_at_most f (p ∷ ps) j = step (eqb p.job j) (least_at_most f ps j)
   where
-    step : (b : Bool) → least_by f ps j ≤ limit → cond b (min (f p) (least_by f ps j)) (least_by f ps j) ≤ limit
+    step : (b : Bool) → least_by f ps j ≤ limit
+        → cond b (min (f p) (least_by f ps j)) (least_by f ps j) ≤ limit
     step true le = omega arith
     step false le = le
 
-least_step : (f : Piece → ℕ) (j : ℕ) (p : Piece) (ps : List Piece) (b : Bool) → eqb p.job j ≡ b → cond b (min (f p) (least_by f ps j)) (least_by f ps j) < limit
-    → (least_by f ps j < limit → Any (λ q. (q.job ≡ j) × (f q ≡ least_by f ps j)) ps) → Any (λ q. (q.job ≡ j) × (f q ≡ cond b (min (f p) (least_by f ps j)) (least_by f ps j))) (p ∷ ps)
+least_step : (f : Piece → ℕ) (j : ℕ) (p : Piece) (ps : List Piece) (b : Bool) → eqb p.job j ≡ b
+    → cond b (min (f p) (least_by f ps j)) (least_by f ps j) < limit
+    → (least_by f ps j < limit → Any (λ q. (q.job ≡ j) × (f q ≡ least_by f ps j)) ps)
+    → Any (λ q. (q.job ≡ j) × (f q ≡ cond b (min (f p) (least_by f ps j)) (least_by f ps j)))
+    (p ∷ ps)
 least_step f j p ps true e some rest = elim (cases_lt (least_by f ps j) (f p)) [
   | inl less ↦
       let r = rest (omega arith) in
@@ -88,9 +122,11 @@ least_step f j p ps true e some rest = elim (cases_lt (least_by f ps j) (f p)) [
       (suc r.0, r.1, omega (arith, r.2), r.3, (r.4.0, same))
   | inr le ↦ (0, p, omega arith, refl, (grind (arith, nat_tests), omega arith))
 ]
-least_step f j p ps false e some rest = let r = rest some in (suc r.0, r.1, omega (arith, r.2), r.3, r.4)
+least_step f j p ps false e some rest = let r = rest some in
+    (suc r.0, r.1, omega (arith, r.2), r.3, r.4)
 
-pub least_reached : (f : Piece → ℕ) (ps : List Piece) (j : ℕ) → least_by f ps j < limit → Any (λ q. (q.job ≡ j) × (f q ≡ least_by f ps j)) ps
+pub least_reached : (f : Piece → ℕ) (ps : List Piece) (j : ℕ) → least_by f ps j < limit
+    → Any (λ q. (q.job ≡ j) × (f q ≡ least_by f ps j)) ps
 least_reached f [] j some = absurd (omega arith)
 least_reached f (p ∷ ps) j some = least_step f j p ps (eqb p.job j) refl some (least_reached f ps j)
 
@@ -107,16 +143,24 @@ pub record Works (j t : ℕ) (p : Piece) : Type 0 where
   pub going : t < stop_of p
 
 pub works_from_test : (j t : ℕ) (p : Piece) → runs j t p ≡ true → Works j t p
-works_from_test j t p h = record { job = grind (arith, nat_tests); started = grind (arith, nat_tests); going = grind (arith, nat_tests) }
+works_from_test j t p h =
+    record {
+      job = grind (arith, nat_tests);
+      started = grind (arith, nat_tests);
+      going = grind (arith, nat_tests);
+    }
 
 pub test_from_works : (j t : ℕ) (p : Piece) → Works j t p → runs j t p ≡ true
 test_from_works j t p w = grind (arith, nat_tests)
 
 pub busy_piece : (ps : List Piece) (j t : ℕ) → IsBusy ps j t → Any (Works j t) ps
-busy_piece ps j t busy = let r = some_counted (runs j t) ps busy in (r.0, r.1, r.2, r.3, works_from_test j t r.1 r.4)
+busy_piece ps j t busy = let r = some_counted (runs j t) ps busy in
+    (r.0, r.1, r.2, r.3, works_from_test j t r.1 r.4)
 
 pub piece_busy : (ps : List Piece) (j t : ℕ) → Any (Works j t) ps → IsBusy ps j t
-piece_busy ps j t (k, p, h, read, works) = counted_some (runs j t) ps k p h (subst (λ q. runs j t q ≡ true) (sym read) (test_from_works j t p works))
+piece_busy ps j t (k, p, h, read, works) =
+    counted_some (runs j t) ps k p h
+    (subst (λ q. runs j t q ≡ true) (sym read) (test_from_works j t p works))
 
 module _ (ps : List Piece) (sound : All IsPiece ps) (j : ℕ) where
   low : ℕ
@@ -126,12 +170,18 @@ module _ (ps : List Piece) (sound : All IsPiece ps) (j : ℕ) where
   high = greatest_by stop_of ps j
 
   -- from the first start to the last stop
-  pub busy_within : (t : ℕ) → IsBusy ps j t → (least_by start_of ps j ≤ t) × (t < greatest_by stop_of ps j)
+  pub busy_within : (t : ℕ) → IsBusy ps j t
+      → (least_by start_of ps j ≤ t) × (t < greatest_by stop_of ps j)
   busy_within t busy =
       let piece = busy_piece ps j t busy in
-      let own : (get_or ps piece.0 piece.1).job ≡ j = ap (λ (p : Piece). p.job) piece.3 ∙ piece.4.job in
-      let first : least_by start_of ps j ≤ start_of piece.1 = subst (λ (p : Piece). least_by start_of ps j ≤ start_of p) piece.3 (least_le start_of ps j piece.0 piece.1 piece.2 own) in
-      let last : stop_of piece.1 ≤ greatest_by stop_of ps j = subst (λ (p : Piece). stop_of p ≤ greatest_by stop_of ps j) piece.3 (greatest_ge stop_of ps j piece.0 piece.1 piece.2 own) in
+      let own : (get_or ps piece.0 piece.1).job ≡ j = ap (λ (p : Piece). p.job) piece.3
+      ∙ piece.4.job in
+      let first : least_by start_of ps j ≤ start_of piece.1 =
+      subst (λ (p : Piece). least_by start_of ps j ≤ start_of p) piece.3
+      (least_le start_of ps j piece.0 piece.1 piece.2 own) in
+      let last : stop_of piece.1 ≤ greatest_by stop_of ps j =
+      subst (λ (p : Piece). stop_of p ≤ greatest_by stop_of ps j) piece.3
+      (greatest_ge stop_of ps j piece.0 piece.1 piece.2 own) in
       (omega (arith, piece.4.started), omega (arith, piece.4.going))
 
   full : (k : ℕ) (p : Piece) → k < length ps → get_or ps k p ≡ p → start_of p < stop_of p
@@ -141,20 +191,44 @@ module _ (ps : List Piece) (sound : All IsPiece ps) (j : ℕ) where
   busy_at_stop some =
       let piece = greatest_reached stop_of ps j some in
       let long = full piece.0 piece.1 piece.2 piece.3 in
-      piece_busy ps j (greatest_by stop_of ps j - 1) (piece.0, piece.1, piece.2, piece.3, record { job = piece.4.0; started = omega (arith, piece.4.1, long); going = omega (arith, piece.4.1, some) })
+      piece_busy ps j (greatest_by stop_of ps j - 1) (
+        piece.0,
+        piece.1,
+        piece.2,
+        piece.3,
+        record {
+          job = piece.4.0;
+          started = omega (arith, piece.4.1, long);
+          going = omega (arith, piece.4.1, some);
+        },
+      )
 
   pub busy_at_start : least_by start_of ps j < limit → IsBusy ps j (least_by start_of ps j)
   busy_at_start some =
       let piece = least_reached start_of ps j some in
       let long = full piece.0 piece.1 piece.2 piece.3 in
-      piece_busy ps j (least_by start_of ps j) (piece.0, piece.1, piece.2, piece.3, record { job = piece.4.0; started = omega (arith, piece.4.1); going = omega (arith, piece.4.1, long) })
+      piece_busy ps j (least_by start_of ps j) (
+        piece.0,
+        piece.1,
+        piece.2,
+        piece.3,
+        record {
+          job = piece.4.0;
+          started = omega (arith, piece.4.1);
+          going = omega (arith, piece.4.1, long);
+        },
+      )
 
   pub stop_within : greatest_by stop_of ps j ≤ limit
-  stop_within = greatest_le stop_of ps j limit (λ k d h. time_le (get_or ps k d).stop _ (sound k d h).0.1)
+  stop_within =
+      greatest_le stop_of ps j limit (λ k d h. time_le (get_or ps k d).stop _ (sound k d h).0.1)
 
   -- a job that stops has started before
-  pub start_before_stop : 0 < greatest_by stop_of ps j → least_by start_of ps j < greatest_by stop_of ps j
-  start_before_stop some = let within = busy_within (greatest_by stop_of ps j - 1) (busy_at_stop some) in omega (arith, within.0, within.1)
+  pub start_before_stop : 0 < greatest_by stop_of ps j
+      → least_by start_of ps j < greatest_by stop_of ps j
+  start_before_stop some = let within =
+      busy_within (greatest_by stop_of ps j - 1) (busy_at_stop some) in
+      omega (arith, within.0, within.1)
 
   -- ---- no gap
   is_busy : ℕ → Bool
@@ -176,31 +250,49 @@ module _ (ps : List Piece) (sound : All IsPiece ps) (j : ℕ) where
 
     work_counted : count_by is_busy (range_with_len 0 (greatest_stop ps)) ≡ work ps j
     unfolding is_busy
-    work_counted = sum_by-same (λ t. cond (is_busy t) 1 0) (places ps j) (λ t. one_place (places ps j t) (once t)) (range_with_len 0 (greatest_stop ps)) ∙ sum_places ps j (greatest_stop ps) (omega arith)
+    work_counted =
+        sum_by-same (λ t. cond (is_busy t) 1 0) (places ps j)
+        (λ t. one_place (places ps j t) (once t)) (range_with_len 0 (greatest_stop ps))
+        ∙ sum_places ps j (greatest_stop ps) (omega arith)
 
-    pub no_gap_from_extent : greatest_by stop_of ps j - least_by start_of ps j ≡ work ps j → (s t u : ℕ) → s ≤ t → t ≤ u → IsBusy ps j s → IsBusy ps j u → IsBusy ps j t
+    pub no_gap_from_extent : greatest_by stop_of ps j - least_by start_of ps j ≡ work ps j
+        → (s t u : ℕ) → s ≤ t → t ≤ u → IsBusy ps j s → IsBusy ps j u → IsBusy ps j t
     no_gap_from_extent solid s t u le le' at_s at_u =
         let first = busy_within s at_s in
         let last = busy_within u at_u in
-        busy_from_test t (no_gap_from_count is_busy (least_by start_of ps j) (greatest_by stop_of ps j) (greatest_stop ps) (omega (arith, first.0, last.1)) (last_stop_le ps j) (λ v h. busy_within v (busy_from_test v h)) (work_counted ∙ sym solid) s t u le le' (test_from_busy s at_s) (test_from_busy u at_u))
+        busy_from_test t
+        (no_gap_from_count is_busy (least_by start_of ps j) (greatest_by stop_of ps j)
+        (greatest_stop ps) (omega (arith, first.0, last.1)) (last_stop_le ps j)
+        (λ v h. busy_within v (busy_from_test v h)) (work_counted ∙ sym solid) s t u le le'
+        (test_from_busy s at_s) (test_from_busy u at_u))
 
     idle_sum : ((t : ℕ) → IsBusy ps j t → ⊥) → work ps j ≡ 0
-    idle_sum never = sym (sum_places ps j (greatest_stop ps) (omega arith)) ∙ sum_by-same (places ps j) (λ t. 0) (λ t. none t (places ps j t) refl) (range_with_len 0 (greatest_stop ps)) ∙ sum_by-none (range_with_len 0 (greatest_stop ps))
+    idle_sum never = sym (sum_places ps j (greatest_stop ps) (omega arith))
+        ∙ sum_by-same (places ps j) (λ t. 0) (λ t. none t (places ps j t) refl)
+        (range_with_len 0 (greatest_stop ps)) ∙ sum_by-none (range_with_len 0 (greatest_stop ps))
       where
         none : (t n : ℕ) → places ps j t ≡ n → n ≡ 0
         none t zero e = refl
         none t (suc n) e = absurd (never t (omega arith))
 
-    pub extent_from_no_gap : ((s t u : ℕ) → s ≤ t → t ≤ u → IsBusy ps j s → IsBusy ps j u → IsBusy ps j t) → greatest_by stop_of ps j - least_by start_of ps j ≡ work ps j
+    pub extent_from_no_gap : ((s t u : ℕ) → s ≤ t → t ≤ u → IsBusy ps j s → IsBusy ps j u
+        → IsBusy ps j t)
+        → greatest_by stop_of ps j - least_by start_of ps j ≡ work ps j
     extent_from_no_gap no_gap = elim (cases_lt 0 (greatest_by stop_of ps j)) [
       | inl some ↦
           let before = start_before_stop some in
           let first = busy_at_start (omega (arith, before, stop_within)) in
-          sym (sym work_counted ∙ count_from_no_gap is_busy (least_by start_of ps j) (greatest_by stop_of ps j) (greatest_stop ps) (omega arith) (last_stop_le ps j) (λ v h. busy_within v (busy_from_test v h)) before
-          (test_from_busy (least_by start_of ps j) first) (test_from_busy (greatest_by stop_of ps j - 1) (busy_at_stop some))
-          (λ s t u le le' at_s at_u. test_from_busy t (no_gap s t u le le' (busy_from_test s at_s) (busy_from_test u at_u))))
+          sym (sym work_counted
+          ∙ count_from_no_gap is_busy (least_by start_of ps j) (greatest_by stop_of ps j)
+          (greatest_stop ps) (omega arith) (last_stop_le ps j)
+          (λ v h. busy_within v (busy_from_test v h)) before
+          (test_from_busy (least_by start_of ps j) first)
+          (test_from_busy (greatest_by stop_of ps j - 1) (busy_at_stop some))
+          (λ s t u le le' at_s at_u. test_from_busy t
+          (no_gap s t u le le' (busy_from_test s at_s) (busy_from_test u at_u))))
       | inr none ↦
-          let idle = idle_sum (λ t busy. let within = busy_within t busy in omega (arith, within.1)) in
+          let idle = idle_sum
+          (λ t busy. let within = busy_within t busy in omega (arith, within.1)) in
           omega arith
     ]
 
@@ -208,7 +300,8 @@ module _ (ps : List Piece) (sound : All IsPiece ps) (j : ℕ) where
   pub released_from_start : (r : ℕ) → r ≤ least_by start_of ps j → (t : ℕ) → IsBusy ps j t → r ≤ t
   released_from_start r le t busy = omega (arith, (busy_within t busy).0)
 
-  pub start_from_released : (r : ℕ) → r ≤ limit → ((t : ℕ) → IsBusy ps j t → r ≤ t) → r ≤ least_by start_of ps j
+  pub start_from_released : (r : ℕ) → r ≤ limit → ((t : ℕ) → IsBusy ps j t → r ≤ t)
+      → r ≤ least_by start_of ps j
   start_from_released r within early = elim (cases_lt (least_by start_of ps j) limit) [
     | inl some ↦ early (least_by start_of ps j) (busy_at_start some)
     | inr none ↦ omega arith
@@ -216,13 +309,21 @@ module _ (ps : List Piece) (sound : All IsPiece ps) (j : ℕ) where
 
 -- ---- order
 module _ (qs rs : List Piece) (sound_q : All IsPiece qs) (sound_r : All IsPiece rs) (a b : ℕ) where
-  pub order_from_stop : greatest_by stop_of qs a ≤ least_by start_of rs b → (s t : ℕ) → IsBusy qs a s → IsBusy rs b t → s < t
-  order_from_stop le s t at_a at_b = omega (arith, (busy_within qs sound_q a s at_a).1, (busy_within rs sound_r b t at_b).0)
+  pub order_from_stop : greatest_by stop_of qs a ≤ least_by start_of rs b → (s t : ℕ)
+      → IsBusy qs a s → IsBusy rs b t → s < t
+  order_from_stop le s t at_a at_b =
+      omega (arith, (busy_within qs sound_q a s at_a).1, (busy_within rs sound_r b t at_b).0)
 
-  pub stop_from_order : ((s t : ℕ) → IsBusy qs a s → IsBusy rs b t → s < t) → greatest_by stop_of qs a ≤ least_by start_of rs b
+  pub stop_from_order : ((s t : ℕ) → IsBusy qs a s → IsBusy rs b t → s < t)
+      → greatest_by stop_of qs a ≤ least_by start_of rs b
   stop_from_order order = elim (cases_lt 0 (greatest_by stop_of qs a)) [
     | inl some ↦ elim (cases_lt (least_by start_of rs b) limit) [
-      | inl more ↦ omega (arith, order (greatest_by stop_of qs a - 1) (least_by start_of rs b) (busy_at_stop qs sound_q a some) (busy_at_start rs sound_r b more))
+      | inl more ↦
+          omega (
+            arith,
+            order (greatest_by stop_of qs a - 1) (least_by start_of rs b)
+                (busy_at_stop qs sound_q a some) (busy_at_start rs sound_r b more),
+          )
       | inr none ↦ omega (arith, stop_within qs sound_q a)
     ]
     | inr none ↦ omega arith

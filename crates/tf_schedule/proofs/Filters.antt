@@ -5,13 +5,18 @@ use Rattle.std.proofs.lemmas.List.Sums.{sum_by-cons}
 use Rattle.tf_schedule.proofs.Counting.{sum_by-same}
 
 module _ {X : Type 0} (q : X → Bool) where
-  filter_step : (f : X → ℕ) (x : X) (xs : List X) (b : Bool) → sum_by f (filter q xs) ≡ sum_by (λ y. cond (q y) (f y) 0) xs → sum_by f (cond b (x ∷ filter q xs) (filter q xs)) ≡ cond b (f x) 0 + sum_by (λ y. cond (q y) (f y) 0) xs
+  filter_step : (f : X → ℕ) (x : X) (xs : List X) (b : Bool)
+      → sum_by f (filter q xs) ≡ sum_by (λ y. cond (q y) (f y) 0) xs
+      → sum_by f (cond b (x ∷ filter q xs) (filter q xs)) ≡ cond b (f x) 0
+      + sum_by (λ y. cond (q y) (f y) 0) xs
   filter_step f x xs true rest = sum_by-cons f x (filter q xs) ∙ ap (λ n. f x + n) rest
   filter_step f x xs false rest = rest ∙ omega arith
 
-  pub sum_by-filter : (f : X → ℕ) (xs : List X) → sum_by f (filter q xs) ≡ sum_by (λ y. cond (q y) (f y) 0) xs
+  pub sum_by-filter : (f : X → ℕ) (xs : List X)
+      → sum_by f (filter q xs) ≡ sum_by (λ y. cond (q y) (f y) 0) xs
   sum_by-filter f [] = refl
-  sum_by-filter f (x ∷ xs) = filter_step f x xs (q x) (sum_by-filter f xs) ∙ sym (sum_by-cons (λ y. cond (q y) (f y) 0) x xs)
+  sum_by-filter f (x ∷ xs) = filter_step f x xs (q x) (sum_by-filter f xs)
+      ∙ sym (sum_by-cons (λ y. cond (q y) (f y) 0) x xs)
 
   at_most : (b : Bool) (n : ℕ) → cond b n 0 ≤ n
   at_most true n = omega arith
@@ -19,14 +24,25 @@ module _ {X : Type 0} (q : X → Bool) where
 
   pub sum_by-filter-le : (f : X → ℕ) (xs : List X) → sum_by f (filter q xs) ≤ sum_by f xs
   sum_by-filter-le f [] = omega arith
-  sum_by-filter-le f (x ∷ xs) = omega (arith, filter_step f x xs (q x) (sum_by-filter f xs), sum_by-filter f xs, sum_by-filter-le f xs, sum_by-cons f x xs, at_most (q x) (f x))
+  sum_by-filter-le f (x ∷ xs) =
+      omega (
+        arith,
+        filter_step f x xs (q x) (sum_by-filter f xs),
+        sum_by-filter f xs,
+        sum_by-filter-le f xs,
+        sum_by-cons f x xs,
+        at_most (q x) (f x),
+      )
 
   both : (a b : Bool) → ◌≡◌ {A = ℕ} (cond a (cond b 1 0) 0) (cond (a && b) 1 0)
   both true b = refl
   both false b = refl
 
-  pub count_by-filter : (r : X → Bool) (xs : List X) → count_by r (filter q xs) ≡ count_by (λ x. q x && r x) xs
-  count_by-filter r xs = sum_by-filter (λ x. cond (r x) 1 0) xs ∙ sum_by-same (λ x. cond (q x) (cond (r x) 1 0) 0) (λ x. cond (q x && r x) 1 0) (λ x. both (q x) (r x)) xs
+  pub count_by-filter : (r : X → Bool) (xs : List X)
+      → count_by r (filter q xs) ≡ count_by (λ x. q x && r x) xs
+  count_by-filter r xs = sum_by-filter (λ x. cond (r x) 1 0) xs
+      ∙ sum_by-same (λ x. cond (q x) (cond (r x) 1 0) 0) (λ x. cond (q x && r x) 1 0)
+      (λ x. both (q x) (r x)) xs
 
   -- where the first k pass and no others
   kept_step : (x : X) (xs : List X) → q x ≡ true → filter q (x ∷ xs) ≡ x ∷ filter q xs
@@ -35,15 +51,35 @@ module _ {X : Type 0} (q : X → Bool) where
   dropped_step : (x : X) (xs : List X) → q x ≡ false → filter q (x ∷ xs) ≡ filter q xs
   dropped_step x xs e = ap (λ (b : Bool). cond b (x ∷ filter q xs) (filter q xs)) e
 
-  pub filter-front : (xs : List X) (k : ℕ) → ((n : ℕ) (d : X) → n < k → n < length xs → q (get_or xs n d) ≡ true) → ((n : ℕ) (d : X) → k ≤ n → n < length xs → q (get_or xs n d) ≡ false) → take k xs ≡ filter q xs
+  pub filter-front : (xs : List X) (k : ℕ)
+      → ((n : ℕ) (d : X) → n < k → n < length xs → q (get_or xs n d) ≡ true)
+      → ((n : ℕ) (d : X) → k ≤ n → n < length xs → q (get_or xs n d) ≡ false)
+      → take k xs ≡ filter q xs
   filter-front [] zero passes none = refl
   filter-front [] (suc k) passes none = refl
-  filter-front (x ∷ xs) zero passes none = filter-front xs zero (λ n d lt h. absurd (omega arith)) (λ n d le h. none (suc n) d (omega arith) (omega arith)) ∙ sym (dropped_step x xs (none 0 x (omega arith) (omega arith)))
-  filter-front (x ∷ xs) (suc k) passes none = ap (λ ys. x ∷ ys) (filter-front xs k (λ n d lt h. passes (suc n) d (omega arith) (omega arith)) (λ n d le h. none (suc n) d (omega arith) (omega arith))) ∙ sym (kept_step x xs (passes 0 x (omega arith) (omega arith)))
+  filter-front (x ∷ xs) zero passes none =
+      filter-front xs zero (λ n d lt h. absurd (omega arith))
+      (λ n d le h. none (suc n) d (omega arith) (omega arith))
+      ∙ sym (dropped_step x xs (none 0 x (omega arith) (omega arith)))
+  filter-front (x ∷ xs) (suc k) passes none =
+      ap (λ ys. x ∷ ys)
+      (filter-front xs k (λ n d lt h. passes (suc n) d (omega arith) (omega arith))
+      (λ n d le h. none (suc n) d (omega arith) (omega arith)))
+      ∙ sym (kept_step x xs (passes 0 x (omega arith) (omega arith)))
 
   -- where all but the first k pass
-  pub filter-back : (xs : List X) (k : ℕ) → ((n : ℕ) (d : X) → n < k → n < length xs → q (get_or xs n d) ≡ false) → ((n : ℕ) (d : X) → k ≤ n → n < length xs → q (get_or xs n d) ≡ true) → drop k xs ≡ filter q xs
+  pub filter-back : (xs : List X) (k : ℕ)
+      → ((n : ℕ) (d : X) → n < k → n < length xs → q (get_or xs n d) ≡ false)
+      → ((n : ℕ) (d : X) → k ≤ n → n < length xs → q (get_or xs n d) ≡ true)
+      → drop k xs ≡ filter q xs
   filter-back [] zero none passes = refl
   filter-back [] (suc k) none passes = refl
-  filter-back (x ∷ xs) zero none passes = ap (λ ys. x ∷ ys) (filter-back xs zero (λ n d lt h. absurd (omega arith)) (λ n d le h. passes (suc n) d (omega arith) (omega arith))) ∙ sym (kept_step x xs (passes 0 x (omega arith) (omega arith)))
-  filter-back (x ∷ xs) (suc k) none passes = filter-back xs k (λ n d lt h. none (suc n) d (omega arith) (omega arith)) (λ n d le h. passes (suc n) d (omega arith) (omega arith)) ∙ sym (dropped_step x xs (none 0 x (omega arith) (omega arith)))
+  filter-back (x ∷ xs) zero none passes =
+      ap (λ ys. x ∷ ys)
+      (filter-back xs zero (λ n d lt h. absurd (omega arith))
+      (λ n d le h. passes (suc n) d (omega arith) (omega arith)))
+      ∙ sym (kept_step x xs (passes 0 x (omega arith) (omega arith)))
+  filter-back (x ∷ xs) (suc k) none passes =
+      filter-back xs k (λ n d lt h. none (suc n) d (omega arith) (omega arith))
+      (λ n d le h. passes (suc n) d (omega arith) (omega arith))
+      ∙ sym (dropped_step x xs (none 0 x (omega arith) (omega arith)))

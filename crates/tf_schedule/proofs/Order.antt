@@ -15,7 +15,9 @@ abbrev pub place_cmp : ℕ × ℤ → ℕ × ℤ → Ordering
 place_cmp a b = ordering_then (nat_cmp a.0 b.0) (int_cmp a.1 b.1)
 
 place_total : IsTotalOrder place_cmp
-place_total = then_total (on_total (λ (a : ℕ × ℤ). a.0) nat_cmp_total) (on_total (λ (a : ℕ × ℤ). a.1) int_cmp_total)
+place_total =
+    then_total (on_total (λ (a : ℕ × ℤ). a.0) nat_cmp_total)
+    (on_total (λ (a : ℕ × ℤ). a.1) int_cmp_total)
 
 module _ (line : Piece → ℕ) where
   abbrev pub place_by : Piece → ℕ × ℤ

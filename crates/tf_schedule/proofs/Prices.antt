@@ -12,10 +12,12 @@ use Rattle.tf_model.specs.Cost.{Objective, Total, objective_of, price, price_by,
 use Rattle.tf_model.specs.Timetable.{Timetable}
 use Rattle.tf_model.specs.Steps.{step_value}
 
-pub costed_price : (k : SchedulingTask) (j t : ℕ) → IsTrue (is_costed k.class) → step_value (costs_of k j) t ≡ price k j t
+pub costed_price : (k : SchedulingTask) (j t : ℕ) → IsTrue (is_costed k.class)
+    → step_value (costs_of k j) t ≡ price k j t
 costed_price k j t costed = ap (λ o. price_by o k j t) (sym (dearest k.class costed))
 
-pub due_price : (k : SchedulingTask) (j t : ℕ) → IsTrue (is_due k.class) → (pos t -ℤ (job_data k j).due) ≡ price k j t
+pub due_price : (k : SchedulingTask) (j t : ℕ) → IsTrue (is_due k.class)
+    → (pos t -ℤ (job_data k j).due) ≡ price k j t
 due_price k j t due = ap (λ o. price_by o k j t) (sym (late k.class due))
 
 pub ≤ℤ_trans : (a b c : ℤ) → a ≤ℤ b → b ≤ℤ c → a ≤ℤ c
@@ -23,7 +25,9 @@ pub ≤ℤ_trans : (a b c : ℤ) → a ≤ℤ b → b ≤ℤ c → a ≤ℤ c
 
 -- the greater of two is above both, and is one of them
 pub max_above : (v p w : ℤ) → w ≡ int_max v p → (v ≤ℤ w) × (p ≤ℤ w)
-max_above v p w e = subst (λ (z : ℤ). (v ≤ℤ z) × (p ≤ℤ z)) (sym e) (omega (arith, ints, int_max_is v p), omega (arith, ints, int_max_is v p))
+max_above v p w e =
+    subst (λ (z : ℤ). (v ≤ℤ z) × (p ≤ℤ z)) (sym e)
+    (omega (arith, ints, int_max_is v p), omega (arith, ints, int_max_is v p))
 
 pub max_one : (v p w : ℤ) → w ≡ int_max v p → (w ≡ v) ⊎ (w ≡ p)
 max_one v p w e = step (int_lt p v) (sym e)
@@ -33,24 +37,31 @@ max_one v p w e = step (int_lt p v) (sym e)
     step false f = inr (sym f)
 
 -- one more job completes at 0
-module _ (k : SchedulingTask) (n j : ℕ) (v w : ℤ) (inside : n < length k.jobs) (is : j ≡ n + 1) (new : w ≡ int_max v (price k j 0)) where
-  pub idle_all : ((i : ℕ) → 1 ≤ i → i ≤ n → price k i 0 ≤ℤ v) → (i : ℕ) → 1 ≤ i → i ≤ n + 1 → price k i 0 ≤ℤ w
+module _ (k : SchedulingTask) (n j : ℕ) (v w : ℤ) (inside : n < length k.jobs) (is : j ≡ n + 1)
+    (new : w ≡ int_max v (price k j 0)) where
+  pub idle_all : ((i : ℕ) → 1 ≤ i → i ≤ n → price k i 0 ≤ℤ v) → (i : ℕ) → 1 ≤ i → i ≤ n + 1
+      → price k i 0 ≤ℤ w
   idle_all all i low high = elim (cases_lt i (n + 1)) [
-    | inl less ↦ ≤ℤ_trans (price k i 0) v w (all i low (omega arith)) (max_above v (price k j 0) w new).0
-    | inr ge ↦ let same : j ≡ i = omega arith in subst (λ h. price k h 0 ≤ℤ w) same (max_above v (price k j 0) w new).1
+    | inl less ↦
+        ≤ℤ_trans (price k i 0) v w (all i low (omega arith)) (max_above v (price k j 0) w new).0
+    | inr ge ↦ let same : j ≡ i = omega arith in
+        subst (λ h. price k h 0 ≤ℤ w) same (max_above v (price k j 0) w new).1
   ]
 
-  pub idle_reached : (i : ℕ) × IsJob k i × (v ≡ price k i 0) → (i : ℕ) × IsJob k i × (w ≡ price k i 0)
+  pub idle_reached : (i : ℕ) × IsJob k i × (v ≡ price k i 0)
+      → (i : ℕ) × IsJob k i × (w ≡ price k i 0)
   idle_reached (i, job, at) = elim (max_one v (price k j 0) w new) [
     | inl old ↦ (i, job, old ∙ at)
     | inr here ↦ (j, (omega arith, omega arith), here)
   ]
 
 -- ---- which of the two a cost is
-pub sum_cost : (k : SchedulingTask) (rows : Timetable) → IsTrue (is_sum k.class) → cost k rows ≡ pos (total_price k rows)
+pub sum_cost : (k : SchedulingTask) (rows : Timetable) → IsTrue (is_sum k.class)
+    → cost k rows ≡ pos (total_price k rows)
 sum_cost k rows is = ap (λ o. cost_by o k rows) (total k.class is)
 
-pub other_cost : (k : SchedulingTask) (rows : Timetable) → IsFalse (is_sum k.class) → cost k rows ≡ greatest_price k rows
+pub other_cost : (k : SchedulingTask) (rows : Timetable) → IsFalse (is_sum k.class)
+    → cost k rows ≡ greatest_price k rows
 other_cost k rows = by (objective_of k.class)
   where
     by : (o : Objective) → IsFalse (is_total o) → cost_by o k rows ≡ greatest_price k rows

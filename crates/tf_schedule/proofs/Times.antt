@@ -18,7 +18,10 @@ time_lt (pos a) (negsuc b) p h = absurd (omega (arith, ints))
 time_lt (negsuc a) b p h = absurd (omega (arith, ints))
 
 pub time_late : (a b : ℤ) → ¬ (a <ℤ b) → as_time b ≤ as_time a
-time_late (pos a) (pos b) h = elim (cases_lt a b) [ inl less ↦ absurd (h (omega (arith, ints))) | inr le ↦ le ]
+time_late (pos a) (pos b) h = elim (cases_lt a b) [
+  | inl less ↦ absurd (h (omega (arith, ints)))
+  | inr le ↦ le
+]
 time_late (pos a) (negsuc b) h = omega arith
 time_late (negsuc a) (pos b) h = absurd (h (omega (arith, ints)))
 time_late (negsuc a) (negsuc b) h = omega arith
@@ -31,11 +34,13 @@ time_le_back (negsuc a) (pos z) p h = omega (arith, ints)
 time_le_back (negsuc a) (negsuc z) p h = absurd (omega (arith, ints))
 
 -- the greater of two times
-pub later_stop : (g : ℕ) (end stop : ℤ) → end ≡ pos g → end <ℤ stop → stop ≡ pos (max g (as_time stop))
+pub later_stop : (g : ℕ) (end stop : ℤ) → end ≡ pos g → end <ℤ stop
+    → stop ≡ pos (max g (as_time stop))
 later_stop g end (pos s) e h = ap pos (omega (arith, ints))
 later_stop g end (negsuc s) e h = absurd (omega (arith, ints))
 
-pub earlier_stop : (g : ℕ) (end stop : ℤ) → end ≡ pos g → stop ≤ℤ end → end ≡ pos (max g (as_time stop))
+pub earlier_stop : (g : ℕ) (end stop : ℤ) → end ≡ pos g → stop ≤ℤ end
+    → end ≡ pos (max g (as_time stop))
 earlier_stop g end (pos s) e h = e ∙ ap pos (omega (arith, ints))
 earlier_stop g end (negsuc s) e h = e ∙ ap pos (omega arith)
 

@@ -8,30 +8,35 @@ module _ (n : ℕ) (P Q : ℕ → Type 0) (to : (j : ℕ) → 1 ≤ j → j ≤ 
   pub each_by : EachJob n P → EachJob n Q
   each_by all j low high = to j low high (all j low high)
 
-  pub smallest_by : ((j : ℕ) → 1 ≤ j → j ≤ n → Q j → P j) → (j : ℕ) → IsSmallestNot n P j → IsSmallestNot n Q j
+  pub smallest_by : ((j : ℕ) → 1 ≤ j → j ≤ n → Q j → P j) → (j : ℕ) → IsSmallestNot n P j
+      → IsSmallestNot n Q j
   smallest_by from j first = record {
     job = first.job;
     fails = λ holds. first.fails (from j first.job.0 first.job.1 holds);
     smaller = λ h low less. to h low (omega (arith, first.job.1)) (first.smaller h low less);
   }
 
-pub element : {X : Type 0} (R : X → Type 0) (xs : List X) (i : ℕ) (x : X) → All R xs → slice_get xs i ≡ Some x → R x
+pub element : {X : Type 0} (R : X → Type 0) (xs : List X) (i : ℕ) (x : X) → All R xs
+    → slice_get xs i ≡ Some x → R x
 element R [] i x all e = absurd (cc)
 element R (y ∷ ys) zero x all e = let same : y ≡ x = cc in subst R same (all 0 y (omega arith))
 element R (y ∷ ys) (suc i) x all e = element R ys i x (All-tail R y ys all) e
 
-module _ {X : Type 0} (R P Q : X → Type 0) (xs : List X) (all : All R xs) (to : (x : X) → R x → P x → Q x) where
+module _ {X : Type 0} (R P Q : X → Type 0) (xs : List X) (all : All R xs)
+    (to : (x : X) → R x → P x → Q x) where
   pub all_by : All P xs → All Q xs
   all_by holds i d h = to (get_or xs i d) (all i d h) (holds i d h)
 
   pub first_by : ((x : X) → R x → Q x → P x) → (x : X) → IsFirstNot P xs x → IsFirstNot Q xs x
   first_by from x first = record {
     place = first.place;
-    before = λ i d h. to (get_or (take first.place xs) i d) (All-take R first.place xs all i d h) (first.before i d h);
+    before = λ i d h. to (get_or (take first.place xs) i d) (All-take R first.place xs all i d h)
+        (first.before i d h);
     here = first.here;
     fails = λ holds. first.fails (from x (element R xs first.place x all first.here) holds);
   }
 
-pub match_weaker : {X E : Type 0} (P P' : X → Type 0) (Q Q' : E → Type 0) (r : Result X E) → ((x : X) → P x → P' x) → ((e : E) → Q e → Q' e) → MatchResult r P Q → MatchResult r P' Q'
+pub match_weaker : {X E : Type 0} (P P' : X → Type 0) (Q Q' : E → Type 0) (r : Result X E)
+    → ((x : X) → P x → P' x) → ((e : E) → Q e → Q' e) → MatchResult r P Q → MatchResult r P' Q'
 match_weaker P P' Q Q' (Ok x) f g h = f x h
 match_weaker P P' Q Q' (Err e) f g h = g e h

@@ -8,7 +8,9 @@ use Rattle.tf_schedule.specs.Drawing.{drawing, last_stop, stop_of}
 
 -- whether the piece names a job and a machine of the task
 abbrev pub is_known : SchedulingTask → Piece → Bool
-is_known k p = (nat_lt 0 p.job && nat_le p.job (length k.jobs)) && (nat_lt 0 p.machine && nat_le p.machine k.machines)
+is_known k p =
+    (nat_lt 0 p.job && nat_le p.job (length k.jobs))
+    && (nat_lt 0 p.machine && nat_le p.machine k.machines)
 
 -- the pieces that do
 abbrev pub known_pieces : SchedulingTask → List Piece → List Piece
@@ -26,7 +28,8 @@ total_to k ps n = sum_by (λ j. (job_data k j).weight * last_stop ps j) (range_w
 
 -- the list has the last stops of the jobs from first + 1 on
 abbrev pub HasStops : List Piece → ℕ → List ℕ → Type 0
-HasStops ps first stops = (i : ℕ) → i < length stops → slice_index stops i ≡ last_stop ps (first + i + 1)
+HasStops ps first stops = (i : ℕ) → i < length stops
+    → slice_index stops i ≡ last_stop ps (first + i + 1)
 
 -- the last stop of job j with one more piece
 abbrev pub with_stop : SchedulingTask → Piece → ℕ → ℕ → ℕ

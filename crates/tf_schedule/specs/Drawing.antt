@@ -7,7 +7,8 @@ use Rattle.tf_schedule.specs.Schedule.{NoneTwice}
 use Rattle.tf_model.specs.Limit.{limit}
 use Rattle.tf_model.specs.Timetable.{Timetable, cell}
 
--- the job of the piece that claims the cell of machine i, counted from 1, at time t: 0 where none does
+-- the job of the piece that claims the cell of machine i, counted from 1, at time t: 0 where none
+-- does
 abbrev pub job_at : List Piece → ℕ → ℕ → ℕ
 job_at [] i t = 0
 job_at (p ∷ ps) i t = if covers i t p then p.job else job_at ps i t
@@ -19,7 +20,8 @@ greatest_stop (p ∷ ps) = max (as_time p.stop) (greatest_stop ps)
 
 -- what the pieces draw on machines 1 to m
 unfoldable pub drawing : ℕ → List Piece → Timetable
-drawing m ps = map (λ t. map (λ i. job_at ps i t) (range_with_len 1 m)) (range_with_len 0 (greatest_stop ps))
+drawing m ps =
+    map (λ t. map (λ i. job_at ps i t) (range_with_len 1 m)) (range_with_len 0 (greatest_stop ps))
 
 -- how long a piece is
 abbrev pub duration : Piece → ℕ
@@ -66,8 +68,10 @@ pub record IsGoing (i t j : ℕ) (p : Piece) : Type 0 where
   pub started : as_time p.start ≤ t
   pub going : t < as_time p.stop
 
--- the pieces draw the rows on machines 1 to m: no cell is claimed twice, each piece names a job from 1 and one of the machines, the rows end
--- with the last piece, and a cell has a job exactly where a piece of the job on the machine is going
+-- the pieces draw the rows on machines 1 to m: no cell is claimed twice, each piece names a job
+-- from 1 and one of the machines, the rows end
+-- with the last piece, and a cell has a job exactly where a piece of the job on the machine is
+-- going
 pub record Draws (m : ℕ) (ps : List Piece) (rows : Timetable) : Type 0 where
   pub none_twice : NoneTwice ps
   pub numbered : All (λ p. 0 < p.job) ps

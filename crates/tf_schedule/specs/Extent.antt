@@ -50,15 +50,18 @@ IsDone jobs extents j = (extent_at extents j).work ≡ (row_at jobs j).first
 
 -- and of a shop's two machines
 abbrev pub IsDoneInShop : List JobData → List Extent → List Extent → ℕ → Type 0
-IsDoneInShop jobs first second j = ((extent_at first j).work ≡ (row_at jobs j).first) × ((extent_at second j).work ≡ (row_at jobs j).second)
+IsDoneInShop jobs first second j = ((extent_at first j).work ≡ (row_at jobs j).first)
+    × ((extent_at second j).work ≡ (row_at jobs j).second)
 
 -- the job works all the time from its first start to its last stop
 abbrev pub IsSolid : List Extent → ℕ → Type 0
-IsSolid extents j = (extent_at extents j).stop - (extent_at extents j).start ≡ (extent_at extents j).work
+IsSolid extents j =
+    (extent_at extents j).stop - (extent_at extents j).start ≡ (extent_at extents j).work
 
 -- and on one machine
 abbrev pub IsSolidOnOne : List Extent → ℕ → Type 0
-IsSolidOnOne extents j = IsSolid extents j × ((extent_at extents j).highest ≤ (extent_at extents j).lowest)
+IsSolidOnOne extents j = IsSolid extents j
+    × ((extent_at extents j).highest ≤ (extent_at extents j).lowest)
 
 -- and on each of a shop's two machines
 abbrev pub IsSolidInShop : List Extent → List Extent → ℕ → Type 0

@@ -1,4 +1,5 @@
--- Why pieces do not fit a task: the first misfit, told in the rows of the timetable that the pieces draw.
+-- Why pieces do not fit a task: the first misfit, told in the rows of the timetable that the pieces
+-- draw.
 use Rattle.std.specs.Prelude.{◌≡◌, ℕ, pos, ◌≤ℤ◌, ◌<◌, ◌≤◌, ◌⊎◌, List, [], length, take, slice_get, slice_index_or, Option, Some, MatchOption, IsTrue, IsFalse}
 use Rattle.std.specs.List.{All}
 use Rattle.tf_model.specs.Timetable.{Timetable, cells_of}
@@ -45,7 +46,8 @@ abbrev pub AllFull : SchedulingTask → Timetable → Type 0
 AllFull k rows = AllOnce k rows × EachJob (length k.jobs) (HasAmount k rows)
 
 abbrev pub AllWhole : SchedulingTask → Timetable → Type 0
-AllWhole k rows = AllFull k rows × (IsFalse (may_break k.class) → EachJob (length k.jobs) (IsWhole k rows))
+AllWhole k rows = AllFull k rows
+    × (IsFalse (may_break k.class) → EachJob (length k.jobs) (IsWhole k rows))
 
 abbrev pub AllReleased : SchedulingTask → Timetable → Type 0
 AllReleased k rows = AllWhole k rows × EachJob (length k.jobs) (IsReleased k rows)
@@ -59,16 +61,22 @@ pub record IsFirstTwice (rows : Timetable) (j t : ℕ) : Type 0 where
 
 -- what the pieces break first, and how: each condition is judged over all jobs before the next
 abbrev pub HasFirstMisfit : SchedulingTask → List Piece → Misfit → Type 0
-HasFirstMisfit k ps (Stranger j i) = (p : Piece) × (p.job ≡ j) × (p.machine ≡ i) × IsFirstNot (IsKnown k) ps p
-HasFirstMisfit k ps (JobTwice j t) = All (IsKnown k) ps × (pos 0 ≤ℤ t) × IsFirstTwice (drawing k.machines ps) j (as_time t)
+HasFirstMisfit k ps (Stranger j i) = (p : Piece) × (p.job ≡ j) × (p.machine ≡ i)
+    × IsFirstNot (IsKnown k) ps p
+HasFirstMisfit k ps (JobTwice j t) = All (IsKnown k) ps × (pos 0 ≤ℤ t)
+    × IsFirstTwice (drawing k.machines ps) j (as_time t)
 HasFirstMisfit k ps (WrongAmount j) =
-    All (IsKnown k) ps × AllOnce k (drawing k.machines ps) × IsSmallestNot (length k.jobs) (HasAmount k (drawing k.machines ps)) j
+    All (IsKnown k) ps × AllOnce k (drawing k.machines ps)
+    × IsSmallestNot (length k.jobs) (HasAmount k (drawing k.machines ps)) j
 HasFirstMisfit k ps (Broken j) =
-    All (IsKnown k) ps × AllFull k (drawing k.machines ps) × IsFalse (may_break k.class) × IsSmallestNot (length k.jobs) (IsWhole k (drawing k.machines ps)) j
+    All (IsKnown k) ps × AllFull k (drawing k.machines ps) × IsFalse (may_break k.class)
+    × IsSmallestNot (length k.jobs) (IsWhole k (drawing k.machines ps)) j
 HasFirstMisfit k ps (TooEarly j) =
-    All (IsKnown k) ps × AllWhole k (drawing k.machines ps) × IsSmallestNot (length k.jobs) (IsReleased k (drawing k.machines ps)) j
+    All (IsKnown k) ps × AllWhole k (drawing k.machines ps)
+    × IsSmallestNot (length k.jobs) (IsReleased k (drawing k.machines ps)) j
 HasFirstMisfit k ps (OutOfOrder a b) =
     All (IsKnown k) ps × AllReleased k (drawing k.machines ps)
     × (IsFirstNot (IsKept (drawing k.machines ps)) k.arcs (a, b)
-    ⊎ ((a ≡ b) × IsTrue (is_flow k.class) × IsSmallestNot (length k.jobs) (IsInFlow (drawing k.machines ps)) a))
+    ⊎ ((a ≡ b) × IsTrue (is_flow k.class)
+    × IsSmallestNot (length k.jobs) (IsInFlow (drawing k.machines ps)) a))
 HasFirstMisfit k ps OutOfMemory = Unit {0}

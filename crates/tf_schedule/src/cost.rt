@@ -20,8 +20,8 @@ use tf_model::cost::Cost;
 use tf_model::ids::JobId;
 use tf_model::task::Task;
 
-/// What the timetable costs that the pieces draw. Pieces that name no job or no machine of the task are left out, and
-/// a job without a piece completes at time 0. It takes no memory.
+/// What the timetable costs that the pieces draw. Pieces that name no job or no machine of the task
+/// are left out, and a job without a piece completes at time 0. It takes no memory.
 pub fn cost<A: Allocator, B: Allocator>(task: &Task<A>, schedule: &Schedule<B>) -> i128
     ensures { result ≡ schedule_cost task.now schedule.now }
 {
@@ -39,7 +39,8 @@ fn greatest_cost<A: Allocator>(task: &Task<A>, pieces: &[Piece]) -> i128
     requires task { IsSound task.now }
     requires class { IsFalse (is_sum task.now.class) }
     requires schedule { IsSchedule pieces.now }
-    ensures { result ≡ greatest_price task.now (drawing task.now.machines (known_pieces task.now pieces.now)) }
+    ensures { result
+        ≡ greatest_price task.now (drawing task.now.machines (known_pieces task.now pieces.now)) }
 {
     let mut value: i128 = idle_cost(task);
     for piece in pieces {
@@ -53,8 +54,11 @@ fn raised<A: Allocator>(task: &Task<A>, value: i128, piece: &Piece) -> i128
     requires class { IsFalse (is_sum task.now.class) }
     requires sound { IsPiece piece.now }
     ensures above { value ≤ℤ result }
-    ensures own { IsKnown task.now piece.now → price task.now piece.now.job (stop_of piece.now) ≤ℤ result }
-    ensures reached { (result ≡ value) ⊎ (IsKnown task.now piece.now × (result ≡ price task.now piece.now.job (stop_of piece.now))) }
+    ensures own { IsKnown task.now piece.now →
+        price task.now piece.now.job (stop_of piece.now) ≤ℤ result }
+    ensures reached { (result ≡ value)
+        ⊎ (IsKnown task.now piece.now
+        × (result ≡ price task.now piece.now.job (stop_of piece.now))) }
 {
     if !is_known(task, piece) {
         return value;
@@ -103,7 +107,9 @@ fn total_cost<A: Allocator>(task: &Task<A>, pieces: &[Piece]) -> i128
     requires task { IsSound task.now }
     requires class { IsTrue (is_sum task.now.class) }
     requires schedule { IsSchedule pieces.now }
-    ensures { result ≡ pos (total_price task.now (drawing task.now.machines (known_pieces task.now pieces.now))) }
+    ensures { result
+        ≡ pos (total_price task.now
+        (drawing task.now.machines (known_pieces task.now pieces.now))) }
 {
     let jobs = task.len();
     let mut stops = [0u64; BLOCK];
@@ -131,7 +137,9 @@ fn last_stops<A: Allocator>(task: &Task<A>, pieces: &[Piece], first: usize, stop
 // With one more piece.
 fn note_stop<A: Allocator>(task: &Task<A>, piece: &Piece, first: usize, stops: &mut [u64])
     requires { IsPiece piece.now }
-    ensures { (i : ℕ) → i < length stops.old → slice_index stops.new i ≡ with_stop task.now piece.now (first + i + 1) (slice_index stops.old i) }
+    ensures { (i : ℕ) → i < length stops.old →
+        slice_index stops.new i
+        ≡ with_stop task.now piece.now (first + i + 1) (slice_index stops.old i) }
 {
     if !is_known(task, piece) {
         return;
@@ -162,7 +170,9 @@ fn with_block<A: Allocator>(
     requires few { length stops.now ≤ 1024 }
     requires stops { HasStops (known_pieces task.now pieces.now) first stops.now }
     requires total { total ≡ total_to task.now (known_pieces task.now pieces.now) first }
-    ensures { result ≡ total_to task.now (known_pieces task.now pieces.now) (min (length task.now.jobs) (first + length stops.now)) }
+    ensures { result
+        ≡ total_to task.now (known_pieces task.now pieces.now)
+        (min (length task.now.jobs) (first + length stops.now)) }
 {
     let jobs = task.jobs();
     let end = jobs.len().min(first + stops.len());

@@ -23,8 +23,8 @@ use tf_model::limit::MOST_JOBS;
 use tf_model::task::{JobRow, Task};
 use thiserror::Error;
 
-/// Why a schedule does not fit a task, in the order in which it is judged: each kind over all jobs before the next,
-/// always with the smallest job.
+/// Why a schedule does not fit a task, in the order in which it is judged: each kind over all jobs
+/// before the next, always with the smallest job.
 #[derive(Debug, Drop, PartialEq, Eq, Error)]
 pub enum Misfit {
     /// A piece names a job or a machine that the task does not have.
@@ -36,14 +36,15 @@ pub enum Misfit {
     /// The job does not have its time, in a shop on each machine.
     #[error("job {} does not have its processing time", .0.get())]
     WrongAmount(JobId),
-    /// The job has a gap on a machine, or outside shops is on two machines, and the class has no preemption.
+    /// The job has a gap on a machine, or outside shops is on two machines, and the class has no
+    /// preemption.
     #[error("job {} is interrupted", .0.get())]
     Broken(JobId),
     /// The job starts before its release date.
     #[error("job {} starts before its release date", .0.get())]
     TooEarly(JobId),
-    /// The first arc whose first job is not over before the second starts; in a flow shop a job, named twice, that is
-    /// not over on machine 1 before it starts on machine 2.
+    /// The first arc whose first job is not over before the second starts; in a flow shop a job,
+    /// named twice, that is not over on machine 1 before it starts on machine 2.
     #[error("job {} is not over before job {} starts", .0.get(), .1.get())]
     OutOfOrder(JobId, JobId),
     #[error("want of memory")]
@@ -58,19 +59,21 @@ impl From<AllocError> for Misfit {
     }
 }
 
-/// Whether the pieces draw a timetable that fits the task, or else the first misfit in the order of [`Misfit`].
-/// It takes memory for a copy of the pieces, and for a few numbers for each job.
+/// Whether the pieces draw a timetable that fits the task, or else the first misfit in the order of
+/// [`Misfit`]. It takes memory for a copy of the pieces, and for a few numbers for each job.
 pub fn fits<A: Allocator + Copy, B: Allocator, C: Allocator>(
     alloc: A,
     task: &Task<B>,
     schedule: &Schedule<C>,
 ) -> Result<(), Misfit>
     ensures judged { MatchResult result
-        (λ _. Draws task.now.machines schedule.now (drawing task.now.machines schedule.now) × Fits task.now (drawing task.now.machines schedule.now))
+        (λ _. Draws task.now.machines schedule.now (drawing task.now.machines schedule.now)
+        × Fits task.now (drawing task.now.machines schedule.now))
         (HasFirstMisfit task.now schedule.now) }
 
     // So it is Ok wherever the pieces draw a timetable that fits, unless memory ran out.
-    ensures fitting { (rows : Timetable) → Draws task.now.machines schedule.now rows → Fits task.now rows → IsOkUnless result OutOfMemory }
+    ensures fitting { (rows : Timetable) → Draws task.now.machines schedule.now rows →
+        Fits task.now rows → IsOkUnless result OutOfMemory }
 {
     let pieces = schedule.pieces();
     if let Some(piece) = first_stranger(task, pieces) {
@@ -96,7 +99,8 @@ fn judge_plain<A: Allocator, B: Allocator>(
     requires schedule { IsSchedule pieces.now }
     requires known { All (IsKnown task.now) pieces.now }
     requires once { JobsOnce pieces.now }
-    ensures { MatchResult result (λ _. Fits task.now (drawing task.now.machines pieces.now)) (HasFirstMisfit task.now pieces.now) }
+    ensures { MatchResult result (λ _. Fits task.now (drawing task.now.machines pieces.now))
+        (HasFirstMisfit task.now pieces.now) }
 {
     let jobs = task.jobs();
     let list = extents(alloc, jobs.len(), pieces)?;
@@ -126,7 +130,8 @@ fn judge_in_shop<A: Allocator + Copy, B: Allocator>(
     requires schedule { IsSchedule pieces.now }
     requires known { All (IsKnown task.now) pieces.now }
     requires once { JobsOnce pieces.now }
-    ensures { MatchResult result (λ _. Fits task.now (drawing task.now.machines pieces.now)) (HasFirstMisfit task.now pieces.now) }
+    ensures { MatchResult result (λ _. Fits task.now (drawing task.now.machines pieces.now))
+        (HasFirstMisfit task.now pieces.now) }
 {
     let jobs = task.jobs();
     let (on_first, on_second) = extents_by_machine(alloc, task, pieces)?;
@@ -200,7 +205,8 @@ fn copied<A: Allocator>(alloc: A, pieces: &[Piece]) -> Result<Vec<Piece, A>, All
 
 // The first piece of a job or on a machine that the task does not have.
 fn first_stranger<A: Allocator>(task: &Task<A>, pieces: &[Piece]) -> Option<Piece>
-    ensures { MatchOption result (All (IsKnown task.now) pieces.now) (IsFirstNot (IsKnown task.now) pieces.now) }
+    ensures { MatchOption result (All (IsKnown task.now) pieces.now)
+        (IsFirstNot (IsKnown task.now) pieces.now) }
 {
     for piece in pieces {
         if !is_known(task, piece) {
@@ -238,7 +244,8 @@ fn first_broken(class: Class, extents: &[Extent]) -> Option<JobId>
     requires few { length extents.now ≤ MOST_JOBS }
     ensures { MatchOption result
         (IsFalse (may_break class) → EachJob (length extents.now) (IsSolidOnOne extents.now))
-        (λ j. IsFalse (may_break class) × IsSmallestNot (length extents.now) (IsSolidOnOne extents.now) j) }
+        (λ j. IsFalse (may_break class)
+        × IsSmallestNot (length extents.now) (IsSolidOnOne extents.now) j) }
 {
     if class.may_break() {
         return None;
@@ -267,8 +274,11 @@ fn first_too_early(jobs: &[JobRow], extents: &[Extent]) -> Option<JobId>
 }
 
 fn first_out_of_order(arcs: &[(JobId, JobId)], extents: &[Extent]) -> Option<(JobId, JobId)>
-    requires known { All (λ arc. ((1 ≤ arc.0) × (arc.0 ≤ length extents.now)) × ((1 ≤ arc.1) × (arc.1 ≤ length extents.now))) arcs.now }
-    ensures { MatchOption result (All (StartsAfter extents.now) arcs.now) (IsFirstNot (StartsAfter extents.now) arcs.now) }
+    requires known { All
+        (λ arc. ((1 ≤ arc.0) × (arc.0 ≤ length extents.now))
+        × ((1 ≤ arc.1) × (arc.1 ≤ length extents.now))) arcs.now }
+    ensures { MatchOption result (All (StartsAfter extents.now) arcs.now)
+        (IsFirstNot (StartsAfter extents.now) arcs.now) }
 {
     for arc in arcs {
         let before = extents[arc.0.get() as usize - 1];
@@ -286,7 +296,8 @@ fn first_wrong_in_shop(jobs: &[JobRow], first: &[Extent], second: &[Extent]) -> 
     requires first { length first.now ≡ length jobs.now }
     requires second { length second.now ≡ length jobs.now }
     requires few { length jobs.now ≤ MOST_JOBS }
-    ensures { FindsSmallestNot (length jobs.now) (IsDoneInShop jobs.now first.now second.now) result }
+    ensures { FindsSmallestNot (length jobs.now) (IsDoneInShop jobs.now first.now second.now)
+        result }
 {
     for k in 0..jobs.len() {
         let job = jobs[k];
@@ -301,8 +312,10 @@ fn first_broken_in_shop(class: Class, first: &[Extent], second: &[Extent]) -> Op
     requires same { length second.now ≡ length first.now }
     requires few { length first.now ≤ MOST_JOBS }
     ensures { MatchOption result
-        (IsFalse (may_break class) → EachJob (length first.now) (IsSolidInShop first.now second.now))
-        (λ j. IsFalse (may_break class) × IsSmallestNot (length first.now) (IsSolidInShop first.now second.now) j) }
+        (IsFalse (may_break class) →
+        EachJob (length first.now) (IsSolidInShop first.now second.now))
+        (λ j. IsFalse (may_break class)
+        × IsSmallestNot (length first.now) (IsSolidInShop first.now second.now) j) }
 {
     if class.may_break() {
         return None;
@@ -326,7 +339,8 @@ fn first_out_of_flow(class: Class, first: &[Extent], second: &[Extent]) -> Optio
     requires few { length first.now ≤ MOST_JOBS }
     ensures { MatchOption result
         (IsTrue (is_flow class) → EachJob (length first.now) (StartsInFlow first.now second.now))
-        (λ j. IsTrue (is_flow class) × IsSmallestNot (length first.now) (StartsInFlow first.now second.now) j) }
+        (λ j. IsTrue (is_flow class)
+        × IsSmallestNot (length first.now) (StartsInFlow first.now second.now) j) }
 {
     if !class.is_flow() {
         return None;

@@ -22,7 +22,8 @@ pub enum PieceFault {
     /// The piece does not stop after it starts.
     #[error("piece {0} is empty")]
     EmptyPiece(usize),
-    /// Two pieces claim the machine at this time: the smallest such machine, and its first such time.
+    /// Two pieces claim the machine at this time: the smallest such machine, and its first such
+    /// time.
     #[error("machine {} is claimed twice at time {}", .0.get(), .1)]
     MachineTwice(MachineId, i64),
 }
@@ -46,8 +47,9 @@ impl<A: Allocator> Model for Schedule<A> {
 }
 
 impl<A: Allocator> Schedule<A> {
-    /// The schedule of these pieces, or the first fault of them in the order of [`PieceFault`]: each piece is judged
-    /// by itself in its place, and after all of them the machines. It takes no memory.
+    /// The schedule of these pieces, or the first fault of them in the order of [`PieceFault`]:
+    /// each piece is judged by itself in its place, and after all of them the machines. It takes no
+    /// memory.
     pub fn new(mut pieces: Vec<Piece, A>) -> Result<Self, PieceFault>
         ensures kept { IfOk result (λ s. IsPermutation pieces.items s) }
         ensures schedule { IfOk result IsSchedule }

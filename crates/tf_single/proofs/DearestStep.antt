@@ -25,7 +25,8 @@ use Rattle.tf_single.proofs.Rest.{rest_jobs, rest_distinct, in_filter, from_filt
 use Rattle.tf_single.proofs.Taking.{left_length}
 use Rattle.tf_single.proofs.Window.{list_fault_none}
 
--- a class that takes the last job of a set has one machine, no release dates, and no sum for its objective
+-- a class that takes the last job of a set has one machine, no release dates, and no sum for its
+-- objective
 pub record OfLastOf (c : Class) : Type 0 where
   pub single : IsTrue (is_single c)
   pub unreleased : IsFalse (is_released c)
@@ -35,7 +36,12 @@ pub last_of_facts : (c : Class) → IsTrue (takes_last_of c) → OfLastOf c
 last_of_facts c e =
     let facts = and_parts (not (is_sum c)) (is_single c && not (is_released c)) e in
     let machine = and_parts (is_single c) (not (is_released c)) facts.1 in
-    record { single = machine.0; unreleased = not-true (is_released c) machine.1; no_sum = not-true (is_sum c) facts.0 }
+    record {
+      single = machine.0;
+      unreleased = not-true (is_released c) machine.1;
+      no_sum =
+          not-true (is_sum c) facts.0;
+    }
 
 -- ---- the least of a list
 
@@ -43,23 +49,28 @@ both_ways : (a b : ℤ) → a ≤ℤ b → b ≤ℤ a → a ≡ b
 both_ways a b le ge = omega (arith, ints)
 
 -- what no member is below is the least, where a member has it
-least_is : (f : ℕ → ℤ) (xs : List ℕ) (j : ℕ) → Contains xs j → ((i : ℕ) → Contains xs i → f j ≤ℤ f i) → least f xs ≡ f j
+least_is : (f : ℕ → ℤ) (xs : List ℕ) (j : ℕ) → Contains xs j
+    → ((i : ℕ) → Contains xs i → f j ≤ℤ f i) → least f xs ≡ f j
 least_is f [] j at below = absurd (omega (arith, at.1))
 least_is f (x ∷ xs) j at below =
     let r : ℤ = least f (x ∷ xs) in
     let reached = fold-int_min_reached (f x) (map f (x ∷ xs)) r refl in
     let all = (fold-int_min_bounds (f x) (map f (x ∷ xs)) r refl).1 in
-    let low : r ≤ℤ f j = subst (λ z. r ≤ℤ z) (get_or-map f (x ∷ xs) at.0 j (f j) at.1 ∙ ap f at.2) (all at.0 (f j) (omega (arith, at.1, length-map (x ∷ xs) f))) in
+    let low : r ≤ℤ f j =
+    subst (λ z. r ≤ℤ z) (get_or-map f (x ∷ xs) at.0 j (f j) at.1 ∙ ap f at.2)
+    (all at.0 (f j) (omega (arith, at.1, length-map (x ∷ xs) f))) in
     let high : f j ≤ℤ r = ⊎_elim
     (λ first. subst (λ z. f j ≤ℤ z) (sym first) (below x (0, omega arith, refl)))
     (λ member.
     let i : ℕ = member.0 in
     let lt : i < length (x ∷ xs) = omega (arith, member.1, length-map (x ∷ xs) f) in
-    subst (λ z. f j ≤ℤ z) (sym (get_or-map f (x ∷ xs) i j r lt) ∙ member.2) (below (get_or (x ∷ xs) i j) (Contains-get_or (x ∷ xs) i j lt)))
+    subst (λ z. f j ≤ℤ z) (sym (get_or-map f (x ∷ xs) i j r lt) ∙ member.2)
+    (below (get_or (x ∷ xs) i j) (Contains-get_or (x ∷ xs) i j lt)))
     reached in
     both_ways r (f j) low high
 
-module _ (k : SchedulingTask) (jobs : List ℕ) (j : ℕ) (class : IsTrue (takes_last_of k.class)) (choice : IsLastChoice k jobs j) where
+module _ (k : SchedulingTask) (jobs : List ℕ) (j : ℕ) (class : IsTrue (takes_last_of k.class))
+    (choice : IsLastChoice k jobs j) where
   here : Contains (free_jobs k jobs) j
   here = in_filter (is_free k jobs) jobs j choice.here choice.free
 
@@ -72,37 +83,64 @@ module _ (k : SchedulingTask) (jobs : List ℕ) (j : ℕ) (class : IsTrue (takes
   some_free (x ∷ xs) at = refl
 
   -- the bound by the set is what the choice for last costs
-  pub last_of_reaches : list_fault k [] jobs ≡ None → bound_by (ByLastOf jobs) k ≡ Ok (price_behind k jobs j)
+  pub last_of_reaches : list_fault k [] jobs ≡ None
+      → bound_by (ByLastOf jobs) k ≡ Ok (price_behind k jobs j)
   last_of_reaches fresh =
       let h = price_behind k jobs in
       let value : least h (free_jobs k jobs) ≡ h j =
-      least_is h (free_jobs k jobs) j here (λ i at. choice.cheapest i (from_filter (is_free k jobs) jobs i at).0 (from_filter (is_free k jobs) jobs i at).1) in
-      ap (λ t. unless (other_kind t) (unless (list_fault k [] jobs) (unless (empty_fault jobs) (unless (no_free_fault (free_jobs k jobs) jobs) (Ok (least h (free_jobs k jobs))))))) class
-      ∙ ap (λ o. unless o (unless (empty_fault jobs) (unless (no_free_fault (free_jobs k jobs) jobs) (Ok (least h (free_jobs k jobs)))))) fresh
-      ∙ ap (λ o. unless o (unless (no_free_fault (free_jobs k jobs) jobs) (Ok (least h (free_jobs k jobs))))) (some jobs choice.here)
+      least_is h (free_jobs k jobs) j here
+      (λ i at. choice.cheapest i (from_filter (is_free k jobs) jobs i at).0
+      (from_filter (is_free k jobs) jobs i at).1) in
+      ap (λ t. unless (other_kind t)
+      (unless (list_fault k [] jobs)
+      (unless (empty_fault jobs)
+      (unless (no_free_fault (free_jobs k jobs) jobs) (Ok (least h (free_jobs k jobs)))))))
+      class
+      ∙ ap (λ o. unless o
+      (unless (empty_fault jobs)
+      (unless (no_free_fault (free_jobs k jobs) jobs) (Ok (least h (free_jobs k jobs)))))) fresh
+      ∙ ap (λ o. unless o
+      (unless (no_free_fault (free_jobs k jobs) jobs) (Ok (least h (free_jobs k jobs)))))
+      (some jobs choice.here)
       ∙ ap (λ o. unless o (Ok (least h (free_jobs k jobs)))) (some_free (free_jobs k jobs) here)
       ∙ ap Ok value
 
 -- the answer with the pieces of an order that was chosen, and the set of a step as dear as any
-pub chosen_accepted : (k : SchedulingTask) (order : List ℕ) → IsSound k → IsTrue (takes_last_of k.class) → AreChosen k order → rest_of k order ≡ []
+pub chosen_accepted : (k : SchedulingTask) (order : List ℕ) → IsSound k
+    → IsTrue (takes_last_of k.class) → AreChosen k order → rest_of k order ≡ []
     → (i : ℕ) → i < length order
-    → ((n : ℕ) → n < length order → price_behind k (drop n order) (slice_index order n) ≤ℤ price_behind k (drop i order) (slice_index order i))
-    → IsAccepted k (record { pieces = laid (backward k order); value = price_behind k (drop i order) (slice_index order i); certificate = ByLastOf (rest_of k (take i order)) })
+    → ((n : ℕ) → n < length order
+    → price_behind k (drop n order) (slice_index order n)
+    ≤ℤ price_behind k (drop i order) (slice_index order i))
+    → IsAccepted k
+    (record {
+      pieces = laid (backward k order);
+      value = price_behind k (drop i order) (slice_index order i);
+      certificate = ByLastOf (rest_of k (take i order));
+    })
 chosen_accepted k order sound class chosen all i lt dearest =
     let facts = last_of_facts k.class class in
     let jobs : List ℕ = rest_of k (take i order) in
     let j : ℕ = slice_index order i in
     let v : ℤ = price_behind k (drop i order) j in
-    let fresh : list_fault k [] jobs ≡ None = list_fault_none k [] jobs (rest_jobs k (take i order)) (rest_distinct k (take i order)) (λ c e. absurd (false≢true e)) in
-    let work : sum_by (time_of k) jobs ≡ sum_by (time_of k) (drop i order) = work_left k order chosen sound facts.single facts.unreleased all i in
-    let bounded : bound_by (ByLastOf jobs) k ≡ Ok v = last_of_reaches k jobs j class (chosen.choice i lt) fresh ∙ ap (λ c. Ok (price k j c)) work in
-    laid_accepted (RunsBefore k) k (backward k order) sound (listed k order chosen sound facts.single facts.unreleased all)
+    let fresh : list_fault k [] jobs ≡ None =
+    list_fault_none k [] jobs (rest_jobs k (take i order)) (rest_distinct k (take i order))
+    (λ c e. absurd (false≢true e)) in
+    let work : sum_by (time_of k) jobs ≡ sum_by (time_of k) (drop i order) =
+    work_left k order chosen sound facts.single facts.unreleased all i in
+    let bounded : bound_by (ByLastOf jobs) k ≡ Ok v =
+    last_of_reaches k jobs j class (chosen.choice i lt) fresh
+    ∙ ap (λ c. Ok (price k j c)) work in
+    laid_accepted (RunsBefore k) k (backward k order) sound
+    (listed k order chosen sound facts.single facts.unreleased all)
     (laid (backward k order)) (IsPermutation-refl (laid (backward k order)))
     (chosen_fits k order chosen sound facts.single facts.unreleased all) v (ByLastOf jobs) bounded
     (chosen_cost k order chosen sound facts.single facts.unreleased all v facts.no_sum dearest)
 
 -- ---- what is asked of an order of all jobs
-module _ (k : SchedulingTask) (order : List ℕ) (sound : IsSound k) (class : IsTrue (takes_last_of k.class)) (chosen : AreChosen k order) (all : rest_of k order ≡ []) where
+module _ (k : SchedulingTask) (order : List ℕ) (sound : IsSound k)
+    (class : IsTrue (takes_last_of k.class)) (chosen : AreChosen k order)
+    (all : rest_of k order ≡ []) where
   facts : OfLastOf k.class
   facts = last_of_facts k.class class
 
@@ -118,7 +156,8 @@ module _ (k : SchedulingTask) (order : List ℕ) (sound : IsSound k) (class : Is
   pub whole_operations : (n : ℕ) → n ≡ length k.jobs → All (IsOperation n 1) (backward k order)
   whole_operations n is =
       let known = (listed k order chosen sound facts.single facts.unreleased all).known in
-      subst (λ m. All (IsOperation n m) (backward k order)) (sound.single facts.single) (subst (λ m. All (IsOperation m k.machines) (backward k order)) (sym is) known)
+      subst (λ m. All (IsOperation n m) (backward k order)) (sound.single facts.single)
+      (subst (λ m. All (IsOperation m k.machines) (backward k order)) (sym is) known)
 
   pub whole_total : sum_by (λ o. o.time) (backward k order) ≤ limit
   whole_total = (listed k order chosen sound facts.single facts.unreleased all).total

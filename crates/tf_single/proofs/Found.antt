@@ -8,23 +8,32 @@ use Rattle.tf_model.specs.Sound.{IsSound}
 use Rattle.tf_single.specs.Progress.{of_job}
 use Rattle.tf_single.specs.Successors.{HasSuccessor, AreSuccessors}
 
--- by the first i arcs: what is found is a successor of which some arcs are left, and where nothing is found there is none
-pub record IsFoundBy (k : SchedulingTask) (counts : List ℕ) (arcs : List (ℕ × ℕ)) (i : ℕ) (next : List (Option ℕ)) : Type 0 where
+-- by the first i arcs: what is found is a successor of which some arcs are left, and where nothing
+-- is found there is none
+pub record IsFoundBy (k : SchedulingTask) (counts : List ℕ) (arcs : List (ℕ × ℕ)) (i : ℕ)
+    (next : List (Option ℕ)) : Type 0 where
   pub len : length next ≡ length k.jobs
-  pub found : (j x : ℕ) → IsJob k j → get_or next (j - 1) None ≡ Some x → Contains arcs (j, x) × (0 < of_job counts x)
-  pub none : (j : ℕ) → IsJob k j → get_or next (j - 1) None ≡ None → (n : ℕ) (d : ℕ × ℕ) → n < i → n < length arcs → (get_or arcs n d).0 ≡ j → 0 < of_job counts (get_or arcs n d).1 → ⊥
+  pub found : (j x : ℕ) → IsJob k j → get_or next (j - 1) None ≡ Some x
+      → Contains arcs (j, x) × (0 < of_job counts x)
+  pub none : (j : ℕ) → IsJob k j → get_or next (j - 1) None ≡ None → (n : ℕ) (d : ℕ × ℕ) → n < i
+      → n < length arcs → (get_or arcs n d).0 ≡ j → 0 < of_job counts (get_or arcs n d).1 → ⊥
 
-pub found_none : (k : SchedulingTask) (counts : List ℕ) (arcs : List (ℕ × ℕ)) (m : ℕ) → m ≡ length k.jobs → IsFoundBy k counts arcs 0 (replicate m None)
+pub found_none : (k : SchedulingTask) (counts : List ℕ) (arcs : List (ℕ × ℕ)) (m : ℕ)
+    → m ≡ length k.jobs → IsFoundBy k counts arcs 0 (replicate m None)
 found_none k counts arcs m len = record {
   len = length-replicate m None ∙ len;
-  found = λ j x job e. absurd (no_some x (sym (get_or-replicate m (j - 1) None None (omega (arith, job.0, job.1, len))) ∙ e));
+  found = λ j x job e. absurd
+      (no_some x
+      (sym (get_or-replicate m (j - 1) None None (omega (arith, job.0, job.1, len))) ∙ e));
   none = λ j job e n d lt. absurd (omega arith);
 }
   where
     no_some : (x : ℕ) → ◌≡◌ {A = Option ℕ} None (Some x) → ⊥
     no_some x e = cc
 
-module _ (k : SchedulingTask) (counts : List ℕ) (arcs : List (ℕ × ℕ)) (i : ℕ) (next : List (Option ℕ)) (lt : i < length arcs) (arc : ℕ × ℕ) (at : get_or arcs i arc ≡ arc) (so_far : IsFoundBy k counts arcs i next) where
+module _ (k : SchedulingTask) (counts : List ℕ) (arcs : List (ℕ × ℕ)) (i : ℕ)
+    (next : List (Option ℕ)) (lt : i < length arcs) (arc : ℕ × ℕ) (at : get_or arcs i arc ≡ arc)
+    (so_far : IsFoundBy k counts arcs i next) where
   at_any : (d : ℕ × ℕ) → get_or arcs i d ≡ arc
   at_any d = get_or_default arcs i d arc lt ∙ at
 
@@ -35,32 +44,49 @@ module _ (k : SchedulingTask) (counts : List ℕ) (arcs : List (ℕ × ℕ)) (i 
     found = so_far.found;
     none = λ j job e n d less in' from left. ⊎_elim
         (λ before. so_far.none j job e n d before in' from left)
-        (λ last. let same : n ≡ i = omega (arith, less, last) in omega (arith, left, ap (λ m. of_job counts (get_or arcs m d).1) same, ap (λ (a : ℕ × ℕ). of_job counts a.1) (at_any d), over))
+        (λ last. let same : n ≡ i = omega (arith, less, last) in
+        omega (
+          arith,
+          left,
+          ap (λ m. of_job counts (get_or arcs m d).1) same,
+          ap (λ (a : ℕ × ℕ). of_job counts a.1) (at_any d),
+          over,
+        ))
         (cases_lt n i);
   }
 
   -- an arc to a job of which some are left
-  pub found_more : 0 < of_job counts arc.1 → IsJob k arc.0 → (x : ℕ) → (x ≡ arc.1) ⊎ (get_or next (arc.0 - 1) None ≡ Some x) → IsFoundBy k counts arcs (i + 1) (set next (arc.0 - 1) (Some x))
+  pub found_more : 0 < of_job counts arc.1 → IsJob k arc.0 → (x : ℕ)
+      → (x ≡ arc.1) ⊎ (get_or next (arc.0 - 1) None ≡ Some x)
+      → IsFoundBy k counts arcs (i + 1) (set next (arc.0 - 1) (Some x))
   found_more some from x which = record {
     len = length-set next (arc.0 - 1) (Some x) ∙ so_far.len;
     found = λ j y job e. ⊎_elim
-        (λ same. subst (λ z. Contains arcs (z, y) × (0 < of_job counts y)) (sym same) (own y (sym (here j same) ∙ e)))
+        (λ same. subst (λ z. Contains arcs (z, y) × (0 < of_job counts y)) (sym same)
+        (own y (sym (here j same) ∙ e)))
         (λ differ. so_far.found j y job (sym (there j job differ) ∙ e))
         (cases_eq j arc.0);
     none = λ j job e n d less in' own_from left. ⊎_elim
         (λ same. absurd (no_some (sym (here j same) ∙ e)))
         (λ differ. ⊎_elim
         (λ before. so_far.none j job (sym (there j job differ) ∙ e) n d before in' own_from left)
-        (λ last. let same : n ≡ i = omega (arith, less, last) in differ (sym own_from ∙ ap (λ m. (get_or arcs m d).0) same ∙ ap (λ (a : ℕ × ℕ). a.0) (at_any d)))
+        (λ last. let same : n ≡ i = omega (arith, less, last) in
+        differ (sym own_from ∙ ap (λ m. (get_or arcs m d).0) same
+        ∙ ap (λ (a : ℕ × ℕ). a.0) (at_any d)))
         (cases_lt n i))
         (cases_eq j arc.0);
   }
     where
       here : (j : ℕ) → j ≡ arc.0 → get_or (set next (arc.0 - 1) (Some x)) (j - 1) None ≡ Some x
-      here j same = ap (λ m. get_or (set next (arc.0 - 1) (Some x)) (m - 1) None) same ∙ get_or-set_same next (arc.0 - 1) (Some x) None (omega (arith, so_far.len, from.0, from.1))
+      here j same = ap (λ m. get_or (set next (arc.0 - 1) (Some x)) (m - 1) None) same
+          ∙ get_or-set_same next (arc.0 - 1) (Some x) None
+          (omega (arith, so_far.len, from.0, from.1))
 
-      there : (j : ℕ) → IsJob k j → j ≢ arc.0 → get_or (set next (arc.0 - 1) (Some x)) (j - 1) None ≡ get_or next (j - 1) None
-      there j job differ = get_or-set_other next (arc.0 - 1) (j - 1) (Some x) None (λ e. differ (omega (arith, job.0, from.0)))
+      there : (j : ℕ) → IsJob k j → j ≢ arc.0
+          → get_or (set next (arc.0 - 1) (Some x)) (j - 1) None ≡ get_or next (j - 1) None
+      there j job differ =
+          get_or-set_other next (arc.0 - 1) (j - 1) (Some x) None
+          (λ e. differ (omega (arith, job.0, from.0)))
 
       no_some : ◌≡◌ {A = Option ℕ} (Some x) None → ⊥
       no_some e = cc
@@ -70,16 +96,21 @@ module _ (k : SchedulingTask) (counts : List ℕ) (arcs : List (ℕ × ℕ)) (i 
 
       own_x : Contains arcs (arc.0, x) × (0 < of_job counts x)
       own_x = ⊎_elim
-          (λ is. subst (λ z. Contains arcs (arc.0, z) × (0 < of_job counts z)) (sym is) (subst (Contains arcs) at (Contains-get_or arcs i arc lt), some))
+          (λ is. subst (λ z. Contains arcs (arc.0, z) × (0 < of_job counts z)) (sym is)
+          (subst (Contains arcs) at (Contains-get_or arcs i arc lt), some))
           (λ before. so_far.found arc.0 x from before)
           which
 
-      own : (y : ℕ) → ◌≡◌ {A = Option ℕ} (Some x) (Some y) → Contains arcs (arc.0, y) × (0 < of_job counts y)
+      own : (y : ℕ) → ◌≡◌ {A = Option ℕ} (Some x) (Some y)
+          → Contains arcs (arc.0, y) × (0 < of_job counts y)
       own y e = subst (λ z. Contains arcs (arc.0, z) × (0 < of_job counts z)) (the_same y e) own_x
 
 -- behind the last arc, where each job of which some arcs are left has an arc to another
-module _ (k : SchedulingTask) (sound : IsSound k) (counts : List ℕ) (arcs : List (ℕ × ℕ)) (i : ℕ) (next : List (Option ℕ)) (same : arcs ≡ k.arcs) (over : length arcs ≤ i) (by : IsFoundBy k counts arcs i next)
-    (stuck : (j : ℕ) → IsJob k j → 0 < of_job counts j → (x : ℕ) × Contains k.arcs (j, x) × (0 < of_job counts x)) where
+module _ (k : SchedulingTask) (sound : IsSound k) (counts : List ℕ) (arcs : List (ℕ × ℕ)) (i : ℕ)
+    (next : List (Option ℕ)) (same : arcs ≡ k.arcs) (over : length arcs ≤ i)
+    (by : IsFoundBy k counts arcs i next)
+    (stuck : (j : ℕ) → IsJob k j → 0 < of_job counts j → (x : ℕ) × Contains k.arcs (j, x)
+    × (0 < of_job counts x)) where
   pub found_some : (j : ℕ) → IsJob k j → 0 < of_job counts j → HasSuccessor next j
   found_some j job left = by_option (get_or next (j - 1) None) refl
     where
@@ -87,8 +118,11 @@ module _ (k : SchedulingTask) (sound : IsSound k) (counts : List ℕ) (arcs : Li
       by_option (Some x) e = (x, e)
       by_option None e =
           let arc = stuck j job left in
-          let at : Contains arcs (j, arc.0) = subst (λ xs. Contains xs (j, arc.0)) (sym same) arc.1 in
-          absurd (by.none j job e at.0 (j, arc.0) (omega (arith, at.1, over)) at.1 (ap (λ (a : ℕ × ℕ). a.0) at.2) (subst (λ (a : ℕ × ℕ). 0 < of_job counts a.1) (sym at.2) arc.2))
+          let at : Contains arcs (j, arc.0) =
+          subst (λ xs. Contains xs (j, arc.0)) (sym same) arc.1 in
+          absurd (by.none j job e at.0 (j, arc.0) (omega (arith, at.1, over)) at.1
+          (ap (λ (a : ℕ × ℕ). a.0) at.2)
+          (subst (λ (a : ℕ × ℕ). 0 < of_job counts a.1) (sym at.2) arc.2))
 
   pub found_all : AreSuccessors k next
   found_all = record {

@@ -86,7 +86,8 @@ module _ (k : SchedulingTask) (xs : List WeightedJob) (sound : IsSound k)
             let q_on = on_one b d within in (
               omega (arith, p_on.1, q_on.0, sound.single single),
               λ same.
-                  starts_apart OtherJob p q (laid_sound OtherJob k os sound listed a d (omega arith))
+                  starts_apart OtherJob p q
+                  (laid_sound OtherJob k os sound listed a d (omega arith))
                   (laid_sound OtherJob k os sound listed b d within)
                   ((is_laid OtherJob k os sound listed).apart a b d lt within) same,
             );

@@ -29,7 +29,8 @@ use Rattle.tf_single.proofs.Progress.{sound_draws, progress_fits, runs_earliest_
 use Rattle.tf_single.proofs.Stretch.{last_row}
 use Rattle.tf_single.proofs.Window.{window-reaches}
 
-filter_same : {X : Type 0} (p q : X → Bool) (xs : List X) → All (λ x. p x ≡ q x) xs → filter p xs ≡ filter q xs
+filter_same : {X : Type 0} (p q : X → Bool) (xs : List X) → All (λ x. p x ≡ q x) xs
+    → filter p xs ≡ filter q xs
 filter_same p q [] same = refl
 filter_same p q (x ∷ xs) same =
     ap (λ b. cond b (x ∷ filter p xs) (filter p xs)) (All-head (λ y. p y ≡ q y) x xs same)

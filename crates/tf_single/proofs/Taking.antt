@@ -20,9 +20,17 @@ ones [] = refl
 ones (x ∷ xs) = omega (arith, sum_by-cons (λ j. 1) x xs, ones xs)
 
 -- those that are left and those that are taken are as many as all
-pub left_length : (k : SchedulingTask) (taken : List ℕ) → AreChosen k taken → length (rest_of k taken) + length taken ≡ length k.jobs
+pub left_length : (k : SchedulingTask) (taken : List ℕ) → AreChosen k taken
+    → length (rest_of k taken) + length taken ≡ length k.jobs
 left_length k taken chosen =
-    omega (arith, rest_sum k (λ j. 1) taken chosen.jobs chosen.distinct, ones (rest_of k taken), ones taken, ones (all_jobs k), length-range_with_len 1 (length k.jobs))
+    omega (
+      arith,
+      rest_sum k (λ j. 1) taken chosen.jobs chosen.distinct,
+      ones (rest_of k taken),
+      ones taken,
+      ones (all_jobs k),
+      length-range_with_len 1 (length k.jobs),
+    )
 
 -- no job is taken
 pub none_chosen : (k : SchedulingTask) → AreChosen k []
@@ -32,14 +40,18 @@ none_chosen k = record {
   choice = λ i lt. absurd (omega arith);
 }
 
-pub work_at_start : (k : SchedulingTask) → sum_by (time_of k) (all_jobs k) ≡ sum_by (time_of k) (rest_of k [])
-work_at_start k = omega (arith, rest_sum k (time_of k) [] (none_chosen k).jobs (none_chosen k).distinct)
+pub work_at_start : (k : SchedulingTask)
+    → sum_by (time_of k) (all_jobs k) ≡ sum_by (time_of k) (rest_of k [])
+work_at_start k =
+    omega (arith, rest_sum k (time_of k) [] (none_chosen k).jobs (none_chosen k).distinct)
 
-pub work_within : (k : SchedulingTask) (taken : List ℕ) → AreChosen k taken → sum_by (time_of k) (rest_of k taken) ≤ sum_by (time_of k) (all_jobs k)
+pub work_within : (k : SchedulingTask) (taken : List ℕ) → AreChosen k taken
+    → sum_by (time_of k) (rest_of k taken) ≤ sum_by (time_of k) (all_jobs k)
 work_within k taken chosen = omega (arith, rest_sum k (time_of k) taken chosen.jobs chosen.distinct)
 
 -- all are taken
-pub none_left : (k : SchedulingTask) (taken : List ℕ) → AreChosen k taken → length k.jobs ≤ length taken → rest_of k taken ≡ []
+pub none_left : (k : SchedulingTask) (taken : List ℕ) → AreChosen k taken
+    → length k.jobs ≤ length taken → rest_of k taken ≡ []
 none_left k taken chosen most = empty (rest_of k taken) (omega (arith, left_length k taken chosen))
   where
     empty : (xs : List ℕ) → length xs ≡ 0 → xs ≡ []
@@ -47,51 +59,84 @@ none_left k taken chosen most = empty (rest_of k taken) (omega (arith, left_leng
     empty (x ∷ xs) e = absurd (omega arith)
 
 -- some are left
-pub some_left : (k : SchedulingTask) (taken : List ℕ) → AreChosen k taken → length taken < length k.jobs → (j : ℕ) × IsJob k j × (stands_in taken j ≡ false)
-some_left k taken chosen few = first (rest_of k taken) refl (omega (arith, left_length k taken chosen))
+pub some_left : (k : SchedulingTask) (taken : List ℕ) → AreChosen k taken
+    → length taken < length k.jobs → (j : ℕ) × IsJob k j × (stands_in taken j ≡ false)
+some_left k taken chosen few =
+    first (rest_of k taken) refl (omega (arith, left_length k taken chosen))
   where
-    first : (xs : List ℕ) → rest_of k taken ≡ xs → 0 < length xs → (j : ℕ) × IsJob k j × (stands_in taken j ≡ false)
+    first : (xs : List ℕ) → rest_of k taken ≡ xs → 0 < length xs
+        → (j : ℕ) × IsJob k j × (stands_in taken j ≡ false)
     first [] e some = absurd (omega arith)
     first (x ∷ xs) e some =
-        let at : Contains (rest_of k taken) x = subst (λ ys. Contains ys x) (sym e) (0, omega arith, refl) in
-        let job : IsJob k x = All-contains (IsJob k) (rest_of k taken) x (rest_jobs k taken) at in
-        (x, job, not-true (stands_in taken x) (sym (in_rest k taken x job) ∙ stands_from (rest_of k taken) x at))
+        let at : Contains (rest_of k taken) x =
+        subst (λ ys. Contains ys x) (sym e) (0, omega arith, refl) in
+        let job : IsJob k x = All-contains (IsJob k) (rest_of k taken) x (rest_jobs k taken) at in (
+          x,
+          job,
+          not-true (stands_in taken x)
+              (sym (in_rest k taken x job) ∙ stands_from (rest_of k taken) x at),
+        )
 
 -- an element that is counted
-counted : {X : Type 0} (p : X → Bool) (xs : List X) → 0 < count_by p xs → (x : X) × Contains xs x × (p x ≡ true)
+counted : {X : Type 0} (p : X → Bool) (xs : List X) → 0 < count_by p xs
+    → (x : X) × Contains xs x × (p x ≡ true)
 counted p [] some = absurd (omega arith)
 counted p (x ∷ xs) some = by_test (cases_Bool (p x)) (counted p xs)
   where
-    by_test : (p x ≡ true) ⊎ (p x ≡ false) → (0 < count_by p xs → (y : _) × Contains xs y × (p y ≡ true)) → (y : _) × Contains (x ∷ xs) y × (p y ≡ true)
+    by_test : (p x ≡ true) ⊎ (p x ≡ false)
+        → (0 < count_by p xs → (y : _) × Contains xs y × (p y ≡ true))
+        → (y : _) × Contains (x ∷ xs) y × (p y ≡ true)
     by_test (inl e) later = (x, (0, omega arith, refl), e)
     by_test (inr e) later =
-        let rest = later (omega (arith, some, sum_by-cons (λ y. cond (p y) 1 0) x xs, ap {B = ℕ} (λ b. cond b 1 0) e)) in
+        let rest = later
+        (omega (
+          arith,
+          some,
+          sum_by-cons (λ y. cond (p y) 1 0) x xs,
+          ap {B = ℕ} (λ b. cond b 1 0) e,
+        )) in
         (rest.0, (suc rest.1.0, omega (arith, rest.1.1), rest.1.2), rest.2)
 
-module _ (k : SchedulingTask) (sound : IsSound k) (taken counts free : List ℕ) (now : IsOpen k taken [] counts free) where
+module _ (k : SchedulingTask) (sound : IsSound k) (taken counts free : List ℕ)
+    (now : IsOpen k taken [] counts free) where
   left_counts : free ≡ [] → (j : ℕ) → IsJob k j → stands_in taken j ≡ false → 0 < of_job counts j
-  left_counts none j job left = omega (arith, left_count k sound taken counts free now j job, none_free k sound taken counts free now none j job left)
+  left_counts none j job left =
+      omega (
+        arith,
+        left_count k sound taken counts free now j job,
+        none_free k sound taken counts free now none j job left,
+      )
 
   -- where no job is free, each that is left has an arc to another
-  pub stuck : free ≡ [] → (j : ℕ) → IsJob k j → 0 < of_job counts j → (x : ℕ) × Contains k.arcs (j, x) × (0 < of_job counts x)
+  pub stuck : free ≡ [] → (j : ℕ) → IsJob k j → 0 < of_job counts j
+      → (x : ℕ) × Contains k.arcs (j, x) × (0 < of_job counts x)
   stuck none j job some =
       let p : ℕ × ℕ → Bool = λ arc. (arc.0 == j) && not (stands_in taken arc.1) in
-      let found = counted p k.arcs (omega (arith, some, left_count k sound taken counts free now j job)) in
+      let found = counted p k.arcs
+      (omega (arith, some, left_count k sound taken counts free now j job)) in
       let arc : ℕ × ℕ = found.0 in
       let parts = and_parts (arc.0 == j) (not (stands_in taken arc.1)) found.2 in
       let at : Contains k.arcs arc = found.1 in
-      let known : IsJob k arc.1 = subst (λ (a : ℕ × ℕ). IsJob k a.1) at.2 (sound.arcs_in at.0 arc at.1).1 in
-      let left : stands_in taken arc.1 ≡ false = not-true (stands_in taken arc.1) parts.1 in
-      (arc.1, subst (λ i. Contains k.arcs (i, arc.1)) (eqb-true arc.0 j parts.0) at, left_counts none arc.1 known left)
+      let known : IsJob k arc.1 =
+      subst (λ (a : ℕ × ℕ). IsJob k a.1) at.2 (sound.arcs_in at.0 arc at.1).1 in
+      let left : stands_in taken arc.1 ≡ false = not-true (stands_in taken arc.1) parts.1 in (
+        arc.1,
+        subst (λ i. Contains k.arcs (i, arc.1)) (eqb-true arc.0 j parts.0) at,
+        left_counts none arc.1 known left,
+      )
 
-  pub stuck_some : free ≡ [] → AreChosen k taken → length taken < length k.jobs → (j : ℕ) × IsJob k j × (0 < of_job counts j)
+  pub stuck_some : free ≡ [] → AreChosen k taken → length taken < length k.jobs
+      → (j : ℕ) × IsJob k j × (0 < of_job counts j)
   stuck_some none chosen few =
       let some = some_left k taken chosen few in
       (some.0, some.1, left_counts none some.0 some.1 some.2)
 
   -- the cheapest free job is taken
-  module _ (work place j : ℕ) (chosen : AreChosen k taken) (is_work : work ≡ sum_by (time_of k) (rest_of k taken)) (lt : place < length free) (is : j ≡ slice_index free place)
-      (cheapest : (n d : ℕ) → n < length free → price k (slice_index free place) work ≤ℤ price k (slice_index free n) work) where
+  module _ (work place j : ℕ) (chosen : AreChosen k taken)
+      (is_work : work ≡ sum_by (time_of k) (rest_of k taken)) (lt : place < length free)
+      (is : j ≡ slice_index free place)
+      (cheapest : (n d : ℕ) → n < length free
+      → price k (slice_index free place) work ≤ℤ price k (slice_index free n) work) where
     at_place : Contains free j
     at_place = (place, lt, get_or_default free place j 0 lt ∙ sym is)
 
@@ -102,7 +147,8 @@ module _ (k : SchedulingTask) (sound : IsSound k) (taken counts free : List ℕ)
         (open_choice k sound taken counts free now j work at_place is_work
         (λ i at.
         subst (λ z. price k z work ≤ℤ price k i work) (sym is)
-        (subst (λ z. price k (slice_index free place) work ≤ℤ price k z work) (get_or_default free at.0 0 i at.1 ∙ at.2) (cheapest at.0 0 at.1))))
+        (subst (λ z. price k (slice_index free place) work ≤ℤ price k z work)
+        (get_or_default free at.0 0 i at.1 ∙ at.2) (cheapest at.0 0 at.1))))
 
     pub step_work : sum_by (time_of k) (rest_of k (taken ++ j ∷ [])) + time_of k j ≡ work
     step_work =

@@ -12,38 +12,52 @@ use Rattle.tf_schedule.proofs.Prices.{costed_price, due_price}
 use Rattle.tf_single.specs.Backward.{AreCosts}
 use Rattle.tf_single.specs.Costs.{late_value}
 
-pub steps_are : (k : SchedulingTask) → IsSound k → IsTrue (is_costed k.class) → AreCosts step_value k k.costs
+pub steps_are : (k : SchedulingTask) → IsSound k → IsTrue (is_costed k.class)
+    → AreCosts step_value k k.costs
 steps_are k sound costed = record {
   len = sound.costed costed;
   each = λ j c d job.
-      ap (λ (s : Steps). step_value s c) (get_or_default k.costs (j - 1) d no_steps (omega (arith, job.0, job.1, sound.costed costed)))
+      ap (λ (s : Steps). step_value s c)
+      (get_or_default k.costs (j - 1) d no_steps
+      (omega (arith, job.0, job.1, sound.costed costed)))
       ∙ costed_price k j c costed;
 }
 
-pub lates_are : (k : SchedulingTask) → IsTrue (is_due k.class) → (lates : List Late) → length lates ≡ length k.jobs
-    → ((n : ℕ) (d : Late) → n < length lates → (get_or lates n d).due ≡ (job_data k (n + 1)).due) → AreCosts late_value k lates
+pub lates_are : (k : SchedulingTask) → IsTrue (is_due k.class) → (lates : List Late)
+    → length lates ≡ length k.jobs
+    → ((n : ℕ) (d : Late) → n < length lates → (get_or lates n d).due ≡ (job_data k (n + 1)).due)
+    → AreCosts late_value k lates
 lates_are k due lates len dues = record {
   len = len;
   each = λ j c d job.
       let same : j - 1 + 1 ≡ j = omega (arith, job.0) in
-      ap (λ z. pos c -ℤ z) (dues (j - 1) d (omega (arith, len, job.0, job.1)) ∙ ap (λ n. (job_data k n).due) same) ∙ due_price k j c due;
+      ap (λ z. pos c -ℤ z)
+      (dues (j - 1) d (omega (arith, len, job.0, job.1)) ∙ ap (λ n. (job_data k n).due) same)
+      ∙ due_price k j c due;
 }
 
 -- one job more
-pub dues_push : (k : SchedulingTask) (lates : List Late) (late : Late) (m : ℕ) → length lates ≡ m → late.due ≡ (job_data k (m + 1)).due
+pub dues_push : (k : SchedulingTask) (lates : List Late) (late : Late) (m : ℕ) → length lates ≡ m
+    → late.due ≡ (job_data k (m + 1)).due
     → ((n : ℕ) (d : Late) → n < m → (get_or lates n d).due ≡ (job_data k (n + 1)).due)
-    → (n : ℕ) (d : Late) → n < m + 1 → (get_or (lates ++ late ∷ []) n d).due ≡ (job_data k (n + 1)).due
+    → (n : ℕ) (d : Late) → n < m + 1
+    → (get_or (lates ++ late ∷ []) n d).due ≡ (job_data k (n + 1)).due
 dues_push k lates late m len own so_far n d lt = ⊎_elim
-    (λ before. ap (λ (x : Late). x.due) (get_or_append_left lates (late ∷ []) d n (omega (arith, before, len))) ∙ so_far n d before)
+    (λ before. ap (λ (x : Late). x.due)
+    (get_or_append_left lates (late ∷ []) d n (omega (arith, before, len))) ∙ so_far n d before)
     (λ last.
     let same : n ≡ m = omega (arith, lt, last) in
     let here : n ≡ length lates = omega (arith, same, len) in
-    ap (λ i. (get_or (lates ++ late ∷ []) i d).due) here ∙ ap (λ (x : Late). x.due) (get_or-append_seam lates late [] d) ∙ own ∙ ap (λ i. (job_data k (i + 1)).due) (sym same))
+    ap (λ i. (get_or (lates ++ late ∷ []) i d).due) here
+    ∙ ap (λ (x : Late). x.due) (get_or-append_seam lates late [] d) ∙ own
+    ∙ ap (λ i. (job_data k (i + 1)).due) (sym same))
     (cases_lt n m)
 
-pub lates_more : (k : SchedulingTask) (lates more : List Late) (late : Late) (m : ℕ) → more ≡ lates ++ late ∷ [] → length lates ≡ m → late.due ≡ (job_data k (m + 1)).due
+pub lates_more : (k : SchedulingTask) (lates more : List Late) (late : Late) (m : ℕ)
+    → more ≡ lates ++ late ∷ [] → length lates ≡ m → late.due ≡ (job_data k (m + 1)).due
     → ((n : ℕ) (d : Late) → n < m → (get_or lates n d).due ≡ (job_data k (n + 1)).due)
-    → (length more ≡ m + 1) × ((n : ℕ) (d : Late) → n < m + 1 → (get_or more n d).due ≡ (job_data k (n + 1)).due)
+    → (length more ≡ m + 1)
+    × ((n : ℕ) (d : Late) → n < m + 1 → (get_or more n d).due ≡ (job_data k (n + 1)).due)
 lates_more k lates more late m is len own so_far = (
   ap length is ∙ length-append lates (late ∷ []) ∙ ap (λ n. n + 1) len,
   λ n d lt. ap (λ xs. (get_or xs n d).due) is ∙ dues_push k lates late m len own so_far n d lt,

@@ -31,22 +31,26 @@ entries_of ready j = count_by (λ u. j == u.job.0) ready
 abbrev pub urgency_cmp : Urgency → Urgency → Ordering
 urgency_cmp u v = ordering_then (int_cmp v.due.0 u.due.0) (nat_cmp v.job.0 u.job.0)
 
--- at `now`, those to come and those that are ready are the jobs of which some time is left, each once
-pub record IsAgenda (k : SchedulingTask) (coming : List ℕ) (ready : List Urgency) (rest : ℕ → ℕ) (now : ℕ) : Type 0 where
+-- at `now`, those to come and those that are ready are the jobs of which some time is left, each
+-- once
+pub record IsAgenda (k : SchedulingTask) (coming : List ℕ) (ready : List Urgency) (rest : ℕ → ℕ)
+    (now : ℕ) : Type 0 where
   pub arriving : All (IsJob k) coming
   pub in_order : AreByRelease k coming
   pub later : All (λ j. now ≤ (job_data k j).release) coming
   pub known : All (IsUrgency k) ready
   pub released : All (λ u. (job_data k u.job.0).release ≤ now) ready
   pub heap : IsHeap urgency_cmp ready
-  pub each : (j : ℕ) → IsJob k j → places_of coming j + entries_of ready j ≡ (if nat_lt 0 (rest j) then 1 else 0)
+  pub each : (j : ℕ) → IsJob k j
+      → places_of coming j + entries_of ready j ≡ (if nat_lt 0 (rest j) then 1 else 0)
 
 -- of how many jobs some time is left
 abbrev pub unfinished : List ℕ → ℕ
 unfinished rest = count_by (λ n. nat_lt 0 n) rest
 
 -- the machine at `now`: its pieces, the time that each job still needs, and the jobs that are ready
-pub record IsUnderway (k : SchedulingTask) (coming : List ℕ) (ready : List Urgency) (rest : List ℕ) (ps : List Piece) (now : ℕ) : Type 0 where
+pub record IsUnderway (k : SchedulingTask) (coming : List ℕ) (ready : List Urgency) (rest : List ℕ)
+    (ps : List Piece) (now : ℕ) : Type 0 where
   pub len : length rest ≡ length k.jobs
   pub progress : IsProgress k ps (of_job rest) now
   pub agenda : IsAgenda k coming ready (of_job rest) now
@@ -58,4 +62,5 @@ pub record IsUnderway (k : SchedulingTask) (coming : List ℕ) (ready : List Urg
 pub data IsLonger (ps qs : List Piece) (x a b : ℕ) : Type 0 where
   Pushed : qs ≡ ps ++ run_of x a b ∷ [] → IsLonger ps qs x a b
   Joined : (hs : List Piece) (p : Piece) → ps ≡ hs ++ p ∷ [] → p.job ≡ x → p.stop ≡ pos a
-      → qs ≡ hs ++ record { job = p.job; machine = p.machine; start = p.start; stop = pos b } ∷ [] → IsLonger ps qs x a b
+      → qs ≡ hs ++ record { job = p.job; machine = p.machine; start = p.start; stop = pos b } ∷ []
+      → IsLonger ps qs x a b

@@ -20,13 +20,15 @@ price_behind k jobs j = price k j (sum_by (time_of k) jobs)
 pub record IsLastChoice (k : SchedulingTask) (jobs : List ℕ) (j : ℕ) : Type 0 where
   pub here : Contains jobs j
   pub free : is_free k jobs j ≡ true
-  pub cheapest : (i : ℕ) → Contains jobs i → is_free k jobs i ≡ true → price_behind k jobs j ≤ℤ price_behind k jobs i
+  pub cheapest : (i : ℕ) → Contains jobs i → is_free k jobs i ≡ true
+      → price_behind k jobs j ≤ℤ price_behind k jobs i
 
 -- jobs were taken one after another, each the choice for last among those that were left
 pub record AreChosen (k : SchedulingTask) (taken : List ℕ) : Type 0 where
   pub jobs : All (IsJob k) taken
   pub distinct : IsDistinct taken
-  pub choice : (i : ℕ) → i < length taken → IsLastChoice k (rest_of k (take i taken)) (slice_index taken i)
+  pub choice : (i : ℕ) → i < length taken
+      → IsLastChoice k (rest_of k (take i taken)) (slice_index taken i)
 
 -- the operations of jobs that were taken the last first, on machine 1
 abbrev pub operation_of : SchedulingTask → ℕ → Operation
@@ -37,6 +39,8 @@ backward k [] = []
 backward k (j ∷ taken) = backward k taken ++ operation_of k j ∷ []
 
 -- the costs are the task's, job by job
-pub record AreCosts {C : Type 0} (cost_at : C → ℕ → ℤ) (k : SchedulingTask) (costs : List C) : Type 0 where
+pub record AreCosts {C : Type 0} (cost_at : C → ℕ → ℤ) (k : SchedulingTask) (costs : List C) : Type
+    0 where
   pub len : length costs ≡ length k.jobs
-  pub each : (j c : ℕ) (d : C) → IsJob k j → cost_at (slice_index_or costs (j - 1) d) c ≡ price k j c
+  pub each : (j c : ℕ) (d : C) → IsJob k j
+      → cost_at (slice_index_or costs (j - 1) d) c ≡ price k j c

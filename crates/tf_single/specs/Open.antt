@@ -1,4 +1,5 @@
--- How many arcs lead from each job to jobs that are left, and which of those that are left have none.
+-- How many arcs lead from each job to jobs that are left, and which of those that are left have
+-- none.
 use Rattle.std.specs.Prelude.{◌≡◌, ℕ, ◌+◌, ◌==◌, ◌&&◌, not, true, if◌then◌else◌, List, length}
 use Rattle.std.specs.List.{All, count_by}
 use Rattle.tf_model.specs.SchedulingTask.{SchedulingTask, IsJob}
@@ -9,12 +10,15 @@ use Rattle.tf_single.specs.Progress.{of_job}
 abbrev pub arcs_left : SchedulingTask → List ℕ → ℕ → ℕ
 arcs_left k taken j = count_by (λ arc. (arc.0 == j) && not (stands_in taken arc.1)) k.arcs
 
--- the counts are those of the arcs that are left, and one more for each time a job is pending; the free are the jobs that
+-- the counts are those of the arcs that are left, and one more for each time a job is pending; the
+-- free are the jobs that
 -- are left and have count 0, each once
 pub record IsOpen (k : SchedulingTask) (taken pending counts free : List ℕ) : Type 0 where
   pub len : length counts ≡ length k.jobs
-  pub counted : (j : ℕ) → IsJob k j → of_job counts j ≡ arcs_left k taken j + count_by (λ i. i == j) pending
+  pub counted : (j : ℕ) → IsJob k j
+      → of_job counts j ≡ arcs_left k taken j + count_by (λ i. i == j) pending
   pub over : (j : ℕ) → IsJob k j → stands_in taken j ≡ true → of_job counts j ≡ 0
   pub known : All (IsJob k) free
   pub frees : (j : ℕ) → IsJob k j
-      → count_by (λ i. i == j) free ≡ (if stands_in taken j then 0 else (if of_job counts j == 0 then 1 else 0))
+      → count_by (λ i. i == j) free
+      ≡ (if stands_in taken j then 0 else (if of_job counts j == 0 then 1 else 0))

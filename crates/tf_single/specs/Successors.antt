@@ -10,4 +10,5 @@ HasSuccessor next j = (x : ℕ) × (slice_index_or next (j - 1) None ≡ Some x)
 -- what the list has for a job is preceded by it, and has a successor of its own
 pub record AreSuccessors (k : SchedulingTask) (next : List (Option ℕ)) : Type 0 where
   pub len : length next ≡ length k.jobs
-  pub each : (j x : ℕ) → IsJob k j → slice_index_or next (j - 1) None ≡ Some x → Contains k.arcs (j, x) × HasSuccessor next x
+  pub each : (j x : ℕ) → IsJob k j → slice_index_or next (j - 1) None ≡ Some x
+      → Contains k.arcs (j, x) × HasSuccessor next x

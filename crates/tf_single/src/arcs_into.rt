@@ -39,7 +39,8 @@ pub(crate) fn arcs_into(arcs: &[(JobId, JobId)], job: JobId) -> &[(JobId, JobId)
 // How many of them lead to jobs of smaller number.
 fn count_below(arcs: &[(JobId, JobId)], number: u64) -> usize
     requires { AreGrouped arcs.now }
-    ensures point { IsPartitionPoint (λ arc. arc.0 < number) (λ arc. number ≤ arc.0) arcs.now result }
+    ensures point { IsPartitionPoint (λ arc. arc.0 < number) (λ arc. number ≤ arc.0) arcs.now
+        result }
     ensures within { result ≤ length arcs.now }
 {
     arcs.partition_point(

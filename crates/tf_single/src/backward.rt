@@ -173,7 +173,8 @@ impl<A: Allocator> Open<A> {
         requires sound { IsSound task.now }
         requires arcs { IsPermutation (map turned task.now.arcs) arcs.now }
         requires grouped { AreGrouped arcs.now }
-        requires now { IsOpen task.now self.old.taken.items [] self.old.counts.items self.old.free.items }
+        requires now { IsOpen task.now self.old.taken.items [] self.old.counts.items
+            self.old.free.items }
         requires place { place < length self.old.free.items }
         ensures job { IfOk result (λ j. j ≡ slice_index self.old.free.items place) }
         ensures taken { IfOk result (λ j. self.new.taken.items ≡ self.old.taken.items ++ j ∷ []) }

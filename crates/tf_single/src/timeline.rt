@@ -111,14 +111,16 @@ impl<A: Allocator> Machine<A> {
     // Runs ready jobs until the first of those to come is released, or until none is left.
     fn run<B: Allocator>(&mut self, task: &Task<B>, coming: &[JobId]) -> Result<(), OutOfMemory>
         requires class { task.now.class ≡ ReleaseLmax }
-        requires underway { IsUnderway task.now coming.now (heap_items self.old.ready) self.old.rest.items
+        requires underway { IsUnderway task.now coming.now (heap_items self.old.ready)
+            self.old.rest.items
             self.old.pieces.items self.old.now }
         ensures underway { IfOk result (λ _.
             IsUnderway task.now coming.now (heap_items self.new.ready) self.new.rest.items
             self.new.pieces.items self.new.now) }
         ensures over { IfOk result (λ _.
             (heap_items self.new.ready ≡ []) ⊎ ((0 < length coming.now)
-            × ((d : ℕ) → (job_data task.now (slice_index_or coming.now 0 d)).release ≤ self.new.now))) }
+            × ((d : ℕ) →
+            (job_data task.now (slice_index_or coming.now 0 d)).release ≤ self.new.now))) }
         ensures few { IfOk result (λ _.
             length self.new.pieces.items + unfinished self.new.rest.items
             ≤ length self.old.pieces.items + unfinished self.old.rest.items

@@ -42,39 +42,61 @@ number_count most n small is = ap is_some (numeral-decimal n (omega (arith, is.1
 -- ---- jobs
 
 -- a list of version 2 is not too long
-few_again : (layout : Layout) (line : ℕ) (jobs : List ℕ) → AreFew layout jobs → few layout line jobs ≡ Ok jobs
+few_again : (layout : Layout) (line : ℕ) (jobs : List ℕ) → AreFew layout jobs
+    → few layout line jobs ≡ Ok jobs
 few_again One line jobs are = refl
-few_again Two line jobs are = let fits : ltb MOST_JOBS (length jobs) ≡ false = le-ltb _ _ are in rw fits refl
+few_again Two line jobs are = let fits : ltb MOST_JOBS (length jobs) ≡ false = le-ltb _ _ are in
+    rw fits refl
 
-listed_again : (layout : Layout) (line : ℕ) (jobs : List ℕ) → AreListed layout jobs → jobs_listed layout line (job_words layout jobs) ≡ Ok jobs
+listed_again : (layout : Layout) (line : ℕ) (jobs : List ℕ) → AreListed layout jobs
+    → jobs_listed layout line (job_words layout jobs) ≡ Ok jobs
 unfolding jobs_listed
-listed_again layout line jobs are = ap (λ read. read >>= few layout line) (list_read line layout jobs are.0) ∙ few_again layout line jobs are.1
+listed_again layout line jobs are =
+    ap (λ read. read >>= few layout line) (list_read line layout jobs are.0)
+    ∙ few_again layout line jobs are.1
 
-jobs_again : (layout : Layout) (line : ℕ) (jobs : List ℕ) → AreListed layout jobs → jobs_in layout line (job_words layout jobs) ≡ Ok jobs
+jobs_again : (layout : Layout) (line : ℕ) (jobs : List ℕ) → AreListed layout jobs
+    → jobs_in layout line (job_words layout jobs) ≡ Ok jobs
 unfolding jobs_in
 jobs_again layout line jobs are =
-    let form : list_all (is_item layout) (job_words layout jobs) ≡ true = list_form layout jobs are.0 in
+    let form : list_all (is_item layout) (job_words layout jobs) ≡ true =
+    list_form layout jobs are.0 in
     rw form (listed_again layout line jobs are)
 
 -- ---- a piece
 
-piece_again : (line : ℕ) (p : Piece) → IsReadablePiece p → piece_in line (drop 1 (piece_words p)) ≡ Ok p
+piece_again : (line : ℕ) (p : Piece) → IsReadablePiece p
+    → piece_in line (drop 1 (piece_words p)) ≡ Ok p
 unfolding piece_in
 piece_again line p is =
     let a : is_number (decimal p.job) ≡ true = number_count most_job p.job (lit< tt) is.0 in
-    let b : is_number (decimal p.machine) ≡ true = number_count most_machine p.machine (lit< tt) is.1 in
-    let c : is_number (signed_decimal p.start) ≡ true = ap is_some (numeral-signed p.start (omega (arith, ints, is.2))) in
-    let d : is_number (signed_decimal p.stop) ≡ true = ap is_some (numeral-signed p.stop (omega (arith, ints, is.3))) in
-    let job : count_in line most_job (decimal p.job) ≡ Ok p.job = count-decimal line most_job p.job (lit< tt) is.0 in
-    let machine : count_in line most_machine (decimal p.machine) ≡ Ok p.machine = count-decimal line most_machine p.machine (lit< tt) is.1 in
-    let start : time_in line (signed_decimal p.start) ≡ Ok p.start = time-signed line p.start is.2 in
+    let b : is_number (decimal p.machine) ≡ true =
+    number_count most_machine p.machine (lit< tt) is.1 in
+    let c : is_number (signed_decimal p.start) ≡ true =
+    ap is_some (numeral-signed p.start (omega (arith, ints, is.2))) in
+    let d : is_number (signed_decimal p.stop) ≡ true =
+    ap is_some (numeral-signed p.stop (omega (arith, ints, is.3))) in
+    let job : count_in line most_job (decimal p.job) ≡ Ok p.job =
+    count-decimal line most_job p.job (lit< tt) is.0 in
+    let machine : count_in line most_machine (decimal p.machine) ≡ Ok p.machine =
+    count-decimal line most_machine p.machine (lit< tt) is.1 in
+    let start : time_in line (signed_decimal p.start) ≡ Ok p.start =
+    time-signed line p.start is.2 in
     let stop : time_in line (signed_decimal p.stop) ≡ Ok p.stop = time-signed line p.stop is.3 in
     rw (a, b, c, d, job, machine, start, stop) refl
 
 -- a literal word
 key_words : (p : Piece) → IsReadablePiece p → AreWords (piece_words p)
-key_words p is =
-    (record { some = omega arith; dark = refl }, (word_count most_job p.job (lit< tt) is.0, (word_count most_machine p.machine (lit< tt) is.1, (word-time p.start is.2, (word-time p.stop is.3, tt)))))
+key_words p is = (
+  record { some = omega arith; dark = refl },
+  (
+    word_count most_job p.job (lit< tt) is.0,
+    (
+      word_count most_machine p.machine (lit< tt) is.1,
+      (word-time p.start is.2, (word-time p.stop is.3, tt)),
+    ),
+  ),
+)
 
 -- ---- a certificate
 
@@ -82,72 +104,119 @@ side_again : (first : Bool) → side_of (side_word first) ≡ Some first
 side_again true = refl
 side_again false = refl
 
-split_again : (layout : Layout) (line : ℕ) (side : List ℕ) (delta : ℤ) (first : Bool) → AreListed layout side → IsWithin delta
-    → split_in layout line (side_word first ∷ signed_decimal delta ∷ job_words layout side) ≡ Ok (BySplit side delta first)
+split_again : (layout : Layout) (line : ℕ) (side : List ℕ) (delta : ℤ) (first : Bool)
+    → AreListed layout side → IsWithin delta
+    → split_in layout line (side_word first ∷ signed_decimal delta ∷ job_words layout side)
+    ≡ Ok (BySplit side delta first)
 unfolding split_in
 split_again layout line side delta first are within =
     let which : side_of (side_word first) ≡ Some first = side_again first in
-    let number : is_number (signed_decimal delta) ≡ true = ap is_some (numeral-signed delta (omega (arith, ints, within))) in
-    let form : list_all (is_item layout) (job_words layout side) ≡ true = list_form layout side are.0 in
+    let number : is_number (signed_decimal delta) ≡ true =
+    ap is_some (numeral-signed delta (omega (arith, ints, within))) in
+    let form : list_all (is_item layout) (job_words layout side) ≡ true =
+    list_form layout side are.0 in
     let wait : time_in line (signed_decimal delta) ≡ Ok delta = time-signed line delta within in
-    let jobs : jobs_listed layout line (job_words layout side) ≡ Ok side = listed_again layout line side are in
+    let jobs : jobs_listed layout line (job_words layout side) ≡ Ok side =
+    listed_again layout line side are in
     rw (which, number, form, wait, jobs) refl
 
-certificate_again : (layout : Layout) (line : ℕ) (claim : Claim) → IsReadableClaim layout claim → kind_in layout line (claim_words layout claim) ≡ Ok claim
+certificate_again : (layout : Layout) (line : ℕ) (claim : Claim) → IsReadableClaim layout claim
+    → kind_in layout line (claim_words layout claim) ≡ Ok claim
 unfolding claim_in
 certificate_again layout line ByPairs is = refl
-certificate_again layout line (ByLastOf jobs) is = let read : jobs_in layout line (job_words layout jobs) ≡ Ok jobs = jobs_again layout line jobs is in rw read refl
-certificate_again layout line (ByWindow jobs) is = let read : jobs_in layout line (job_words layout jobs) ≡ Ok jobs = jobs_again layout line jobs is in rw read refl
-certificate_again layout line (BySplit side delta first) is = split_again layout line side delta first is.0 is.1
+certificate_again layout line (ByLastOf jobs) is =
+    let read : jobs_in layout line (job_words layout jobs) ≡ Ok jobs =
+    jobs_again layout line jobs is in rw read refl
+certificate_again layout line (ByWindow jobs) is =
+    let read : jobs_in layout line (job_words layout jobs) ≡ Ok jobs =
+    jobs_again layout line jobs is in rw read refl
+certificate_again layout line (BySplit side delta first) is =
+    split_again layout line side delta first is.0 is.1
 certificate_again layout line ByLoad is = refl
-certificate_again layout line (ByMachine machine) is = let read : count_in line most_machine (decimal machine) ≡ Ok machine = count-decimal line most_machine machine (lit< tt) is in rw read refl
-certificate_again layout line (ByOneJob job) is = let read : count_in line most_job (decimal job) ≡ Ok job = count-decimal line most_job job (lit< tt) is in rw read refl
-certificate_again layout line (ByRanks jobs) is = let read : jobs_in One line (map decimal jobs) ≡ Ok jobs = jobs_again One line jobs (is, tt) in rw read refl
+certificate_again layout line (ByMachine machine) is =
+    let read : count_in line most_machine (decimal machine) ≡ Ok machine =
+    count-decimal line most_machine machine (lit< tt) is in rw read refl
+certificate_again layout line (ByOneJob job) is =
+    let read : count_in line most_job (decimal job) ≡ Ok job =
+    count-decimal line most_job job (lit< tt) is in rw read refl
+certificate_again layout line (ByRanks jobs) is =
+    let read : jobs_in One line (map decimal jobs) ≡ Ok jobs = jobs_again One line jobs (is, tt) in
+    rw read refl
 
 -- ---- the lines before the pieces
 
 heading_again : (layout : Layout) (more : List KeptLine)
-    → heading_at (record { number = 1; bytes = join_with_byte 32 (codes "answer" ∷ version layout ∷ []) } ∷ more) ≡ Ok (layout, more)
+    → heading_at
+    (record { number = 1; bytes = join_with_byte 32 (codes "answer" ∷ version layout ∷ []) }
+    ∷ more) ≡ Ok (layout, more)
 unfolding heading_at words
 heading_again One more = refl
 heading_again Two more = refl
 
-end_again : (number : ℕ) → exactly (codes "end" ∷ []) (numbered number ((codes "end" ∷ []) ∷ [])) ≡ Ok []
+end_again : (number : ℕ)
+    → exactly (codes "end" ∷ []) (numbered number ((codes "end" ∷ []) ∷ [])) ≡ Ok []
 unfolding exactly words
 end_again number = refl
 
-problem_words : (p : Problem) → IsCounted p.env p.count → AreWords (codes "problem" ∷ canonical p ∷ [])
+problem_words : (p : Problem) → IsCounted p.env p.count
+    → AreWords (codes "problem" ∷ canonical p ∷ [])
 problem_words p is = (record { some = omega arith; dark = refl }, (word-canonical p is, tt))
 
-problem_again : (number : ℕ) (p : Problem) (more : List KeptLine) → IsCounted p.env p.count → notation (canonical p) ≡ Ok p
-    → problem_at (record { number = number; bytes = join_with_byte 32 (codes "problem" ∷ canonical p ∷ []) } ∷ more) ≡ Ok (p, more)
+problem_again : (number : ℕ) (p : Problem) (more : List KeptLine) → IsCounted p.env p.count
+    → notation (canonical p) ≡ Ok p
+    → problem_at
+    (record { number = number; bytes = join_with_byte 32 (codes "problem" ∷ canonical p ∷ []) }
+    ∷ more) ≡ Ok (p, more)
 unfolding problem_at problem_in
 problem_again number p more is read =
-    let found : words (codes "problem" ++ 32 ∷ canonical p) ≡ codes "problem" ∷ canonical p ∷ [] = words-join (codes "problem" ∷ canonical p ∷ []) (problem_words p is) in
-    let text : without_return (after_word (codes "problem" ++ 32 ∷ canonical p)) ≡ 32 ∷ canonical p =
-    ap without_return (behind_problem (canonical p)) ∙ no_return (canonical p) (word-canonical p is).dark in
-    let meaning : notation (without_return (after_word (codes "problem" ++ 32 ∷ canonical p))) ≡ Ok p = ap notation text ∙ behind_blank (canonical p) p read in
+    let found : words (codes "problem" ++ 32 ∷ canonical p) ≡ codes "problem" ∷ canonical p ∷ [] =
+    words-join (codes "problem" ∷ canonical p ∷ []) (problem_words p is) in
+    let text : without_return (after_word (codes "problem" ++ 32 ∷ canonical p)) ≡ 32
+    ∷ canonical p =
+    ap without_return (behind_problem (canonical p))
+    ∙ no_return (canonical p) (word-canonical p is).dark in
+    let meaning : notation (without_return (after_word (codes "problem" ++ 32 ∷ canonical p)))
+    ≡ Ok p = ap notation text ∙ behind_blank (canonical p) p read in
     rw (found, meaning) refl
 
-behind_again : (number : ℕ) (key word : List ℕ) → IsWord key → IsWord word → bytes_eq key key ≡ true → word_behind key (record { number = number; bytes = join_with_byte 32 (key ∷ word ∷ []) }) ≡ Ok word
+behind_again : (number : ℕ) (key word : List ℕ) → IsWord key → IsWord word → bytes_eq key key ≡ true
+    → word_behind key (record { number = number; bytes = join_with_byte 32 (key ∷ word ∷ []) })
+    ≡ Ok word
 unfolding word_behind
 behind_again number key word is-key is-word same =
-    let found : words (key ++ 32 ∷ word) ≡ key ∷ word ∷ [] = words-join (key ∷ word ∷ []) (is-key, (is-word, tt)) in
+    let found : words (key ++ 32 ∷ word) ≡ key ∷ word ∷ [] =
+    words-join (key ∷ word ∷ []) (is-key, (is-word, tt)) in
     rw (found, same) refl
 
-count_again : (number : ℕ) (key : List ℕ) (most n : ℕ) (more : List KeptLine) → IsWord key → bytes_eq key key ≡ true → most < 2 ^ 63 → IsCount most n
-    → count_at key most (record { number = number; bytes = join_with_byte 32 (key ∷ decimal n ∷ []) } ∷ more) ≡ Ok (n, more)
+count_again : (number : ℕ) (key : List ℕ) (most n : ℕ) (more : List KeptLine) → IsWord key
+    → bytes_eq key key ≡ true → most < 2 ^ 63 → IsCount most n
+    → count_at key most
+    (record { number = number; bytes = join_with_byte 32 (key ∷ decimal n ∷ []) } ∷ more)
+    ≡ Ok (n, more)
 unfolding count_at
 count_again number key most n more is-key same small is =
-    let word : word_behind key (record { number = number; bytes = join_with_byte 32 (key ∷ decimal n ∷ []) }) ≡ Ok (decimal n) = behind_again number key (decimal n) is-key (word_count most n small is) same in
+    let word : word_behind key
+    (record { number = number; bytes = join_with_byte 32 (key ∷ decimal n ∷ []) })
+    ≡ Ok (decimal n) =
+    behind_again number key (decimal n) is-key (word_count most n small is) same in
     let count : count_in number most (decimal n) ≡ Ok n = count-decimal number most n small is in
     rw (word, count) refl
 
-value_again : (number : ℕ) (z : ℤ) (more : List KeptLine) → SFits w64 z → value_at (record { number = number; bytes = join_with_byte 32 (codes "value" ∷ signed_decimal z ∷ []) } ∷ more) ≡ Ok (z, more)
+value_again : (number : ℕ) (z : ℤ) (more : List KeptLine) → SFits w64 z
+    → value_at (record {
+      number = number;
+      bytes = join_with_byte 32 (codes "value" ∷ signed_decimal z ∷ []);
+    } ∷ more) ≡ Ok (z, more)
 unfolding value_at
 value_again number z more fits =
-    let word : word_behind (codes "value") (record { number = number; bytes = join_with_byte 32 (codes "value" ∷ signed_decimal z ∷ []) }) ≡ Ok (signed_decimal z) =
-    behind_again number (codes "value") (signed_decimal z) (record { some = omega arith; dark = refl }) (word-signed z fits) refl in
+    let word : word_behind (codes "value")
+    (record {
+      number = number;
+      bytes = join_with_byte 32 (codes "value" ∷ signed_decimal z ∷ []);
+    })
+    ≡ Ok (signed_decimal z) =
+    behind_again number (codes "value") (signed_decimal z)
+    (record { some = omega arith; dark = refl }) (word-signed z fits) refl in
     let value : value_in number (signed_decimal z) ≡ Ok z = value-signed number z fits in
     rw (word, value) refl
 
@@ -156,57 +225,111 @@ value_again number z more fits =
 abbrev closing : Layout → Claim → List (List (List ℕ))
 closing layout claim = (codes "cert" ∷ claim_words layout claim) ∷ (codes "end" ∷ []) ∷ []
 
-claim_are_words : (layout : Layout) (claim : Claim) → IsReadableClaim layout claim → AreWords (claim_words layout claim)
+claim_are_words : (layout : Layout) (claim : Claim) → IsReadableClaim layout claim
+    → AreWords (claim_words layout claim)
 claim_are_words layout ByPairs is = (record { some = omega arith; dark = refl }, tt)
-claim_are_words layout (ByLastOf jobs) is = (record { some = omega arith; dark = refl }, list_words layout jobs is.0)
-claim_are_words layout (ByWindow jobs) is = (record { some = omega arith; dark = refl }, list_words layout jobs is.0)
-claim_are_words layout (BySplit side delta true) is = (record { some = omega arith; dark = refl }, (record { some = omega arith; dark = refl }, (word-time delta is.1, list_words layout side is.0.0)))
-claim_are_words layout (BySplit side delta false) is = (record { some = omega arith; dark = refl }, (record { some = omega arith; dark = refl }, (word-time delta is.1, list_words layout side is.0.0)))
+claim_are_words layout (ByLastOf jobs) is =
+    (record { some = omega arith; dark = refl }, list_words layout jobs is.0)
+claim_are_words layout (ByWindow jobs) is =
+    (record { some = omega arith; dark = refl }, list_words layout jobs is.0)
+claim_are_words layout (BySplit side delta true) is = (
+  record { some = omega arith; dark = refl },
+  (
+    record { some = omega arith; dark = refl },
+    (word-time delta is.1, list_words layout side is.0.0),
+  ),
+)
+claim_are_words layout (BySplit side delta false) is = (
+  record { some = omega arith; dark = refl },
+  (
+    record { some = omega arith; dark = refl },
+    (word-time delta is.1, list_words layout side is.0.0),
+  ),
+)
 claim_are_words layout ByLoad is = (record { some = omega arith; dark = refl }, tt)
-claim_are_words layout (ByMachine machine) is = (record { some = omega arith; dark = refl }, (word_count most_machine machine (lit< tt) is, tt))
-claim_are_words layout (ByOneJob job) is = (record { some = omega arith; dark = refl }, (word_count most_job job (lit< tt) is, tt))
-claim_are_words layout (ByRanks jobs) is = (record { some = omega arith; dark = refl }, list_words One jobs is)
+claim_are_words layout (ByMachine machine) is =
+    (record { some = omega arith; dark = refl }, (word_count most_machine machine (lit< tt) is, tt))
+claim_are_words layout (ByOneJob job) is =
+    (record { some = omega arith; dark = refl }, (word_count most_job job (lit< tt) is, tt))
+claim_are_words layout (ByRanks jobs) is =
+    (record { some = omega arith; dark = refl }, list_words One jobs is)
 
-cert_words : (layout : Layout) (claim : Claim) → IsReadableClaim layout claim → AreWords (codes "cert" ∷ claim_words layout claim)
-cert_words layout claim is = (record { some = omega arith; dark = refl }, claim_are_words layout claim is)
+cert_words : (layout : Layout) (claim : Claim) → IsReadableClaim layout claim
+    → AreWords (codes "cert" ∷ claim_words layout claim)
+cert_words layout claim is =
+    (record { some = omega arith; dark = refl }, claim_are_words layout claim is)
 
 -- how many lines before these
 abbrev PiecesAgain : Layout → ℕ → List Piece → Claim → Type 0
-PiecesAgain layout number pieces claim = (last : ℕ) × (pieces_at (numbered number (map piece_words pieces ++ closing layout claim)) ≡ Ok (pieces, numbered last (closing layout claim)))
+PiecesAgain layout number pieces claim = (last : ℕ)
+    × (pieces_at (numbered number (map piece_words pieces ++ closing layout claim))
+    ≡ Ok (pieces, numbered last (closing layout claim)))
 
-pieces_again : (layout : Layout) (number : ℕ) (pieces : List Piece) (claim : Claim) → AllByRecursion IsReadablePiece pieces → IsReadableClaim layout claim → PiecesAgain layout number pieces claim
+pieces_again : (layout : Layout) (number : ℕ) (pieces : List Piece) (claim : Claim)
+    → AllByRecursion IsReadablePiece pieces → IsReadableClaim layout claim
+    → PiecesAgain layout number pieces claim
 unfolding pieces_at
 pieces_again layout number [] claim are is =
-    let found : words (join_with_byte 32 (codes "cert" ∷ claim_words layout claim)) ≡ codes "cert" ∷ claim_words layout claim = words-join (codes "cert" ∷ claim_words layout claim) (cert_words layout claim is) in
+    let found : words (join_with_byte 32 (codes "cert" ∷ claim_words layout claim)) ≡ codes "cert"
+    ∷ claim_words layout claim =
+    words-join (codes "cert" ∷ claim_words layout claim) (cert_words layout claim is) in
     (number, rw found refl)
 pieces_again layout number (p ∷ pieces) claim are is =
-    let found : words (join_with_byte 32 (piece_words p)) ≡ piece_words p = words-join (piece_words p) (key_words p are.0) in
+    let found : words (join_with_byte 32 (piece_words p)) ≡ piece_words p =
+    words-join (piece_words p) (key_words p are.0) in
     let piece : piece_in number (drop 1 (piece_words p)) ≡ Ok p = piece_again number p are.0 in
     let others = pieces_again layout (number + 1) pieces claim are.1 is in
     (others.0, rw (found, piece, others.1) refl)
 
-certificate_line : (layout : Layout) (number : ℕ) (claim : Claim) (more : List KeptLine) → IsReadableClaim layout claim
-    → certificate_at layout (record { number = number; bytes = join_with_byte 32 (codes "cert" ∷ claim_words layout claim) } ∷ more) ≡ Ok (claim, more)
+certificate_line : (layout : Layout) (number : ℕ) (claim : Claim) (more : List KeptLine)
+    → IsReadableClaim layout claim
+    → certificate_at layout
+    (record {
+      number = number;
+      bytes = join_with_byte 32 (codes "cert" ∷ claim_words layout claim);
+    } ∷ more)
+    ≡ Ok (claim, more)
 unfolding certificate_at certificate_in
 certificate_line layout number claim more is =
-    let found : words (join_with_byte 32 (codes "cert" ∷ claim_words layout claim)) ≡ codes "cert" ∷ claim_words layout claim = words-join (codes "cert" ∷ claim_words layout claim) (cert_words layout claim is) in
-    let read : kind_in layout number (claim_words layout claim) ≡ Ok claim = certificate_again layout number claim is in
+    let found : words (join_with_byte 32 (codes "cert" ∷ claim_words layout claim)) ≡ codes "cert"
+    ∷ claim_words layout claim =
+    words-join (codes "cert" ∷ claim_words layout claim) (cert_words layout claim is) in
+    let read : kind_in layout number (claim_words layout claim) ≡ Ok claim =
+    certificate_again layout number claim is in
     rw (found, read) refl
 
 -- ---- the whole
 
-answer_again : (layout : Layout) (number : ℕ) (a : AnswerData) → SFits w64 a.value → AllByRecursion IsReadablePiece a.pieces → IsReadableClaim layout a.certificate → answer_at layout (numbered number (result_lines layout a)) ≡ Ok a
+answer_again : (layout : Layout) (number : ℕ) (a : AnswerData) → SFits w64 a.value
+    → AllByRecursion IsReadablePiece a.pieces → IsReadableClaim layout a.certificate
+    → answer_at layout (numbered number (result_lines layout a)) ≡ Ok a
 unfolding answer_at
 answer_again layout number a value are is =
-    let first : value_at (numbered number (result_lines layout a)) ≡ Ok (a.value, numbered (number + 1) (map piece_words a.pieces ++ closing layout a.certificate)) = value_again number a.value _ value in
+    let first : value_at (numbered number (result_lines layout a))
+    ≡ Ok (
+      a.value,
+      numbered (number + 1) (map piece_words a.pieces ++ closing layout a.certificate),
+    ) =
+    value_again number a.value _ value in
     let pieces = pieces_again layout (number + 1) a.pieces a.certificate are is in
-    let certificate : certificate_at layout (numbered pieces.0 (closing layout a.certificate)) ≡ Ok (a.certificate, numbered (pieces.0 + 1) ((codes "end" ∷ []) ∷ [])) = certificate_line layout pieces.0 a.certificate _ is in
-    let last : exactly (codes "end" ∷ []) (numbered (pieces.0 + 1) ((codes "end" ∷ []) ∷ [])) ≡ Ok [] = end_again (pieces.0 + 1) in
+    let certificate : certificate_at layout (numbered pieces.0 (closing layout a.certificate))
+    ≡ Ok (a.certificate, numbered (pieces.0 + 1) ((codes "end" ∷ []) ∷ [])) =
+    certificate_line layout pieces.0 a.certificate _ is in
+    let last : exactly (codes "end" ∷ []) (numbered (pieces.0 + 1) ((codes "end" ∷ []) ∷ []))
+    ≡ Ok [] = end_again (pieces.0 + 1) in
     rw (first, pieces.1, certificate, last) refl
 
-pieces_are_lines : (layout : Layout) (pieces : List Piece) (claim : Claim) → AllByRecursion IsReadablePiece pieces → IsReadableClaim layout claim → AllByRecursion IsLine (map piece_words pieces ++ closing layout claim)
-pieces_are_lines layout [] claim are is = (record { words = cert_words layout claim is; kept = refl }, (record { words = (record { some = omega arith; dark = refl }, tt); kept = refl }, tt))
-pieces_are_lines layout (p ∷ pieces) claim are is = (record { words = key_words p are.0; kept = refl }, pieces_are_lines layout pieces claim are.1 is)
+pieces_are_lines : (layout : Layout) (pieces : List Piece) (claim : Claim)
+    → AllByRecursion IsReadablePiece pieces → IsReadableClaim layout claim
+    → AllByRecursion IsLine (map piece_words pieces ++ closing layout claim)
+pieces_are_lines layout [] claim are is = (
+  record { words = cert_words layout claim is; kept = refl },
+  (record { words = (record { some = omega arith; dark = refl }, tt); kept = refl }, tt),
+)
+pieces_are_lines layout (p ∷ pieces) claim are is = (
+  record { words = key_words p are.0; kept = refl },
+  pieces_are_lines layout pieces claim are.1 is,
+)
 
 keyed : (key word : List ℕ) → IsWord key → IsWord word → AreWords (key ∷ word ∷ [])
 keyed key word is-key is-word = (is-key, (is-word, tt))
@@ -215,17 +338,38 @@ version_word : (layout : Layout) → IsWord (version layout)
 version_word One = record { some = omega arith; dark = refl }
 version_word Two = record { some = omega arith; dark = refl }
 
-sheet_are_lines : (layout : Layout) (s : SheetData) → IsReadable layout s → IsCounted s.problem.env s.problem.count → AllByRecursion IsLine (answer_lines layout s)
+sheet_are_lines : (layout : Layout) (s : SheetData) → IsReadable layout s
+    → IsCounted s.problem.env s.problem.count → AllByRecursion IsLine (answer_lines layout s)
 sheet_are_lines layout s is counted = (
-  record { words = (record { some = omega arith; dark = refl }, (version_word layout, tt)); kept = refl },
+  record {
+    words = (record { some = omega arith; dark = refl }, (version_word layout, tt));
+    kept =
+        refl;
+  },
   (
     record { words = problem_words s.problem counted; kept = refl },
     (
-      record { words = keyed (codes "jobs") (decimal s.jobs) (record { some = omega arith; dark = refl }) (word_count most_job s.jobs (lit< tt) is.jobs); kept = refl },
+      record {
+        words =
+            keyed (codes "jobs") (decimal s.jobs) (record { some = omega arith; dark = refl })
+            (word_count most_job s.jobs (lit< tt) is.jobs);
+        kept = refl;
+      },
       (
-        record { words = keyed (codes "machines") (decimal s.machines) (record { some = omega arith; dark = refl }) (word_count most_machine s.machines (lit< tt) is.machines); kept = refl },
+        record {
+          words =
+              keyed (codes "machines") (decimal s.machines)
+              (record { some = omega arith; dark = refl })
+              (word_count most_machine s.machines (lit< tt) is.machines);
+          kept = refl;
+        },
         (
-          record { words = keyed (codes "value") (signed_decimal s.answer.value) (record { some = omega arith; dark = refl }) (word-signed s.answer.value is.value); kept = refl },
+          record {
+            words =
+                keyed (codes "value") (signed_decimal s.answer.value)
+                (record { some = omega arith; dark = refl }) (word-signed s.answer.value is.value);
+            kept = refl;
+          },
           pieces_are_lines layout s.answer.pieces s.answer.certificate is.pieces is.certificate,
         ),
       ),
@@ -233,24 +377,40 @@ sheet_are_lines layout s is counted = (
   ),
 )
 
-sheet_again : (layout : Layout) (s : SheetData) → IsReadable layout s → IsCounted s.problem.env s.problem.count → notation (canonical s.problem) ≡ Ok s.problem → sheet_of (numbered 1 (answer_lines layout s)) ≡ Ok s
+sheet_again : (layout : Layout) (s : SheetData) → IsReadable layout s
+    → IsCounted s.problem.env s.problem.count → notation (canonical s.problem) ≡ Ok s.problem
+    → sheet_of (numbered 1 (answer_lines layout s)) ≡ Ok s
 unfolding sheet_of
 sheet_again layout s is counted read =
-    let heading : heading_at (numbered 1 (answer_lines layout s)) ≡ Ok (layout, numbered 2 (drop 1 (answer_lines layout s))) = heading_again layout _ in
-    let problem : problem_at (numbered 2 (drop 1 (answer_lines layout s))) ≡ Ok (s.problem, numbered 3 (drop 2 (answer_lines layout s))) = problem_again 2 s.problem _ counted read in
-    let jobs : count_at (codes "jobs") most_job (numbered 3 (drop 2 (answer_lines layout s))) ≡ Ok (s.jobs, numbered 4 (drop 3 (answer_lines layout s))) =
-    count_again 3 (codes "jobs") most_job s.jobs _ (record { some = omega arith; dark = refl }) refl (lit< tt) is.jobs in
-    let machines : count_at (codes "machines") most_machine (numbered 4 (drop 3 (answer_lines layout s))) ≡ Ok (s.machines, numbered 5 (result_lines layout s.answer)) =
-    count_again 4 (codes "machines") most_machine s.machines _ (record { some = omega arith; dark = refl }) refl (lit< tt) is.machines in
-    let answer : answer_at layout (numbered 5 (result_lines layout s.answer)) ≡ Ok s.answer = answer_again layout 5 s.answer is.value is.pieces is.certificate in
+    let heading : heading_at (numbered 1 (answer_lines layout s))
+    ≡ Ok (layout, numbered 2 (drop 1 (answer_lines layout s))) = heading_again layout _ in
+    let problem : problem_at (numbered 2 (drop 1 (answer_lines layout s)))
+    ≡ Ok (s.problem, numbered 3 (drop 2 (answer_lines layout s))) =
+    problem_again 2 s.problem _ counted read in
+    let jobs : count_at (codes "jobs") most_job (numbered 3 (drop 2 (answer_lines layout s)))
+    ≡ Ok (s.jobs, numbered 4 (drop 3 (answer_lines layout s))) =
+    count_again 3 (codes "jobs") most_job s.jobs _ (record { some = omega arith; dark = refl }) refl
+    (lit< tt) is.jobs in
+    let machines : count_at (codes "machines") most_machine
+    (numbered 4 (drop 3 (answer_lines layout s)))
+    ≡ Ok (s.machines, numbered 5 (result_lines layout s.answer)) =
+    count_again 4 (codes "machines") most_machine s.machines _
+    (record { some = omega arith; dark = refl }) refl (lit< tt) is.machines in
+    let answer : answer_at layout (numbered 5 (result_lines layout s.answer)) ≡ Ok s.answer =
+    answer_again layout 5 s.answer is.value is.pieces is.certificate in
     rw (heading, problem, jobs, machines, answer) refl
 
--- the text of a sheet whose numbers are in their ranges is read as that sheet, if it is not too long
-pub text_again : (layout : Layout) (s : SheetData) → IsReadable layout s → length (answer_text layout s) ≤ MOST_BYTES → answer_in (answer_text layout s) ≡ Ok s
+-- the text of a sheet whose numbers are in their ranges is read as that sheet, if it is not too
+-- long
+pub text_again : (layout : Layout) (s : SheetData) → IsReadable layout s
+    → length (answer_text layout s) ≤ MOST_BYTES → answer_in (answer_text layout s) ≡ Ok s
 unfolding answer_text answer_in
 text_again layout s is short =
     let read = is.problem in
     let counted = is_counted read.0 s.problem read.1 in
-    let kept : kept_lines 1 (lines (flat_map line_text (answer_lines layout s))) ≡ numbered 1 (answer_lines layout s) = kept-text (answer_lines layout s) (sheet_are_lines layout s is counted) in
-    let fits : ltb MOST_BYTES (length (flat_map line_text (answer_lines layout s))) ≡ false = le-ltb _ _ short in
+    let kept : kept_lines 1 (lines (flat_map line_text (answer_lines layout s)))
+    ≡ numbered 1 (answer_lines layout s) =
+    kept-text (answer_lines layout s) (sheet_are_lines layout s is counted) in
+    let fits : ltb MOST_BYTES (length (flat_map line_text (answer_lines layout s))) ≡ false =
+    le-ltb _ _ short in
     rw (fits, kept) (sheet_again layout s is counted (again s.problem counted))

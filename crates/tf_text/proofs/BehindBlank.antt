@@ -1,4 +1,5 @@
--- A notation behind a blank means what it means: reading sees the tokens' bytes, and their places in faults alone.
+-- A notation behind a blank means what it means: reading sees the tokens' bytes, and their places
+-- in faults alone.
 use Rattle.std.proofs.Common.{◌≡◌, ℕ, ◌+◌, ◌&&◌, Bool, true, false, List, [], ◌∷◌, length, map, codes, Option, Some, None, Result, Ok, Err, cond, refl, sym, ap, ◌∙◌, inl, inr}
 use Rattle.std.specs.Option.{option_map_or}
 use Rattle.std.proofs.lemmas.Bool.{cases_Bool}
@@ -16,7 +17,8 @@ use Rattle.tf_notation.specs.Reading.{notation, expect, listed, conditions_at, e
 abbrev Same : List Token → List Token → Type 0
 Same ts us = map (λ t. t.bytes) ts ≡ map (λ t. t.bytes) us
 
-same_lengthen : (m n b : ℕ) (ts us : List Token) → Same ts us → Same (lengthen m b ts) (lengthen n b us)
+same_lengthen : (m n b : ℕ) (ts us : List Token) → Same ts us
+    → Same (lengthen m b ts) (lengthen n b us)
 same_lengthen m n b [] [] h = refl
 same_lengthen m n b [] (u ∷ us) h = cc
 same_lengthen m n b (t ∷ ts) [] h = cc
@@ -50,68 +52,95 @@ read_pair {A} a c b d h =
 abbrev found : {A : Type 0} → Option A → List Token → ℕ → Result (A × List Token) ℕ
 found o ts fault = option_map_or (λ y. Ok (y, ts)) o (Err fault)
 
-agreed : {A : Type 0} (y x : A) (ts us rest : List Token) → Same ts us → done y ts ≡ done x rest → Agrees x rest (Ok (y, us))
+agreed : {A : Type 0} (y x : A) (ts us rest : List Token) → Same ts us → done y ts ≡ done x rest
+    → Agrees x rest (Ok (y, us))
 agreed {A} y x ts us rest same h =
     let parts = read_pair y x ts rest h in
     (us, ap (λ (z : A). Ok (z, us)) parts.0, sym (ap (map (λ t. t.bytes)) parts.1) ∙ same)
 
-expect_one : {A : Type 0} (o : Option A) (ts us rest : List Token) (m n : ℕ) (x : A) → Same ts us → found o ts m ≡ Ok (x, rest) → Agrees x rest (found o us n)
+expect_one : {A : Type 0} (o : Option A) (ts us rest : List Token) (m n : ℕ) (x : A) → Same ts us
+    → found o ts m ≡ Ok (x, rest) → Agrees x rest (found o us n)
 expect_one None ts us rest m n x same h = absurd cc
 expect_one (Some y) ts us rest m n x same h = agreed y x ts us rest same h
 
-expect_agrees : {A : Type 0} (means : List ℕ → Option A) (m n : ℕ) (ts us rest : List Token) (x : A) → Same ts us → expect means m ts ≡ Ok (x, rest) → Agrees x rest (expect means n us)
+expect_agrees : {A : Type 0} (means : List ℕ → Option A) (m n : ℕ) (ts us rest : List Token) (x : A)
+    → Same ts us → expect means m ts ≡ Ok (x, rest) → Agrees x rest (expect means n us)
 unfolding expect
 expect_agrees means m n [] us rest x same h = absurd cc
 expect_agrees means m n (t ∷ ts) [] rest x same h = absurd cc
 expect_agrees means m n (t ∷ ts) (u ∷ us) rest x same h =
     let bytes : t.bytes ≡ u.bytes = cc in
     let tails : Same ts us = cc in
-    expect_one (means u.bytes) ts us rest t.start u.start x tails (sym (ap (λ b. found (means b) ts t.start) bytes) ∙ h)
+    expect_one (means u.bytes) ts us rest t.start u.start x tails
+    (sym (ap (λ b. found (means b) ts t.start) bytes) ∙ h)
 
-listed_named : (o : Option Conditions) (ts us rest : List Token) (m n s e : ℕ) (x : Conditions) → ((more : Conditions) → listed m false more ts ≡ Ok (x, rest) → Agrees x rest (listed n false more us))
-    → option_map_or (λ more. listed m false more ts) o (Err s) ≡ Ok (x, rest) → Agrees x rest (option_map_or (λ more. listed n false more us) o (Err e))
+listed_named : (o : Option Conditions) (ts us rest : List Token) (m n s e : ℕ) (x : Conditions)
+    → ((more : Conditions) → listed m false more ts ≡ Ok (x, rest)
+    → Agrees x rest (listed n false more us))
+    → option_map_or (λ more. listed m false more ts) o (Err s) ≡ Ok (x, rest)
+    → Agrees x rest (option_map_or (λ more. listed n false more us) o (Err e))
 listed_named None ts us rest m n s e x step h = absurd cc
 listed_named (Some more) ts us rest m n s e x step h = step more h
 
-listed_divided : (o : Option Bool) (named : Conditions) (ts us rest : List Token) (m n s e : ℕ) (x : Conditions) → Same ts us → (listed m true named ts ≡ Ok (x, rest) → Agrees x rest (listed n true named us))
-    → option_map_or (λ another. cond another (listed m true named ts) (Ok (named, ts))) o (Err s) ≡ Ok (x, rest)
-    → Agrees x rest (option_map_or (λ another. cond another (listed n true named us) (Ok (named, us))) o (Err e))
+listed_divided : (o : Option Bool) (named : Conditions) (ts us rest : List Token) (m n s e : ℕ)
+    (x : Conditions)
+    → Same ts us → (listed m true named ts ≡ Ok (x, rest) → Agrees x rest (listed n true named us))
+    → option_map_or (λ another. cond another (listed m true named ts) (Ok (named, ts))) o (Err s)
+    ≡ Ok (x, rest)
+    → Agrees x rest
+    (option_map_or (λ another. cond another (listed n true named us) (Ok (named, us))) o
+    (Err e))
 listed_divided None named ts us rest m n s e x same step h = absurd cc
 listed_divided (Some true) named ts us rest m n s e x same step h = step h
-listed_divided (Some false) named ts us rest m n s e x same step h = agreed named x ts us rest same h
+listed_divided (Some false) named ts us rest m n s e x same step h =
+    agreed named x ts us rest same h
 
-listed_agrees : (m n : ℕ) (divided : Bool) (named : Conditions) (ts us rest : List Token) (x : Conditions) → Same ts us → listed m divided named ts ≡ Ok (x, rest) → Agrees x rest (listed n divided named us)
+listed_agrees : (m n : ℕ) (divided : Bool) (named : Conditions) (ts us rest : List Token)
+    (x : Conditions)
+    → Same ts us → listed m divided named ts ≡ Ok (x, rest)
+    → Agrees x rest (listed n divided named us)
 unfolding listed
 listed_agrees m n divided named [] us rest x same h = absurd cc
 listed_agrees m n divided named (t ∷ ts) [] rest x same h = absurd cc
 listed_agrees m n true named (t ∷ ts) (u ∷ us) rest x same h =
     let bytes : t.bytes ≡ u.bytes = cc in
     let tails : Same ts us = cc in
-    listed_named (adds named u.bytes) ts us rest m n t.start u.start x (λ more g. listed_agrees m n false more ts us rest x tails g)
-    (sym (ap (λ b. option_map_or (λ more. listed m false more ts) (adds named b) (Err t.start)) bytes) ∙ h)
+    listed_named (adds named u.bytes) ts us rest m n t.start u.start x
+    (λ more g. listed_agrees m n false more ts us rest x tails g)
+    (sym (ap (λ b. option_map_or (λ more. listed m false more ts) (adds named b) (Err t.start))
+    bytes) ∙ h)
 listed_agrees m n false named (t ∷ ts) (u ∷ us) rest x same h =
     let bytes : t.bytes ≡ u.bytes = cc in
     let tails : Same ts us = cc in
-    listed_divided (meaning dividers u.bytes) named ts us rest m n t.start u.start x tails (λ g. listed_agrees m n true named ts us rest x tails g)
-    (sym (ap (λ b. option_map_or (λ another. cond another (listed m true named ts) (Ok (named, ts))) (meaning dividers b) (Err t.start)) bytes) ∙ h)
+    listed_divided (meaning dividers u.bytes) named ts us rest m n t.start u.start x tails
+    (λ g. listed_agrees m n true named ts us rest x tails g)
+    (sym (ap (λ b. option_map_or (λ another. cond another (listed m true named ts) (Ok (named, ts)))
+    (meaning dividers b) (Err t.start)) bytes) ∙ h)
 
-conditions_agree : (m n : ℕ) (ts us rest : List Token) (x : Conditions) → Same ts us → conditions_at m ts ≡ Ok (x, rest) → Agrees x rest (conditions_at n us)
+conditions_agree : (m n : ℕ) (ts us rest : List Token) (x : Conditions) → Same ts us
+    → conditions_at m ts ≡ Ok (x, rest) → Agrees x rest (conditions_at n us)
 unfolding conditions_at
 conditions_agree m n [] us rest x same h = absurd cc
 conditions_agree m n (t ∷ ts) [] rest x same h = absurd cc
 conditions_agree m n (t ∷ ts) (u ∷ us) rest x same h =
     let bytes : t.bytes ≡ u.bytes = cc in
     let tails : Same ts us = cc in
-    let here : cond (bytes_eq u.bytes (codes "|")) (Ok (no_conditions, ts)) (listed m true no_conditions (t ∷ ts)) ≡ Ok (x, rest) =
-    sym (ap (λ b. cond (bytes_eq b (codes "|")) (Ok (no_conditions, ts)) (listed m true no_conditions (t ∷ ts))) bytes) ∙ h in
+    let here : cond (bytes_eq u.bytes (codes "|")) (Ok (no_conditions, ts))
+    (listed m true no_conditions (t ∷ ts)) ≡ Ok (x, rest) =
+    sym (ap (λ b. cond (bytes_eq b (codes "|")) (Ok (no_conditions, ts))
+    (listed m true no_conditions (t ∷ ts))) bytes) ∙ h in
     conditions_by (bytes_eq u.bytes (codes "|")) t u ts us rest m n x same tails here
   where
-    conditions_by : (b : Bool) (t u : Token) (ts us rest : List Token) (m n : ℕ) (x : Conditions) → Same (t ∷ ts) (u ∷ us) → Same ts us
-        → cond b (Ok (no_conditions, ts)) (listed m true no_conditions (t ∷ ts)) ≡ Ok (x, rest) → Agrees x rest (cond b (Ok (no_conditions, us)) (listed n true no_conditions (u ∷ us)))
+    conditions_by : (b : Bool) (t u : Token) (ts us rest : List Token) (m n : ℕ) (x : Conditions)
+        → Same (t ∷ ts) (u ∷ us) → Same ts us
+        → cond b (Ok (no_conditions, ts)) (listed m true no_conditions (t ∷ ts)) ≡ Ok (x, rest)
+        → Agrees x rest (cond b (Ok (no_conditions, us)) (listed n true no_conditions (u ∷ us)))
     conditions_by true t u ts us rest m n x same tails h = agreed no_conditions x ts us rest tails h
-    conditions_by false t u ts us rest m n x same tails h = listed_agrees m n true no_conditions (t ∷ ts) (u ∷ us) rest x same h
+    conditions_by false t u ts us rest m n x same tails h =
+        listed_agrees m n true no_conditions (t ∷ ts) (u ∷ us) rest x same h
 
-ended_agrees : (x y : Problem) (ts us : List Token) → Same ts us → ended x ts ≡ Ok y → ended x us ≡ Ok y
+ended_agrees : (x y : Problem) (ts us : List Token) → Same ts us → ended x ts ≡ Ok y
+    → ended x us ≡ Ok y
 ended_agrees x y [] [] same h = h
 ended_agrees x y [] (u ∷ us) same h = cc
 ended_agrees x y (t ∷ ts) us same h = cc
@@ -132,7 +161,8 @@ body end ts = do
   divided ← expect (meaning bar) end env.1
   after_bar end env.0 divided.1
 
-body_agrees : (m n : ℕ) (ts us : List Token) (p : Problem) → Same ts us → body m ts ≡ Ok p → body n us ≡ Ok p
+body_agrees : (m n : ℕ) (ts us : List Token) (p : Problem) → Same ts us → body m ts ≡ Ok p
+    → body n us ≡ Ok p
 body_agrees m n ts us p same h =
     let a = bind_ok (expect environment m ts) _ p h in
     let a' = expect_agrees environment m n ts us a.0.1 a.0.0 same a.1 in
@@ -145,7 +175,10 @@ body_agrees m n ts us p same h =
     let e = ended_agrees (problem_of a.0.0 c.0.0 d.0.0) p d.0.1 d'.0 d'.2 d.2 in
     rw (a'.1, b'.1, c'.1, d'.1) e
 
-pub behind_blank : (text : List ℕ) (p : Problem) → notation text ≡ Ok p → notation (32 ∷ text) ≡ Ok p
+pub behind_blank : (text : List ℕ) (p : Problem) → notation text ≡ Ok p
+    → notation (32 ∷ text) ≡ Ok p
 unfolding notation
 behind_blank text p h =
-    ap (body (length (32 ∷ text))) (one_blank text) ∙ body_agrees (length text) (length (32 ∷ text)) (tokens_from 0 text) (tokens_from 1 text) p (same_tokens 0 1 text) h
+    ap (body (length (32 ∷ text))) (one_blank text)
+    ∙ body_agrees (length text) (length (32 ∷ text)) (tokens_from 0 text) (tokens_from 1 text) p
+    (same_tokens 0 1 text) h

@@ -11,64 +11,91 @@ use Rattle.std.proofs.lemmas.Grind.{flat_map-append}
 use Rattle.tf_text.specs.Counted.{AppendsPrefix}
 
 -- one column more
-pub cells_more : (f : ℕ → ℕ) (items old new : List ℕ) (c sign : ℕ) → items ≡ old ++ map f (range_with_len 0 c) → new ≡ items ++ sign ∷ [] → sign ≡ f c
+pub cells_more : (f : ℕ → ℕ) (items old new : List ℕ) (c sign : ℕ)
+    → items ≡ old ++ map f (range_with_len 0 c) → new ≡ items ++ sign ∷ [] → sign ≡ f c
     → new ≡ old ++ map f (range_with_len 0 (c + 1))
 cells_more f items old new c sign is pushed same =
-    pushed ∙ ap (λ xs. xs ++ sign ∷ []) is ∙ append_assoc old (map f (range_with_len 0 c)) (sign ∷ [])
-    ∙ ap (λ s. old ++ (map f (range_with_len 0 c) ++ s ∷ [])) same ∙ ap (λ xs. old ++ xs) (sym (map-range_with_len_more f 0 c c (omega arith)))
+    pushed ∙ ap (λ xs. xs ++ sign ∷ []) is
+    ∙ append_assoc old (map f (range_with_len 0 c)) (sign ∷ [])
+    ∙ ap (λ s. old ++ (map f (range_with_len 0 c) ++ s ∷ [])) same
+    ∙ ap (λ xs. old ++ xs) (sym (map-range_with_len_more f 0 c c (omega arith)))
 
 -- one line more
-lines_more : (f : ℕ → List ℕ) (k : ℕ) → flat_map f (range_with_len 1 (k + 1)) ≡ flat_map f (range_with_len 1 k) ++ f (k + 1)
+lines_more : (f : ℕ → List ℕ) (k : ℕ)
+    → flat_map f (range_with_len 1 (k + 1)) ≡ flat_map f (range_with_len 1 k) ++ f (k + 1)
 lines_more f k =
     ap (λ n. flat_map f (range_with_len 1 n)) (add-one k) ∙ ap (flat_map f) (range_push 1 k)
-    ∙ flat_map-append f (range_with_len 1 k) ((1 + k) ∷ []) ∙ ap (λ xs. flat_map f (range_with_len 1 k) ++ xs) (append-nil (f (1 + k)) ∙ ap f (omega arith))
+    ∙ flat_map-append f (range_with_len 1 k) ((1 + k) ∷ [])
+    ∙ ap (λ xs. flat_map f (range_with_len 1 k) ++ xs)
+    (append-nil (f (1 + k)) ∙ ap f (omega arith))
 
 -- what was written, and a prefix of what comes next, is a prefix of the whole
-prefix_then : (a b c : Option (List ℕ)) (front next rest : List ℕ) → Appends a b front → AppendsPrefix b c next → AppendsPrefix a c (front ++ (next ++ rest))
+prefix_then : (a b c : Option (List ℕ)) (front next rest : List ℕ) → Appends a b front
+    → AppendsPrefix b c next → AppendsPrefix a c (front ++ (next ++ rest))
 prefix_then a b c front next rest written (n, within, more) = (
   length front + n,
   omega (arith, within, length-append front (next ++ rest), length-append next rest),
-  subst (Appends a c) (sym (take-append-add front (next ++ rest) n ∙ ap (λ xs. front ++ xs) (take-append-le n next rest within)))
+  subst (Appends a c)
+      (sym (take-append-add front (next ++ rest) n
+      ∙ ap (λ xs. front ++ xs) (take-append-le n next rest within)))
       (Appends-trans a b c front (take n next) written more),
 )
 
 -- the same of what comes first
-pub prefix_first : (a c : Option (List ℕ)) (next rest : List ℕ) → AppendsPrefix a c next → AppendsPrefix a c (next ++ rest)
-prefix_first a c next rest (n, within, more) =
-    (n, omega (arith, within, length-append next rest), subst (Appends a c) (sym (take-append-le n next rest within)) more)
+pub prefix_first : (a c : Option (List ℕ)) (next rest : List ℕ) → AppendsPrefix a c next
+    → AppendsPrefix a c (next ++ rest)
+prefix_first a c next rest (n, within, more) = (
+  n,
+  omega (arith, within, length-append next rest),
+  subst (Appends a c) (sym (take-append-le n next rest within)) more,
+)
 
 -- a range in two parts
-range_split : (a m d : ℕ) → range_with_len a (m + d) ≡ range_with_len a m ++ range_with_len (a + m) d
-range_split a zero d = let start : a + 0 ≡ a = omega arith in let all : 0 + d ≡ d = omega arith in ap (range_with_len a) all ∙ ap (λ b. range_with_len b d) (sym start)
+range_split : (a m d : ℕ)
+    → range_with_len a (m + d) ≡ range_with_len a m ++ range_with_len (a + m) d
+range_split a zero d = let start : a + 0 ≡ a = omega arith in let all : 0 + d ≡ d = omega arith in
+    ap (range_with_len a) all ∙ ap (λ b. range_with_len b d) (sym start)
 range_split a (suc m) d =
     let more : suc m + d ≡ suc (m + d) = omega arith in
     let next : a + 1 + m ≡ a + suc m = omega arith in
-    ap (range_with_len a) more ∙ ap (λ js. a ∷ js) (range_split (a + 1) m d ∙ ap (λ b. range_with_len (a + 1) m ++ range_with_len b d) next)
+    ap (range_with_len a) more
+    ∙ ap (λ js. a ∷ js)
+    (range_split (a + 1) m d ∙ ap (λ b. range_with_len (a + 1) m ++ range_with_len b d) next)
 
 -- the lines up to k, the next one and the others
 lines_split : (f : ℕ → List ℕ) (k n : ℕ) → k < n
-    → flat_map f (range_with_len 1 n) ≡ flat_map f (range_with_len 1 k) ++ (f (k + 1) ++ flat_map f (range_with_len (1 + (k + 1)) (n - (k + 1))))
+    → flat_map f (range_with_len 1 n) ≡ flat_map f (range_with_len 1 k)
+    ++ (f (k + 1) ++ flat_map f (range_with_len (1 + (k + 1)) (n - (k + 1))))
 lines_split f k n less =
     let parts : n ≡ k + 1 + (n - (k + 1)) = omega arith in
     let rest = range_with_len (1 + (k + 1)) (n - (k + 1)) in
-    ap (λ m. flat_map f (range_with_len 1 m)) parts ∙ ap (flat_map f) (range_split 1 (k + 1) (n - (k + 1)))
-    ∙ flat_map-append f (range_with_len 1 (k + 1)) rest ∙ ap (λ xs. xs ++ flat_map f rest) (lines_more f k)
+    ap (λ m. flat_map f (range_with_len 1 m)) parts
+    ∙ ap (flat_map f) (range_split 1 (k + 1) (n - (k + 1)))
+    ∙ flat_map-append f (range_with_len 1 (k + 1)) rest
+    ∙ ap (λ xs. xs ++ flat_map f rest) (lines_more f k)
     ∙ append_assoc (flat_map f (range_with_len 1 k)) (f (k + 1)) (flat_map f rest)
 
 -- where the lines up to k were written and a prefix of the next one, a prefix of all lines was
-pub prefix_of_lines : (f : ℕ → List ℕ) (a b c : Option (List ℕ)) (head : List ℕ) (k n : ℕ) → k < n → Appends a b (head ++ flat_map f (range_with_len 1 k))
+pub prefix_of_lines : (f : ℕ → List ℕ) (a b c : Option (List ℕ)) (head : List ℕ) (k n : ℕ) → k < n
+    → Appends a b (head ++ flat_map f (range_with_len 1 k))
     → AppendsPrefix b c (f (k + 1)) → AppendsPrefix a c (head ++ flat_map f (range_with_len 1 n))
 prefix_of_lines f a b c head k n less written more =
     let rest : List ℕ = flat_map f (range_with_len (1 + (k + 1)) (n - (k + 1))) in
-    let whole : head ++ flat_map f (range_with_len 1 n) ≡ (head ++ flat_map f (range_with_len 1 k)) ++ (f (k + 1) ++ rest) =
-    ap (λ xs. head ++ xs) (lines_split f k n less) ∙ sym (append_assoc head (flat_map f (range_with_len 1 k)) (f (k + 1) ++ rest)) in
-    subst (AppendsPrefix a c) (sym whole) (prefix_then a b c (head ++ flat_map f (range_with_len 1 k)) (f (k + 1)) rest written more)
+    let whole : head ++ flat_map f (range_with_len 1 n) ≡ (head ++ flat_map f (range_with_len 1 k))
+    ++ (f (k + 1) ++ rest) =
+    ap (λ xs. head ++ xs) (lines_split f k n less)
+    ∙ sym (append_assoc head (flat_map f (range_with_len 1 k)) (f (k + 1) ++ rest)) in
+    subst (AppendsPrefix a c) (sym whole)
+    (prefix_then a b c (head ++ flat_map f (range_with_len 1 k)) (f (k + 1)) rest written more)
 
 -- where the lines up to k were written and then the next one, those up to it were
-pub written_lines : (f : ℕ → List ℕ) (a b c : Option (List ℕ)) (head : List ℕ) (k : ℕ) → Appends a b (head ++ flat_map f (range_with_len 1 k))
+pub written_lines : (f : ℕ → List ℕ) (a b c : Option (List ℕ)) (head : List ℕ) (k : ℕ)
+    → Appends a b (head ++ flat_map f (range_with_len 1 k))
     → Appends b c (f (k + 1)) → Appends a c (head ++ flat_map f (range_with_len 1 (k + 1)))
 written_lines f a b c head k written more =
-    subst (Appends a c) (append_assoc head (flat_map f (range_with_len 1 k)) (f (k + 1)) ∙ ap (λ xs. head ++ xs) (sym (lines_more f k)))
+    subst (Appends a c)
+    (append_assoc head (flat_map f (range_with_len 1 k)) (f (k + 1))
+    ∙ ap (λ xs. head ++ xs) (sym (lines_more f k)))
     (Appends-trans a b c (head ++ flat_map f (range_with_len 1 k)) (f (k + 1)) written more)
 
 -- what holds holds where an error is answered

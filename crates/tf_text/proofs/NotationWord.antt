@@ -61,11 +61,14 @@ dark_condition Nwt = refl
 dark_condition Block = refl
 dark_condition Rcrc = refl
 
-dark_listed : (conditions : List Condition) → IsDark (join_with_byte 44 (map condition_word conditions))
+dark_listed : (conditions : List Condition)
+    → IsDark (join_with_byte 44 (map condition_word conditions))
 dark_listed [] = refl
 dark_listed (condition ∷ []) = dark_condition condition
 dark_listed (condition ∷ other ∷ more) =
-    dark-append (condition_word condition) (44 ∷ join_with_byte 44 (map condition_word (other ∷ more))) (dark_condition condition) (dark_listed (other ∷ more))
+    dark-append (condition_word condition)
+    (44 ∷ join_with_byte 44 (map condition_word (other ∷ more))) (dark_condition condition)
+    (dark_listed (other ∷ more))
 
 dark_goal : (goal : Goal) → IsDark (goal_word goal)
 dark_goal Cmax = refl
@@ -83,12 +86,22 @@ unfolding canonical
 word-canonical p is =
     let machines : List ℕ = environment_word p.env ++ count_text p.env p.count in
     let list : List ℕ = listed_text (conditions_of p) all_conditions in
-    let first : IsDark machines = dark-append (environment_word p.env) (count_text p.env p.count) (dark_environment p.env) (dark_count p.env p.count is) in
+    let first : IsDark machines =
+    dark-append (environment_word p.env) (count_text p.env p.count) (dark_environment p.env)
+    (dark_count p.env p.count is) in
     let barred : IsDark (machines ++ codes "|") = dark-append machines (codes "|") first refl in
-    let listed : IsDark (machines ++ codes "|" ++ list) = dark-append (machines ++ codes "|") list barred (dark_listed (filter (has (conditions_of p)) all_conditions)) in
-    let closed : IsDark (machines ++ codes "|" ++ list ++ codes "|") = dark-append (machines ++ codes "|" ++ list) (codes "|") listed refl in
+    let listed : IsDark (machines ++ codes "|" ++ list) =
+    dark-append (machines ++ codes "|") list barred
+    (dark_listed (filter (has (conditions_of p)) all_conditions)) in
+    let closed : IsDark (machines ++ codes "|" ++ list ++ codes "|") =
+    dark-append (machines ++ codes "|" ++ list) (codes "|") listed refl in
     let long : 0 < length (canonical p) = simp length-append (omega arith) in
-    record { some = long; dark = dark-append (machines ++ codes "|" ++ list ++ codes "|") (goal_word p.goal) closed (dark_goal p.goal) }
+    record {
+      some = long;
+      dark =
+          dark-append (machines ++ codes "|" ++ list ++ codes "|") (goal_word p.goal) closed
+          (dark_goal p.goal);
+    }
 
 -- ---- behind the word
 
@@ -100,7 +113,8 @@ behind_problem text =
 
 no_return_byte : (b : ℕ) → not (is_white b) ≡ true → eqb b 13 ≡ false
 no_return_byte b h = elim (cases_Bool (eqb b 13)) [
-  | inl e ↦ (let same : b ≡ 13 = eqb-true b 13 e in let dark : false ≡ true = subst (λ (c : ℕ). not (is_white c) ≡ true) same h in cc)
+  | inl e ↦ (let same : b ≡ 13 = eqb-true b 13 e in let dark : false ≡ true =
+      subst (λ (c : ℕ). not (is_white c) ≡ true) same h in cc)
   | inr e ↦ e
 ]
 
@@ -115,5 +129,6 @@ no_return_behind text (suc i) h = no_return_at text i h
 
 pub no_return : (text : List ℕ) → IsDark text → without_return (32 ∷ text) ≡ 32 ∷ text
 no_return text h =
-    let last : eqb (get_or (32 ∷ text) (length (32 ∷ text) - 1) 0) 13 ≡ false = no_return_behind text (length (32 ∷ text) - 1) h in
+    let last : eqb (get_or (32 ∷ text) (length (32 ∷ text) - 1) 0) 13 ≡ false =
+    no_return_behind text (length (32 ∷ text) - 1) h in
     rw last refl

@@ -18,7 +18,9 @@ use Rattle.tf_text.specs.JobWords.{run_jobs}
 use Rattle.tf_text.specs.AnswerReading.{fault_in, Fails, run_in, jobs_from, are_many, name_many, few, jobs_listed, piece_in, pieces_at}
 
 -- a fault of a step is one of what begins with it
-pub fails_then : {A B : Type 0} (e : AnswerFault) (r : Result A AnswerFault) (f : A → Result B AnswerFault) → Fails e r → Fails e (r >>= f)
+pub fails_then : {A B : Type 0} (e : AnswerFault) (r : Result A AnswerFault)
+    (f : A → Result B AnswerFault)
+    → Fails e r → Fails e (r >>= f)
 fails_then e r f h = Outcomes.fails_then (fault_in e) r f h
 
 -- ---- jobs
@@ -32,42 +34,56 @@ no_jobs (Ok jobs) = refl
 no_jobs (Err e) = refl
 
 -- a word is read, and then the others
-pub word_read : (line : ℕ) (word : List ℕ) (run : Run) (more : List (List ℕ)) → run_in line word ≡ Ok run
+pub word_read : (line : ℕ) (word : List ℕ) (run : Run) (more : List (List ℕ))
+    → run_in line word ≡ Ok run
     → jobs_from line (word ∷ more) ≡ with_jobs (run_jobs run) (jobs_from line more)
 unfolding jobs_from
 word_read line word run more read = rw read refl
 
 -- what stands before what stands before
-pub with_twice : (xs ys : List ℕ) (read : Result (List ℕ) AnswerFault) → with_jobs xs (with_jobs ys read) ≡ with_jobs (xs ++ ys) read
+pub with_twice : (xs ys : List ℕ) (read : Result (List ℕ) AnswerFault)
+    → with_jobs xs (with_jobs ys read) ≡ with_jobs (xs ++ ys) read
 with_twice xs ys (Ok jobs) = ap (λ js. Ok js) (sym (append_assoc xs ys jobs))
 with_twice xs ys (Err e) = refl
 
 -- the loop's step: the jobs of one word more
-pub job_read : (line : ℕ) (front : List ℕ) (run : Run) (word : List ℕ) (all more : List (List ℕ)) → all ≡ word ∷ more → run_in line word ≡ Ok run
+pub job_read : (line : ℕ) (front : List ℕ) (run : Run) (word : List ℕ) (all more : List (List ℕ))
+    → all ≡ word ∷ more → run_in line word ≡ Ok run
     → with_jobs front (jobs_from line all) ≡ with_jobs (front ++ run_jobs run) (jobs_from line more)
 job_read line front run word all more is read =
-    ap (λ ws. with_jobs front (jobs_from line ws)) is ∙ ap (with_jobs front) (word_read line word run more read) ∙ with_twice front (run_jobs run) (jobs_from line more)
+    ap (λ ws. with_jobs front (jobs_from line ws)) is
+    ∙ ap (with_jobs front) (word_read line word run more read)
+    ∙ with_twice front (run_jobs run) (jobs_from line more)
 
 -- a fault of a word is one of the list
-pub job_fails : (line : ℕ) (front : List ℕ) (word : List ℕ) (all more : List (List ℕ)) (e : AnswerFault) (total : Result (List ℕ) AnswerFault)
-    → with_jobs front (jobs_from line all) ≡ total → all ≡ word ∷ more → Fails e (run_in line word) → Fails e total
+pub job_fails : (line : ℕ) (front : List ℕ) (word : List ℕ) (all more : List (List ℕ))
+    (e : AnswerFault) (total : Result (List ℕ) AnswerFault)
+    → with_jobs front (jobs_from line all) ≡ total → all ≡ word ∷ more → Fails e (run_in line word)
+    → Fails e total
 unfolding jobs_from
 job_fails line front word all more e total same is fails =
     subst (Fails e) (sym (ap (λ ws. with_jobs front (jobs_from line ws)) is) ∙ same)
-    (fails_then e (jobs_from line (word ∷ more)) (λ jobs. Ok (front ++ jobs)) (fails_then e (run_in line word) (λ run. jobs_from line more >>= λ others. Ok (run_jobs run ++ others)) fails))
+    (fails_then e (jobs_from line (word ∷ more)) (λ jobs. Ok (front ++ jobs))
+    (fails_then e (run_in line word)
+    (λ run. jobs_from line more >>= λ others. Ok (run_jobs run ++ others)) fails))
 
-pub jobs_end : (line : ℕ) (front : List ℕ) (all : List (List ℕ)) → all ≡ [] → with_jobs front (jobs_from line all) ≡ Ok front
+pub jobs_end : (line : ℕ) (front : List ℕ) (all : List (List ℕ)) → all ≡ []
+    → with_jobs front (jobs_from line all) ≡ Ok front
 unfolding jobs_from
-jobs_end line front all is = ap (λ ws. with_jobs front (jobs_from line ws)) is ∙ ap (λ jobs. Ok jobs) (append-nil front)
+jobs_end line front all is = ap (λ ws. with_jobs front (jobs_from line ws)) is
+    ∙ ap (λ jobs. Ok jobs) (append-nil front)
 
 -- a run's jobs so far, and its next
-pub job_pushed : (old items new : List ℕ) (first number job : ℕ) → first ≤ number → job ≡ number → items ≡ old ++ range_with_len first (number - first) → new ≡ items ++ job ∷ []
+pub job_pushed : (old items new : List ℕ) (first number job : ℕ) → first ≤ number → job ≡ number
+    → items ≡ old ++ range_with_len first (number - first) → new ≡ items ++ job ∷ []
     → new ≡ old ++ range_with_len first (number + 1 - first)
 job_pushed old items new first number job order same before push =
     let next : suc (number - first) ≡ number + 1 - first = omega arith in
     let here : job ≡ first + (number - first) = omega arith in
-    push ∙ ap (λ js. js ++ job ∷ []) before ∙ append_assoc old (range_with_len first (number - first)) (job ∷ [])
-    ∙ ap (λ j. old ++ (range_with_len first (number - first) ++ j ∷ [])) here ∙ ap (λ js. old ++ js) (sym (range_push first (number - first)))
+    push ∙ ap (λ js. js ++ job ∷ []) before
+    ∙ append_assoc old (range_with_len first (number - first)) (job ∷ [])
+    ∙ ap (λ j. old ++ (range_with_len first (number - first) ++ j ∷ [])) here
+    ∙ ap (λ js. old ++ js) (sym (range_push first (number - first)))
     ∙ ap (λ n. old ++ range_with_len first n) next
 
 -- ---- how many jobs
@@ -77,49 +93,67 @@ abbrev pub with_count : ℕ → Result (List ℕ) AnswerFault → Result Bool An
 with_count count read = read >>= λ jobs. Ok (ltb MOST_JOBS (count + length jobs))
 
 -- before the first word
-pub no_count : (read : Result (List ℕ) AnswerFault) → with_count 0 read ≡ (read >>= λ jobs. Ok (are_many jobs))
+pub no_count : (read : Result (List ℕ) AnswerFault)
+    → with_count 0 read ≡ (read >>= λ jobs. Ok (are_many jobs))
 no_count (Ok jobs) = ap (λ n. Ok (ltb MOST_JOBS n)) (zero-add (length jobs))
 no_count (Err e) = refl
 
 -- more than is allowed stays more
-same_side : (count new n m : ℕ) → new ≡ min (count + n) (MOST_JOBS + 1) → ltb MOST_JOBS (count + (n + m)) ≡ ltb MOST_JOBS (new + m)
+same_side : (count new n m : ℕ) → new ≡ min (count + n) (MOST_JOBS + 1)
+    → ltb MOST_JOBS (count + (n + m)) ≡ ltb MOST_JOBS (new + m)
 same_side count new n m is = elim (cases_Bool (ltb MOST_JOBS (count + (n + m)))) [
-  | inl e ↦ (let many : MOST_JOBS < count + (n + m) = ltb-true _ _ e in e ∙ sym (lt-ltb MOST_JOBS (new + m) (omega arith)))
-  | inr e ↦ (let not_many : count + (n + m) ≤ MOST_JOBS = ltb-false _ _ e in e ∙ sym (le-ltb MOST_JOBS (new + m) (omega arith)))
+  | inl e ↦ (let many : MOST_JOBS < count + (n + m) = ltb-true _ _ e in e
+      ∙ sym (lt-ltb MOST_JOBS (new + m) (omega arith)))
+  | inr e ↦ (let not_many : count + (n + m) ≤ MOST_JOBS = ltb-false _ _ e in e
+      ∙ sym (le-ltb MOST_JOBS (new + m) (omega arith)))
 ]
 
 -- the jobs of a run, counted up to one more than is allowed
-more_count : (count new : ℕ) (run : Run) (read : Result (List ℕ) AnswerFault) → run.first ≤ run.last → new ≡ min (count + (run.last - run.first + 1)) (MOST_JOBS + 1)
+more_count : (count new : ℕ) (run : Run) (read : Result (List ℕ) AnswerFault) → run.first ≤ run.last
+    → new ≡ min (count + (run.last - run.first + 1)) (MOST_JOBS + 1)
     → with_count count (with_jobs (run_jobs run) read) ≡ with_count new read
 more_count count new run (Ok jobs) order is =
-    let many : length (run_jobs run) ≡ run.last + 1 - run.first = length-range_with_len run.first (run.last + 1 - run.first) in
-    let longer : length (run_jobs run ++ jobs) ≡ (run.last - run.first + 1) + length jobs = omega (arith, length-append (run_jobs run) jobs, many) in
-    ap (λ n. Ok (ltb MOST_JOBS (count + n))) longer ∙ ap (λ b. Ok b) (same_side count new (run.last - run.first + 1) (length jobs) is)
+    let many : length (run_jobs run) ≡ run.last + 1 - run.first =
+    length-range_with_len run.first (run.last + 1 - run.first) in
+    let longer : length (run_jobs run ++ jobs) ≡ (run.last - run.first + 1) + length jobs =
+    omega (arith, length-append (run_jobs run) jobs, many) in
+    ap (λ n. Ok (ltb MOST_JOBS (count + n))) longer
+    ∙ ap (λ b. Ok b) (same_side count new (run.last - run.first + 1) (length jobs) is)
 more_count count new run (Err e) order is = refl
 
 -- the loop's step: the jobs of one word more
-pub count_step : (line count new : ℕ) (run : Run) (word : List ℕ) (all more : List (List ℕ)) (total : Result Bool AnswerFault)
-    → run.first ≤ run.last → new ≡ min (count + (run.last - run.first + 1)) (MOST_JOBS + 1) → all ≡ word ∷ more → run_in line word ≡ Ok run
+pub count_step : (line count new : ℕ) (run : Run) (word : List ℕ) (all more : List (List ℕ))
+    (total : Result Bool AnswerFault)
+    → run.first ≤ run.last → new ≡ min (count + (run.last - run.first + 1)) (MOST_JOBS + 1)
+    → all ≡ word ∷ more → run_in line word ≡ Ok run
     → with_count count (jobs_from line all) ≡ total → with_count new (jobs_from line more) ≡ total
 count_step line count new run word all more total order is words read same =
-    sym (more_count count new run (jobs_from line more) order is) ∙ ap (with_count count) (sym (word_read line word run more read))
+    sym (more_count count new run (jobs_from line more) order is)
+    ∙ ap (with_count count) (sym (word_read line word run more read))
     ∙ ap (λ ws. with_count count (jobs_from line ws)) (sym words) ∙ same
 
 -- a fault of a word
-pub count_fails : (line count : ℕ) (word : List ℕ) (all more : List (List ℕ)) (e : AnswerFault) (total : Result Bool AnswerFault)
-    → with_count count (jobs_from line all) ≡ total → all ≡ word ∷ more → Fails e (run_in line word) → Fails e total
+pub count_fails : (line count : ℕ) (word : List ℕ) (all more : List (List ℕ)) (e : AnswerFault)
+    (total : Result Bool AnswerFault)
+    → with_count count (jobs_from line all) ≡ total → all ≡ word ∷ more → Fails e (run_in line word)
+    → Fails e total
 unfolding jobs_from
 count_fails line count word all more e total same is fails =
     subst (Fails e) (sym (ap (λ ws. with_count count (jobs_from line ws)) is) ∙ same)
-    (fails_then e (jobs_from line (word ∷ more)) (λ jobs. Ok (ltb MOST_JOBS (count + length jobs))) (fails_then e (run_in line word) (λ run. jobs_from line more >>= λ others. Ok (run_jobs run ++ others)) fails))
+    (fails_then e (jobs_from line (word ∷ more)) (λ jobs. Ok (ltb MOST_JOBS (count + length jobs)))
+    (fails_then e (run_in line word)
+    (λ run. jobs_from line more >>= λ others. Ok (run_jobs run ++ others)) fails))
 
 -- no word is left
-pub count_end : (line count : ℕ) (all : List (List ℕ)) → all ≡ [] → with_count count (jobs_from line all) ≡ Ok (ltb MOST_JOBS count)
+pub count_end : (line count : ℕ) (all : List (List ℕ)) → all ≡ []
+    → with_count count (jobs_from line all) ≡ Ok (ltb MOST_JOBS count)
 unfolding jobs_from
-count_end line count all is = ap (λ ws. with_count count (jobs_from line ws)) is ∙ ap (λ n. Ok (ltb MOST_JOBS n)) (add-zero count)
+count_end line count all is = ap (λ ws. with_count count (jobs_from line ws)) is
+    ∙ ap (λ n. Ok (ltb MOST_JOBS n)) (add-zero count)
 
 -- a fault of counting is one of reading
-pub many_fails : (e : AnswerFault) (read : Result (List ℕ) AnswerFault) → Fails e (read >>= λ jobs. Ok (are_many jobs)) → Fails e read
+pub many_fails : (e : AnswerFault) (read : Result (List ℕ) AnswerFault)
+    → Fails e (read >>= λ jobs. Ok (are_many jobs)) → Fails e read
 many_fails TooLong (Ok jobs) h = cc
 many_fails (BadLine line) (Ok jobs) h = cc
 many_fails (NumberTooLarge line) (Ok jobs) h = cc
@@ -134,27 +168,33 @@ many_fails EndsEarly (Err f) h = cc
 many_fails OutOfMemory (Err f) h = tt
 
 -- a list of too many jobs
-many_read : (line : ℕ) (read : Result (List ℕ) AnswerFault) → (read >>= λ jobs. Ok (are_many jobs)) ≡ Ok true → (read >>= few Two line) ≡ Err (BadLine line)
+many_read : (line : ℕ) (read : Result (List ℕ) AnswerFault)
+    → (read >>= λ jobs. Ok (are_many jobs)) ≡ Ok true → (read >>= few Two line) ≡ Err (BadLine line)
 many_read line (Ok jobs) h = let many : are_many jobs ≡ true = cc in rw many refl
 many_read line (Err e) h = cc
 
-pub listed_many : (line : ℕ) (ws : List (List ℕ)) → name_many line ws ≡ Ok true → jobs_listed Two line ws ≡ Err (BadLine line)
+pub listed_many : (line : ℕ) (ws : List (List ℕ)) → name_many line ws ≡ Ok true
+    → jobs_listed Two line ws ≡ Err (BadLine line)
 unfolding jobs_listed
 listed_many line ws h = many_read line (jobs_from line ws) h
 
 -- a list of few jobs
-few_read : (line : ℕ) (read : Result (List ℕ) AnswerFault) → (read >>= λ jobs. Ok (are_many jobs)) ≡ Ok false → (read >>= few Two line) ≡ read
+few_read : (line : ℕ) (read : Result (List ℕ) AnswerFault)
+    → (read >>= λ jobs. Ok (are_many jobs)) ≡ Ok false → (read >>= few Two line) ≡ read
 few_read line (Ok jobs) h = let not_many : are_many jobs ≡ false = cc in rw not_many refl
 few_read line (Err e) h = refl
 
-pub listed_few : (line : ℕ) (ws : List (List ℕ)) → name_many line ws ≡ Ok false → jobs_listed Two line ws ≡ jobs_from line ws
+pub listed_few : (line : ℕ) (ws : List (List ℕ)) → name_many line ws ≡ Ok false
+    → jobs_listed Two line ws ≡ jobs_from line ws
 unfolding jobs_listed
 listed_few line ws h = few_read line (jobs_from line ws) h
 
 -- a list with a fault
-pub listed_fails : (line : ℕ) (ws : List (List ℕ)) (e : AnswerFault) → Fails e (name_many line ws) → Fails e (jobs_listed Two line ws)
+pub listed_fails : (line : ℕ) (ws : List (List ℕ)) (e : AnswerFault) → Fails e (name_many line ws)
+    → Fails e (jobs_listed Two line ws)
 unfolding jobs_listed
-listed_fails line ws e h = fails_then e (jobs_from line ws) (few Two line) (many_fails e (jobs_from line ws) h)
+listed_fails line ws e h =
+    fails_then e (jobs_from line ws) (few Two line) (many_fails e (jobs_from line ws) h)
 
 -- a list of version 1
 any_read : (line : ℕ) (read : Result (List ℕ) AnswerFault) → (read >>= few One line) ≡ read
@@ -178,8 +218,11 @@ pub no_pieces : (read : Read) → with_pieces [] read ≡ read
 no_pieces (Ok x) = refl
 no_pieces (Err e) = refl
 
-pieces_regroup : (front : List Piece) (piece : Piece) (read : Read) → with_pieces front (read >>= λ others. Ok (piece ∷ others.0, others.1)) ≡ with_pieces (front ++ piece ∷ []) read
-pieces_regroup front piece (Ok others) = ap (λ pieces. Ok (pieces, others.1)) (sym (append_assoc front (piece ∷ []) others.0))
+pieces_regroup : (front : List Piece) (piece : Piece) (read : Read)
+    → with_pieces front (read >>= λ others. Ok (piece ∷ others.0, others.1))
+    ≡ with_pieces (front ++ piece ∷ []) read
+pieces_regroup front piece (Ok others) =
+    ap (λ pieces. Ok (pieces, others.1)) (sym (append_assoc front (piece ∷ []) others.0))
 pieces_regroup front piece (Err e) = refl
 
 abbrev then_others : List KeptLine → Piece → Read
@@ -190,41 +233,65 @@ words_of line = words line.bytes
 
 -- the line begins with `piece`, and these words are behind it
 abbrev pub IsPieceLine : KeptLine → List (List ℕ) → Type 0
-IsPieceLine line behind = (first_is (codes "piece") (words line.bytes) ≡ true) × (behind ≡ drop 1 (words line.bytes))
+IsPieceLine line behind = (first_is (codes "piece") (words line.bytes) ≡ true)
+    × (behind ≡ drop 1 (words line.bytes))
 
 abbrev is_piece : KeptLine → Type 0
 is_piece line = first_is (codes "piece") (words line.bytes) ≡ true
 
-at_piece : (line : KeptLine) (more : List KeptLine) → is_piece line → pieces_at (line ∷ more) ≡ (piece_in line.number (drop 1 (words line.bytes)) >>= then_others more)
+at_piece : (line : KeptLine) (more : List KeptLine) → is_piece line
+    → pieces_at (line ∷ more)
+    ≡ (piece_in line.number (drop 1 (words line.bytes)) >>= then_others more)
 unfolding pieces_at
 at_piece line more key = rw key refl
 
-pub piece_read : (front : List Piece) (piece : Piece) (line : KeptLine) (all more : List KeptLine) → all ≡ line ∷ more → is_piece line
-    → piece_in line.number (drop 1 (words line.bytes)) ≡ Ok piece → with_pieces front (pieces_at all) ≡ with_pieces (front ++ piece ∷ []) (pieces_at more)
+pub piece_read : (front : List Piece) (piece : Piece) (line : KeptLine) (all more : List KeptLine)
+    → all ≡ line ∷ more → is_piece line
+    → piece_in line.number (drop 1 (words line.bytes)) ≡ Ok piece
+    → with_pieces front (pieces_at all) ≡ with_pieces (front ++ piece ∷ []) (pieces_at more)
 piece_read front piece line all more is key read =
-    ap (λ ls. with_pieces front (pieces_at ls)) is ∙ ap (with_pieces front) (at_piece line more key) ∙ ap (λ r. with_pieces front (r >>= then_others more)) read
+    ap (λ ls. with_pieces front (pieces_at ls)) is ∙ ap (with_pieces front) (at_piece line more key)
+    ∙ ap (λ r. with_pieces front (r >>= then_others more)) read
     ∙ pieces_regroup front piece (pieces_at more)
 
 -- the loop's step: one piece more
-pub piece_step : (front new : List Piece) (piece : Piece) (line : KeptLine) (words : List (List ℕ)) (all more : List KeptLine) (total : Read) → new ≡ front ++ piece ∷ [] → all ≡ line ∷ more → IsPieceLine line words
-    → piece_in line.number words ≡ Ok piece → with_pieces front (pieces_at all) ≡ total → with_pieces new (pieces_at more) ≡ total
+pub piece_step : (front new : List Piece) (piece : Piece) (line : KeptLine) (words : List (List ℕ))
+    (all more : List KeptLine) (total : Read)
+    → new ≡ front ++ piece ∷ [] → all ≡ line ∷ more → IsPieceLine line words
+    → piece_in line.number words ≡ Ok piece → with_pieces front (pieces_at all) ≡ total
+    → with_pieces new (pieces_at more) ≡ total
 piece_step front new piece line words all more total push is key read same =
-    let here : piece_in line.number (drop 1 (words_of line)) ≡ Ok piece = subst (λ (ws : List (List ℕ)). piece_in line.number ws ≡ Ok piece) key.1 read in
-    ap (λ (pieces : List Piece). with_pieces pieces (pieces_at more)) push ∙ sym (piece_read front piece line all more is key.0 here) ∙ same
+    let here : piece_in line.number (drop 1 (words_of line)) ≡ Ok piece =
+    subst (λ (ws : List (List ℕ)). piece_in line.number ws ≡ Ok piece) key.1 read in
+    ap (λ (pieces : List Piece). with_pieces pieces (pieces_at more)) push
+    ∙ sym (piece_read front piece line all more is key.0 here) ∙ same
 
-pub piece_fails : (front : List Piece) (line : KeptLine) (all more : List KeptLine) (e : AnswerFault) (total : Read) → with_pieces front (pieces_at all) ≡ total
-    → all ≡ line ∷ more → is_piece line → Fails e (piece_in line.number (drop 1 (words line.bytes))) → Fails e total
+pub piece_fails : (front : List Piece) (line : KeptLine) (all more : List KeptLine)
+    (e : AnswerFault) (total : Read)
+    → with_pieces front (pieces_at all) ≡ total
+    → all ≡ line ∷ more → is_piece line → Fails e (piece_in line.number (drop 1 (words line.bytes)))
+    → Fails e total
 piece_fails front line all more e total same is key fails =
-    subst (Fails e) (sym (ap (with_pieces front) (at_piece line more key)) ∙ sym (ap (λ ls. with_pieces front (pieces_at ls)) is) ∙ same)
-    (fails_then e (piece_in line.number (drop 1 (words line.bytes)) >>= then_others more) (λ x. Ok (front ++ x.0, x.1)) (fails_then e (piece_in line.number (drop 1 (words line.bytes))) (then_others more) fails))
+    subst (Fails e)
+    (sym (ap (with_pieces front) (at_piece line more key))
+    ∙ sym (ap (λ ls. with_pieces front (pieces_at ls)) is) ∙ same)
+    (fails_then e (piece_in line.number (drop 1 (words line.bytes)) >>= then_others more)
+    (λ x. Ok (front ++ x.0, x.1))
+    (fails_then e (piece_in line.number (drop 1 (words line.bytes))) (then_others more) fails))
 
 -- a line of another kind
-pub pieces_stop : (front : List Piece) (line : KeptLine) (all more : List KeptLine) → all ≡ line ∷ more → first_is (codes "piece") (words line.bytes) ≡ false → with_pieces front (pieces_at all) ≡ Ok (front, all)
+pub pieces_stop : (front : List Piece) (line : KeptLine) (all more : List KeptLine)
+    → all ≡ line ∷ more → first_is (codes "piece") (words line.bytes) ≡ false
+    → with_pieces front (pieces_at all) ≡ Ok (front, all)
 unfolding pieces_at
 pieces_stop front line all more is other =
     let here : pieces_at (line ∷ more) ≡ Ok ([], line ∷ more) = rw other refl in
-    ap (λ ls. with_pieces front (pieces_at ls)) is ∙ ap (with_pieces front) here ∙ ap (λ pieces. Ok (pieces, line ∷ more)) (append-nil front) ∙ ap (λ ls. Ok (front, ls)) (sym is)
+    ap (λ ls. with_pieces front (pieces_at ls)) is ∙ ap (with_pieces front) here
+    ∙ ap (λ pieces. Ok (pieces, line ∷ more)) (append-nil front)
+    ∙ ap (λ ls. Ok (front, ls)) (sym is)
 
-pub pieces_end : (front : List Piece) (all : List KeptLine) → all ≡ [] → with_pieces front (pieces_at all) ≡ Ok (front, all)
+pub pieces_end : (front : List Piece) (all : List KeptLine) → all ≡ []
+    → with_pieces front (pieces_at all) ≡ Ok (front, all)
 unfolding pieces_at
-pieces_end front all is = ap (λ ls. with_pieces front (pieces_at ls)) is ∙ ap (λ pieces. Ok (pieces, [])) (append-nil front) ∙ ap (λ ls. Ok (front, ls)) (sym is)
+pieces_end front all is = ap (λ ls. with_pieces front (pieces_at ls)) is
+    ∙ ap (λ pieces. Ok (pieces, [])) (append-nil front) ∙ ap (λ ls. Ok (front, ls)) (sym is)

@@ -20,7 +20,18 @@ use Rattle.tf_text.specs.declared.answer.fault.AnswerFault.TheVariants.{BadLine,
 -- three jobs of time 4 on two parallel machines
 two_parallel : SheetData
 two_parallel = record {
-  problem = record { env = Parallel; count = Some 2; release = false; prec = false; prmp = true; prmu = false; nwt = false; block = false; rcrc = false; goal = Cmax };
+  problem = record {
+    env = Parallel;
+    count = Some 2;
+    release = false;
+    prec = false;
+    prmp = true;
+    prmu = false;
+    nwt = false;
+    block = false;
+    rcrc = false;
+    goal = Cmax;
+  };
   jobs = 3;
   machines = 2;
   answer = record {
@@ -37,22 +48,30 @@ two_parallel = record {
 
 two_parallel_lines : List (List ℕ)
 two_parallel_lines =
-    codes "answer 1" ∷ codes "problem P2|prmp|Cmax" ∷ codes "jobs 3" ∷ codes "machines 2" ∷ codes "value 6"
-    ∷ codes "piece 1 1 0 4" ∷ codes "piece 2 1 4 6" ∷ codes "piece 2 2 0 2" ∷ codes "piece 3 2 2 6" ∷ codes "cert load" ∷ codes "end" ∷ []
+    codes "answer 1" ∷ codes "problem P2|prmp|Cmax" ∷ codes "jobs 3" ∷ codes "machines 2"
+    ∷ codes "value 6"
+    ∷ codes "piece 1 1 0 4" ∷ codes "piece 2 1 4 6" ∷ codes "piece 2 2 0 2" ∷ codes "piece 3 2 2 6"
+    ∷ codes "cert load" ∷ codes "end" ∷ []
 
-two_parallel_text : answer_text One two_parallel ≡ flat_map (λ line. line ++ 10 ∷ []) two_parallel_lines
+two_parallel_text : answer_text One two_parallel
+    ≡ flat_map (λ line. line ++ 10 ∷ []) two_parallel_lines
 unfolding two_parallel two_parallel_lines answer_text canonical digits
 two_parallel_text = refl
 
-split_second : line_text (codes "cert" ∷ claim_words One (BySplit (1 ∷ 3 ∷ 4 ∷ 5 ∷ []) (pos 5) false)) ≡ codes "cert split second 5 1 3 4 5" ++ 10 ∷ []
+split_second : line_text
+    (codes "cert" ∷ claim_words One (BySplit (1 ∷ 3 ∷ 4 ∷ 5 ∷ []) (pos 5) false))
+    ≡ codes "cert split second 5 1 3 4 5" ++ 10 ∷ []
 unfolding digits
 split_second = refl
 
-split_of_none : line_text (codes "cert" ∷ claim_words One (BySplit [] (negsuc 6) true)) ≡ codes "cert split first -7" ++ 10 ∷ []
+split_of_none : line_text (codes "cert" ∷ claim_words One (BySplit [] (negsuc 6) true))
+    ≡ codes "cert split first -7" ++ 10 ∷ []
 unfolding digits
 split_of_none = refl
 
-split_in_ranges : line_text (codes "cert" ∷ claim_words Two (BySplit (1 ∷ 3 ∷ 4 ∷ 5 ∷ []) (pos 5) false)) ≡ codes "cert split second 5 1 3-5" ++ 10 ∷ []
+split_in_ranges : line_text
+    (codes "cert" ∷ claim_words Two (BySplit (1 ∷ 3 ∷ 4 ∷ 5 ∷ []) (pos 5) false))
+    ≡ codes "cert split second 5 1 3-5" ++ 10 ∷ []
 unfolding digits runs runs_after
 split_in_ranges = refl
 
@@ -75,57 +94,104 @@ text_of lines = flat_map (λ line. line ++ 10 ∷ []) lines
 
 -- the lines of that text up to its pieces, the problem's notation aside
 before_pieces : List ℕ → List (List ℕ)
-before_pieces problem = codes "answer 1" ∷ problem ∷ codes "jobs 3" ∷ codes "machines 2" ∷ codes "value 6" ∷ []
+before_pieces problem =
+    codes "answer 1" ∷ problem ∷ codes "jobs 3" ∷ codes "machines 2" ∷ codes "value 6" ∷ []
 
 -- the same with these lines behind it
 with_lines : List (List ℕ) → List ℕ
 with_lines more = text_of (before_pieces (codes "problem P2|prmp|Cmax") ++ more)
 
 read_back : answer_in (text_of two_parallel_lines) ≡ Ok two_parallel
-unfolding text_of two_parallel two_parallel_lines answer_in sheet_of answer_at heading_at exactly problem_at problem_in word_behind count_at value_at pieces_at piece_in certificate_at certificate_in claim_in numeral kept_lines lines words notation expect conditions_at listed tokens_from plain
+unfolding text_of two_parallel two_parallel_lines answer_in sheet_of answer_at heading_at exactly
+    problem_at problem_in word_behind count_at value_at pieces_at piece_in certificate_at
+    certificate_in claim_in numeral kept_lines lines words notation expect conditions_at listed
+    tokens_from plain
 read_back = refl
 
 cut_after_value : answer_in (with_lines []) ≡ Err EndsEarly
-unfolding with_lines before_pieces text_of answer_in sheet_of answer_at heading_at exactly problem_at problem_in word_behind count_at value_at pieces_at piece_in certificate_at certificate_in claim_in numeral kept_lines lines words notation expect conditions_at listed tokens_from plain
+unfolding with_lines before_pieces text_of answer_in sheet_of answer_at heading_at exactly
+    problem_at problem_in word_behind count_at value_at pieces_at piece_in certificate_at
+    certificate_in claim_in numeral kept_lines lines words notation expect conditions_at listed
+    tokens_from plain
 cut_after_value = refl
 
 short_piece : answer_in (with_lines (codes "piece 1 1 0" ∷ [])) ≡ Err (BadLine 6)
-unfolding with_lines before_pieces text_of answer_in sheet_of answer_at heading_at exactly problem_at problem_in word_behind count_at value_at pieces_at piece_in certificate_at certificate_in claim_in numeral kept_lines lines words notation expect conditions_at listed tokens_from plain
+unfolding with_lines before_pieces text_of answer_in sheet_of answer_at heading_at exactly
+    problem_at problem_in word_behind count_at value_at pieces_at piece_in certificate_at
+    certificate_in claim_in numeral kept_lines lines words notation expect conditions_at listed
+    tokens_from plain
 short_piece = refl
 
-late_stop : answer_in (with_lines (codes "piece 1 1 0 4000000000000000001" ∷ [])) ≡ Err (NumberTooLarge 6)
-unfolding with_lines before_pieces text_of answer_in sheet_of answer_at heading_at exactly problem_at problem_in word_behind count_at value_at pieces_at piece_in certificate_at certificate_in claim_in numeral kept_lines lines words notation expect conditions_at listed tokens_from plain
+late_stop : answer_in (with_lines (codes "piece 1 1 0 4000000000000000001" ∷ []))
+    ≡ Err (NumberTooLarge 6)
+unfolding with_lines before_pieces text_of answer_in sheet_of answer_at heading_at exactly
+    problem_at problem_in word_behind count_at value_at pieces_at piece_in certificate_at
+    certificate_in claim_in numeral kept_lines lines words notation expect conditions_at listed
+    tokens_from plain
 late_stop = refl
 
 form_before_numbers : answer_in (with_lines (codes "piece 100001 1 0 x" ∷ [])) ≡ Err (BadLine 6)
-unfolding with_lines before_pieces text_of answer_in sheet_of answer_at heading_at exactly problem_at problem_in word_behind count_at value_at pieces_at piece_in certificate_at certificate_in claim_in numeral kept_lines lines words notation expect conditions_at listed tokens_from plain
+unfolding with_lines before_pieces text_of answer_in sheet_of answer_at heading_at exactly
+    problem_at problem_in word_behind count_at value_at pieces_at piece_in certificate_at
+    certificate_in claim_in numeral kept_lines lines words notation expect conditions_at listed
+    tokens_from plain
 form_before_numbers = refl
 
-small_job : answer_in (with_lines (codes "piece -10000000000000000000000000000000000000000 1 0 4" ∷ [])) ≡ Err (BadLine 6)
-unfolding with_lines before_pieces text_of answer_in sheet_of answer_at heading_at exactly problem_at problem_in word_behind count_at value_at pieces_at piece_in certificate_at certificate_in claim_in numeral kept_lines lines words notation expect conditions_at listed tokens_from plain
+small_job : answer_in
+    (with_lines (codes "piece -10000000000000000000000000000000000000000 1 0 4" ∷ []))
+    ≡ Err (BadLine 6)
+unfolding with_lines before_pieces text_of answer_in sheet_of answer_at heading_at exactly
+    problem_at problem_in word_behind count_at value_at pieces_at piece_in certificate_at
+    certificate_in claim_in numeral kept_lines lines words notation expect conditions_at listed
+    tokens_from plain
 small_job = refl
 
 no_delta : answer_in (with_lines (codes "cert split first 1-3" ∷ [])) ≡ Err (BadLine 6)
-unfolding with_lines before_pieces text_of answer_in sheet_of answer_at heading_at exactly problem_at problem_in word_behind count_at value_at pieces_at piece_in certificate_at certificate_in claim_in split_in numeral kept_lines lines words notation expect conditions_at listed tokens_from plain
+unfolding with_lines before_pieces text_of answer_in sheet_of answer_at heading_at exactly
+    problem_at problem_in word_behind count_at value_at pieces_at piece_in certificate_at
+    certificate_in claim_in split_in numeral kept_lines lines words notation expect conditions_at
+    listed tokens_from plain
 no_delta = refl
 
-after_end : answer_in (with_lines (codes "cert last 3 1" ∷ codes "end" ∷ [] ∷ codes "# a note" ∷ codes "end" ∷ [])) ≡ Err (BadLine 10)
-unfolding with_lines before_pieces text_of answer_in sheet_of answer_at heading_at exactly problem_at problem_in word_behind count_at value_at pieces_at piece_in certificate_at certificate_in claim_in jobs_in jobs_listed jobs_from run_in range_ends numeral kept_lines lines words notation expect conditions_at listed tokens_from plain
+after_end : answer_in
+    (with_lines (codes "cert last 3 1" ∷ codes "end" ∷ [] ∷ codes "# a note" ∷ codes "end" ∷ []))
+    ≡ Err (BadLine 10)
+unfolding with_lines before_pieces text_of answer_in sheet_of answer_at heading_at exactly
+    problem_at problem_in word_behind count_at value_at pieces_at piece_in certificate_at
+    certificate_in claim_in jobs_in jobs_listed jobs_from run_in range_ends numeral kept_lines lines
+    words notation expect conditions_at listed tokens_from plain
 after_end = refl
 
 unknown_goal : answer_in (text_of (before_pieces (codes "problem 1||sumX"))) ≡ Err BadNotation
-unfolding before_pieces text_of answer_in sheet_of answer_at heading_at exactly problem_at problem_in word_behind count_at value_at pieces_at piece_in certificate_at certificate_in claim_in numeral kept_lines lines words notation expect conditions_at listed tokens_from plain
+unfolding before_pieces text_of answer_in sheet_of answer_at heading_at exactly problem_at
+    problem_in word_behind count_at value_at pieces_at piece_in certificate_at certificate_in
+    claim_in numeral kept_lines lines words notation expect conditions_at listed tokens_from plain
 unknown_goal = refl
 
 no_notation : answer_in (text_of (before_pieces (codes "problem"))) ≡ Err BadNotation
-unfolding before_pieces text_of answer_in sheet_of answer_at heading_at exactly problem_at problem_in word_behind count_at value_at pieces_at piece_in certificate_at certificate_in claim_in numeral kept_lines lines words notation expect conditions_at listed tokens_from plain
+unfolding before_pieces text_of answer_in sheet_of answer_at heading_at exactly problem_at
+    problem_in word_behind count_at value_at pieces_at piece_in certificate_at certificate_in
+    claim_in numeral kept_lines lines words notation expect conditions_at listed tokens_from plain
 no_notation = refl
 
-one_return : problem_in (record { number = 2; bytes = codes " problem F2 || Cmax" ++ 13 ∷ [] }) ≡ Ok (record { env = Flow; count = Some 2; release = false; prec = false; prmp = false; prmu = false; nwt = false; block = false; rcrc = false; goal = Cmax })
+one_return : problem_in (record { number = 2; bytes = codes " problem F2 || Cmax" ++ 13 ∷ [] })
+    ≡ Ok (record {
+      env = Flow;
+      count = Some 2;
+      release = false;
+      prec = false;
+      prmp = false;
+      prmu = false;
+      nwt = false;
+      block = false;
+      rcrc = false;
+      goal = Cmax;
+    })
 unfolding problem_in words notation expect conditions_at listed tokens_from plain
 one_return = refl
 
-two_returns : problem_in (record { number = 2; bytes = codes "problem F2||Cmax" ++ 13 ∷ 13 ∷ [] }) ≡ Err BadNotation
+two_returns : problem_in (record { number = 2; bytes = codes "problem F2||Cmax" ++ 13 ∷ 13 ∷ [] })
+    ≡ Err BadNotation
 unfolding problem_in words notation expect conditions_at listed tokens_from plain
 two_returns = refl
 

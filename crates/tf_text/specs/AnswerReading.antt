@@ -72,7 +72,8 @@ time_in line word = signed_within line (number_in (neg_ℤ LIMIT) LIMIT word)
 
 -- a word as a value: any signed number of 64 bits
 abbrev pub value_in : ℕ → List ℕ → Result ℤ AnswerFault
-value_in line word = signed_within line (number_in (negsuc 9223372036854775807) (pos 9223372036854775807) word)
+value_in line word =
+    signed_within line (number_in (negsuc 9223372036854775807) (pos 9223372036854775807) word)
 
 -- ---- lists of jobs
 
@@ -95,7 +96,8 @@ is_item Two word = is_number word || is_some (range_ends word)
 
 -- the second job is above the first
 abbrev pub ordered : ℕ → ℕ → ℕ → Result Run AnswerFault
-ordered line first last = if nat_lt first last then Ok (record { first = first; last = last }) else Err (BadLine line)
+ordered line first last =
+    if nat_lt first last then Ok (record { first = first; last = last }) else Err (BadLine line)
 
 -- the numbers of a range from left to right, or the only one of a job
 abbrev pub run_of : ℕ → List ℕ → Option (List ℕ × List ℕ) → Result Run AnswerFault
@@ -138,7 +140,8 @@ jobs_listed layout line words = jobs_from line words >>= few layout line
 
 -- the same, once all words are such items
 unfoldable pub jobs_in : Layout → ℕ → List (List ℕ) → Result (List ℕ) AnswerFault
-jobs_in layout line words = if list_all (is_item layout) words then jobs_listed layout line words else Err (BadLine line)
+jobs_in layout line words =
+    if list_all (is_item layout) words then jobs_listed layout line words else Err (BadLine line)
 
 -- ---- the lines before the pieces
 
@@ -153,7 +156,8 @@ next (line ∷ more) = Ok (line, more)
 
 -- the lines behind a line of exactly these words
 abbrev pub passed : List (List ℕ) → KeptLine → List KeptLine → Result (List KeptLine) AnswerFault
-passed wanted line more = if is_exactly wanted (words line.bytes) then Ok more else Err (BadLine line.number)
+passed wanted line more =
+    if is_exactly wanted (words line.bytes) then Ok more else Err (BadLine line.number)
 
 -- the line of exactly these words, and those behind it
 unfoldable pub exactly : List (List ℕ) → List KeptLine → Result (List KeptLine) AnswerFault
@@ -167,7 +171,8 @@ version_in words =
     else None
 
 -- the version, and the lines behind the heading
-abbrev pub behind_heading : Option Layout → KeptLine → List KeptLine → Result (Layout × List KeptLine) AnswerFault
+abbrev pub behind_heading : Option Layout → KeptLine → List KeptLine
+    → Result (Layout × List KeptLine) AnswerFault
 behind_heading None line more = Err (BadLine line.number)
 behind_heading (Some layout) line more = Ok (layout, more)
 
@@ -183,7 +188,8 @@ meant (Err byte) = Err BadNotation
 -- what stands behind the word `problem` is a notation, a carriage return at its end aside
 unfoldable pub problem_in : KeptLine → Result Problem AnswerFault
 problem_in line =
-    if first_is (codes "problem") (words line.bytes) then meant (notation (without_return (after_word line.bytes)))
+    if first_is (codes "problem") (words line.bytes) then meant
+    (notation (without_return (after_word line.bytes)))
     else Err (BadLine line.number)
 
 -- exactly one word
@@ -267,7 +273,9 @@ bare line claim (word ∷ words) = Err (BadLine line)
 
 -- which machine has to wait: the word `first` or `second`
 abbrev pub side_of : List ℕ → Option Bool
-side_of word = if bytes_eq word (codes "first") then Some true else (if bytes_eq word (codes "second") then Some false else None)
+side_of word =
+    if bytes_eq word (codes "first") then Some true
+    else (if bytes_eq word (codes "second") then Some false else None)
 
 -- the delta and the jobs of the side, all of them of their form
 abbrev pub split_of : Layout → ℕ → Bool → List ℕ → List (List ℕ) → Result Claim AnswerFault
@@ -283,19 +291,25 @@ unfoldable pub split_in : Layout → ℕ → List (List ℕ) → Result Claim An
 split_in layout line [] = Err (BadLine line)
 split_in layout line (side ∷ []) = Err (BadLine line)
 split_in layout line (side ∷ delta ∷ jobs) =
-    option_map_or (λ first. split_of layout line first delta jobs) (side_of side) (Err (BadLine line))
+    option_map_or (λ first. split_of layout line first delta jobs) (side_of side)
+    (Err (BadLine line))
 
 -- a kind, and the words behind it; a ranking has no ranges
 unfoldable pub claim_in : Layout → ℕ → List ℕ → List (List ℕ) → Result Claim AnswerFault
 claim_in layout line kind words =
     if bytes_eq kind (codes "pairs") then bare line ByPairs words
-    else if bytes_eq kind (codes "last") then (jobs_in layout line words >>= λ jobs. Ok (ByLastOf jobs))
-    else if bytes_eq kind (codes "window") then (jobs_in layout line words >>= λ jobs. Ok (ByWindow jobs))
+    else if bytes_eq kind (codes "last")
+    then (jobs_in layout line words >>= λ jobs. Ok (ByLastOf jobs))
+    else if bytes_eq kind (codes "window")
+    then (jobs_in layout line words >>= λ jobs. Ok (ByWindow jobs))
     else if bytes_eq kind (codes "split") then split_in layout line words
     else if bytes_eq kind (codes "load") then bare line ByLoad words
-    else if bytes_eq kind (codes "machine") then (only line words >>= count_in line most_machine >>= λ machine. Ok (ByMachine machine))
-    else if bytes_eq kind (codes "job") then (only line words >>= count_in line most_job >>= λ job. Ok (ByOneJob job))
-    else if bytes_eq kind (codes "ranks") then (jobs_in One line words >>= λ jobs. Ok (ByRanks jobs))
+    else if bytes_eq kind (codes "machine")
+    then (only line words >>= count_in line most_machine >>= λ machine. Ok (ByMachine machine))
+    else if bytes_eq kind (codes "job")
+    then (only line words >>= count_in line most_job >>= λ job. Ok (ByOneJob job))
+    else if bytes_eq kind (codes "ranks")
+    then (jobs_in One line words >>= λ jobs. Ok (ByRanks jobs))
     else Err (BadLine line)
 
 -- the words behind `cert`
@@ -344,4 +358,5 @@ sheet_of all = do
 
 -- a text that is not too long, by its kept lines
 unfoldable pub answer_in : List ℕ → Result SheetData AnswerFault
-answer_in text = if nat_lt MOST_BYTES (length text) then Err TooLong else sheet_of (kept_lines 1 (lines text))
+answer_in text =
+    if nat_lt MOST_BYTES (length text) then Err TooLong else sheet_of (kept_lines 1 (lines text))

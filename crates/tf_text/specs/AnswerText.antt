@@ -19,7 +19,9 @@ pub record SheetData : Type 0 where
 
 -- a piece: job, machine, start and stop
 abbrev pub piece_words : Piece → List (List ℕ)
-piece_words p = codes "piece" ∷ decimal p.job ∷ decimal p.machine ∷ signed_decimal p.start ∷ signed_decimal p.stop ∷ []
+piece_words p =
+    codes "piece" ∷ decimal p.job ∷ decimal p.machine ∷ signed_decimal p.start
+    ∷ signed_decimal p.stop ∷ []
 
 -- which machine has to wait
 abbrev pub side_word : Bool → List ℕ

@@ -15,8 +15,10 @@ is_device Device = true
 is_device TooLong = false
 is_device OutOfMemory = false
 
--- The reader gave these bytes, and they were taken. Where it did not fail they are all up to its end, or too many.
-pub record Drains {S E : Type 0} (Takes : S → List ℕ → S → Type 0) (old new : Option (List ℕ)) (before after : S) (result : Result (Unit {0}) E) : Type 0 where
+-- The reader gave these bytes, and they were taken. Where it did not fail they are all up to its
+-- end, or too many.
+pub record Drains {S E : Type 0} (Takes : S → List ℕ → S → Type 0) (old new : Option (List ℕ))
+    (before after : S) (result : Result (Unit {0}) E) : Type 0 where
   pub bytes : List ℕ
   pub at_most : length bytes ≤ MOST_BYTES + 1
   pub given : Consumes old new bytes

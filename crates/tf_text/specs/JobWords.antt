@@ -1,4 +1,5 @@
--- Lists of jobs as words: in version 2, three jobs or more, each one more than the one before, are one word.
+-- Lists of jobs as words: in version 2, three jobs or more, each one more than the one before, are
+-- one word.
 use Rattle.std.specs.Prelude.{ℕ, ◌+◌, ◌-◌, List, [], ◌∷◌, ◌++◌, map, nat_lt, ◌==◌, if◌then◌else◌}
 use Rattle.std.specs.List.{flat_map, range_with_len}
 use Rattle.std.specs.Fmt.{decimal}
@@ -32,7 +33,8 @@ range_word run = decimal run.first ++ 45 ∷ decimal run.last
 
 -- three jobs or more are a range, and others stand alone
 abbrev pub run_words : Run → List (List ℕ)
-run_words run = if nat_lt (run.first + 1) run.last then range_word run ∷ [] else map decimal (run_jobs run)
+run_words run =
+    if nat_lt (run.first + 1) run.last then range_word run ∷ [] else map decimal (run_jobs run)
 
 -- the words of a job set
 abbrev pub job_words : Layout → List ℕ → List (List ℕ)

@@ -19,7 +19,8 @@ IsCount most n = (1 ≤ n) × (n ≤ most)
 
 -- a piece whose job, machine and times are in their ranges
 abbrev pub IsReadablePiece : Piece → Type 0
-IsReadablePiece p = IsCount most_job p.job × IsCount most_machine p.machine × IsWithin p.start × IsWithin p.stop
+IsReadablePiece p = IsCount most_job p.job × IsCount most_machine p.machine × IsWithin p.start
+    × IsWithin p.stop
 
 -- all of them are jobs that a text may name
 abbrev pub AreJobs : List ℕ → Type 0

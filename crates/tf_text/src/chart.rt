@@ -29,7 +29,8 @@ type Line = ArrayVec<u8, LONGEST_LINE>;
 /// A line has a column for each time step, or, where the schedule is longer than `columns`, so many
 /// columns for times that are spread evenly. An idle column is `.`; otherwise it shows the job, by
 /// its number modulo 36 as a digit or a letter. Pieces on further machines are not shown, but their
-/// stops count in the length. After a failure a prefix of the chart was written. It takes no memory.
+/// stops count in the length. After a failure a prefix of the chart was written. It takes no
+/// memory.
 pub fn write_gantt<A: Allocator, W: Write>(
     writer: &mut Counted<W>,
     schedule: &Schedule<A>,

@@ -36,15 +36,18 @@ impl From<Device> for InputFault {
     }
 }
 
-/// Feeds what the reader gives up to its end, or one byte more than [`MOST_BYTES`] where there are more.
+/// Feeds what the reader gives up to its end, or one byte more than [`MOST_BYTES`] where there are
+/// more.
 ///
 /// Where the reader fails, what it gave before was fed.
 pub fn drain<R: Read, F: Feed>(reader: &mut Counted<R>, into: &mut F) -> Result<(), Device>
-    ensures taken { Drains F.Takes (R.remaining (inner_of reader.old)) (R.remaining (inner_of reader.new))
+    ensures taken { Drains F.Takes (R.remaining (inner_of reader.old))
+        (R.remaining (inner_of reader.new))
         into.old into.new result }
     ensures unfailed { OnOk result (has_failed reader.new ≡ false) }
     ensures device { OnErr result (has_failed reader.new ≡ true) }
-    ensures failed_before { has_failed reader.old ≡ true → IsErr result × (reader.new ≡ reader.old) }
+    ensures failed_before { has_failed reader.old ≡ true → IsErr result
+        × (reader.new ≡ reader.old) }
 {
     let mut chunk = [0u8; CHUNK];
     let mut left = MOST_BYTES + 1;
@@ -85,11 +88,15 @@ impl<A: Allocator> Feed for Kept<A> {
 
     ghost took_both = { λ x y z front back first second whole.
         let after = second whole in
-        let before = first after.0 in
-        (before.0, after.1 ∙ ap (λ bs. bs ++ back) before.1 ∙ append_assoc x.text.items front back) };
+        let before = first after.0 in (
+          before.0,
+          after.1 ∙ ap (λ bs. bs ++ back) before.1
+              ∙ append_assoc x.text.items front back,
+        ) };
 }
 
-/// All bytes that the reader gives up to its end. It takes no more than one byte past [`MOST_BYTES`].
+/// All bytes that the reader gives up to its end. It takes no more than one byte past
+/// [`MOST_BYTES`].
 pub fn read_all<A: Allocator, R: Read>(
     alloc: A,
     reader: &mut Counted<R>,

@@ -17,7 +17,15 @@ digit_is c h =
     (low, high, rw (not_low, below) refl)
 
 -- the value of one more digit
-pub one_more : (ds : List ℕ) (i : ℕ) → list_all is_ascii_digit ds ≡ true → i < length ds → (48 ≤ get_or ds i 0) × (get_or ds i 0 ≤ 57) × (digits_value 10 (take (i + 1) ds) ≡ digits_value 10 (take i ds) * 10 + (get_or ds i 0 - 48))
+pub one_more : (ds : List ℕ) (i : ℕ) → list_all is_ascii_digit ds ≡ true → i < length ds
+    → (48 ≤ get_or ds i 0) × (get_or ds i 0 ≤ 57)
+    × (digits_value 10 (take (i + 1) ds) ≡ digits_value 10 (take i ds) * 10
+    + (get_or ds i 0 - 48))
 one_more ds i all lt =
-    let d = digit_is (get_or ds i 0) (and_at (list_all is_ascii_digit) is_ascii_digit refl (λ _ _. refl) ds i 0 lt all) in
-    (d.0, d.1, digits_value_more 10 ds i lt ∙ ap (λ (n : ℕ). digits_value 10 (take i ds) * 10 + n) d.2)
+    let d = digit_is (get_or ds i 0)
+    (and_at (list_all is_ascii_digit) is_ascii_digit refl (λ _ _. refl) ds i 0 lt all) in (
+      d.0,
+      d.1,
+      digits_value_more 10 ds i lt
+          ∙ ap (λ (n : ℕ). digits_value 10 (take i ds) * 10 + n) d.2,
+    )

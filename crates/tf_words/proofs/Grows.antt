@@ -23,9 +23,11 @@ and_regroup : (x y z : Bool) → (x && (y && z)) ≡ ((x && y) && z)
 and_regroup true y z = refl
 and_regroup false y z = refl
 
-all_push : (ds : List ℕ) (b : ℕ) → list_all is_ascii_digit (ds ++ b ∷ []) ≡ (list_all is_ascii_digit ds && is_ascii_digit b)
+all_push : (ds : List ℕ) (b : ℕ)
+    → list_all is_ascii_digit (ds ++ b ∷ []) ≡ (list_all is_ascii_digit ds && is_ascii_digit b)
 all_push [] b = and_true (is_ascii_digit b)
-all_push (d ∷ ds) b = ap (λ x. is_ascii_digit d && x) (all_push ds b) ∙ and_regroup (is_ascii_digit d) (list_all is_ascii_digit ds) (is_ascii_digit b)
+all_push (d ∷ ds) b = ap (λ x. is_ascii_digit d && x) (all_push ds b)
+    ∙ and_regroup (is_ascii_digit d) (list_all is_ascii_digit ds) (is_ascii_digit b)
 
 -- the state of digits that are some
 judged : Bool → Bool → ℕ → SoFar
@@ -34,17 +36,21 @@ judged negative all value = cond all (Digits negative (cut value)) Bad
 cut_again : (value b : ℕ) → cut (more_by (cut value) b) ≡ cut (more_by value b)
 cut_again value b = omega arith
 
-grown : (negative all digit : Bool) (value b : ℕ) → is_ascii_digit b ≡ digit → next (judged negative all value) b ≡ judged negative (all && digit) (more_by value b)
+grown : (negative all digit : Bool) (value b : ℕ) → is_ascii_digit b ≡ digit
+    → next (judged negative all value) b ≡ judged negative (all && digit) (more_by value b)
 unfolding judged
 grown negative false digit value b e = refl
 grown negative true false value b e = rw e refl
 grown negative true true value b e = rw e (ap (Digits negative) (cut_again value b))
 
-some_digits : (negative : Bool) (d : ℕ) (ds : List ℕ) (b : ℕ) → next (behind_sign negative (d ∷ ds)) b ≡ behind_sign negative (d ∷ (ds ++ b ∷ []))
+some_digits : (negative : Bool) (d : ℕ) (ds : List ℕ) (b : ℕ)
+    → next (behind_sign negative (d ∷ ds)) b ≡ behind_sign negative (d ∷ (ds ++ b ∷ []))
 unfolding judged
 some_digits negative d ds b = elim (cases_Bool (is_ascii_digit b)) [
-  | inl e ↦ grown negative (list_all is_ascii_digit (d ∷ ds)) true (digits_value 10 (d ∷ ds)) b e ∙ rw (all_push (d ∷ ds) b, e, digits_value_push 10 (d ∷ ds) b, (digit_is b e).2) refl
-  | inr e ↦ grown negative (list_all is_ascii_digit (d ∷ ds)) false (digits_value 10 (d ∷ ds)) b e ∙ rw (all_push (d ∷ ds) b, e, and_no (list_all is_ascii_digit (d ∷ ds))) refl
+  | inl e ↦ grown negative (list_all is_ascii_digit (d ∷ ds)) true (digits_value 10 (d ∷ ds)) b e
+      ∙ rw (all_push (d ∷ ds) b, e, digits_value_push 10 (d ∷ ds) b, (digit_is b e).2) refl
+  | inr e ↦ grown negative (list_all is_ascii_digit (d ∷ ds)) false (digits_value 10 (d ∷ ds)) b e
+      ∙ rw (all_push (d ∷ ds) b, e, and_no (list_all is_ascii_digit (d ∷ ds))) refl
 ]
 
 one_digit : (negative : Bool) (b : ℕ) → with_byte negative 0 b ≡ behind_sign negative (b ∷ [])
@@ -56,5 +62,11 @@ one_digit negative b = elim (cases_Bool (is_ascii_digit b)) [
 pub step : (word : List ℕ) (b : ℕ) → next (so_far word) b ≡ so_far (word ++ b ∷ [])
 unfolding so_far
 step [] b = ap (λ s. cond (eqb b 45) Minus s) (one_digit false b)
-step (c ∷ []) b = elim (cases_Bool (eqb c 45)) [ inl e ↦ rw e (one_digit true b) | inr e ↦ rw e (some_digits false c [] b) ]
-step (c ∷ d ∷ cs) b = elim (cases_Bool (eqb c 45)) [ inl e ↦ rw e (some_digits true d cs b) | inr e ↦ rw e (some_digits false c (d ∷ cs) b) ]
+step (c ∷ []) b = elim (cases_Bool (eqb c 45)) [
+  | inl e ↦ rw e (one_digit true b)
+  | inr e ↦ rw e (some_digits false c [] b)
+]
+step (c ∷ d ∷ cs) b = elim (cases_Bool (eqb c 45)) [
+  | inl e ↦ rw e (some_digits true d cs b)
+  | inr e ↦ rw e (some_digits false c (d ∷ cs) b)
+]

@@ -5,6 +5,7 @@ use mir.Val.{SFits}
 use Rattle.tf_words.specs.Digits.{signed, cut}
 use Rattle.tf_words.specs.Ranged.{judged}
 
-pub saturated : (negative : Bool) (v : ℕ) (least most : ℤ) → SFits w64 least → SFits w64 most → judged least most (signed negative (cut v)) ≡ judged least most (signed negative v)
+pub saturated : (negative : Bool) (v : ℕ) (least most : ℤ) → SFits w64 least → SFits w64 most
+    → judged least most (signed negative (cut v)) ≡ judged least most (signed negative v)
 saturated true v least most low high = grind (arith, ints)
 saturated false v least most low high = grind (arith, ints)

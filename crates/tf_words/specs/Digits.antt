@@ -21,8 +21,10 @@ signed negative size = if negative then neg_ℤ (pos size) else pos size
 
 -- the number that digits write, behind a sign or not
 abbrev pub written : Bool → List ℕ → Option ℤ
-written negative digits = if is_numeral digits then Some (signed negative (digits_value 10 digits)) else None
+written negative digits =
+    if is_numeral digits then Some (signed negative (digits_value 10 digits)) else None
 
--- The number that a word writes: an optional '-', and one digit or more. Leading zeros are allowed, and the length does not matter.
+-- The number that a word writes: an optional '-', and one digit or more. Leading zeros are allowed,
+-- and the length does not matter.
 unfoldable pub numeral : List ℕ → Option ℤ
 numeral word = if slice_index word 0 == 45 then written true (drop 1 word) else written false word

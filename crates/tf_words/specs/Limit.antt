@@ -1,4 +1,5 @@
--- The greatest absolute value of a number, and the greatest horizon and total, as a number without a sign.
+-- The greatest absolute value of a number, and the greatest horizon and total, as a number without
+-- a sign.
 use Rattle.std.specs.Prelude.{ℕ}
 
 abbrev pub limit : ℕ

@@ -13,4 +13,5 @@ after_word line = from_first is_white (from_first (λ b. not (is_white b)) line)
 
 -- the text without one carriage return at its very end
 abbrev pub without_return : List ℕ → List ℕ
-without_return text = if slice_index text (length text - 1) == 13 then take (length text - 1) text else text
+without_return text =
+    if slice_index text (length text - 1) == 13 then take (length text - 1) text else text

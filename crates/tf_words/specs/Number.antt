@@ -21,4 +21,6 @@ number word = within_limit (number_in (neg_ℤ (pos limit)) (pos limit) word)
 
 -- the number that a word writes in digits without a leading zero, up to a greatest one
 unfoldable pub plain : ℕ → List ℕ → Option ℕ
-plain most word = if is_numeral word && not (slice_index word 0 == 48) && nat_le (digits_value 10 word) most then Some (digits_value 10 word) else None
+plain most word =
+    if is_numeral word && not (slice_index word 0 == 48)
+    && nat_le (digits_value 10 word) most then Some (digits_value 10 word) else None

@@ -14,21 +14,25 @@ use Rattle.tf_words.specs.declared.so_far.SoFar.TheVariants.{Empty, Minus, Digit
 abbrev pub number_shown : SoFar → Number
 number_shown Empty = NotANumber
 number_shown Minus = NotANumber
-number_shown (Digits negative size) = within_limit (judged (neg_ℤ (pos limit)) (pos limit) (signed negative size))
+number_shown (Digits negative size) =
+    within_limit (judged (neg_ℤ (pos limit)) (pos limit) (signed negative size))
 number_shown Bad = NotANumber
 
 -- the line on which the byte after this one stands
 abbrev pub line_after : ℕ → ℕ → ℕ
 line_after line byte = if byte == 10 then line + 1 else line
 
--- of a text that begins with `fed`, on a line of the number `first`, the words `seen` are over, and what has shown
+-- of a text that begins with `fed`, on a line of the number `first`, the words `seen` are over, and
+-- what has shown
 -- belongs to a word that may go on, on this line
-pub record IsAt (first : ℕ) (fed : List ℕ) (seen : List Word) (line : ℕ) (shown : SoFar) : Type 0 where
-  pub bytes : List ℕ
-  pub shown_by : shown ≡ so_far bytes
-  pub one_word : list_all (λ b. not (is_white b)) bytes ≡ true
-  pub early : line ≤ first + length fed
-  pub goes_on : (more : List ℕ) → words_from first (lines (fed ++ more)) ≡ seen ++ words_from line (lines (bytes ++ more))
+pub record IsAt (first : ℕ) (fed : List ℕ) (seen : List Word) (line : ℕ) (shown : SoFar) : Type 0
+  where
+    pub bytes : List ℕ
+    pub shown_by : shown ≡ so_far bytes
+    pub one_word : list_all (λ b. not (is_white b)) bytes ≡ true
+    pub early : line ≤ first + length fed
+    pub goes_on : (more : List ℕ)
+        → words_from first (lines (fed ++ more)) ≡ seen ++ words_from line (lines (bytes ++ more))
 
 -- a line's number and a number are those of a word
 pub record IsOf (word : Word) (line : ℕ) (read : Number) : Type 0 where

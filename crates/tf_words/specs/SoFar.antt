@@ -8,7 +8,8 @@ use Rattle.tf_words.specs.declared.so_far.SoFar.{SoFar}
 use Rattle.tf_words.specs.declared.so_far.SoFar.TheVariants.{Empty, Minus, Digits, Bad}
 
 abbrev pub with_byte : Bool → ℕ → ℕ → SoFar
-with_byte negative size byte = if is_ascii_digit byte then Digits negative (cut (more_by size byte)) else Bad
+with_byte negative size byte =
+    if is_ascii_digit byte then Digits negative (cut (more_by size byte)) else Bad
 
 abbrev pub next : SoFar → ℕ → SoFar
 next Empty byte = if byte == 45 then Minus else with_byte false 0 byte
@@ -18,7 +19,9 @@ next Bad byte = Bad
 
 abbrev pub behind_sign : Bool → List ℕ → SoFar
 behind_sign negative [] = Minus
-behind_sign negative (d ∷ ds) = if list_all is_ascii_digit (d ∷ ds) then Digits negative (cut (digits_value 10 (d ∷ ds))) else Bad
+behind_sign negative (d ∷ ds) =
+    if list_all is_ascii_digit (d ∷ ds) then Digits negative (cut (digits_value 10 (d ∷ ds)))
+    else Bad
 
 unfoldable pub so_far : List ℕ → SoFar
 so_far [] = Empty

@@ -5,7 +5,8 @@ use Rattle.std.specs.List.{slice_split}
 
 -- a word in two, at the first of a byte
 abbrev pub divided : ℕ → List ℕ → Option (List ℕ × List ℕ)
-divided byte word = option_map (λ k. (take k word, drop (k + 1) word)) (position (λ b. b == byte) word)
+divided byte word =
+    option_map (λ k. (take k word, drop (k + 1) word)) (position (λ b. b == byte) word)
 
 abbrev pub is_comma : ℕ → Bool
 is_comma b = b == 44

@@ -15,7 +15,8 @@ is_front b = b == 10 || not (is_white b)
 unfoldable pub words : List ℕ → List (List ℕ)
 words text = filter (λ part. nat_lt 0 (length part)) (slice_split is_white text)
 
--- The lines of a text: each ends at a line feed or at the end. Nothing after the last line feed is no line.
+-- The lines of a text: each ends at a line feed or at the end. Nothing after the last line feed is
+-- no line.
 unfoldable pub lines : List ℕ → List (List ℕ)
 lines [] = []
 lines (b ∷ bs) = if b == 10 then [] ∷ lines bs else onto_first b (lines bs)
@@ -28,7 +29,9 @@ pub record Word : Type 0 where
 -- the words of lines of which the first has this number
 unfoldable pub words_from : ℕ → List (List ℕ) → List Word
 words_from number [] = []
-words_from number (line ∷ lines) = map (λ word. record { line = number; bytes = word }) (words line) ++ words_from (number + 1) lines
+words_from number (line ∷ lines) =
+    map (λ word. record { line = number; bytes = word }) (words line)
+    ++ words_from (number + 1) lines
 
 -- all words of a text, each with the number of its line
 unfoldable pub placed_words : List ℕ → List Word
@@ -58,7 +61,8 @@ pub record KeptLine : Type 0 where
 unfoldable pub kept_lines : ℕ → List (List ℕ) → List KeptLine
 kept_lines number [] = []
 kept_lines number (line ∷ lines) =
-    if is_kept (words line) then record { number = number; bytes = line } ∷ kept_lines (number + 1) lines
+    if is_kept (words line) then record { number = number; bytes = line }
+    ∷ kept_lines (number + 1) lines
     else kept_lines (number + 1) lines
 
 abbrev pub by_words : KeptLine → Line

@@ -1,5 +1,6 @@
 //! The lines of a text that have a word and are no comment.
 ghost use Rattle.std.specs.Prelude.{◌≡◌, ℕ, ◌+◌, ◌^◌, ◌<◌, ◌≤◌, ◌∷◌, [], ◌-◌, ◌==◌, length, drop, position, MatchOption, IfSome};
+ghost use Rattle.std.specs.List.{position_or_len};
 ghost use Rattle.std.specs.Option.{option_map_or};
 ghost use Rattle.tf_words.specs.Words.{is_front, words, lines, is_kept, kept_lines};
 ghost use Rattle.tf_words.specs.LineParts.{from_first, after_word, without_return};
@@ -29,6 +30,17 @@ fn line_feed_at(text: &[u8]) -> Option<usize>
     ensures { result ≡ position (λ b. b == 10) text.now }
 {
     memchr(b'\n', text)
+}
+
+/// How many bytes stand before the first line feed, or how many there are where there is none.
+pub fn line_len(text: &[u8]) -> usize
+    ensures place { result ≡ position_or_len (λ b. b == 10) text.now }
+    ensures within { result ≤ length text.now }
+{
+    match line_feed_at(text) {
+        None => text.len(),
+        Some(at) => at,
+    }
 }
 
 /// The place of the first byte that is of a word or a line feed.

@@ -1,6 +1,7 @@
 //! Words as numbers.
-ghost use Rattle.std.specs.Prelude.{◌≡◌};
-ghost use Rattle.tf_words.specs.Number.{number, plain, within_limit};
+ghost use Rattle.std.specs.Prelude.{◌≡◌, pos, neg_ℤ};
+ghost use Rattle.tf_words.specs.Number.{number, limit, signed, plain, within_limit};
+ghost use Rattle.tf_words.specs.Ranged.{judged};
 
 use crate::digits::{is_numeral, size_of};
 use crate::limit::LIMIT;
@@ -17,7 +18,7 @@ pub enum Number {
 }
 
 /// The number of the range of the limit.
-pub(crate) fn within_limit(ranged: Ranged) -> Number
+fn within_limit(ranged: Ranged) -> Number
     ensures { result ≡ within_limit ranged }
 {
     match ranged {
@@ -25,6 +26,18 @@ pub(crate) fn within_limit(ranged: Ranged) -> Number
         Ranged::Below | Ranged::Above => Number::TooLarge,
         Ranged::Within(value) => Number::Value(value),
     }
+}
+
+/// The number of this sign and this size.
+pub(crate) fn number_sized(negative: bool, size: u64) -> Number
+    ensures { result
+        ≡ within_limit (judged (neg_ℤ (pos limit)) (pos limit) (signed negative size)) }
+{
+    if size > LIMIT as u64 {
+        return Number::TooLarge;
+    }
+    let value = size as i64;
+    Number::Value(if negative { -value } else { value })
 }
 
 /// What a word is as a number.

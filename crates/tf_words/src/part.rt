@@ -35,7 +35,8 @@ pub fn first_part(word: &[u8]) -> (&[u8], &[u8])
 
 /// The part behind the ',' with which a text begins, and the text from the next ',' on.
 pub fn next_part(text: &[u8]) -> Option<(&[u8], &[u8])>
-    ensures parts { MatchOption result (later_parts text.now ≡ []) (λ x. later_parts text.now ≡ x.0.now ∷ later_parts x.1.now) }
+    ensures parts { MatchOption result (later_parts text.now ≡ [])
+        (λ x. later_parts text.now ≡ x.0.now ∷ later_parts x.1.now) }
     ensures shorter { IfSome result (λ x. length x.1.now < length text.now) }
 {
     if text.is_empty() {

@@ -26,7 +26,7 @@ fn signed(negative: bool, size: u64) -> i128
 }
 
 /// Where the number of this size and sign lies.
-pub(crate) fn judged(negative: bool, size: u64, least: i64, most: i64) -> Ranged
+fn judged(negative: bool, size: u64, least: i64, most: i64) -> Ranged
     ensures { result ≡ judged least most (signed negative size) }
 {
     let value = signed(negative, size);

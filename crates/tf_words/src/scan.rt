@@ -3,9 +3,8 @@ ghost use Rattle.std.specs.Prelude.{◌≡◌, ℕ, ◌+◌, ◌^◌, ◌<◌, �
 ghost use Rattle.tf_words.specs.Words.{Word, lines, words_from};
 ghost use Rattle.tf_words.specs.Scan.{number_shown, line_after, IsAt, IsOf, IsInRange};
 
-use crate::limit::LIMIT;
-use crate::number::{Number, within_limit};
-use crate::ranged::judged;
+use crate::digits::with_digit;
+use crate::number::{Number, number_sized};
 use crate::so_far::SoFar;
 use crate::word::is_white;
 
@@ -29,7 +28,7 @@ fn number_shown(shown: SoFar) -> Number
     ensures range { IsInRange result }
 {
     match shown {
-        SoFar::Digits(negative, size) => { within_limit(judged(negative, size, -LIMIT, LIMIT)) }
+        SoFar::Digits(negative, size) => number_sized(negative, size),
         SoFar::Empty | SoFar::Minus | SoFar::Bad => Number::NotANumber,
     }
 }
@@ -49,9 +48,11 @@ impl Scan {
     /// The word so far, if there is one: its line and its number.
     pub fn ended(&self) -> Option<(u32, Number)>
         ensures range { IfSome result (λ w. IsInRange w.1) }
-        ensures word { (first : ℕ) (fed : List ℕ) (seen : List Word) → IsAt first fed seen self.now.line self.now.shown →
+        ensures word { (first : ℕ) (fed : List ℕ) (seen : List Word) →
+            IsAt first fed seen self.now.line self.now.shown →
             MatchOption result (words_from first (lines fed) ≡ seen)
-            (λ w. (word : Word) × IsOf word w.0 w.1 × (words_from first (lines fed) ≡ seen ++ word ∷ [])) }
+            (λ w. (word : Word) × IsOf word w.0 w.1
+            × (words_from first (lines fed) ≡ seen ++ word ∷ [])) }
     {
         match self.shown {
             SoFar::Empty => None,
@@ -64,9 +65,11 @@ impl Scan {
         requires { self.old.line + 1 < 2 ^ 32 }
         ensures later { self.new.line ≤ self.old.line + 1 }
         ensures range { IfSome result (λ w. IsInRange w.1) }
-        ensures fed { (first : ℕ) (fed : List ℕ) (seen : List Word) → IsAt first fed seen self.old.line self.old.shown →
+        ensures fed { (first : ℕ) (fed : List ℕ) (seen : List Word) →
+            IsAt first fed seen self.old.line self.old.shown →
             MatchOption result (IsAt first (fed ++ byte ∷ []) seen self.new.line self.new.shown)
-            (λ w. (word : Word) × IsOf word w.0 w.1 × IsAt first (fed ++ byte ∷ []) (seen ++ word ∷ []) self.new.line self.new.shown) }
+            (λ w. (word : Word) × IsOf word w.0 w.1
+            × IsAt first (fed ++ byte ∷ []) (seen ++ word ∷ []) self.new.line self.new.shown) }
     {
         if !is_white(byte) {
             self.shown = self.shown.push(byte);
@@ -82,6 +85,28 @@ impl Scan {
         }
     }
 
+    /// With the digits with which a piece begins, where a number has begun: how many these are.
+    fn digits(&mut self, piece: &[u8]) -> usize
+        ensures within { result ≤ length piece.now }
+        ensures line { self.new.line ≡ self.old.line }
+        ensures fed { (first : ℕ) (fed : List ℕ) (seen : List Word) →
+            IsAt first fed seen self.old.line self.old.shown →
+            IsAt first (fed ++ take result piece.now) seen self.new.line self.new.shown }
+    {
+        let SoFar::Digits(negative, mut size) = self.shown else {
+            return 0;
+        };
+        for k in 0..piece.len() {
+            if !piece[k].is_ascii_digit() {
+                self.shown = SoFar::Digits(negative, size);
+                return k;
+            }
+            size = with_digit(size, piece[k]);
+        }
+        self.shown = SoFar::Digits(negative, size);
+        piece.len()
+    }
+
     /// With the bytes of a piece up to the first that ends a word, or with all of them: how many
     /// these are, and the word.
     pub fn advance(&mut self, piece: &[u8]) -> (usize, Option<(u32, Number)>)
@@ -90,17 +115,29 @@ impl Scan {
         ensures within { result.0 ≤ length piece.now }
         ensures later { self.new.line ≤ self.old.line + result.0 }
         ensures range { IfSome result.1 (λ w. IsInRange w.1) }
-        ensures fed { (first : ℕ) (fed : List ℕ) (seen : List Word) → IsAt first fed seen self.old.line self.old.shown →
-            MatchOption result.1 (IsAt first (fed ++ take result.0 piece.now) seen self.new.line self.new.shown)
+        ensures fed { (first : ℕ) (fed : List ℕ) (seen : List Word) →
+            IsAt first fed seen self.old.line self.old.shown →
+            MatchOption result.1
+            (IsAt first (fed ++ take result.0 piece.now) seen self.new.line self.new.shown)
             (λ w. (word : Word) × IsOf word w.0 w.1 ×
-            IsAt first (fed ++ take result.0 piece.now) (seen ++ word ∷ []) self.new.line self.new.shown) }
+            IsAt first (fed ++ take result.0 piece.now) (seen ++ word ∷ []) self.new.line
+            self.new.shown) }
     {
-        for k in 0..piece.len() {
-            match self.push(piece[k]) {
-                None => {}
-                Some(word) => return (k + 1, Some(word)),
+        let mut scan = *self;
+        let mut k = 0;
+        while k < piece.len() {
+            match scan.push(piece[k]) {
+                None => {
+                    let (_, rest) = piece.split_at(k + 1);
+                    k += 1 + scan.digits(rest);
+                }
+                Some(word) => {
+                    *self = scan;
+                    return (k + 1, Some(word));
+                }
             }
         }
-        (piece.len(), None)
+        *self = scan;
+        (k, None)
     }
 }

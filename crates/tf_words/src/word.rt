@@ -14,7 +14,8 @@ pub fn is(word: &[u8], spelling: &[u8]) -> bool
 pub fn is_white(byte: u8) -> bool
     ensures { result ≡ is_white byte }
 {
-    matches!(byte, b' ' | b'\t' | b'\r' | b'\n')
+    // Of most bytes the first comparison is enough.
+    byte <= b' ' && matches!(byte, b' ' | b'\t' | b'\r' | b'\n')
 }
 
 /// The place of the first byte that divides words.
@@ -33,7 +34,8 @@ pub fn word_at(text: &[u8]) -> Option<usize>
 
 /// The first word of a text, and what follows it.
 pub fn first_word(text: &[u8]) -> Option<(&[u8], &[u8])>
-    ensures words { MatchOption result (words text.now ≡ []) (λ x. words text.now ≡ x.0.now ∷ words x.1.now) }
+    ensures words { MatchOption result (words text.now ≡ [])
+        (λ x. words text.now ≡ x.0.now ∷ words x.1.now) }
     ensures shorter { IfSome result (λ x. length x.1.now < length text.now) }
     ensures some { IfSome result (λ x. 0 < length x.0.now) }
 {

@@ -13,7 +13,8 @@ use tf_schedule::schedule::PieceFault;
 use tf_text::answer::fault::AnswerFault;
 use tf_text::counted::Counted;
 
-/// Writes the line of a fault, as far as the writer takes it, and answers the exit status. It takes no memory.
+/// Writes the line of a fault, as far as the writer takes it, and answers the exit status. It takes
+/// no memory.
 pub fn report<A: Allocator, W: Write>(fault: &RunFault<A>, writer: &mut Counted<W>) -> u8
     ensures { result ≡ status_of fault.now }
 {

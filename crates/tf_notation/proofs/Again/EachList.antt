@@ -6,9 +6,21 @@ use Rattle.tf_notation.specs.Canonical.{listed_text, all_conditions}
 use Rattle.tf_notation.specs.declared.spelling.Conditions.{Conditions}
 
 abbrev pub ConditionsRead : Conditions → Type 0
-ConditionsRead named = (end o : ℕ) (tail : List ℕ) → (s : ℕ) × (conditions_at end (tokens_from o (listed_text named all_conditions ++ (124 ∷ tail))) ≡ Ok (named, tokens_from s tail))
+ConditionsRead named = (end o : ℕ) (tail : List ℕ) → (s : ℕ)
+    × (conditions_at end (tokens_from o (listed_text named all_conditions ++ (124 ∷ tail)))
+    ≡ Ok (named, tokens_from s tail))
 
-pub conditions_read : (release prec prmp prmu nwt block rcrc : Bool) → ConditionsRead (record { release = release; prec = prec; prmp = prmp; prmu = prmu; nwt = nwt; block = block; rcrc = rcrc })
+pub conditions_read : (release prec prmp prmu nwt block rcrc : Bool)
+    → ConditionsRead
+    (record {
+      release = release;
+      prec = prec;
+      prmp = prmp;
+      prmu = prmu;
+      nwt = nwt;
+      block = block;
+      rcrc = rcrc;
+    })
 unfolding conditions_at listed tokens_from
 conditions_read true true true true true true true end o tail = (_, refl)
 conditions_read true true true true true true false end o tail = (_, refl)

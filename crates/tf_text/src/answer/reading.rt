@@ -281,7 +281,8 @@ fn problem_at<'a>(lines: &Lines<'a>) -> Result<(Problem, Lines<'a>), AnswerFault
 
 #[tactic(auto, unfolding(crate::specs::AnswerReading::count_at))]
 fn count_at<'a>(lines: &Lines<'a>, key: &[u8], most: u32) -> Result<(u32, Lines<'a>), AnswerFault>
-    ensures read { Gives (λ x. (x.0, lines_of x.1)) result (count_at key.now most (lines_of lines.now)) }
+    ensures read { Gives (λ x. (x.0, lines_of x.1)) result
+        (count_at key.now most (lines_of lines.now)) }
     ensures within { IfOk result (λ x. (0 < x.0) × (x.0 ≤ most)) }
 {
     let (line, more) = next_line(lines)?;
@@ -535,7 +536,8 @@ fn certificate_in<A: Allocator + Copy>(
     layout: Layout,
     line: &Line<'_>,
 ) -> Result<Certificate<A>, AnswerFault>
-    ensures { Gives claim_of result (certificate_in layout line.now.number (words line.now.bytes.now)) }
+    ensures { Gives claim_of result
+        (certificate_in layout line.now.number (words line.now.bytes.now)) }
 {
     match behind_key(line.bytes, b"cert") {
         None => Err(AnswerFault::BadLine(line.number)),
@@ -607,9 +609,9 @@ fn sheet_of<A: Allocator + Copy>(alloc: A, lines: &Lines<'_>) -> Result<Sheet<A>
     })
 }
 
-/// The sheet that an answer text of either version says. Lines without words and lines whose first word begins with
-/// `#` are skipped, words are divided by any white space, and numbers may have leading zeros.
-/// Nothing is compared between lines.
+/// The sheet that an answer text of either version says. Lines without words and lines whose first
+/// word begins with `#` are skipped, words are divided by any white space, and numbers may have
+/// leading zeros. Nothing is compared between lines.
 ///
 /// # Errors
 ///

@@ -274,7 +274,8 @@ pub fn answer_bytes<A: Allocator + Copy, M: Allocator>(
     Ok(text)
 }
 
-/// Writes the text of a sheet in a version. Its memory is asked for before the first byte is written.
+/// Writes the text of a sheet in a version. Its memory is asked for before the first byte is
+/// written.
 pub fn write_answer<A: Allocator + Copy, M: Allocator, W: Write>(
     alloc: A,
     writer: &mut Counted<W>,

@@ -13,26 +13,52 @@ returns-then-cost-from g c =
     let k = c.args.task.now in
     let a = c.args.answer.now in
     let qs = c.in-Ok.schedule in
-    let items : c.in_ok-to_vec.field-0.items ≡ a.pieces = c.in_ok-to_vec.ensures.items_if_clones_equal (λ x y e. e) ∙ c.as_slice.ensures ∙ ap (λ z. z.pieces) c.answer.view_is in
-    let kept : IsPermutation a.pieces qs = subst (λ z. IsPermutation z qs) items c.in-Ok.ensures.kept in
-    let fitting : IsFitting k a qs = record { kept = kept; schedule = c.in-Ok.ensures.schedule; draws = c.in-Ok-fits.ensures.judged.0; fits = c.in-Ok-fits.ensures.judged.1 } in
+    let items : c.in_ok-to_vec.field-0.items ≡ a.pieces =
+    c.in_ok-to_vec.ensures.items_if_clones_equal (λ x y e. e) ∙ c.as_slice.ensures
+    ∙ ap (λ z. z.pieces) c.answer.view_is in
+    let kept : IsPermutation a.pieces qs =
+    subst (λ z. IsPermutation z qs) items c.in-Ok.ensures.kept in
+    let fitting : IsFitting k a qs =
+    record {
+      kept = kept;
+      schedule = c.in-Ok.ensures.schedule;
+      draws = c.in-Ok-fits.ensures.judged.0;
+      fits = c.in-Ok-fits.ensures.judged.1;
+    } in
     let fits : SFits w64 c.answer.inside.value = search rules in
-    let value : c.from.result ≡ a.value = c.from.ensures ∙ to_z-of_z w64 c.answer.inside.value fits ∙ ap (λ z. z.value) c.answer.view_is in
-    let costs : c.cost.result ≡ cost k (drawing k.machines qs) = c.cost.ensures ∙ schedule_cost_is k qs fitting.schedule fitting.draws fitting.fits in
-    (drawing k.machines qs, draws_fitting k a qs fitting, λ e. c.if-cost-from.true (ap (of_z w128) (costs ∙ e ∙ sym value)))
+    let value : c.from.result ≡ a.value = c.from.ensures ∙ to_z-of_z w64 c.answer.inside.value fits
+    ∙ ap (λ z. z.value) c.answer.view_is in
+    let costs : c.cost.result ≡ cost k (drawing k.machines qs) = c.cost.ensures
+    ∙ schedule_cost_is k qs fitting.schedule fitting.draws fitting.fits in (
+      drawing k.machines qs,
+      draws_fitting k a qs fitting,
+      λ e. c.if-cost-from.true (ap (of_z w128) (costs ∙ e ∙ sym value)),
+    )
 
 pub returns : goal.returns
 returns g c =
     let k = c.args.task.now in
     let a = c.args.answer.now in
     let qs = c.in-Ok.schedule in
-    let items : c.in_ok-to_vec.field-0.items ≡ a.pieces = c.in_ok-to_vec.ensures.items_if_clones_equal (λ x y e. e) ∙ c.as_slice.ensures ∙ ap (λ z. z.pieces) c.answer.view_is in
-    let kept : IsPermutation a.pieces qs = subst (λ z. IsPermutation z qs) items c.in-Ok.ensures.kept in
-    let fitting : IsFitting k a qs = record { kept = kept; schedule = c.in-Ok.ensures.schedule; draws = c.in-Ok-fits.ensures.judged.0; fits = c.in-Ok-fits.ensures.judged.1 } in
+    let items : c.in_ok-to_vec.field-0.items ≡ a.pieces =
+    c.in_ok-to_vec.ensures.items_if_clones_equal (λ x y e. e) ∙ c.as_slice.ensures
+    ∙ ap (λ z. z.pieces) c.answer.view_is in
+    let kept : IsPermutation a.pieces qs =
+    subst (λ z. IsPermutation z qs) items c.in-Ok.ensures.kept in
+    let fitting : IsFitting k a qs =
+    record {
+      kept = kept;
+      schedule = c.in-Ok.ensures.schedule;
+      draws = c.in-Ok-fits.ensures.judged.0;
+      fits = c.in-Ok-fits.ensures.judged.1;
+    } in
     let fits : SFits w64 c.answer.inside.value = search rules in
-    let value : c.from.result ≡ a.value = c.from.ensures ∙ to_z-of_z w64 c.answer.inside.value fits ∙ ap (λ z. z.value) c.answer.view_is in
-    let costs : c.cost.result ≡ cost k (drawing k.machines qs) = c.cost.ensures ∙ schedule_cost_is k qs fitting.schedule fitting.draws fitting.fits in
+    let value : c.from.result ≡ a.value = c.from.ensures ∙ to_z-of_z w64 c.answer.inside.value fits
+    ∙ ap (λ z. z.value) c.answer.view_is in
+    let costs : c.cost.result ≡ cost k (drawing k.machines qs) = c.cost.ensures
+    ∙ schedule_cost_is k qs fitting.schedule fitting.draws fitting.fits in
     let cost_fits : SFits w128 c.cost.result = search rules in
     let value_fits : SFits w128 c.from.result = search rules in
-    let same : c.cost.result ≡ c.from.result = sym (to_z-of_z w128 c.cost.result cost_fits) ∙ ap (to_z w128) c.if-cost-from.false ∙ to_z-of_z w128 c.from.result value_fits in
+    let same : c.cost.result ≡ c.from.result = sym (to_z-of_z w128 c.cost.result cost_fits)
+    ∙ ap (to_z w128) c.if-cost-from.false ∙ to_z-of_z w128 c.from.result value_fits in
     feasible k a qs fitting (sym costs ∙ same ∙ value)

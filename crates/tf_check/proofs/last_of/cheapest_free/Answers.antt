@@ -23,20 +23,25 @@ loop-job-preserved g c =
     let at : get_or xs i x ≡ x = sym c.job-item.is in
     let job : IsJob k x = subst (IsJob k) at (c.requires.known i x lt) in
     let mark : get_or c.args.followed.now (c.get.result - 1) false ≡ not (is_free k xs x) =
-    ap (λ n. get_or c.args.followed.now (n - 1) false) c.get.ensures.value ∙ c.requires.followed.marked x job in
+    ap (λ n. get_or c.args.followed.now (n - 1) false) c.get.ensures.value
+    ∙ c.requires.followed.marked x job in
     elim c.if-not-followed-get.branch [
       | then-not-followed-get w ↦
-          let free : is_free k xs x ≡ true = not-false (is_free k xs x) (sym mark ∙ w.if-not-followed-get.true) in
+          let free : is_free k xs x ≡ true =
+          not-false (is_free k xs x) (sym mark ∙ w.if-not-followed-get.true) in
           let end : as_time (to_z w64 c.args.end) ≡ c.args.end =
           ap as_time (to_z_pos w64 c.args.end (omega (arith, c.requires.end))) in
           let fits : SFits w128 w.lesser.result = search rules in
           let small : SFits w128 w.price.result = search rules in
           w.least-is
           ∙ ap Some (to_z-of_z w128 w.lesser.result fits ∙ w.lesser.ensures
-          ∙ ap (least_with c.loop-job.least) (to_z-of_z w128 w.price.result small ∙ w.price.ensures ∙ ap (price k x) end)
+          ∙ ap (least_with c.loop-job.least)
+          (to_z-of_z w128 w.price.result small ∙ w.price.ensures ∙ ap (price k x) end)
           ∙ ap (λ o. least_with o (f x)) c.loop-job.invariant)
           ∙ sym (cheapest_more f (is_free k xs) xs i x lt at free)
       | else-not-followed-get w ↦
-          let held : is_free k xs x ≡ false = not-true (is_free k xs x) (sym mark ∙ w.if-not-followed-get.false) in
-          w.least-is ∙ c.loop-job.invariant ∙ sym (cheapest_skips f (is_free k xs) xs i x lt at held)
+          let held : is_free k xs x ≡ false =
+          not-true (is_free k xs x) (sym mark ∙ w.if-not-followed-get.false) in
+          w.least-is ∙ c.loop-job.invariant
+          ∙ sym (cheapest_skips f (is_free k xs) xs i x lt at held)
     ]

@@ -6,4 +6,5 @@ use Rattle.tf_check.proofs.last_of.cheapest_free.Given as goal
 
 abbrev pub invariant-loop-job : goal.invariant-loop-job
 invariant-loop-job g l =
-    l.least ≡ cheapest (λ j. price l.task j l.end) (filter (is_free l.task l.jobs) (take l.job-index l.jobs))
+    l.least ≡ cheapest (λ j. price l.task j l.end)
+    (filter (is_free l.task l.jobs) (take l.job-index l.jobs))

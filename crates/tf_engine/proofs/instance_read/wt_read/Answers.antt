@@ -9,26 +9,34 @@ use Rattle.tf_engine.proofs.instance_read.wt_read.Goals as goal
 
 pub returns-in_err-wt : goal.returns-in_err-wt
 returns-in_err-wt g c =
-    err_is (ReadsTo (instance_said (InWt c.args.jobs c.args.index)) _ _ _) _ _ c.from_residual.ensures.1
-    (reads_wanting _ g.row.A.Denot (weighted_tardiness c.args.jobs c.args.index) _ _ _ ([], search rules, Consumes-nil _))
+    err_is (ReadsTo (instance_said (InWt c.args.jobs c.args.index)) _ _ _) _ _
+    c.from_residual.ensures.1
+    (reads_wanting _ g.row.A.Denot (weighted_tardiness c.args.jobs c.args.index) _ _ _
+    ([], search rules, Consumes-nil _))
 
 pub returns-in_err-drain : goal.returns-in_err-drain
 returns-in_err-drain g c =
-    err_is (ReadsTo (instance_said (InWt c.args.jobs c.args.index)) _ _ _) _ _ c.from_residual-in_err-drain.ensures.1
-    (reads_failing _ g.row.A.Denot (weighted_tardiness c.args.jobs c.args.index) _ _ _ c.in_err-drain.ensures.device
+    err_is (ReadsTo (instance_said (InWt c.args.jobs c.args.index)) _ _ _) _ _
+    c.from_residual-in_err-drain.ensures.1
+    (reads_failing _ g.row.A.Denot (weighted_tardiness c.args.jobs c.args.index) _ _ _
+    c.in_err-drain.ensures.device
     (c.drain.ensures.taken.bytes, c.drain.ensures.taken.at_most, c.drain.ensures.taken.given))
 
 pub returns-in_err-finish : goal.returns-in_err-finish
 returns-in_err-finish g c =
     let drained = c.in_ok-drain.ensures.taken in
-    err_is (ReadsTo (instance_said (InWt c.args.jobs c.args.index)) _ _ _) _ _ c.from_residual-in_err-finish.ensures.1
-    (reads_fault _ g.row.A.Denot (weighted_tardiness c.args.jobs c.args.index) _ _ _ drained.bytes drained.at_most drained.given drained.ended
-    c.in_ok-drain.ensures.unfailed (too_long (InWt c.args.jobs c.args.index)) c.in_err-finish.field-0.0
+    err_is (ReadsTo (instance_said (InWt c.args.jobs c.args.index)) _ _ _) _ _
+    c.from_residual-in_err-finish.ensures.1
+    (reads_fault _ g.row.A.Denot (weighted_tardiness c.args.jobs c.args.index) _ _ _ drained.bytes
+    drained.at_most drained.given drained.ended
+    c.in_ok-drain.ensures.unfailed (too_long (InWt c.args.jobs c.args.index))
+    c.in_err-finish.field-0.0
     (sym (c.in_err-finish.ensures _ drained.bytes (drained.taken _ [] c.in_ok-wt.ensures))))
 
 pub returns : goal.returns
 returns g c =
     let drained = c.in_ok-drain.ensures.taken in
-    reads_value _ g.row.A.Denot (weighted_tardiness c.args.jobs c.args.index) _ _ _ drained.bytes drained.at_most drained.given drained.ended
+    reads_value _ g.row.A.Denot (weighted_tardiness c.args.jobs c.args.index) _ _ _ drained.bytes
+    drained.at_most drained.given drained.ended
     c.in_ok-drain.ensures.unfailed (too_long (InWt c.args.jobs c.args.index)) c.in_ok-finish.field-0
     (sym (c.in_ok-finish.ensures _ drained.bytes (drained.taken _ [] c.in_ok-wt.ensures)))

@@ -10,33 +10,46 @@ use Rattle.tf_engine.proofs.run_check.run_check.Goals as goal
 
 pub returns-in_err-problem-clause-outcome : goal.returns-in_err-problem-clause-outcome
 returns-in_err-problem-clause-outcome g c =
-    let line = ap problem_for (ap (λ r. r.problem) (sym c.request.view_is) ∙ sym c.as_str.ensures) in
+    let line = ap problem_for
+    (ap (λ r. r.problem) (sym c.request.view_is) ∙ sym c.as_str.ensures) in
     let (refused, same, is) = c.in_err-problem.ensures in
-    err_is (IsCheckOf c.args.request.now _ _ _ _ _ _ _) c.in_err-problem.field-0.0 _ c.from_residual.ensures.1
-    (check_unread g.row.A.Denot c.args.request.now _ _ _ _ _ _ c.in_err-problem.field-0.0 refused same (line ∙ is))
+    err_is (IsCheckOf c.args.request.now _ _ _ _ _ _ _) c.in_err-problem.field-0.0 _
+    c.from_residual.ensures.1
+    (check_unread g.row.A.Denot c.args.request.now _ _ _ _ _ _ c.in_err-problem.field-0.0 refused
+    same (line ∙ is))
 
 pub returns-in_err-task-clause-outcome : goal.returns-in_err-task-clause-outcome
 returns-in_err-task-clause-outcome g c =
     let line : problem_for c.args.request.now.problem ≡ Ok c.in_ok-problem.problem =
-    ap problem_for (ap (λ r. r.problem) (sym c.request.view_is) ∙ sym c.as_str.ensures) ∙ c.in_ok-problem.ensures in
-    err_is (IsCheckOf c.args.request.now _ _ _ _ _ _ _) c.in_err-task.field-0.0 _ c.from_residual-in_err-task.ensures.1
-    (check_untasked g.row.A.Denot c.args.request.now _ _ _ _ _ _ c.in_ok-problem.problem _ c.in_err-task.field-0.0 line c.in_err-task.ensures)
+    ap problem_for (ap (λ r. r.problem) (sym c.request.view_is) ∙ sym c.as_str.ensures)
+    ∙ c.in_ok-problem.ensures in
+    err_is (IsCheckOf c.args.request.now _ _ _ _ _ _ _) c.in_err-task.field-0.0 _
+    c.from_residual-in_err-task.ensures.1
+    (check_untasked g.row.A.Denot c.args.request.now _ _ _ _ _ _ c.in_ok-problem.problem _
+    c.in_err-task.field-0.0 line c.in_err-task.ensures)
 
 pub returns-in_err-task-clause-read_answer : goal.returns-in_err-task-clause-read_answer
 returns-in_err-task-clause-read_answer g c =
-    err_is (λ r. IfErr r (λ e. is_of_answer (stop_of e) ≡ true → has_failed c.args.answer.now ≡ false)) c.in_err-task.field-0.0 _ c.from_residual-in_err-task.ensures.1
+    err_is (λ r. IfErr r
+    (λ e. is_of_answer (stop_of e) ≡ true → has_failed c.args.answer.now ≡ false))
+    c.in_err-task.field-0.0 _ c.from_residual-in_err-task.ensures.1
     (λ h. let not : is_of_answer (stop_of c.in_err-task.field-0.0) ≡ false =
-    not_of_answer c.args.request.now c.in_ok-problem.problem c.in_err-task.ensures.text _ (stop_of c.in_err-task.field-0.0) c.in_err-task.ensures.given in
+    not_of_answer c.args.request.now c.in_ok-problem.problem c.in_err-task.ensures.text _
+    (stop_of c.in_err-task.field-0.0) c.in_err-task.ensures.given in
     cc)
 
 pub returns-in_err-sheet-clause-outcome : goal.returns-in_err-sheet-clause-outcome
 returns-in_err-sheet-clause-outcome g c =
     let line : problem_for c.args.request.now.problem ≡ Ok c.in_ok-problem.problem =
-    ap problem_for (ap (λ r. r.problem) (sym c.request.view_is) ∙ sym c.as_str.ensures) ∙ c.in_ok-problem.ensures in
+    ap problem_for (ap (λ r. r.problem) (sym c.request.view_is) ∙ sym c.as_str.ensures)
+    ∙ c.in_ok-problem.ensures in
     let read = c.in_ok-task.ensures in
-    err_is (IsCheckOf c.args.request.now _ _ _ _ _ _ _) c.in_err-sheet.field-0.0 _ c.from_residual-in_err-sheet.ensures.1
-    (check_unsaid g.row.A.Denot c.args.request.now _ _ _ _ _ _ read.text _ c.in_err-sheet.field-0.0 read.is_all
-    (meant_by c.args.request.now c.in_ok-problem.problem read.text line ∙ read.given) c.in_err-sheet.ensures.device c.in_err-sheet.ensures.said)
+    err_is (IsCheckOf c.args.request.now _ _ _ _ _ _ _) c.in_err-sheet.field-0.0 _
+    c.from_residual-in_err-sheet.ensures.1
+    (check_unsaid g.row.A.Denot c.args.request.now _ _ _ _ _ _ read.text _ c.in_err-sheet.field-0.0
+    read.is_all
+    (meant_by c.args.request.now c.in_ok-problem.problem read.text line ∙ read.given)
+    c.in_err-sheet.ensures.device c.in_err-sheet.ensures.said)
 
 pub returns-in_err-task-clause-pulled_answer : goal.returns-in_err-task-clause-pulled_answer
 returns-in_err-task-clause-pulled_answer g c = ([], omega arith, Consumes-nil _)

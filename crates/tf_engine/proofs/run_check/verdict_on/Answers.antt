@@ -9,5 +9,9 @@ pub returns-in-Rejected : goal.returns-in-Rejected
 returns-in-Rejected g c =
     let same : IsFor c.args.task.now c.args.sheet.now = search rules in
     let verdict : HasVerdict c.args.task.now c.sheet.inside.answer (Rejected c.in-Rejected.reason) =
-    subst (HasVerdict c.args.task.now c.sheet.inside.answer) c.in-Rejected.is c.in_ok-check.ensures.verdict in
-    (same, subst (λ (a : AnswerData). HasReason c.args.task.now a c.in-Rejected.reason) (ap (λ s. s.answer) c.sheet.view_is) verdict)
+    subst (HasVerdict c.args.task.now c.sheet.inside.answer) c.in-Rejected.is
+    c.in_ok-check.ensures.verdict in (
+      same,
+      subst (λ (a : AnswerData). HasReason c.args.task.now a c.in-Rejected.reason)
+          (ap (λ s. s.answer) c.sheet.view_is) verdict,
+    )

@@ -13,7 +13,8 @@ returns g c = λ text said. record {
     machines = c.machines.ensures.value;
     accepted = c.in_ok-answer.ensures.accepted;
     best = c.in_ok-answer.ensures.best;
-    readable = sheet_readable c.args.request.now c.args.task.now _ c.args.request.now.layout c.len.ensures.sound c.requires c.len.ensures.value c.machines.ensures.value
+    readable = sheet_readable c.args.request.now c.args.task.now _ c.args.request.now.layout
+        c.len.ensures.sound c.requires c.len.ensures.value c.machines.ensures.value
         c.in_ok-answer.ensures.accepted (search rules);
   };
 }

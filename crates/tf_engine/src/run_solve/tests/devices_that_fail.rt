@@ -104,7 +104,8 @@ fn an_endless_text(rt: HostRuntime) -> Result<(), Fail> {
     Ok(())
 }
 
-/// Whether a run asks for more growths than these. The next one is refused, and then nothing is written.
+/// Whether a run asks for more growths than these. The next one is refused, and then nothing is
+/// written.
 fn asks_for_more(
     rt: &HostRuntime,
     growths: u64,

@@ -196,7 +196,8 @@ fn on_first(rt: &HostRuntime, index: u32) -> Result<Request, Fail> {
     Ok(request(rt, "1||Lmax", form, None)?)
 }
 
-/// A device that fails behind the first fault of a text comes before it, and so it does behind a refused growth.
+/// A device that fails behind the first fault of a text comes before it, and so it does behind a
+/// refused growth.
 #[test]
 fn a_reader_that_fails_behind_a_fault(rt: HostRuntime) -> Result<(), Fail> {
     let request = on_first(&rt, 1)?;
@@ -236,7 +237,8 @@ fn no_room_before_the_text(rt: HostRuntime) -> Result<(), Fail> {
     ensure(source.calls == 0, "something was read")
 }
 
-/// 125 instances of 100 jobs, in which all times of the k-th are k, all weights 1 and all due dates 0.
+/// 125 instances of 100 jobs, in which all times of the k-th are k, all weights 1 and all due dates
+/// 0.
 fn many_instances(text: &mut Vec<u8>) -> Result<(), Fail> {
     for k in 1..126u64 {
         let mut digits = itoa::Buffer::new();

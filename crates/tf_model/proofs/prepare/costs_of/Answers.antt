@@ -8,8 +8,10 @@ use Rattle.tf_model.specs.Prepare.{cost_of}
 use Rattle.tf_model.proofs.prepare.costs_of.Goals as goal
 
 -- the costs with one more
-more : (jobs : List JobFields) (i : ℕ) (job : JobFields) (costs : List Steps) (cost : Steps) → i < length jobs → job ≡ get_or jobs i job
-    → costs ≡ map cost_of (take i jobs) → cost ≡ cost_of job → costs ++ cost ∷ [] ≡ map cost_of (take (i + 1) jobs)
+more : (jobs : List JobFields) (i : ℕ) (job : JobFields) (costs : List Steps) (cost : Steps)
+    → i < length jobs → job ≡ get_or jobs i job
+    → costs ≡ map cost_of (take i jobs) → cost ≡ cost_of job
+    → costs ++ cost ∷ [] ≡ map cost_of (take (i + 1) jobs)
 more jobs i job costs cost h is before e =
     ap (λ xs. xs ++ cost ∷ []) before
     ∙ ap (λ x. map cost_of (take i jobs) ++ x ∷ []) (e ∙ ap cost_of is)
@@ -17,6 +19,9 @@ more jobs i job costs cost h is before e =
 
 pub loop-job-preserved : goal.loop-job-preserved
 loop-job-preserved g c = record {
-  costs = c.in_ok-push.ensures.items ∙ more c.args.jobs.now c.loop-job.job-index c.job-item.result _ _ c.loop-job-test.true c.job-item.is c.loop-job.invariant.costs c.in_ok-cost_of.ensures.0;
-  sound = subst (λ xs. All IsStepCost xs) (sym c.in_ok-push.ensures.items) (All-push IsStepCost _ _ c.loop-job.invariant.sound c.in_ok-cost_of.ensures.1);
+  costs = c.in_ok-push.ensures.items
+      ∙ more c.args.jobs.now c.loop-job.job-index c.job-item.result _ _ c.loop-job-test.true
+      c.job-item.is c.loop-job.invariant.costs c.in_ok-cost_of.ensures.0;
+  sound = subst (λ xs. All IsStepCost xs) (sym c.in_ok-push.ensures.items)
+      (All-push IsStepCost _ _ c.loop-job.invariant.sound c.in_ok-cost_of.ensures.1);
 }

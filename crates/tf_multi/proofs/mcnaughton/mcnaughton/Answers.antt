@@ -36,7 +36,8 @@ pub returns-clause-accepted : goal.returns-clause-accepted
 returns-clause-accepted g c =
     let room = value_room _ c.load-load.ensures.sound c.requires _ _ _ _ c.load-load.ensures.value
     c.first_longest-longest.ensures.job c.time.ensures.value c.max-value.ensures in
-    let within = value_within _ c.load-load.ensures.sound c.requires _ _ _ _ c.load-load.ensures.value
+    let within =
+    value_within _ c.load-load.ensures.sound c.requires _ _ _ _ c.load-load.ensures.value
     c.first_longest-longest.ensures.job c.time.ensures.value c.max-value.ensures in
     let bounded : bound_by (claim_of c.if-load-value.certificate) c.args.task.now
     ≡ Ok (pos c.max-value.result) =

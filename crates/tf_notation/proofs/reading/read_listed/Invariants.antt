@@ -8,7 +8,8 @@ abbrev pub invariant-loop-more : goal.invariant-loop-more
 invariant-loop-more l = record {
   from : l.fn.offset ≤ l.at;
   inside : l.at ≤ length l.text;
-  same : listed (length l.text) true l.named (tokens_after l.text l.at) ≡ listed (length l.text) true no_conditions (tokens_after l.text l.fn.offset);
+  same : listed (length l.text) true l.named (tokens_after l.text l.at)
+      ≡ listed (length l.text) true no_conditions (tokens_after l.text l.fn.offset);
 }
 
 abbrev pub decreases-loop-more : goal.decreases-loop-more

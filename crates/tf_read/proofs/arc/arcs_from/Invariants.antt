@@ -9,7 +9,9 @@ use Rattle.tf_read.proofs.arc.arcs_from.Given as goal
 abbrev pub invariant-loop-line : goal.invariant-loop-line
 invariant-loop-line g l = record {
   few : vec_len l.arcs ≤ MOST_ARCS;
-  same : with_front l.arcs.items (each_from (arc_at l.jobs) (vec_len l.arcs + 1) (word_lines_of l.rest)) ≡ each_from (arc_at l.jobs) 1 (word_lines_of l.lines);
+  same : with_front l.arcs.items
+      (each_from (arc_at l.jobs) (vec_len l.arcs + 1) (word_lines_of l.rest))
+      ≡ each_from (arc_at l.jobs) 1 (word_lines_of l.lines);
 }
 
 abbrev pub decreases-loop-line : goal.decreases-loop-line

@@ -6,7 +6,10 @@ use Rattle.tf_read.proofs.Each.{with_front}
 use Rattle.tf_read.proofs.cost_field.steps_at.Given as goal
 
 abbrev pub invariant-loop-part : goal.invariant-loop-part
-invariant-loop-part g l = with_front l.steps.items (each_from (λ k. step_at l.line) (vec_len l.steps + 1) (later_parts l.rest)) ≡ steps_at l.line (later_parts l.text)
+invariant-loop-part g l =
+    with_front l.steps.items
+    (each_from (λ k. step_at l.line) (vec_len l.steps + 1) (later_parts l.rest))
+    ≡ steps_at l.line (later_parts l.text)
 
 abbrev pub decreases-loop-part : goal.decreases-loop-part
 decreases-loop-part g l = length l.rest

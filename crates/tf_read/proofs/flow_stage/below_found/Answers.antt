@@ -6,7 +6,10 @@ use Rattle.tf_read.proofs.flow_stage.below_found.Goals as goal
 
 pub returns-in-Err-clause-taken : goal.returns-in-Err-clause-taken
 returns-in-Err-clause-taken g c = λ name fed on more.
-    fault_of c.in-Err.fault _ (on more ∙ sized_by c.args.pair c.args.line c.args.sizes.0 c.args.sizes.1 _ (Err c.in-Err.fault) (sym c.judged_sizes.ensures.value ∙ c.in-Err.is))
+    fault_of c.in-Err.fault _
+    (on more
+    ∙ sized_by c.args.pair c.args.line c.args.sizes.0 c.args.sizes.1 _ (Err c.in-Err.fault)
+    (sym c.judged_sizes.ensures.value ∙ c.in-Err.is))
 
 pub returns-in-Ok-new-clause-taken : goal.returns-in-Ok-new-clause-taken
 returns-in-Ok-new-clause-taken g c = λ name fed on. (
@@ -14,5 +17,7 @@ returns-in-Ok-new-clause-taken g c = λ name fed on. (
   pairs_of c.in-Ok.jobs c.in-Ok.machines c.args.pair,
   [],
   c.new-in-Ok-new.ensures.fed _ c.in-Ok-new.ensures,
-  λ more. on more ∙ sized_by c.args.pair c.args.line c.args.sizes.0 c.args.sizes.1 _ (Ok (c.in-Ok.jobs, c.in-Ok.machines)) (sym c.judged_sizes.ensures.value ∙ c.in-Ok.is),
+  λ more. on more
+      ∙ sized_by c.args.pair c.args.line c.args.sizes.0 c.args.sizes.1 _
+      (Ok (c.in-Ok.jobs, c.in-Ok.machines)) (sym c.judged_sizes.ensures.value ∙ c.in-Ok.is),
 )

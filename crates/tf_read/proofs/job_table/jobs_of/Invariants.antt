@@ -10,7 +10,9 @@ use Rattle.tf_read.proofs.job_table.jobs_of.Given as goal
 abbrev pub invariant-loop-line : goal.invariant-loop-line
 invariant-loop-line g l = record {
   few : vec_len l.jobs ≤ MOST_JOBS;
-  same : with_front l.jobs.items (each_from job_at (vec_len l.jobs + 1) (before_first is_arc (word_lines_of l.rest))) ≡ each_from job_at 1 (before_first is_arc (word_lines_of l.lines));
+  same : with_front l.jobs.items
+      (each_from job_at (vec_len l.jobs + 1) (before_first is_arc (word_lines_of l.rest)))
+      ≡ each_from job_at 1 (before_first is_arc (word_lines_of l.lines));
   left : from_first is_arc (word_lines_of l.rest) ≡ from_first is_arc (word_lines_of l.lines);
 }
 

@@ -11,5 +11,6 @@ abbrev pub invariant-loop-piece : goal.invariant-loop-piece
 invariant-loop-piece g l = record {
   below : l.value ≤ℤ greatest_price l.task (drawing l.task.machines (known_pieces l.task l.pieces));
   idle : (j : ℕ) → IsJob l.task j → price l.task j 0 ≤ℤ l.value;
-  over : All (λ p. IsKnown l.task p → price l.task p.job (stop_of p) ≤ℤ l.value) (take l.piece-index l.pieces);
+  over : All (λ p. IsKnown l.task p → price l.task p.job (stop_of p) ≤ℤ l.value)
+      (take l.piece-index l.pieces);
 }

@@ -11,12 +11,23 @@ pub loop-k-preserved : goal.loop-k-preserved
 loop-k-preserved g c =
     let fits : SFits w128 c.max-value.result = search rules in
     let fits_price : SFits w128 c.price.result = search rules in
-    let stored : to_z w128 (of_z w128 c.max-value.result) ≡ c.max-value.result = to_z-of_z w128 c.max-value.result fits in
-    let own : to_z w128 (of_z w128 c.price.result) ≡ price c.args.task.now c.at-in-loop-k.result 0 = to_z-of_z w128 c.price.result fits_price ∙ c.price.ensures in
-    let inside : c.loop-k.k < length c.args.task.now.jobs = omega (arith, c.loop-k-test.true, c.len-jobs.ensures.value) in
-    let raised : c.max-value.result ≡ int_max (to_z w128 c.loop-k.value-bits) (price c.args.task.now c.at-in-loop-k.result 0) = c.max-value.ensures.value ∙ ap (λ (z : ℤ). int_max (to_z w128 c.loop-k.value-bits) z) own in
-    let new : to_z w128 (of_z w128 c.max-value.result) ≡ int_max (to_z w128 c.loop-k.value-bits) (price c.args.task.now c.at-in-loop-k.result 0) = stored ∙ raised in
+    let stored : to_z w128 (of_z w128 c.max-value.result) ≡ c.max-value.result =
+    to_z-of_z w128 c.max-value.result fits in
+    let own : to_z w128 (of_z w128 c.price.result) ≡ price c.args.task.now c.at-in-loop-k.result 0 =
+    to_z-of_z w128 c.price.result fits_price ∙ c.price.ensures in
+    let inside : c.loop-k.k < length c.args.task.now.jobs =
+    omega (arith, c.loop-k-test.true, c.len-jobs.ensures.value) in
+    let raised : c.max-value.result
+    ≡ int_max (to_z w128 c.loop-k.value-bits) (price c.args.task.now c.at-in-loop-k.result 0) =
+    c.max-value.ensures.value ∙ ap (λ (z : ℤ). int_max (to_z w128 c.loop-k.value-bits) z) own in
+    let new : to_z w128 (of_z w128 c.max-value.result)
+    ≡ int_max (to_z w128 c.loop-k.value-bits) (price c.args.task.now c.at-in-loop-k.result 0) =
+    stored ∙ raised in
     record {
-      all = idle_all c.args.task.now c.loop-k.k c.at-in-loop-k.result (to_z w128 c.loop-k.value-bits) (to_z w128 (of_z w128 c.max-value.result)) inside c.at-in-loop-k.ensures new c.loop-k.invariant.all;
-      reached = idle_reached c.args.task.now c.loop-k.k c.at-in-loop-k.result (to_z w128 c.loop-k.value-bits) (to_z w128 (of_z w128 c.max-value.result)) inside c.at-in-loop-k.ensures new c.loop-k.invariant.reached;
+      all = idle_all c.args.task.now c.loop-k.k c.at-in-loop-k.result
+          (to_z w128 c.loop-k.value-bits) (to_z w128 (of_z w128 c.max-value.result)) inside
+          c.at-in-loop-k.ensures new c.loop-k.invariant.all;
+      reached = idle_reached c.args.task.now c.loop-k.k c.at-in-loop-k.result
+          (to_z w128 c.loop-k.value-bits) (to_z w128 (of_z w128 c.max-value.result)) inside
+          c.at-in-loop-k.ensures new c.loop-k.invariant.reached;
     }

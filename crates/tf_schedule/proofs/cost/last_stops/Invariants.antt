@@ -3,4 +3,5 @@ use Rattle.tf_schedule.specs.Cost.{known_pieces, HasStops}
 use Rattle.tf_schedule.proofs.cost.last_stops.Given as goal
 
 abbrev pub invariant-loop-piece : goal.invariant-loop-piece
-invariant-loop-piece g l = HasStops (known_pieces l.task (take l.piece-index l.pieces)) l.first l.stops
+invariant-loop-piece g l =
+    HasStops (known_pieces l.task (take l.piece-index l.pieces)) l.first l.stops

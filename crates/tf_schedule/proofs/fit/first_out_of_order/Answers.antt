@@ -9,8 +9,10 @@ use Rattle.tf_schedule.proofs.fit.first_out_of_order.Goals as goal
 pub loop-arc-preserved : goal.loop-arc-preserved
 loop-arc-preserved c =
     let here : StartsAfter c.args.extents.now c.arc-item.result = grind (arith, common_steps) in
-    All-more (StartsAfter c.args.extents.now) c.args.arcs.now c.loop-arc.arc-index c.arc-item.result c.loop-arc-test.true c.loop-arc.invariant
+    All-more (StartsAfter c.args.extents.now) c.args.arcs.now c.loop-arc.arc-index c.arc-item.result
+    c.loop-arc-test.true c.loop-arc.invariant
     (subst (StartsAfter c.args.extents.now) c.arc-item.is here)
 
 pub returns : goal.returns
-returns c = subst (All (StartsAfter c.args.extents.now)) (take_all c.loop-arc.arc-index c.args.arcs.now c.loop-arc-test.false) c.loop-arc.invariant
+returns c = subst (All (StartsAfter c.args.extents.now))
+    (take_all c.loop-arc.arc-index c.args.arcs.now c.loop-arc-test.false) c.loop-arc.invariant

@@ -6,8 +6,13 @@ use Rattle.tf_schedule.specs.Misfit.{IsKnown}
 use Rattle.tf_schedule.proofs.fit.first_stranger.Goals as goal
 
 pub loop-piece-preserved : goal.loop-piece-preserved
-loop-piece-preserved g c = All-more (IsKnown c.args.task.now) c.args.pieces.now c.loop-piece.piece-index c.piece-item.result c.loop-piece-test.true c.loop-piece.invariant
+loop-piece-preserved g c =
+    All-more (IsKnown c.args.task.now) c.args.pieces.now c.loop-piece.piece-index
+    c.piece-item.result c.loop-piece-test.true c.loop-piece.invariant
     (subst (IsKnown c.args.task.now) c.piece-item.is (c.is_known.ensures.0 c.if-not-is_known.false))
 
 pub returns : goal.returns
-returns g c = subst (All (IsKnown c.args.task.now)) (take_all c.loop-piece.piece-index c.args.pieces.now c.loop-piece-test.false) c.loop-piece.invariant
+returns g c =
+    subst (All (IsKnown c.args.task.now))
+    (take_all c.loop-piece.piece-index c.args.pieces.now c.loop-piece-test.false)
+    c.loop-piece.invariant

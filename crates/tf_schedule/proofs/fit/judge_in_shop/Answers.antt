@@ -13,7 +13,8 @@ pub returns-in-Some-first_broken_in_shop : goal.returns-in-Some-first_broken_in_
 returns-in-Some-first_broken_in_shop g c =
     let has_first = rw (← c.as_slice-first.ensures.value) at c.in_ok-on_first.ensures.first in
     let has_second = rw (← c.as_slice-second.ensures.value) at c.in_ok-on_first.ensures.second in
-    broken_in_shop _ c.jobs-jobs.ensures.sound _ c.requires.schedule c.requires.known c.requires.once
+    broken_in_shop _ c.jobs-jobs.ensures.sound _ c.requires.schedule c.requires.known
+    c.requires.once
     c.requires.shop _ _ has_first has_second
     (rw c.jobs-jobs.ensures.value at c.in_default.ensures)
     _ (rw (c.class.ensures.class, has_first.len) at c.in-Some-first_broken_in_shop.ensures)

@@ -12,12 +12,16 @@ use Rattle.tf_schedule.proofs.schedule.judge_each.Goals as goal
 pub returns-then-piece : goal.returns-then-piece
 returns-then-piece c =
     let t : IsTrue c.is_in_range.result = c.if-not-is_in_range.false in
-    first_unsound (λ p. IsInRange p × ¬ (IsNotEmpty p)) _ _ _ c.loop-k-test.true c.index-pieces-k.is c.loop-k.invariant (c.is_in_range.ensures.0 t, λ h. omega (arith, ints))
+    first_unsound (λ p. IsInRange p × ¬ (IsNotEmpty p)) _ _ _ c.loop-k-test.true c.index-pieces-k.is
+    c.loop-k.invariant (c.is_in_range.ensures.0 t, λ h. omega (arith, ints))
 
 pub loop-k-preserved : goal.loop-k-preserved
 loop-k-preserved c =
     let t : IsTrue c.is_in_range.result = c.if-not-is_in_range.false in
-    All-more IsPiece c.args.pieces.now c.loop-k.k c.index-pieces-k.result c.loop-k-test.true c.loop-k.invariant (subst IsPiece c.index-pieces-k.is (c.is_in_range.ensures.0 t, omega (arith, ints)))
+    All-more IsPiece c.args.pieces.now c.loop-k.k c.index-pieces-k.result c.loop-k-test.true
+    c.loop-k.invariant
+    (subst IsPiece c.index-pieces-k.is (c.is_in_range.ensures.0 t, omega (arith, ints)))
 
 pub returns : goal.returns
-returns c = subst (All IsPiece) (take_all c.loop-k.k c.args.pieces.now c.loop-k-test.false) c.loop-k.invariant
+returns c = subst (All IsPiece) (take_all c.loop-k.k c.args.pieces.now c.loop-k-test.false)
+    c.loop-k.invariant

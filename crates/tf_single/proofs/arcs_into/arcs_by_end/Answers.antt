@@ -2,4 +2,5 @@ use Rattle.tf_single.proofs.Grouped.{sorted_grouped}
 use Rattle.tf_single.proofs.arcs_into.arcs_by_end.Goals as goal
 
 pub returns-clause-grouped : goal.returns-clause-grouped
-returns-clause-grouped g c = sorted_grouped c.sort_unstable.new.self.items c.sort_unstable.ensures.sorted
+returns-clause-grouped g c =
+    sorted_grouped c.sort_unstable.new.self.items c.sort_unstable.ensures.sorted

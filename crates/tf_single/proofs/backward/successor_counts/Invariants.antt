@@ -6,5 +6,6 @@ use Rattle.tf_single.proofs.backward.successor_counts.Given as goal
 abbrev pub invariant-loop-before : goal.invariant-loop-before
 invariant-loop-before g l = record {
   len : length l.counts.items ≡ length l.task.jobs;
-  each : (j : ℕ) → IsJob l.task j → of_job l.counts.items j ≡ count_by (λ arc. arc.0 == j) (take l.before-index l.before-items);
+  each : (j : ℕ) → IsJob l.task j
+      → of_job l.counts.items j ≡ count_by (λ arc. arc.0 == j) (take l.before-index l.before-items);
 }

@@ -20,9 +20,16 @@ loop-job-preserved g c =
     let more : List DueJob = heap_items c.push.new.self in
     let job : ℕ = c.job-item.result in
     let e : DueJob = record { due = to_z w64 (of_z w64 c.due.result); job = job } in
-    let split : take (i + 1) jobs ≡ take i jobs ++ job ∷ [] = take_more jobs i job c.loop-job-test.true ∙ ap (λ j. take i jobs ++ j ∷ []) (sym c.job-item.is) in
+    let split : take (i + 1) jobs ≡ take i jobs ++ job ∷ [] =
+    take_more jobs i job c.loop-job-test.true
+    ∙ ap (λ j. take i jobs ++ j ∷ []) (sym c.job-item.is) in
     record {
-      due = due_pushed k free more e c.loop-job.invariant.due (to_z-of_z w64 c.due.result (search rules) ∙ c.due.ensures) c.in_ok-push.ensures.permutation c.in_ok-push.ensures.heap_order;
+      due = due_pushed k free more e c.loop-job.invariant.due
+          (to_z-of_z w64 c.due.result (search rules) ∙ c.due.ensures)
+          c.in_ok-push.ensures.permutation c.in_ok-push.ensures.heap_order;
       jobs = subst (λ xs. IsPermutation xs (jobs_due more)) (sym split)
-          (IsPermutation-push_more (take i jobs) (jobs_due free) (jobs_due more) job c.loop-job.invariant.jobs (IsPermutation-map (λ (d : DueJob). d.job) (e ∷ free) more c.in_ok-push.ensures.permutation));
+          (IsPermutation-push_more (take i jobs) (jobs_due free) (jobs_due more) job
+          c.loop-job.invariant.jobs
+          (IsPermutation-map (λ (d : DueJob). d.job) (e ∷ free) more
+          c.in_ok-push.ensures.permutation));
     }

@@ -20,11 +20,20 @@ loop-step-init g c =
     let k : SchedulingTask = c.args.task.now in
     let none : c.in_ok-with_capacity.field-0.items ≡ [] = c.in_ok-with_capacity.ensures.items in
     let counts : List ℕ = c.in_ok-counts.counts.items in
-    let start : IsOpen k [] [] counts c.in_ok-jobs.jobs.items = subst (λ xs. IsOpen k [] [] xs c.in_ok-jobs.jobs.items) c.deref.ensures.value c.in_ok-jobs.ensures in
-    let moved : IsPermutation c.in_ok-jobs.jobs.items (jobs_due (heap_items c.in_ok-free.free)) = subst (λ xs. IsPermutation xs (jobs_due (heap_items c.in_ok-free.free))) c.deref-2.ensures.value c.in_ok-free.ensures.jobs in
+    let start : IsOpen k [] [] counts c.in_ok-jobs.jobs.items =
+    subst (λ xs. IsOpen k [] [] xs c.in_ok-jobs.jobs.items) c.deref.ensures.value
+    c.in_ok-jobs.ensures in
+    let moved : IsPermutation c.in_ok-jobs.jobs.items (jobs_due (heap_items c.in_ok-free.free)) =
+    subst (λ xs. IsPermutation xs (jobs_due (heap_items c.in_ok-free.free)))
+    c.deref-2.ensures.value c.in_ok-free.ensures.jobs in
     rw none (record {
       chosen = none_chosen k;
-      now = record { jobs = open_moved k [] [] counts c.in_ok-jobs.jobs.items (jobs_due (heap_items c.in_ok-free.free)) start moved; due = c.in_ok-free.ensures.due };
+      now = record {
+        jobs =
+            open_moved k [] [] counts c.in_ok-jobs.jobs.items
+            (jobs_due (heap_items c.in_ok-free.free)) start moved;
+        due = c.in_ok-free.ensures.due;
+      };
       count = refl;
     })
 
@@ -32,17 +41,37 @@ pub cycle-requires-clause-stuck : goal.cycle-requires-clause-stuck
 cycle-requires-clause-stuck g c =
     let k : SchedulingTask = c.args.task.now in
     let free : List DueJob = heap_items c.loop-step.open.free in
-    let none : jobs_due free ≡ [] = no_free free (omega (arith, eqb-true (heap_len c.loop-step.open.free) 0 (sym c.is_empty.ensures ∙ c.if-is_empty.true), c.loop-step.open.free.data.ok.0)) in
-    rw c.deref-then-is_empty.ensures.value (stuck k c.len.ensures.sound c.loop-step.open.taken.items c.loop-step.open.counts.items (jobs_due free) c.loop-step.invariant.now.jobs none)
+    let none : jobs_due free ≡ [] =
+    no_free free
+    (omega (
+      arith,
+      eqb-true (heap_len c.loop-step.open.free) 0 (sym c.is_empty.ensures ∙ c.if-is_empty.true),
+      c.loop-step.open.free.data.ok.0,
+    )) in
+    rw c.deref-then-is_empty.ensures.value
+    (stuck k c.len.ensures.sound c.loop-step.open.taken.items c.loop-step.open.counts.items
+    (jobs_due free) c.loop-step.invariant.now.jobs none)
 
 pub cycle-requires-clause-some : goal.cycle-requires-clause-some
 cycle-requires-clause-some g c =
     let k : SchedulingTask = c.args.task.now in
     let free : List DueJob = heap_items c.loop-step.open.free in
-    let none : jobs_due free ≡ [] = no_free free (omega (arith, eqb-true (heap_len c.loop-step.open.free) 0 (sym c.is_empty.ensures ∙ c.if-is_empty.true), c.loop-step.open.free.data.ok.0)) in
+    let none : jobs_due free ≡ [] =
+    no_free free
+    (omega (
+      arith,
+      eqb-true (heap_len c.loop-step.open.free) 0 (sym c.is_empty.ensures ∙ c.if-is_empty.true),
+      c.loop-step.open.free.data.ok.0,
+    )) in
     rw c.deref-then-is_empty.ensures.value
-    (stuck_some k c.len.ensures.sound c.loop-step.open.taken.items c.loop-step.open.counts.items (jobs_due free) c.loop-step.invariant.now.jobs none c.loop-step.invariant.chosen
-    (omega (arith, c.loop-step.invariant.count, c.loop-step-test.true, c.len-step-end.ensures.value)))
+    (stuck_some k c.len.ensures.sound c.loop-step.open.taken.items c.loop-step.open.counts.items
+    (jobs_due free) c.loop-step.invariant.now.jobs none c.loop-step.invariant.chosen
+    (omega (
+      arith,
+      c.loop-step.invariant.count,
+      c.loop-step-test.true,
+      c.len-step-end.ensures.value,
+    )))
 
 pub loop-step-preserved : goal.loop-step-preserved
 loop-step-preserved g c = record {
@@ -53,5 +82,14 @@ loop-step-preserved g c = record {
 
 pub returns : goal.returns
 returns g c =
-    let k : SchedulingTask = c.args.task.now in
-    (c.len.ensures.sound, c.loop-step.invariant.chosen, none_left k c.loop-step.open.taken.items c.loop-step.invariant.chosen (omega (arith, c.loop-step.invariant.count, c.loop-step-test.false, c.len-step-end.ensures.value)))
+    let k : SchedulingTask = c.args.task.now in (
+      c.len.ensures.sound,
+      c.loop-step.invariant.chosen,
+      none_left k c.loop-step.open.taken.items c.loop-step.invariant.chosen
+          (omega (
+            arith,
+            c.loop-step.invariant.count,
+            c.loop-step-test.false,
+            c.len-step-end.ensures.value,
+          )),
+    )

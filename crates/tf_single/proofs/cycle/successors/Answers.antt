@@ -15,27 +15,45 @@ loop-before-preserved g c =
     let i : ℕ = c.loop-before.before-index in
     let arc : ℕ × ℕ = c.loop-before-item.result in
     let next : List (Option ℕ) = c.loop-before.next.items in
-    let its = arc_in_task k c.len.ensures.sound arcs c.arcs-before-items.ensures.value i arc c.loop-before-test.true c.loop-before-item.is in
+    let its = arc_in_task k c.len.ensures.sound arcs c.arcs-before-items.ensures.value i arc
+    c.loop-before-test.true c.loop-before-item.is in
     let at : get_or arcs i arc ≡ arc = sym c.loop-before-item.is in
-    let left : get_or counts (c.get.result - 1) 0 ≡ of_job counts arc.1 = ap (λ n. get_or counts (n - 1) 0) c.get.ensures.value in
+    let left : get_or counts (c.get.result - 1) 0 ≡ of_job counts arc.1 =
+    ap (λ n. get_or counts (n - 1) 0) c.get.ensures.value in
     elim c.if-counts-get-gt0.branch [
       | then-counts-get-gt0 w ↦
           let found : w.index.result.now ≡ get_or next (arc.0 - 1) None =
-          w.index.ensures ∙ get_or_default next (w.get-then-counts-get-gt0.result - 1) w.index.result.now None (omega (arith, c.loop-before.invariant.len, w.get-then-counts-get-gt0.ensures.value, its.0.0, its.0.1))
+          w.index.ensures
+          ∙ get_or_default next (w.get-then-counts-get-gt0.result - 1) w.index.result.now None
+          (omega (
+            arith,
+            c.loop-before.invariant.len,
+            w.get-then-counts-get-gt0.ensures.value,
+            its.0.0,
+            its.0.1,
+          ))
           ∙ ap (λ n. get_or next (n - 1) None) w.get-then-counts-get-gt0.ensures.value in
-          let which : (w.smaller.result ≡ arc.1) ⊎ (get_or next (arc.0 - 1) None ≡ Some w.smaller.result) =
+          let which : (w.smaller.result ≡ arc.1) ⊎
+          (get_or next (arc.0 - 1) None ≡ Some w.smaller.result) =
           ⊎_elim (λ own. inl own) (λ before. inr (sym found ∙ before)) w.smaller.ensures in
-          let more = found_more k counts arcs i next c.loop-before-test.true arc at c.loop-before.invariant (omega (arith, left, w.if-counts-get-gt0.true)) its.0 w.smaller.result which in
+          let more = found_more k counts arcs i next c.loop-before-test.true arc at
+          c.loop-before.invariant (omega (arith, left, w.if-counts-get-gt0.true)) its.0
+          w.smaller.result which in
           rw (w.next-is, w.get-then-counts-get-gt0.ensures.value) more
       | else-counts-get-gt0 w ↦
-          let same = found_same k counts arcs i next c.loop-before-test.true arc at c.loop-before.invariant (omega (arith, left, w.if-counts-get-gt0.false)) in
+          let same = found_same k counts arcs i next c.loop-before-test.true arc at
+          c.loop-before.invariant (omega (arith, left, w.if-counts-get-gt0.false)) in
           rw w.next-is same
     ]
 
 pub returns-clause-are : goal.returns-clause-are
 returns-clause-are g c =
-    found_all c.args.task.now c.len.ensures.sound c.args.counts.now c.arcs-before-items.result.now c.loop-before.before-index c.loop-before.next.items c.arcs-before-items.ensures.value c.loop-before-test.false c.loop-before.invariant c.requires.stuck
+    found_all c.args.task.now c.len.ensures.sound c.args.counts.now c.arcs-before-items.result.now
+    c.loop-before.before-index c.loop-before.next.items c.arcs-before-items.ensures.value
+    c.loop-before-test.false c.loop-before.invariant c.requires.stuck
 
 pub returns-clause-some : goal.returns-clause-some
 returns-clause-some g c =
-    found_some c.args.task.now c.len.ensures.sound c.args.counts.now c.arcs-before-items.result.now c.loop-before.before-index c.loop-before.next.items c.arcs-before-items.ensures.value c.loop-before-test.false c.loop-before.invariant c.requires.stuck
+    found_some c.args.task.now c.len.ensures.sound c.args.counts.now c.arcs-before-items.result.now
+    c.loop-before.before-index c.loop-before.next.items c.arcs-before-items.ensures.value
+    c.loop-before-test.false c.loop-before.invariant c.requires.stuck

@@ -10,7 +10,8 @@ invariant-walk g l = record {
   job : IsJob l.task l.job;
   next : HasSuccessor l.next l.job;
   steps : Steps l.task l.path.items l.job;
-  met : (j n : ℕ) → IsJob l.task j → get_or l.places.items (j - 1) None ≡ Some n → (n < length l.path.items) × (slice_index l.path.items n ≡ j);
+  met : (j n : ℕ) → IsJob l.task j → get_or l.places.items (j - 1) None ≡ Some n
+      → (n < length l.path.items) × (slice_index l.path.items n ≡ j);
 }
 
 abbrev pub decreases-walk : goal.decreases-walk

@@ -17,15 +17,18 @@ semi_active-requires-clause-total g c =
 
 pub dearest_step-step-requires-clause-some : goal.dearest_step-step-requires-clause-some
 dearest_step-step-requires-clause-some g c =
-    (whole_some c.args.task.now c.args.order.now c.requires.sound c.requires.class c.requires.chosen c.requires.all)
+    (whole_some c.args.task.now c.args.order.now c.requires.sound c.requires.class c.requires.chosen
+    c.requires.all)
 
 pub dearest_step-step-requires-clause-all : goal.dearest_step-step-requires-clause-all
 dearest_step-step-requires-clause-all g c =
-    (whole_work c.args.task.now c.args.order.now c.requires.sound c.requires.class c.requires.chosen c.requires.all)
+    (whole_work c.args.task.now c.args.order.now c.requires.sound c.requires.class c.requires.chosen
+    c.requires.all)
 
 pub dearest_step-step-requires-clause-within : goal.dearest_step-step-requires-clause-within
 dearest_step-step-requires-clause-within g c =
-    (whole_within c.args.task.now c.args.order.now c.requires.sound c.requires.class c.requires.chosen c.requires.all)
+    (whole_within c.args.task.now c.args.order.now c.requires.sound c.requires.class
+    c.requires.chosen c.requires.all)
 
 pub returns-clause-schedule : goal.returns-clause-schedule
 returns-clause-schedule g c =

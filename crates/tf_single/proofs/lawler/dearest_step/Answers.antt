@@ -22,14 +22,22 @@ same_le : (a b : ℤ) → a ≡ b → a ≤ℤ b
 same_le a b e = omega (arith, ints)
 
 -- one step more
-dearest_to : (P : ℕ → ℤ) (i : ℕ) (v : ℤ) → ((n : ℕ) → n < i → P n ≤ℤ v) → P i ≤ℤ v → (n : ℕ) → n < i + 1 → P n ≤ℤ v
+dearest_to : (P : ℕ → ℤ) (i : ℕ) (v : ℤ) → ((n : ℕ) → n < i → P n ≤ℤ v) → P i ≤ℤ v → (n : ℕ)
+    → n < i + 1 → P n ≤ℤ v
 dearest_to P i v before here n lt =
-    ⊎_elim (λ less. before n less) (λ last. let same : i ≡ n = omega (arith, lt, last) in subst (λ m. P m ≤ℤ v) same here) (cases_lt n i)
+    ⊎_elim (λ less. before n less)
+    (λ last. let same : i ≡ n = omega (arith, lt, last) in subst (λ m. P m ≤ℤ v) same here)
+    (cases_lt n i)
 
 pub cost_of-cost-requires-clause-end : goal.cost_of-cost-requires-clause-end
 cost_of-cost-requires-clause-end g c =
     let f = time_of c.args.task.now in
-    omega (arith, c.loop-k.invariant.work, sum_by-take-drop f c.args.order.now c.loop-k.k, c.requires.within)
+    omega (
+      arith,
+      c.loop-k.invariant.work,
+      sum_by-take-drop f c.args.order.now c.loop-k.k,
+      c.requires.within,
+    )
 
 pub loop-k-preserved : goal.loop-k-preserved
 loop-k-preserved g c =
@@ -37,14 +45,26 @@ loop-k-preserved g c =
     let order : List ℕ = c.args.order.now in
     let i : ℕ = c.loop-k.k in
     let lt : i < length order = c.loop-k-test.true in
-    let own : slice_index order i ≡ c.index-order-k.result = sym (c.index-order-k.is ∙ get_or_default order i c.index-order-k.result 0 lt) in
-    let again : c.index-order-k-in-loop-k.result ≡ slice_index order i = c.index-order-k-in-loop-k.is ∙ get_or_default order i c.index-order-k-in-loop-k.result 0 lt in
+    let own : slice_index order i ≡ c.index-order-k.result =
+    sym (c.index-order-k.is ∙ get_or_default order i c.index-order-k.result 0 lt) in
+    let again : c.index-order-k-in-loop-k.result ≡ slice_index order i =
+    c.index-order-k-in-loop-k.is
+    ∙ get_or_default order i c.index-order-k-in-loop-k.result 0 lt in
     let cost : c.cost_of-cost.result ≡ price_behind k (drop i order) (slice_index order i) =
-    c.cost_of-cost.ensures ∙ ap (price k c.index-order-k.result) c.loop-k.invariant.work ∙ ap (λ j. price_behind k (drop i order) j) (sym own) in
+    c.cost_of-cost.ensures ∙ ap (price k c.index-order-k.result) c.loop-k.invariant.work
+    ∙ ap (λ j. price_behind k (drop i order) j) (sym own) in
     let work : c.loop-k.work - c.time-work.result ≡ sum_by (time_of k) (drop (i + 1) order) =
-    omega (arith, c.loop-k.invariant.work, sum_by-drop_more (time_of k) order i 0 lt, c.time-work.ensures.value, ap (time_of k) again) in
+    omega (
+      arith,
+      c.loop-k.invariant.work,
+      sum_by-drop_more (time_of k) order i 0 lt,
+      c.time-work.ensures.value,
+      ap (time_of k) again,
+    ) in
     let small : SFits w64 c.cost_of-cost.result = search rules in
-    let is : to_z w64 (of_z w64 c.cost_of-cost.result) ≡ price_behind k (drop i order) (slice_index order i) = to_z-of_z w64 c.cost_of-cost.result small ∙ cost in
+    let is : to_z w64 (of_z w64 c.cost_of-cost.result)
+    ≡ price_behind k (drop i order) (slice_index order i) =
+    to_z-of_z w64 c.cost_of-cost.result small ∙ cost in
     let old : ℤ = to_z w64 c.loop-k.value-bits in
     let new : ℤ = to_z w64 (of_z w64 c.cost_of-cost.result) in
     let P : ℕ → ℤ = λ n. price_behind k (drop n order) (slice_index order n) in
@@ -55,13 +75,16 @@ loop-k-preserved g c =
             work = work;
             within = lt;
             value = is;
-            dearest = dearest_to P i new (λ n less. ≤ℤ_trans (so_far n less) (below old new w.if-value-cost.true)) (same_le (P i) new (sym is));
+            dearest = dearest_to P i new
+                (λ n less. ≤ℤ_trans (so_far n less) (below old new w.if-value-cost.true))
+                (same_le (P i) new (sym is));
           })
       | else-value-cost w ↦
           rw (w.place-is, w.value-is) (record {
             work = work;
             within = c.loop-k.invariant.within;
             value = c.loop-k.invariant.value;
-            dearest = dearest_to P i old so_far (subst (λ z. z ≤ℤ old) is (not_below old new w.if-value-cost.false));
+            dearest = dearest_to P i old so_far
+                (subst (λ z. z ≤ℤ old) is (not_below old new w.if-value-cost.false));
           })
     ]

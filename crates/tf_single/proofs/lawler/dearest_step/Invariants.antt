@@ -8,5 +8,6 @@ invariant-loop-k g l = record {
   work : l.work ≡ sum_by (time_of l.task) (drop l.k l.order);
   within : l.place < length l.order;
   value : l.value ≡ price_behind l.task (drop l.place l.order) (slice_index l.order l.place);
-  dearest : (n : ℕ) → n < l.k → price_behind l.task (drop n l.order) (slice_index l.order n) ≤ℤ l.value;
+  dearest : (n : ℕ) → n < l.k
+      → price_behind l.task (drop n l.order) (slice_index l.order n) ≤ℤ l.value;
 }

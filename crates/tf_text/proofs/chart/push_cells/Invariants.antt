@@ -8,6 +8,9 @@ use Rattle.tf_text.proofs.chart.push_cells.Given as goal
 -- the columns up to this one stand behind what was there
 abbrev pub invariant-loop-column : goal.invariant-loop-column
 invariant-loop-column g l = record {
-  items : l.line.items ≡ l.fn.line.items ++ map (λ c. cell_sign (job_at l.schedule l.machine (column_time (greatest_stop l.schedule) l.columns c))) (range_with_len 0 l.column);
+  items : l.line.items ≡ l.fn.line.items
+      ++ map (λ c. cell_sign
+      (job_at l.schedule l.machine (column_time (greatest_stop l.schedule) l.columns c)))
+      (range_with_len 0 l.column);
   len : array_vec_len l.line ≡ array_vec_len l.fn.line + l.column;
 }

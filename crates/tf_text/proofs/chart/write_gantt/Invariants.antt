@@ -8,7 +8,9 @@ use Rattle.tf_text.proofs.chart.write_gantt.Given as goal
 -- the lines up to this machine's were written
 abbrev pub invariant-loop-k : goal.invariant-loop-k
 invariant-loop-k g l = record {
-  written : Appends (g.W.Write.contents (inner_of l.fn.writer)) (g.W.Write.contents (inner_of l.writer))
-      (length_line l.schedule ++ flat_map (machine_line l.schedule l.columns) (range_with_len 1 l.k));
+  written : Appends (g.W.Write.contents (inner_of l.fn.writer))
+      (g.W.Write.contents (inner_of l.writer))
+      (length_line l.schedule
+      ++ flat_map (machine_line l.schedule l.columns) (range_with_len 1 l.k));
   unfailed : has_failed l.writer ≡ false;
 }

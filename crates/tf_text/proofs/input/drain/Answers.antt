@@ -18,7 +18,8 @@ loop-left-preserved g c =
         omega (arith, length-append bytes piece, long, count, le),
         Consumes-trans _ _ _ bytes piece given c.in_ok-n.ensures.bytes,
         g.met.F.Feed.took_both _ _ _ bytes piece took
-            (subst (λ (bs : List ℕ). g.F.Feed.Takes c.loop-left.into bs c.feed.new.self) (take-append-le n c.pull.new.buf _ c.in_ok-n.ensures.within) c.feed.ensures),
+            (subst (λ (bs : List ℕ). g.F.Feed.Takes c.loop-left.into bs c.feed.new.self)
+            (take-append-le n c.pull.new.buf _ c.in_ok-n.ensures.within) c.feed.ensures),
       );
       unfailed = λ lt. c.in_ok-n.ensures.unfailed;
       failed_before = λ failed. absurd (let no' : ⊥ = search rules in no');

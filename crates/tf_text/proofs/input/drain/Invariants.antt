@@ -11,9 +11,11 @@ invariant-loop-left g l =
     record {
       room : length l.chunk ≡ 4096;
       taken : (bytes : List ℕ) × (length bytes + l.left ≡ MOST_BYTES + 1)
-          × Consumes (remaining (inner_of l.fn.reader)) (remaining (inner_of l.reader)) bytes × g.F.Feed.Takes l.fn.into bytes l.into;
+          × Consumes (remaining (inner_of l.fn.reader)) (remaining (inner_of l.reader)) bytes
+          × g.F.Feed.Takes l.fn.into bytes l.into;
       unfailed : l.left < MOST_BYTES + 1 → has_failed l.reader ≡ false;
-      failed_before : has_failed l.fn.reader ≡ true → (l.reader ≡ l.fn.reader) × (l.left ≡ MOST_BYTES + 1);
+      failed_before : has_failed l.fn.reader ≡ true
+          → (l.reader ≡ l.fn.reader) × (l.left ≡ MOST_BYTES + 1);
     }
 
 abbrev pub decreases-loop-left : goal.decreases-loop-left

@@ -8,12 +8,21 @@ overflow_add-work g c =
     let i = c.args.machine - 1 in
     omega (
       arith,
-      work_more k i c.loop-k.work c.loop-k.k c.at.result c.time_on-work.result c.loop-k.invariant c.at.ensures c.time_on-work.ensures,
+      work_more k i c.loop-k.work c.loop-k.k c.at.result c.time_on-work.result c.loop-k.invariant
+          c.at.ensures c.time_on-work.ensures,
       work_within k i (c.loop-k.k + 1) c.len-k-end.ensures.sound (omega arith),
     )
 
 pub loop-k-preserved : goal.loop-k-preserved
-loop-k-preserved g c = work_more c.args.self.now (c.args.machine - 1) c.loop-k.work c.loop-k.k c.at.result c.time_on-work.result c.loop-k.invariant c.at.ensures c.time_on-work.ensures
+loop-k-preserved g c =
+    work_more c.args.self.now (c.args.machine - 1) c.loop-k.work c.loop-k.k c.at.result
+    c.time_on-work.result c.loop-k.invariant c.at.ensures c.time_on-work.ensures
 
 pub returns-clause-small : goal.returns-clause-small
-returns-clause-small g c = omega (arith, c.loop-k.invariant, work_within c.args.self.now (c.args.machine - 1) c.loop-k.k c.len-k-end.ensures.sound (omega arith))
+returns-clause-small g c =
+    omega (
+      arith,
+      c.loop-k.invariant,
+      work_within c.args.self.now (c.args.machine - 1) c.loop-k.k c.len-k-end.ensures.sound
+          (omega arith),
+    )

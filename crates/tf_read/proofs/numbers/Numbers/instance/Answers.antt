@@ -1,25 +1,49 @@
-use Rattle.std.proofs.Common.{◌≡◌, ◌*◌, ◌≤◌, sym, ap, ◌∙◌, arith, refl}
+use Rattle.std.proofs.Common.{◌≡◌, ◌≤◌, ◌*◌, length, map, rules, refl, sym, ap, ◌∙◌, arith}
+use Rattle.std.specs.List.{range_with_len}
+use Rattle.tf_read.specs.WeightedTardiness.{job}
 use Rattle.tf_read.specs.Numbers.{Progress, wanted}
 use Rattle.tf_read.proofs.OneInstance.{all_read, missing_is, whole_is, whole_judged}
 use Rattle.tf_read.proofs.numbers.Numbers.instance.Goals as goal
 
 pub returns-in-Some : goal.returns-in-Some
-returns-in-Some g c = λ says seen h. sym (h.0 seen ∙ missing_is c.args.self seen c.in-Some.fault h.1 (sym c.in-Some.ensures))
+returns-in-Some g c = λ says seen h.
+    sym (h.0 seen ∙ missing_is c.args.self seen c.in-Some.fault h.1 (sym c.in-Some.ensures))
 
-pub jobs_of-jobs-requires-clause-all : goal.jobs_of-jobs-requires-clause-all
-jobs_of-jobs-requires-clause-all g c =
+pub filled-jobs-requires-clause-callable : goal.filled-jobs-requires-clause-callable
+filled-jobs-requires-clause-callable g c =
     let kept = c.self.invariant in
-    let all : wanted c.args.self ≤ c.args.self.count = all_read c.args.self (sym c.missing.ensures ∙ c.in-None.is) in
-    let wanted_is : 3 * c.self.inside.jobs * c.self.inside.index ≡ wanted c.args.self = ap wanted c.self.view_is in
-    let count_is : c.self.inside.count ≡ c.args.self.count = ap (λ (p : Progress). p.count) c.self.view_is in
-    omega (arith, all, wanted_is, count_is, kept.up_to, kept.own, kept.within, kept.tally, c.as_slice.ensures.len)
+    let all : wanted c.args.self ≤ c.args.self.count =
+    all_read c.args.self (sym c.missing.ensures ∙ c.in-None.is) in
+    let wanted_is : 3 * c.self.inside.jobs * c.self.inside.index ≡ wanted c.args.self =
+    ap wanted c.self.view_is in
+    let count_is : c.self.inside.count ≡ c.args.self.count =
+    ap (λ (p : Progress). p.count) c.self.view_is in
+    let numbers : length c.as_slice-numbers.result.now ≡ 3 * c.self.inside.jobs =
+    omega (
+      arith,
+      all,
+      wanted_is,
+      count_is,
+      kept.up_to,
+      kept.own,
+      kept.within,
+      kept.tally,
+      c.as_slice-numbers.ensures.len,
+    ) in
+    λ k lt. search rules
 
 pub of-requires : goal.of-requires
 of-requires g c =
-    rw (c.jobs_of-jobs.ensures, c.new.ensures.items, c.as_slice.ensures.value)
-    (whole_judged c.self.inside.jobs c.self.inside.numbers.items c.self.invariant.some c.self.invariant.few c.self.invariant.in_range)
+    let made = c.filled-jobs.ensures (job c.self.inside.jobs c.as_slice-numbers.result.now)
+    (λ k x lt p. search rules) in
+    rw (made, c.new.ensures.items, c.as_slice-numbers.ensures.value)
+    (whole_judged c.self.inside.jobs c.self.inside.numbers.items c.self.invariant.some
+    c.self.invariant.few c.self.invariant.in_range)
 
 pub returns-in-None : goal.returns-in-None
 returns-in-None g c = λ says seen h.
-    rw (c.of.ensures, c.jobs_of-jobs.ensures, c.new.ensures.items, c.as_slice.ensures.value)
-    (sym (h.0 seen ∙ whole_is c.args.self seen h.1 (sym c.missing.ensures ∙ c.in-None.is) ∙ rw (← c.self.view_is) refl))
+    let made = c.filled-jobs.ensures (job c.self.inside.jobs c.as_slice-numbers.result.now)
+    (λ k x lt p. search rules) in
+    rw (c.of.ensures, made, c.new.ensures.items, c.as_slice-numbers.ensures.value)
+    (sym (h.0 seen ∙ whole_is c.args.self seen h.1 (sym c.missing.ensures ∙ c.in-None.is)
+    ∙ rw (← c.self.view_is) refl))

@@ -15,7 +15,9 @@ pub returns-in-Err : goal.returns-in-Err
 returns-in-Err g c = λ says fed h.
     let short = ltb-false _ _ (sym c.is_too_long.ensures ∙ c.if-is_too_long.false) in
     let few : length fed ≤ MOST_BYTES = omega (arith, short, h.length_is) in
-    sym (h.wanted fed ∙ refused h.jobs h.index fed c.in-Err.fault few (subst (λ r. HasTaken h.jobs h.index r fed) c.in-Err.is (h.taken few)))
+    sym (h.wanted fed
+    ∙ refused h.jobs h.index fed c.in-Err.fault few
+    (subst (λ r. HasTaken h.jobs h.index r fed) c.in-Err.is (h.taken few)))
 
 pub returns-in-Ok : goal.returns-in-Ok
 returns-in-Ok g c = λ says fed h.

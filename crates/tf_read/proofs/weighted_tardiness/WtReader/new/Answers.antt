@@ -2,4 +2,5 @@ use Rattle.std.proofs.Common.{sym, ◌∙◌}
 use Rattle.tf_read.proofs.weighted_tardiness.WtReader.new.Goals as goal
 
 pub returns-in-Some : goal.returns-in-Some
-returns-in-Some g c = c.before-in-Some.ensures c.args.jobs c.args.index (sym c.refusal.ensures ∙ c.in-Some.is)
+returns-in-Some g c =
+    c.before-in-Some.ensures c.args.jobs c.args.index (sym c.refusal.ensures ∙ c.in-Some.is)

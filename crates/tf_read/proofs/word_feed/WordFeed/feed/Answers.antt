@@ -15,9 +15,16 @@ loop-rest-preserved-in-None g c = record {
       let next = rw c.in-None.is at (c.advance-taken.ensures.fed first before held.0 held.1) in (
         before ++ take n c.loop-rest.rest.now,
         (held.0, next, held.2),
-        ap (λ (bs : List ℕ). (before ++ take n c.loop-rest.rest.now) ++ bs) c.split_at.ensures.back ∙ part_more before c.loop-rest.rest.now n ∙ same,
+        ap (λ (bs : List ℕ). (before ++ take n c.loop-rest.rest.now) ++ bs) c.split_at.ensures.back
+            ∙ part_more before c.loop-rest.rest.now n ∙ same,
       );
-  line = omega (arith, c.advance-taken.ensures.later, c.split_at.ensures.back_len, c.advance-taken.ensures.within, c.loop-rest.invariant.line);
+  line = omega (
+    arith,
+    c.advance-taken.ensures.later,
+    c.split_at.ensures.back_len,
+    c.advance-taken.ensures.within,
+    c.loop-rest.invariant.line,
+  );
 }
 
 pub loop-rest-preserved : goal.loop-rest-preserved
@@ -28,14 +35,22 @@ loop-rest-preserved g c = record {
       let next = rw c.in-Some.is at (c.advance-taken.ensures.fed first before held.0 held.1) in (
         before ++ take n c.loop-rest.rest.now,
         (held.0 ++ next.0 ∷ [], next.2, c.judge.ensures says held.0 next.0 next.1 held.2),
-        ap (λ (bs : List ℕ). (before ++ take n c.loop-rest.rest.now) ++ bs) c.split_at.ensures.back ∙ part_more before c.loop-rest.rest.now n ∙ same,
+        ap (λ (bs : List ℕ). (before ++ take n c.loop-rest.rest.now) ++ bs) c.split_at.ensures.back
+            ∙ part_more before c.loop-rest.rest.now n ∙ same,
       );
-  line = omega (arith, c.advance-taken.ensures.later, c.split_at.ensures.back_len, c.advance-taken.ensures.within, c.loop-rest.invariant.line);
+  line = omega (
+    arith,
+    c.advance-taken.ensures.later,
+    c.split_at.ensures.back_len,
+    c.advance-taken.ensures.within,
+    c.loop-rest.invariant.line,
+  );
 }
 
 pub returns-clause-fed : goal.returns-clause-fed
 returns-clause-fed g c = λ first says fed h.
     let (before, held, same) = c.loop-rest.invariant.fed first says fed h in
-    let none : c.loop-rest.rest.now ≡ [] = none_left c.loop-rest.rest.now (eqb-true _ _ (sym c.loop-rest-test.ensures)) in
+    let none : c.loop-rest.rest.now ≡ [] =
+    none_left c.loop-rest.rest.now (eqb-true _ _ (sym c.loop-rest-test.ensures)) in
     subst (HasFed g.J.Judge.HasRead first says c.loop-rest.self)
     (sym (append-nil before) ∙ ap (λ (bs : List ℕ). before ++ bs) (sym none) ∙ same) held

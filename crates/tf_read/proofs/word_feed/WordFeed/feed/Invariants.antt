@@ -7,7 +7,8 @@ use Rattle.tf_read.proofs.word_feed.WordFeed.feed.Given as goal
 abbrev pub invariant-loop-rest : goal.invariant-loop-rest
 invariant-loop-rest g l = record {
   fed : (first : ℕ) (says : Says) (fed : List ℕ) → HasFed g.J.Judge.HasRead first says l.fn.self fed
-      → (before : List ℕ) × HasFed g.J.Judge.HasRead first says l.self before × (before ++ l.rest ≡ fed ++ l.piece);
+      → (before : List ℕ) × HasFed g.J.Judge.HasRead first says l.self before
+      × (before ++ l.rest ≡ fed ++ l.piece);
   line : l.self.scan.line + length l.rest ≤ l.fn.self.scan.line + length l.piece;
 }
 

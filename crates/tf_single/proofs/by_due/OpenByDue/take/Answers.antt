@@ -12,7 +12,8 @@ use Rattle.tf_single.proofs.by_due.OpenByDue.take.Goals as goal
 
 pub release-requires-clause-arcs : goal.release-requires-clause-arcs
 release-requires-clause-arcs g c =
-    into_part c.args.task.now c.requires.sound c.args.arcs.now c.requires.arcs c.unwrap-job.result.job c.arcs_into.result.now c.arcs_into.ensures
+    into_part c.args.task.now c.requires.sound c.args.arcs.now c.requires.arcs
+    c.unwrap-job.result.job c.arcs_into.result.now c.arcs_into.ensures
 
 pub release-requires-clause-now : goal.release-requires-clause-now
 release-requires-clause-now g c =
@@ -21,11 +22,18 @@ release-requires-clause-now g c =
     let free : List DueJob = heap_items c.args.self.now.free in
     let more : List DueJob = heap_items c.pop.new.self in
     let pending : List ℕ = map (λ (arc : ℕ × ℕ). arc.1) c.arcs_into.result.now in
-    let moved : IsPermutation free (x ∷ more) = subst (λ r. IfSome r (λ y. IsPermutation free (y ∷ more))) c.unwrap-job.ensures c.pop.ensures.permutation in
-    let pops : PopsGreatest due_cmp free x more = subst (λ r. IfSome r (λ y. PopsGreatest due_cmp free y more)) c.unwrap-job.ensures c.pop.ensures.heap_order in
-    subst (λ xs. IsOpenByDue k xs pending c.args.self.now.counts.items more) (sym c.in_ok-push.ensures.items)
-    (due_taken k c.requires.sound c.requires.class c.args.self.now.taken.items c.args.self.now.counts.items free c.requires.now x more moved pops pending
-    (λ i. seconds_count c.arcs_into.result.now i ∙ c.arcs_into.ensures i ∙ into_counts k c.args.arcs.now x.job i c.requires.arcs))
+    let moved : IsPermutation free (x ∷ more) =
+    subst (λ r. IfSome r (λ y. IsPermutation free (y ∷ more))) c.unwrap-job.ensures
+    c.pop.ensures.permutation in
+    let pops : PopsGreatest due_cmp free x more =
+    subst (λ r. IfSome r (λ y. PopsGreatest due_cmp free y more)) c.unwrap-job.ensures
+    c.pop.ensures.heap_order in
+    subst (λ xs. IsOpenByDue k xs pending c.args.self.now.counts.items more)
+    (sym c.in_ok-push.ensures.items)
+    (due_taken k c.requires.sound c.requires.class c.args.self.now.taken.items
+    c.args.self.now.counts.items free c.requires.now x more moved pops pending
+    (λ i. seconds_count c.arcs_into.result.now i ∙ c.arcs_into.ensures i
+    ∙ into_counts k c.args.arcs.now x.job i c.requires.arcs))
 
 pub returns-clause-chosen : goal.returns-clause-chosen
 returns-clause-chosen g c =
@@ -33,8 +41,16 @@ returns-clause-chosen g c =
     let x : DueJob = c.unwrap-job.result in
     let free : List DueJob = heap_items c.args.self.now.free in
     let more : List DueJob = heap_items c.pop.new.self in
-    let moved : IsPermutation free (x ∷ more) = subst (λ r. IfSome r (λ y. IsPermutation free (y ∷ more))) c.unwrap-job.ensures c.pop.ensures.permutation in
-    let pops : PopsGreatest due_cmp free x more = subst (λ r. IfSome r (λ y. PopsGreatest due_cmp free y more)) c.unwrap-job.ensures c.pop.ensures.heap_order in
-    let chosen : AreChosen k (c.args.self.now.taken.items ++ x.job ∷ []) = due_chosen k c.requires.sound c.requires.class c.args.self.now.taken.items c.args.self.now.counts.items free c.requires.now x more moved pops c.requires.chosen in
-    let now : AreChosen k c.release.new.self.taken.items = subst (AreChosen k) (sym (c.release.ensures.taken ∙ c.in_ok-push.ensures.items)) chosen in
-    elim c.release.result as (λ r. IfOk r (λ _. AreChosen k c.release.new.self.taken.items)) [ Ok r ↦ now | Err e ↦ _ ]
+    let moved : IsPermutation free (x ∷ more) =
+    subst (λ r. IfSome r (λ y. IsPermutation free (y ∷ more))) c.unwrap-job.ensures
+    c.pop.ensures.permutation in
+    let pops : PopsGreatest due_cmp free x more =
+    subst (λ r. IfSome r (λ y. PopsGreatest due_cmp free y more)) c.unwrap-job.ensures
+    c.pop.ensures.heap_order in
+    let chosen : AreChosen k (c.args.self.now.taken.items ++ x.job ∷ []) =
+    due_chosen k c.requires.sound c.requires.class c.args.self.now.taken.items
+    c.args.self.now.counts.items free c.requires.now x more moved pops c.requires.chosen in
+    let now : AreChosen k c.release.new.self.taken.items =
+    subst (AreChosen k) (sym (c.release.ensures.taken ∙ c.in_ok-push.ensures.items)) chosen in
+    elim c.release.result as
+    (λ r. IfOk r (λ _. AreChosen k c.release.new.self.taken.items)) [ Ok r ↦ now | Err e ↦ _ ]

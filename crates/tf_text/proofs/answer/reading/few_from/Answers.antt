@@ -12,11 +12,13 @@ returns-in_err-are_too_many g c =
 
 pub returns-then-branch : goal.returns-then-branch
 returns-then-branch g c =
-    let many : name_many c.args.line (words c.args.text.now) ≡ Ok true = c.in_ok-are_too_many.ensures ∙ ap (λ (b : Bool). Ok b) c.if-branch.true in
+    let many : name_many c.args.line (words c.args.text.now) ≡ Ok true =
+    c.in_ok-are_too_many.ensures ∙ ap (λ (b : Bool). Ok b) c.if-branch.true in
     listed_many c.args.line (words c.args.text.now) many
 
 pub returns : goal.returns
 returns g c =
-    let not_many : name_many c.args.line (words c.args.text.now) ≡ Ok false = c.in_ok-are_too_many.ensures ∙ ap (λ (b : Bool). Ok b) c.if-branch.false in
+    let not_many : name_many c.args.line (words c.args.text.now) ≡ Ok false =
+    c.in_ok-are_too_many.ensures ∙ ap (λ (b : Bool). Ok b) c.if-branch.false in
     let same = listed_few c.args.line (words c.args.text.now) not_many in
     rw same c.jobs_from.ensures

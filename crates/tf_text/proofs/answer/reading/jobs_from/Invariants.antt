@@ -6,7 +6,8 @@ use Rattle.tf_text.proofs.answer.reading.jobs_from.Given as goal
 
 -- the jobs so far, and those of the words that are left
 abbrev pub invariant-loop-word : goal.invariant-loop-word
-invariant-loop-word g l = with_jobs l.jobs.items (jobs_from l.line (words l.rest)) ≡ jobs_from l.line (words l.text)
+invariant-loop-word g l =
+    with_jobs l.jobs.items (jobs_from l.line (words l.rest)) ≡ jobs_from l.line (words l.text)
 
 abbrev pub decreases-loop-word : goal.decreases-loop-word
 decreases-loop-word g l = length l.rest

@@ -5,4 +5,5 @@ use Rattle.tf_text.proofs.answer.reading.push_run.Goals as goal
 pub loop-number-preserved : goal.loop-number-preserved
 loop-number-preserved g c =
     let same : c.unwrap.result ≡ c.loop-number.number = search rules in
-    job_pushed c.args.jobs.now.items c.loop-number.jobs.items _ c.args.run.first c.loop-number.number _ (omega arith) same c.loop-number.invariant c.in_ok-push.ensures.items
+    job_pushed c.args.jobs.now.items c.loop-number.jobs.items _ c.args.run.first
+    c.loop-number.number _ (omega arith) same c.loop-number.invariant c.in_ok-push.ensures.items

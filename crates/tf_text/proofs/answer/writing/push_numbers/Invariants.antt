@@ -5,4 +5,6 @@ use Rattle.tf_text.proofs.answer.writing.push_numbers.Given as goal
 
 -- the jobs so far are written
 abbrev pub invariant-loop-job : goal.invariant-loop-job
-invariant-loop-job g l = l.text.items ≡ l.fn.text.items ++ flat_map (λ word. 32 ∷ word) (map decimal (take l.job-index l.jobs))
+invariant-loop-job g l =
+    l.text.items ≡ l.fn.text.items
+    ++ flat_map (λ word. 32 ∷ word) (map decimal (take l.job-index l.jobs))

@@ -10,7 +10,8 @@ written_more : (a b c : Option (List ℕ)) (bs : List ℕ) (at n : ℕ) → Appe
     → Appends b c (take n (take (length bs - at) (drop at bs))) → Appends a c (take (at + n) bs)
 written_more a b c bs at n first next =
     let rest : take (length bs - at) (drop at bs) ≡ drop at bs = take_rest bs at in
-    let both = Appends-trans a b c _ _ first (subst (λ (l : List ℕ). Appends b c (take n l)) rest next) in
+    let both = Appends-trans a b c _ _ first
+    (subst (λ (l : List ℕ). Appends b c (take n l)) rest next) in
     subst (Appends a c) (sym (take-add at n bs)) both
 
 pub loop-at-preserved : goal.loop-at-preserved
