@@ -80,7 +80,8 @@ def commands(program, plain, folder, problem, table, peer, jobs):
     instance = str(folder / f"{table}_{jobs}.txt")
     answer = str(folder / "measured.txt")
     other = str(folder / "other.txt")
-    solved = best([program, "solve", "--problem", problem, instance], answer)
+    # Version 1 of the answer text, which is what the plain program prints.
+    solved = best([program, "solve", "--problem", problem, "--answer", "1", instance], answer)
     if solved is None:
         return None
     checked = best([program, "check", "--problem", problem, instance, answer], other)
