@@ -1,5 +1,5 @@
 -- Worked examples: what the definitions give on small problems and instances.
-use Rattle.std.proofs.Common.{◌≡◌, ℕ, ℤ, pos, negsuc, List, [], ◌∷◌, true, false, Option, Some, None, Ok, Err, refl}
+use Rattle.std.proofs.Common.{◌≡◌, ℕ, ℤ, pos, negsuc, List, [], ◌∷◌, true, Option, Some, None, Ok, Err, refl}
 use Rattle.tf_model.specs.declared.class.Class.TheVariants.{WeightedSum, Hmax, PrecHmax, ReleaseLmax, FlowTwo, OpenTwo, ParallelPrmp}
 use Rattle.tf_model.specs.declared.problem.Env.{Env}
 use Rattle.tf_model.specs.declared.problem.Env.TheVariants.{Single, Parallel, Flow, OpenShop, JobShop}
@@ -16,24 +16,12 @@ use Rattle.tf_model.specs.StepFaults.{steps_fault}
 use Rattle.tf_model.specs.JobFields.{JobFields}
 use Rattle.tf_model.specs.InstanceData.{InstanceData, instance_fault}
 use Rattle.tf_model.specs.SchedulingTask.{JobData}
-use Rattle.tf_model.specs.ClassTable.{class_of}
+use Rattle.tf_model.specs.ClassTable.{plain_problem, class_of}
 use Rattle.tf_model.specs.Prepare.{prepared}
 
 -- the problem of one field on each side, and no condition
 abbrev plain : Env → Option ℕ → Goal → Problem
-plain env count goal =
-    record {
-      env = env;
-      count = count;
-      release = false;
-      prec = false;
-      prmp = false;
-      prmu = false;
-      nwt = false;
-      block = false;
-      rcrc = false;
-      goal = goal;
-    }
+plain env count goal = record (plain_problem env goal) { count = count }
 
 abbrev precedence : Problem → Problem
 precedence problem = record problem { prec = true }

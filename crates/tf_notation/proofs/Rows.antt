@@ -1,25 +1,15 @@
 -- The definitions at worked examples.
-use Rattle.std.proofs.Common.{◌≡◌, [], Some, None, Ok, Err, true, false, refl, codes}
+use Rattle.std.proofs.Common.{◌≡◌, [], Some, Ok, Err, true, refl, codes}
 use Rattle.tf_words.specs.Number.{plain}
 use Rattle.tf_model.specs.declared.problem.Env.TheVariants.{Single, Parallel}
 use Rattle.tf_model.specs.declared.problem.Goal.TheVariants.{Cmax, Lmax, SumWC}
+use Rattle.tf_model.specs.ClassTable.{plain_problem}
 use Rattle.tf_notation.specs.Tokens.{tokens_from}
 use Rattle.tf_notation.specs.Reading.{notation, expect, listed, conditions_at}
 use Rattle.tf_notation.specs.Canonical.{canonical}
 
 spaced : notation (codes "1 | pmtn , r_j | L_max")
-    ≡ Ok (record {
-      env = Single;
-      count = None;
-      release = true;
-      prec = false;
-      prmp = true;
-      prmu = false;
-      nwt = false;
-      block = false;
-      rcrc = false;
-      goal = Lmax;
-    })
+    ≡ Ok (record (plain_problem Single Lmax) { release = true; prmp = true })
 unfolding notation expect listed conditions_at tokens_from plain
 spaced = refl
 
@@ -64,98 +54,32 @@ unfolding notation expect listed conditions_at tokens_from plain
 case = refl
 
 letter_m : notation (codes "Pm|pmtn|C_max")
-    ≡ Ok (record {
-      env = Parallel;
-      count = None;
-      release = false;
-      prec = false;
-      prmp = true;
-      prmu = false;
-      nwt = false;
-      block = false;
-      rcrc = false;
-      goal = Cmax;
-    })
+    ≡ Ok (record (plain_problem Parallel Cmax) { prmp = true })
 unfolding notation expect listed conditions_at tokens_from plain
 letter_m = refl
 
 counted : notation (codes "P1000|prmp|Cmax")
-    ≡ Ok (record {
-      env = Parallel;
-      count = Some 1000;
-      release = false;
-      prec = false;
-      prmp = true;
-      prmu = false;
-      nwt = false;
-      block = false;
-      rcrc = false;
-      goal = Cmax;
-    })
+    ≡ Ok (record (plain_problem Parallel Cmax) { count = Some 1000; prmp = true })
 unfolding notation expect listed conditions_at tokens_from plain
 counted = refl
 
 any_order : notation (codes "1|nwt,rj|sumwjCj")
-    ≡ Ok (record {
-      env = Single;
-      count = None;
-      release = true;
-      prec = false;
-      prmp = false;
-      prmu = false;
-      nwt = true;
-      block = false;
-      rcrc = false;
-      goal = SumWC;
-    })
+    ≡ Ok (record (plain_problem Single SumWC) { release = true; nwt = true })
 unfolding notation expect listed conditions_at tokens_from plain
 any_order = refl
 
 -- the canonical text
 written : canonical
-    (record {
-      env = Single;
-      count = None;
-      release = true;
-      prec = false;
-      prmp = false;
-      prmu = false;
-      nwt = true;
-      block = false;
-      rcrc = false;
-      goal = SumWC;
-    }) ≡ codes "1|rj,nwt|sumwC"
+    (record (plain_problem Single SumWC) { release = true; nwt = true }) ≡ codes "1|rj,nwt|sumwC"
 unfolding canonical
 written = refl
 
 written_letter : canonical
-    (record {
-      env = Parallel;
-      count = None;
-      release = false;
-      prec = false;
-      prmp = true;
-      prmu = false;
-      nwt = false;
-      block = false;
-      rcrc = false;
-      goal = Cmax;
-    }) ≡ codes "P|prmp|Cmax"
+    (record (plain_problem Parallel Cmax) { prmp = true }) ≡ codes "P|prmp|Cmax"
 unfolding canonical
 written_letter = refl
 
 single_uncounted : canonical
-    (record {
-      env = Single;
-      count = Some 2;
-      release = false;
-      prec = false;
-      prmp = false;
-      prmu = false;
-      nwt = false;
-      block = false;
-      rcrc = false;
-      goal = Cmax;
-    }) ≡ codes "1||Cmax"
+    (record (plain_problem Single Cmax) { count = Some 2 }) ≡ codes "1||Cmax"
 unfolding canonical
 single_uncounted = refl

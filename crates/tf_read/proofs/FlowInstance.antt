@@ -1,5 +1,6 @@
 -- The instance of the times that were read.
-use Rattle.std.proofs.Common.{◌≡◌, ℕ, zero, suc, ◌+◌, ◌*◌, ◌<◌, ◌≤◌, true, false, cond, eqb, ltb, List, [], ◌∷◌, ◌++◌, length, take, ℤ, Option, Some, None, Result, Ok, Err, refl, sym, ap, subst, ◌∙◌, arith, inl, inr}
+use Rattle.std.proofs.Common.{◌≡◌, ℕ, zero, suc, ◌+◌, ◌*◌, ◌<◌, ◌≤◌, true, false, cond, eqb, ltb, List, [], ◌∷◌, ◌++◌, length, map, take, ℤ, Option, Some, None, Result, Ok, Err, refl, sym, ap, subst, ◌∙◌, arith, inl, inr}
+use Rattle.std.specs.List.{range_with_len}
 use Rattle.std.specs.Option.{option_or}
 use Rattle.std.proofs.lemmas.Bool.{cases_Bool, ltb-false, ltb-true, le-ltb, lt-ltb}
 use Rattle.std.proofs.lemmas.List.FromFn.{length-map-range_with_len}
@@ -11,8 +12,8 @@ use Rattle.tf_read.specs.declared.fault.ReadFault.{ReadFault}
 use Rattle.tf_read.specs.declared.fault.ReadFault.TheVariants.{EndsEarly}
 use Rattle.tf_model.specs.Outcome.{◌>>=◌}
 use Rattle.tf_read.specs.Faults.{each_from, natural}
-use Rattle.tf_read.specs.FlowShop.{judged, times_on, machine_count, at, job, jobs_of, present, pairs_of}
-use Rattle.tf_read.specs.Pairs.{Pairs, first, second, count, wanted, missing, Holds, HasRead, IsTime, AreTimes}
+use Rattle.tf_read.specs.FlowShop.{judged, machine_count, at, time_place, job_with, job, jobs_of, present, pairs_of}
+use Rattle.tf_read.specs.Pairs.{Pairs, first, second, count, wanted, missing, AreKept, kept_job, kept_jobs, Holds, HasRead, IsTime, AreTimes}
 use Rattle.tf_words.specs.Scan.{IsInRange}
 use Rattle.tf_read.proofs.Judged.{in_range, natural_within, judged as is_instance}
 use Rattle.tf_read.proofs.OneInstance.{none_at}
@@ -66,11 +67,42 @@ holds p seen m h =
     subst (λ (o : Option ReadFault). Holds o p
     (each_from (judged p.machines) 0 (take (wanted p) seen))) (none_missing p.fault p m).0 h
 
+-- behind the last job no time is left over
+pub whole_length : (n jobs job machine first : ℕ) → n ≡ job + cond (ltb first machine) 1 0
+    → machine ≡ 0 → jobs ≤ job → job ≤ jobs → n ≡ jobs
+whole_length n jobs job machine first is none over few =
+    let here : ltb first machine ≡ false = le-ltb _ _ (omega (arith, none)) in
+    let same : n ≡ job + 0 = rw here at is in
+    omega (arith, same)
+
+-- the jobs of the times that were kept are those of the numbers
+same_made : {X : Type 0} (f g : ℕ → X) (a n : ℕ)
+    → ((j : ℕ) → a ≤ j → j < a + n → f j ≡ g j)
+    → map f (range_with_len a n) ≡ map g (range_with_len a n)
+same_made f g a zero same = refl
+same_made {X} f g a (suc n) same =
+    ap (λ (x : X). x ∷ map f (range_with_len (a + 1) n)) (same a (omega arith) (omega arith))
+    ∙ ap (λ (xs : List X). g a ∷ xs)
+    (same_made f g (a + 1) n (λ j le lt. same j (omega arith) (omega arith)))
+
+same_jobs : (p : Pairs) (all : List ℤ) → AreKept p (first p) p.firsts all
+    → AreKept p (second p) p.seconds all → length p.firsts ≡ p.jobs → length p.seconds ≡ p.jobs
+    → jobs_of p.jobs p.machines (first p) (second p) all
+    ≡ kept_jobs p.jobs p.machines p.firsts p.seconds
+same_jobs p all ones twos firsts seconds =
+    same_made (job p.machines (first p) (second p) all) (kept_job p.machines p.firsts p.seconds) 0
+    p.jobs
+    (λ j le lt.
+    ap (λ (z : ℤ). job_with p.machines z (at all (time_place p.machines (second p) j)))
+    (sym (ones.each j (omega (arith, lt, firsts))).1)
+    ∙ ap (λ (z : ℤ). job_with p.machines (at p.firsts j) z)
+    (sym (twos.each j (omega (arith, lt, seconds))).1))
+
 pub whole_is : (p : Pairs) (seen : List Word) → p.job ≤ p.jobs → (p.jobs ≤ p.job → p.machine ≡ 0)
     → (p.jobs ≤ p.job → p.is_named ≡ false) → HasRead p seen → missing p ≡ None
     → pairs_of p.jobs p.machines p.pair seen
     ≡ Ok (record {
-      jobs = jobs_of p.jobs p.machines p.firsts p.seconds;
+      jobs = kept_jobs p.jobs p.machines p.firsts p.seconds;
       arcs = [];
       machines = Some (machine_count p.machines p.pair);
     })
@@ -80,17 +112,12 @@ whole_is p seen few machine named h m =
     let all : count p ≡ wanted p = count_all p (omega arith) (machine le) (named le) in
     let long : ltb (length w.0) (2 * p.jobs * p.machines) ≡ false =
     le-ltb _ _ (omega (arith, all, w.2)) in
-    let firsts : times_on p.machines (first p) 0 w.0 ≡ p.firsts = sym w.3 in
-    let seconds : times_on p.machines (second p) 0 w.0 ≡ p.seconds = sym w.4 in
-    goes_on p.jobs p.machines p.pair seen (Ok w.0) w.1 ∙ rw (long, firsts, seconds) refl
-
--- behind the last job no time is left over
-pub whole_length : (n jobs job machine first : ℕ) → n ≡ job + cond (ltb first machine) 1 0
-    → machine ≡ 0 → jobs ≤ job → job ≤ jobs → n ≡ jobs
-whole_length n jobs job machine first is none over few =
-    let here : ltb first machine ≡ false = le-ltb _ _ (omega (arith, none)) in
-    let same : n ≡ job + 0 = rw here at is in
-    omega (arith, same)
+    let firsts : length p.firsts ≡ p.jobs =
+    whole_length _ p.jobs p.job p.machine (first p) w.3.tally (machine le) le few in
+    let seconds : length p.seconds ≡ p.jobs =
+    whole_length _ p.jobs p.job p.machine (second p) w.4.tally (machine le) le few in
+    goes_on p.jobs p.machines p.pair seen (Ok w.0) w.1
+    ∙ rw (long, same_jobs p w.0 w.3 w.4 firsts seconds) refl
 
 -- a number that is read as a time is one
 pub read_time : (line : ℕ) (n : Number) (z : ℤ) → IsInRange n → natural line n ≡ Ok z → IsTime z
@@ -121,8 +148,8 @@ times_more times new z all here more = subst AreTimes (sym more) (more_there tim
 
 -- a job's times
 job_ok : (m : ℕ) (firsts seconds : List ℤ) (j : ℕ) → IsTime (at firsts j) → IsTime (at seconds j)
-    → (has_negative (job m firsts seconds j) ≡ false)
-    × (has_beyond (job m firsts seconds j) ≡ false)
+    → (has_negative (kept_job m firsts seconds j) ≡ false)
+    × (has_beyond (kept_job m firsts seconds j) ≡ false)
 job_ok m firsts seconds j a b = elim (cases_Bool (eqb m 1)) [
   | inl e ↦ (rw (e, a.0) refl, rw (e, a.1) refl)
   | inr e ↦ (rw (e, a.0, b.0) refl, rw (e, a.1, b.1) refl)
@@ -141,16 +168,16 @@ pub whole_judged : (jobs machines : ℕ) (pair : Option (ℕ × ℕ)) (firsts se
     → AreTimes seconds
     → IsInstance
     (record {
-      jobs = jobs_of jobs machines firsts seconds;
+      jobs = kept_jobs jobs machines firsts seconds;
       arcs = [];
       machines = Some (machine_count machines pair);
     })
 whole_judged jobs machines pair firsts seconds some few machines_some machines_few first_times
     second_times =
-    let length_is : length (jobs_of jobs machines firsts seconds) ≡ jobs =
-    length-map-range_with_len (job machines firsts seconds) 0 jobs in
+    let length_is : length (kept_jobs jobs machines firsts seconds) ≡ jobs =
+    length-map-range_with_len (kept_job machines firsts seconds) 0 jobs in
     is_instance (record {
-      jobs = jobs_of jobs machines firsts seconds;
+      jobs = kept_jobs jobs machines firsts seconds;
       arcs = [];
       machines =
           Some (machine_count machines pair);
@@ -159,9 +186,9 @@ whole_judged jobs machines pair firsts seconds some few machines_some machines_f
       few = omega (arith, length_is);
       machines = machines_ok machines pair machines_some machines_few;
       arcs = omega arith;
-      negative = none_at has_negative (job machines firsts seconds) jobs
+      negative = none_at has_negative (kept_job machines firsts seconds) jobs
           (λ j lt. (job_ok machines firsts seconds j (first_times.each j) (second_times.each j)).0);
-      beyond = none_at has_beyond (job machines firsts seconds) jobs
+      beyond = none_at has_beyond (kept_job machines firsts seconds) jobs
           (λ j lt. (job_ok machines firsts seconds j (first_times.each j) (second_times.each j)).1);
       bad_arc = refl;
     })

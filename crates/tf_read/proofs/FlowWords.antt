@@ -1,9 +1,10 @@
 -- One word more of a flow shop.
-use Rattle.std.proofs.Common.{◌≡◌, ℕ, suc, ◌+◌, ◌*◌, ◌/◌, ◌%◌, ◌<◌, ◌≤◌, ◌||◌, ◌&&◌, Bool, true, false, cond, eqb, leb, List, [], ◌∷◌, ◌++◌, length, take, ℤ, Option, Some, None, Result, Ok, Err, refl, sym, ap, subst, ◌∙◌, arith, inl, inr, is_some, length-append}
-use Rattle.std.proofs.lemmas.Bool.{cases_Bool, leb-true, leb-false, eqb-true}
-use Rattle.std.proofs.lemmas.List.{append-nil}
+use Rattle.std.proofs.Common.{◌≡◌, ℕ, ◌+◌, ◌*◌, ◌/◌, ◌%◌, ◌<◌, ◌≤◌, ◌||◌, Bool, true, false, cond, eqb, leb, ltb, List, [], ◌∷◌, ◌++◌, length, take, ℤ, pos, Option, Some, None, Result, Ok, Err, refl, sym, ap, subst, ◌∙◌, arith, inl, inr, is_some, length-append}
+use Rattle.std.proofs.lemmas.Bool.{cases_Bool, cases_lt, leb-true, leb-false, eqb-true, eqb-false, ltb-true, ltb-false, lt-ltb, le-ltb}
+use Rattle.std.proofs.lemmas.List.{get_or_append_left}
 use Rattle.std.proofs.lemmas.Nat.{mod-mul-add}
 use Rattle.std.proofs.Math.Nat.{mul-le-mul_right}
+use Rattle.std.proofs.Math.Seq.{get_or-append_seam}
 use Rattle.tf_words.specs.Words.{Word}
 use Rattle.tf_words.specs.Number.{number}
 use Rattle.tf_words.specs.declared.number.Number.{Number}
@@ -11,8 +12,8 @@ use Rattle.tf_read.specs.declared.fault.ReadFault.{ReadFault}
 use Rattle.tf_model.specs.Outcome.{◌>>=◌}
 use Rattle.tf_read.specs.Faults.{each_from, natural}
 use Rattle.tf_words.specs.Scan.{IsOf}
-use Rattle.tf_read.specs.FlowShop.{is_time, machine_at, machine_is, number_at, judged, times_on, pairs_of}
-use Rattle.tf_read.specs.Pairs.{Pairs, first, second, count, wanted, Holds, HasRead, after_name, after_time, is_last}
+use Rattle.tf_read.specs.FlowShop.{is_time, machine_at, machine_is, number_at, judged, at, time_place, first_machine, second_machine, pairs_of}
+use Rattle.tf_read.specs.Pairs.{Pairs, first, second, count, wanted, AreKept, Holds, HasRead, after_name, with_time, after_time, is_last}
 use Rattle.tf_read.specs.Said.{Says}
 use Rattle.tf_read.proofs.Progress.{stays_fault, stays_with, pushed_with, all_of}
 
@@ -82,31 +83,127 @@ unchanged p seen word over few machine named h =
     (λ le. let e : count p ≡ wanted p = count_all p (omega arith) (machine le) (named le) in
     omega (arith, e)) h
 
--- a number more among those of a machine
-pub times_push : (m k i : ℕ) (zs : List ℤ) (z : ℤ)
-    → times_on m k i (zs ++ z ∷ []) ≡ times_on m k i zs
-    ++ cond (is_time (i + length zs) && eqb (machine_at m (i + length zs)) k) (z ∷ []) []
-times_push m k i [] z = let e : i + 0 ≡ i = omega arith in
-    elim (cases_Bool (is_time i && eqb (machine_at m i) k)) [
-      | inl yes' ↦ rw (e, yes') refl
-      | inr no' ↦ rw (e, no') refl
-    ]
-times_push m k i (y ∷ ys) z =
-    let e : i + suc (length ys) ≡ i + 1 + length ys = omega arith in
-    let ih = times_push m k (i + 1) ys z in
-    elim (cases_Bool (is_time i && eqb (machine_at m i) k)) [
-      | inl yes' ↦ rw (yes', e, ih) refl
-      | inr no' ↦ rw (no', e, ih) refl
+-- numbers with one more
+at_before : (xs : List ℤ) (z : ℤ) (k : ℕ) → k < length xs → at (xs ++ z ∷ []) k ≡ at xs k
+at_before xs z k lt = get_or_append_left xs (z ∷ []) (pos 0) k lt
+
+at_last : (xs : List ℤ) (z : ℤ) → at (xs ++ z ∷ []) (length xs) ≡ z
+at_last xs z = get_or-append_seam xs z [] (pos 0)
+
+-- the times that were kept stand where they stood, with a number more
+abbrev Stand : ℕ → ℕ → List ℤ → List ℤ → Type 0
+Stand machines machine times all = (j : ℕ) → j < length times
+    → (time_place machines machine j < length all)
+    × (at times j ≡ at all (time_place machines machine j))
+
+stand_still : (m k : ℕ) (times all : List ℤ) (z : ℤ) → Stand m k times all
+    → Stand m k times (all ++ z ∷ [])
+stand_still m k times all z each = λ j lt.
+    let e = each j lt in
+    (omega (arith, e.0, length-append all (z ∷ [])), e.1 ∙ sym (at_before all z _ e.0))
+
+stand_more : (m k : ℕ) (times all : List ℤ) (z : ℤ) → time_place m k (length times) ≡ length all
+    → Stand m k times all → Stand m k (times ++ z ∷ []) (all ++ z ∷ [])
+stand_more m k times all z here each = λ j lt. elim (cases_lt j (length times)) [
+  | inl before ↦
+      let e = each j before in (
+        omega (arith, e.0, length-append all (z ∷ [])),
+        at_before times z j before ∙ e.1 ∙ sym (at_before all z _ e.0),
+      )
+  | inr behind ↦
+      let same : j ≡ length times = omega (arith, behind, lt, length-append times (z ∷ [])) in
+      let place : time_place m k j ≡ length all = ap (time_place m k) same ∙ here in (
+        omega (arith, place, length-append all (z ∷ [])),
+        ap (at (times ++ z ∷ [])) same ∙ at_last times z ∙ sym (at_last all z)
+            ∙ ap (at (all ++ z ∷ [])) (sym place),
+      )
+]
+
+stand_with : (b : Bool) (m k : ℕ) (times all : List ℤ) (z : ℤ)
+    → (b ≡ true → time_place m k (length times) ≡ length all) → Stand m k times all
+    → Stand m k (cond b (times ++ z ∷ []) times) (all ++ z ∷ [])
+stand_with true m k times all z here each = stand_more m k times all z (here refl) each
+stand_with false m k times all z here each = stand_still m k times all z each
+
+-- how many times of a machine were kept, one time further
+length_with : (b : Bool) (times : List ℤ) (z : ℤ)
+    → length (cond b (times ++ z ∷ []) times) ≡ length times + cond b 1 0
+length_with true times z = length-append times (z ∷ [])
+length_with false times z = omega arith
+
+tally_next : (n job machine machines wanted : ℕ) → wanted < machines → machine < machines
+    → n ≡ job + cond (ltb wanted machine) 1 0
+    → n + cond (eqb machine wanted) 1 0
+    ≡ cond (eqb (machine + 1) machines) (job + 1) job
+    + cond (ltb wanted (cond (eqb (machine + 1) machines) 0 (machine + 1))) 1 0
+tally_next n job machine machines wanted there within is =
+    let first : ltb wanted 0 ≡ false = le-ltb _ _ (omega arith) in
+    elim (cases_Bool (eqb machine wanted)) [
+      | inl e ↦
+          let same : machine ≡ wanted = eqb-true machine wanted e in
+          let none : ltb wanted machine ≡ false = le-ltb _ _ (omega (arith, same)) in
+          let so_far : n ≡ job + 0 = rw none at is in
+          elim (cases_Bool (eqb (machine + 1) machines)) [
+            | inl l ↦ rw (e, l, first) (omega (arith, so_far))
+            | inr l ↦
+                let next : ltb wanted (machine + 1) ≡ true = lt-ltb _ _ (omega (arith, same)) in
+                rw (e, l, next) (omega (arith, so_far))
+          ]
+      | inr e ↦
+          let differ : machine ≡ wanted → ⊥ = eqb-false machine wanted e in
+          elim (cases_Bool (eqb (machine + 1) machines)) [
+            | inl l ↦
+                let last : machine + 1 ≡ machines = eqb-true _ _ l in
+                let some : ltb wanted machine ≡ true =
+                lt-ltb _ _ (omega (arith, last, there, differ)) in
+                let so_far : n ≡ job + 1 = rw some at is in
+                rw (e, l, first) (omega (arith, so_far))
+            | inr l ↦ elim (cases_Bool (ltb wanted machine)) [
+              | inl b ↦
+                  let so_far : n ≡ job + 1 = rw b at is in
+                  let next : ltb wanted (machine + 1) ≡ true =
+                  lt-ltb _ _ (omega (arith, ltb-true _ _ b)) in
+                  rw (e, l, next) (omega (arith, so_far))
+              | inr b ↦
+                  let so_far : n ≡ job + 0 = rw b at is in
+                  let next : ltb wanted (machine + 1) ≡ false =
+                  le-ltb _ _ (omega (arith, ltb-false _ _ b, differ)) in
+                  rw (e, l, next) (omega (arith, so_far))
+            ]
+          ]
     ]
 
--- the times with the word at a place
-times_then : (named : Bool) (p : Pairs) (k : ℕ) (all : List ℤ) (z : ℤ) (times : List ℤ)
-    → is_time (count p) ≡ named → machine_at p.machines (count p) ≡ p.machine → count p ≡ length all
-    → times ≡ times_on p.machines k 0 all
-    → times_on p.machines k 0 (all ++ z ∷ []) ≡ times ++ cond (named && eqb p.machine k) (z ∷ []) []
-times_then named p k all z times t at c h =
-    let e : 0 + length all ≡ count p = omega (arith, c) in
-    times_push p.machines k 0 all z ∙ rw (e, t, at, ← h) refl
+-- the times that were kept, behind the name of a machine
+kept_named : (p : Pairs) (machine : ℕ) (times all : List ℤ) (z : ℤ) → AreKept p machine times all
+    → AreKept (record p { is_named = true }) machine times (all ++ z ∷ [])
+kept_named p machine times all z kept = record {
+  there = kept.there;
+  tally = kept.tally;
+  each = stand_still p.machines machine times all z kept.each;
+}
+
+-- and behind a time
+own_place : (p : Pairs) (machine : ℕ) (times all : List ℤ)
+    → time_place p.machines p.machine p.job ≡ length all → AreKept p machine times all
+    → eqb p.machine machine ≡ true → time_place p.machines machine (length times) ≡ length all
+own_place p machine times all here kept e =
+    let same : p.machine ≡ machine = eqb-true p.machine machine e in
+    let none : ltb machine p.machine ≡ false = le-ltb _ _ (omega (arith, same)) in
+    let so_far : length times ≡ p.job + 0 = rw none at kept.tally in
+    let job : length times ≡ p.job = omega (arith, so_far) in
+    ap (λ (n : ℕ). time_place p.machines machine n) job
+    ∙ ap (λ (k : ℕ). time_place p.machines k p.job) (sym same) ∙ here
+
+kept_timed : (p : Pairs) (machine : ℕ) (times all : List ℤ) (z : ℤ) → p.machine < p.machines
+    → time_place p.machines p.machine p.job ≡ length all → AreKept p machine times all
+    → AreKept (after_time p (Ok z)) machine (with_time machine p.machine times z) (all ++ z ∷ [])
+kept_timed p machine times all z within here kept = record {
+  there = kept.there;
+  tally = length_with (eqb p.machine machine) times z
+      ∙ tally_next (length times) p.job p.machine p.machines machine kept.there within kept.tally;
+  each = stand_with (eqb p.machine machine) p.machines machine times all z
+      (own_place p machine times all here kept) kept.each;
+}
 
 -- the words with one more
 read_more : (p : Pairs) (seen : List Word) (word : Word) (all : List ℤ) (line : ℕ) (read : Number)
@@ -137,8 +234,6 @@ named_at (Some d) p seen word line read r f more now within of h g = absurd (let
 named_at None p seen word line read (Err e) f more now within of h g =
     read_more p seen word g.0 line read false (Err e) more now within of h g.2 g.1
 named_at None p seen word line read (Ok z) f more now within of h g =
-    let at = place p.is_named p.job p.machines p.machine within in
-    let t : is_time (count p) ≡ false = at.0 ∙ now in
     let c : 2 * (p.job * p.machines + p.machine) + 0 ≡ length g.0 =
     counted_as p false (length g.0) now g.2 in
     subst (λ (o : Option ReadFault). Holds o (record p { is_named = true })
@@ -146,9 +241,8 @@ named_at None p seen word line read (Ok z) f more now within of h g =
       g.0 ++ z ∷ [],
       read_more p seen word g.0 line read false (Ok z) more now within of h g.2 g.1,
       omega (arith, c, length-append g.0 (z ∷ [])),
-      sym (append-nil p.firsts) ∙ sym (times_then false p (first p) g.0 z p.firsts t at.1 g.2 g.3),
-      sym (append-nil p.seconds)
-          ∙ sym (times_then false p (second p) g.0 z p.seconds t at.1 g.2 g.4),
+      kept_named p (first p) p.firsts g.0 z g.3,
+      kept_named p (second p) p.seconds g.0 z g.4,
     )
 
 pub named : (p : Pairs) (seen : List Word) (word : Word) (line : ℕ) (read : Number)
@@ -160,11 +254,6 @@ named p seen word line read more now within of g =
     refl g
 
 -- a time
-one_behind : (b : Bool) (times : List ℤ) (z : ℤ)
-    → times ++ cond b (z ∷ []) [] ≡ cond b (times ++ z ∷ []) times
-one_behind true times z = refl
-one_behind false times z = append-nil times
-
 count_next : (p : Pairs) (n : ℕ) → 2 * (p.job * p.machines + p.machine) + 1 ≡ n
     → 2 * (cond (is_last p) (p.job + 1) p.job * p.machines + cond (is_last p) 0 (p.machine + 1)) + 0
     ≡ n + 1
@@ -185,8 +274,6 @@ timed_at (Some d) p seen word line read r f more now within of h g = absurd (let
 timed_at None p seen word line read (Err e) f more now within of h g =
     read_more p seen word g.0 line read true (Err e) more now within of h g.2 g.1
 timed_at None p seen word line read (Ok z) f more now within of h g =
-    let at = place p.is_named p.job p.machines p.machine within in
-    let t : is_time (count p) ≡ true = at.0 ∙ now in
     let c : 2 * (p.job * p.machines + p.machine) + 1 ≡ length g.0 =
     counted_as p true (length g.0) now g.2 in
     subst (λ (o : Option ReadFault). Holds o (after_time p (Ok z))
@@ -194,10 +281,8 @@ timed_at None p seen word line read (Ok z) f more now within of h g =
       g.0 ++ z ∷ [],
       read_more p seen word g.0 line read true (Ok z) more now within of h g.2 g.1,
       count_next p (length g.0) c ∙ sym (length-append g.0 (z ∷ [])),
-      sym (times_then true p (first p) g.0 z p.firsts t at.1 g.2 g.3
-          ∙ one_behind (eqb p.machine (first p)) p.firsts z),
-      sym (times_then true p (second p) g.0 z p.seconds t at.1 g.2 g.4
-          ∙ one_behind (eqb p.machine (second p)) p.seconds z),
+      kept_timed p (first p) p.firsts g.0 z within c g.3,
+      kept_timed p (second p) p.seconds g.0 z within c g.4,
     )
 
 pub timed : (p : Pairs) (seen : List Word) (word : Word) (line : ℕ) (read : Number)
@@ -222,7 +307,14 @@ wanted_timed p says (Ok z) h = h
 wanted_timed p says (Err e) h = h
 
 -- before the first word
-pub none_read : (jobs machines : ℕ) (pair : Option (ℕ × ℕ))
+none_kept : (p : Pairs) (machine : ℕ) → machine < p.machines → p.job ≡ 0 → p.machine ≡ 0
+    → AreKept p machine [] []
+none_kept p machine there job none =
+    let first : ltb machine p.machine ≡ false = le-ltb _ _ (omega (arith, none)) in
+    record { there = there; tally = rw (first, job) refl; each = λ j lt. absurd (omega (arith, lt)) }
+
+pub none_read : (jobs machines : ℕ) (pair : Option (ℕ × ℕ)) → first_machine pair < machines
+    → second_machine machines pair < machines
     → HasRead (record {
       jobs = jobs;
       machines = machines;
@@ -235,10 +327,10 @@ pub none_read : (jobs machines : ℕ) (pair : Option (ℕ × ℕ))
       fault = None;
     }) []
 unfolding each_from
-none_read jobs machines pair = (
+none_read jobs machines pair first second = (
   [],
   ap (each_from (judged machines) 0) (all_of (2 * jobs * machines) [] (omega arith)),
   omega arith,
-  refl,
-  refl,
+  none_kept _ _ first refl refl,
+  none_kept _ _ second refl refl,
 )

@@ -7,7 +7,6 @@ use Rattle.tf_words.specs.Number.{number, limit, is_numeral}
 use Rattle.tf_words.specs.Words.{Word, words, lines, words_from}
 use Rattle.tf_model.specs.JobFields.{JobFields}
 use Rattle.tf_model.specs.InstanceData.{InstanceData}
-use Rattle.tf_model.specs.declared.job.Times.{Times}
 use Rattle.tf_model.specs.declared.job.Times.TheVariants.{One, Two}
 use Rattle.tf_model.specs.declared.limit.TheConstants.{MOST_BYTES, MOST_JOBS, MOST_MACHINES}
 use Rattle.tf_words.specs.declared.number.Number.{Number}
@@ -39,13 +38,6 @@ number_at machines i line read =
 abbrev pub judged : ℕ → ℕ → Word → Result ℤ ReadFault
 judged machines i word = number_at machines i word.line (number word.bytes)
 
--- the times on a machine, job by job, among numbers of which the first has a place
-abbrev pub times_on : ℕ → ℕ → ℕ → List ℤ → List ℤ
-times_on machines machine i [] = []
-times_on machines machine i (z ∷ zs) =
-    if is_time i && machine_at machines i == machine then z ∷ times_on machines machine (i + 1) zs
-    else times_on machines machine (i + 1) zs
-
 -- the machines whose times are kept
 abbrev pub first_machine : Option (ℕ × ℕ) → ℕ
 first_machine None = 0
@@ -60,35 +52,40 @@ abbrev pub machine_count : ℕ → Option (ℕ × ℕ) → ℕ
 machine_count machines None = machines
 machine_count machines (Some pair) = 2
 
--- the time at a place
+-- the number at a place
 abbrev pub at : List ℤ → ℕ → ℤ
-at times j = slice_index_or times j (pos 0)
+at numbers i = slice_index_or numbers i (pos 0)
 
--- one time where there is one machine
-abbrev pub times_of : ℕ → List ℤ → List ℤ → ℕ → Times
-times_of machines firsts seconds j =
-    if machines == 1 then One (at firsts j) else Two (at firsts j) (at seconds j)
+-- the time of a job on a machine stands here, where jobs and machines count from 0
+abbrev pub time_place : ℕ → ℕ → ℕ → ℕ
+time_place machines machine j = 2 * (j * machines + machine) + 1
 
-abbrev pub job : ℕ → List ℤ → List ℤ → ℕ → JobFields
-job machines firsts seconds j =
-    record {
-      times = times_of machines firsts seconds j;
-      weight = None;
-      due = None;
-      release = None;
-      cost = None;
-    }
+-- a job with these times; one where there is one machine
+abbrev pub job_with : ℕ → ℤ → ℤ → JobFields
+job_with machines first second = record {
+  times = if machines == 1 then One first else Two first second;
+  weight = None;
+  due = None;
+  release = None;
+  cost = None;
+}
 
-abbrev pub jobs_of : ℕ → ℕ → List ℤ → List ℤ → List JobFields
-jobs_of jobs machines firsts seconds = map (job machines firsts seconds) (range_with_len 0 jobs)
+-- job j on these two machines
+abbrev pub job : ℕ → ℕ → ℕ → List ℤ → ℕ → JobFields
+job machines first second numbers j =
+    job_with machines (at numbers (time_place machines first j))
+    (at numbers (time_place machines second j))
+
+abbrev pub jobs_of : ℕ → ℕ → ℕ → ℕ → List ℤ → List JobFields
+jobs_of jobs machines first second numbers =
+    map (job machines first second numbers) (range_with_len 0 jobs)
 
 -- the instance, where all its numbers are there
 abbrev pub present : ℕ → ℕ → Option (ℕ × ℕ) → List ℤ → Result InstanceData ReadFault
 present jobs machines pair numbers =
     if nat_lt (length numbers) (2 * jobs * machines) then Err EndsEarly
     else Ok (record {
-      jobs = jobs_of jobs machines (times_on machines (first_machine pair) 0 numbers)
-          (times_on machines (second_machine machines pair) 0 numbers);
+      jobs = jobs_of jobs machines (first_machine pair) (second_machine machines pair) numbers;
       arcs = [];
       machines = Some (machine_count machines pair);
     })

@@ -1,13 +1,15 @@
 -- The times of a flow shop among the words of a text.
-use Rattle.std.specs.Prelude.{◌≡◌, ℕ, ◌+◌, ◌*◌, Bool, true, false, ◌==◌, nat_lt, List, [], ◌∷◌, ◌++◌, length, take, Option, Some, None, Result, Ok, Err, ℤ, if◌then◌else◌}
+use Rattle.std.specs.Prelude.{◌≡◌, ℕ, ◌+◌, ◌*◌, ◌<◌, Bool, true, false, ◌==◌, nat_lt, List, [], ◌∷◌, ◌++◌, length, take, map, Option, Some, None, Result, Ok, Err, ℤ, if◌then◌else◌}
+use Rattle.std.specs.List.{range_with_len}
 use Rattle.std.specs.Option.{option_or}
 use Rattle.tf_words.specs.Words.{Word}
+use Rattle.tf_model.specs.JobFields.{JobFields}
 use Rattle.tf_model.specs.InstanceData.{is_negative, is_beyond}
 use Rattle.tf_read.specs.declared.fault.ReadFault.{ReadFault}
 use Rattle.tf_read.specs.declared.fault.ReadFault.TheVariants.{EndsEarly}
 use Rattle.tf_read.specs.Faults.{each_from}
 use Rattle.tf_read.specs.Said.{Says}
-use Rattle.tf_read.specs.FlowShop.{at, first_machine, second_machine, judged, times_on, pairs_of}
+use Rattle.tf_read.specs.FlowShop.{at, time_place, first_machine, second_machine, job_with, judged, pairs_of}
 
 -- how far the reading of so many jobs on so many machines is, of which the times on this pair are
 -- kept
@@ -36,10 +38,24 @@ count p = 2 * (p.job * p.machines + p.machine) + (if p.is_named then 1 else 0)
 abbrev pub wanted : Pairs → ℕ
 wanted p = 2 * p.jobs * p.machines
 
+-- of these numbers the times on a machine were kept, of each job that has come so far
+pub record AreKept (p : Pairs) (machine : ℕ) (times all : List ℤ) : Type 0 where
+  pub there : machine < p.machines
+  pub tally : length times ≡ p.job + (if nat_lt machine p.machine then 1 else 0)
+  pub each : (j : ℕ) → j < length times → (time_place p.machines machine j < length all)
+      × (at times j ≡ at all (time_place p.machines machine j))
+
+-- the jobs of the times that were kept
+abbrev pub kept_job : ℕ → List ℤ → List ℤ → ℕ → JobFields
+kept_job machines firsts seconds j = job_with machines (at firsts j) (at seconds j)
+
+abbrev pub kept_jobs : ℕ → ℕ → List ℤ → List ℤ → List JobFields
+kept_jobs jobs machines firsts seconds =
+    map (kept_job machines firsts seconds) (range_with_len 0 jobs)
+
 abbrev pub Holds : Option ReadFault → Pairs → Result (List ℤ) ReadFault → Type 0
 Holds None p read = (all : List ℤ) × (read ≡ Ok all) × (count p ≡ length all)
-    × (p.firsts ≡ times_on p.machines (first p) 0 all)
-    × (p.seconds ≡ times_on p.machines (second p) 0 all)
+    × AreKept p (first p) p.firsts all × AreKept p (second p) p.seconds all
 Holds (Some fault) p read = read ≡ Err fault
 
 -- these are the words that were read

@@ -4,8 +4,8 @@ ghost use Rattle.tf_words.specs.Words.{Word};
 ghost use Rattle.tf_read.specs.Faults.{natural};
 ghost use Rattle.tf_read.specs.Said.{Says};
 ghost use Rattle.tf_words.specs.Scan.{IsInRange};
-ghost use Rattle.tf_read.specs.FlowShop.{is_pair, machine_is, first_machine, second_machine, machine_count, job, pairs_of};
-ghost use Rattle.tf_read.specs.Pairs.{Reads, IsTime, AreTimes, after_name, after_time, missing};
+ghost use Rattle.tf_read.specs.FlowShop.{is_pair, machine_is, first_machine, second_machine, machine_count, pairs_of};
+ghost use Rattle.tf_read.specs.Pairs.{Reads, IsTime, AreTimes, after_name, after_time, kept_job, missing};
 
 use crate::fault::ReadFault;
 use crate::number::natural_of;
@@ -291,7 +291,7 @@ impl<A: Allocator> Judge for Pairs<A> {
 fn job<A: Allocator>(machines: u32, firsts: &[i64], seconds: &[i64], j: usize) -> Job<A>
     requires first { j < length firsts.now }
     requires second { j < length seconds.now }
-    ensures { result ≡ job machines firsts.now seconds.now j }
+    ensures { result ≡ kept_job machines firsts.now seconds.now j }
 {
     Job {
         times: if machines == 1 {

@@ -6,6 +6,7 @@ use Rattle.tf_words.specs.Words.{words, lines, kept_lines}
 use Rattle.tf_words.specs.Number.{plain}
 use Rattle.tf_model.specs.declared.problem.Env.TheVariants.{Parallel, Flow}
 use Rattle.tf_model.specs.declared.problem.Goal.TheVariants.{Cmax}
+use Rattle.tf_model.specs.ClassTable.{plain_problem}
 use Rattle.tf_notation.specs.Canonical.{canonical}
 use Rattle.tf_notation.specs.Tokens.{tokens_from}
 use Rattle.tf_notation.specs.Reading.{notation, expect, listed, conditions_at}
@@ -20,18 +21,7 @@ use Rattle.tf_text.specs.declared.answer.fault.AnswerFault.TheVariants.{BadLine,
 -- three jobs of time 4 on two parallel machines
 two_parallel : SheetData
 two_parallel = record {
-  problem = record {
-    env = Parallel;
-    count = Some 2;
-    release = false;
-    prec = false;
-    prmp = true;
-    prmu = false;
-    nwt = false;
-    block = false;
-    rcrc = false;
-    goal = Cmax;
-  };
+  problem = record (plain_problem Parallel Cmax) { count = Some 2; prmp = true };
   jobs = 3;
   machines = 2;
   answer = record {
@@ -175,18 +165,7 @@ unfolding before_pieces text_of answer_in sheet_of answer_at heading_at exactly 
 no_notation = refl
 
 one_return : problem_in (record { number = 2; bytes = codes " problem F2 || Cmax" ++ 13 ∷ [] })
-    ≡ Ok (record {
-      env = Flow;
-      count = Some 2;
-      release = false;
-      prec = false;
-      prmp = false;
-      prmu = false;
-      nwt = false;
-      block = false;
-      rcrc = false;
-      goal = Cmax;
-    })
+    ≡ Ok (record (plain_problem Flow Cmax) { count = Some 2 })
 unfolding problem_in words notation expect conditions_at listed tokens_from plain
 one_return = refl
 

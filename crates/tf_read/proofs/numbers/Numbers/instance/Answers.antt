@@ -1,5 +1,4 @@
-use Rattle.std.proofs.Common.{◌≡◌, ◌≤◌, ◌*◌, length, map, rules, refl, sym, ap, ◌∙◌, arith}
-use Rattle.std.specs.List.{range_with_len}
+use Rattle.std.proofs.Common.{◌≡◌, ◌≤◌, ◌*◌, length, rules, refl, sym, ap, ◌∙◌, arith}
 use Rattle.tf_read.specs.WeightedTardiness.{job}
 use Rattle.tf_read.specs.Numbers.{Progress, wanted}
 use Rattle.tf_read.proofs.OneInstance.{all_read, missing_is, whole_is, whole_judged}

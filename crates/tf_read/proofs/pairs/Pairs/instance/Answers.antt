@@ -1,6 +1,5 @@
 use Rattle.std.proofs.Common.{◌≡◌, ◌≤◌, length, rules, sym, ap, ◌∙◌, arith, refl}
-use Rattle.tf_read.specs.FlowShop.{job}
-use Rattle.tf_read.specs.Pairs.{Pairs}
+use Rattle.tf_read.specs.Pairs.{Pairs, kept_job}
 use Rattle.tf_read.proofs.FlowInstance.{all_over, missing_is, whole_is, whole_judged, whole_length}
 use Rattle.tf_read.proofs.pairs.Pairs.instance.Goals as goal
 
@@ -40,7 +39,7 @@ of-requires g c =
     let kept = c.self.invariant in
     let inside = c.self.inside in
     let made = c.filled-jobs.ensures
-    (job inside.machines c.as_slice-firsts.result.now c.as_slice-seconds.result.now)
+    (kept_job inside.machines c.as_slice-firsts.result.now c.as_slice-seconds.result.now)
     (λ k x lt p. search rules) in
     rw (made, c.new.ensures.items, c.machine_count-count.ensures, c.as_slice-firsts.ensures.value, c.as_slice-seconds.ensures.value)
     (whole_judged inside.jobs inside.machines inside.pair inside.firsts.items inside.seconds.items
@@ -50,7 +49,7 @@ of-requires g c =
 pub returns-in-None : goal.returns-in-None
 returns-in-None g c = λ says seen h.
     let made = c.filled-jobs.ensures
-    (job c.self.inside.machines c.as_slice-firsts.result.now c.as_slice-seconds.result.now)
+    (kept_job c.self.inside.machines c.as_slice-firsts.result.now c.as_slice-seconds.result.now)
     (λ k x lt p. search rules) in
     rw (c.of.ensures, made, c.new.ensures.items, c.machine_count-count.ensures, c.as_slice-firsts.ensures.value, c.as_slice-seconds.ensures.value)
     (sym (h.0 seen ∙ whole_is c.args.self seen c.missing.ensures.few c.missing.ensures.over

@@ -1,8 +1,6 @@
-use Rattle.std.proofs.Common.{◌≡◌, ℕ, List, ◌++◌, ◌∷◌, [], take, drop, length, Some, None, arith, sym, ap, ◌∙◌, subst, MatchOption}
+use Rattle.std.proofs.Common.{◌≡◌, ℕ, List, ◌++◌, ◌∷◌, [], take, arith, sym, ap, ◌∙◌, subst}
 use Rattle.std.proofs.lemmas.Bool.{eqb-true}
 use Rattle.std.proofs.lemmas.List.{append-nil}
-use Rattle.tf_words.specs.Words.{Word}
-use Rattle.tf_words.specs.Scan.{IsAt, IsOf}
 use Rattle.tf_words.proofs.Pieces.{part_more, none_left}
 use Rattle.tf_read.specs.WordFeed.{HasFed}
 use Rattle.tf_read.proofs.word_feed.WordFeed.feed.Goals as goal
