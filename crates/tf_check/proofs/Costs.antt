@@ -9,11 +9,12 @@ use Rattle.std.proofs.lemmas.List.Elements.{All-head, All-tail}
 use Rattle.tf_model.specs.SchedulingTask.{SchedulingTask, all_jobs, job_data}
 use Rattle.tf_model.specs.Timetable.{Timetable, Row, cell, completion}
 use Rattle.tf_model.specs.Feasible.{Fits}
-use Rattle.tf_model.specs.Cost.{cost, cost_by, greatest_price, objective_of, price, Objective, Makespan, Lateness, Dearest, Total}
+use Rattle.tf_model.specs.Cost.{cost, cost_by, greatest, greatest_price, objective_of, price, Objective, Makespan, Lateness, Dearest, Total}
 use Rattle.tf_schedule.specs.declared.piece.Piece.{Piece}
 use Rattle.tf_schedule.specs.Schedule.{IsSchedule, IsPiece}
 use Rattle.tf_schedule.specs.Cost.{is_known, known_pieces, schedule_cost}
-use Rattle.tf_schedule.specs.Drawing.{Draws, IsGoing, drawing, last_stop, start_of, stop_of}
+use Rattle.tf_schedule.specs.Drawing.{Draws, IsGoing, drawing, stop_of}
+use Rattle.tf_schedule.specs.Amounts.{last_stop, start_of}
 use Rattle.tf_schedule.proofs.Counting.{sum_range-same}
 use Rattle.tf_schedule.proofs.Times.{time_lt}
 use Rattle.tf_schedule.proofs.Drawing.{completion-drawing}
@@ -33,14 +34,18 @@ map-range_same {X} f g a (suc n) same =
     ∙ ap (λ (xs : List X). g a ∷ xs)
     (map-range_same f g (a + 1) n (λ j h. same j (omega arith)))
 
+greatest-range_same : (f g : ℕ → ℤ) (a n : ℕ) → ((j : ℕ) → a ≤ j → f j ≡ g j)
+    → greatest f (range_with_len a n) ≡ greatest g (range_with_len a n)
+greatest-range_same f g a zero same = refl
+greatest-range_same f g a (suc n) same =
+    ap (λ (z : ℤ). fold int_max z (map f (range_with_len a (suc n)))) (same a (omega arith))
+    ∙ ap (fold int_max (g a)) (map-range_same f g a (suc n) same)
+
 greatest_price_same : (k : SchedulingTask) (rows others : Timetable) → SameEnds rows others
     → greatest_price k rows ≡ greatest_price k others
 greatest_price_same k rows others same =
-    ap (λ (z : ℤ). fold int_max z (map (λ j. price k j (completion rows j)) (all_jobs k)))
-    (ap (price k 1) (same 1 (omega arith)))
-    ∙ ap (fold int_max (price k 1 (completion others 1)))
-    (map-range_same (λ j. price k j (completion rows j)) (λ j. price k j (completion others j)) 1
-    (length k.jobs) (λ j low. ap (price k j) (same j low)))
+    greatest-range_same (λ j. price k j (completion rows j)) (λ j. price k j (completion others j)) 1
+    (length k.jobs) (λ j low. ap (price k j) (same j low))
 
 cost_same : (k : SchedulingTask) (rows others : Timetable) → SameEnds rows others
     → cost k rows ≡ cost k others

@@ -22,7 +22,8 @@ use Rattle.tf_model.proofs.Pairs.{pairs_value-by_ratio}
 use Rattle.tf_model.proofs.Sums.{sum_by-same_all}
 use Rattle.tf_schedule.proofs.Counting.{sum_by-map}
 use Rattle.tf_check.specs.declared.weighted_job.WeightedJob.{WeightedJob}
-use Rattle.tf_check.specs.Ratio.{goes_before, IsOfTask, jobs_of, AreOfTask, IsNoLater, IsSmallerInTie, AreByRatio, completions_from}
+use Rattle.tf_check.specs.Ratio.{IsOfTask, jobs_of, AreOfTask, IsNoLater, IsSmallerInTie, AreByRatio, completions_from}
+use Rattle.tf_check.specs.GoesBefore.{goes_before}
 
 -- ---- the order
 

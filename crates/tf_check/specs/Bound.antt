@@ -2,11 +2,12 @@
 -- fault, in order.
 use Rattle.std.specs.Prelude.{◌≡◌, ◌⊎◌, ℕ, ◌+◌, ℤ, pos, List, [], ◌∷◌, ◌++◌, map, Bool, true, false, not, ◌&&◌, ◌==◌, nat_lt, nat_le, ◌||◌, ◌-ℤ◌, int_le, unsigned_abs, ◌-◌, if◌then◌else◌, length, min, Option, Some, None, Result, Ok, Err}
 use Rattle.std.specs.List.{fold, sum_by, filter, list_any, list_all, find}
-use Rattle.std.specs.Int.{int_min, int_max}
+use Rattle.std.specs.Int.{int_min}
 use Rattle.std.specs.Option.{option_map}
 use Rattle.tf_model.specs.Outcome.{unless}
 use Rattle.tf_model.specs.SchedulingTask.{SchedulingTask, all_jobs, job_data, time_of, time_on}
 use Rattle.tf_model.specs.Cost.{price}
+pub use Rattle.tf_model.specs.Cost.{greatest}
 use Rattle.tf_model.specs.Bounds.{load_value, pairs_value, ranks_value, split_value, stands_in}
 use Rattle.tf_check.specs.Claim.{Claim, ByPairs, ByLastOf, ByWindow, BySplit, ByLoad, ByMachine, ByOneJob, ByRanks}
 use Rattle.tf_check.specs.Kinds.{takes_load, takes_one_job, takes_pairs, takes_last_of, takes_window, takes_split, takes_machine, takes_ranks}
@@ -110,10 +111,6 @@ last_of_bound k jobs =
 abbrev pub least_number : (ℕ → ℕ) → List ℕ → ℕ
 least_number f [] = 0
 least_number f (j ∷ jobs) = fold min (f j) (map f (j ∷ jobs))
-
-abbrev pub greatest : (ℕ → ℤ) → List ℕ → ℤ
-greatest f [] = pos 0
-greatest f (j ∷ jobs) = fold int_max (f j) (map f (j ∷ jobs))
 
 -- the least release date and all the work, less the greatest due date
 abbrev pub window_span : SchedulingTask → List ℕ → ℤ

@@ -8,5 +8,6 @@ pub mod Accepted
 pub mod Verdict
 -- within the crate
 pub mod Laws
+pub mod GoesBefore
 pub mod Free
 pub mod Sides

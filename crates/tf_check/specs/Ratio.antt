@@ -5,12 +5,6 @@ use Rattle.std.specs.List.Sorted.{IsPermutation}
 use Rattle.tf_model.specs.SchedulingTask.{SchedulingTask, all_jobs, job_data, time_of}
 use Rattle.tf_check.specs.declared.weighted_job.WeightedJob.{WeightedJob}
 
--- greater weight for its time first, ties by the smaller number
-abbrev pub goes_before : WeightedJob → WeightedJob → Bool
-goes_before x y =
-    nat_lt (y.weight * x.time) (x.weight * y.time)
-    || ((y.weight * x.time == x.weight * y.time) && nat_lt x.job y.job)
-
 -- the weight and the time are those of the job
 pub record IsOfTask (k : SchedulingTask) (x : WeightedJob) : Type 0 where
   pub weight : x.weight ≡ (job_data k x.job).weight

@@ -5,7 +5,8 @@ ghost use Rattle.std.specs.Ordering.{is_lt};
 ghost use Rattle.tf_model.specs.ClassTable.{is_sum};
 ghost use Rattle.tf_model.specs.Limit.{limit};
 ghost use Rattle.tf_model.specs.Sound.{IsSound};
-ghost use Rattle.tf_check.specs.Ratio.{goes_before, AreOfTask, AreByRatio, completions_from};
+ghost use Rattle.tf_check.specs.Ratio.{AreOfTask, AreByRatio, completions_from};
+ghost use Rattle.tf_check.specs.GoesBefore.{goes_before};
 
 use crate::weighted_job::WeightedJob;
 use std::alloc::Allocator;

@@ -9,7 +9,7 @@ use Rattle.tf_model.specs.declared.prepare.Refusal.TheVariants.{NoSolver, TooMan
 use Rattle.tf_model.specs.ClassTable.{class_of}
 use Rattle.tf_model.specs.InstanceData.{InstanceData}
 use Rattle.tf_model.specs.Outcome.{◌>>=◌, unless}
-use Rattle.tf_model.specs.Prepare.{is_too_many, machine_count as machine_count_of, jobs_refusal, task_of, prepared}
+use Rattle.tf_model.specs.Prepare.{is_too_many, machines_for, jobs_refusal, task_of, prepared}
 use Rattle.tf_model.specs.SchedulingTask.{SchedulingTask}
 use Rattle.tf_model.proofs.Outcomes.{bind_ok}
 use Rattle.tf_read.specs.declared.fault.ReadFault.{ReadFault}
@@ -38,14 +38,14 @@ prepared_class i problem argument k e = by_class (class_of problem) refl e
     by_class : (o : Option Class) → class_of problem ≡ o
         → (ok_or o NoSolver
         >>= λ class. unless (then_some (is_too_many class (length i.jobs)) TooManyJobs)
-        (machine_count_of class problem.count argument i.machines)
+        (machines_for class problem.count argument i.machines)
         >>= λ m. unless (jobs_refusal class i.jobs) (Ok (task_of class m i))) ≡ Ok k
         → class_of problem ≡ Some k.class
     by_class None is e = cc
     by_class (Some class) is e =
         let counted =
         bind_ok (unless (then_some (is_too_many class (length i.jobs)) TooManyJobs)
-        (machine_count_of class problem.count argument i.machines))
+        (machines_for class problem.count argument i.machines))
         (λ m. unless (jobs_refusal class i.jobs) (Ok (task_of class m i))) k e in
         is ∙ ap Some (made class counted.0 (jobs_refusal class i.jobs) counted.2)
 

@@ -4,3 +4,4 @@ pub mod Unchecked
 pub mod Undrawn
 pub mod Readable
 pub mod AcceptedAgain
+pub mod AcceptedAlone

@@ -6,12 +6,14 @@ use Rattle.tf_model.specs.declared.limit.TheConstants.{MOST_BYTES}
 use Rattle.tf_read.specs.declared.fault.ReadFault.{ReadFault}
 use Rattle.tf_read.specs.declared.fault.ReadFault.TheVariants as reads
 use Rattle.tf_read.specs.Faults.{Fails}
-use Rattle.tf_text.specs.Counted.{ConsumesAtMost}
+use Rattle.tf_text.specs.declared.counted.Counted.{Counted}
+use Rattle.tf_text.specs.Counted.{inner_of, pulled_of, has_failed, ConsumesAtMost}
 use Rattle.tf_text.specs.Input.{IsTextOf, is_device}
 use Rattle.tf_text.specs.declared.input.InputFault.{InputFault}
 use Rattle.tf_text.specs.declared.input.InputFault.TheVariants as inputs
 use Rattle.tf_engine.specs.declared.fault.RunFault.TheVariants.{Device, OutOfMemory}
-use Rattle.tf_engine.specs.Faults.{Refused, ByText, is_of_whole, of_read, of_input}
+use Rattle.tf_engine.specs.Faults.{Refused, ByText, is_of_whole}
+use Rattle.tf_engine.specs.Passed.{of_read, of_input}
 use Rattle.tf_engine.specs.Parts.{ReadsTo}
 use Rattle.tf_engine.specs.Refusal.{refused_by}
 use Rattle.tf_engine.proofs.Unread.{text_for, long_text_for}
@@ -29,50 +31,63 @@ longer (Some all) None bytes given more = absurd given
 longer (Some all) (Some rest) bytes given more =
     omega (arith, ap length given, length-append bytes rest, more)
 
-module _ (X A : Type 0) (says : List ℕ → Result X ReadFault) (old new : Option (List ℕ))
-    (failed : Bool) where
+module _ (X A T : Type 0) (says : List ℕ → Result X ReadFault) (remaining : T → Option (List ℕ))
+    (old new : Counted T) (counted : pulled_of new ≤ pulled_of old + (MOST_BYTES + 1)) where
+  -- what is left of the reader, before and after
+  abbrev first : Option (List ℕ)
+  first = remaining (inner_of old)
+
+  abbrev last : Option (List ℕ)
+  last = remaining (inner_of new)
+
   -- what is said of the text, as a part of a run says it
   abbrev said : List ℕ → Result X Refused
   said text = refused_by ByText (says text)
 
   -- where memory was wanting nothing is said of any text
-  pub reads_wanting : ConsumesAtMost (MOST_BYTES + 1) old new
-      → ReadsTo {A = A} said old new failed (Err OutOfMemory)
-  reads_wanting pulled =
-      let (text, is) = text_for old in
+  pub reads_wanting : (new ≡ old) ⊎ (has_failed new ≡ false)
+      → ConsumesAtMost (MOST_BYTES + 1) first last
+      → ReadsTo {A = A} said remaining old new (Err OutOfMemory)
+  reads_wanting unfailed pulled =
+      let (text, is) = text_for first in
       record {
         text = text;
         is_all = is;
         given = tt;
         unfailed = tt;
         unhidden = λ h. cc;
+        wanting = λ h. unfailed;
         ended =
             λ h. cc;
         pulled = pulled;
+        counted = counted;
       }
 
   -- nor where the reader failed
-  pub reads_failing : failed ≡ true → ConsumesAtMost (MOST_BYTES + 1) old new
-      → ReadsTo {A = A} said old new failed (Err Device)
+  pub reads_failing : has_failed new ≡ true → ConsumesAtMost (MOST_BYTES + 1) first last
+      → ReadsTo {A = A} said remaining old new (Err Device)
   reads_failing h pulled =
-      let (text, is) = text_for old in
+      let (text, is) = text_for first in
       record {
         text = text;
         is_all = is;
         given = h;
         unfailed = tt;
         unhidden = λ h. cc;
+        wanting = λ h. cc;
         ended =
             λ h. cc;
         pulled = pulled;
+        counted = counted;
       }
 
   -- a fault of a text that is all that is known
-  faulty : (e : ReadFault) (text : List ℕ) → IsTextOf old text → says text ≡ Err e → failed ≡ false
-      → (is_of_whole {X = X} {A = A} (Err (of_read e)) ≡ true → IsAtEnd new)
-      → ConsumesAtMost (MOST_BYTES + 1) old new
-      → ReadsTo {A = A} said old new failed (Err (of_read e))
-  faulty reads.OutOfMemory text is h ok end pulled = reads_wanting pulled
+  faulty : (e : ReadFault) (text : List ℕ) → IsTextOf first text → says text ≡ Err e
+      → has_failed new ≡ false
+      → (is_of_whole {X = X} {A = A} (Err (of_read e)) ≡ true → IsAtEnd last)
+      → ConsumesAtMost (MOST_BYTES + 1) first last
+      → ReadsTo {A = A} said remaining old new (Err (of_read e))
+  faulty reads.OutOfMemory text is h ok end pulled = reads_wanting (inr ok) pulled
   faulty _ text is h ok end pulled =
       record {
         text = text;
@@ -81,62 +96,69 @@ module _ (X A : Type 0) (says : List ℕ → Result X ReadFault) (old new : Opti
         unfailed = tt;
         unhidden =
             λ r. ok;
+        wanting = λ r. inr ok;
         ended = end;
         pulled = pulled;
+        counted = counted;
       }
 
   -- the instance that all bytes hold
-  pub reads_value : (bytes : List ℕ) → length bytes ≤ MOST_BYTES + 1 → Consumes old new bytes
-      → IsAtEnd new ⊎ (MOST_BYTES < length bytes) → failed ≡ false
+  pub reads_value : (bytes : List ℕ) → length bytes ≤ MOST_BYTES + 1 → Consumes first last bytes
+      → IsAtEnd last ⊎ (MOST_BYTES < length bytes) → has_failed new ≡ false
       → ((text : List ℕ) → MOST_BYTES < length text → says text ≡ Err reads.TooLong)
-      → (x : X) → says bytes ≡ Ok x → ReadsTo {A = A} said old new failed (Ok x)
+      → (x : X) → says bytes ≡ Ok x → ReadsTo {A = A} said remaining old new (Ok x)
   reads_value bytes few given (inl end) ok long x h =
       record {
         text = bytes;
-        is_all = all_given old new bytes given end;
+        is_all = all_given first last bytes given end;
         given =
             ap (refused_by ByText) h;
         unfailed = ok;
         unhidden = tt;
+        wanting = tt;
         ended = λ r. end;
         pulled = (bytes, few, given);
+        counted = counted;
       }
   reads_value bytes few given (inr more) ok long x h =
       absurd (let both : Err reads.TooLong ≡ Ok x = sym (long bytes more) ∙ h in let f : ⊥ = cc in
       f)
 
   -- or their first fault
-  pub reads_fault : (bytes : List ℕ) → length bytes ≤ MOST_BYTES + 1 → Consumes old new bytes
-      → IsAtEnd new ⊎ (MOST_BYTES < length bytes) → failed ≡ false
+  pub reads_fault : (bytes : List ℕ) → length bytes ≤ MOST_BYTES + 1 → Consumes first last bytes
+      → IsAtEnd last ⊎ (MOST_BYTES < length bytes) → has_failed new ≡ false
       → ((text : List ℕ) → MOST_BYTES < length text → says text ≡ Err reads.TooLong)
-      → (e : ReadFault) → says bytes ≡ Err e → ReadsTo {A = A} said old new failed (Err (of_read e))
+      → (e : ReadFault) → says bytes ≡ Err e
+      → ReadsTo {A = A} said remaining old new (Err (of_read e))
   reads_fault bytes few given (inl end) ok long e h =
-      faulty e bytes (all_given old new bytes given end) h ok (λ r. end) (bytes, few, given)
+      faulty e bytes (all_given first last bytes given end) h ok (λ r. end) (bytes, few, given)
   reads_fault bytes few given (inr more) ok long e h =
       let (text, is, longer_than) =
-      long_text_for old MOST_BYTES (longer old new bytes given more) in
+      long_text_for first MOST_BYTES (longer first last bytes given more) in
       let same : e ≡ reads.TooLong = let both : Err e ≡ Err reads.TooLong = sym h
       ∙ long bytes more in cc in
       faulty e text is (long text longer_than ∙ ap Err (sym same)) ok
       (λ r. let whole : false ≡ true = rw same at r in cc) (bytes, few, given)
 
   -- the same where a growth may have been refused on the way
-  pub reads_fails : (bytes : List ℕ) → length bytes ≤ MOST_BYTES + 1 → Consumes old new bytes
-      → IsAtEnd new ⊎ (MOST_BYTES < length bytes) → failed ≡ false
+  pub reads_fails : (bytes : List ℕ) → length bytes ≤ MOST_BYTES + 1 → Consumes first last bytes
+      → IsAtEnd last ⊎ (MOST_BYTES < length bytes) → has_failed new ≡ false
       → ((text : List ℕ) → MOST_BYTES < length text → says text ≡ Err reads.TooLong)
       → (e : ReadFault) → Fails e (says bytes)
-      → ReadsTo {A = A} said old new failed (Err (of_read e))
-  reads_fails bytes few given ended ok long reads.OutOfMemory h = reads_wanting (bytes, few, given)
+      → ReadsTo {A = A} said remaining old new (Err (of_read e))
+  reads_fails bytes few given ended ok long reads.OutOfMemory h =
+      reads_wanting (inr ok) (bytes, few, given)
   reads_fails bytes few given ended ok long e h = reads_fault bytes few given ended ok long e h
 
   -- where the text could not be read to its end, or is too long
   pub reads_input : (f : InputFault)
-      → (f ≡ inputs.TooLong → IfSome old (λ all. MOST_BYTES < length all)) → failed ≡ is_device f
+      → (f ≡ inputs.TooLong → IfSome first (λ all. MOST_BYTES < length all))
+      → has_failed new ≡ is_device f
       → ((text : List ℕ) → MOST_BYTES < length text → says text ≡ Err reads.TooLong)
-      → ConsumesAtMost (MOST_BYTES + 1) old new
-      → ReadsTo {A = A} said old new failed (Err (of_input f))
+      → ConsumesAtMost (MOST_BYTES + 1) first last
+      → ReadsTo {A = A} said remaining old new (Err (of_input f))
   reads_input inputs.Device more h long pulled = reads_failing h pulled
-  reads_input inputs.OutOfMemory more h long pulled = reads_wanting pulled
+  reads_input inputs.OutOfMemory more h long pulled = reads_wanting (inr h) pulled
   reads_input inputs.TooLong more h long pulled =
-      let (text, is, longer_than) = long_text_for old MOST_BYTES (more refl) in
+      let (text, is, longer_than) = long_text_for first MOST_BYTES (more refl) in
       faulty reads.TooLong text is (long text longer_than) h (λ r. cc) pulled

@@ -21,7 +21,8 @@ use Rattle.tf_model.proofs.Ranks.{sum_by-le-all_jobs}
 use Rattle.tf_model.proofs.Work.{IsDistinct}
 use Rattle.tf_schedule.specs.declared.piece.Piece.{Piece}
 use Rattle.tf_schedule.specs.Schedule.{IsPiece}
-use Rattle.tf_schedule.specs.Drawing.{Draws, IsGoing, start_of}
+use Rattle.tf_schedule.specs.Drawing.{Draws, IsGoing}
+use Rattle.tf_schedule.specs.Amounts.{start_of}
 use Rattle.tf_schedule.proofs.Times.{time_lt}
 use Rattle.tf_check.specs.Claim.{Claim, ByPairs, ByLastOf, ByWindow, BySplit, ByLoad, ByMachine, ByOneJob, ByRanks}
 use Rattle.tf_check.specs.Kinds.{takes_one_job, takes_last_of, takes_window, takes_split, takes_machine, takes_ranks}

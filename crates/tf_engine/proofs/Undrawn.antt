@@ -8,7 +8,7 @@ use Rattle.tf_schedule.specs.declared.piece.Piece.{Piece}
 use Rattle.tf_schedule.specs.Piece.{machine_of}
 use Rattle.tf_schedule.specs.Schedule.{IsPiece, IsSchedule, NoneTwice}
 use Rattle.tf_schedule.proofs.Scan.{claims_permutation}
-use Rattle.tf_text.specs.Counted.{AppendsPrefix}
+use Rattle.tf_text.specs.Counted.{AppendsPrefix, DeviceUse, unused}
 use Rattle.tf_text.specs.Input.{IsTextOf}
 use Rattle.tf_text.specs.AnswerText.{SheetData}
 use Rattle.tf_text.specs.AnswerReading.{answer_in}
@@ -17,27 +17,27 @@ use Rattle.tf_text.proofs.ChartOrder.{chart_permutation}
 use Rattle.tf_engine.specs.declared.fault.RunFault.{RunFault}
 use Rattle.tf_engine.specs.declared.fault.RunFault.TheVariants.{Device}
 use Rattle.tf_engine.specs.Faults.{ByNotation, ByText, ByTask, ByCycle, ByAnswer, ByPieces, Stop, Refuses, Fails, Wants, stop_of, is_failure}
-use Rattle.tf_engine.specs.Runs.{Leaves, StopsBy}
-use Rattle.tf_engine.specs.Parts.{GivesSaid, StopsSaying}
+use Rattle.tf_engine.specs.Runs.{Leaves}
+use Rattle.tf_engine.specs.Parts.{GivesSaid, StopsBy, StopsSaying}
 use Rattle.tf_engine.specs.Charting.{IsChartOf, IsOfPieces, IsRefusedChart, IsDrawingOf}
 use Rattle.tf_engine.proofs.Unread.{text_for, part_stops}
 
 -- what is left where the answer says no sheet
-unsaid : (known held : Option (List ℕ)) (columns : ℕ) (reader writer : Bool) (s : Stop)
-    → reader ≡ is_failure s → StopsSaying known s
-    → (text : List ℕ) × IsTextOf known text
-    × Leaves (IsChartOf text columns) (IsRefusedChart text) (reader ≡ true) (writer ≡ true) held
-    held s
-unsaid known held columns reader writer (Refuses (ByAnswer fault)) failed (text, is, says) =
+unsaid : (reader : DeviceUse) (held : Option (List ℕ)) (writer : Bool) (columns : ℕ) (s : Stop)
+    → reader.failed ≡ is_failure s → StopsSaying reader.before s
+    → (text : List ℕ) × IsTextOf reader.before text
+    × Leaves (IsChartOf text columns) (IsRefusedChart text) (reader.failed ≡ true)
+    (unused held writer) s
+unsaid reader held writer columns (Refuses (ByAnswer fault)) failed (text, is, says) =
     (text, is, inl (fault, refl, says))
-unsaid known held columns reader writer (Refuses (ByNotation byte)) failed said = absurd said
-unsaid known held columns reader writer (Refuses (ByText fault)) failed said = absurd said
-unsaid known held columns reader writer (Refuses (ByTask refusal)) failed said = absurd said
-unsaid known held columns reader writer (Refuses (ByCycle jobs)) failed said = absurd said
-unsaid known held columns reader writer (Refuses (ByPieces fault)) failed said = absurd said
-unsaid known held columns reader writer Fails failed said = let (text, is) = text_for known in
+unsaid reader held writer columns (Refuses (ByNotation byte)) failed said = absurd said
+unsaid reader held writer columns (Refuses (ByText fault)) failed said = absurd said
+unsaid reader held writer columns (Refuses (ByTask refusal)) failed said = absurd said
+unsaid reader held writer columns (Refuses (ByCycle jobs)) failed said = absurd said
+unsaid reader held writer columns (Refuses (ByPieces fault)) failed said = absurd said
+unsaid reader held writer columns Fails failed said = let (text, is) = text_for reader.before in
     (text, is, inl (failed, Keeps-refl held))
-unsaid known held columns reader writer Wants failed said = let (text, is) = text_for known in
+unsaid reader held writer columns Wants failed said = let (text, is) = text_for reader.before in
     (text, is, tt)
 
 -- the chart of the schedule that keeps a sheet's pieces is the chart of the sheet
@@ -60,56 +60,62 @@ chart_of text columns sheet qs says kept schedule =
       drawn = chart_permutation sheet.answer.pieces qs once kept sheet.machines columns;
     }
 
-module _ (A : Type 0) (known before : Option (List ℕ)) (columns : ℕ) (reader writer : Bool) where
+module _ (A : Type 0) (columns : ℕ) (reader : DeviceUse) where
   -- nothing was written where the answer says no sheet
-  pub gantt_unsaid : (e : RunFault A) → reader ≡ is_failure (stop_of e) → GivesSaid known (Err e)
-      → IsDrawingOf columns known reader writer before before (Err e)
-  gantt_unsaid e failed said = unsaid known before columns reader writer (stop_of e) failed said
+  pub gantt_unsaid : (held : Option (List ℕ)) (writer : Bool) (e : RunFault A)
+      → reader.failed ≡ is_failure (stop_of e) → GivesSaid reader.before (Err e)
+      → IsDrawingOf columns reader (unused held writer) (Err e)
+  gantt_unsaid held writer e failed said =
+      let (text, is, left) = unsaid reader held writer columns (stop_of e) failed said in
+      record { text = text; is_all = is; outcome = left }
 
   -- nor where its pieces are no schedule
-  pub gantt_unscheduled : (sheet : SheetData) (e : RunFault A) → GivesSaid {A = A} known (Ok sheet)
+  pub gantt_unscheduled : (held : Option (List ℕ)) (writer : Bool) (sheet : SheetData)
+      (e : RunFault A) → GivesSaid {A = A} reader.before (Ok sheet)
       → StopsBy (IsOfPieces sheet.answer.pieces) (stop_of e)
-      → IsDrawingOf columns known reader writer before before (Err e)
-  gantt_unscheduled sheet e (text, is, says) stopped = (
-    text,
-    is,
-    part_stops (IsChartOf text columns) (IsOfPieces sheet.answer.pieces) (IsRefusedChart text)
-        (reader ≡ true) (writer ≡ true) before
+      → IsDrawingOf columns reader (unused held writer) (Err e)
+  gantt_unscheduled held writer sheet e (text, is, says) stopped = record {
+    text = text;
+    is_all = is;
+    outcome = part_stops (IsChartOf text columns) (IsOfPieces sheet.answer.pieces) (IsRefusedChart text)
+        (reader.failed ≡ true) held writer
         (λ refused first. inr (record { sheet = sheet; said = says; first = first })) (stop_of e)
-        stopped,
-  )
+        stopped;
+  }
 
-  module _ (after : Option (List ℕ)) (sheet : SheetData) (qs : List Piece)
-      (said : GivesSaid {A = A} known (Ok sheet)) (kept : IsPermutation sheet.answer.pieces qs)
-      (schedule : IsSchedule qs) where
+  module _ (writer : DeviceUse) (sheet : SheetData) (qs : List Piece)
+      (said : GivesSaid {A = A} reader.before (Ok sheet))
+      (kept : IsPermutation sheet.answer.pieces qs) (schedule : IsSchedule qs) where
     -- the chart was written
-    pub gantt_drawn : Appends before after (chart_text qs sheet.machines columns)
-        → IsDrawingOf {A = A} columns known reader writer before after (Ok tt)
+    pub gantt_drawn : Appends writer.before writer.after (chart_text qs sheet.machines columns)
+        → IsDrawingOf {A = A} columns reader writer (Ok tt)
     gantt_drawn written =
-        let (text, is, says) = said in (
-          text,
-          is,
-          (
+        let (text, is, says) = said in
+        record {
+          text = text;
+          is_all = is;
+          outcome = (
             chart_text qs sheet.machines columns,
             chart_of text columns sheet qs says kept schedule,
             written,
-          ),
-        )
+          );
+        }
 
     -- a prefix of it was where the writer failed
-    pub gantt_undrawn : writer ≡ true
-        → AppendsPrefix before after (chart_text qs sheet.machines columns)
-        → IsDrawingOf {A = A} columns known reader writer before after (Err Device)
+    pub gantt_undrawn : writer.failed ≡ true
+        → AppendsPrefix writer.before writer.after (chart_text qs sheet.machines columns)
+        → IsDrawingOf {A = A} columns reader writer (Err Device)
     gantt_undrawn failed prefix =
-        let (text, is, says) = said in (
-          text,
-          is,
-          inr (
+        let (text, is, says) = said in
+        record {
+          text = text;
+          is_all = is;
+          outcome = inr (
             failed,
             (
               chart_text qs sheet.machines columns,
               chart_of text columns sheet qs says kept schedule,
               prefix,
             ),
-          ),
-        )
+          );
+        }

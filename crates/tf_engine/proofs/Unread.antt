@@ -4,7 +4,11 @@ use Rattle.std.proofs.lemmas.Bool.{lt-ltb}
 use Rattle.std.proofs.KnownBytes.{Keeps-refl}
 use Rattle.tf_model.specs.declared.limit.TheConstants.{MOST_BYTES}
 use Rattle.tf_model.specs.declared.problem.Problem.{Problem}
+use Rattle.tf_model.specs.declared.class.Class.{Class}
 use Rattle.tf_model.specs.declared.prepare.Refusal.{Refusal}
+use Rattle.tf_model.specs.declared.prepare.Refusal.TheVariants.{NoSolver}
+use Rattle.tf_model.specs.ClassTable.{class_of}
+use Rattle.tf_notation.specs.Reading.{notation}
 use Rattle.tf_model.specs.InstanceData.{InstanceData}
 use Rattle.tf_model.specs.SchedulingTask.{SchedulingTask}
 use Rattle.tf_model.specs.Outcome.{◌>>=◌}
@@ -14,7 +18,8 @@ use Rattle.tf_read.specs.declared.fault.ReadFault.TheVariants.{TooLong}
 use Rattle.tf_read.specs.JobTable.{job_table}
 use Rattle.tf_read.proofs.Wt as wt
 use Rattle.tf_read.proofs.FlowReading as flow
-use Rattle.tf_text.specs.Counted.{AppendsPrefix}
+use Rattle.tf_text.specs.declared.counted.Counted.{Counted}
+use Rattle.tf_text.specs.Counted.{has_failed, AppendsPrefix, DeviceUse, use_of, unused}
 use Rattle.tf_text.specs.AnswerText.{SheetData, answer_text}
 use Rattle.tf_text.specs.Input.{IsTextOf}
 use Rattle.tf_text.specs.declared.answer.writing.WriteFault.{WriteFault}
@@ -22,10 +27,11 @@ use Rattle.tf_text.specs.declared.answer.writing.WriteFault.TheVariants as write
 use Rattle.tf_engine.specs.declared.fault.RunFault.{RunFault}
 use Rattle.tf_engine.specs.FormData.{FormData, InTable, InWt, InFlow}
 use Rattle.tf_engine.specs.RequestData.{RequestData}
-use Rattle.tf_engine.specs.Faults.{Refused, ByText, ByTask, Stop, Refuses, Fails, Wants, is_of_answer, stop_of, of_write}
-use Rattle.tf_engine.specs.Refusal.{refused_by, problem_for, instance_in, task_in, task_for}
-use Rattle.tf_engine.specs.Parts.{ReadsTo}
-use Rattle.tf_engine.specs.Runs.{Leaves, StopsBy, StopsReading}
+use Rattle.tf_engine.specs.Faults.{Refused, ByNotation, ByText, ByTask, Stop, Refuses, Fails, Wants, is_of_answer, is_past_answer, stop_of}
+use Rattle.tf_engine.specs.Passed.{of_write}
+use Rattle.tf_engine.specs.Refusal.{refused_by, with_class, problem_for, instance_in, task_in, task_for}
+use Rattle.tf_engine.specs.Parts.{ReadsTo, StopsBy, StopsReading}
+use Rattle.tf_engine.specs.Runs.{Leaves}
 use Rattle.tf_engine.proofs.AcceptedAgain.{answers_of}
 pub use Rattle.tf_engine.proofs.AcceptedAgain.{meant_by}
 use Rattle.tf_engine.specs.Headline.{IsSolved, Answers, IsRefusedRun, IsRunOf}
@@ -69,28 +75,45 @@ long_task request problem text ok h =
     >>= λ instance. refused_by ByTask (prepared instance problem request.machines))
     (too_long request.form text h)
 
--- no refusal for the instance's sake is of the answer text
+-- no refusal of the problem line comes after the answer text
+pub before_answer : (text : List ℕ) (refused : Refused) → problem_for text ≡ Err refused
+    → is_past_answer (Refuses refused) ≡ false
+before_answer text refused e = by_notation (notation text) e
+  where
+    by_class : (problem : Problem) (o : Option Class) → with_class problem o ≡ Err refused
+        → is_past_answer (Refuses refused) ≡ false
+    by_class problem None e = let is : refused ≡ ByTask NoSolver = cc in rw is refl
+    by_class problem (Some class) e = cc
+
+    by_notation : (r : Result Problem ℕ)
+        → (refused_by ByNotation r >>= λ problem. with_class problem (class_of problem))
+        ≡ Err refused
+        → is_past_answer (Refuses refused) ≡ false
+    by_notation (Ok problem) e = by_class problem (class_of problem) e
+    by_notation (Err byte) e = let is : refused ≡ ByNotation byte = cc in rw is refl
+
+-- nor is one for the instance's sake of the answer text, or comes after it
 pub not_of_answer : (request : RequestData) (problem : Problem) (text : List ℕ) (R : Type 0)
     (s : Stop)
     → StopsReading (λ refused. task_in request problem text ≡ Err refused) R s
-    → is_of_answer s ≡ false
-not_of_answer request problem text R Fails h = refl
-not_of_answer request problem text R Wants h = refl
+    → (is_of_answer s ≡ false) × (is_past_answer s ≡ false)
+not_of_answer request problem text R Fails h = (refl, refl)
+not_of_answer request problem text R Wants h = (refl, refl)
 not_of_answer request problem text R (Refuses refused) h =
     by_instance (instance_in request.form text) h
   where
     by_task : (r : Result SchedulingTask Refusal) → refused_by ByTask r ≡ Err refused
-        → is_of_answer (Refuses refused) ≡ false
+        → (is_of_answer (Refuses refused) ≡ false) × (is_past_answer (Refuses refused) ≡ false)
     by_task (Ok task) e = cc
-    by_task (Err refusal) e = let is : refused ≡ ByTask refusal = cc in rw is refl
+    by_task (Err refusal) e = let is : refused ≡ ByTask refusal = cc in rw is (refl, refl)
 
     by_instance : (r : Result InstanceData ReadFault)
         → (refused_by ByText r
         >>= λ instance. refused_by ByTask (prepared instance problem request.machines))
         ≡ Err refused
-        → is_of_answer (Refuses refused) ≡ false
+        → (is_of_answer (Refuses refused) ≡ false) × (is_past_answer (Refuses refused) ≡ false)
     by_instance (Ok instance) e = by_task (prepared instance problem request.machines) e
-    by_instance (Err fault) e = let is : refused ≡ ByText fault = cc in rw is refl
+    by_instance (Err fault) e = let is : refused ≡ ByText fault = cc in rw is (refl, refl)
 
 -- what holds of a fault holds of what `?` makes of it
 pub err_is : {X E : Type 0} (P : Result X E → Type 0) (f : E) (r : Result X E)
@@ -99,79 +122,85 @@ err_is P f (Ok x) h p = absurd h
 err_is P f (Err e) h p = subst (λ e. P (Err e)) (sym h) p
 
 -- a part that reads and writes nothing stops the run as it stopped
-pub part_stops : (Says : List ℕ → Type 0) (P Q : Refused → Type 0) (R W : Type 0)
-    (held : Option (List ℕ))
+pub part_stops : (Says : List ℕ → Type 0) (P Q : Refused → Type 0) (R : Type 0)
+    (held : Option (List ℕ)) (writer : Bool)
     → ((refused : Refused) → P refused → Q refused)
-    → (s : Stop) → StopsBy P s → Leaves Says Q R W held held s
-part_stops Says P Q R W held more (Refuses refused) h = more refused h
-part_stops Says P Q R W held more Fails h = absurd h
-part_stops Says P Q R W held more Wants h = tt
+    → (s : Stop) → StopsBy P s → Leaves Says Q R (unused held writer) s
+part_stops Says P Q R held writer more (Refuses refused) h = more refused h
+part_stops Says P Q R held writer more Fails h = absurd h
+part_stops Says P Q R held writer more Wants h = tt
 
 -- and so does a part that reads alone
-pub reading_stops : (Says : List ℕ → Type 0) (P Q : Refused → Type 0) (F R W : Type 0)
-    (held : Option (List ℕ))
+pub reading_stops : (Says : List ℕ → Type 0) (P Q : Refused → Type 0) (F R : Type 0)
+    (held : Option (List ℕ)) (writer : Bool)
     → ((refused : Refused) → P refused → Q refused) → (F → R)
-    → (s : Stop) → StopsReading P F s → Leaves Says Q R W held held s
-reading_stops Says P Q F R W held more failed (Refuses refused) h = more refused h
-reading_stops Says P Q F R W held more failed Fails h = inl (failed h, Keeps-refl held)
-reading_stops Says P Q F R W held more failed Wants h = tt
+    → (s : Stop) → StopsReading P F s → Leaves Says Q R (unused held writer) s
+reading_stops Says P Q F R held writer more failed (Refuses refused) h = more refused h
+reading_stops Says P Q F R held writer more failed Fails h = inl (failed h, Keeps-refl held)
+reading_stops Says P Q F R held writer more failed Wants h = tt
 
 -- ---- of a solving run
 
-module _ (A : Type 0) (request : RequestData) (known before : Option (List ℕ))
-    (reader writer : Bool) where
+module _ (A : Type 0) (request : RequestData) (reader : DeviceUse) (held : Option (List ℕ))
+    (writer : Bool) where
   -- nothing was written where the problem line was refused
   pub run_unread : (e : RunFault A) (refused : Refused) → stop_of e ≡ Refuses refused
       → problem_for request.problem ≡ Err refused
-      → IsRunOf request known reader writer before before (Err e)
+      → IsRunOf request reader (unused held writer) (Err e)
   run_unread e refused same h =
-      let (text, is) = text_for known in (
-        text,
-        is,
-        subst
-            (Leaves (Answers request text) (IsRefusedRun request text) (reader ≡ true) (writer ≡ true)
-            before before) (sym same) (inl (refused_task request text refused h)),
-      )
-
-  -- nor where no task was read
-  pub run_untasked : (problem : Problem) (new : Option (List ℕ)) (e : RunFault A)
-      → problem_for request.problem ≡ Ok problem
-      → ReadsTo (task_in request problem) known new reader (Err e)
-      → IsRunOf request known reader writer before before (Err e)
-  run_untasked problem new e ok h = (
-    h.text,
-    h.is_all,
-    reading_stops (Answers request h.text) (λ refused. task_in request problem h.text ≡ Err refused)
-        (IsRefusedRun request h.text) (reader ≡ true) (reader ≡ true) (writer ≡ true) before
-        (λ refused same. inl (meant_by request problem h.text ok ∙ same)) (λ failed. failed)
-        (stop_of e) h.given,
-  )
+      let (text, is) = text_for reader.before in
+      record {
+        text = text;
+        is_all = is;
+        outcome = subst
+            (Leaves (Answers request text) (IsRefusedRun request text) (reader.failed ≡ true)
+            (unused held writer)) (sym same) (inl (refused_task request text refused h));
+      }
 
   -- nor where no sheet answers the text
-  pub run_unsolved : (text : List ℕ) (e : RunFault A) → IsTextOf known text
+  pub run_unsolved : (text : List ℕ) (e : RunFault A) → IsTextOf reader.before text
       → StopsBy (IsRefusedRun request text) (stop_of e)
-      → IsRunOf request known reader writer before before (Err e)
-  run_unsolved text e is h = (
-    text,
-    is,
-    part_stops (Answers request text) (IsRefusedRun request text)
-        (IsRefusedRun request text) (reader ≡ true) (writer ≡ true) before (λ refused same. same)
-        (stop_of e) h,
-  )
+      → IsRunOf request reader (unused held writer) (Err e)
+  run_unsolved text e is h = record {
+    text = text;
+    is_all = is;
+    outcome = part_stops (Answers request text) (IsRefusedRun request text)
+        (IsRefusedRun request text) (reader.failed ≡ true) held writer (λ refused same. same)
+        (stop_of e) h;
+  }
 
-  -- a prefix of the answer was written where the writer failed
-  pub run_unwritten : (after : Option (List ℕ)) (text : List ℕ) (sheet : SheetData) (f : WriteFault)
-      → IsTextOf known text → IsSolved request text sheet
-      → (f ≡ writes.Device → (writer ≡ true)
-      × AppendsPrefix before after (answer_text request.layout sheet))
-      → IsRunOf request known reader writer before after (Err (of_write {A = A} f))
-  run_unwritten after text sheet writes.OutOfMemory is solved prefix = (text, is, tt)
-  run_unwritten after text sheet writes.Device is solved prefix =
-      let (failed, written) = prefix refl in (
-        text,
-        is,
-        inr (
-          failed,
-          (answer_text request.layout sheet, answers_of request text sheet solved, written),
-        ),
-      )
+-- nor where no task was read
+pub run_untasked : (A T : Type 0) (request : RequestData) (remaining : T → Option (List ℕ))
+    (old new : Counted T) (held : Option (List ℕ)) (writer : Bool)
+    (problem : Problem) (e : RunFault A)
+    → problem_for request.problem ≡ Ok problem
+    → ReadsTo (task_in request problem) remaining old new (Err e)
+    → IsRunOf request (use_of remaining old new) (unused held writer) (Err e)
+run_untasked A T request remaining old new held writer problem e ok h = record {
+  text = h.text;
+  is_all = h.is_all;
+  outcome = reading_stops (Answers request h.text) (λ refused. task_in request problem h.text ≡ Err refused)
+      (IsRefusedRun request h.text) (has_failed new ≡ true) (has_failed new ≡ true) held writer
+      (λ refused same. inl (meant_by request problem h.text ok ∙ same)) (λ failed. failed)
+      (stop_of e) h.given;
+}
+
+-- a prefix of the answer was written where the writer failed
+pub run_unwritten : (A : Type 0) (request : RequestData) (reader writer : DeviceUse)
+    (text : List ℕ) (sheet : SheetData) (f : WriteFault)
+    → IsTextOf reader.before text → IsSolved request text sheet
+    → (f ≡ writes.Device → (writer.failed ≡ true)
+    × AppendsPrefix writer.before writer.after (answer_text request.layout sheet))
+    → IsRunOf request reader writer (Err (of_write {A = A} f))
+run_unwritten A request reader writer text sheet writes.OutOfMemory is solved prefix =
+    record { text = text; is_all = is; outcome = tt }
+run_unwritten A request reader writer text sheet writes.Device is solved prefix =
+    let (failed, written) = prefix refl in
+    record {
+      text = text;
+      is_all = is;
+      outcome = inr (
+        failed,
+        (answer_text request.layout sheet, answers_of request text sheet solved, written),
+      );
+    }

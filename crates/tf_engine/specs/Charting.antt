@@ -1,10 +1,11 @@
 -- What drawing an answer text leaves behind.
-use Rattle.std.specs.Prelude.{◌≡◌, ℕ, ◌⊎◌, Bool, true, List, Option, Result, Ok, Err}
+use Rattle.std.specs.Prelude.{◌≡◌, ℕ, ◌⊎◌, true, List, Result, Ok, Err}
 use Rattle.std.specs.List.{All}
 use Rattle.std.specs.Io.KnownBytes.{Appends}
 use Rattle.tf_schedule.specs.declared.piece.Piece.{Piece}
 use Rattle.tf_schedule.specs.declared.schedule.PieceFault.{PieceFault}
 use Rattle.tf_schedule.specs.Schedule.{IsPiece, NoneTwice, HasFirstFault}
+use Rattle.tf_text.specs.Counted.{DeviceUse}
 use Rattle.tf_text.specs.Input.{IsTextOf}
 use Rattle.tf_text.specs.AnswerText.{SheetData}
 use Rattle.tf_text.specs.AnswerReading.{answer_in}
@@ -40,21 +41,19 @@ IsRefusedChart text refused =
     ⊎ IsUndrawn text refused
 
 -- A drawing run writes the chart, or gives the one refusal. Where memory was wanting it gives
--- neither; where the reader
--- failed nothing was written, and where the writer failed a prefix of the chart was.
-abbrev pub ChartOutcome : {A : Type 0} → ℕ → List ℕ → Bool → Bool → Option (List ℕ)
-    → Option (List ℕ) → Result (Unit {0}) (RunFault A) → Type 0
-ChartOutcome columns text reader writer before after (Ok _) = (out : List ℕ)
-    × IsChartOf text columns out × Appends before after out
-ChartOutcome columns text reader writer before after (Err e) =
-    Leaves (IsChartOf text columns) (IsRefusedChart text) (reader ≡ true) (writer ≡ true) before
-    after (stop_of e)
+-- neither; where the reader failed nothing was written, and where the writer failed a prefix of the
+-- chart was.
+abbrev pub ChartOutcome : {A : Type 0} → ℕ → List ℕ → DeviceUse → DeviceUse
+    → Result (Unit {0}) (RunFault A) → Type 0
+ChartOutcome columns text reader writer (Ok _) =
+    (out : List ℕ) × IsChartOf text columns out × Appends writer.before writer.after out
+ChartOutcome columns text reader writer (Err e) =
+    Leaves (IsChartOf text columns) (IsRefusedChart text) (reader.failed ≡ true) writer (stop_of e)
 
 -- The outcome is that of a text, which is all bytes of the reader up to its end where they are
--- known. `reader` and
--- `writer` tell whether they remember a failure.
-abbrev pub IsDrawingOf : {A : Type 0} → ℕ → Option (List ℕ) → Bool → Bool → Option (List ℕ)
-    → Option (List ℕ) → Result (Unit {0}) (RunFault A) → Type 0
-IsDrawingOf columns known reader writer before after result =
-    (text : List ℕ) × IsTextOf known text
-    × ChartOutcome columns text reader writer before after result
+-- known.
+pub record IsDrawingOf {A : Type 0} (columns : ℕ) (reader writer : DeviceUse)
+    (result : Result (Unit {0}) (RunFault A)) : Type 0 where
+  pub text : List ℕ
+  pub is_all : IsTextOf reader.before text
+  pub outcome : ChartOutcome columns text reader writer result

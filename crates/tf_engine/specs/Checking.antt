@@ -1,16 +1,17 @@
 -- What a check of an answer text leaves behind.
-use Rattle.std.specs.Prelude.{◌≡◌, ℕ, ◌⊎◌, Bool, true, List, Option, Some, Result, Ok, Err, IsOk, length}
+use Rattle.std.specs.Prelude.{◌≡◌, ℕ, ◌⊎◌, true, false, List, Some, Result, Ok, Err, IsOk, MatchResult, length}
 use Rattle.std.specs.Io.KnownBytes.{Appends}
 use Rattle.tf_model.specs.SchedulingTask.{SchedulingTask}
 use Rattle.tf_model.specs.ClassTable.{class_of}
 use Rattle.tf_check.specs.Accepted.{IsAccepted, IsBestAnswer}
 use Rattle.tf_check.specs.Verdict.{HasReason}
+use Rattle.tf_text.specs.Counted.{DeviceUse}
 use Rattle.tf_text.specs.Input.{IsTextOf}
 use Rattle.tf_text.specs.AnswerText.{SheetData}
 use Rattle.tf_text.specs.AnswerReading.{answer_in}
 use Rattle.tf_text.specs.declared.answer.fault.AnswerFault.{AnswerFault}
 use Rattle.tf_engine.specs.declared.fault.RunFault.{RunFault}
-use Rattle.tf_engine.specs.Faults.{Refused, ByAnswer, stop_of}
+use Rattle.tf_engine.specs.Faults.{Refused, ByAnswer, stop_of, is_refusal}
 use Rattle.tf_engine.specs.declared.run_check.Checked.{Checked}
 use Rattle.tf_engine.specs.declared.run_check.Checked.TheVariants.{Accepted, OtherTask, Rejected}
 use Rattle.tf_engine.specs.RequestData.{RequestData}
@@ -59,26 +60,33 @@ IsRefusedCheck request instance answer refused =
     ⊎ ((fault : AnswerFault) × (refused ≡ ByAnswer fault) × IsMisread request instance answer fault)
 
 -- the instance's reader failed, or there is a task and the answer's reader failed
-abbrev pub HasReaderFailed : RequestData → List ℕ → Bool → Bool → Type 0
-HasReaderFailed request instance first second =
-    (first ≡ true) ⊎ (IsOk (task_for request instance) × (second ≡ true))
+abbrev pub HasReaderFailed : RequestData → List ℕ → DeviceUse → DeviceUse → Type 0
+HasReaderFailed request text instance answer =
+    (instance.failed ≡ true) ⊎ (IsOk (task_for request text) × (answer.failed ≡ true))
 
 -- A check says its verdict in one line, or gives the one refusal. Where memory was wanting it gives
--- neither; where a
--- reader failed nothing was written, and where the writer failed a prefix of the line was.
-abbrev pub CheckOutcome : {A : Type 0} → RequestData → List ℕ → List ℕ → Bool → Bool → Bool
-    → Option (List ℕ) → Option (List ℕ) → Result Checked (RunFault A) → Type 0
-CheckOutcome request instance answer first second writer before after (Ok checked) =
-    IsChecked request instance answer checked × Appends before after (verdict_line checked)
-CheckOutcome request instance answer first second writer before after (Err e) =
-    Leaves (SaysVerdict request instance answer) (IsRefusedCheck request instance answer)
-    (HasReaderFailed request instance first second) (writer ≡ true) before after (stop_of e)
+-- neither; where a reader failed nothing was written, and where the writer failed a prefix of the
+-- line was.
+abbrev pub CheckOutcome : {A : Type 0} → RequestData → List ℕ → List ℕ → DeviceUse → DeviceUse
+    → DeviceUse → Result Checked (RunFault A) → Type 0
+CheckOutcome request text answer_text instance answer writer (Ok checked) =
+    IsChecked request text answer_text checked
+    × Appends writer.before writer.after (verdict_line checked)
+CheckOutcome request text answer_text instance answer writer (Err e) =
+    Leaves (SaysVerdict request text answer_text) (IsRefusedCheck request text answer_text)
+    (HasReaderFailed request text instance answer) writer (stop_of e)
 
 -- The outcome is that of two texts, which are all bytes of the readers up to their ends where they
--- are known. `first`,
--- `second` and `writer` tell whether the readers and the writer remember a failure.
-abbrev pub IsCheckOf : {A : Type 0} → RequestData → Option (List ℕ) → Option (List ℕ) → Bool → Bool
-    → Bool → Option (List ℕ) → Option (List ℕ) → Result Checked (RunFault A) → Type 0
-IsCheckOf request known known_answer first second writer before after result =
-    (instance : List ℕ) × (answer : List ℕ) × IsTextOf known instance × IsTextOf known_answer answer
-    × CheckOutcome request instance answer first second writer before after result
+-- are known.
+pub record IsCheckOf {A : Type 0} (request : RequestData) (instance answer writer : DeviceUse)
+    (result : Result Checked (RunFault A)) : Type 0 where
+  pub text : List ℕ
+  pub is_all : IsTextOf instance.before text
+  pub answer_text : List ℕ
+  pub is_whole_answer : IsTextOf answer.before answer_text
+  pub outcome : CheckOutcome request text answer_text instance answer writer result
+
+-- the verdict is that the answer is best, or the run stopped for a device's or memory's sake
+abbrev pub AcceptsUnlessStopped : {A : Type 0} → Result Checked (RunFault A) → Type 0
+AcceptsUnlessStopped result =
+    MatchResult result (λ checked. checked ≡ Accepted) (λ e. is_refusal (stop_of e) ≡ false)

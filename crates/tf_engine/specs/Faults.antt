@@ -1,20 +1,12 @@
--- Why a run gives no answer: what definitions see of it, and what `?` makes of the faults of its
--- parts.
+-- Why a run gives no answer, as definitions see it.
 use Rattle.std.specs.Prelude.{ℕ, List, Bool, true, false, not, ◌&&◌, Result, Ok, Err}
 use Rattle.tf_notation.specs.declared.reading.NotationFault.{NotationFault}
 use Rattle.tf_model.specs.declared.prepare.Refusal.{Refusal}
-use Rattle.tf_model.specs.declared.prepare.Refusal.TheVariants as refusals
 use Rattle.tf_read.specs.declared.fault.ReadFault.{ReadFault}
 use Rattle.tf_read.specs.declared.fault.ReadFault.TheVariants as reads
 use Rattle.tf_schedule.specs.declared.schedule.PieceFault.{PieceFault}
-use Rattle.tf_text.specs.declared.input.InputFault.{InputFault}
-use Rattle.tf_text.specs.declared.input.InputFault.TheVariants as inputs
 use Rattle.tf_text.specs.declared.answer.fault.AnswerFault.{AnswerFault}
 use Rattle.tf_text.specs.declared.answer.fault.AnswerFault.TheVariants as answers
-use Rattle.tf_text.specs.declared.answer.writing.WriteFault.{WriteFault}
-use Rattle.tf_text.specs.declared.answer.writing.WriteFault.TheVariants as writes
-use Rattle.tf_engine.specs.declared.solve.SolveFault.{SolveFault}
-use Rattle.tf_engine.specs.declared.solve.SolveFault.TheVariants as solves
 use Rattle.tf_engine.specs.declared.fault.RunFault.{RunFault}
 use Rattle.tf_engine.specs.declared.fault.RunFault.TheVariants.{Notation, Text, Task, Cycle, Answer, Pieces, Device, OutOfMemory}
 
@@ -56,6 +48,19 @@ abbrev pub is_of_answer : Stop → Bool
 is_of_answer (Refuses (ByAnswer fault)) = true
 is_of_answer _ = false
 
+-- a refusal that comes after the whole answer text was read: a fault of the text but that it is too
+-- long, or of its pieces
+abbrev pub is_past_answer : Stop → Bool
+is_past_answer (Refuses (ByAnswer answers.TooLong)) = false
+is_past_answer (Refuses (ByAnswer fault)) = true
+is_past_answer (Refuses (ByPieces fault)) = true
+is_past_answer _ = false
+
+-- what is said only after the whole answer text was read
+abbrev pub is_of_whole_answer : {X A : Type 0} → Result X (RunFault A) → Bool
+is_of_whole_answer (Ok x) = true
+is_of_whole_answer (Err e) = is_past_answer (stop_of e)
+
 -- what is said only after the whole instance text was read: a value, and each refusal but that of a
 -- text that is too long
 abbrev pub is_of_whole : {X A : Type 0} → Result X (RunFault A) → Bool
@@ -65,36 +70,3 @@ is_of_whole (Err e) = is_refusal (stop_of e) && not (is_too_long (stop_of e))
     is_too_long : Stop → Bool
     is_too_long (Refuses (ByText reads.TooLong)) = true
     is_too_long _ = false
-
--- ---- within the crate: what `?` makes of a fault
-
-abbrev pub of_notation : {A : Type 0} → NotationFault → RunFault A
-of_notation fault = Notation fault
-
-abbrev pub of_input : {A : Type 0} → InputFault → RunFault A
-of_input inputs.Device = Device
-of_input inputs.TooLong = Text reads.TooLong
-of_input inputs.OutOfMemory = OutOfMemory
-
-abbrev pub of_read : {A : Type 0} → ReadFault → RunFault A
-of_read reads.OutOfMemory = OutOfMemory
-of_read fault = Text fault
-
-abbrev pub of_refusal : {A : Type 0} → Refusal → RunFault A
-of_refusal refusals.OutOfMemory = OutOfMemory
-of_refusal refusal = Task refusal
-
-abbrev pub of_answer : {A : Type 0} → AnswerFault → RunFault A
-of_answer answers.OutOfMemory = OutOfMemory
-of_answer fault = Answer fault
-
-abbrev pub of_solve : {A : Type 0} → SolveFault A → RunFault A
-of_solve (solves.Cycle jobs) = Cycle jobs
-of_solve solves.OutOfMemory = OutOfMemory
-
-abbrev pub of_write : {A : Type 0} → WriteFault → RunFault A
-of_write writes.Device = Device
-of_write writes.OutOfMemory = OutOfMemory
-
-abbrev pub of_pieces : {A : Type 0} → PieceFault → RunFault A
-of_pieces fault = Pieces fault

@@ -1,8 +1,9 @@
 -- What a run leaves behind.
-use Rattle.std.specs.Prelude.{◌≡◌, ℕ, ◌≤◌, ◌⊎◌, Bool, true, List, Option, Result, Ok, Err, length}
+use Rattle.std.specs.Prelude.{◌≡◌, ℕ, ◌≤◌, ◌⊎◌, true, List, Result, Ok, Err, length}
 use Rattle.std.specs.Io.KnownBytes.{Appends}
-use Rattle.tf_model.specs.Cycle.{IsCycle}
+use Rattle.tf_model.specs.Cycle.{IsForbiddingCycle}
 use Rattle.tf_model.specs.SchedulingTask.{SchedulingTask}
+use Rattle.tf_text.specs.Counted.{DeviceUse}
 use Rattle.tf_text.specs.Input.{IsTextOf}
 use Rattle.tf_text.specs.AnswerText.{SheetData, answer_text}
 use Rattle.tf_engine.specs.declared.fault.RunFault.{RunFault}
@@ -43,12 +44,11 @@ pub record Answers (request : RequestData) (text out : List ℕ) : Type 0 where
   pub written : out ≡ answer_text request.layout sheet
   pub again : length out ≤ MOST_BYTES → IsChecked request text out Accepted
 
--- the request and the text mean a task, and the jobs are a cycle of its arcs, so that no timetable
--- fits
+-- the request and the text mean a task, the jobs are a cycle of its arcs, and no timetable fits
 pub record IsCyclic (request : RequestData) (text : List ℕ) (jobs : List ℕ) : Type 0 where
   pub task : SchedulingTask
   pub meant : task_for request text ≡ Ok task
-  pub cycle : IsCycle task jobs
+  pub cycle : IsForbiddingCycle task jobs
 
 -- the refusal is the one of the definitions, or a cycle
 abbrev pub IsRefusedRun : RequestData → List ℕ → Refused → Type 0
@@ -57,20 +57,19 @@ IsRefusedRun request text refused =
     ⊎ ((jobs : List ℕ) × (refused ≡ ByCycle jobs) × IsCyclic request text jobs)
 
 -- A run answers in full, or gives the one refusal. Where memory was wanting it gives neither; where
--- the reader failed
--- nothing was written, and where the writer failed a prefix of an answer was.
-abbrev pub Outcome : {A : Type 0} → RequestData → List ℕ → Bool → Bool → Option (List ℕ)
-    → Option (List ℕ) → Result (Unit {0}) (RunFault A) → Type 0
-Outcome request text reader writer before after (Ok _) = (out : List ℕ) × Answers request text out
-    × Appends before after out
-Outcome request text reader writer before after (Err e) =
-    Leaves (Answers request text) (IsRefusedRun request text) (reader ≡ true) (writer ≡ true) before
-    after (stop_of e)
+-- the reader failed nothing was written, and where the writer failed a prefix of an answer was.
+abbrev pub Outcome : {A : Type 0} → RequestData → List ℕ → DeviceUse → DeviceUse
+    → Result (Unit {0}) (RunFault A) → Type 0
+Outcome request text reader writer (Ok _) =
+    (out : List ℕ) × Answers request text out × Appends writer.before writer.after out
+Outcome request text reader writer (Err e) =
+    Leaves (Answers request text) (IsRefusedRun request text) (reader.failed ≡ true) writer
+    (stop_of e)
 
 -- The outcome is that of a text, which is all bytes of the reader up to its end where they are
--- known. `reader` and
--- `writer` tell whether they remember a failure.
-abbrev pub IsRunOf : {A : Type 0} → RequestData → Option (List ℕ) → Bool → Bool → Option (List ℕ)
-    → Option (List ℕ) → Result (Unit {0}) (RunFault A) → Type 0
-IsRunOf request known reader writer before after result =
-    (text : List ℕ) × IsTextOf known text × Outcome request text reader writer before after result
+-- known.
+pub record IsRunOf {A : Type 0} (request : RequestData) (reader writer : DeviceUse)
+    (result : Result (Unit {0}) (RunFault A)) : Type 0 where
+  pub text : List ℕ
+  pub is_all : IsTextOf reader.before text
+  pub outcome : Outcome request text reader writer result

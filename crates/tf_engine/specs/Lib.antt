@@ -3,11 +3,12 @@ pub mod FormData
 pub mod RequestData
 pub mod Faults
 pub mod Refusal
+pub mod Solvers
 pub mod Runs
 pub mod VerdictLine
 pub mod Checking
 pub mod Headline
 pub mod Charting
 -- within the crate
-pub mod Solvers
+pub mod Passed
 pub mod Parts

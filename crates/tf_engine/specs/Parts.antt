@@ -1,10 +1,11 @@
 -- What the parts of the runs give.
-use Rattle.std.specs.Prelude.{◌≡◌, ℕ, ◌+◌, Bool, true, false, List, Option, Result, Ok, Err, MatchResult, OnOk, IfErr}
+use Rattle.std.specs.Prelude.{◌≡◌, ℕ, ◌+◌, ◌≤◌, ◌⊎◌, true, false, List, Option, Result, Ok, Err, MatchResult, OnOk, IfErr}
 use Rattle.std.specs.Io.KnownBytes.{IsAtEnd}
 use Rattle.tf_model.specs.InstanceData.{InstanceData}
 use Rattle.tf_model.specs.declared.limit.TheConstants.{MOST_BYTES}
 use Rattle.tf_model.specs.declared.problem.Problem.{Problem}
-use Rattle.tf_text.specs.Counted.{ConsumesAtMost}
+use Rattle.tf_text.specs.declared.counted.Counted.{Counted}
+use Rattle.tf_text.specs.Counted.{inner_of, pulled_of, has_failed, ConsumesAtMost}
 use Rattle.tf_text.specs.Input.{IsTextOf}
 use Rattle.tf_text.specs.AnswerText.{SheetData}
 use Rattle.tf_text.specs.AnswerReading.{answer_in}
@@ -14,7 +15,18 @@ use Rattle.tf_engine.specs.FormData.{FormData}
 use Rattle.tf_engine.specs.Refusal.{refused_by, instance_in}
 use Rattle.tf_engine.specs.RequestData.{RequestData}
 use Rattle.tf_engine.specs.Headline.{IsSolved, IsRefusedRun}
-use Rattle.tf_engine.specs.Runs.{StopsBy, StopsReading}
+
+-- why a part stops that reads and writes nothing
+abbrev pub StopsBy : (Refused → Type 0) → Stop → Type 0
+StopsBy IsRefused (Refuses refused) = IsRefused refused
+StopsBy IsRefused Fails = ⊥
+StopsBy IsRefused Wants = Unit {0}
+
+-- the same of a part that reads
+abbrev pub StopsReading : (Refused → Type 0) → Type 0 → Stop → Type 0
+StopsReading IsRefused reader_failed (Refuses refused) = IsRefused refused
+StopsReading IsRefused reader_failed Fails = reader_failed
+StopsReading IsRefused reader_failed Wants = Unit {0}
 
 -- exactly the problem or the refusal that is wanted
 abbrev pub GivesProblem : {A : Type 0} → Result Problem (RunFault A) → Result Problem Refused
@@ -24,19 +36,23 @@ GivesProblem result wanted =
     (λ e. (refused : Refused) × (stop_of e ≡ Refuses refused) × (wanted ≡ Err refused))
 
 -- A part that reads gives what `says` says of the text, which is all bytes of the reader up to its
--- end where they are
--- known. `old` and `new` are what the reader has left before and after, and `failed` tells whether
--- it remembers a failure.
-pub record ReadsTo {X A : Type 0} (says : List ℕ → Result X Refused) (old new : Option (List ℕ))
-    (failed : Bool) (result : Result X (RunFault A)) : Type 0 where
-  pub text : List ℕ
-  pub is_all : IsTextOf old text
-  pub given : MatchResult result (λ x. says text ≡ Ok x)
-      (λ e. StopsReading (λ refused. says text ≡ Err refused) (failed ≡ true) (stop_of e))
-  pub unfailed : OnOk result (failed ≡ false)
-  pub unhidden : IfErr result (λ e. is_refusal (stop_of e) ≡ true → failed ≡ false)
-  pub ended : is_of_whole result ≡ true → IsAtEnd new
-  pub pulled : ConsumesAtMost (MOST_BYTES + 1) old new
+-- end where they are known. `old` and `new` are the reader before and after.
+pub record ReadsTo {X A T : Type 0} (says : List ℕ → Result X Refused)
+    (remaining : T → Option (List ℕ)) (old new : Counted T) (result : Result X (RunFault A)) : Type 0
+  where
+    pub text : List ℕ
+    pub is_all : IsTextOf (remaining (inner_of old)) text
+    pub given : MatchResult result (λ x. says text ≡ Ok x)
+        (λ e. StopsReading (λ refused. says text ≡ Err refused) (has_failed new ≡ true) (stop_of e))
+    pub unfailed : OnOk result (has_failed new ≡ false)
+    pub unhidden : IfErr result (λ e. is_refusal (stop_of e) ≡ true → has_failed new ≡ false)
+    -- memory was wanting before the reader was called, or the reader did not fail
+    pub wanting : IfErr result
+        (λ e. stop_of e ≡ Wants → (new ≡ old) ⊎ (has_failed new ≡ false))
+    pub ended : is_of_whole result ≡ true → IsAtEnd (remaining (inner_of new))
+    pub pulled : ConsumesAtMost (MOST_BYTES + 1) (remaining (inner_of old))
+        (remaining (inner_of new))
+    pub counted : pulled_of new ≤ pulled_of old + (MOST_BYTES + 1)
 
 -- the instance that a text of this form holds, as a part of a run says it
 abbrev pub instance_said : FormData → List ℕ → Result InstanceData Refused

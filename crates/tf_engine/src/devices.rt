@@ -1,6 +1,6 @@
-//! Readers and writers for tests, which fail where they are told to.
+//! A reader for tests, which fails where it is told to.
 use std::io;
-use std::io::{ErrorKind, Read, Write};
+use std::io::{ErrorKind, Read};
 
 /// A reader that gives at most `step` bytes a call and fails at a call, counted from 1. An endless
 /// one begins again at its end.
@@ -62,40 +62,5 @@ impl Read for Feed<'_> {
         buf[..n].copy_from_slice(&self.rest[..n]);
         self.rest = &self.rest[n..];
         Ok(n)
-    }
-}
-
-/// A writer of at most `step` bytes a call that fails once it holds `room` bytes.
-#[derive(Drop)]
-pub struct Sink<'a> {
-    taken: &'a mut Vec<u8>,
-    step: usize,
-    room: usize,
-    kind: ErrorKind,
-}
-
-impl<'a> Sink<'a> {
-    pub fn new(taken: &'a mut Vec<u8>, step: usize, room: usize, kind: ErrorKind) -> Sink<'a> {
-        Sink {
-            taken,
-            step,
-            room,
-            kind,
-        }
-    }
-}
-
-impl Write for Sink<'_> {
-    fn write(&mut self, buf: &[u8]) -> io::Result<usize> {
-        if self.taken.len() >= self.room {
-            return Err(io::Error::from(self.kind));
-        }
-        let n = self.step.min(buf.len()).min(self.room - self.taken.len());
-        self.taken.extend_from_slice(&buf[..n])?;
-        Ok(n)
-    }
-
-    fn flush(&mut self) -> io::Result<()> {
-        Ok(())
     }
 }

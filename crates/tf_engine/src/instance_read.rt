@@ -1,6 +1,5 @@
 //! From a reader to the instance that its text holds.
 ghost use Rattle.std.specs.Prelude.{◌≡◌};
-ghost use Rattle.tf_text.specs.Counted.{inner_of, has_failed};
 ghost use Rattle.tf_engine.specs.FormData.{FormData, InTable, InWt, InFlow, form_of};
 ghost use Rattle.tf_engine.specs.Parts.{ReadsTo, instance_said};
 
@@ -20,8 +19,7 @@ fn table_read<A: Allocator + Copy, R: Read>(
     alloc: A,
     reader: &mut Counted<R>,
 ) -> Result<Instance<A>, RunFault<A>>
-    ensures { ReadsTo (instance_said InTable) (R.remaining (inner_of reader.old))
-        (R.remaining (inner_of reader.new)) (has_failed reader.new) result }
+    ensures { ReadsTo (instance_said InTable) R.remaining reader.old reader.new result }
 {
     let text = read_all(alloc, reader)?;
     Ok(read_table(alloc, text.as_slice())?)
@@ -33,8 +31,7 @@ fn wt_read<A: Allocator + Copy, R: Read>(
     index: u32,
     reader: &mut Counted<R>,
 ) -> Result<Instance<A>, RunFault<A>>
-    ensures { ReadsTo (instance_said (InWt jobs index)) (R.remaining (inner_of reader.old))
-        (R.remaining (inner_of reader.new)) (has_failed reader.new) result }
+    ensures { ReadsTo (instance_said (InWt jobs index)) R.remaining reader.old reader.new result }
 {
     let mut wt = WtReader::new(alloc, jobs, index)?;
     drain(reader, &mut wt)?;
@@ -47,8 +44,7 @@ fn flow_read<A: Allocator + Copy, R: Read>(
     pair: Option<(u32, u32)>,
     reader: &mut Counted<R>,
 ) -> Result<Instance<A>, RunFault<A>>
-    ensures { ReadsTo (instance_said (InFlow name.now pair)) (R.remaining (inner_of reader.old))
-        (R.remaining (inner_of reader.new)) (has_failed reader.new) result }
+    ensures { ReadsTo (instance_said (InFlow name.now pair)) R.remaining reader.old reader.new result }
 {
     let mut flow = FlowReader::new(alloc, name, pair);
     drain(reader, &mut flow)?;
@@ -62,8 +58,7 @@ pub(crate) fn instance_read<A: Allocator + Copy, B: Allocator, R: Read>(
     form: &Form<B>,
     reader: &mut Counted<R>,
 ) -> Result<Instance<A>, RunFault<A>>
-    ensures { ReadsTo (instance_said (form_of form.now)) (R.remaining (inner_of reader.old))
-        (R.remaining (inner_of reader.new)) (has_failed reader.new) result }
+    ensures { ReadsTo (instance_said (form_of form.now)) R.remaining reader.old reader.new result }
 {
     match form {
         Form::Table => table_read(alloc, reader),

@@ -1,10 +1,10 @@
 //! Checking somebody's answer, from bytes to bytes.
-ghost use Rattle.std.specs.Prelude.{◌≡◌, ◌+◌, true, false, Ok, Err, IsOk, OnOk, IfOk, IfErr, IsErrAnd, IsTrue, ◌↔◌};
+ghost use Rattle.std.specs.Prelude.{◌≡◌, ◌+◌, ◌≤◌, ◌⊎◌, ℕ, List, Some, true, false, Ok, Err, IsOk, OnOk, IfOk, IfErr, IsErrAnd, IsTrue, ◌↔◌};
 ghost use Rattle.std.specs.Io.KnownBytes.{IsAtEnd};
-ghost use Rattle.tf_text.specs.Counted.{inner_of, has_failed, ConsumesAtMost};
+ghost use Rattle.tf_text.specs.Counted.{inner_of, pulled_of, has_failed, use_of, ConsumesAtMost};
 ghost use Rattle.tf_engine.specs.Refusal.{problem_for};
-ghost use Rattle.tf_engine.specs.Faults.{Refuses, stop_of, is_failure, is_refusal, is_of_answer, is_of_whole};
-ghost use Rattle.tf_engine.specs.Checking.{IsCheckOf, IsFor, IsVerdict};
+ghost use Rattle.tf_engine.specs.Faults.{Refuses, Wants, stop_of, is_failure, is_refusal, is_of_answer, is_of_whole, is_of_whole_answer};
+ghost use Rattle.tf_engine.specs.Checking.{IsCheckOf, IsChecked, AcceptsUnlessStopped, IsFor, IsVerdict};
 
 use crate::fault::RunFault;
 use crate::request::Request;
@@ -48,34 +48,48 @@ pub fn run_check<A: Allocator + Copy, B: Allocator, R: Read, S: Read, W: Write>(
     answer: &mut Counted<S>,
     writer: &mut Counted<W>,
 ) -> Result<Checked, RunFault<A>>
-    ensures outcome { IsCheckOf request.now (R.remaining (inner_of instance.old))
-        (S.remaining (inner_of answer.old))
-        (has_failed instance.new) (has_failed answer.new) (has_failed writer.new)
-        (W.contents (inner_of writer.old)) (W.contents (inner_of writer.new)) result }
+    ensures outcome { IsCheckOf request.now (use_of R.remaining instance.old instance.new)
+        (use_of S.remaining answer.old answer.new) (use_of W.contents writer.old writer.new)
+        result }
     ensures unfailed { OnOk result
         ((has_failed instance.new ≡ false) × (has_failed answer.new ≡ false)
         × (has_failed writer.new ≡ false)) }
     ensures unwritten { IfErr result
         (λ e. is_failure (stop_of e) ≡ false → writer.new ≡ writer.old) }
-    // Nothing is read before the notation and the class are accepted, and no other refusal hides a
-    // failed reader.
+    ensures untouched { (has_failed instance.new ≡ true) ⊎ (has_failed answer.new ≡ true) →
+        writer.new ≡ writer.old }
+    // An answer that the definitions accept is accepted, above all one that `run_solve` wrote.
+    ensures accepts { (text answer_text : List ℕ) →
+        R.remaining (inner_of instance.old) ≡ Some text →
+        S.remaining (inner_of answer.old) ≡ Some answer_text →
+        IsChecked request.now text answer_text Checked.Accepted → AcceptsUnlessStopped result }
+    // Nothing is read before the notation and the class are accepted, and nothing that is answered
+    // later hides a failed reader.
     ensures unread { IfErr (problem_for request.now.problem)
         (λ refused. IsErrAnd result (λ e. stop_of e ≡ Refuses refused)
         × (instance.new ≡ instance.old) × (answer.new ≡ answer.old)) }
     ensures read { IsOk (problem_for request.now.problem) →
         IfErr result (λ e. is_refusal (stop_of e) ≡ true → has_failed instance.new ≡ false) }
+    ensures wanting { IfErr result (λ e. stop_of e ≡ Wants →
+        (instance.new ≡ instance.old) ⊎ (has_failed instance.new ≡ false)) }
     ensures ended { IsOk (problem_for request.now.problem) →
         is_of_whole result ≡ true → IsAtEnd (R.remaining (inner_of instance.new)) }
     ensures read_answer { IfErr result
         (λ e. is_of_answer (stop_of e) ≡ true → has_failed answer.new ≡ false) }
+    ensures wanting_answer { IfErr result (λ e. stop_of e ≡ Wants →
+        (answer.new ≡ answer.old) ⊎ (has_failed answer.new ≡ false)) }
+    ensures ended_answer { is_of_whole_answer result ≡ true →
+        IsAtEnd (S.remaining (inner_of answer.new)) }
     // A refusal for the instance's sake leaves the answer unread.
     ensures answer_later { IfErr result (λ e.
         is_refusal (stop_of e) ≡ true → is_of_answer (stop_of e) ≡ false →
         answer.new ≡ answer.old) }
     ensures pulled { ConsumesAtMost (MOST_BYTES + 1) (R.remaining (inner_of instance.old))
         (R.remaining (inner_of instance.new)) }
+    ensures counted { pulled_of instance.new ≤ pulled_of instance.old + (MOST_BYTES + 1) }
     ensures pulled_answer { ConsumesAtMost (MOST_BYTES + 1) (S.remaining (inner_of answer.old))
         (S.remaining (inner_of answer.new)) }
+    ensures counted_answer { pulled_of answer.new ≤ pulled_of answer.old + (MOST_BYTES + 1) }
 {
     let problem = problem_for(request.problem.as_str())?;
     let task = task_read(alloc, request, &problem, instance)?;

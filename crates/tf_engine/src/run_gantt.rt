@@ -1,10 +1,11 @@
 //! Drawing an answer, from bytes to bytes.
 ghost use Rattle.std.specs.Prelude.{◌≡◌, ◌+◌, ◌≤◌, true, false, OnOk, IfOk, IfErr};
 ghost use Rattle.tf_model.specs.declared.limit.TheConstants.{MOST_BYTES};
-ghost use Rattle.tf_text.specs.Counted.{inner_of, has_failed, ConsumesAtMost};
-ghost use Rattle.tf_engine.specs.Faults.{stop_of, is_failure, is_refusal};
+ghost use Rattle.std.specs.Io.KnownBytes.{IsAtEnd};
+ghost use Rattle.tf_text.specs.Counted.{inner_of, pulled_of, has_failed, use_of, ConsumesAtMost};
+ghost use Rattle.tf_engine.specs.Faults.{stop_of, is_failure, is_of_whole_answer};
 ghost use Rattle.tf_engine.specs.Charting.{IsDrawingOf, IsOfPieces};
-ghost use Rattle.tf_engine.specs.Runs.{StopsBy};
+ghost use Rattle.tf_engine.specs.Parts.{StopsBy};
 ghost use Rattle.std.specs.List.Sorted.{IsPermutation};
 ghost use Rattle.tf_schedule.specs.Schedule.{IsSchedule};
 
@@ -32,18 +33,20 @@ pub fn run_gantt<A: Allocator + Copy, R: Read, W: Write>(
     columns: u32,
 ) -> Result<(), RunFault<A>>
     requires columns { (1 ≤ columns) × (columns ≤ MOST_COLUMNS) }
-    ensures outcome { IsDrawingOf columns (R.remaining (inner_of reader.old))
-        (has_failed reader.new)
-        (has_failed writer.new) (W.contents (inner_of writer.old))
-        (W.contents (inner_of writer.new)) result }
+    ensures outcome { IsDrawingOf columns (use_of R.remaining reader.old reader.new)
+        (use_of W.contents writer.old writer.new) result }
     ensures unfailed { OnOk result
         ((has_failed reader.new ≡ false) × (has_failed writer.new ≡ false)) }
     ensures unwritten { IfErr result
         (λ e. is_failure (stop_of e) ≡ false → writer.new ≡ writer.old) }
+    ensures untouched { has_failed reader.new ≡ true → writer.new ≡ writer.old }
     ensures read { IfErr result
-        (λ e. is_refusal (stop_of e) ≡ true → has_failed reader.new ≡ false) }
+        (λ e. is_failure (stop_of e) ≡ false → has_failed reader.new ≡ false) }
+    ensures ended { is_of_whole_answer result ≡ true →
+        IsAtEnd (R.remaining (inner_of reader.new)) }
     ensures pulled { ConsumesAtMost (MOST_BYTES + 1) (R.remaining (inner_of reader.old))
         (R.remaining (inner_of reader.new)) }
+    ensures counted { pulled_of reader.new ≤ pulled_of reader.old + (MOST_BYTES + 1) }
 {
     let sheet = sheet_said(alloc, reader)?;
     let schedule = schedule_of(alloc, &sheet)?;

@@ -1,9 +1,9 @@
 //! Solving from bytes to bytes.
-ghost use Rattle.std.specs.Prelude.{◌≡◌, ◌+◌, ℕ, List, true, false, Ok, Err, IsOk, OnOk, IfOk, IfErr, IsErrAnd};
+ghost use Rattle.std.specs.Prelude.{◌≡◌, ◌+◌, ◌≤◌, ◌⊎◌, ℕ, List, true, false, Ok, Err, IsOk, OnOk, IfOk, IfErr, IsErrAnd};
 ghost use Rattle.std.specs.Io.KnownBytes.{IsAtEnd};
-ghost use Rattle.tf_text.specs.Counted.{inner_of, has_failed, ConsumesAtMost};
+ghost use Rattle.tf_text.specs.Counted.{inner_of, pulled_of, has_failed, use_of, ConsumesAtMost};
 ghost use Rattle.tf_engine.specs.Refusal.{problem_for, task_in};
-ghost use Rattle.tf_engine.specs.Faults.{Refuses, stop_of, is_failure, is_refusal, is_of_whole};
+ghost use Rattle.tf_engine.specs.Faults.{Refuses, Wants, stop_of, is_failure, is_refusal, is_of_whole};
 ghost use Rattle.tf_engine.specs.Headline.{IsRunOf};
 ghost use Rattle.tf_engine.specs.Parts.{GivesSheet};
 
@@ -33,23 +33,26 @@ pub fn run_solve<A: Allocator + Copy, B: Allocator, R: Read, W: Write>(
     reader: &mut Counted<R>,
     writer: &mut Counted<W>,
 ) -> Result<(), RunFault<A>>
-    ensures outcome { IsRunOf request.now (R.remaining (inner_of reader.old))
-        (has_failed reader.new) (has_failed writer.new)
-        (W.contents (inner_of writer.old)) (W.contents (inner_of writer.new)) result }
+    ensures outcome { IsRunOf request.now (use_of R.remaining reader.old reader.new)
+        (use_of W.contents writer.old writer.new) result }
     ensures unfailed { OnOk result
         ((has_failed reader.new ≡ false) × (has_failed writer.new ≡ false)) }
     ensures unwritten { IfErr result
         (λ e. is_failure (stop_of e) ≡ false → writer.new ≡ writer.old) }
-    // Nothing is read before the notation and the class are accepted, and no other refusal hides a
-    // failed reader.
+    ensures untouched { has_failed reader.new ≡ true → writer.new ≡ writer.old }
+    // Nothing is read before the notation and the class are accepted, and nothing that is answered
+    // later hides a failed reader.
     ensures unread { IfErr (problem_for request.now.problem) (λ refused.
         IsErrAnd result (λ e. stop_of e ≡ Refuses refused) × (reader.new ≡ reader.old)) }
     ensures read { IsOk (problem_for request.now.problem) →
         IfErr result (λ e. is_refusal (stop_of e) ≡ true → has_failed reader.new ≡ false) }
+    ensures wanting { IfErr result (λ e. stop_of e ≡ Wants →
+        (reader.new ≡ reader.old) ⊎ (has_failed reader.new ≡ false)) }
     ensures ended { IsOk (problem_for request.now.problem) →
         is_of_whole result ≡ true → IsAtEnd (R.remaining (inner_of reader.new)) }
     ensures pulled { ConsumesAtMost (MOST_BYTES + 1) (R.remaining (inner_of reader.old))
         (R.remaining (inner_of reader.new)) }
+    ensures counted { pulled_of reader.new ≤ pulled_of reader.old + (MOST_BYTES + 1) }
 {
     let problem = problem_for(request.problem.as_str())?;
     let task = task_read(alloc, request, &problem, reader)?;

@@ -1,6 +1,5 @@
 //! From a problem line and a reader of an instance to a task.
 ghost use Rattle.std.specs.Prelude.{◌≡◌};
-ghost use Rattle.tf_text.specs.Counted.{inner_of, has_failed};
 ghost use Rattle.tf_engine.specs.Refusal.{problem_for, task_in};
 ghost use Rattle.tf_engine.specs.Parts.{GivesProblem, ReadsTo};
 
@@ -34,8 +33,7 @@ pub(crate) fn task_read<A: Allocator + Copy, B: Allocator, R: Read>(
     problem: &Problem,
     reader: &mut Counted<R>,
 ) -> Result<Task<A>, RunFault<A>>
-    ensures { ReadsTo (task_in request.now problem.now) (R.remaining (inner_of reader.old))
-        (R.remaining (inner_of reader.new)) (has_failed reader.new) result }
+    ensures { ReadsTo (task_in request.now problem.now) R.remaining reader.old reader.new result }
 {
     let instance = instance_read(alloc, &request.form, reader)?;
     let task = prepare(alloc, &instance, problem, request.machines)?;

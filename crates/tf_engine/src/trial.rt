@@ -17,11 +17,6 @@ pub fn ensure(is_so: bool, otherwise: &'static str) -> Result<(), Fail> {
     }
 }
 
-/// Whether the bytes are these.
-pub fn is_text(bytes: &[u8], wanted: &[u8]) -> bool {
-    bytes == wanted
-}
-
 /// A request with a job table whose answer is written in this version.
 pub fn request_in(rt: &HostRuntime, problem: &str, layout: Layout) -> Result<Request, AllocError> {
     Ok(Request {

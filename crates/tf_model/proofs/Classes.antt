@@ -112,6 +112,15 @@ sum_or_ordered : (c : Class) → (is_sum c && is_ordered c) ≡ false
 sum_or_ordered WeightedSum = refl
 sum_or_ordered _ = refl
 
+ordered_or_not_single : (c : Class) → (is_ordered c && not (is_single c)) ≡ false
+ordered_or_not_single WeightedSum = refl
+ordered_or_not_single _ = refl
+
+pub ordered_single : (c : Class) → IsTrue (is_ordered c) → IsTrue (is_single c)
+ordered_single c h =
+    not-false (is_single c)
+    (second_fails (is_ordered c) (not (is_single c)) (ordered_or_not_single c) h)
+
 pub parallel_unweighted : (c : Class) → IsTrue (is_parallel c) → IsFalse (is_weighted c)
 parallel_unweighted c = second_fails (is_parallel c) (is_weighted c) (parallel_or_weighted c)
 

@@ -9,26 +9,25 @@ use Rattle.std.proofs.lemmas.Bool.{ltb-false, cond-false, cond-true}
 use Rattle.std.proofs.lemmas.Int.{ints}
 use Rattle.std.proofs.lemmas.List.{get_or-map, length-map}
 use Rattle.std.proofs.lemmas.List.Sums.{fails_before_first}
-use Rattle.tf_model.specs.Limit.{limit}
+use Rattle.tf_model.specs.Limit.{limit, most_jobs, most_machines, most_arcs}
 use Rattle.tf_model.specs.declared.class.Class.{Class}
 use Rattle.tf_model.specs.declared.job.Times.{Times}
 use Rattle.tf_model.specs.declared.job.Times.TheVariants.{One, Two}
 use Rattle.tf_model.specs.declared.instance.InstanceFault.TheVariants.{NoJobs, TooManyJobs, TooManyArcs, NegativeNumber, OutOfRange, BadArc}
 use Rattle.tf_model.specs.declared.prepare.Refusal.TheVariants.{MachineCount, WrongTimes, ZeroTime, TotalTooLarge}
-use Rattle.tf_model.specs.declared.limit.TheConstants.{MOST_JOBS, MOST_MACHINES, MOST_ARCS}
 use Rattle.tf_model.specs.Whole.{as_time, IsWithin}
 use Rattle.tf_model.specs.Steps.{no_steps}
 use Rattle.tf_model.specs.StepFaults.{IsStepCost}
 use Rattle.tf_model.specs.CostLaws.{late_law, step_law}
 use Rattle.tf_model.specs.JobFields.{JobFields}
-use Rattle.tf_model.specs.Timetable.{greatest_of}
 use Rattle.tf_model.specs.InstanceData.{InstanceData, IsInstance, any_time, any_given, is_beyond, has_negative, has_beyond, is_no_job, is_bad_arc, first_with, count_fault, counts_fault}
 use Rattle.tf_model.specs.SchedulingTask.{JobData, no_job, SchedulingTask, IsJob, job_data, time_of, all_jobs, costs_of}
 use Rattle.tf_model.specs.ClassTable.{is_single, is_shop, is_weighted, is_released, is_due, is_costed, is_ordered, is_sum, is_dearest}
 use Rattle.tf_model.specs.Cost.{Objective, Makespan, Lateness, Dearest, Total, objective_of, price_by}
 use Rattle.tf_model.specs.Sound.{IsSound}
 use Rattle.tf_model.specs.Outcome.{◌>>=◌}
-use Rattle.tf_model.specs.Prepare.{agreed, given, count_for, machine_count, IsCountFor, is_two, has_wrong_times, missing_from, has_zero_time, zero_time, first_time, second_time, data_of, cost_of, kept_costs, task_of, work_of, is_too_large, jobs_refusal}
+use Rattle.tf_model.specs.CountFor.{IsCountFor}
+use Rattle.tf_model.specs.Prepare.{agreed, given, count_for, machines_for, has_two, has_wrong_times, missing_from, has_zero_time, zero_time, first_time, second_time, data_of, steps_of, kept_costs, task_of, work_of, greatest_of, is_too_large, jobs_refusal}
 use Rattle.tf_model.proofs.Classes.{shop_not_single}
 use Rattle.tf_model.proofs.Outcomes.{bind_ok}
 use Rattle.tf_model.proofs.Costs.{sum_by-all_jobs}
@@ -79,9 +78,9 @@ count_for-Ok class n m e = let is : n ≡ m = same _ e in subst (λ z. count_for
     same true e = cc
     same false e = cc
 
-pub IsCountFor-machine_count : (class : Class) (notation argument instance : Option ℕ) (m : ℕ)
-    → machine_count class notation argument instance ≡ Ok m → IsCountFor class m
-IsCountFor-machine_count class notation argument instance m = by_single (is_single class)
+pub IsCountFor-machines_for : (class : Class) (notation argument instance : Option ℕ) (m : ℕ)
+    → machines_for class notation argument instance ≡ Ok m → IsCountFor class m
+IsCountFor-machines_for class notation argument instance m = by_single (is_single class)
   where
     at_last : (agreed notation argument >>= λ x. agreed x instance >>= λ y. given y
         >>= λ n. count_for class n) ≡ Ok m
@@ -104,7 +103,7 @@ IsCountFor-machine_count class notation argument instance m = by_single (is_sing
 
 record FitsMachines (class : Class) (m : ℕ) : Type 0 where
   some : 1 ≤ m
-  few : m ≤ MOST_MACHINES
+  few : m ≤ most_machines
   single : IsTrue (is_single class) → m ≡ 1
   shop : IsTrue (is_shop class) → m ≡ 2
 
@@ -115,9 +114,9 @@ counted class m = by_single (is_single class) refl
     accepted true e = cc
     accepted false e = refl
 
-    is_two_of : (b : Bool) → eqb m 2 ≡ b → not b ≡ false → m ≡ 2
-    is_two_of true is e = grind (arith, is)
-    is_two_of false is e = cc
+    has_two_of : (b : Bool) → eqb m 2 ≡ b → not b ≡ false → m ≡ 2
+    has_two_of true is e = grind (arith, is)
+    has_two_of false is e = cc
 
     by_single : (s : Bool) → is_single class ≡ s → cond s (Ok 1) (count_for class m) ≡ Ok m
         → FitsMachines class m
@@ -130,14 +129,14 @@ counted class m = by_single (is_single class) refl
           shop = λ h. let not : is_single class ≡ false = shop_not_single class h in cc;
         }
     by_single false is e =
-        let tests = neither (ltb m 1 || ltb MOST_MACHINES m) (is_shop class && not (eqb m 2))
+        let tests = neither (ltb m 1 || ltb most_machines m) (is_shop class && not (eqb m 2))
         (accepted _ e) in
-        let counts = neither (ltb m 1) (ltb MOST_MACHINES m) tests.0 in
+        let counts = neither (ltb m 1) (ltb most_machines m) tests.0 in
         record {
           some = ltb-false m 1 counts.0;
-          few = ltb-false MOST_MACHINES m counts.1;
+          few = ltb-false most_machines m counts.1;
           single = λ h. cc;
-          shop = λ h. is_two_of (eqb m 2) refl (not_both (is_shop class) (not (eqb m 2)) tests.1 h);
+          shop = λ h. has_two_of (eqb m 2) refl (not_both (is_shop class) (not (eqb m 2)) tests.1 h);
         }
 
 -- ---- numbers
@@ -146,13 +145,13 @@ counted class m = by_single (is_single class) refl
 abbrev no_fields : JobFields
 no_fields = record { times = One (pos 0); weight = None; due = None; release = None; cost = None }
 
-one_work : (times : Times) → is_two times ≡ false → any_time (λ p. int_lt p (pos 1)) times ≡ false
+one_work : (times : Times) → has_two times ≡ false → any_time (λ p. int_lt p (pos 1)) times ≡ false
     → 1 ≤ as_time (first_time times) + as_time (second_time times)
 one_work (One (pos n)) one worked = omega (arith, ints)
 one_work (One (negsuc n)) one worked = cc
 one_work (Two a b) one worked = cc
 
-no_second : (times : Times) → is_two times ≡ false → as_time (second_time times) ≡ 0
+no_second : (times : Times) → has_two times ≡ false → as_time (second_time times) ≡ 0
 no_second (One a) one = refl
 no_second (Two a b) one = cc
 
@@ -192,7 +191,7 @@ price_rises Total k j c e steps le =
 
 module _ (class : Class) (m : ℕ) (i : InstanceData) (instance : IsInstance i)
     (refusal : jobs_refusal class i.jobs ≡ None) where
-  few_jobs : (1 ≤ length i.jobs) × (length i.jobs ≤ MOST_JOBS)
+  few_jobs : (1 ≤ length i.jobs) × (length i.jobs ≤ most_jobs)
   few_jobs =
       let counts =
       none_of_two (counts_fault (length i.jobs) i.machines (length i.arcs))
@@ -201,13 +200,13 @@ module _ (class : Class) (m : ℕ) (i : InstanceData) (instance : IsInstance i)
       (option_map BadArc (first_with (is_bad_arc (length i.jobs)) i.arcs)))) instance in
       let no_jobs =
       none_of_two (then_some (eqb (length i.jobs) 0) NoJobs)
-      (option_or (then_some (ltb MOST_JOBS (length i.jobs)) TooManyJobs)
+      (option_or (then_some (ltb most_jobs (length i.jobs)) TooManyJobs)
       (option_or (count_fault i.machines)
-      (then_some (ltb MOST_ARCS (length i.arcs)) TooManyArcs))) counts.0 in
+      (then_some (ltb most_arcs (length i.arcs)) TooManyArcs))) counts.0 in
       let many_jobs =
-      none_of_two (then_some (ltb MOST_JOBS (length i.jobs)) TooManyJobs)
+      none_of_two (then_some (ltb most_jobs (length i.jobs)) TooManyJobs)
       (option_or (count_fault i.machines)
-      (then_some (ltb MOST_ARCS (length i.arcs)) TooManyArcs)) no_jobs.1 in
+      (then_some (ltb most_arcs (length i.arcs)) TooManyArcs)) no_jobs.1 in
       (not_zero (length i.jobs) (not_then _ _ no_jobs.0), ltb-false _ _ (not_then _ _ many_jobs.0))
     where
       not_zero : (n : ℕ) → eqb n 0 ≡ false → 1 ≤ n
@@ -290,9 +289,9 @@ module _ (class : Class) (m : ℕ) (i : InstanceData) (instance : IsInstance i)
       all (j - 1) no_fields (omega (arith, h.0, h.1, length-map i.jobs (data_of class)))
 
   one_time : IsFalse (is_shop class) → (job : JobFields) → has_wrong_times class job ≡ false
-      → is_two job.times ≡ false
+      → has_two job.times ≡ false
   one_time plain job e =
-      sym (cond-false (is_shop class) (not (is_two job.times)) (is_two job.times) plain) ∙ e
+      sym (cond-false (is_shop class) (not (has_two job.times)) (has_two job.times) plain) ∙ e
 
   worked : IsFalse (is_shop class) → All (λ job. has_zero_time job ≡ false) i.jobs
   worked plain =
@@ -329,8 +328,8 @@ module _ (class : Class) (m : ℕ) (i : InstanceData) (instance : IsInstance i)
       let weights : sum_by (λ j. (job_data k j).weight) (all_jobs k)
       ≡ sum_by (λ (job : JobData). job.weight) k.jobs = sum_by-all_jobs k (λ job. job.weight) in
       let costed : IsTrue (is_costed class) → length k.costs ≡ length k.jobs =
-      λ h. ap length (cond-true (is_costed class) (map cost_of i.jobs) [] h)
-      ∙ length-map i.jobs cost_of ∙ sym same in
+      λ h. ap length (cond-true (is_costed class) (map steps_of i.jobs) [] h)
+      ∙ length-map i.jobs steps_of ∙ sym same in
       record {
         some_job = omega (arith, same, few_jobs.0);
         few_jobs = omega (arith, same, few_jobs.1);
@@ -351,7 +350,7 @@ module _ (class : Class) (m : ℕ) (i : InstanceData) (instance : IsInstance i)
         unreleased = λ plain j h. ap (λ (job : JobData). job.release) (data-at j h)
             ∙ cond-false (is_released class) _ 0 plain;
         unordered = λ plain. cond-false (is_ordered class) i.arcs [] plain;
-        uncosted = λ plain. cond-false (is_costed class) (map cost_of i.jobs) [] plain;
+        uncosted = λ plain. cond-false (is_costed class) (map steps_of i.jobs) [] plain;
         costed = costed;
         arcs_in = arcs_in (is_ordered class);
         dues = λ j h.

@@ -1,5 +1,5 @@
--- The classes: the notation of each, all that follows from it, and which problem is of which.
-use Rattle.std.specs.Prelude.{ℕ, Bool, true, false, not, ◌&&◌, ◌||◌, ◌==◌, Option, None, Some, if◌then◌else◌}
+-- The classes: the notation of each, which problem is of which, and all that follows from it.
+use Rattle.std.specs.Prelude.{◌≡◌, ◌⊎◌, ℕ, IsTrue, Bool, true, false, not, ◌&&◌, ◌||◌, ◌==◌, Option, None, Some, if◌then◌else◌}
 use Rattle.tf_model.specs.declared.class.Class.{Class}
 use Rattle.tf_model.specs.declared.class.Class.TheVariants.{WeightedSum, PlainSum, Hmax, PrecHmax, Lmax, PrecLmax, ReleaseLmax, FlowTwo, OpenTwo, ParallelPrmp, ParallelSum, PrmpWeightedSum, PrmpPlainSum, PrmpHmax, PrmpPrecHmax, PrmpLmax, PrmpPrecLmax, PrmpFlowTwo, PrmpOpenTwo}
 use Rattle.tf_model.specs.declared.problem.Env.{Env}
@@ -84,6 +84,14 @@ is_single c = is_single_env (notation_of c).env
 abbrev pub is_parallel : Class → Bool
 is_parallel c = is_parallel_env (notation_of c).env
 
+-- ---- which problem is of the class
+
+pub record IsOfClass (p : Problem) (c : Class) : Type 0 where
+  -- it has the environment, exactly the conditions, and the objective of the class's notation
+  pub notation : record p { count = None } ≡ record (notation_of c) { count = None }
+  -- a shop has two machines, or it is not said how many
+  pub machines : IsTrue (is_shop c) → (p.count ≡ None) ⊎ (p.count ≡ Some 2)
+
 -- ---- from the conditions
 
 -- the classes that let a job be broken off and taken up again
@@ -157,7 +165,7 @@ is_costed c = is_dearest (objective_of c)
 abbrev pub is_sum : Class → Bool
 is_sum c = is_total (objective_of c)
 
--- ---- the class of a problem. The conditions are exactly those named.
+-- ---- the class of a problem: by the contract of the call `class_of` the one that it is of, if any
 
 -- one machine: objective, release dates, precedence, preemption
 abbrev pub single_class : Goal → Bool → Bool → Bool → Option Class
@@ -183,14 +191,14 @@ parallel_class goals.SumC false false false = Some ParallelSum
 parallel_class _ _ _ _ = None
 
 -- two machines, or not said how many
-abbrev pub is_two : Option ℕ → Bool
-is_two None = true
-is_two (Some m) = m == 2
+abbrev pub may_be_two : Option ℕ → Bool
+may_be_two None = true
+may_be_two (Some m) = m == 2
 
 -- a shop with no condition, or with preemption alone
 abbrev pub shop_class : Problem → Class → Class → Option Class
 shop_class p plain broken =
-    if is_makespan p.goal && is_two p.count
+    if is_makespan p.goal && may_be_two p.count
     && not (p.release || p.prec) then Some (if p.prmp then broken else plain) else None
 
 abbrev pub class_of : Problem → Option Class

@@ -1,5 +1,5 @@
 -- What a timetable costs, and when it is best.
-use Rattle.std.specs.Prelude.{◌≡◌, ℕ, ◌*◌, ℤ, pos, ◌-ℤ◌, ◌≤ℤ◌, map}
+use Rattle.std.specs.Prelude.{◌≡◌, ℕ, ◌*◌, ℤ, pos, ◌-ℤ◌, ◌≤ℤ◌, List, [], ◌∷◌, map}
 use Rattle.std.specs.List.{fold, sum_by}
 use Rattle.std.specs.Int.{int_max}
 pub use Rattle.tf_model.specs.ClassTable.{Objective, Makespan, Lateness, Dearest, Total, objective_of}
@@ -18,11 +18,14 @@ price_by Total k j c = pos ((job_data k j).weight * c)
 abbrev pub price : SchedulingTask → ℕ → ℕ → ℤ
 price k = price_by (objective_of k.class) k
 
+-- the greatest that f gives along the list, 0 if it is empty
+abbrev pub greatest : (ℕ → ℤ) → List ℕ → ℤ
+greatest f [] = pos 0
+greatest f (j ∷ jobs) = fold int_max (f j) (map f (j ∷ jobs))
+
 -- the greatest price of the jobs 1 to n, each at its completion
 abbrev pub greatest_price : SchedulingTask → Timetable → ℤ
-greatest_price k rows =
-    fold int_max (price k 1 (completion rows 1))
-    (map (λ j. price k j (completion rows j)) (all_jobs k))
+greatest_price k rows = greatest (λ j. price k j (completion rows j)) (all_jobs k)
 
 -- the weighted sum of the completions
 abbrev pub total_price : SchedulingTask → Timetable → ℕ

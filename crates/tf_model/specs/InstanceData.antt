@@ -2,11 +2,10 @@
 use Rattle.std.specs.Prelude.{◌≡◌, ℕ, ℤ, pos, ◌+◌, Bool, false, ◌||◌, ◌==◌, nat_lt, List, length, position, Option, Some, None, unsigned_abs, int_lt}
 use Rattle.std.specs.Bool.{then_some}
 use Rattle.std.specs.Option.{option_map, option_or}
-use Rattle.tf_model.specs.Limit.{limit}
+use Rattle.tf_model.specs.Limit.{limit, most_jobs, most_machines, most_arcs}
 use Rattle.tf_model.specs.JobFields.{JobFields}
 use Rattle.tf_model.specs.declared.job.Times.{Times}
 use Rattle.tf_model.specs.declared.job.Times.TheVariants.{One, Two}
-use Rattle.tf_model.specs.declared.limit.TheConstants.{MOST_JOBS, MOST_MACHINES, MOST_ARCS}
 use Rattle.tf_model.specs.declared.instance.InstanceFault.{InstanceFault}
 use Rattle.tf_model.specs.declared.instance.InstanceFault.TheVariants.{NoJobs, TooManyJobs, TooManyMachines, TooManyArcs, NegativeNumber, OutOfRange, BadArc}
 
@@ -58,15 +57,15 @@ first_with test xs = option_map (λ k. k + 1) (position test xs)
 
 abbrev pub count_fault : Option ℕ → Option InstanceFault
 count_fault None = None
-count_fault (Some m) = then_some (nat_lt m 1 || nat_lt MOST_MACHINES m) TooManyMachines
+count_fault (Some m) = then_some (nat_lt m 1 || nat_lt most_machines m) TooManyMachines
 
 -- too few or too many
 abbrev pub counts_fault : ℕ → Option ℕ → ℕ → Option InstanceFault
 counts_fault jobs machines arcs =
     option_or (then_some (jobs == 0) NoJobs)
-    (option_or (then_some (nat_lt MOST_JOBS jobs) TooManyJobs)
+    (option_or (then_some (nat_lt most_jobs jobs) TooManyJobs)
     (option_or (count_fault machines)
-    (then_some (nat_lt MOST_ARCS arcs) TooManyArcs)))
+    (then_some (nat_lt most_arcs arcs) TooManyArcs)))
 
 -- the first reason why this is no instance, each line over all jobs before the next
 abbrev pub instance_fault : InstanceData → Option InstanceFault

@@ -17,3 +17,5 @@ pub mod Bounds
 pub mod Cycle
 -- within the crate
 pub mod CostLaws
+pub mod CountFor
+pub mod Distinct

@@ -1,14 +1,13 @@
 -- The task of an instance and a problem, or the first refusal. A field that the class does not use
 -- is ignored.
-use Rattle.std.specs.Prelude.{◌≡◌, ℕ, ◌+◌, ◌*◌, Bool, true, false, not, ◌&&◌, ◌||◌, ◌==◌, nat_lt, ℤ, pos, List, [], ◌∷◌, map, length, Option, None, Some, Result, Ok, Err, is_none, unwrap_or, int_lt, if◌then◌else◌, IsOk}
+use Rattle.std.specs.Prelude.{◌≡◌, ℕ, ◌+◌, ◌*◌, max, Bool, true, false, not, ◌&&◌, ◌||◌, ◌==◌, nat_lt, ℤ, pos, List, [], ◌∷◌, map, length, Option, None, Some, Result, Ok, Err, is_none, unwrap_or, int_lt, if◌then◌else◌, IsOk}
 use Rattle.std.specs.Bool.{then_some}
 use Rattle.std.specs.Option.{option_map, option_or, ok_or}
 use Rattle.std.specs.List.{sum_by}
-use Rattle.tf_model.specs.Limit.{limit}
+use Rattle.tf_model.specs.Limit.{limit, most_costed_jobs, most_machines}
 use Rattle.tf_model.specs.Outcome.{◌>>=◌, unless}
 use Rattle.tf_model.specs.Whole.{as_time}
 use Rattle.tf_model.specs.Steps.{Steps, no_steps}
-use Rattle.tf_model.specs.Timetable.{greatest_of}
 use Rattle.tf_model.specs.JobFields.{JobFields}
 use Rattle.tf_model.specs.InstanceData.{InstanceData, any_time, first_with}
 use Rattle.tf_model.specs.SchedulingTask.{JobData, SchedulingTask}
@@ -22,7 +21,6 @@ use Rattle.tf_model.specs.declared.prepare.Field.{Field}
 use Rattle.tf_model.specs.declared.prepare.Field.TheVariants.{Weight, Due, Release, Cost}
 use Rattle.tf_model.specs.declared.prepare.Refusal.{Refusal}
 use Rattle.tf_model.specs.declared.prepare.Refusal.TheVariants.{NoSolver, TooManyJobs, MachinesMissing, MachinesDisagree, MachineCount, WrongTimes, MissingField, ZeroTime, TotalTooLarge, OutOfMemory}
-use Rattle.tf_model.specs.declared.limit.TheConstants.{MOST_COSTED_JOBS, MOST_MACHINES}
 
 abbrev pub work_of : List JobData → ℕ
 work_of jobs = sum_by (λ job. job.first + job.second) jobs
@@ -34,7 +32,7 @@ classified problem = ok_or (class_of problem) NoSolver
 
 -- where each job has a cost function of its own, there are fewer jobs at most
 abbrev pub is_too_many : Class → ℕ → Bool
-is_too_many class jobs = is_costed class && nat_lt MOST_COSTED_JOBS jobs
+is_too_many class jobs = is_costed class && nat_lt most_costed_jobs jobs
 
 -- the count that two places give, each perhaps none
 abbrev pub agreed : Option ℕ → Option ℕ → Result (Option ℕ) Refusal
@@ -48,29 +46,25 @@ given count = ok_or count MachinesMissing
 -- a shop has two machines, and machines in parallel are 1 to 1000
 abbrev pub count_for : Class → ℕ → Result ℕ Refusal
 count_for class m =
-    if nat_lt m 1 || nat_lt MOST_MACHINES m
+    if nat_lt m 1 || nat_lt most_machines m
     || (is_shop class && not (m == 2)) then Err (MachineCount m) else Ok m
 
--- a count that the class takes
-abbrev pub IsCountFor : Class → ℕ → Type 0
-IsCountFor class m = (if is_single class then Ok 1 else count_for class m) ≡ Ok m
-
 -- by the notation, by the caller and by the instance; a single machine ignores them
-abbrev pub machine_count : Class → Option ℕ → Option ℕ → Option ℕ → Result ℕ Refusal
-machine_count class notation argument instance =
+abbrev pub machines_for : Class → Option ℕ → Option ℕ → Option ℕ → Result ℕ Refusal
+machines_for class notation argument instance =
     if is_single class then Ok 1
     else (agreed notation argument >>= λ m. agreed m instance >>= λ n. given n
     >>= λ count. count_for class count)
 
 -- ---- the jobs
 
-abbrev pub is_two : Times → Bool
-is_two (One a) = false
-is_two (Two a b) = true
+abbrev pub has_two : Times → Bool
+has_two (One a) = false
+has_two (Two a b) = true
 
 -- two times where the class wants one, or one where it wants two
 abbrev pub has_wrong_times : Class → JobFields → Bool
-has_wrong_times class job = if is_shop class then not (is_two job.times) else is_two job.times
+has_wrong_times class job = if is_shop class then not (has_two job.times) else has_two job.times
 
 -- the first field that the class uses and the job lacks
 abbrev pub lacking : Class → JobFields → Option Field
@@ -115,12 +109,12 @@ data_of class job = record {
   due = if is_due class then unwrap_or job.due (pos 0) else pos 0;
 }
 
-abbrev pub cost_of : JobFields → Steps
-cost_of job = unwrap_or job.cost no_steps
+abbrev pub steps_of : JobFields → Steps
+steps_of job = unwrap_or job.cost no_steps
 
 -- the cost functions, where the class has them
 abbrev pub kept_costs : Class → List JobFields → List Steps
-kept_costs class jobs = if is_costed class then map cost_of jobs else []
+kept_costs class jobs = if is_costed class then map steps_of jobs else []
 
 -- the arcs, where the class keeps them
 abbrev pub kept_arcs : Class → List (ℕ × ℕ) → List (ℕ × ℕ)
@@ -134,6 +128,11 @@ task_of class machines i = record {
   costs = kept_costs class i.jobs;
   arcs = kept_arcs class i.arcs;
 }
+
+-- the greatest of the numbers, 0 if there are none
+abbrev pub greatest_of : List ℕ → ℕ
+greatest_of [] = 0
+greatest_of (x ∷ xs) = max x (greatest_of xs)
 
 -- all the work, the work behind the last release date, or for a sum of completion times the weights
 -- times the work
@@ -155,7 +154,7 @@ abbrev pub prepared : InstanceData → Problem → Option ℕ → Result Schedul
 prepared i problem argument = do
   class ← classified problem
   machines ← unless (then_some (is_too_many class (length i.jobs)) TooManyJobs)
-      (machine_count class problem.count argument i.machines)
+      (machines_for class problem.count argument i.machines)
   unless (jobs_refusal class i.jobs) (Ok (task_of class machines i))
 
 -- what `prepare` answers: what is prepared or refused, or want of memory once nothing is refused

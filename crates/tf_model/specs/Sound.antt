@@ -1,18 +1,17 @@
 -- What every task keeps that was prepared.
 use Rattle.std.specs.Prelude.{◌≡◌, ℕ, ◌+◌, ◌*◌, ◌≤◌, ◌≤ℤ◌, [], length, IsTrue, IsFalse}
 use Rattle.std.specs.List.{All, sum_by}
-use Rattle.tf_model.specs.Limit.{limit}
+use Rattle.tf_model.specs.Limit.{limit, most_jobs, most_machines}
 use Rattle.tf_model.specs.Whole.{IsWithin}
-use Rattle.tf_model.specs.declared.limit.TheConstants.{MOST_JOBS, MOST_MACHINES}
 use Rattle.tf_model.specs.SchedulingTask.{SchedulingTask, all_jobs, IsJob, job_data, time_of}
 use Rattle.tf_model.specs.ClassTable.{is_shop, is_single, is_weighted, is_released, is_costed, is_ordered, is_sum}
 use Rattle.tf_model.specs.Cost.{price}
 
 pub record IsSound (k : SchedulingTask) : Type 0 where
   pub some_job : 1 ≤ length k.jobs
-  pub few_jobs : length k.jobs ≤ MOST_JOBS
+  pub few_jobs : length k.jobs ≤ most_jobs
   pub some_machine : 1 ≤ k.machines
-  pub few_machines : k.machines ≤ MOST_MACHINES
+  pub few_machines : k.machines ≤ most_machines
   pub single : IsTrue (is_single k.class) → k.machines ≡ 1
   pub shop : IsTrue (is_shop k.class) → k.machines ≡ 2
   -- outside shops a job has one time, which is at least 1

@@ -2,8 +2,8 @@
 -- A row is a list of cells, one for each machine. A cell is the number of a job, from 1, or 0 where
 -- the machine is empty.
 -- A row past the end is empty, and so is a cell past the end of a row.
-use Rattle.std.specs.Prelude.{ℕ, ◌+◌, max, map, List, [], ◌∷◌, ◌==◌, ◌||◌, Bool, nat_lt, if◌then◌else◌, slice_index, slice_index_or}
-use Rattle.std.specs.List.{sum_by, count_by, range_with_len}
+use Rattle.std.specs.Prelude.{ℕ, ◌+◌, List, [], ◌∷◌, ◌==◌, ◌||◌, Bool, nat_lt, if◌then◌else◌, slice_index, slice_index_or}
+use Rattle.std.specs.List.{sum_by, count_by}
 
 abbrev pub Row : Type 0
 Row = List ℕ
@@ -20,8 +20,8 @@ abbrev pub cells_of : ℕ → Row → ℕ
 cells_of j row = count_by (λ c. c == j) row
 
 -- whether the row has the job in some cell
-abbrev pub has : ℕ → Row → Bool
-has j row = nat_lt 0 (cells_of j row)
+abbrev pub has_job : ℕ → Row → Bool
+has_job j row = nat_lt 0 (cells_of j row)
 
 -- the number of rows in which machine i works on job j
 abbrev pub units : Timetable → ℕ → ℕ → ℕ
@@ -35,13 +35,4 @@ all_units rows j = sum_by (cells_of j) rows
 abbrev pub completion : Timetable → ℕ → ℕ
 completion [] j = 0
 completion (row ∷ rows) j =
-    if has j row || nat_lt 0 (completion rows j) then completion rows j + 1 else 0
-
--- the greatest of the numbers, 0 if there are none
-abbrev pub greatest_of : List ℕ → ℕ
-greatest_of [] = 0
-greatest_of (x ∷ xs) = max x (greatest_of xs)
-
--- the makespan: the greatest completion of the jobs 1 to n
-abbrev pub makespan : ℕ → Timetable → ℕ
-makespan n rows = greatest_of (map (completion rows) (range_with_len 1 n))
+    if has_job j row || nat_lt 0 (completion rows j) then completion rows j + 1 else 0

@@ -1,6 +1,6 @@
 //! Classes of problems that are solved in one way, and which problem is of which.
-ghost use Rattle.std.specs.Prelude.{◌≡◌};
-ghost use Rattle.tf_model.specs.ClassTable.{class_of, single_class, parallel_class, shop_class};
+ghost use Rattle.std.specs.Prelude.{◌≡◌, ◌↔◌, Some};
+ghost use Rattle.tf_model.specs.ClassTable.{IsOfClass, class_of, single_class, parallel_class, shop_class};
 
 use crate::problem::{Env, Goal, Problem};
 
@@ -47,11 +47,13 @@ pub enum Class {
     PrmpOpenTwo,
 }
 
-/// The class of a problem, if it has one: its environment, exactly its conditions, and its
-/// objective. A shop has a class only with two machines, or where the notation does not say how
-/// many. It takes no memory.
+/// The class of a problem, if it is of one: the class whose notation has its environment, exactly
+/// its conditions, and its objective. A shop is of a class only with two machines, or where the
+/// notation does not say how many. It takes no memory.
+#[tactic(auto, using(crate::proofs::OfClass::determined))]
 pub fn class_of(problem: &Problem) -> Option<Class>
-    ensures { result ≡ class_of problem.now }
+    ensures value { result ≡ class_of problem.now }
+    ensures of { (c : Class) → (result ≡ Some c) ↔ IsOfClass problem.now c }
 {
     if problem.prmu || problem.nwt || problem.block || problem.rcrc {
         return None;

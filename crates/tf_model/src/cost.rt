@@ -29,8 +29,9 @@ pub trait Cost {
         ensures value { result ≡ cost_at self.now (as_time c) }
         ensures sound { IsCost self.now };
 
-    /// What completes later costs no less.
-    ghost law: { (cost : Self) (c e : ℕ) → IsCost cost → c ≤ e → cost_at cost c ≤ℤ cost_at cost e };
+    /// What completes later costs no less, up to [`LIMIT`].
+    ghost law: { (cost : Self) (c e : ℕ) → IsCost cost → c ≤ e → e ≤ limit →
+        cost_at cost c ≤ℤ cost_at cost e };
 }
 
 /// Lateness as a cost: the completion time minus the due date.
@@ -48,7 +49,7 @@ impl Cost for Late {
 
     ghost IsCost = { λ _. Unit {0} };
 
-    ghost law = { λ late c e _. late_law late.due c e };
+    ghost law = { λ late c e _ before _. late_law late.due c e before };
 
     fn value_at(&self, c: i64) -> i64 {
         c - self.due
@@ -136,7 +137,7 @@ impl<A: Allocator> Cost for StepCost<A> {
 
     ghost IsCost = { IsStepCost };
 
-    ghost law = { step_law };
+    ghost law = { λ s c e sound before _. step_law s c e sound before };
 
     fn value_at(&self, c: i64) -> i64 {
         value_of(self.base, &self.steps, c)

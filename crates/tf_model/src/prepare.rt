@@ -3,12 +3,12 @@ ghost use Rattle.std.specs.Prelude.{◌≡◌, ℕ, ◌+◌, ◌<◌, ◌≤◌,
 ghost use Rattle.std.specs.Option.{option_map, ForSome};
 ghost use Rattle.std.specs.List.{sum_by};
 ghost use Rattle.tf_model.specs.Whole.{as_time};
-ghost use Rattle.tf_model.specs.Timetable.{greatest_of};
 ghost use Rattle.tf_model.specs.StepFaults.{IsStepCost};
 ghost use Rattle.tf_model.specs.InstanceData.{IsInstance, first_with};
 ghost use Rattle.tf_model.specs.SchedulingTask.{SchedulingTask};
 ghost use Rattle.tf_model.specs.ClassTable.{is_shop, is_single, is_weighted, is_released, is_due, is_costed, is_ordered, is_sum};
-ghost use Rattle.tf_model.specs.Prepare.{is_too_many, machine_count, agreed, given, count_for, has_wrong_times, lacking, missing_from, has_zero_time, zero_time, data_of, cost_of, kept_costs, kept_arcs, task_of, work_of, is_too_large, jobs_refusal, prepared, Prepares, IsCountFor};
+ghost use Rattle.tf_model.specs.Prepare.{is_too_many, machines_for, agreed, given, count_for, has_wrong_times, lacking, missing_from, has_zero_time, zero_time, data_of, steps_of, kept_costs, kept_arcs, task_of, work_of, greatest_of, is_too_large, jobs_refusal, prepared, Prepares};
+ghost use Rattle.tf_model.specs.CountFor.{IsCountFor};
 ghost use Rattle.tf_model.specs.declared.prepare.Refusal.TheVariants.{OutOfMemory};
 
 use crate::class::{Class, class_of};
@@ -98,7 +98,7 @@ pub fn prepare<A: Allocator + Copy, B: Allocator>(
     if is_too_many(class, instance.len()) {
         return Err(Refusal::TooManyJobs);
     }
-    let machines = machine_count(class, problem.count, machines, instance.machines())?;
+    let machines = machines_for(class, problem.count, machines, instance.machines())?;
     if let Some(refusal) = jobs_refusal(class, instance.jobs()) {
         return Err(refusal);
     }
@@ -134,13 +134,13 @@ fn count_for(class: Class, m: u32) -> Result<u32, Refusal>
 }
 
 // The number of machines: a single machine ignores all that is given.
-fn machine_count(
+fn machines_for(
     class: Class,
     notation: Option<u32>,
     argument: Option<u32>,
     instance: Option<u32>,
 ) -> Result<u32, Refusal>
-    ensures { result ≡ machine_count class notation argument instance }
+    ensures { result ≡ machines_for class notation argument instance }
 {
     if class.is_single() {
         return Ok(1);
@@ -156,11 +156,11 @@ fn machine_count(
 fn has_wrong_times<A: Allocator>(class: Class, job: &Job<A>) -> bool
     ensures { result ≡ has_wrong_times class job.now }
 {
-    let is_two = match job.times {
+    let has_two = match job.times {
         Times::One(_) => false,
         Times::Two(_, _) => true,
     };
-    is_two != class.is_shop()
+    has_two != class.is_shop()
 }
 
 fn wrong_times_at<A: Allocator>(class: Class, jobs: &[Job<A>]) -> Option<usize>
@@ -337,8 +337,8 @@ fn rows_of<A: Allocator, B: Allocator>(
     Ok(rows)
 }
 
-fn cost_of<A: Allocator, B: Allocator>(alloc: A, job: &Job<B>) -> Result<StepCost<A>, AllocError>
-    ensures { IfOk result (λ cost. (cost ≡ cost_of job.now) × IsStepCost cost) }
+fn steps_of<A: Allocator, B: Allocator>(alloc: A, job: &Job<B>) -> Result<StepCost<A>, AllocError>
+    ensures { IfOk result (λ cost. (cost ≡ steps_of job.now) × IsStepCost cost) }
 {
     match &job.cost {
         Some(cost) => cost.copied(alloc),
@@ -351,11 +351,11 @@ fn costs_of<A: Allocator + Copy, B: Allocator>(
     jobs: &[Job<B>],
 ) -> Result<Vec<StepCost<A>, A>, AllocError>
     ensures { IfOk result
-        (λ costs. (costs.items ≡ map cost_of jobs.now) × All IsStepCost costs.items) }
+        (λ costs. (costs.items ≡ map steps_of jobs.now) × All IsStepCost costs.items) }
 {
     let mut costs = Vec::with_capacity(alloc, jobs.len())?;
     for job in jobs {
-        costs.push(cost_of(alloc, job)?)?;
+        costs.push(steps_of(alloc, job)?)?;
     }
     Ok(costs)
 }

@@ -15,7 +15,7 @@ use Rattle.tf_schedule.specs.declared.semi_active.Operation.{Operation}
 use Rattle.tf_schedule.proofs.OneOperation.{front_after, weighted_ends}
 use Rattle.tf_check.specs.declared.weighted_job.WeightedJob.{WeightedJob}
 use Rattle.tf_check.specs.Ratio.{IsOfTask, jobs_of}
-use Rattle.tf_multi.specs.Dealt.{dealt_from}
+use Rattle.tf_multi.specs.Dealing.{dealt_from}
 
 -- ---- each job counts once for itself and once for each later job on its machine
 

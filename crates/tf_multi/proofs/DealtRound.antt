@@ -35,7 +35,7 @@ use Rattle.tf_check.proofs.LaidAccepted.{laid_accepted}
 use Rattle.tf_check.proofs.NoFault.{no_list_fault}
 use Rattle.tf_check.proofs.RankedTimes.{ranks_within, ranks_fault_none}
 use Rattle.tf_check.proofs.RatioOrder.{jobs_falling}
-use Rattle.tf_multi.specs.Dealt.{dealt_from}
+use Rattle.tf_multi.specs.Dealing.{dealt_from}
 use Rattle.tf_multi.proofs.Dealing.{ends-dealt}
 
 -- ---- the operations

@@ -10,9 +10,11 @@ use Rattle.std.proofs.lemmas.Int.{ints}
 use Rattle.std.proofs.lemmas.Bool.{cases_lt, cases_eq}
 use Rattle.std.proofs.lemmas.Bool.Decides.{nat_tests}
 use Rattle.tf_schedule.specs.declared.piece.Piece.{Piece}
-use Rattle.tf_schedule.specs.Piece.{machine_of, piece_of, is_during, covers, runs, claims, places}
-use Rattle.tf_schedule.specs.Schedule.{ComesBefore, IsPiece, IsSchedule, JobsOnce}
-use Rattle.tf_schedule.specs.Drawing.{work, duration}
+use Rattle.tf_schedule.specs.Piece.{machine_of, piece_of, is_during, covers}
+use Rattle.tf_schedule.specs.Claims.{runs, claims, places, JobsOnce}
+use Rattle.tf_schedule.specs.Schedule.{ComesBefore, IsPiece, IsSchedule}
+use Rattle.tf_schedule.specs.Drawing.{duration}
+use Rattle.tf_schedule.specs.Amounts.{work}
 use Rattle.tf_schedule.proofs.Scan.{claimed_from_test}
 use Rattle.tf_schedule.proofs.Times.{sound_times, time_le_back}
 use Rattle.tf_multi.specs.Fill.{IsPlaced, IsFilled}

@@ -2,9 +2,10 @@
 use Rattle.std.specs.Prelude.{◌≡◌, ℕ, ◌+◌, ◌*◌, ◌<◌, ◌≤◌, List}
 use Rattle.std.specs.List.{All, sum_by, range_with_len}
 use Rattle.tf_schedule.specs.declared.piece.Piece.{Piece}
-use Rattle.tf_schedule.specs.Piece.{as_time, claims, places}
-use Rattle.tf_schedule.specs.Schedule.{IsPiece, IsSchedule, JobsOnce}
-use Rattle.tf_schedule.specs.Drawing.{work}
+use Rattle.tf_schedule.specs.Piece.{as_time}
+use Rattle.tf_schedule.specs.Claims.{claims, places, JobsOnce}
+use Rattle.tf_schedule.specs.Schedule.{IsPiece, IsSchedule}
+use Rattle.tf_schedule.specs.Amounts.{work}
 
 -- the piece is of one of the jobs 1 to n, ends by v, and lies before time t of machine i
 pub record IsPlaced (v n i t : ℕ) (p : Piece) : Type 0 where

@@ -2,6 +2,7 @@
 pub mod Longest
 pub mod Dealt
 -- within the crate
+pub mod Dealing
 pub mod Fill
 pub mod TwoMachines
 pub mod OpenShop

@@ -4,7 +4,8 @@ ghost use Rattle.tf_model.specs.ClassTable.{is_parallel, is_sum};
 ghost use Rattle.tf_schedule.specs.Schedule.{IsSchedule};
 ghost use Rattle.tf_check.specs.Accepted.{IsAccepted};
 ghost use Rattle.tf_check.specs.Ratio.{jobs_of};
-ghost use Rattle.tf_multi.specs.Dealt.{dealt_from, IsReverseRanks};
+ghost use Rattle.tf_multi.specs.Dealt.{IsReverseRanks};
+ghost use Rattle.tf_multi.specs.Dealing.{dealt_from};
 
 use std::alloc::Allocator;
 use tf_check::answer::Answer;

@@ -5,7 +5,7 @@ use Rattle.std.specs.List.{find}
 use Rattle.std.specs.Option.{option_map, option_and_then}
 use Rattle.std.specs.Str.{bytes_eq}
 use Rattle.tf_words.specs.Number.{plain}
-use Rattle.tf_model.specs.declared.limit.TheConstants.{MOST_MACHINES}
+use Rattle.tf_model.specs.Limit.{most_machines}
 use Rattle.tf_model.specs.declared.problem.Env.{Env}
 use Rattle.tf_model.specs.declared.problem.Env.TheVariants.{Single, Parallel, Uniform, Unrelated, Flow, OpenShop, JobShop}
 use Rattle.tf_model.specs.declared.problem.Goal.{Goal}
@@ -53,7 +53,7 @@ abbrev pub count_of : List ℕ → Option (Option ℕ)
 count_of word =
     if bytes_eq word [] then Some None
     else if bytes_eq word (codes "m") then Some None
-    else option_map (λ count. Some count) (plain MOST_MACHINES word)
+    else option_map (λ count. Some count) (plain most_machines word)
 
 -- an environment and its count: '1', or a letter and what stands behind it
 abbrev pub environment : List ℕ → Option (Env × Option ℕ)

@@ -6,7 +6,8 @@ use Rattle.tf_read.specs.FlowShop.{flow_shop}
 use Rattle.tf_read.specs.FlowStage.{HasTaken}
 use Rattle.tf_read.specs.Said.{TextSays}
 
--- it is wanted what `says` says of a text, and `fed` was fed of it
+-- It is wanted what `says` says of a text, and `fed` was fed of it. A caller needs to know no more of
+-- this than that `new` gives it, `feed` keeps it, and `finish` uses it up.
 pub record HasFed {A : Type 0} (reader : FlowReader A) (says : TextSays) (fed : List ℕ) : Type 0
   where
     pub wanted : (text : List ℕ)

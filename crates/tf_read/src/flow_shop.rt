@@ -27,7 +27,8 @@ pub struct FlowReader<'a, A: Allocator = Global> {
 }
 
 impl<'a, A: Allocator + Copy> FlowReader<'a, A> {
-    ghost use Rattle.std.specs.Prelude.{List, [], ℕ};
+    ghost use Rattle.std.specs.Prelude.{◌≡◌, ◌<◌, List, [], ℕ, Err, length};
+    ghost use Rattle.tf_model.specs.declared.limit.TheConstants.{MOST_BYTES};
     ghost use Rattle.tf_read.specs.Said.{TextSays};
     ghost use Rattle.tf_read.specs.FlowReader.{HasFed};
 
@@ -47,8 +48,11 @@ impl<'a, A: Allocator + Copy> FlowReader<'a, A> {
     /// The instance that the text says, or its first fault, where no more is fed. It takes no
     /// memory; a growth that was refused as the text was fed is [`ReadFault::OutOfMemory`].
     pub fn finish(self) -> Result<Instance<A>, ReadFault>
-        ensures { (says : TextSays) (fed : List ℕ) → HasFed self.entry says fed →
+        ensures given { (says : TextSays) (fed : List ℕ) → HasFed self.entry says fed →
             Gives (λ i. i) result (says fed) }
+        // A text that is too long comes before a growth that was refused.
+        ensures too_long { (says : TextSays) (fed : List ℕ) → HasFed self.entry says fed →
+            MOST_BYTES < length fed → result ≡ Err ReadFault.TooLong }
     {
         if self.length.is_too_long() {
             return Err(ReadFault::TooLong);

@@ -44,14 +44,15 @@ fn refusal(jobs: u32, index: u32) -> Option<ReadFault>
 }
 
 impl<A: Allocator + Copy> WtReader<A> {
-    ghost use Rattle.std.specs.Prelude.{◌≡◌, List, [], ℕ, IfOk};
+    ghost use Rattle.std.specs.Prelude.{◌≡◌, List, [], ℕ, true, is_some, IfOk, IsOk};
     ghost use Rattle.tf_read.specs.Said.{TextSays};
     ghost use Rattle.tf_read.specs.WtReader.{HasFed};
 
     /// The reader of the instance of this index, from 1, where each has so many jobs. It makes all
     /// room that is needed, and none where no text has such an instance.
     pub fn new(alloc: A, jobs: u32, index: u32) -> Result<Self, OutOfMemory>
-        ensures { IfOk result (λ r. HasFed r (weighted_tardiness jobs index) []) }
+        ensures given { IfOk result (λ r. HasFed r (weighted_tardiness jobs index) []) }
+        ensures no_room { is_some (request_fault jobs index) ≡ true → IsOk result }
     {
         match refusal(jobs, index) {
             Some(fault) => Ok(WtReader::before(alloc, Err(fault))),

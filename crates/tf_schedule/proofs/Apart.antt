@@ -5,8 +5,9 @@ use Rattle.std.specs.List.{AllPairs}
 use Rattle.std.proofs.lemmas.Bool.{cases_lt}
 use Rattle.std.proofs.lemmas.List.{get_or_default}
 use Rattle.tf_schedule.specs.declared.piece.Piece.{Piece}
-use Rattle.tf_schedule.specs.Piece.{machine_of, job_of, covers, runs, claims, places}
-use Rattle.tf_schedule.specs.Schedule.{IsPiece, NoneTwice, JobsOnce}
+use Rattle.tf_schedule.specs.Piece.{machine_of, job_of, covers}
+use Rattle.tf_schedule.specs.Claims.{runs, claims, places, JobsOnce}
+use Rattle.tf_schedule.specs.Schedule.{IsPiece, NoneTwice}
 use Rattle.tf_schedule.specs.Drawing.{drawing, stop_of, IsGoing}
 use Rattle.tf_model.specs.Timetable.{cell}
 use Rattle.tf_schedule.proofs.Cells.{cell_exactly, on_some_machine}

@@ -6,9 +6,10 @@ use Rattle.std.proofs.lemmas.List.Sums.{sum_by-cons, get_or-le-sum_by}
 use Rattle.std.proofs.lemmas.Bool.{cases_lt}
 use Rattle.std.proofs.lemmas.Bool.Decides.{nat_tests}
 use Rattle.tf_schedule.specs.declared.piece.Piece.{Piece}
-use Rattle.tf_schedule.specs.Piece.{runs, places}
+use Rattle.tf_schedule.specs.Claims.{runs, places}
 use Rattle.tf_schedule.specs.Schedule.{IsPiece}
-use Rattle.tf_schedule.specs.Drawing.{greatest_stop, work, greatest_by, least_by, start_of, stop_of}
+use Rattle.tf_schedule.specs.Drawing.{greatest_stop, stop_of}
+use Rattle.tf_schedule.specs.Amounts.{work, greatest_by, least_by, start_of}
 use Rattle.tf_schedule.proofs.Times.{sound_times, time_le}
 use Rattle.tf_schedule.proofs.Counting.{sum_by-same, sum_by-none}
 use Rattle.tf_schedule.proofs.Drawing.{sum_places, last_stop_le}

@@ -16,9 +16,11 @@ use Rattle.tf_model.proofs.Costs.{price-le-greatest, greatest_price_reached, ter
 use Rattle.tf_schedule.specs.declared.piece.Piece.{Piece}
 use Rattle.tf_schedule.specs.Piece.{covers}
 use Rattle.tf_schedule.specs.Schedule.{IsSchedule, IsPiece, NoneTwice}
-use Rattle.tf_schedule.specs.Drawing.{drawing, last_stop, greatest_by, start_of, stop_of, IsOnMachine}
+use Rattle.tf_schedule.specs.Drawing.{drawing, stop_of, IsOnMachine}
+use Rattle.tf_schedule.specs.Amounts.{last_stop, greatest_by, start_of}
 use Rattle.tf_schedule.specs.Misfit.{IsKnown}
-use Rattle.tf_schedule.specs.Cost.{is_known, known_pieces, total_to, with_stop}
+use Rattle.tf_schedule.specs.Cost.{is_known, known_pieces}
+use Rattle.tf_schedule.specs.Stops.{total_to, with_stop}
 use Rattle.tf_schedule.proofs.Times.{sound_times}
 use Rattle.tf_schedule.proofs.Filters.{sum_by-filter-le}
 use Rattle.tf_schedule.proofs.Drawing.{completion-drawing}

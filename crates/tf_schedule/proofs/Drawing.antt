@@ -8,10 +8,13 @@ use Rattle.std.proofs.lemmas.List.Elements.{All-tail}
 use Rattle.std.proofs.lemmas.Bool.{cases_lt}
 use Rattle.std.proofs.lemmas.Bool.Decides.{nat_tests}
 use Rattle.tf_schedule.specs.declared.piece.Piece.{Piece}
-use Rattle.tf_schedule.specs.Piece.{machine_of, as_time, is_during, covers, runs, claims, places}
+use Rattle.tf_schedule.specs.Piece.{machine_of, as_time, is_during, covers}
+use Rattle.tf_schedule.specs.Claims.{runs, claims, places}
 use Rattle.tf_schedule.specs.Schedule.{NoneTwice}
-use Rattle.tf_model.specs.Timetable.{Row, Timetable, cell, cells_of, units, all_units, completion, greatest_of, makespan}
-use Rattle.tf_schedule.specs.Drawing.{job_at, greatest_stop, drawing, duration, work_on, work, last_stop, IsOnMachine}
+use Rattle.tf_model.specs.Timetable.{Row, Timetable, cell, cells_of, units, all_units, completion}
+use Rattle.tf_model.specs.Prepare.{greatest_of}
+use Rattle.tf_schedule.specs.Drawing.{job_at, greatest_stop, drawing, duration, IsOnMachine}
+use Rattle.tf_schedule.specs.Amounts.{work_on, work, last_stop}
 use Rattle.tf_schedule.proofs.Scan.{claimed_from_test}
 use Rattle.tf_schedule.proofs.Counting.{sum_by-same, sum_by-split, sum_by-none, sum_by-map, count_interval, sum_single_in}
 
@@ -418,7 +421,11 @@ stop_le_last (p ∷ ps) (suc k) d h =
     later_step true h = omega arith
     later_step false h = h
 
--- the greatest completion is the greatest stop
+-- the greatest completion of the jobs 1 to n
+abbrev pub makespan : ℕ → Timetable → ℕ
+makespan n rows = greatest_of (map (completion rows) (range_with_len 1 n))
+
+-- it is the greatest stop
 pub makespan-drawing : (m n : ℕ) (ps : List Piece) → NoneTwice ps → All (IsOnMachine m) ps
     → All (λ p. as_time p.start < as_time p.stop) ps → All (λ p. (0 < p.job) × (p.job ≤ n)) ps
     → makespan n (drawing m ps) ≡ greatest_stop ps

@@ -10,7 +10,8 @@ use Rattle.tf_schedule.specs.declared.fit.Misfit.{Misfit}
 use Rattle.tf_schedule.specs.declared.fit.Misfit.TheVariants.{Stranger, JobTwice, WrongAmount, Broken, TooEarly, OutOfOrder, OutOfMemory}
 use Rattle.tf_schedule.specs.Piece.{as_time}
 use Rattle.tf_schedule.specs.Schedule.{IsSchedule}
-use Rattle.tf_schedule.specs.Drawing.{drawing, start_of, IsOnMachine}
+use Rattle.tf_schedule.specs.Drawing.{drawing, IsOnMachine}
+use Rattle.tf_schedule.specs.Amounts.{start_of}
 use Rattle.tf_schedule.specs.Misfit.{IsKnown, IsKept, HasFirstMisfit}
 use Rattle.tf_schedule.proofs.Times.{sound_times}
 use Rattle.tf_schedule.proofs.Transport.{element}

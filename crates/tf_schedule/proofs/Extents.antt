@@ -9,9 +9,11 @@ use Rattle.std.proofs.lemmas.Bool.Decides.{nat_tests}
 use Rattle.std.proofs.Common.{pos}
 use Rattle.tf_schedule.specs.declared.piece.Piece.{Piece}
 use Rattle.tf_schedule.specs.declared.extent.Extent.{Extent}
-use Rattle.tf_schedule.specs.Piece.{places, machine_of}
-use Rattle.tf_schedule.specs.Schedule.{IsPiece, JobsOnce}
-use Rattle.tf_schedule.specs.Drawing.{work, duration, greatest_stop, greatest_by, least_by, start_of, stop_of}
+use Rattle.tf_schedule.specs.Piece.{machine_of}
+use Rattle.tf_schedule.specs.Claims.{places, JobsOnce}
+use Rattle.tf_schedule.specs.Schedule.{IsPiece}
+use Rattle.tf_schedule.specs.Drawing.{duration, greatest_stop, stop_of}
+use Rattle.tf_schedule.specs.Amounts.{work, greatest_by, least_by, start_of}
 use Rattle.tf_schedule.specs.Extent.{no_extent, extended, extent_of, HasExtents}
 use Rattle.tf_schedule.proofs.Times.{time_le}
 use Rattle.tf_schedule.proofs.Drawing.{sum_places, greatest_stop_le}

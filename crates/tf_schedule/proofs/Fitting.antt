@@ -11,8 +11,10 @@ use Rattle.tf_model.specs.Timetable.{cell, all_units}
 use Rattle.tf_model.specs.Feasible.{Fits}
 use Rattle.tf_schedule.specs.declared.piece.Piece.{Piece}
 use Rattle.tf_schedule.specs.Piece.{machine_of}
-use Rattle.tf_schedule.specs.Schedule.{IsSchedule, IsPiece, JobsOnce}
-use Rattle.tf_schedule.specs.Drawing.{drawing, work, greatest_by, least_by, start_of, stop_of, IsOnMachine}
+use Rattle.tf_schedule.specs.Schedule.{IsSchedule, IsPiece}
+use Rattle.tf_schedule.specs.Claims.{JobsOnce}
+use Rattle.tf_schedule.specs.Drawing.{drawing, stop_of, IsOnMachine}
+use Rattle.tf_schedule.specs.Amounts.{work, greatest_by, least_by, start_of}
 use Rattle.tf_schedule.specs.Misfit.{EachJob, IsKnown, HasAmount, IsWhole, IsReleased, IsKept, IsInFlow, AllOnce, AllReleased}
 use Rattle.tf_schedule.proofs.Times.{sound_times}
 use Rattle.tf_schedule.proofs.Drawing.{all_units-drawing, width-drawing, jobs-drawing, single_place-drawing}

@@ -11,10 +11,12 @@ use Rattle.std.proofs.lemmas.Bool.{cases_eq}
 use Rattle.std.proofs.lemmas.Bool.Decides.{nat_tests}
 use Rattle.tf_schedule.specs.declared.piece.Piece.{Piece}
 use Rattle.tf_schedule.specs.Piece.{machine_of, job_of, piece_of}
-use Rattle.tf_schedule.specs.Drawing.{work_on, work, duration, greatest_stop, start_of, stop_of}
+use Rattle.tf_schedule.specs.Drawing.{duration, greatest_stop, stop_of}
+use Rattle.tf_schedule.specs.Amounts.{work_on, work, start_of}
 use Rattle.tf_schedule.proofs.Drawing.{greatest_stop_push}
 use Rattle.tf_schedule.specs.declared.semi_active.Operation.{Operation}
-use Rattle.tf_schedule.specs.SemiActive.{line_stop, machine_stop, job_stop, stretch, start_after, with_operation, laid, IsOperation, HasStopsBy}
+use Rattle.tf_schedule.specs.SemiActive.{line_stop, machine_stop, job_stop, stretch, start_after, with_operation, laid, IsOperation}
+use Rattle.tf_schedule.specs.Stops.{HasStopsBy}
 
 -- ---- the stops of a line
 module _ (line : Piece → ℕ) where

@@ -7,7 +7,8 @@ use Rattle.std.proofs.lemmas.Int.{ints}
 use Rattle.std.proofs.lemmas.Bool.{cases_lt}
 use Rattle.std.proofs.lemmas.Bool.Decides.{nat_tests}
 use Rattle.tf_schedule.specs.declared.piece.Piece.{Piece}
-use Rattle.tf_schedule.specs.Piece.{machine_of, as_time, covers, claims, has_started}
+use Rattle.tf_schedule.specs.Piece.{machine_of, as_time, covers}
+use Rattle.tf_schedule.specs.Claims.{claims, has_started}
 use Rattle.tf_schedule.specs.Schedule.{IsPiece, ComesBefore, IsSchedule}
 use Rattle.tf_schedule.specs.Drawing.{job_at}
 use Rattle.std.proofs.lemmas.List.{get_or_default}

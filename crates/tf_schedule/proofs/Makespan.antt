@@ -7,10 +7,11 @@ use Rattle.std.proofs.lemmas.List.FromFn.{length-range_with_len}
 use Rattle.tf_model.specs.Cost.{Makespan, objective_of, price_by, cost, cost_by}
 use Rattle.tf_model.specs.SchedulingTask.{SchedulingTask, IsJob, all_jobs}
 use Rattle.tf_model.specs.Sound.{IsSound}
-use Rattle.tf_model.specs.Timetable.{Timetable, completion, greatest_of, makespan}
+use Rattle.tf_model.specs.Timetable.{Timetable, completion}
+use Rattle.tf_model.specs.Prepare.{greatest_of}
 use Rattle.tf_model.proofs.Costs.{All-all_jobs, greatest_price_reached}
 use Rattle.tf_model.proofs.Loads.{price-le-cost, latest}
-use Rattle.tf_schedule.proofs.Drawing.{greatest_of_range_ge}
+use Rattle.tf_schedule.proofs.Drawing.{makespan, greatest_of_range_ge}
 
 greatest_of-map-le : (f : ℕ → ℕ) (v : ℕ) (xs : List ℕ) → All (λ x. f x ≤ v) xs
     → greatest_of (map f xs) ≤ v

@@ -23,7 +23,8 @@ use Rattle.tf_model.proofs.Work.{IsDistinct, distinct_apart}
 use Rattle.tf_schedule.specs.declared.piece.Piece.{Piece}
 use Rattle.tf_schedule.specs.declared.semi_active.Operation.{Operation}
 use Rattle.tf_schedule.specs.Piece.{machine_of, job_of}
-use Rattle.tf_schedule.specs.Drawing.{drawing, last_stop, stop_of}
+use Rattle.tf_schedule.specs.Drawing.{drawing, stop_of}
+use Rattle.tf_schedule.specs.Amounts.{last_stop}
 use Rattle.tf_schedule.specs.SemiActive.{machine_stop, job_stop, stretch, start_after, with_operation, laid}
 use Rattle.tf_schedule.proofs.Counting.{sum_by-map, sum_range-same, sum_single_in}
 use Rattle.tf_schedule.proofs.Drawing.{completion-drawing}

@@ -8,7 +8,8 @@ use Rattle.std.proofs.lemmas.List.{get_or_default}
 use Rattle.std.proofs.lemmas.List.Elements.{All-tail}
 use Rattle.std.proofs.lemmas.Bool.{cases_lt}
 use Rattle.tf_schedule.specs.declared.piece.Piece.{Piece}
-use Rattle.tf_schedule.specs.Piece.{machine_of, as_time, covers, claims}
+use Rattle.tf_schedule.specs.Piece.{machine_of, as_time, covers}
+use Rattle.tf_schedule.specs.Claims.{claims}
 use Rattle.tf_schedule.specs.Schedule.{NoneTwice}
 use Rattle.tf_model.specs.Timetable.{Timetable, cell}
 use Rattle.tf_schedule.specs.Drawing.{job_at, greatest_stop, drawing, Draws, IsOnMachine}

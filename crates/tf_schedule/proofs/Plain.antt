@@ -9,8 +9,10 @@ use Rattle.tf_model.specs.Feasible.{Fits}
 use Rattle.tf_schedule.specs.declared.piece.Piece.{Piece}
 use Rattle.tf_schedule.specs.declared.extent.Extent.{Extent}
 use Rattle.tf_schedule.specs.declared.fit.Misfit.TheVariants.{WrongAmount, Broken, TooEarly, OutOfOrder}
-use Rattle.tf_schedule.specs.Schedule.{IsSchedule, JobsOnce}
-use Rattle.tf_schedule.specs.Drawing.{drawing, greatest_by, stop_of}
+use Rattle.tf_schedule.specs.Schedule.{IsSchedule}
+use Rattle.tf_schedule.specs.Claims.{JobsOnce}
+use Rattle.tf_schedule.specs.Drawing.{drawing, stop_of}
+use Rattle.tf_schedule.specs.Amounts.{greatest_by}
 use Rattle.tf_schedule.specs.Extent.{no_extent, extent_at, extent_of, HasExtents, IsDone, IsSolidOnOne, StartsReleased, StartsAfter}
 use Rattle.tf_schedule.specs.Misfit.{EachJob, IsSmallestNot, IsFirstNot, IsKnown, HasAmount, IsWhole, IsReleased, IsKept, AllFull, AllWhole, AllReleased, HasFirstMisfit}
 use Rattle.tf_schedule.proofs.Transport.{each_by, smallest_by, all_by, first_by}

@@ -9,7 +9,8 @@ use Rattle.std.proofs.lemmas.List.{get_or-drop, take_all, get_or_default}
 use Rattle.std.proofs.lemmas.Int.{ints}
 use Rattle.std.proofs.lemmas.Bool.Decides.{nat_tests}
 use Rattle.tf_schedule.specs.declared.piece.Piece.{Piece}
-use Rattle.tf_schedule.specs.Piece.{as_time, covers_by, claims_by, OverlapBy}
+use Rattle.tf_schedule.specs.Piece.{as_time, covers_by, claims_by}
+use Rattle.tf_schedule.specs.Claims.{OverlapBy}
 use Rattle.tf_schedule.specs.Line.{StartsFirstClashBy}
 use Rattle.tf_schedule.specs.Schedule.{ComesBeforeBy, IsPiece, NoneTwiceBy, IsFirstClashBy}
 use Rattle.tf_schedule.proofs.Counting.{count_none}

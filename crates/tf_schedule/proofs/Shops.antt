@@ -12,9 +12,10 @@ use Rattle.tf_model.specs.Feasible.{Fits}
 use Rattle.tf_schedule.specs.declared.piece.Piece.{Piece}
 use Rattle.tf_schedule.specs.declared.extent.Extent.{Extent}
 use Rattle.tf_schedule.specs.declared.fit.Misfit.TheVariants.{WrongAmount, Broken, OutOfOrder}
-use Rattle.tf_schedule.specs.Piece.{runs}
-use Rattle.tf_schedule.specs.Schedule.{IsSchedule, IsPiece, JobsOnce}
-use Rattle.tf_schedule.specs.Drawing.{drawing, duration, work, work_on, pieces_on, greatest_by, least_by, start_of, stop_of}
+use Rattle.tf_schedule.specs.Claims.{runs, JobsOnce}
+use Rattle.tf_schedule.specs.Schedule.{IsSchedule, IsPiece}
+use Rattle.tf_schedule.specs.Drawing.{drawing, duration, stop_of}
+use Rattle.tf_schedule.specs.Amounts.{work, work_on, pieces_on, greatest_by, least_by, start_of}
 use Rattle.tf_schedule.specs.Extent.{extent_at, extent_of, HasExtents, IsDoneInShop, IsSolidInShop, StartsInFlow}
 use Rattle.tf_schedule.specs.Misfit.{EachJob, IsSmallestNot, IsKnown, HasAmount, IsWhole, IsKept, IsInFlow, AllFull, AllWhole, AllReleased, HasFirstMisfit}
 use Rattle.tf_schedule.proofs.Counting.{sum_by-same}

@@ -4,7 +4,8 @@ use Rattle.std.specs.List.{sum_by, range_with_len}
 use Rattle.tf_model.specs.SchedulingTask.{SchedulingTask, job_data}
 use Rattle.tf_model.specs.Cost.{cost}
 use Rattle.tf_schedule.specs.declared.piece.Piece.{Piece}
-use Rattle.tf_schedule.specs.Drawing.{drawing, last_stop, stop_of}
+use Rattle.tf_schedule.specs.Drawing.{drawing, stop_of}
+use Rattle.tf_schedule.specs.Amounts.{last_stop}
 
 -- whether the piece names a job and a machine of the task
 abbrev pub is_known : SchedulingTask → Piece → Bool
@@ -19,18 +20,3 @@ known_pieces k ps = filter (is_known k) ps
 -- what the timetable costs that they draw
 abbrev pub schedule_cost : SchedulingTask → List Piece → ℤ
 schedule_cost k ps = cost k (drawing k.machines (known_pieces k ps))
-
--- ---- sums over some of the jobs
-
--- the weighted sum of the last stops of the jobs 1 to n
-abbrev pub total_to : SchedulingTask → List Piece → ℕ → ℕ
-total_to k ps n = sum_by (λ j. (job_data k j).weight * last_stop ps j) (range_with_len 1 n)
-
--- the list has the last stops of the jobs from first + 1 on
-abbrev pub HasStops : List Piece → ℕ → List ℕ → Type 0
-HasStops ps first stops = (i : ℕ) → i < length stops
-    → slice_index stops i ≡ last_stop ps (first + i + 1)
-
--- the last stop of job j with one more piece
-abbrev pub with_stop : SchedulingTask → Piece → ℕ → ℕ → ℕ
-with_stop k p j stop = if is_known k p && (p.job == j) then max (stop_of p) stop else stop

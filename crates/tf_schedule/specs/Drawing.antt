@@ -27,35 +27,8 @@ drawing m ps =
 abbrev pub duration : Piece → ℕ
 duration p = as_time p.stop - as_time p.start
 
--- how long the pieces of job j are on machine i, counted from 1, and on all machines
-abbrev pub work_on : List Piece → ℕ → ℕ → ℕ
-work_on ps j i = sum_by (λ p. if (p.job == j) && (p.machine == i) then duration p else 0) ps
-
-abbrev pub work : List Piece → ℕ → ℕ
-work ps j = sum_by (λ p. if p.job == j then duration p else 0) ps
-
--- the pieces on machine i
-abbrev pub pieces_on : ℕ → List Piece → List Piece
-pieces_on i ps = filter (λ p. p.machine == i) ps
-
--- the greatest and the least that f gives at the pieces of job j: 0 and the limit where it has none
-abbrev pub greatest_by : (Piece → ℕ) → List Piece → ℕ → ℕ
-greatest_by f [] j = 0
-greatest_by f (p ∷ ps) j = if p.job == j then max (f p) (greatest_by f ps j) else greatest_by f ps j
-
-abbrev pub least_by : (Piece → ℕ) → List Piece → ℕ → ℕ
-least_by f [] j = limit
-least_by f (p ∷ ps) j = if p.job == j then min (f p) (least_by f ps j) else least_by f ps j
-
-abbrev pub start_of : Piece → ℕ
-start_of p = as_time p.start
-
 abbrev pub stop_of : Piece → ℕ
 stop_of p = as_time p.stop
-
--- the greatest stop of the pieces of job j, 0 where it has none
-abbrev pub last_stop : List Piece → ℕ → ℕ
-last_stop = greatest_by stop_of
 
 -- the piece names one of the machines 1 to m
 abbrev pub IsOnMachine : ℕ → Piece → Type 0

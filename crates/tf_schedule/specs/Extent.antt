@@ -5,7 +5,8 @@ use Rattle.tf_model.specs.SchedulingTask.{JobData, no_job}
 use Rattle.tf_schedule.specs.declared.piece.Piece.{Piece}
 use Rattle.tf_schedule.specs.declared.extent.Extent.{Extent}
 use Rattle.tf_schedule.specs.Piece.{machine_of}
-use Rattle.tf_schedule.specs.Drawing.{duration, work, greatest_by, least_by, start_of, stop_of}
+use Rattle.tf_schedule.specs.Drawing.{duration, stop_of}
+use Rattle.tf_schedule.specs.Amounts.{work, greatest_by, least_by, start_of}
 
 -- of a job without pieces: no work, from the limit to 0
 abbrev pub no_extent : Extent

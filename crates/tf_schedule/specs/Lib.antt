@@ -5,6 +5,11 @@ pub mod Drawing
 pub mod SemiActive
 pub mod Misfit
 pub mod Cost
+-- for the proofs of this crate and of those above it
+pub mod Claims
+pub mod Amounts
 -- within the crate
+pub mod Stops
+pub mod Smallest
 pub mod Line
 pub mod Extent

@@ -27,10 +27,6 @@ pub record IsSmallestNot (n : ℕ) (P : ℕ → Type 0) (j : ℕ) : Type 0 where
   pub fails : ¬ (P j)
   pub smaller : (h : ℕ) → 1 ≤ h → h < j → P h
 
--- P holds of each, or this is the smallest job of which it does not
-abbrev pub FindsSmallestNot : ℕ → (ℕ → Type 0) → Option ℕ → Type 0
-FindsSmallestNot n P found = MatchOption found (EachJob n P) (IsSmallestNot n P)
-
 -- ---- what is asked of the pieces
 
 -- the piece names a job and a machine of the task

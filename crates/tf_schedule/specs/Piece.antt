@@ -22,10 +22,6 @@ IsNotEmpty p = p.start <ℤ p.stop
 abbrev pub is_during : ℕ → Piece → Bool
 is_during t p = nat_le (as_time p.start) t && nat_lt t (as_time p.stop)
 
--- the piece starts at or before time z of machine i
-abbrev pub has_started : ℕ → ℤ → Piece → Bool
-has_started i z p = nat_lt p.machine i || ((p.machine == i) && int_le p.start z)
-
 -- ---- A piece lies on a line, which is its machine or its job.
 
 abbrev pub machine_of : Piece → ℕ
@@ -42,20 +38,6 @@ covers_by line n t p = (line p == n) && is_during t p
 abbrev pub claims_by : (Piece → ℕ) → List Piece → ℕ → ℕ → ℕ
 claims_by line ps n t = count_by (covers_by line n t) ps
 
--- q starts before p ends, on the same line
-abbrev pub OverlapBy : (Piece → ℕ) → Piece → Piece → Type 0
-OverlapBy line p q = (line p ≡ line q) × (q.start <ℤ p.stop)
-
--- the piece claims the cell of machine i at time t, and how many pieces do
+-- the piece claims the cell of machine i at time t
 abbrev pub covers : ℕ → ℕ → Piece → Bool
 covers = covers_by machine_of
-
-abbrev pub claims : List Piece → ℕ → ℕ → ℕ
-claims = claims_by machine_of
-
--- the piece runs job j at time t, and how many pieces do
-abbrev pub runs : ℕ → ℕ → Piece → Bool
-runs = covers_by job_of
-
-abbrev pub places : List Piece → ℕ → ℕ → ℕ
-places = claims_by job_of

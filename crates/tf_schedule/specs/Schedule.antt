@@ -32,10 +32,6 @@ ComesBefore = ComesBeforeBy machine_of
 abbrev pub NoneTwice : List Piece → Type 0
 NoneTwice = NoneTwiceBy machine_of
 
--- no job runs in two places at once
-abbrev pub JobsOnce : List Piece → Type 0
-JobsOnce = NoneTwiceBy job_of
-
 -- machine i is claimed twice at time t, no smaller machine is, and this one not earlier
 abbrev pub IsFirstClash : List Piece → ℕ → ℕ → Type 0
 IsFirstClash = IsFirstClashBy machine_of

@@ -41,8 +41,3 @@ laid operations = fold with_operation [] operations
 pub record IsOperation (n m : ℕ) (o : Operation) : Type 0 where
   pub job : (0 < o.job) × (o.job ≤ n)
   pub machine : (0 < o.machine) × (o.machine ≤ m)
-
--- the list has the stops of the lines from 1 on
-abbrev pub HasStopsBy : (Piece → ℕ) → List Piece → List ℕ → Type 0
-HasStopsBy line ps stops = (k : ℕ) → k < length stops
-    → slice_index stops k ≡ line_stop line ps (k + 1)

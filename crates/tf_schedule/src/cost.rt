@@ -10,7 +10,8 @@ ghost use Rattle.tf_schedule.specs.Piece.{as_time};
 ghost use Rattle.tf_schedule.specs.Schedule.{IsSchedule, IsPiece};
 ghost use Rattle.tf_schedule.specs.Drawing.{drawing, stop_of};
 ghost use Rattle.tf_schedule.specs.Misfit.{IsKnown};
-ghost use Rattle.tf_schedule.specs.Cost.{known_pieces, schedule_cost, total_to, with_stop, HasStops};
+ghost use Rattle.tf_schedule.specs.Cost.{known_pieces, schedule_cost};
+ghost use Rattle.tf_schedule.specs.Stops.{total_to, with_stop, HasStops};
 
 use crate::fit::is_known;
 use crate::piece::Piece;

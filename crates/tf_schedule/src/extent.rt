@@ -1,7 +1,8 @@
 //! When and where jobs work.
 ghost use Rattle.std.specs.Prelude.{◌≡◌, ◌+◌, ◌<◌, ◌≤◌, ◌^◌, IfOk};
 ghost use Rattle.std.specs.List.{All};
-ghost use Rattle.tf_schedule.specs.Schedule.{IsPiece, JobsOnce};
+ghost use Rattle.tf_schedule.specs.Schedule.{IsPiece};
+ghost use Rattle.tf_schedule.specs.Claims.{JobsOnce};
 ghost use Rattle.tf_schedule.specs.Drawing.{duration};
 ghost use Rattle.tf_schedule.specs.Extent.{HasExtents};
 

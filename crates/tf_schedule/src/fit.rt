@@ -6,10 +6,13 @@ ghost use Rattle.tf_model.specs.Timetable.{Timetable};
 ghost use Rattle.tf_model.specs.Feasible.{Fits};
 ghost use Rattle.tf_schedule.specs.Piece.{job_of};
 ghost use Rattle.tf_schedule.specs.Line.{StartsFirstClashBy};
-ghost use Rattle.tf_schedule.specs.Schedule.{ComesBefore, IsSchedule, IsPiece, JobsOnce};
-ghost use Rattle.tf_schedule.specs.Drawing.{Draws, drawing, pieces_on};
+ghost use Rattle.tf_schedule.specs.Schedule.{ComesBefore, IsSchedule, IsPiece};
+ghost use Rattle.tf_schedule.specs.Claims.{JobsOnce};
+ghost use Rattle.tf_schedule.specs.Drawing.{Draws, drawing};
+ghost use Rattle.tf_schedule.specs.Amounts.{pieces_on};
 ghost use Rattle.tf_schedule.specs.Extent.{HasExtents, IsDone, IsDoneInShop, IsSolidOnOne, IsSolidInShop, StartsReleased, StartsAfter, StartsInFlow};
-ghost use Rattle.tf_schedule.specs.Misfit.{EachJob, IsSmallestNot, FindsSmallestNot, IsFirstNot, IsKnown, HasFirstMisfit};
+ghost use Rattle.tf_schedule.specs.Misfit.{EachJob, IsSmallestNot, IsFirstNot, IsKnown, HasFirstMisfit};
+ghost use Rattle.tf_schedule.specs.Smallest.{FindsSmallestNot};
 ghost use Rattle.tf_schedule.specs.declared.fit.Misfit.TheVariants.{OutOfMemory};
 
 use crate::extent::{Extent, extents};

@@ -2,7 +2,7 @@
 ghost use Rattle.std.specs.Prelude.{◌≡◌, ◌↔◌, IsTrue, MatchOption};
 ghost use Rattle.std.specs.List.{All, AllPairs};
 ghost use Rattle.std.specs.List.Sorted.{IsPermutation};
-ghost use Rattle.tf_schedule.specs.Piece.{OverlapBy};
+ghost use Rattle.tf_schedule.specs.Claims.{OverlapBy};
 ghost use Rattle.tf_schedule.specs.Line.{line_of, StartsFirstClashBy};
 ghost use Rattle.tf_schedule.specs.Schedule.{ComesBeforeBy, IsPiece, NoneTwiceBy};
 

@@ -1,7 +1,8 @@
 //! Pieces of work.
 ghost use Rattle.std.specs.Prelude.{◌≡◌, ◌↔◌, IsTrue, pos, ◌≤ℤ◌, ◌==◌, ◌<◌, ◌≤◌};
 ghost use Rattle.tf_model.specs.Limit.{limit};
-ghost use Rattle.tf_schedule.specs.Piece.{IsInRange, covers, has_started, as_time, piece_of};
+ghost use Rattle.tf_schedule.specs.Piece.{IsInRange, covers, as_time, piece_of};
+ghost use Rattle.tf_schedule.specs.Claims.{has_started};
 ghost use Rattle.tf_schedule.specs.Schedule.{IsPiece};
 ghost use Rattle.tf_schedule.specs.Drawing.{duration};
 

@@ -4,7 +4,8 @@ ghost use Rattle.std.specs.List.{All, sum_by};
 ghost use Rattle.tf_model.specs.Limit.{limit};
 ghost use Rattle.tf_schedule.specs.Piece.{machine_of, job_of};
 ghost use Rattle.tf_schedule.specs.Drawing.{greatest_stop};
-ghost use Rattle.tf_schedule.specs.SemiActive.{laid, with_operation, IsOperation, HasStopsBy};
+ghost use Rattle.tf_schedule.specs.SemiActive.{laid, with_operation, IsOperation};
+ghost use Rattle.tf_schedule.specs.Stops.{HasStopsBy};
 
 use crate::piece::Piece;
 use std::alloc::Allocator;

@@ -22,7 +22,8 @@ use Rattle.tf_schedule.specs.declared.piece.Piece.{Piece}
 use Rattle.tf_schedule.specs.declared.semi_active.Operation.{Operation}
 use Rattle.tf_schedule.specs.Piece.{job_of}
 use Rattle.tf_schedule.specs.Schedule.{IsSchedule}
-use Rattle.tf_schedule.specs.Drawing.{drawing, last_stop, stop_of, greatest_stop}
+use Rattle.tf_schedule.specs.Drawing.{drawing, stop_of, greatest_stop}
+use Rattle.tf_schedule.specs.Amounts.{last_stop}
 use Rattle.tf_schedule.specs.SemiActive.{laid, with_operation, start_after, job_stop, IsOperation}
 use Rattle.tf_schedule.proofs.Apart.{starts_apart}
 use Rattle.tf_schedule.proofs.Drawing.{completion-drawing}

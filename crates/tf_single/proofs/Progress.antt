@@ -6,9 +6,11 @@ use Rattle.std.proofs.lemmas.List.Sums.{sum_by_push}
 use Rattle.std.proofs.lemmas.List.Elements.{All-head, All-tail, All-weaker, All-push, All-nil, All-contains, All-get_or, Contains-push}
 use Rattle.std.proofs.lemmas.List.Quantifiers.{all_pairs_push}
 use Rattle.tf_schedule.specs.declared.piece.Piece.{Piece}
-use Rattle.tf_schedule.specs.Piece.{as_time, covers, is_during, claims, places}
+use Rattle.tf_schedule.specs.Piece.{as_time, covers, is_during}
+use Rattle.tf_schedule.specs.Claims.{claims, places}
 use Rattle.tf_schedule.specs.Schedule.{IsPiece, IsSchedule, ComesBefore, NoneTwice}
-use Rattle.tf_schedule.specs.Drawing.{job_at, work, last_stop, duration, drawing, IsOnMachine, Draws}
+use Rattle.tf_schedule.specs.Drawing.{job_at, duration, drawing, IsOnMachine, Draws}
+use Rattle.tf_schedule.specs.Amounts.{work, last_stop}
 use Rattle.tf_schedule.proofs.Drawing.{cell-drawing, completion-drawing, all_units-drawing, width-drawing, jobs-drawing, single_place-drawing}
 use Rattle.tf_schedule.proofs.Counting.{count_none}
 use Rattle.tf_schedule.proofs.Cells.{cell_exactly, on_some_machine}

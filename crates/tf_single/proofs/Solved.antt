@@ -5,7 +5,8 @@ use Rattle.std.proofs.lemmas.Int.{ints}
 use Rattle.std.proofs.lemmas.List.Elements.{All-head, All-tail, All-weaker}
 use Rattle.tf_schedule.specs.declared.piece.Piece.{Piece}
 use Rattle.tf_schedule.specs.Piece.{as_time}
-use Rattle.tf_schedule.specs.Drawing.{last_stop, stop_of, drawing, Draws}
+use Rattle.tf_schedule.specs.Drawing.{stop_of, drawing, Draws}
+use Rattle.tf_schedule.specs.Amounts.{last_stop}
 use Rattle.tf_schedule.proofs.Drawing.{completion-drawing}
 use Rattle.tf_schedule.proofs.Busy.{greatest_reached, greatest_le}
 use Rattle.tf_model.specs.Limit.{limit}

@@ -141,7 +141,7 @@ module _ (k : SchedulingTask) (rows : Timetable) (sound : IsSound k) (fits : Fit
       let its : (job_data k j).due ≤ℤ (job_data k l).due =
       due_in_cell k rows sound fits single j t (job_data k l).due e
       (stretch.along t from until) in
-      absurd (stretch.before (s - 1) (omega arith)
+      absurd (stretch.before (omega arith)
       (record { busy = busy; urgent = omega (arith, ints) })))
       (λ le. le)
       (cases_lt (job_data k j).release s)
@@ -215,7 +215,11 @@ module _ (k : SchedulingTask) (rows : Timetable) (sound : IsSound k) (fits : Fit
             subst (λ i. (job_data k i).due ≤ℤ (job_data k l).due) (sym end.2) (omega (arith, ints));
       } in
       let from : s ≤ c =
-      ⊎_elim (λ lt. absurd (stretch.before c (omega (arith, stretch.order, end.1)) runs))
+      ⊎_elim
+      (λ lt.
+      let last : c ≡ s - 1 = omega (arith, stretch.order, end.1, lt) in
+      absurd (stretch.before (omega (arith, lt))
+      (subst (RunsDueBy k rows (job_data k l).due) last runs)))
       (λ le. le) (cases_lt c s) in
       subst (Contains (jobs_within k rows s (completion rows l))) end.2
       (runs_within c from (omega (arith, end.1)))

@@ -9,14 +9,13 @@ use Rattle.tf_model.specs.Sound.{IsSound}
 use Rattle.tf_model.specs.Steps.{Steps, no_steps, step_value}
 use Rattle.tf_model.specs.declared.cost.Late.{Late}
 use Rattle.tf_schedule.proofs.Prices.{costed_price, due_price}
-use Rattle.tf_single.specs.Backward.{AreCosts}
-use Rattle.tf_single.specs.Costs.{late_value}
+use Rattle.tf_single.specs.Costs.{AreCosts, late_value}
 
 pub steps_are : (k : SchedulingTask) → IsSound k → IsTrue (is_costed k.class)
     → AreCosts step_value k k.costs
 steps_are k sound costed = record {
   len = sound.costed costed;
-  each = λ j c d job.
+  each = λ j c d job within.
       ap (λ (s : Steps). step_value s c)
       (get_or_default k.costs (j - 1) d no_steps
       (omega (arith, job.0, job.1, sound.costed costed)))
@@ -29,7 +28,7 @@ pub lates_are : (k : SchedulingTask) → IsTrue (is_due k.class) → (lates : Li
     → AreCosts late_value k lates
 lates_are k due lates len dues = record {
   len = len;
-  each = λ j c d job.
+  each = λ j c d job within.
       let same : j - 1 + 1 ≡ j = omega (arith, job.0) in
       ap (λ z. pos c -ℤ z)
       (dues (j - 1) d (omega (arith, len, job.0, job.1)) ∙ ap (λ n. (job_data k n).due) same)

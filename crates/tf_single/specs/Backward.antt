@@ -1,10 +1,10 @@
 -- Orders that are built from the back, the last job first (Lawler 1973).
-use Rattle.std.specs.Prelude.{◌≡◌, ℕ, ◌-◌, ◌<◌, ℤ, slice_index_or, ◌≤ℤ◌, not, true, List, [], ◌∷◌, ◌++◌, length, take, slice_index, filter}
+use Rattle.std.specs.Prelude.{◌≡◌, ℕ, ◌<◌, ℤ, ◌≤ℤ◌, not, true, List, [], ◌∷◌, ◌++◌, length, take, slice_index, filter}
 use Rattle.std.specs.List.{All, Contains, sum_by}
 use Rattle.tf_model.specs.SchedulingTask.{SchedulingTask, IsJob, all_jobs, time_of}
 use Rattle.tf_model.specs.Bounds.{stands_in}
 use Rattle.tf_model.specs.Cost.{price}
-use Rattle.tf_model.proofs.Work.{IsDistinct}
+use Rattle.tf_model.specs.Distinct.{IsDistinct}
 use Rattle.tf_schedule.specs.declared.semi_active.Operation.{Operation}
 use Rattle.tf_check.specs.Bound.{is_free}
 
@@ -37,10 +37,3 @@ operation_of k j = record { job = j; machine = 1; time = time_of k j }
 abbrev pub backward : SchedulingTask → List ℕ → List Operation
 backward k [] = []
 backward k (j ∷ taken) = backward k taken ++ operation_of k j ∷ []
-
--- the costs are the task's, job by job
-pub record AreCosts {C : Type 0} (cost_at : C → ℕ → ℤ) (k : SchedulingTask) (costs : List C) : Type
-    0 where
-  pub len : length costs ≡ length k.jobs
-  pub each : (j c : ℕ) (d : C) → IsJob k j
-      → cost_at (slice_index_or costs (j - 1) d) c ≡ price k j c

@@ -1,9 +1,9 @@
 -- what a caller has to believe
 pub mod EarliestDue
-pub mod Backward
 pub mod LawlerFault
 pub mod Costs
 -- within the crate
+pub mod Backward
 pub mod Progress
 pub mod Agenda
 pub mod Ends

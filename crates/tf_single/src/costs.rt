@@ -2,8 +2,7 @@
 ghost use Rattle.std.specs.Prelude.{◌≡◌, ℕ, pos, ◌-ℤ◌, IfOk, IsTrue};
 ghost use Rattle.tf_model.specs.ClassTable.{is_costed, is_due};
 ghost use Rattle.tf_model.specs.Steps.{step_value};
-ghost use Rattle.tf_single.specs.Backward.{AreCosts};
-ghost use Rattle.tf_single.specs.Costs.{late_value};
+ghost use Rattle.tf_single.specs.Costs.{AreCosts, late_value};
 
 use std::alloc::Allocator;
 use tf_model::cost::{Late, StepCost};

@@ -1,7 +1,7 @@
 //! A cycle of arcs.
 ghost use Rattle.std.specs.Prelude.{◌≡◌, ◌≢◌, ◌⊎◌, ℕ, ◌<◌, Some, length, IfOk};
 ghost use Rattle.std.specs.List.{Contains};
-ghost use Rattle.tf_model.specs.Cycle.{IsCycle};
+ghost use Rattle.tf_model.specs.Cycle.{IsForbiddingCycle};
 ghost use Rattle.tf_model.specs.SchedulingTask.{IsJob};
 ghost use Rattle.tf_single.specs.Progress.{of_job};
 ghost use Rattle.tf_single.specs.Successors.{HasSuccessor, AreSuccessors};
@@ -24,7 +24,7 @@ pub(crate) fn cycle<A: Allocator + Copy, B: Allocator>(
     requires stuck { (j : ℕ) → IsJob task.now j → 0 < of_job counts.now j
         → (x : ℕ) × Contains task.now.arcs (j, x) × (0 < of_job counts.now x) }
     requires some { (j : ℕ) × IsJob task.now j × (0 < of_job counts.now j) }
-    ensures { IfOk result (λ jobs. IsCycle task.now jobs) }
+    ensures { IfOk result (λ jobs. IsForbiddingCycle task.now jobs) }
 {
     let next = successors(alloc, task, counts)?;
     walk(alloc, task, &next, first_left(task, counts))
@@ -87,7 +87,7 @@ fn walk<A: Allocator + Copy, B: Allocator>(
     requires successors { AreSuccessors task.now next.now }
     requires job { IsJob task.now first }
     requires first { HasSuccessor next.now first }
-    ensures { IfOk result (λ jobs. IsCycle task.now jobs) }
+    ensures { IfOk result (λ jobs. IsForbiddingCycle task.now jobs) }
 {
     let mut places: Vec<Option<usize>, A> = vec![in alloc; None; task.len()]?;
     let mut path = Vec::with_capacity(alloc, task.len())?;

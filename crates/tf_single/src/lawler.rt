@@ -10,7 +10,8 @@ ghost use Rattle.tf_schedule.specs.Schedule.{IsSchedule};
 ghost use Rattle.tf_check.specs.Accepted.{IsAccepted};
 ghost use Rattle.tf_check.specs.Free.{AreMarks};
 ghost use Rattle.tf_check.specs.Kinds.{takes_last_of};
-ghost use Rattle.tf_single.specs.Backward.{AreCosts, AreChosen, backward, rest_of, price_behind};
+ghost use Rattle.tf_single.specs.Backward.{AreChosen, backward, rest_of, price_behind};
+ghost use Rattle.tf_single.specs.Costs.{AreCosts};
 ghost use Rattle.tf_single.specs.LawlerFault.{HoldsCycle};
 
 use crate::backward::{cost_of, last_first, total_work};

@@ -1,4 +1,4 @@
-//! Readers and writers that remember a failure.
+//! Readers and writers that remember a failure, and readers that count what they gave.
 ghost use Rattle.std.specs.Prelude.{◌≡◌, ℕ, ◌<◌, ◌≤◌, true, false, length, take, OnOk, OnErr, IfOk, IsErr};
 ghost use Rattle.std.specs.Io.KnownBytes.{Keeps, Appends, Consumes, IsAtEnd};
 
@@ -10,25 +10,36 @@ use thiserror::Error;
 #[error("device fault")]
 pub struct Device;
 
-/// A reader or a writer, and whether it has failed. After a failure it is not called again.
+/// A reader or a writer, how many bytes were pulled from it, as far as 64 bits count, and whether it
+/// has failed. After a failure it is not called again.
 #[derive(Drop)]
 pub struct Counted<T> {
     inner: T,
+    pulled: u64,
     failed: bool,
 }
 
 impl<T> Counted<T> {
-    ghost use Rattle.tf_text.specs.Counted.{inner_of, has_failed};
+    ghost use Rattle.tf_text.specs.Counted.{inner_of, pulled_of, has_failed};
 
-    /// Wraps a reader or a writer that has not failed.
+    /// Wraps a reader or a writer that has not failed, and from which nothing was pulled.
     pub fn new(inner: T) -> Counted<T>
         ensures inner { inner_of result ≡ inner }
+        ensures unpulled { pulled_of result ≡ 0 }
         ensures unfailed { has_failed result ≡ false }
     {
         Counted {
             inner,
+            pulled: 0,
             failed: false,
         }
+    }
+
+    /// How many bytes were pulled. Beyond 64 bits it stays at the greatest number.
+    pub fn pulled(&self) -> u64
+        ensures { result ≡ pulled_of self.now }
+    {
+        self.pulled
     }
 
     /// Whether a call of the reader or the writer has failed.
@@ -47,7 +58,7 @@ impl<T> Counted<T> {
 }
 
 impl<R: Read> Counted<R> {
-    ghost use Rattle.tf_text.specs.Counted.{inner_of, has_failed};
+    ghost use Rattle.tf_text.specs.Counted.{inner_of, pulled_of, has_failed, CountsMore};
 
     /// Hands on the reader's next bytes, and tells how many. None in a slice that is not empty is
     /// the end. Every error of the reader counts as a failure, an interruption among them.
@@ -55,6 +66,9 @@ impl<R: Read> Counted<R> {
         ensures within { IfOk result (λ n. n ≤ length buf.new) }
         ensures bytes { IfOk result (λ n. Consumes (R.remaining (inner_of self.old))
             (R.remaining (inner_of self.new)) (take n buf.new)) }
+        ensures counted { IfOk result
+            (λ n. CountsMore n (pulled_of self.old) (pulled_of self.new)) }
+        ensures uncounted { OnErr result (pulled_of self.new ≡ pulled_of self.old) }
         ensures end { IfOk result (λ n. n ≡ 0 → 0 < length buf.new →
             IsAtEnd (R.remaining (inner_of self.new))) }
         ensures kept { OnErr result (Keeps (R.remaining (inner_of self.old))
@@ -68,7 +82,10 @@ impl<R: Read> Counted<R> {
             return Err(Device);
         }
         match self.inner.read(buf) {
-            Ok(n) => Ok(n),
+            Ok(n) => {
+                self.pulled = self.pulled.saturating_add(n as u64);
+                Ok(n)
+            }
             Err(_) => Err(self.fail()),
         }
     }
@@ -102,6 +119,3 @@ impl<W: Write> Counted<W> {
         Ok(())
     }
 }
-
-#[cfg(test)]
-mod tests;

@@ -1,7 +1,7 @@
 //! Whole texts from a reader.
 ghost use Rattle.std.specs.Prelude.{◌≡◌, ◌+◌, ◌<◌, ◌≤◌, true, false, length, OnOk, IfOk, OnErr, IfSome, IfErr, IsErr, IsErrOf};
 ghost use Rattle.std.specs.Io.KnownBytes.{IsAtEnd};
-ghost use Rattle.tf_text.specs.Counted.{inner_of, has_failed, ConsumesAtMost};
+ghost use Rattle.tf_text.specs.Counted.{inner_of, pulled_of, has_failed, ConsumesAtMost};
 ghost use Rattle.tf_text.specs.Input.{is_device, IsTextOf, Drains};
 ghost use Rattle.tf_text.specs.declared.input.InputFault.TheVariants.{Device as DeviceFault};
 
@@ -44,6 +44,7 @@ pub fn drain<R: Read, F: Feed>(reader: &mut Counted<R>, into: &mut F) -> Result<
     ensures taken { Drains F.Takes (R.remaining (inner_of reader.old))
         (R.remaining (inner_of reader.new))
         into.old into.new result }
+    ensures counted { pulled_of reader.new ≤ pulled_of reader.old + (MOST_BYTES + 1) }
     ensures unfailed { OnOk result (has_failed reader.new ≡ false) }
     ensures device { OnErr result (has_failed reader.new ≡ true) }
     ensures failed_before { has_failed reader.old ≡ true → IsErr result
@@ -110,6 +111,7 @@ pub fn read_all<A: Allocator, R: Read>(
     ensures device { IfErr result (λ e. has_failed reader.new ≡ is_device e) }
     ensures pulled { ConsumesAtMost (MOST_BYTES + 1) (R.remaining (inner_of reader.old))
         (R.remaining (inner_of reader.new)) }
+    ensures counted { pulled_of reader.new ≤ pulled_of reader.old + (MOST_BYTES + 1) }
     ensures failed_before { has_failed reader.old ≡ true →
         IsErrOf result InputFault.Device × (reader.new ≡ reader.old) }
 {
@@ -127,6 +129,3 @@ pub fn read_all<A: Allocator, R: Read>(
     }
     Ok(text)
 }
-
-#[cfg(test)]
-mod tests;

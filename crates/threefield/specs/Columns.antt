@@ -1,10 +1,18 @@
 -- How many columns a chart may have.
 use Rattle.std.specs.Prelude.{◌≤◌}
 use Rattle.tf_text.specs.declared.chart.TheConstants.{MOST_COLUMNS}
+use Rattle.threefield.specs.declared.options.Work.{Work as Asking}
+use Rattle.threefield.specs.declared.options.Work.TheVariants.{Solve, Check, Gantt}
 use Rattle.threefield.specs.declared.options.Asked.{Asked}
-use Rattle.threefield.specs.declared.options.Asked.TheVariants.{Gantt}
+use Rattle.threefield.specs.declared.options.Asked.TheVariants.{Work}
 
--- a drawing that is asked for has some columns, and no more than there is room for
+-- a drawing has some columns, and no more than there is room for
+abbrev pub HasWidth : Asking → Type 0
+HasWidth (Solve options layout) = Unit {0}
+HasWidth (Check options answer) = Unit {0}
+HasWidth (Gantt answer columns) = (1 ≤ columns) × (columns ≤ MOST_COLUMNS)
+
+-- the same of what a command line asks for
 abbrev pub HasColumns : Asked → Type 0
-HasColumns (Gantt answer columns) = (1 ≤ columns) × (columns ≤ MOST_COLUMNS)
+HasColumns (Work work) = HasWidth work
 HasColumns _ = Unit {0}

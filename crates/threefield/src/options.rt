@@ -1,15 +1,20 @@
 //! The command line.
-ghost use Rattle.std.specs.Prelude.{◌≤◌, IfErr, IfSome};
+ghost use Rattle.std.specs.Prelude.{◌≡◌, ◌≤◌, IfOk, IfErr};
+ghost use Rattle.tf_engine.specs.FormData.{form_of};
+ghost use Rattle.threefield.specs.Asking.{form_asked, requested};
 ghost use Rattle.threefield.specs.Columns.{HasColumns};
+ghost use Rattle.threefield.specs.OptionNumber.{numeral_in};
 
 use clap::error::ErrorKind;
 use clap::{Arg, ArgMatches, Command, Error};
 use std::alloc::{AllocError, Global};
+use tf_engine::request::{Form, Request};
+use tf_engine::text::Text;
 use tf_model::limit::{MOST_JOBS, MOST_MACHINES};
 use tf_text::answer::layout::Layout;
 use tf_text::chart::MOST_COLUMNS;
 use tf_words::digits::is_numeral;
-use tf_words::number::{Number, number_of};
+use tf_words::ranged::{Ranged, number_in};
 
 /// The problem and the instance that the words name.
 #[derive(Drop)]
@@ -34,15 +39,51 @@ pub enum FormOption<'a> {
     },
 }
 
-/// What the command line asks for.
+impl FormOption<'_> {
+    // The form of an instance text.
+    fn form(&self, alloc: Global) -> Result<Form, AllocError>
+        ensures { IfOk result (λ form. form_of form ≡ form_asked self.now) }
+    {
+        match *self {
+            FormOption::Table => Ok(Form::Table),
+            FormOption::Wt { jobs, index } => Ok(Form::Wt { jobs, index }),
+            FormOption::Flow { name, pair } => Ok(Form::Flow {
+                name: Text::new(String::from_str(alloc, name)?),
+                pair,
+            }),
+        }
+    }
+}
+
+impl Options<'_> {
+    /// What a run is asked for, with an answer in this version.
+    pub fn request(&self, alloc: Global, layout: Layout) -> Result<Request, AllocError>
+        ensures { IfOk result (λ request. request ≡ requested self.now layout) }
+    {
+        Ok(Request {
+            problem: Text::new(String::from_str(alloc, self.problem)?),
+            form: self.form.form(alloc)?,
+            machines: self.machines,
+            layout,
+        })
+    }
+}
+
+/// What a command line that is well formed asks for.
 #[derive(Drop)]
-pub enum Asked<'a> {
+pub enum Work<'a> {
     /// Solve, and print the answer in this version.
     Solve(Options<'a>, Layout),
     /// Judge the answer of this name.
     Check(Options<'a>, &'a str),
     /// Draw the answer of this name, in so many columns at most.
     Gantt { answer: &'a str, columns: u32 },
+}
+
+/// What the command line asks for.
+#[derive(Drop)]
+pub enum Asked<'a> {
+    Work(Work<'a>),
     /// Help, or the version.
     Help(Error),
     /// The command line is none of the program's.
@@ -171,7 +212,7 @@ pub fn understand<'a>(command: Command<'a>, words: &'a [String]) -> Asked<'a>
         Err(asked) => return asked,
     };
     if name == "solve" {
-        return Asked::Solve(options, layout_in(given));
+        return Asked::Work(Work::Solve(options, layout_in(given)));
     }
     match given.get_str("ANSWER") {
         None => Asked::NoMemory,
@@ -179,7 +220,7 @@ pub fn understand<'a>(command: Command<'a>, words: &'a [String]) -> Asked<'a>
             if answer == "-" && options.input == "-" {
                 return Asked::Unfit("INPUT and ANSWER cannot both be standard input");
             }
-            Asked::Check(options, answer)
+            Asked::Work(Work::Check(options, answer))
         }
     }
 }
@@ -199,7 +240,7 @@ fn gantt_in<'a>(given: &ArgMatches<'a>) -> Asked<'a>
         return Asked::NoMemory;
     };
     match number_within(word, 1, MOST_COLUMNS) {
-        Some(columns) => Asked::Gantt { answer, columns },
+        Some(columns) => Asked::Work(Work::Gantt { answer, columns }),
         None => Asked::Unfit("--columns takes a number from 1 to 1000"),
     }
 }
@@ -285,14 +326,14 @@ fn pair_in(word: &str) -> Option<(u32, u32)> {
 
 // A number of digits alone, within a range.
 fn number_within(word: &str, least: u32, most: u32) -> Option<u32>
-    ensures { IfSome result (λ n. (least ≤ n) × (n ≤ most)) }
+    ensures { result ≡ numeral_in least most word.now }
 {
     let digits = word.as_bytes();
     if !is_numeral(digits) {
         return None;
     }
-    match number_of(digits) {
-        Number::Value(n) if i64::from(least) <= n && n <= i64::from(most) => Some(n as u32),
+    match number_in(digits, i64::from(least), i64::from(most)) {
+        Ranged::Within(n) => Some(n as u32),
         _ => None,
     }
 }

@@ -3,7 +3,7 @@ mod judged;
 mod schedules;
 
 use super::{Checked, run_check};
-use crate::devices::{Feed, Sink};
+use crate::devices::Feed;
 use crate::examples::{Example, FOURS, ONES, headed, with_line};
 use crate::fault::RunFault;
 use crate::request::Request;
@@ -180,36 +180,5 @@ fn a_fault_of_the_instance_comes_before_the_second_reader(rt: HostRuntime) -> Re
     );
     assert!(rt; result == Err(RunFault::Text(ReadFault::BadLine(1))));
     assert!(rt; !answer.failed());
-    Ok(())
-}
-
-fn writer_fails(rt: &HostRuntime, text: &[u8], room: usize) -> Result<(), Fail> {
-    let request = request(rt, FOURS.problem)?;
-    let mut out = Vec::new(rt.alloc());
-    let mut instance = Counted::new(FOURS.table);
-    let mut answer = Counted::new(text);
-    let mut writer = Counted::new(Sink::new(&mut out, 3, room, ErrorKind::Interrupted));
-    let result = run_check(
-        rt.alloc(),
-        &request,
-        &mut instance,
-        &mut answer,
-        &mut writer,
-    );
-    ensure(result == Err(RunFault::Device), "another outcome")?;
-    ensure(writer.failed(), "another device")?;
-    drop(writer);
-    let is_prefix = out.len() == room && b"accepted\n".starts_with(&out);
-    ensure(is_prefix, "no prefix of the line")
-}
-
-#[test]
-fn a_writer_that_fails_after_any_byte(rt: HostRuntime) -> Result<(), Fail> {
-    for layout in LAYOUTS {
-        let text = headed(&rt, FOURS.answer, layout)?;
-        for room in 0..9 {
-            writer_fails(&rt, &text, room)?;
-        }
-    }
     Ok(())
 }

@@ -3,12 +3,10 @@ ghost use Rattle.std.specs.Prelude.{◌≤◌};
 ghost use Rattle.tf_text.specs.declared.chart.TheConstants.{MOST_COLUMNS};
 
 use super::run_gantt;
-use crate::devices::{Feed, Sink};
 use crate::examples::{BROKEN_OFF, DEALT, FLOW_IDLE, FOURS, headed};
 use crate::fault::RunFault;
 use crate::trial::ensure;
 use std::alloc::AllocError;
-use std::io::ErrorKind;
 use std::test::Fail;
 use tf_schedule::schedule::PieceFault;
 use tf_text::answer::fault::AnswerFault;
@@ -206,43 +204,4 @@ cert load
 end
 ";
     refuses(&rt, empty, RunFault::Pieces(PieceFault::EmptyPiece(1)))
-}
-
-/// A writer that takes so many bytes and then fails has a prefix of the chart.
-fn is_cut(rt: &HostRuntime, answer: &[u8], bytes: usize) -> Result<(), Fail> {
-    let mut out = Vec::new(rt.alloc());
-    let mut reader = Counted::new(answer);
-    let mut writer = Counted::new(Sink::new(&mut out, 7, bytes, ErrorKind::Other));
-    let result = run_gantt(rt.alloc(), &mut reader, &mut writer, 72);
-    ensure(result == Err(RunFault::Device), "another outcome")?;
-    drop(writer);
-    ensure(
-        out.len() == bytes && FOURS_DRAWN.starts_with(&out),
-        "no prefix of the chart",
-    )
-}
-
-#[test]
-fn a_writer_that_fails(rt: HostRuntime) -> Result<(), Fail> {
-    for layout in [Layout::One, Layout::Two] {
-        let answer = headed(&rt, FOURS.answer, layout)?;
-        for bytes in 0..FOURS_DRAWN.len() {
-            is_cut(&rt, &answer, bytes)?;
-        }
-    }
-    Ok(())
-}
-
-#[test]
-fn a_reader_that_fails(rt: HostRuntime) -> Result<(), Fail> {
-    let mut out = Vec::new(rt.alloc());
-    let mut feed = Feed::new(FOURS.answer)
-        .by(10)
-        .failing_at(3, ErrorKind::Other);
-    let mut reader = Counted::new(&mut feed);
-    let mut writer = Counted::new(&mut out);
-    let result = run_gantt(rt.alloc(), &mut reader, &mut writer, 72);
-    ensure(result == Err(RunFault::Device), "another outcome")?;
-    drop(writer);
-    ensure(out.is_empty(), "something was written")
 }

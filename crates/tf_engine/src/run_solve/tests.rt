@@ -1,10 +1,9 @@
 mod cycles;
-mod devices_that_fail;
+mod endless;
 mod faults_of_texts;
 mod forms;
 mod many_jobs;
 mod pieces;
-mod ranges;
 
 use super::run_solve;
 use crate::devices::Feed;

@@ -1,4 +1,4 @@
-use super::{Asked, FormOption, command, understand};
+use super::{Asked, FormOption, Work, command, understand};
 use std::alloc::AllocError;
 use std::test::Fail;
 use tf_text::answer::layout::Layout;
@@ -43,7 +43,7 @@ fn is_help(rt: &HostRuntime, line: &[&str]) -> Result<(), Fail> {
 fn solves_table(rt: &HostRuntime, line: &[&str], machines: Option<u32>) -> Result<(), Fail> {
     let words = words(rt, line)?;
     match understand(command(rt.alloc())?, words.as_slice()) {
-        Asked::Solve(options, _) => {
+        Asked::Work(Work::Solve(options, _)) => {
             ensure(matches!(options.form, FormOption::Table), "no table")?;
             ensure(options.machines == machines, "other machines")?;
             ensure(options.problem == "P||sumC", "another problem")?;
@@ -56,7 +56,7 @@ fn solves_table(rt: &HostRuntime, line: &[&str], machines: Option<u32>) -> Resul
 fn solves_wt(rt: &HostRuntime, line: &[&str], wanted: (u32, u32)) -> Result<(), Fail> {
     let words = words(rt, line)?;
     match understand(command(rt.alloc())?, words.as_slice()) {
-        Asked::Solve(options, _) => match options.form {
+        Asked::Work(Work::Solve(options, _)) => match options.form {
             FormOption::Wt { jobs, index } => ensure((jobs, index) == wanted, "other numbers"),
             _ => Err(Fail::new("no weighted tardiness file")),
         },
@@ -67,7 +67,7 @@ fn solves_wt(rt: &HostRuntime, line: &[&str], wanted: (u32, u32)) -> Result<(), 
 fn solves_flow(rt: &HostRuntime, line: &[&str], wanted: Option<(u32, u32)>) -> Result<(), Fail> {
     let words = words(rt, line)?;
     match understand(command(rt.alloc())?, words.as_slice()) {
-        Asked::Solve(options, _) => match options.form {
+        Asked::Work(Work::Solve(options, _)) => match options.form {
             FormOption::Flow { name, pair } => ensure(name == "demo" && pair == wanted, "another"),
             _ => Err(Fail::new("no flow shop file")),
         },
@@ -216,7 +216,7 @@ fn pairs_that_are_none(rt: HostRuntime) -> Result<(), Fail> {
 fn an_answer_to_check(rt: HostRuntime) -> Result<(), Fail> {
     let words = words(&rt, &["check", "--problem", "P||sumC", "-", "answer"])?;
     match understand(command(rt.alloc())?, words.as_slice()) {
-        Asked::Check(options, answer) => {
+        Asked::Work(Work::Check(options, answer)) => {
             ensure(options.input == "-" && answer == "answer", "other files")?;
         }
         _ => return Err(Fail::new("no check")),
@@ -228,7 +228,7 @@ fn an_answer_to_check(rt: HostRuntime) -> Result<(), Fail> {
 fn solves_in(rt: &HostRuntime, line: &[&str], wanted: Layout) -> Result<(), Fail> {
     let words = words(rt, line)?;
     match understand(command(rt.alloc())?, words.as_slice()) {
-        Asked::Solve(_, layout) => ensure(layout == wanted, "another version"),
+        Asked::Work(Work::Solve(_, layout)) => ensure(layout == wanted, "another version"),
         _ => Err(Fail::new("no solve")),
     }
 }
@@ -275,7 +275,7 @@ fn lines_that_are_misused(rt: HostRuntime) -> Result<(), Fail> {
 fn draws(rt: &HostRuntime, line: &[&str], wanted: u32) -> Result<(), Fail> {
     let words = words(rt, line)?;
     match understand(command(rt.alloc())?, words.as_slice()) {
-        Asked::Gantt { answer, columns } => {
+        Asked::Work(Work::Gantt { answer, columns }) => {
             ensure(answer == "file" && columns == wanted, "another drawing")
         }
         _ => Err(Fail::new("no drawing")),

@@ -1,6 +1,6 @@
 use Rattle.std.proofs.Common.{rules}
 use Rattle.std.proofs.lemmas.List.Sorted.{answers_always}
-use Rattle.tf_check.specs.Ratio.{goes_before}
+use Rattle.tf_check.specs.GoesBefore.{goes_before}
 use Rattle.tf_check.proofs.RatioOrder.{by_ratio-order, by_ratio_from_sort, work_within, value_within}
 use Rattle.tf_check.proofs.ratio.jobs_by_ratio.Goals as goal
 

@@ -10,23 +10,23 @@ use Rattle.tf_engine.proofs.run_gantt.run_gantt.Goals as goal
 
 pub returns-in_err-sheet-clause-outcome : goal.returns-in_err-sheet-clause-outcome
 returns-in_err-sheet-clause-outcome g c =
-    err_is (IsDrawingOf c.args.columns _ _ _ _ _) c.in_err-sheet.field-0.0 _
+    err_is (IsDrawingOf c.args.columns _ _) c.in_err-sheet.field-0.0 _
     c.from_residual.ensures.1
-    (gantt_unsaid g.row.A.Denot _ _ c.args.columns _ _ c.in_err-sheet.field-0.0
+    (gantt_unsaid g.row.A.Denot c.args.columns _ _ _ c.in_err-sheet.field-0.0
     c.in_err-sheet.ensures.device c.in_err-sheet.ensures.said)
 
 pub returns-in_err-schedule-clause-outcome : goal.returns-in_err-schedule-clause-outcome
 returns-in_err-schedule-clause-outcome g c =
-    err_is (IsDrawingOf c.args.columns _ _ _ _ _) c.in_err-schedule.field-0.0 _
+    err_is (IsDrawingOf c.args.columns _ _) c.in_err-schedule.field-0.0 _
     c.from_residual-in_err-schedule.ensures.1
-    (gantt_unscheduled g.row.A.Denot _ _ c.args.columns _ _ _ c.in_err-schedule.field-0.0
+    (gantt_unscheduled g.row.A.Denot c.args.columns _ _ _ _ c.in_err-schedule.field-0.0
     c.in_ok-sheet.ensures.said c.in_err-schedule.ensures.refused)
 
 pub returns-in_err-write_gantt-clause-outcome : goal.returns-in_err-write_gantt-clause-outcome
 returns-in_err-write_gantt-clause-outcome g c =
-    err_is (IsDrawingOf c.args.columns _ _ _ _ _) Device _
+    err_is (IsDrawingOf c.args.columns _ _) Device _
     c.from_residual-in_err-write_gantt.ensures.1
-    (gantt_undrawn g.row.A.Denot _ _ c.args.columns _ _ _ _ _ c.in_ok-sheet.ensures.said
+    (gantt_undrawn g.row.A.Denot c.args.columns _ _ _ _ c.in_ok-sheet.ensures.said
     c.in_ok-schedule.ensures.kept c.in_ok-schedule.ensures.schedule
     c.in_err-write_gantt.ensures.device
     (subst (λ m. AppendsPrefix (g.W.Write.contents (inner_of c.args.writer.now))
@@ -36,7 +36,7 @@ returns-in_err-write_gantt-clause-outcome g c =
 
 pub returns-clause-outcome : goal.returns-clause-outcome
 returns-clause-outcome g c =
-    gantt_drawn g.row.A.Denot _ _ c.args.columns false false _ _ _ c.in_ok-sheet.ensures.said
+    gantt_drawn g.row.A.Denot c.args.columns _ _ _ _ c.in_ok-sheet.ensures.said
     c.in_ok-schedule.ensures.kept c.in_ok-schedule.ensures.schedule
     (subst (λ m. Appends (g.W.Write.contents (inner_of c.args.writer.now))
     (g.W.Write.contents (inner_of c.write_gantt.new.writer))

@@ -1,22 +1,17 @@
 //! OR-Library files that come in pieces.
 use super::forms::{SHOP, TARDINESS};
 use super::{ensure, request};
-use crate::devices::Feed as Source;
 use crate::fault::RunFault;
-use crate::request::{Form, Request};
-use crate::run_solve::run_solve;
-use crate::text::Text;
+use crate::request::Form;
 use crate::trial::solve_into;
 use refusing::Refusing;
 use std::alloc::Allocator;
-use std::io::ErrorKind;
 use std::test::Fail;
 use tf_model::instance::Instance;
 use tf_model::job::Job;
 use tf_read::fault::ReadFault;
 use tf_read::flow_shop::{FlowReader, read_flowshop};
 use tf_read::weighted_tardiness::{WtReader, read_wt};
-use tf_text::counted::Counted;
 use tf_words::feed::Feed;
 
 fn is_same_job(first: &Job, second: &Job) -> bool {
@@ -189,52 +184,6 @@ fn growths_of_a_flow_shop_reader(rt: HostRuntime) -> Result<(), Fail> {
     reader.feed(SHOP);
     ensure(reader.finish().is_ok(), "no instance")?;
     ensure(!alloc.has_refused(), "a growth")
-}
-
-fn on_first(rt: &HostRuntime, index: u32) -> Result<Request, Fail> {
-    let form = Form::Wt { jobs: 3, index };
-    Ok(request(rt, "1||Lmax", form, None)?)
-}
-
-/// A device that fails behind the first fault of a text comes before it, and so it does behind a
-/// refused growth.
-#[test]
-fn a_reader_that_fails_behind_a_fault(rt: HostRuntime) -> Result<(), Fail> {
-    let request = on_first(&rt, 1)?;
-    let mut out = Vec::new(rt.alloc());
-    let source = Source::new(b"x 3 1\n")
-        .by(1)
-        .failing_at(4, ErrorKind::Other);
-    let mut reader = Counted::new(source);
-    let mut writer = Counted::new(&mut out);
-    let result = run_solve(rt.alloc(), &request, &mut reader, &mut writer);
-    ensure(result == Err(RunFault::Device), "another outcome")?;
-    let form = Form::Flow {
-        name: Text::new(String::from_str(rt.alloc(), "demo")?),
-        pair: None,
-    };
-    let request = super::request(&rt, "F2||Cmax", form, None)?;
-    let alloc = Refusing::new(rt.alloc(), 0);
-    let source = Source::new(SHOP).by(60).failing_at(3, ErrorKind::Other);
-    let mut reader = Counted::new(source);
-    let result = run_solve(&alloc, &request, &mut reader, &mut writer);
-    ensure(result == Err(RunFault::Device), "another outcome")?;
-    ensure(alloc.has_refused(), "no growth")
-}
-
-/// Want of memory for a weighted tardiness reader is answered before anything is read.
-#[test]
-fn no_room_before_the_text(rt: HostRuntime) -> Result<(), Fail> {
-    let request = on_first(&rt, 1)?;
-    let mut out = Vec::new(rt.alloc());
-    let alloc = Refusing::new(rt.alloc(), 0);
-    let mut source = Source::new(TARDINESS);
-    let mut reader = Counted::new(&mut source);
-    let mut writer = Counted::new(&mut out);
-    let result = run_solve(&alloc, &request, &mut reader, &mut writer);
-    ensure(result == Err(RunFault::OutOfMemory), "another outcome")?;
-    drop(reader);
-    ensure(source.calls == 0, "something was read")
 }
 
 /// 125 instances of 100 jobs, in which all times of the k-th are k, all weights 1 and all due dates

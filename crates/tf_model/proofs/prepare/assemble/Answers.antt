@@ -5,7 +5,8 @@ use Rattle.tf_model.specs.JobFields.{JobFields}
 use Rattle.tf_model.specs.InstanceData.{InstanceData, IsInstance}
 use Rattle.tf_model.specs.SchedulingTask.{JobData}
 use Rattle.tf_model.specs.Sound.{IsSound}
-use Rattle.tf_model.specs.Prepare.{IsCountFor, data_of, kept_costs, kept_arcs, jobs_refusal}
+use Rattle.tf_model.specs.CountFor.{IsCountFor}
+use Rattle.tf_model.specs.Prepare.{data_of, kept_costs, kept_arcs, jobs_refusal}
 use Rattle.tf_model.specs.declared.class.Class.{Class}
 use Rattle.tf_model.proofs.Prepared.{task_of-IsSound}
 use Rattle.tf_model.proofs.prepare.assemble.Goals as goal

@@ -2,7 +2,7 @@ use Rattle.std.proofs.Common.{◌≡◌, ℕ, ◌+◌, ◌<◌, max, map, take, 
 use Rattle.std.proofs.lemmas.List.{map_more, map-append}
 use Rattle.tf_model.specs.JobFields.{JobFields}
 use Rattle.tf_model.specs.SchedulingTask.{JobData}
-use Rattle.tf_model.specs.Timetable.{greatest_of}
+use Rattle.tf_model.specs.Prepare.{greatest_of}
 use Rattle.tf_model.specs.Prepare.{data_of}
 use Rattle.tf_model.specs.declared.class.Class.{Class}
 use Rattle.tf_model.proofs.prepare.last_release.Goals as goal

@@ -1,5 +1,5 @@
 use Rattle.std.proofs.Common.{◌≡◌, map, take}
-use Rattle.tf_model.specs.Timetable.{greatest_of}
+use Rattle.tf_model.specs.Prepare.{greatest_of}
 use Rattle.tf_model.specs.Prepare.{data_of}
 use Rattle.tf_model.proofs.prepare.last_release.Given as goal
 

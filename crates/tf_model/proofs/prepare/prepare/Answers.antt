@@ -10,8 +10,8 @@ use Rattle.tf_model.specs.JobFields.{JobFields}
 use Rattle.tf_model.specs.InstanceData.{InstanceData, first_with}
 use Rattle.tf_model.specs.SchedulingTask.{SchedulingTask}
 use Rattle.tf_model.specs.ClassTable.{is_shop}
-use Rattle.tf_model.specs.Prepare.{is_too_many, machine_count, has_wrong_times, lacking, missing_from, has_zero_time, data_of, is_too_large, jobs_refusal, prepared, Prepares}
-use Rattle.tf_model.proofs.Prepared.{IsCountFor-machine_count}
+use Rattle.tf_model.specs.Prepare.{is_too_many, machines_for, has_wrong_times, lacking, missing_from, has_zero_time, data_of, is_too_large, jobs_refusal, prepared, Prepares}
+use Rattle.tf_model.proofs.Prepared.{IsCountFor-machines_for}
 use Rattle.tf_model.proofs.prepare.prepare.Goals as goal
 
 -- no refusal for the jobs' sake is want of memory
@@ -58,19 +58,19 @@ refused _ wanted apart e = e
 prepared-Err : (i : InstanceData) (problem : Problem) (argument count : Option ℕ) (class : Class)
     (m : ℕ) (jobs : List JobFields) (refusal : Refusal)
     → Some class ≡ class_of problem → is_too_many class (length i.jobs) ≡ false → count ≡ i.machines
-    → Ok m ≡ machine_count class problem.count argument count
+    → Ok m ≡ machines_for class problem.count argument count
     → jobs ≡ i.jobs → Some refusal ≡ jobs_refusal class jobs
     → prepared i problem argument ≡ Err refusal
 prepared-Err i problem argument count class m jobs refusal of few read_count counted read_jobs e =
-    let count_is : machine_count class problem.count argument i.machines ≡ Ok m =
-    sym (counted ∙ ap (machine_count class problem.count argument) read_count) in
+    let count_is : machines_for class problem.count argument i.machines ≡ Ok m =
+    sym (counted ∙ ap (machines_for class problem.count argument) read_count) in
     let refusal_is : jobs_refusal class i.jobs ≡ Some refusal =
     sym (e ∙ ap (jobs_refusal class) read_jobs) in
     rw (← of, few, count_is, refusal_is) refl
 
 pub assemble-requires-clause-machines : goal.assemble-requires-clause-machines
 assemble-requires-clause-machines g c =
-    IsCountFor-machine_count c.in-Some.class c.args.problem.now.count c.args.machines
+    IsCountFor-machines_for c.in-Some.class c.args.problem.now.count c.args.machines
     c.machines.result c.in_ok-machines.machines (sym c.in_ok-machines.ensures)
 
 pub returns-in-Some-jobs_refusal : goal.returns-in-Some-jobs_refusal
@@ -83,5 +83,5 @@ returns-in-Some-jobs_refusal g c =
     ∙ c.if-is_too_many.false in
     prepared-Err c.args.instance.now c.args.problem.now c.args.machines c.machines.result
     c.in-Some.class c.in_ok-machines.machines c.jobs.result.now c.in-Some-jobs_refusal.refusal
-    c.in-Some.ensures few c.machines.ensures.value c.in_ok-machines.ensures c.jobs.ensures.value
+    c.in-Some.ensures.value few c.machines.ensures.value c.in_ok-machines.ensures c.jobs.ensures.value
     c.in-Some-jobs_refusal.ensures)

@@ -1,5 +1,5 @@
 use Rattle.std.proofs.Common.{◌≡◌, ◌++◌, drop}
-use Rattle.tf_multi.specs.Dealt.{dealt_from}
+use Rattle.tf_multi.specs.Dealing.{dealt_from}
 use Rattle.tf_multi.proofs.spt.dealt.Given as goal
 
 -- the jobs that are left are dealt behind those so far

@@ -1,5 +1,5 @@
 use Rattle.std.proofs.Common.{◌+◌, ◌<◌, length, sym, ap, ◌∙◌, arith}
-use Rattle.tf_schedule.specs.Cost.{with_stop}
+use Rattle.tf_schedule.specs.Stops.{with_stop}
 use Rattle.tf_schedule.proofs.Costing.{known_more}
 use Rattle.tf_schedule.proofs.cost.last_stops.Goals as goal
 

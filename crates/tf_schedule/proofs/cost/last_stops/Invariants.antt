@@ -1,5 +1,6 @@
 use Rattle.std.proofs.Common.{take}
-use Rattle.tf_schedule.specs.Cost.{known_pieces, HasStops}
+use Rattle.tf_schedule.specs.Cost.{known_pieces}
+use Rattle.tf_schedule.specs.Stops.{HasStops}
 use Rattle.tf_schedule.proofs.cost.last_stops.Given as goal
 
 abbrev pub invariant-loop-piece : goal.invariant-loop-piece

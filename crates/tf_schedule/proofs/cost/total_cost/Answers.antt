@@ -2,7 +2,8 @@ use mir.Val.{to_z}
 use mir.Syntax.{w128}
 use Rattle.std.proofs.Common.{◌≡◌, ◌<◌, pos, min, length, sym, ap, ◌∙◌, arith}
 use Rattle.std.proofs.lemmas.Int.{ints, to_z_pos}
-use Rattle.tf_schedule.specs.Cost.{known_pieces, total_to}
+use Rattle.tf_schedule.specs.Cost.{known_pieces}
+use Rattle.tf_schedule.specs.Stops.{total_to}
 use Rattle.tf_schedule.proofs.Costing.{total_fits, total_is, stops_within}
 use Rattle.tf_schedule.proofs.cost.total_cost.Goals as goal
 

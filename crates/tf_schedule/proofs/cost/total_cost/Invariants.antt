@@ -1,5 +1,6 @@
 use Rattle.std.proofs.Common.{◌≡◌, ◌+◌, ◌-◌, ◌≤◌, min, length}
-use Rattle.tf_schedule.specs.Cost.{known_pieces, total_to}
+use Rattle.tf_schedule.specs.Cost.{known_pieces}
+use Rattle.tf_schedule.specs.Stops.{total_to}
 use Rattle.tf_schedule.proofs.cost.total_cost.Given as goal
 
 abbrev pub invariant-loop-first : goal.invariant-loop-first

@@ -2,8 +2,9 @@ use Rattle.std.proofs.Common.{◌≡◌, ℕ, ◌+◌, ◌-◌, ◌*◌, ◌<◌
 use Rattle.std.proofs.lemmas.List.{get_or_default}
 use Rattle.tf_model.specs.SchedulingTask.{JobData, no_job, job_data}
 use Rattle.tf_schedule.specs.declared.piece.Piece.{Piece}
-use Rattle.tf_schedule.specs.Drawing.{last_stop}
-use Rattle.tf_schedule.specs.Cost.{known_pieces, total_to}
+use Rattle.tf_schedule.specs.Amounts.{last_stop}
+use Rattle.tf_schedule.specs.Cost.{known_pieces}
+use Rattle.tf_schedule.specs.Stops.{total_to}
 use Rattle.tf_schedule.proofs.Costing.{total_more, total_fits, stops_within}
 use Rattle.tf_schedule.proofs.cost.with_block.Goals as goal
 use Rattle.tf_model.specs.SchedulingTask.{SchedulingTask}

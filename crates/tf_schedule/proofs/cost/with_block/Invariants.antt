@@ -1,5 +1,6 @@
 use Rattle.std.proofs.Common.{◌≡◌}
-use Rattle.tf_schedule.specs.Cost.{known_pieces, total_to}
+use Rattle.tf_schedule.specs.Cost.{known_pieces}
+use Rattle.tf_schedule.specs.Stops.{total_to}
 use Rattle.tf_schedule.proofs.cost.with_block.Given as goal
 
 abbrev pub invariant-loop-i : goal.invariant-loop-i

@@ -2,7 +2,7 @@ use Rattle.std.proofs.Common.{◌≡◌, ◌+◌, ◌-◌, ◌<◌, ◌≤◌, g
 use Rattle.std.proofs.lemmas.List.{take_all, get_or_default}
 use Rattle.tf_schedule.specs.declared.piece.Piece.{Piece}
 use Rattle.tf_schedule.specs.declared.extent.Extent.{Extent}
-use Rattle.tf_schedule.specs.Drawing.{work}
+use Rattle.tf_schedule.specs.Amounts.{work}
 use Rattle.tf_schedule.specs.Extent.{extended, extent_of, HasExtents}
 use Rattle.tf_schedule.proofs.Extents.{add_fits, extents_more}
 use Rattle.tf_schedule.proofs.extent.extents.Goals as goal

@@ -4,7 +4,8 @@ use Rattle.std.proofs.lemmas.List.Sorted.{All-permutation}
 use Rattle.tf_schedule.specs.declared.piece.Piece.{Piece}
 use Rattle.tf_schedule.specs.Line.{StartsFirstClashBy}
 use Rattle.tf_schedule.specs.Piece.{as_time, job_of}
-use Rattle.tf_schedule.specs.Schedule.{IsPiece, JobsOnce}
+use Rattle.tf_schedule.specs.Schedule.{IsPiece}
+use Rattle.tf_schedule.specs.Claims.{JobsOnce}
 use Rattle.tf_schedule.proofs.Scan.{none_twice_permutation, first_clash_permutation}
 use Rattle.tf_schedule.proofs.fit.first_in_two_places.Goals as goal
 

@@ -1,7 +1,8 @@
 use Rattle.std.proofs.Common.{rules, w64, ◌≡◌, ℤ, true, false, sym, subst, ◌∙◌, arith}
 use Rattle.std.proofs.lemmas.Int.{to_z-of_z}
 use Rattle.std.proofs.lemmas.List.Sorted.{IsPartitionPoint-from_clause}
-use Rattle.tf_schedule.specs.Piece.{as_time, covers, has_started}
+use Rattle.tf_schedule.specs.Piece.{as_time, covers}
+use Rattle.tf_schedule.specs.Claims.{has_started}
 use Rattle.tf_schedule.proofs.Lookup.{started_parts, cell_before_all, cell_going, cell_over}
 use Rattle.tf_schedule.proofs.schedule.job_on.Goals as goal
 

@@ -1,6 +1,7 @@
 use Rattle.std.proofs.Common.{◌≡◌, length, take}
 use Rattle.tf_schedule.specs.Piece.{machine_of, job_of}
-use Rattle.tf_schedule.specs.SemiActive.{laid, HasStopsBy}
+use Rattle.tf_schedule.specs.SemiActive.{laid}
+use Rattle.tf_schedule.specs.Stops.{HasStopsBy}
 use Rattle.tf_schedule.proofs.semi_active.semi_active.Given as goal
 
 -- the operations so far are laid

@@ -1,7 +1,8 @@
 use Rattle.std.proofs.Common.{◌≡◌, ◌-◌, ◌<◌, ◌≤◌, ℕ, List, [], ◌∷◌, ◌++◌, Option, None, Some, length, get_or, set, drop, sym, ap, ◌∙◌, subst, arith, Contains}
 use Rattle.std.proofs.lemmas.List.{get_or_default, length-set, length-drop, take_all}
 use Rattle.tf_model.specs.SchedulingTask.{SchedulingTask, IsJob}
-use Rattle.tf_model.specs.Cycle.{IsCycle}
+use Rattle.tf_model.specs.Cycle.{IsForbiddingCycle}
+use Rattle.tf_model.proofs.Cycles.{forbids}
 use Rattle.tf_single.proofs.Walk.{AreMet, steps_push, steps_close, met_push}
 use Rattle.tf_single.proofs.cycle.walk.Goals as goal
 
@@ -70,9 +71,10 @@ returns-in-Some g c =
     (drop c.in-Some.start c.as_slice.result.now)
     (omega (arith, length-drop c.in-Some.start c.as_slice.result.now))
     ∙ ap (drop c.in-Some.start) c.as_slice.ensures.value in
-    subst (IsCycle k) (sym (c.new.ensures ∙ items))
+    subst (IsForbiddingCycle k) (sym (c.new.ensures ∙ items))
+    (forbids k c.len.ensures.sound (drop c.in-Some.start c.walk.path.items)
     (steps_close k c.walk.path.items c.walk.job c.in-Some.start c.walk.invariant.steps met.0
-    met.1)
+    met.1))
 
 pub walk-preserved : goal.walk-preserved
 walk-preserved g c =

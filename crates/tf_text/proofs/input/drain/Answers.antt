@@ -21,6 +21,7 @@ loop-left-preserved g c =
             (subst (λ (bs : List ℕ). g.F.Feed.Takes c.loop-left.into bs c.feed.new.self)
             (take-append-le n c.pull.new.buf _ c.in_ok-n.ensures.within) c.feed.ensures),
       );
+      counted = omega (arith, kept.counted, c.in_ok-n.ensures.counted, le);
       unfailed = λ lt. c.in_ok-n.ensures.unfailed;
       failed_before = λ failed. absurd (let no' : ⊥ = search rules in no');
     }

@@ -1,0 +1,71 @@
+//! All certificates over the jobs of a small task.
+use std::alloc::{AllocError, Global};
+use tf_check::certificate::Certificate;
+use tf_check::last_of::LastOf;
+use tf_check::load::Load;
+use tf_check::machine_load::MachineLoad;
+use tf_check::one_job::OneJob;
+use tf_check::pairs::Pairs;
+use tf_check::ranks::Ranks;
+use tf_check::split::Split;
+use tf_check::window::Window;
+use tf_model::ids::{JobId, MachineId};
+use tf_model::job_list::JobList;
+
+/// The deltas of splits: below 0, each time that an operation of the small tasks takes, and more.
+const DELTAS: [i64; 6] = [-1, 0, 1, 2, 3, 4];
+
+/// All lists of at most three of the jobs from 1 to this number and one more, which is not there.
+pub fn lists(alloc: Global, jobs: u32) -> Result<Vec<Vec<JobId>>, AllocError> {
+    let numbers = u64::from(jobs).saturating_add(2);
+    let mut lists = Vec::new(alloc);
+    for code in 0..numbers.saturating_pow(3) {
+        let mut list = Vec::new(alloc);
+        let mut rest = code;
+        for _ in 0..3 {
+            if let Some(job) = u32::try_from(rest % numbers).ok().and_then(JobId::new) {
+                list.push(job)?;
+            }
+            rest /= numbers;
+        }
+        lists.push(list)?;
+    }
+    Ok(lists)
+}
+
+fn push_for_list(
+    alloc: Global,
+    certificates: &mut Vec<Certificate>,
+    list: &[JobId],
+) -> Result<(), AllocError> {
+    let jobs = JobList::new(Vec::from_slice(alloc, list)?);
+    certificates.push(Certificate::LastOf(LastOf { jobs }))?;
+    let jobs = JobList::new(Vec::from_slice(alloc, list)?);
+    certificates.push(Certificate::Window(Window { jobs }))?;
+    let jobs = JobList::new(Vec::from_slice(alloc, list)?);
+    certificates.push(Certificate::Ranks(Ranks { jobs }))?;
+    for delta in DELTAS {
+        for first in [false, true] {
+            let side = JobList::new(Vec::from_slice(alloc, list)?);
+            certificates.push(Certificate::Split(Split { side, delta, first }))?;
+        }
+    }
+    Ok(())
+}
+
+/// All certificates whose lists are of at most three jobs.
+pub fn certificates(alloc: Global, jobs: u32) -> Result<Vec<Certificate>, AllocError> {
+    let mut certificates = Vec::new(alloc);
+    certificates.push(Certificate::Pairs(Pairs))?;
+    certificates.push(Certificate::Load(Load))?;
+    for machine in (1..4).filter_map(MachineId::new) {
+        certificates.push(Certificate::Machine(MachineLoad { machine }))?;
+    }
+    for job in (1..=jobs.saturating_add(1)).filter_map(JobId::new) {
+        certificates.push(Certificate::OneJob(OneJob { job }))?;
+    }
+    for list in lists(alloc, jobs)?.iter() {
+        push_for_list(alloc, &mut certificates, list)?;
+    }
+    Ok(certificates)
+}

@@ -1,0 +1,286 @@
+//! Job tables.
+use std::test::Fail;
+use tf_model::ids::JobId;
+use tf_model::instance::Instance;
+use tf_model::job::Times;
+use tf_read::fault::ReadFault;
+use tf_read::job_table::read_table;
+
+/// Whole tables.
+const TABLES: &[(&str, ReadFault)] = &[
+    ("", ReadFault::EndsEarly),
+    (" \n# table 1\n\t\r", ReadFault::EndsEarly),
+    ("table 1", ReadFault::NoJobs),
+    ("table 1\nmachines 2\n# job 1 p=1", ReadFault::NoJobs),
+    ("table", ReadFault::BadLine(1)),
+    ("table 01", ReadFault::BadLine(1)),
+    ("table 2", ReadFault::BadLine(1)),
+    ("table 1 1", ReadFault::BadLine(1)),
+    ("Table 1", ReadFault::BadLine(1)),
+    ("job 1 p=1", ReadFault::BadLine(1)),
+    ("\u{feff}table 1\njob 1 p=1", ReadFault::BadLine(1)),
+    ("table 1\rjob 1 p=1", ReadFault::BadLine(1)),
+    ("\n# first\ntable 1\ntable 1", ReadFault::BadLine(4)),
+    ("table 1\njob 1 p=1\nother", ReadFault::BadLine(3)),
+    ("table 1\n\u{b}job 1 p=1", ReadFault::BadLine(2)),
+    ("table 1\njob 1 p=1\nmachines 2", ReadFault::BadLine(3)),
+    ("table 1\nmachines 2\nmachines 2", ReadFault::BadLine(3)),
+    ("table 1\nmachines", ReadFault::BadLine(2)),
+    ("table 1\nmachines 1 x", ReadFault::BadLine(2)),
+    ("table 1\nmachines x", ReadFault::BadNumber(2)),
+    ("table 1\nmachines +1", ReadFault::BadNumber(2)),
+    ("table 1\nmachines 0", ReadFault::BadLine(2)),
+    ("table 1\nmachines -0", ReadFault::BadLine(2)),
+    ("table 1\nmachines -1", ReadFault::BadLine(2)),
+    ("table 1\nmachines 1001", ReadFault::BadLine(2)),
+    (
+        "table 1\nmachines 99999999999999999999",
+        ReadFault::BadLine(2),
+    ),
+    ("table 1\nprec 1 1", ReadFault::BadLine(2)),
+    ("table 1\nprec 1 1\njob 1 p=1", ReadFault::BadLine(2)),
+    (
+        "table 1\njob 1 p=1\nprec 1 1\njob 2 p=1",
+        ReadFault::BadLine(4),
+    ),
+    ("table 1\njob 1 p=1\nprec", ReadFault::BadLine(3)),
+    ("table 1\njob 1 p=1\nprec 1", ReadFault::BadLine(3)),
+    ("table 1\njob 1 p=1\nprec x 1 1", ReadFault::BadLine(3)),
+    ("table 1\njob 1 p=1\nprec 0 1", ReadFault::BadArc(3)),
+    ("table 1\njob 1 p=1\nprec -0 1", ReadFault::BadArc(3)),
+    ("table 1\njob 1 p=1\nprec 1 2", ReadFault::BadArc(3)),
+    ("table 1\njob 1 p=1\nprec 9 x", ReadFault::BadArc(3)),
+    ("table 1\njob 1 p=1\nprec x 9", ReadFault::BadNumber(3)),
+    (
+        "table 1\njob 1 p=1\nprec 1 99999999999999999999",
+        ReadFault::BadArc(3),
+    ),
+];
+
+#[test]
+fn a_table_has_its_first_fault(rt: HostRuntime) {
+    for (text, fault) in TABLES {
+        let read = read_table(rt.alloc(), text.as_bytes());
+        assert_eq!(rt; read.err(), Some(*fault), "{text}");
+    }
+}
+
+/// Lines for job 1.
+const JOBS: &[(&str, ReadFault)] = &[
+    ("job", ReadFault::BadLine(2)),
+    ("job 1", ReadFault::BadLine(2)),
+    ("job p=1", ReadFault::BadLine(2)),
+    ("job x p=1", ReadFault::BadLine(2)),
+    ("job 0 p=1", ReadFault::BadLine(2)),
+    ("job 01 p=1", ReadFault::BadLine(2)),
+    ("job +1 p=1", ReadFault::BadLine(2)),
+    ("job 2 p=1", ReadFault::BadLine(2)),
+    ("job 1 p=1\njob 1 p=1", ReadFault::BadLine(3)),
+    ("job 1 p=1\njob 3 p=1", ReadFault::BadLine(3)),
+    // Words of a wrong form.
+    ("job 1 p", ReadFault::BadLine(2)),
+    ("job 1 =1", ReadFault::BadLine(2)),
+    ("job 1 q=1", ReadFault::BadLine(2)),
+    ("job 1 P=1", ReadFault::BadLine(2)),
+    ("job 1 p=1 #x", ReadFault::BadLine(2)),
+    ("job 1 w=1", ReadFault::BadLine(2)),
+    ("job 1 p=1 p=1", ReadFault::BadLine(2)),
+    ("job 1 w=1 w=x p=1", ReadFault::BadLine(2)),
+    ("job 1 p=1,2,3", ReadFault::BadLine(2)),
+    ("job 1 p=x,2,3", ReadFault::BadLine(2)),
+    ("job 1 p=1 h=1,", ReadFault::BadLine(2)),
+    ("job 1 p=1 h=1,2", ReadFault::BadLine(2)),
+    ("job 1 p=1 h=1,2:3:4", ReadFault::BadLine(2)),
+    ("job 1 p=1 h=x,2", ReadFault::BadLine(2)),
+    ("job 1 p=1 h=5,9:4,q", ReadFault::BadLine(2)),
+    // Words that are no numbers.
+    ("job 1 p=", ReadFault::BadNumber(2)),
+    ("job 1 p=,", ReadFault::BadNumber(2)),
+    ("job 1 p=1,", ReadFault::BadNumber(2)),
+    ("job 1 p=,1", ReadFault::BadNumber(2)),
+    ("job 1 p==1", ReadFault::BadNumber(2)),
+    ("job 1 p=+4", ReadFault::BadNumber(2)),
+    ("job 1 p=-", ReadFault::BadNumber(2)),
+    ("job 1 p=--1", ReadFault::BadNumber(2)),
+    ("job 1 p=1-", ReadFault::BadNumber(2)),
+    ("job 1 p=1.5", ReadFault::BadNumber(2)),
+    ("job 1 p=0x1", ReadFault::BadNumber(2)),
+    ("job 1 p=1 w=", ReadFault::BadNumber(2)),
+    ("job 1 p=1 w=1,2", ReadFault::BadNumber(2)),
+    ("job 1 p=1 w=1=2", ReadFault::BadNumber(2)),
+    ("job 1 p=1 d=1:2", ReadFault::BadNumber(2)),
+    ("job 1 p=1 h=", ReadFault::BadNumber(2)),
+    ("job 1 p=1 h=5:3", ReadFault::BadNumber(2)),
+    ("job 1 p=1 h=5,3:", ReadFault::BadNumber(2)),
+    ("job 1 p=1 h=5,:3", ReadFault::BadNumber(2)),
+    ("job 1 p=1 h=5,9:4,x:1", ReadFault::BadNumber(2)),
+    // Numbers that are too large, or negative.
+    ("job 1 p=4000000000000000001", ReadFault::NumberTooLarge(2)),
+    ("job 1 p=-4000000000000000001", ReadFault::NumberTooLarge(2)),
+    (
+        "job 1 p=1,4000000000000000001",
+        ReadFault::NumberTooLarge(2),
+    ),
+    (
+        "job 1 d=-4000000000000000001 p=1",
+        ReadFault::NumberTooLarge(2),
+    ),
+    (
+        "job 1 p=1 h=-4000000000000000001",
+        ReadFault::NumberTooLarge(2),
+    ),
+    (
+        "job 1 p=1 h=0,-4000000000000000001:1",
+        ReadFault::NumberTooLarge(2),
+    ),
+    ("job 1 p=-1", ReadFault::Negative(2)),
+    ("job 1 p=1,-1", ReadFault::Negative(2)),
+    ("job 1 p=-1,x", ReadFault::Negative(2)),
+    ("job 1 w=-1", ReadFault::Negative(2)),
+    ("job 1 r=-1 p=1", ReadFault::Negative(2)),
+    ("job 1 p=1 h=0,-1:2", ReadFault::Negative(2)),
+    // Costs that fall, or times that don't rise, each judged before the next word.
+    ("job 1 p=1 h=5,3:4", ReadFault::BadCost(2)),
+    ("job 1 p=1 h=5,3:6,4:5", ReadFault::BadCost(2)),
+    ("job 1 p=1 h=5,3:6,3:7", ReadFault::BadCost(2)),
+    ("job 1 p=1 h=5,3:6,2:7", ReadFault::BadCost(2)),
+    ("job 1 h=5,3:4 p=x", ReadFault::BadCost(2)),
+    ("job 1 h=5,3:4", ReadFault::BadCost(2)),
+];
+
+#[test]
+fn a_job_has_its_first_fault(rt: HostRuntime) -> Result<(), Fail> {
+    for (line, fault) in JOBS {
+        let text = format!(in rt.alloc(); "table 1\n{line}\njob 2 p=x")?;
+        let read = read_table(rt.alloc(), text.as_bytes());
+        assert_eq!(rt; read.err(), Some(*fault), "{line}");
+    }
+    Ok(())
+}
+
+fn is_read(read: Result<Instance, ReadFault>, machines: Option<u32>, times: Times) -> bool {
+    read.is_ok_and(|instance| {
+        instance.machines() == machines
+            && instance
+                .jobs()
+                .first()
+                .is_some_and(|job| job.times == times)
+    })
+}
+
+/// Tables that are read: the number of machines and the times of job 1.
+const READ: &[(&str, Option<u32>, Times)] = &[
+    ("table 1\njob 1 p=0", None, Times::One(0)),
+    ("table 1\njob 1 p=-0", None, Times::One(0)),
+    ("table 1\njob 1 p=0004", None, Times::One(4)),
+    ("table 1\njob 1 p=4,0", None, Times::Two(4, 0)),
+    ("\r\n\ttable \t1\r\n\r\njob 1\tp=4\r\n", None, Times::One(4)),
+    (
+        " # table\n table 1\n#x\njob 1 p=4\n\n#",
+        None,
+        Times::One(4),
+    ),
+    ("table 1\nmachines 1\njob 1 p=4", Some(1), Times::One(4)),
+    ("table 1\nmachines 007\njob 1 p=4", Some(7), Times::One(4)),
+    (
+        "table 1\nmachines 1000\njob 1 p=4",
+        Some(1000),
+        Times::One(4),
+    ),
+    (
+        "table 1\njob 1 w=0 p=4000000000000000000",
+        None,
+        Times::One(4_000_000_000_000_000_000),
+    ),
+    (
+        "table 1\njob 1 d=-4000000000000000000 p=1",
+        None,
+        Times::One(1),
+    ),
+    ("table 1\njob 1 h=-3 p=1", None, Times::One(1)),
+    ("table 1\njob 1 h=-3,0:-3,1:-3 p=1", None, Times::One(1)),
+    (
+        "table 1\njob 1 p=1\nprec 01 001\nprec 1 1",
+        None,
+        Times::One(1),
+    ),
+];
+
+#[test]
+fn a_table_is_read(rt: HostRuntime) {
+    for (text, machines, times) in READ {
+        let read = read_table(rt.alloc(), text.as_bytes());
+        assert!(rt; is_read(read, *machines, *times), "{text}");
+    }
+}
+
+#[test]
+fn leading_zeros_are_allowed_without_end(rt: HostRuntime) -> Result<(), Fail> {
+    let mut text = Vec::from_slice(rt.alloc(), b"table 1\njob 1 p=")?;
+    for _ in 0..10_000 {
+        text.push(b'0')?;
+    }
+    text.push(b'4')?;
+    assert!(rt; is_read(read_table(rt.alloc(), &text), None, Times::One(4)));
+    Ok(())
+}
+
+#[test]
+fn each_field_is_read(rt: HostRuntime) -> Result<(), Fail> {
+    let text = b"table 1\njob 1 h=-1,2:-1,3:4 r=03 d=-5 w=6 p=7,8\njob 2 p=1\nprec 2 1\nprec 2 1";
+    let instance = read_table(rt.alloc(), text)?;
+    let (first, second) = (JobId::new(1).ok_or("a job")?, JobId::new(2).ok_or("a job")?);
+    assert_eq!(rt; instance.jobs().len(), 2);
+    let job = &instance.jobs()[0];
+    assert_eq!(rt; job.times, Times::Two(7, 8));
+    assert_eq!(rt;
+        (job.weight, job.due, job.release),
+        (Some(6), Some(-5), Some(3))
+    );
+    assert!(rt; job.cost.is_some());
+    let other = &instance.jobs()[1];
+    assert_eq!(rt;
+        (other.weight, other.due, other.release),
+        (None, None, None)
+    );
+    assert!(rt; other.cost.is_none());
+    assert_eq!(rt;
+        instance.arcs(),
+        [(second, first), (second, first)].as_slice()
+    );
+    Ok(())
+}
+
+/// A table of so many jobs and arcs from job 1 to itself.
+fn large_table(rt: &HostRuntime, jobs: u32, arcs: u32) -> Result<Vec<u8>, Fail> {
+    let mut text = Vec::from_slice(rt.alloc(), b"table 1\n")?;
+    for job in 0..jobs {
+        let line = format!(in rt.alloc(); "job {} p=1\n", job.wrapping_add(1))?;
+        text.extend_from_slice(line.as_bytes())?;
+    }
+    for _ in 0..arcs {
+        text.extend_from_slice(b"prec 1 1\n")?;
+    }
+    Ok(text)
+}
+
+#[test]
+fn a_table_has_at_most_100_000_jobs(rt: HostRuntime) -> Result<(), Fail> {
+    let mut text = large_table(&rt, 100_000, 0)?;
+    assert!(rt; read_table(rt.alloc(), &text).is_ok());
+    text.extend_from_slice(b"job x")?;
+    let read = read_table(rt.alloc(), &text);
+    assert_eq!(rt; read.err(), Some(ReadFault::TooManyJobs));
+    Ok(())
+}
+
+#[test]
+fn a_table_has_at_most_200_000_arcs(rt: HostRuntime) -> Result<(), Fail> {
+    let mut text = large_table(&rt, 1, 200_000)?;
+    let instance = read_table(rt.alloc(), &text)?;
+    assert_eq!(rt; instance.arcs().len(), 200_000);
+    text.extend_from_slice(b"prec x")?;
+    let read = read_table(rt.alloc(), &text);
+    assert_eq!(rt; read.err(), Some(ReadFault::TooManyArcs));
+    Ok(())
+}

@@ -1,0 +1,21 @@
+//! Tables of texts, one line a case, with the fault or the value that each gets.
+//!
+//! The wanted values are worked out by hand from the formats of the texts.
+#![tactic(auto)]
+
+#[cfg(test)]
+mod answers;
+#[cfg(test)]
+mod flow_shops;
+#[cfg(test)]
+mod job_tables;
+#[cfg(test)]
+mod notations;
+#[cfg(test)]
+mod runs;
+#[cfg(test)]
+mod ties;
+#[cfg(test)]
+mod verdicts;
+#[cfg(test)]
+mod weighted_tardiness;

@@ -1,0 +1,320 @@
+//! Whole command lines over texts in place of files: the status, what is written, and what is said.
+use super::perform;
+use crate::options::{Asked, command, understand};
+use crate::source::Sources;
+use std::alloc::AllocError;
+use std::io;
+use std::io::ErrorKind;
+use std::test::Fail;
+use tf_text::counted::Counted;
+
+/// Texts by their names.
+struct Texts;
+
+impl Sources for Texts {
+    type Source = &'static [u8];
+
+    fn open(&self, name: &str) -> io::Result<&'static [u8]> {
+        match name {
+            "-" => Ok(TABLE),
+            "tardiness" => Ok(TARDINESS),
+            "shop" => Ok(SHOP),
+            "answer" => Ok(ANSWER),
+            "other" => Ok(OTHER),
+            _ => Err(io::Error::from(ErrorKind::NotFound)),
+        }
+    }
+}
+
+const TABLE: &[u8] = b"table 1
+job 1 p=4
+job 2 p=4
+job 3 p=4
+";
+
+const ANSWER: &[u8] = b"answer 2
+problem P2|prmp|Cmax
+jobs 3
+machines 2
+value 6
+piece 1 1 0 4
+piece 2 1 4 6
+piece 2 2 0 2
+piece 3 2 2 6
+cert load
+end
+";
+
+/// The same in version 1.
+const FIRST: &[u8] = b"answer 1
+problem P2|prmp|Cmax
+jobs 3
+machines 2
+value 6
+piece 1 1 0 4
+piece 2 1 4 6
+piece 2 2 0 2
+piece 3 2 2 6
+cert load
+end
+";
+
+/// The same with another value.
+const OTHER: &[u8] = b"answer 2
+problem P2|prmp|Cmax
+jobs 3
+machines 2
+value 7
+piece 1 1 0 4
+piece 2 1 4 6
+piece 2 2 0 2
+piece 3 2 2 6
+cert load
+end
+";
+
+const TARDINESS: &[u8] = b"2 3 1
+1 2 4
+5 -2 9
+4 1 3
+2 2 3
+6 7 8
+";
+
+const SHOP: &[u8] = b" instance demo
+ +++++++++++++
+ three machines, own example
+ 2 3
+ 0 4 1 9 2 1
+ 0 2 1 9 2 5
+";
+
+/// What a command line gives: the exit status, and the bytes on standard output and standard error.
+#[derive(Drop)]
+struct Ended {
+    status: u8,
+    written: Vec<u8>,
+    said: Vec<u8>,
+}
+
+fn given(rt: &HostRuntime, line: &[&str]) -> Result<Ended, Fail> {
+    let mut words = Vec::with_capacity(rt.alloc(), 16)?;
+    words.push(String::from_str(rt.alloc(), "threefield")?)?;
+    for word in line {
+        words.push(String::from_str(rt.alloc(), word)?)?;
+    }
+    let Asked::Work(work) = understand(command(rt.alloc())?, words.as_slice()) else {
+        return Err(Fail::new("no work"));
+    };
+    let mut written = Vec::with_capacity(rt.alloc(), 1_000)?;
+    let mut said = Vec::with_capacity(rt.alloc(), 100)?;
+    let mut writer = Counted::new(&mut written);
+    let mut errors = Counted::new(&mut said);
+    let status = perform(rt.alloc(), &Texts, &work, &mut writer, &mut errors);
+    drop(writer);
+    drop(errors);
+    Ok(Ended {
+        status,
+        written,
+        said,
+    })
+}
+
+fn ends(
+    rt: &HostRuntime,
+    line: &[&str],
+    status: u8,
+    written: &[u8],
+    said: &[u8],
+) -> Result<(), Fail> {
+    let given = given(rt, line)?;
+    if given.status != status {
+        return Err(Fail::new("another status"));
+    }
+    if given.written.as_slice() != written {
+        return Err(Fail::new("other bytes"));
+    }
+    if given.said.as_slice() != said {
+        return Err(Fail::new("other words"));
+    }
+    Ok(())
+}
+
+/// The line is answered with these bytes, and nothing is said.
+fn writes(rt: &HostRuntime, line: &[&str], status: u8, wanted: &[u8]) -> Result<(), Fail> {
+    ends(rt, line, status, wanted, b"")
+}
+
+/// The line is refused with these words, and nothing is written.
+fn says(rt: &HostRuntime, line: &[&str], status: u8, wanted: &[u8]) -> Result<(), Fail> {
+    ends(rt, line, status, b"", wanted)
+}
+
+#[test]
+fn solving_writes_the_answer_in_the_version_that_is_asked_for(rt: HostRuntime) -> Result<(), Fail> {
+    writes(&rt, &["solve", "--problem", "P2|prmp|Cmax", "-"], 0, ANSWER)?;
+    let second = ["solve", "--problem", "P2|prmp|Cmax", "--answer", "2", "-"];
+    writes(&rt, &second, 0, ANSWER)?;
+    let first = ["solve", "--problem", "P2|prmp|Cmax", "--answer", "1", "-"];
+    writes(&rt, &first, 0, FIRST)
+}
+
+#[test]
+fn machines_are_those_of_the_option(rt: HostRuntime) -> Result<(), Fail> {
+    let three = b"answer 2
+problem P|prmp|Cmax
+jobs 3
+machines 3
+value 4
+piece 1 1 0 4
+piece 2 2 0 4
+piece 3 3 0 4
+cert load
+end
+";
+    let line = ["solve", "--machines", "3", "--problem", "P|prmp|Cmax", "-"];
+    writes(&rt, &line, 0, three)?;
+    let missing = b"threefield: refused: MachinesMissing\n";
+    says(&rt, &["solve", "--problem", "P|prmp|Cmax", "-"], 2, missing)
+}
+
+#[test]
+fn a_weighted_tardiness_file_is_read_by_jobs_and_index(rt: HostRuntime) -> Result<(), Fail> {
+    let second = b"answer 2
+problem 1||sumwC
+jobs 3
+machines 1
+value 30
+piece 2 1 0 1
+piece 3 1 1 4
+piece 1 1 4 8
+cert pairs
+end
+";
+    let line = [
+        "solve",
+        "--problem",
+        "1||sumwC",
+        "--format",
+        "wt",
+        "--jobs",
+        "3",
+        "--index",
+        "2",
+        "tardiness",
+    ];
+    writes(&rt, &line, 0, second)?;
+    let third = [
+        "solve",
+        "--problem",
+        "1||sumwC",
+        "--format",
+        "wt",
+        "--jobs",
+        "3",
+        "--index",
+        "3",
+        "tardiness",
+    ];
+    says(&rt, &third, 2, b"threefield: refused: NoInstance\n")
+}
+
+#[test]
+fn a_flow_shop_file_is_read_by_name_and_pair(rt: HostRuntime) -> Result<(), Fail> {
+    let outer = b"answer 2
+problem F2||Cmax
+jobs 2
+machines 2
+value 8
+piece 2 1 0 2
+piece 1 1 2 6
+piece 2 2 2 7
+piece 1 2 7 8
+cert split first 2
+end
+";
+    let line = [
+        "solve",
+        "--problem",
+        "F2||Cmax",
+        "--format",
+        "flow",
+        "--name",
+        "demo",
+        "--pair",
+        "0,2",
+        "shop",
+    ];
+    writes(&rt, &line, 0, outer)?;
+    let whole = [
+        "solve",
+        "--problem",
+        "F2||Cmax",
+        "--format",
+        "flow",
+        "--name",
+        "demo",
+        "shop",
+    ];
+    says(&rt, &whole, 2, b"threefield: refused: MachinesDisagree\n")?;
+    let unnamed = [
+        "solve",
+        "--problem",
+        "F2||Cmax",
+        "--format",
+        "flow",
+        "--name",
+        "other",
+        "shop",
+    ];
+    says(&rt, &unnamed, 2, b"threefield: refused: NoInstance\n")
+}
+
+#[test]
+fn a_check_reads_the_instance_first_and_then_the_answer(rt: HostRuntime) -> Result<(), Fail> {
+    let good = ["check", "--problem", "P2|prmp|Cmax", "-", "answer"];
+    writes(&rt, &good, 0, b"accepted\n")?;
+    let worse = ["check", "--problem", "P2|prmp|Cmax", "-", "other"];
+    writes(&rt, &worse, 1, b"rejected: WrongValue\n")?;
+    let exchanged = ["check", "--problem", "P2|prmp|Cmax", "answer", "-"];
+    says(&rt, &exchanged, 2, b"threefield: refused: BadLine 1\n")
+}
+
+#[test]
+fn a_drawing_has_so_many_columns(rt: HostRuntime) -> Result<(), Fail> {
+    let all = b"length 6\nmachine 1 |111122|\nmachine 2 |223333|\n";
+    writes(&rt, &["gantt", "answer"], 0, all)?;
+    let three = b"length 6\nmachine 1 |112|\nmachine 2 |233|\n";
+    writes(&rt, &["gantt", "--columns", "3", "answer"], 0, three)?;
+    let no_answer = b"threefield: refused: answer BadLine 1\n";
+    says(&rt, &["gantt", "-"], 2, no_answer)
+}
+
+#[test]
+fn a_file_that_cannot_be_opened_is_a_device_fault_before_all_else(
+    rt: HostRuntime,
+) -> Result<(), Fail> {
+    let fault = b"threefield: device fault\n";
+    says(&rt, &["solve", "--problem", "1||sumX", "absent"], 4, fault)?;
+    says(
+        &rt,
+        &["check", "--problem", "1||sumX", "absent", "answer"],
+        4,
+        fault,
+    )?;
+    says(
+        &rt,
+        &["check", "--problem", "1||sumX", "-", "absent"],
+        4,
+        fault,
+    )?;
+    says(&rt, &["gantt", "absent"], 4, fault)?;
+    let refused = b"threefield: refused: NotationFault 3\n";
+    says(&rt, &["solve", "--problem", "1||sumX", "-"], 2, refused)?;
+    says(
+        &rt,
+        &["check", "--problem", "1||sumX", "-", "answer"],
+        2,
+        refused,
+    )
+}

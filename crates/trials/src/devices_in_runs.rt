@@ -1,0 +1,352 @@
+//! The three runs on devices that give and take one byte a call, or fail.
+use crate::devices::{Failure, Sink, Source, Way};
+use crate::examples::files::{SECOND_OF_TWO, SHOP, TARDINESS, TWO_OF_THREE};
+use crate::examples::parallel::FOURS;
+use crate::examples::{Example, Given, WORKED, answer_in};
+use crate::runs::{LAYOUTS, ensure, request, request_for};
+use refusing::Refusing;
+use std::test::Fail;
+use tf_engine::fault::RunFault;
+use tf_engine::request::Request;
+use tf_engine::run_check::{Checked, run_check};
+use tf_engine::run_gantt::run_gantt;
+use tf_engine::run_solve::run_solve;
+use tf_read::fault::ReadFault;
+use tf_text::answer::layout::Layout;
+use tf_text::counted::Counted;
+
+fn solve(
+    rt: &HostRuntime,
+    request: &Request,
+    source: &mut Source<'_>,
+    sink: &mut Sink,
+) -> Result<(), RunFault> {
+    let mut reader = Counted::new(source);
+    let mut writer = Counted::new(sink);
+    run_solve(rt.alloc(), request, &mut reader, &mut writer)
+}
+
+fn check(
+    rt: &HostRuntime,
+    request: &Request,
+    source: &mut Source<'_>,
+    other: &mut Source<'_>,
+    sink: &mut Sink,
+) -> Result<Checked, RunFault> {
+    let mut instance = Counted::new(source);
+    let mut answer = Counted::new(other);
+    let mut writer = Counted::new(sink);
+    run_check(rt.alloc(), request, &mut instance, &mut answer, &mut writer)
+}
+
+fn draw(rt: &HostRuntime, source: &mut Source<'_>, sink: &mut Sink) -> Result<(), RunFault> {
+    let mut reader = Counted::new(source);
+    let mut writer = Counted::new(sink);
+    run_gantt(rt.alloc(), &mut reader, &mut writer, 72)
+}
+
+/// An example through the three runs, each device by one byte a call.
+fn by_bytes(rt: &HostRuntime, example: &Example, layout: Layout) -> Result<(), Fail> {
+    let request = request_for(rt, example, layout)?;
+    let answer = answer_in(rt, example, layout)?;
+    let mut source = Source::new(example.instance).by(1);
+    let mut sink = Sink::new(rt.alloc()).by(1);
+    let result = solve(rt, &request, &mut source, &mut sink);
+    ensure(result == Ok(()), example.name)?;
+    ensure(sink.taken() == answer.as_slice(), example.name)?;
+    let mut source = Source::new(example.instance).by(1);
+    let mut other = Source::new(&answer).by(1);
+    let mut sink = Sink::new(rt.alloc()).by(1);
+    let result = check(rt, &request, &mut source, &mut other, &mut sink);
+    ensure(result == Ok(Checked::Accepted), example.name)?;
+    ensure(sink.taken() == b"accepted\n".as_slice(), example.name)?;
+    let mut source = Source::new(&answer).by(1);
+    let mut sink = Sink::new(rt.alloc()).by(1);
+    let result = draw(rt, &mut source, &mut sink);
+    ensure(result == Ok(()), example.name)?;
+    ensure(sink.taken() == example.chart, example.name)
+}
+
+#[test]
+fn each_example_is_answered_by_one_byte_a_call(rt: HostRuntime) -> Result<(), Fail> {
+    for example in WORKED.iter() {
+        for layout in LAYOUTS {
+            by_bytes(&rt, example, layout)?;
+        }
+    }
+    Ok(())
+}
+
+/// The calls of a reader of a text by 5 bytes a call. The last one shows the end.
+fn calls_by_five(text: &[u8]) -> u64 {
+    text.len().div_ceil(5) as u64 + 1
+}
+
+const READER_WAYS: [Way; 2] = [Way::Error, Way::Interruption];
+
+/// The run is refused, the reader was called up to its failure, and nothing was written.
+fn is_cut_off<T: PartialEq + Drop>(
+    outcome: Result<T, RunFault>,
+    source: &Source<'_>,
+    failure: Failure,
+    sink: &Sink,
+) -> Result<(), Fail> {
+    ensure(outcome == Err(RunFault::Device), "another outcome")?;
+    ensure(source.calls() == failure.call, "another number of reads")?;
+    ensure(sink.calls() == 0, "something was written")
+}
+
+fn solving_is_cut_off(
+    rt: &HostRuntime,
+    request: &Request,
+    text: &[u8],
+    failure: Failure,
+) -> Result<(), Fail> {
+    let mut source = Source::new(text).by(5).failing(failure);
+    let mut sink = Sink::new(rt.alloc());
+    let result = solve(rt, request, &mut source, &mut sink);
+    is_cut_off(result, &source, failure, &sink)
+}
+
+#[test]
+fn solving_is_refused_where_any_read_fails(rt: HostRuntime) -> Result<(), Fail> {
+    for example in [FOURS, SECOND_OF_TWO, TWO_OF_THREE] {
+        let request = request_for(&rt, &example, Layout::Two)?;
+        for before in 0..calls_by_five(example.instance) {
+            let call = before + 1;
+            for way in READER_WAYS {
+                for heals in [false, true] {
+                    let failure = Failure { call, way, heals };
+                    solving_is_cut_off(&rt, &request, example.instance, failure)?;
+                }
+            }
+        }
+    }
+    Ok(())
+}
+
+/// Where the first reader of a check fails, the second one is not called.
+fn checking_is_cut_off_at_once(
+    rt: &HostRuntime,
+    request: &Request,
+    answer: &[u8],
+    failure: Failure,
+) -> Result<(), Fail> {
+    let mut source = Source::new(FOURS.instance).by(5).failing(failure);
+    let mut other = Source::new(answer);
+    let mut sink = Sink::new(rt.alloc());
+    let result = check(rt, request, &mut source, &mut other, &mut sink);
+    ensure(other.calls() == 0, "the second reader was called")?;
+    is_cut_off(result, &source, failure, &sink)
+}
+
+fn checking_is_cut_off(
+    rt: &HostRuntime,
+    request: &Request,
+    answer: &[u8],
+    failure: Failure,
+) -> Result<(), Fail> {
+    let mut source = Source::new(FOURS.instance);
+    let mut other = Source::new(answer).by(5).failing(failure);
+    let mut sink = Sink::new(rt.alloc());
+    let result = check(rt, request, &mut source, &mut other, &mut sink);
+    is_cut_off(result, &other, failure, &sink)
+}
+
+#[test]
+fn checking_is_refused_where_any_read_fails(rt: HostRuntime) -> Result<(), Fail> {
+    let request = request_for(&rt, &FOURS, Layout::One)?;
+    for layout in LAYOUTS {
+        let answer = answer_in(&rt, &FOURS, layout)?;
+        for before in 0..calls_by_five(FOURS.instance) {
+            let call = before + 1;
+            for way in READER_WAYS {
+                let heals = call % 2 == 0;
+                checking_is_cut_off_at_once(&rt, &request, &answer, Failure { call, way, heals })?;
+            }
+        }
+        for before in 0..calls_by_five(&answer) {
+            let call = before + 1;
+            for way in READER_WAYS {
+                let heals = call % 2 == 0;
+                checking_is_cut_off(&rt, &request, &answer, Failure { call, way, heals })?;
+            }
+        }
+    }
+    Ok(())
+}
+
+fn drawing_is_cut_off(rt: &HostRuntime, answer: &[u8], failure: Failure) -> Result<(), Fail> {
+    let mut source = Source::new(answer).by(5).failing(failure);
+    let mut sink = Sink::new(rt.alloc());
+    let result = draw(rt, &mut source, &mut sink);
+    is_cut_off(result, &source, failure, &sink)
+}
+
+#[test]
+fn drawing_is_refused_where_any_read_fails(rt: HostRuntime) -> Result<(), Fail> {
+    for layout in LAYOUTS {
+        let answer = answer_in(&rt, &FOURS, layout)?;
+        for before in 0..calls_by_five(&answer) {
+            let call = before + 1;
+            for way in READER_WAYS {
+                for heals in [false, true] {
+                    drawing_is_cut_off(&rt, &answer, Failure { call, way, heals })?;
+                }
+            }
+        }
+    }
+    Ok(())
+}
+
+const WRITER_WAYS: [Way; 3] = [Way::Error, Way::Interruption, Way::NoByte];
+
+/// The run is refused, the writer was called up to its failure, and took a byte in each call before.
+fn is_cut_short<T: PartialEq + Drop>(
+    outcome: Result<T, RunFault>,
+    wanted: &[u8],
+    failure: Failure,
+    sink: &Sink,
+) -> Result<(), Fail> {
+    ensure(outcome == Err(RunFault::Device), "another outcome")?;
+    ensure(sink.calls() == failure.call, "another number of writes")?;
+    let taken = sink.taken();
+    ensure(wanted.starts_with(taken), "no prefix")?;
+    ensure(taken.len() as u64 + 1 == failure.call, "another prefix")
+}
+
+fn solving_is_cut_short(
+    rt: &HostRuntime,
+    request: &Request,
+    wanted: &[u8],
+    failure: Failure,
+) -> Result<(), Fail> {
+    let mut source = Source::new(FOURS.instance);
+    let mut sink = Sink::new(rt.alloc()).by(1).failing(failure);
+    let result = solve(rt, request, &mut source, &mut sink);
+    is_cut_short(result, wanted, failure, &sink)
+}
+
+#[test]
+fn solving_writes_a_prefix_where_any_write_fails(rt: HostRuntime) -> Result<(), Fail> {
+    for layout in LAYOUTS {
+        let request = request_for(&rt, &FOURS, layout)?;
+        let wanted = answer_in(&rt, &FOURS, layout)?;
+        for call in 1..wanted.len() as u64 + 1 {
+            for way in WRITER_WAYS {
+                for heals in [false, true] {
+                    let failure = Failure { call, way, heals };
+                    solving_is_cut_short(&rt, &request, &wanted, failure)?;
+                }
+            }
+        }
+    }
+    Ok(())
+}
+
+fn checking_is_cut_short(
+    rt: &HostRuntime,
+    request: &Request,
+    answer: &[u8],
+    failure: Failure,
+) -> Result<(), Fail> {
+    let mut source = Source::new(FOURS.instance);
+    let mut other = Source::new(answer);
+    let mut sink = Sink::new(rt.alloc()).by(1).failing(failure);
+    let result = check(rt, request, &mut source, &mut other, &mut sink);
+    is_cut_short(result, b"accepted\n", failure, &sink)
+}
+
+#[test]
+fn checking_writes_a_prefix_where_any_write_fails(rt: HostRuntime) -> Result<(), Fail> {
+    let request = request_for(&rt, &FOURS, Layout::One)?;
+    for layout in LAYOUTS {
+        let answer = answer_in(&rt, &FOURS, layout)?;
+        for call in 1..10 {
+            for way in WRITER_WAYS {
+                for heals in [false, true] {
+                    checking_is_cut_short(&rt, &request, &answer, Failure { call, way, heals })?;
+                }
+            }
+        }
+    }
+    Ok(())
+}
+
+fn drawing_is_cut_short(rt: &HostRuntime, answer: &[u8], failure: Failure) -> Result<(), Fail> {
+    let mut source = Source::new(answer);
+    let mut sink = Sink::new(rt.alloc()).by(1).failing(failure);
+    let result = draw(rt, &mut source, &mut sink);
+    is_cut_short(result, FOURS.chart, failure, &sink)
+}
+
+#[test]
+fn drawing_writes_a_prefix_where_any_write_fails(rt: HostRuntime) -> Result<(), Fail> {
+    for layout in LAYOUTS {
+        let answer = answer_in(&rt, &FOURS, layout)?;
+        for call in 1..FOURS.chart.len() as u64 + 1 {
+            for way in WRITER_WAYS {
+                for heals in [false, true] {
+                    drawing_is_cut_short(&rt, &answer, Failure { call, way, heals })?;
+                }
+            }
+        }
+    }
+    Ok(())
+}
+
+/// A call that fails as the text behind a fault is read.
+const BEHIND: Failure = Failure {
+    call: 4,
+    way: Way::Error,
+    heals: true,
+};
+
+#[test]
+fn a_failing_reader_comes_before_a_fault_of_the_text(rt: HostRuntime) -> Result<(), Fail> {
+    let first = Given::Tardiness { jobs: 3, index: 1 };
+    let request = request(&rt, "1||Lmax", first, Layout::Two)?;
+    let mut source = Source::new(b"x 3 1\n").by(1).failing(BEHIND);
+    let mut sink = Sink::new(rt.alloc());
+    let result = solve(&rt, &request, &mut source, &mut sink);
+    is_cut_off(result, &source, BEHIND, &sink)?;
+    let mut source = Source::new(b"x 3 1\n").by(1);
+    let result = solve(&rt, &request, &mut source, &mut sink);
+    let fault = RunFault::Text(ReadFault::BadNumber(1));
+    ensure(result == Err(fault), "another outcome")?;
+    ensure(source.calls() == 7, "not read to its end")
+}
+
+/// The sizes of the shop stand in its third part of 30 bytes.
+#[test]
+fn a_failing_reader_comes_before_a_refused_growth(rt: HostRuntime) -> Result<(), Fail> {
+    let request = request_for(&rt, &TWO_OF_THREE, Layout::Two)?;
+    let mut sink = Sink::new(rt.alloc());
+    let heap = Refusing::new(rt.alloc(), 0);
+    let mut source = Source::new(SHOP).by(30).failing(BEHIND);
+    let mut reader = Counted::new(&mut source);
+    let mut writer = Counted::new(&mut sink);
+    let result = run_solve(&heap, &request, &mut reader, &mut writer);
+    ensure(heap.has_refused(), "no growth")?;
+    ensure(result == Err(RunFault::Device), "another outcome")?;
+    drop(reader);
+    drop(writer);
+    ensure(source.calls() == BEHIND.call, "another number of reads")?;
+    ensure(sink.calls() == 0, "something was written")
+}
+
+#[test]
+fn no_room_for_the_numbers_is_told_before_the_text(rt: HostRuntime) -> Result<(), Fail> {
+    let request = request_for(&rt, &SECOND_OF_TWO, Layout::Two)?;
+    let mut sink = Sink::new(rt.alloc());
+    let heap = Refusing::new(rt.alloc(), 0);
+    let mut source = Source::new(TARDINESS);
+    let mut reader = Counted::new(&mut source);
+    let mut writer = Counted::new(&mut sink);
+    let result = run_solve(&heap, &request, &mut reader, &mut writer);
+    ensure(result == Err(RunFault::OutOfMemory), "another outcome")?;
+    drop(reader);
+    drop(writer);
+    ensure(source.calls() == 0, "something was read")?;
+    ensure(sink.calls() == 0, "something was written")
+}

@@ -1,0 +1,151 @@
+//! Each worked example through the three runs, in both versions of the answer text; with ample
+//! memory, and with each growth refused.
+use crate::examples::{Example, WORKED, answer_in};
+use crate::growths::{Ended, refuse_each_growth};
+use crate::runs::{LAYOUTS, check_into, draw_into, ensure, request_for, solve_into};
+use refusing::Refusing;
+use std::alloc::Global;
+use std::test::Fail;
+use tf_engine::fault::RunFault;
+use tf_engine::request::Request;
+use tf_engine::run_check::Checked;
+use tf_text::answer::layout::Layout;
+
+#[test]
+fn each_is_solved(rt: HostRuntime) -> Result<(), Fail> {
+    for example in WORKED.iter() {
+        for layout in LAYOUTS {
+            let request = request_for(&rt, example, layout)?;
+            let mut out = Vec::new(rt.alloc());
+            let result = solve_into(rt.alloc(), &request, example.instance, &mut out);
+            ensure(result == Ok(()), example.name)?;
+            ensure(out == answer_in(&rt, example, layout)?, example.name)?;
+        }
+    }
+    Ok(())
+}
+
+#[test]
+fn each_is_accepted(rt: HostRuntime) -> Result<(), Fail> {
+    for example in WORKED.iter() {
+        let request = request_for(&rt, example, Layout::One)?;
+        for layout in LAYOUTS {
+            let answer = answer_in(&rt, example, layout)?;
+            let mut out = Vec::new(rt.alloc());
+            let result = check_into(rt.alloc(), &request, example.instance, &answer, &mut out);
+            ensure(result == Ok(Checked::Accepted), example.name)?;
+            ensure(out.as_slice() == b"accepted\n".as_slice(), example.name)?;
+        }
+    }
+    Ok(())
+}
+
+#[test]
+fn each_is_drawn(rt: HostRuntime) -> Result<(), Fail> {
+    for example in WORKED.iter() {
+        for layout in LAYOUTS {
+            let answer = answer_in(&rt, example, layout)?;
+            let mut out = Vec::new(rt.alloc());
+            let result = draw_into(rt.alloc(), &answer, 72, &mut out);
+            ensure(result == Ok(()), example.name)?;
+            ensure(out.as_slice() == example.chart, example.name)?;
+        }
+    }
+    Ok(())
+}
+
+/// A run ends with exactly these bytes, or with want of memory and nothing written.
+fn ended<T: Drop>(
+    outcome: Result<T, RunFault<&Refusing<Global>>>,
+    out: &[u8],
+    wanted: &[u8],
+    name: &'static str,
+) -> Result<Ended, Fail> {
+    match outcome {
+        Ok(_) => {
+            ensure(out == wanted, name)?;
+            Ok(Ended::Answered)
+        }
+        Err(RunFault::OutOfMemory) => {
+            ensure(out.is_empty(), name)?;
+            Ok(Ended::OutOfMemory)
+        }
+        Err(_) => Err(Fail::new(name)),
+    }
+}
+
+fn solves_on(
+    rt: &HostRuntime,
+    heap: &Refusing<Global>,
+    request: &Request,
+    example: &Example,
+    wanted: &[u8],
+) -> Result<Ended, Fail> {
+    let mut out = Vec::with_capacity(rt.alloc(), 2_000)?;
+    let result = solve_into(heap, request, example.instance, &mut out);
+    ended(result, &out, wanted, example.name)
+}
+
+#[test]
+fn each_is_solved_whatever_growth_is_refused(rt: HostRuntime) -> Result<(), Fail> {
+    for example in WORKED.iter() {
+        for layout in LAYOUTS {
+            let request = request_for(&rt, example, layout)?;
+            let wanted = answer_in(&rt, example, layout)?;
+            let call = |heap: &Refusing<Global>| solves_on(&rt, heap, &request, example, &wanted);
+            let growths = refuse_each_growth(&rt, call)?;
+            ensure(growths > 3, example.name)?;
+        }
+    }
+    Ok(())
+}
+
+fn accepts_on(
+    rt: &HostRuntime,
+    heap: &Refusing<Global>,
+    request: &Request,
+    example: &Example,
+    answer: &[u8],
+) -> Result<Ended, Fail> {
+    let mut out = Vec::with_capacity(rt.alloc(), 100)?;
+    let result = check_into(heap, request, example.instance, answer, &mut out);
+    ended(result, &out, b"accepted\n", example.name)
+}
+
+#[test]
+fn each_is_accepted_whatever_growth_is_refused(rt: HostRuntime) -> Result<(), Fail> {
+    for example in WORKED.iter() {
+        for layout in LAYOUTS {
+            let request = request_for(&rt, example, layout)?;
+            let answer = answer_in(&rt, example, layout)?;
+            let call = |heap: &Refusing<Global>| accepts_on(&rt, heap, &request, example, &answer);
+            let growths = refuse_each_growth(&rt, call)?;
+            ensure(growths > 3, example.name)?;
+        }
+    }
+    Ok(())
+}
+
+fn draws_on(
+    rt: &HostRuntime,
+    heap: &Refusing<Global>,
+    example: &Example,
+    answer: &[u8],
+) -> Result<Ended, Fail> {
+    let mut out = Vec::with_capacity(rt.alloc(), 2_000)?;
+    let result = draw_into(heap, answer, 72, &mut out);
+    ended(result, &out, example.chart, example.name)
+}
+
+#[test]
+fn each_is_drawn_whatever_growth_is_refused(rt: HostRuntime) -> Result<(), Fail> {
+    for example in WORKED.iter() {
+        for layout in LAYOUTS {
+            let answer = answer_in(&rt, example, layout)?;
+            let call = |heap: &Refusing<Global>| draws_on(&rt, heap, example, &answer);
+            let growths = refuse_each_growth(&rt, call)?;
+            ensure(growths > 0, example.name)?;
+        }
+    }
+    Ok(())
+}
