@@ -3,20 +3,12 @@
 #![tactic(auto)]
 
 #[cfg(test)]
-mod certified;
-#[cfg(test)]
 mod counted;
 pub mod devices;
 #[cfg(test)]
 mod devices_in_runs;
 pub mod examples;
 pub mod growths;
-#[cfg(test)]
-mod lent;
-#[cfg(test)]
-mod memoryless;
-#[cfg(test)]
-mod readers;
 pub mod runs;
 #[cfg(test)]
 mod worked;
