@@ -177,3 +177,6 @@ fn push_job(
     )?;
     text.extend_from_slice(line.as_bytes())
 }
+
+#[cfg(test)]
+mod tests;

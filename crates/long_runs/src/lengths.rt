@@ -1,73 +1,113 @@
-//! Texts of as many bytes as there may be, and of one more.
+//! Texts of as many bytes as there may be, of one more, and without an end.
 use std::test::Fail;
-use tf_model::instance::Instance;
+use tf_engine::fault::RunFault;
+use tf_engine::run_check::run_check;
+use tf_engine::run_gantt::run_gantt;
+use tf_engine::run_solve::run_solve;
 use tf_read::fault::ReadFault;
-use tf_read::flow_shop::FlowReader;
-use tf_read::weighted_tardiness::WtReader;
-use tf_words::feed::Feed;
+use tf_text::answer::fault::AnswerFault;
+use tf_text::answer::layout::Layout;
+use tf_text::counted::Counted;
+use trials::devices::{Sink, Source};
+use trials::examples::Given;
+use trials::examples::parallel::FOURS;
+use trials::runs::{ensure, request, request_for};
 
-fn ensure(is_so: bool, otherwise: &'static str) -> Result<(), Fail> {
-    if is_so {
-        Ok(())
-    } else {
-        Err(Fail::new(otherwise))
-    }
+/// The greatest number of bytes of a text.
+const MOST: usize = 67_108_864;
+
+const BLANKS: [u8; 4096] = [b' '; 4096];
+
+/// How many bytes are read of so many.
+fn asked_of(bytes: usize) -> u64 {
+    bytes.min(MOST + 1) as u64
 }
 
-fn is_fault(outcome: Result<Instance, ReadFault>, wanted: ReadFault) -> bool {
-    match outcome {
-        Ok(_) => false,
-        Err(fault) => fault == wanted,
-    }
+/// Solving so many bytes, this text over and over, is refused after so many of them were read, and
+/// nothing is written.
+fn is_not_solved(
+    rt: &HostRuntime,
+    given: Given,
+    text: &[u8],
+    bytes: usize,
+    fault: ReadFault,
+) -> Result<(), Fail> {
+    let request = request(rt, "1||Lmax", given, Layout::Two)?;
+    let mut source = Source::repeating(text, bytes);
+    let mut sink = Sink::new(rt.alloc());
+    let mut reader = Counted::new(&mut source);
+    let mut writer = Counted::new(&mut sink);
+    let result = run_solve(rt.alloc(), &request, &mut reader, &mut writer);
+    drop(reader);
+    drop(writer);
+    ensure(result == Err(RunFault::Text(fault)), "another outcome")?;
+    ensure(source.given() == asked_of(bytes), "another number of bytes")?;
+    ensure(sink.calls() == 0, "something was written")
 }
 
-/// Feeds this text and then blanks, 1,024 times 65,536 bytes in all: as many as a text may have.
-fn feed_full<F: Feed>(reader: &mut F, text: &[u8]) {
-    let blanks = [b' '; 65_536];
-    reader.feed(text);
-    reader.feed(&blanks[text.len().min(blanks.len())..]);
-    for _ in 0..1023u64 {
-        reader.feed(&blanks);
-    }
-}
+const TARDINESS: Given = Given::Tardiness { jobs: 1, index: 1 };
 
-/// One instance of one job: its time, its weight and its due date.
-const TARDINESS: &[u8] = b"4 1 -2";
+const SHOP: Given = Given::FlowShop {
+    name: "demo",
+    pair: None,
+};
 
 #[test]
-fn a_weighted_tardiness_file(rt: HostRuntime) -> Result<(), Fail> {
-    let mut reader = WtReader::new(rt.alloc(), 1, 1)?;
-    feed_full(&mut reader, TARDINESS);
-    ensure(reader.finish().is_ok(), "too long")?;
-    let mut longer = WtReader::new(rt.alloc(), 1, 1)?;
-    feed_full(&mut longer, TARDINESS);
-    longer.feed(b" ");
-    ensure(is_fault(longer.finish(), ReadFault::TooLong), "short")
-}
-
-/// A text that is too long is refused as such, also behind a fault.
-#[test]
-fn a_fault_in_a_long_text(rt: HostRuntime) -> Result<(), Fail> {
-    let mut reader = WtReader::new(rt.alloc(), 1, 1)?;
-    feed_full(&mut reader, b"4 x");
-    ensure(is_fault(reader.finish(), ReadFault::BadNumber(1)), "long")?;
-    let mut longer = WtReader::new(rt.alloc(), 1, 1)?;
-    feed_full(&mut longer, b"4 x");
-    longer.feed(b"\n");
-    ensure(is_fault(longer.finish(), ReadFault::TooLong), "short")
+fn an_instance_has_at_most_67_108_864_bytes(rt: HostRuntime) -> Result<(), Fail> {
+    is_not_solved(&rt, Given::Table, &BLANKS, MOST, ReadFault::EndsEarly)?;
+    is_not_solved(&rt, TARDINESS, &BLANKS, MOST, ReadFault::NoInstance)?;
+    is_not_solved(&rt, SHOP, &BLANKS, MOST, ReadFault::NoInstance)?;
+    for given in [Given::Table, TARDINESS, SHOP] {
+        is_not_solved(&rt, given, &BLANKS, MOST + 1, ReadFault::TooLong)?;
+    }
+    Ok(())
 }
 
 #[test]
-fn a_flow_shop_file(rt: HostRuntime) -> Result<(), Fail> {
-    let shop = b"instance one\n1 1\n0 4";
-    let mut reader = FlowReader::new(rt.alloc(), b"one", None);
-    feed_full(&mut reader, shop);
-    ensure(reader.finish().is_ok(), "too long")?;
-    let mut longer = FlowReader::new(rt.alloc(), b"one", None);
-    feed_full(&mut longer, shop);
-    longer.feed(b"\n ");
-    ensure(is_fault(longer.finish(), ReadFault::TooLong), "short")?;
-    let mut other = FlowReader::new(rt.alloc(), b"two", None);
-    feed_full(&mut other, shop);
-    ensure(is_fault(other.finish(), ReadFault::NoInstance), "found")
+fn an_instance_without_an_end_is_read_by_one_byte_more(rt: HostRuntime) -> Result<(), Fail> {
+    for given in [Given::Table, TARDINESS, SHOP] {
+        is_not_solved(&rt, given, &BLANKS, usize::MAX, ReadFault::TooLong)?;
+    }
+    Ok(())
+}
+
+/// An answer of so many blanks is refused in both runs that read one.
+fn is_no_answer(rt: &HostRuntime, bytes: usize, fault: AnswerFault) -> Result<(), Fail> {
+    let request = request_for(rt, &FOURS, Layout::Two)?;
+    let mut source = Source::repeating(&BLANKS, bytes);
+    let mut sink = Sink::new(rt.alloc());
+    let mut instance = Counted::new(FOURS.instance);
+    let mut reader = Counted::new(&mut source);
+    let mut writer = Counted::new(&mut sink);
+    let result = run_check(
+        rt.alloc(),
+        &request,
+        &mut instance,
+        &mut reader,
+        &mut writer,
+    );
+    drop(reader);
+    ensure(result == Err(RunFault::Answer(fault)), "another outcome")?;
+    ensure(source.given() == asked_of(bytes), "another number of bytes")?;
+    let mut source = Source::repeating(&BLANKS, bytes);
+    let mut reader = Counted::new(&mut source);
+    let result = run_gantt(rt.alloc(), &mut reader, &mut writer, 72);
+    drop(reader);
+    drop(writer);
+    ensure(result == Err(RunFault::Answer(fault)), "another outcome")?;
+    ensure(source.given() == asked_of(bytes), "another number of bytes")?;
+    ensure(sink.calls() == 0, "something was written")
+}
+
+#[test]
+fn an_answer_has_at_most_67_108_864_bytes(rt: HostRuntime) -> Result<(), Fail> {
+    is_no_answer(&rt, MOST, AnswerFault::EndsEarly)?;
+    is_no_answer(&rt, MOST + 1, AnswerFault::TooLong)?;
+    is_no_answer(&rt, usize::MAX, AnswerFault::TooLong)
+}
+
+#[test]
+fn a_text_that_is_too_long_is_refused_as_such_behind_a_fault(rt: HostRuntime) -> Result<(), Fail> {
+    is_not_solved(&rt, TARDINESS, b"4 x ", MOST, ReadFault::BadNumber(1))?;
+    is_not_solved(&rt, TARDINESS, b"4 x ", MOST + 1, ReadFault::TooLong)
 }

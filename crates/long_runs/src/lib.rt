@@ -8,4 +8,6 @@ pub mod drawn;
 #[cfg(test)]
 mod lengths;
 #[cfg(test)]
+mod many_jobs;
+#[cfg(test)]
 mod tests;

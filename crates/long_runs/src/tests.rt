@@ -1,13 +1,11 @@
+//! Random jobs of each class, and files beside tables of the same jobs.
 use crate::drawn::{Drawn, Machines};
-use std::alloc::AllocError;
 use std::test::Fail;
-use tf_engine::request::{Form, Request};
-use tf_engine::run_check::run_check;
-use tf_engine::run_gantt::run_gantt;
-use tf_engine::run_solve::run_solve;
-use tf_engine::text::Text;
+use tf_engine::request::Request;
+use tf_engine::run_check::Checked;
 use tf_text::answer::layout::Layout;
-use tf_text::counted::Counted;
+use trials::examples::Given;
+use trials::runs::{LAYOUTS, check_into, draw_into, ensure, request, solve_into};
 
 /// Classes of one machine with as many jobs as there may be.
 const SINGLE: [&str; 9] = [
@@ -29,67 +27,18 @@ const PARALLEL: [&str; 2] = ["P||sumC", "P|prmp|Cmax"];
 
 const SHOPS: [&str; 4] = ["F2||Cmax", "F2|prmp|Cmax", "O2||Cmax", "O2|prmp|Cmax"];
 
-fn ensure(is_so: bool, otherwise: &'static str) -> Result<(), Fail> {
-    if is_so {
-        Ok(())
-    } else {
-        Err(Fail::new(otherwise))
-    }
-}
-
-fn request(
-    rt: &HostRuntime,
-    problem: &str,
-    form: Form,
-    layout: Layout,
-) -> Result<Request, AllocError> {
-    Ok(Request {
-        problem: Text::new(String::from_str(rt.alloc(), problem)?),
-        form,
-        machines: None,
-        layout,
-    })
-}
-
-fn solves(rt: &HostRuntime, request: &Request, instance: &[u8]) -> Result<Vec<u8>, Fail> {
-    let mut answer = Vec::new(rt.alloc());
-    let mut reader = Counted::new(instance);
-    let mut writer = Counted::new(&mut answer);
-    let solved = run_solve(rt.alloc(), request, &mut reader, &mut writer);
-    drop(writer);
-    ensure(solved == Ok(()), "not solved")?;
-    Ok(answer)
-}
-
-fn accepts(
-    rt: &HostRuntime,
-    request: &Request,
-    instance: &[u8],
-    answer: &[u8],
-) -> Result<(), Fail> {
-    let mut line = Vec::new(rt.alloc());
-    let mut instance = Counted::new(instance);
-    let mut reader = Counted::new(answer);
-    let mut writer = Counted::new(&mut line);
-    let checked = run_check(rt.alloc(), request, &mut instance, &mut reader, &mut writer);
-    drop(writer);
-    ensure(checked.is_ok(), "not checked")?;
-    ensure(line.as_slice() == b"accepted\n".as_slice(), "rejected")
-}
-
-fn draws(rt: &HostRuntime, answer: &[u8]) -> Result<(), Fail> {
-    let mut chart = Vec::new(rt.alloc());
-    let mut reader = Counted::new(answer);
-    let mut writer = Counted::new(&mut chart);
-    let drawn = run_gantt(rt.alloc(), &mut reader, &mut writer, 72);
-    ensure(drawn == Ok(()), "not drawn")
-}
-
 /// The answer of an instance, which is accepted and drawn.
 fn answers(rt: &HostRuntime, request: &Request, instance: &[u8]) -> Result<Vec<u8>, Fail> {
-    let answer = solves(rt, request, instance)?;
-    accepts(rt, request, instance, &answer)?;
-    draws(rt, &answer)?;
+    let mut answer = Vec::new(rt.alloc());
+    let solved = solve_into(rt.alloc(), request, instance, &mut answer);
+    ensure(solved == Ok(()), "not solved")?;
+    let mut line = Vec::new(rt.alloc());
+    let checked = check_into(rt.alloc(), request, instance, &answer, &mut line);
+    ensure(checked == Ok(Checked::Accepted), "not checked")?;
+    ensure(line.as_slice() == b"accepted\n".as_slice(), "rejected")?;
+    let mut chart = Vec::new(rt.alloc());
+    let drawn = draw_into(rt.alloc(), &answer, 72, &mut chart);
+    ensure(drawn == Ok(()), "not drawn")?;
     Ok(answer)
 }
 
@@ -102,8 +51,8 @@ fn are_answered(
 ) -> Result<(), Fail> {
     let table = Drawn::new(rt, machines, jobs)?.table(rt)?;
     for problem in problems {
-        for layout in [Layout::One, Layout::Two] {
-            let request = request(rt, problem, Form::Table, layout)?;
+        for layout in LAYOUTS {
+            let request = request(rt, problem, Given::Table, layout)?;
             answers(rt, &request, &table)?;
         }
     }
@@ -141,16 +90,16 @@ fn most_jobs_of_shops(rt: HostRuntime) -> Result<(), Fail> {
     are_answered(&rt, &SHOPS, Machines::Shop, 100_000)
 }
 
-/// The jobs of a table have the same answer as those of a file in this form.
+/// The jobs of a table have the same answer as those of a file.
 fn are_answered_alike(
     rt: &HostRuntime,
     problem: &str,
     table: &[u8],
-    form: Form,
+    given: Given,
     file: &[u8],
 ) -> Result<(), Fail> {
-    let of_table = request(rt, problem, Form::Table, Layout::Two)?;
-    let of_file = request(rt, problem, form, Layout::Two)?;
+    let of_table = request(rt, problem, Given::Table, Layout::Two)?;
+    let of_file = request(rt, problem, given, Layout::Two)?;
     let same = answers(rt, &of_table, table)? == answers(rt, &of_file, file)?;
     ensure(same, "another answer")
 }
@@ -158,12 +107,12 @@ fn are_answered_alike(
 /// So many jobs of one machine from a table and from a weighted tardiness file.
 fn is_tardiness_alike(rt: &HostRuntime, jobs: u32) -> Result<(), Fail> {
     let drawn = Drawn::new(rt, Machines::One, jobs)?;
-    let form = Form::Wt { jobs, index: 1 };
+    let given = Given::Tardiness { jobs, index: 1 };
     are_answered_alike(
         rt,
         "1||Lmax",
         &drawn.table(rt)?,
-        form,
+        given,
         &drawn.tardiness(rt)?,
     )
 }
@@ -179,13 +128,15 @@ fn weighted_tardiness_files(rt: HostRuntime) -> Result<(), Fail> {
 /// So many jobs of a flow shop from a table and from a flow shop file.
 fn is_flow_shop_alike(rt: &HostRuntime, jobs: u32) -> Result<(), Fail> {
     let drawn = Drawn::new(rt, Machines::Shop, jobs)?;
-    let name = Text::new(String::from_str(rt.alloc(), "drawn")?);
-    let form = Form::Flow { name, pair: None };
+    let given = Given::FlowShop {
+        name: "drawn",
+        pair: None,
+    };
     are_answered_alike(
         rt,
         "F2||Cmax",
         &drawn.table(rt)?,
-        form,
+        given,
         &drawn.flow_shop(rt)?,
     )
 }

@@ -38,6 +38,7 @@ const FAULTS: &[(&str, ReadFault)] = &[
     ),
     ("instance demo\n1 0", ReadFault::BadLine(2)),
     ("instance demo\n\n1 1001", ReadFault::BadLine(3)),
+    ("instance demo\nx 2 2\n1 0", ReadFault::BadLine(3)),
     (
         "instance demo\n1 999999999999999999999999999999",
         ReadFault::BadLine(2),

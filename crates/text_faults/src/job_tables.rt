@@ -51,6 +51,11 @@ const TABLES: &[(&str, ReadFault)] = &[
     ("table 1\njob 1 p=1\nprec 1 2", ReadFault::BadArc(3)),
     ("table 1\njob 1 p=1\nprec 9 x", ReadFault::BadArc(3)),
     ("table 1\njob 1 p=1\nprec x 9", ReadFault::BadNumber(3)),
+    ("table 1\njob 1 p=1\nprec 1 x", ReadFault::BadNumber(3)),
+    (
+        "table 1\r\n\r\njob 1 p=1\r\nprec 9 x\r\n",
+        ReadFault::BadArc(4),
+    ),
     (
         "table 1\njob 1 p=1\nprec 1 99999999999999999999",
         ReadFault::BadArc(3),
@@ -63,6 +68,43 @@ fn a_table_has_its_first_fault(rt: HostRuntime) {
         let read = read_table(rt.alloc(), text.as_bytes());
         assert_eq!(rt; read.err(), Some(*fault), "{text}");
     }
+}
+
+/// Tables with bytes that are no text.
+const BYTES: [(&[u8], ReadFault); 5] = [
+    (b"\xff", ReadFault::BadLine(1)),
+    (b"\0table 1\njob 1 p=1", ReadFault::BadLine(1)),
+    (b"table 1\njob 1 p=\0", ReadFault::BadNumber(2)),
+    (b"table 1\njob 1 p=1\xff", ReadFault::BadNumber(2)),
+    (b"table 1\njob 1 p=x\n\xff", ReadFault::BadNumber(2)),
+];
+
+#[test]
+fn bytes_that_are_no_text_are_faults_where_they_stand(rt: HostRuntime) {
+    for (text, fault) in BYTES {
+        let read = read_table(rt.alloc(), text);
+        assert_eq!(rt; read.err(), Some(fault));
+    }
+}
+
+/// The front of a table whose next word has 10,000 digits.
+const LONG: [(&[u8], ReadFault); 3] = [
+    (b"table 1\njob 1 p=", ReadFault::NumberTooLarge(2)),
+    (b"table 1\njob 1 p=-", ReadFault::NumberTooLarge(2)),
+    (b"table 1\nmachines ", ReadFault::BadLine(2)),
+];
+
+#[test]
+fn numbers_of_many_digits_are_too_large(rt: HostRuntime) -> Result<(), Fail> {
+    for (front, fault) in LONG {
+        let mut text = Vec::from_slice(rt.alloc(), front)?;
+        for _ in 0..10_000 {
+            text.push(b'9')?;
+        }
+        let read = read_table(rt.alloc(), &text);
+        assert_eq!(rt; read.err(), Some(fault));
+    }
+    Ok(())
 }
 
 /// Lines for job 1.
@@ -136,6 +178,8 @@ const JOBS: &[(&str, ReadFault)] = &[
     ("job 1 p=-1", ReadFault::Negative(2)),
     ("job 1 p=1,-1", ReadFault::Negative(2)),
     ("job 1 p=-1,x", ReadFault::Negative(2)),
+    ("job 1 p=-1 w=x", ReadFault::Negative(2)),
+    ("job 1 p=x w", ReadFault::BadNumber(2)),
     ("job 1 w=-1", ReadFault::Negative(2)),
     ("job 1 r=-1 p=1", ReadFault::Negative(2)),
     ("job 1 p=1 h=0,-1:2", ReadFault::Negative(2)),

@@ -1,10 +1,6 @@
 //! Solving, from the bytes of a problem and an instance to the bytes of an answer, and judging an answer.
 #![tactic(auto)]
 
-#[cfg(test)]
-mod devices;
-#[cfg(test)]
-mod examples;
 pub mod fault;
 mod instance_read;
 pub mod request;
@@ -15,6 +11,4 @@ mod sheet_said;
 pub mod solve;
 mod task_for;
 pub mod text;
-#[cfg(test)]
-mod trial;
 mod verdict_line;

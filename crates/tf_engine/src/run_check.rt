@@ -124,6 +124,3 @@ fn verdict_on<A: Allocator + Copy, B: Allocator, C: Allocator>(
         Verdict::Rejected(reason) => Ok(Checked::Rejected(reason)),
     }
 }
-
-#[cfg(test)]
-mod tests;

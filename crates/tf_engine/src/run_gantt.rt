@@ -69,6 +69,3 @@ fn copied<A: Allocator>(alloc: A, pieces: &[Piece]) -> Result<Vec<Piece, A>, Out
 {
     Ok(pieces.to_vec(alloc)?)
 }
-
-#[cfg(test)]
-mod tests;

@@ -82,6 +82,3 @@ fn sheet_for<A: Allocator + Copy, B: Allocator>(
         answer,
     })
 }
-
-#[cfg(test)]
-mod tests;

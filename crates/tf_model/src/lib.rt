@@ -12,5 +12,3 @@ pub mod memory;
 pub mod prepare;
 pub mod problem;
 pub mod task;
-#[cfg(test)]
-mod tests;

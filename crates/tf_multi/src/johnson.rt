@@ -125,6 +125,3 @@ fn rising<A: Allocator>(alloc: A, jobs: &[JobId]) -> Result<Vec<JobId, A>, OutOf
     sorted.sort_unstable();
     Ok(sorted)
 }
-
-#[cfg(test)]
-mod tests;

@@ -160,6 +160,3 @@ fn is_early<B: Allocator>(task: &Task<B>, job: JobId) -> bool
     let row = task.job(job);
     row.first <= row.second
 }
-
-#[cfg(test)]
-mod tests;

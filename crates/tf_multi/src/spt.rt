@@ -84,6 +84,3 @@ fn reversed<A: Allocator>(alloc: A, jobs: &[WeightedJob]) -> Result<Vec<JobId, A
     list.as_mut_slice().reverse();
     Ok(list)
 }
-
-#[cfg(test)]
-mod tests;

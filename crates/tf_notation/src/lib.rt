@@ -7,7 +7,5 @@
 
 pub mod reading;
 pub mod spelling;
-#[cfg(test)]
-mod tests;
 mod token;
 pub mod writing;

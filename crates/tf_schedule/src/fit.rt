@@ -355,6 +355,3 @@ fn first_out_of_flow(class: Class, first: &[Extent], second: &[Extent]) -> Optio
     }
     None
 }
-
-#[cfg(test)]
-mod tests;

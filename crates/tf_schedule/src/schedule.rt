@@ -145,6 +145,3 @@ fn judge_each(pieces: &[Piece]) -> Result<(), PieceFault>
     }
     Ok(())
 }
-
-#[cfg(test)]
-mod tests;

@@ -215,6 +215,3 @@ fn jobs_within<A: Allocator, B: Allocator>(
     }
     Ok(jobs)
 }
-
-#[cfg(test)]
-mod tests;

@@ -195,6 +195,3 @@ fn left_jobs<A: Allocator + Copy, B: Allocator>(
     }
     Ok(left)
 }
-
-#[cfg(test)]
-mod tests;

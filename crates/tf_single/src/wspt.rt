@@ -61,6 +61,3 @@ fn in_sequence<A: Allocator>(
     }
     Ok(operations)
 }
-
-#[cfg(test)]
-mod tests;

@@ -4,6 +4,4 @@ pub mod layout;
 pub mod reading;
 pub mod run;
 pub mod sheet;
-#[cfg(test)]
-mod tests;
 pub mod writing;

@@ -1,0 +1,179 @@
+use std::process::Abort;
+use std::test::Fail;
+use tf_model::cost::{Cost, CostFault, StepCost};
+use tf_model::ids::JobId;
+use tf_model::instance::{Instance, InstanceFault};
+use tf_model::job::{Job, Times};
+use tf_model::limit::LIMIT;
+use tf_model::prepare::{Field, Refusal, prepare};
+use tf_model::problem::{Env, Goal, Problem};
+
+fn job_id(rt: &impl Abort, number: u32) -> JobId {
+    JobId::new(number).expect(rt, "a job")
+}
+
+fn step_fault(base: i64, steps: Vec<(i64, i64)>) -> Option<CostFault> {
+    StepCost::new(base, steps).err()
+}
+
+#[test]
+fn step_costs(rt: HostRuntime) -> Result<(), Fail> {
+    let steps = vec![in rt.alloc(); (5, 3), (5, 4)]?;
+    assert_eq!(rt; step_fault(0, steps), Some(CostFault::TimesNotRising));
+    let steps = vec![in rt.alloc(); (5, 3), (9, 2)]?;
+    assert_eq!(rt; step_fault(0, steps), Some(CostFault::CostFalls));
+    let steps = vec![in rt.alloc(); (-1, 3)]?;
+    assert_eq!(rt; step_fault(0, steps), Some(CostFault::OutOfRange));
+    let steps = vec![in rt.alloc(); (0, -2)]?;
+    let cost = StepCost::new(-2, steps).ok().ok_or("a fault")?;
+    assert_eq!(rt; cost.value_at(0), -2);
+    Ok(())
+}
+
+fn timed(times: Times) -> Job {
+    Job {
+        times,
+        weight: None,
+        due: None,
+        release: None,
+        cost: None,
+    }
+}
+
+fn weighted(time: i64, weight: i64) -> Job {
+    Job {
+        weight: Some(weight),
+        ..timed(Times::One(time))
+    }
+}
+
+#[test]
+fn instance_faults(rt: HostRuntime) -> Result<(), Fail> {
+    let arcs = Vec::new(rt.alloc());
+    let fault = Instance::new(Vec::new(rt.alloc()), arcs, None).err();
+    assert_eq!(rt; fault, Some(InstanceFault::NoJobs));
+
+    let jobs = vec![in rt.alloc(); timed(Times::One(1))]?;
+    let fault = Instance::new(jobs, Vec::new(rt.alloc()), Some(0)).err();
+    assert_eq!(rt; fault, Some(InstanceFault::TooManyMachines));
+
+    let jobs = vec![in rt.alloc(); timed(Times::One(1))]?;
+    let arcs = vec![in rt.alloc(); (job_id(&rt, 1), job_id(&rt, 2))]?;
+    let fault = Instance::new(jobs, arcs, None).err();
+    assert_eq!(rt; fault, Some(InstanceFault::BadArc(1)));
+
+    let jobs = vec![in rt.alloc(); weighted(1, -1)]?;
+    let fault = Instance::new(jobs, Vec::new(rt.alloc()), None).err();
+    assert_eq!(rt; fault, Some(InstanceFault::NegativeNumber(job_id(&rt, 1))));
+
+    let far = Job {
+        due: Some(-4_000_000_000_000_000_001),
+        ..timed(Times::One(1))
+    };
+    let jobs = vec![in rt.alloc(); far]?;
+    let fault = Instance::new(jobs, Vec::new(rt.alloc()), None).err();
+    assert_eq!(rt; fault, Some(InstanceFault::OutOfRange(job_id(&rt, 1))));
+    Ok(())
+}
+
+fn problem(env: Env, count: Option<u32>, goal: Goal, prmp: bool) -> Problem {
+    Problem {
+        env,
+        count,
+        release: false,
+        prec: false,
+        prmp,
+        prmu: false,
+        nwt: false,
+        block: false,
+        rcrc: false,
+        goal,
+    }
+}
+
+/// What is refused of these jobs without arcs, with these numbers of machines of the caller and of
+/// the instance.
+fn refusal(
+    rt: &HostRuntime,
+    problem: &Problem,
+    argument: Option<u32>,
+    machines: Option<u32>,
+    jobs: Vec<Job>,
+) -> Result<Option<Refusal>, Fail> {
+    let instance = Instance::new(jobs, Vec::new(rt.alloc()), machines)
+        .ok()
+        .ok_or("a fault")?;
+    Ok(prepare(rt.alloc(), &instance, problem, argument).err())
+}
+
+#[test]
+fn refusals_of_one_job(rt: HostRuntime) -> Result<(), Fail> {
+    let makespan = problem(Env::Parallel, None, Goal::Cmax, true);
+    let pair = problem(Env::Parallel, Some(2), Goal::Cmax, true);
+    let flow = problem(Env::Flow, None, Goal::Cmax, false);
+    let weights = problem(Env::Single, None, Goal::SumWC, false);
+    let plain = problem(Env::Single, None, Goal::SumC, false);
+    let first = job_id(&rt, 1);
+    let rows = [
+        (makespan, None, None, 1, Refusal::MachinesMissing),
+        (pair, None, Some(3), 1, Refusal::MachinesDisagree),
+        (makespan, Some(0), None, 1, Refusal::MachineCount(0)),
+        (flow, Some(3), None, 3, Refusal::MachineCount(3)),
+        (flow, Some(2), None, 3, Refusal::WrongTimes(first)),
+        (
+            weights,
+            None,
+            None,
+            3,
+            Refusal::MissingField(first, Field::Weight),
+        ),
+        (plain, None, None, 0, Refusal::ZeroTime(first)),
+    ];
+    for (problem, argument, machines, time, wanted) in rows {
+        let jobs = vec![in rt.alloc(); timed(Times::One(time))]?;
+        assert_eq!(rt;
+            refusal(&rt, &problem, argument, machines, jobs)?,
+            Some(wanted)
+        );
+    }
+    Ok(())
+}
+
+#[test]
+fn totals(rt: HostRuntime) -> Result<(), Fail> {
+    let weights = problem(Env::Single, None, Goal::SumWC, false);
+    let jobs = vec![in rt.alloc(); weighted(LIMIT, 1)]?;
+    assert_eq!(rt; refusal(&rt, &weights, None, None, jobs)?, None);
+    let jobs = vec![in rt.alloc(); weighted(LIMIT, 2)]?;
+    assert_eq!(rt;
+        refusal(&rt, &weights, None, None, jobs)?,
+        Some(Refusal::TotalTooLarge)
+    );
+    let makespan = problem(Env::Parallel, Some(1000), Goal::Cmax, true);
+    let jobs = vec![in rt.alloc();
+        timed(Times::One(2_000_000_000_000_000_000)),
+        timed(Times::One(2_000_000_000_000_000_001)),
+    ]?;
+    assert_eq!(rt;
+        refusal(&rt, &makespan, None, None, jobs)?,
+        Some(Refusal::TotalTooLarge)
+    );
+    Ok(())
+}
+
+#[test]
+fn each_refusal_before_the_next(rt: HostRuntime) -> Result<(), Fail> {
+    let weights = problem(Env::Single, None, Goal::SumWC, false);
+    let jobs = vec![in rt.alloc(); timed(Times::One(1)), timed(Times::Two(1, 1))]?;
+    let wanted = Refusal::WrongTimes(job_id(&rt, 2));
+    assert_eq!(rt; refusal(&rt, &weights, None, None, jobs)?, Some(wanted));
+
+    let jobs = vec![in rt.alloc(); weighted(0, 1), timed(Times::One(1))]?;
+    let wanted = Refusal::MissingField(job_id(&rt, 2), Field::Weight);
+    assert_eq!(rt; refusal(&rt, &weights, None, None, jobs)?, Some(wanted));
+
+    let jobs = vec![in rt.alloc(); weighted(LIMIT, 2), weighted(0, 1)]?;
+    let wanted = Refusal::ZeroTime(job_id(&rt, 2));
+    assert_eq!(rt; refusal(&rt, &weights, None, None, jobs)?, Some(wanted));
+    Ok(())
+}

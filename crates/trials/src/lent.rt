@@ -1,0 +1,174 @@
+//! Calls on lent arguments: with each of their growths refused, and again with ample memory.
+use crate::examples::{Example, Given, WORKED};
+use crate::growths::{Ended, refuse_each_growth};
+use crate::runs::ensure;
+use refusing::Refusing;
+use std::alloc::{Allocator, Global};
+use std::test::Fail;
+use tf_check::answer::Answer;
+use tf_check::certificate::Certificate;
+use tf_check::check::check;
+use tf_check::evidence::Evidence;
+use tf_check::fault::BoundFault;
+use tf_check::verdict::Verdict;
+use tf_engine::solve::{SolveFault, solve};
+use tf_model::instance::Instance;
+use tf_model::prepare::{Refusal, prepare};
+use tf_model::problem::Problem;
+use tf_model::task::Task;
+use tf_notation::reading::read;
+use tf_read::fault::ReadFault;
+use tf_read::flow_shop::read_flowshop;
+use tf_read::job_table::read_table;
+use tf_read::weighted_tardiness::read_wt;
+use tf_schedule::fit::{Misfit, fits};
+use tf_schedule::schedule::Schedule;
+use tf_text::answer::layout::Layout;
+use tf_text::answer::reading::read_answer;
+use tf_text::answer::sheet::Sheet;
+use tf_text::answer::writing::answer_bytes;
+
+/// What an example lends to a call.
+#[derive(Drop)]
+struct Lent {
+    example: &'static Example,
+    instance: Instance,
+    problem: Problem,
+    task: Task,
+    answer: Answer,
+}
+
+fn instance_of(rt: &HostRuntime, example: &Example) -> Result<Instance, ReadFault> {
+    match example.given {
+        Given::Table => read_table(rt.alloc(), example.instance),
+        Given::Tardiness { jobs, index } => read_wt(rt.alloc(), example.instance, jobs, index),
+        Given::FlowShop { name, pair } => {
+            read_flowshop(rt.alloc(), example.instance, name.as_bytes(), pair)
+        }
+    }
+}
+
+fn lend(rt: &HostRuntime, example: &'static Example) -> Result<Lent, Fail> {
+    let instance = instance_of(rt, example)?;
+    let problem = read(example.problem.as_bytes())?;
+    let task = prepare(rt.alloc(), &instance, &problem, None)?;
+    let answer = read_answer(rt.alloc(), example.answer)?.answer;
+    Ok(Lent {
+        example,
+        instance,
+        problem,
+        task,
+        answer,
+    })
+}
+
+impl Lent {
+    /// The answer is that of the example.
+    fn is_answer<A: Allocator, B: Allocator>(
+        &self,
+        rt: &HostRuntime,
+        task: &Task<A>,
+        answer: Answer<B>,
+    ) -> Result<Ended, Fail> {
+        let sheet = Sheet {
+            problem: self.problem,
+            jobs: task.len() as u32,
+            machines: task.machines(),
+            answer,
+        };
+        let text = answer_bytes(rt.alloc(), &sheet, Layout::One)?;
+        ensure(text.as_slice() == self.example.answer, self.example.name)?;
+        Ok(Ended::Answered)
+    }
+
+    fn fails(&self) -> Fail {
+        Fail::new(self.example.name)
+    }
+
+    /// The task is one whose answer is that of the example.
+    fn prepares(&self, rt: &HostRuntime, heap: &Refusing<Global>) -> Result<Ended, Fail> {
+        match prepare(heap, &self.instance, &self.problem, None) {
+            Ok(task) => {
+                let ample = Refusing::new(rt.alloc(), u64::MAX);
+                let answer = solve(&ample, &task).ok().ok_or("no answer")?;
+                self.is_answer(rt, &task, answer)
+            }
+            Err(Refusal::OutOfMemory) => Ok(Ended::OutOfMemory),
+            Err(_) => Err(self.fails()),
+        }
+    }
+
+    fn solves(&self, rt: &HostRuntime, heap: &Refusing<Global>) -> Result<Ended, Fail> {
+        match solve(heap, &self.task) {
+            Ok(answer) => self.is_answer(rt, &self.task, answer),
+            Err(SolveFault::OutOfMemory) => Ok(Ended::OutOfMemory),
+            Err(SolveFault::Cycle(_)) => Err(self.fails()),
+        }
+    }
+
+    fn checks(&self, heap: &Refusing<Global>) -> Result<Ended, Fail> {
+        match check(heap, &self.task, &self.answer) {
+            Ok(Verdict::Accepted) => Ok(Ended::Answered),
+            Ok(Verdict::Rejected(_)) => Err(self.fails()),
+            Err(_) => Ok(Ended::OutOfMemory),
+        }
+    }
+
+    fn judges(&self, heap: &Refusing<Global>, schedule: &Schedule) -> Result<Ended, Fail> {
+        match fits(heap, &self.task, schedule) {
+            Ok(()) => Ok(Ended::Answered),
+            Err(Misfit::OutOfMemory) => Ok(Ended::OutOfMemory),
+            Err(_) => Err(self.fails()),
+        }
+    }
+
+    fn bounds(&self, heap: &Refusing<Global>) -> Result<Ended, Fail> {
+        match self.answer.certificate.bound(heap, &self.task) {
+            Ok(bound) if bound == i128::from(self.answer.value) => Ok(Ended::Answered),
+            Err(BoundFault::OutOfMemory) => Ok(Ended::OutOfMemory),
+            _ => Err(self.fails()),
+        }
+    }
+}
+
+#[test]
+fn preparing_and_solving_answer_whatever_growth_is_refused(rt: HostRuntime) -> Result<(), Fail> {
+    for example in WORKED.iter() {
+        let lent = lend(&rt, example)?;
+        let prepares = |heap: &Refusing<Global>| lent.prepares(&rt, heap);
+        ensure(refuse_each_growth(&rt, prepares)? > 0, example.name)?;
+        let solves = |heap: &Refusing<Global>| lent.solves(&rt, heap);
+        ensure(refuse_each_growth(&rt, solves)? > 0, example.name)?;
+    }
+    Ok(())
+}
+
+#[test]
+fn judging_answers_whatever_growth_is_refused(rt: HostRuntime) -> Result<(), Fail> {
+    for example in WORKED.iter() {
+        let lent = lend(&rt, example)?;
+        let checks = |heap: &Refusing<Global>| lent.checks(heap);
+        ensure(refuse_each_growth(&rt, checks)? > 0, example.name)?;
+        let pieces = lent.answer.pieces.as_slice().to_vec(rt.alloc())?;
+        let schedule = Schedule::new(pieces).ok().ok_or("no schedule")?;
+        let judges = |heap: &Refusing<Global>| lent.judges(heap, &schedule);
+        ensure(refuse_each_growth(&rt, judges)? > 0, example.name)?;
+    }
+    Ok(())
+}
+
+/// The bounds of `load`, `machine` and `job` take no memory, and those of the other kinds do.
+#[test]
+fn certificates_bound_whatever_growth_is_refused(rt: HostRuntime) -> Result<(), Fail> {
+    for example in WORKED.iter() {
+        let lent = lend(&rt, example)?;
+        let bounds = |heap: &Refusing<Global>| lent.bounds(heap);
+        let growths = refuse_each_growth(&rt, bounds)?;
+        let is_small = matches!(
+            &lent.answer.certificate,
+            Certificate::Load(_) | Certificate::Machine(_) | Certificate::OneJob(_)
+        );
+        ensure((growths == 0) == is_small, example.name)?;
+    }
+    Ok(())
+}

@@ -1,0 +1,157 @@
+//! The forms of an instance.
+use super::{answers, asked, refuses};
+use crate::devices::{Sink, Source};
+use crate::examples::Given;
+use crate::examples::files::{SHOP, TARDINESS};
+use crate::examples::parallel::FOURS;
+use crate::runs::{ensure, request_table};
+use std::test::Fail;
+use tf_engine::fault::RunFault;
+use tf_engine::run_solve::run_solve;
+use tf_model::ids::JobId;
+use tf_model::prepare::{Field, Refusal};
+use tf_read::fault::ReadFault;
+use tf_text::counted::Counted;
+
+#[test]
+fn a_table_may_have_returns_tabs_and_leading_zeros(rt: HostRuntime) -> Result<(), Fail> {
+    let request = request_table(&rt, FOURS.problem)?;
+    let returns = b"table 1\r\njob 1 p=4\r\n\r\njob 2 p=4\r\njob 3 p=4\r\n";
+    answers(&rt, &request, returns, FOURS.answer)?;
+    let tabs = b"\ttable\t1\n machines 02\njob\t1  p=0004\t\njob 2 w=-0 p=4\njob 3 d=-05 p=04";
+    answers(&rt, &request, tabs, FOURS.answer)
+}
+
+/// What is written for the second of the instances, with times 4, 1 and 3, on two machines.
+const SECOND: &[u8] = b"answer 1
+problem P2|prmp|Cmax
+jobs 3
+machines 2
+value 4
+piece 1 1 0 4
+piece 2 2 0 1
+piece 3 2 1 4
+cert load
+end
+";
+
+#[test]
+fn a_weighted_tardiness_file_gives_times_to_machines(rt: HostRuntime) -> Result<(), Fail> {
+    let second = Given::Tardiness { jobs: 3, index: 2 };
+    let request = asked(&rt, "P2|prmp|Cmax", second)?;
+    answers(&rt, &request, TARDINESS, SECOND)?;
+    let returns = b"\r\n2 3 1 1 2 4\t5 -02 9\r\n04 1 3 2\t\t-0 3 6 7 8";
+    answers(&rt, &request, returns, SECOND)
+}
+
+#[test]
+fn a_file_without_a_field_is_refused_for_it(rt: HostRuntime) -> Result<(), Fail> {
+    let first = JobId::new(1).ok_or("a job")?;
+    let missing = RunFault::Task(Refusal::MissingField(first, Field::Release));
+    let tardiness = Given::Tardiness { jobs: 3, index: 1 };
+    let request = asked(&rt, "1|rj,prmp|Lmax", tardiness)?;
+    refuses(&rt, &request, TARDINESS, missing)
+}
+
+/// The whole demo, and two of its machines.
+fn demo(pair: Option<(u32, u32)>) -> Given {
+    Given::FlowShop { name: "demo", pair }
+}
+
+#[test]
+fn machines_of_a_flow_shop_file_are_those_of_the_problem(rt: HostRuntime) -> Result<(), Fail> {
+    let any = asked(&rt, "F||Cmax", demo(None))?;
+    let three = RunFault::Task(Refusal::MachineCount(3));
+    refuses(&rt, &any, SHOP, three)?;
+    let two = asked(&rt, "F2||Cmax", demo(None))?;
+    let disagree = RunFault::Task(Refusal::MachinesDisagree);
+    refuses(&rt, &two, SHOP, disagree)
+}
+
+#[test]
+fn a_flow_shop_file_of_one_machine_gives_single_times(rt: HostRuntime) -> Result<(), Fail> {
+    let text =
+        b"instance other\r\n1 1\r\n0 9\r\ninstance\tdemo \r\n a line\r\n03 01\r\n0 4 -0\r\n04\t0 4";
+    let wanted = b"answer 1
+problem P|prmp|Cmax
+jobs 3
+machines 1
+value 12
+piece 1 1 0 4
+piece 2 1 4 8
+piece 3 1 8 12
+cert load
+end
+";
+    answers(&rt, &asked(&rt, "P|prmp|Cmax", demo(None))?, text, wanted)
+}
+
+/// The demo with the machines of the second job in another order.
+const NO_SHOP: &[u8] = b" instance demo
+ +++++++++++++
+ three machines, own example
+ 2 3
+ 0 4 1 9 2 1
+ 0 2 2 5 1 9
+";
+
+/// The demo on its first and last machine, and with a machine that it doesn't have.
+const DEMO_ENDS: Given = Given::FlowShop {
+    name: "demo",
+    pair: Some((0, 2)),
+};
+
+const DEMO_WITH_FOURTH: Given = Given::FlowShop {
+    name: "demo",
+    pair: Some((0, 3)),
+};
+
+/// Instances that a file doesn't have, and the fault of each.
+const ABSENT: [(Given, &[u8], ReadFault); 7] = [
+    (
+        Given::Tardiness { jobs: 3, index: 0 },
+        TARDINESS,
+        ReadFault::NoInstance,
+    ),
+    (
+        Given::Tardiness { jobs: 3, index: 3 },
+        TARDINESS,
+        ReadFault::NoInstance,
+    ),
+    (
+        Given::Tardiness { jobs: 0, index: 1 },
+        TARDINESS,
+        ReadFault::NoJobs,
+    ),
+    (
+        Given::Tardiness { jobs: 4, index: 2 },
+        TARDINESS,
+        ReadFault::Negative(3),
+    ),
+    (DEMO_WITH_FOURTH, SHOP, ReadFault::BadPair),
+    (DEMO_ENDS, NO_SHOP, ReadFault::NotAFlowShop(6)),
+    (
+        Given::FlowShop {
+            name: "other",
+            pair: None,
+        },
+        SHOP,
+        ReadFault::NoInstance,
+    ),
+];
+
+/// A reader of one byte a call.
+#[test]
+fn an_instance_that_a_file_does_not_have_is_refused(rt: HostRuntime) -> Result<(), Fail> {
+    for (given, text, fault) in ABSENT {
+        let request = asked(&rt, "1||Lmax", given)?;
+        let mut reader = Counted::new(Source::new(text).by(1));
+        let mut sink = Sink::new(rt.alloc());
+        let mut writer = Counted::new(&mut sink);
+        let result = run_solve(rt.alloc(), &request, &mut reader, &mut writer);
+        ensure(result == Err(RunFault::Text(fault)), "another outcome")?;
+        drop(writer);
+        ensure(sink.calls() == 0, "something was written")?;
+    }
+    Ok(())
+}
