@@ -6,14 +6,20 @@ ghost use Rattle.std.specs.Prelude.{◌≡◌, ◌≤◌};
 ghost use Rattle.tf_text.specs.Counted.{use_of};
 ghost use Rattle.tf_text.specs.declared.chart.TheConstants.{MOST_COLUMNS};
 
-use crate::options::{Options, Work};
+use crate::explained::{Texts, not_read, tell, whole};
+use crate::options::{Options, Telling, Work};
 use crate::report::{report, say_device, say_memory, status_of_check};
 use crate::source::Sources;
 use std::alloc::Global;
 use std::io::{Read, Write};
+use tf_engine::fault::RunFault;
 use tf_engine::run_check::run_check;
 use tf_engine::run_gantt::run_gantt;
 use tf_engine::run_solve::run_solve;
+use tf_explain::explain;
+use tf_explain::solved::solved_problems;
+use tf_explain::source::Source;
+use tf_read::job_table::read_table;
 use tf_text::answer::layout::Layout;
 use tf_text::counted::Counted;
 
@@ -28,12 +34,18 @@ pub fn perform<S: Sources, W: Write, E: Write>(
     requires { HasWidth work.now }
 {
     match work {
+        Work::Solve(options, layout) if options.telling.explain => {
+            solve_explained(alloc, sources, options, *layout, writer, errors)
+        }
         Work::Solve(options, layout) => {
             let Ok(instance) = sources.open(options.input) else {
                 return say_device(errors);
             };
             let mut instance = Counted::new(instance);
-            solve(alloc, options, *layout, &mut instance, writer, errors)
+            solve(alloc, options, *layout, &mut instance, writer, errors, None)
+        }
+        Work::Check(options, answer) if options.telling.explain => {
+            check_explained(alloc, sources, options, answer, writer, errors)
         }
         Work::Check(options, answer) => {
             let (Ok(instance), Ok(answer)) = (sources.open(options.input), sources.open(answer))
@@ -42,15 +54,158 @@ pub fn perform<S: Sources, W: Write, E: Write>(
             };
             let mut instance = Counted::new(instance);
             let mut answer = Counted::new(answer);
-            check(alloc, options, &mut instance, &mut answer, writer, errors)
+            check(
+                alloc,
+                options,
+                &mut instance,
+                &mut answer,
+                writer,
+                errors,
+                None,
+            )
         }
-        Work::Gantt { answer, columns } => {
+        Work::Gantt {
+            answer,
+            columns,
+            explain: true,
+        } => gantt_explained(alloc, sources, answer, *columns, writer, errors),
+        Work::Gantt {
+            answer,
+            columns,
+            explain: false,
+        } => {
             let Ok(answer) = sources.open(answer) else {
                 return say_device(errors);
             };
             let mut answer = Counted::new(answer);
-            gantt(alloc, &mut answer, *columns, writer, errors)
+            gantt(alloc, &mut answer, *columns, writer, errors, None)
         }
+        Work::Problems(None) => list(alloc, None, writer, errors),
+        Work::Problems(Some(name)) => match whole(alloc, sources, name) {
+            Ok(text) => list(
+                alloc,
+                Some(Source {
+                    name: *name,
+                    text: text.as_slice(),
+                }),
+                writer,
+                errors,
+            ),
+            Err(error) => not_read(alloc, name, &error, errors),
+        },
+    }
+}
+
+/// Solves a text that is read first, and explains what came of it.
+fn solve_explained<S: Sources, W: Write, E: Write>(
+    alloc: Global,
+    sources: &S,
+    options: &Options<'_>,
+    layout: Layout,
+    writer: &mut Counted<W>,
+    errors: &mut Counted<E>,
+) -> u8 {
+    let text = match whole(alloc, sources, options.input) {
+        Ok(text) => text,
+        Err(error) => return not_read(alloc, options.input, &error, errors),
+    };
+    let instance = Source {
+        name: options.input,
+        text: text.as_slice(),
+    };
+    let mut reader = Counted::new(instance.text);
+    solve(
+        alloc,
+        options,
+        layout,
+        &mut reader,
+        writer,
+        errors,
+        Some(instance),
+    )
+}
+
+/// Judges an answer where both texts are read first, and explains what came of it.
+fn check_explained<S: Sources, W: Write, E: Write>(
+    alloc: Global,
+    sources: &S,
+    options: &Options<'_>,
+    answer: &str,
+    writer: &mut Counted<W>,
+    errors: &mut Counted<E>,
+) -> u8 {
+    let instance_text = match whole(alloc, sources, options.input) {
+        Ok(text) => text,
+        Err(error) => return not_read(alloc, options.input, &error, errors),
+    };
+    let answer_text = match whole(alloc, sources, answer) {
+        Ok(text) => text,
+        Err(error) => return not_read(alloc, answer, &error, errors),
+    };
+    let texts = Texts {
+        instance: Source {
+            name: options.input,
+            text: instance_text.as_slice(),
+        },
+        answer: Source {
+            name: answer,
+            text: answer_text.as_slice(),
+        },
+    };
+    let mut instance = Counted::new(texts.instance.text);
+    let mut answer = Counted::new(texts.answer.text);
+    check(
+        alloc,
+        options,
+        &mut instance,
+        &mut answer,
+        writer,
+        errors,
+        Some(texts),
+    )
+}
+
+/// Draws an answer that is read first, and explains what came of it.
+fn gantt_explained<S: Sources, W: Write, E: Write>(
+    alloc: Global,
+    sources: &S,
+    answer: &str,
+    columns: u32,
+    writer: &mut Counted<W>,
+    errors: &mut Counted<E>,
+) -> u8
+    requires { (1 ≤ columns) × (columns ≤ MOST_COLUMNS) }
+{
+    let text = match whole(alloc, sources, answer) {
+        Ok(text) => text,
+        Err(error) => return not_read(alloc, answer, &error, errors),
+    };
+    let source = Source {
+        name: answer,
+        text: text.as_slice(),
+    };
+    let mut reader = Counted::new(source.text);
+    gantt(alloc, &mut reader, columns, writer, errors, Some(source))
+}
+
+/// Lists the problems that are solved, with a job table those that it has the fields for.
+fn list<W: Write, E: Write>(
+    alloc: Global,
+    table: Option<Source<'_>>,
+    writer: &mut Counted<W>,
+    errors: &mut Counted<E>,
+) -> u8 {
+    let instance = match table.map(|table| read_table(alloc, table.text)) {
+        None => None,
+        Some(Ok(instance)) => Some(instance),
+        Some(Err(fault)) => return report(&RunFault::<Global>::from(fault), errors),
+    };
+    let Ok(text) = solved_problems(alloc, instance.as_ref()) else {
+        return say_memory(errors);
+    };
+    match writer.push_all(text.as_bytes()) {
+        Ok(()) => 0,
+        Err(_) => say_device(errors),
     }
 }
 
@@ -62,6 +217,7 @@ fn solve<R: Read, W: Write, E: Write>(
     instance: &mut Counted<R>,
     writer: &mut Counted<W>,
     errors: &mut Counted<E>,
+    explained: Option<Source<'_>>,
 ) -> u8
     ensures { EndsSolving (requested options.now layout)
         (use_of R.remaining instance.old instance.new) (use_of W.contents writer.old writer.new)
@@ -71,8 +227,24 @@ fn solve<R: Read, W: Write, E: Write>(
         return say_memory(errors);
     };
     match run_solve(alloc, &request, instance, writer) {
-        Ok(()) => 0,
-        Err(fault) => report(&fault, errors),
+        Ok(()) => {
+            if let Some(text) = explained {
+                tell_idle(options.telling, errors);
+                tell(explain::solved(alloc, &request, &text), errors);
+            }
+            0
+        }
+        Err(fault) => {
+            let status = report(&fault, errors);
+            if let Some(text) = explained {
+                tell_idle(options.telling, errors);
+                tell(
+                    explain::refused(alloc, &fault, &request, &text, None),
+                    errors,
+                );
+            }
+            status
+        }
     }
 }
 
@@ -84,6 +256,7 @@ fn check<R: Read, S: Read, W: Write, E: Write>(
     answer: &mut Counted<S>,
     writer: &mut Counted<W>,
     errors: &mut Counted<E>,
+    explained: Option<Texts<'_>>,
 ) -> u8
     ensures { EndsChecking (requested options.now Layout.Two)
         (use_of R.remaining instance.old instance.new) (use_of S.remaining answer.old answer.new)
@@ -93,8 +266,27 @@ fn check<R: Read, S: Read, W: Write, E: Write>(
         return say_memory(errors);
     };
     match run_check(alloc, &request, instance, answer, writer) {
-        Ok(checked) => status_of_check(&checked),
-        Err(fault) => report(&fault, errors),
+        Ok(checked) => {
+            if let Some(Texts { instance, answer }) = explained {
+                tell_idle(options.telling, errors);
+                tell(
+                    explain::checked(alloc, &checked, &request, &instance, &answer),
+                    errors,
+                );
+            }
+            status_of_check(&checked)
+        }
+        Err(fault) => {
+            let status = report(&fault, errors);
+            if let Some(Texts { instance, answer }) = explained {
+                tell_idle(options.telling, errors);
+                tell(
+                    explain::refused(alloc, &fault, &request, &instance, Some(&answer)),
+                    errors,
+                );
+            }
+            status
+        }
     }
 }
 
@@ -105,6 +297,7 @@ fn gantt<R: Read, W: Write, E: Write>(
     columns: u32,
     writer: &mut Counted<W>,
     errors: &mut Counted<E>,
+    explained: Option<Source<'_>>,
 ) -> u8
     requires { (1 ≤ columns) × (columns ≤ MOST_COLUMNS) }
     ensures { EndsDrawing columns (use_of R.remaining answer.old answer.new)
@@ -112,7 +305,20 @@ fn gantt<R: Read, W: Write, E: Write>(
 {
     match run_gantt(alloc, answer, writer, columns) {
         Ok(()) => 0,
-        Err(fault) => report(&fault, errors),
+        Err(fault) => {
+            let status = report(&fault, errors);
+            if let Some(text) = explained {
+                tell(explain::not_drawn(alloc, &fault, &text), errors);
+            }
+            status
+        }
+    }
+}
+
+// What is to be said of the options.
+fn tell_idle<E: Write>(telling: Telling, errors: &mut Counted<E>) {
+    if let Some(text) = telling.idle {
+        let _ = errors.push_all(text.as_bytes());
     }
 }
 
