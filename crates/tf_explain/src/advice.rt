@@ -210,7 +210,7 @@ static ADVICE: [Advice; 41] = [
     Advice {
         cause: Cause::BlankInField,
         place: Place::Job,
-        wrong: "There is a blank next to a \"=\" or a \",\", so that one field is two words or more.",
+        wrong: "There is a blank next to a \"=\" or a \",\", so one field is two words or more.",
         mend: "Write each field as one word, as in p=3 or p=3,4.",
     },
     Advice {

@@ -9,8 +9,9 @@ use tf_text::answer::fault::AnswerFault;
 use tf_words::word::is;
 
 /// In which order the lines of an answer stand.
-const ORDER: &str =
-    "The lines of an answer stand in this order: answer 2, problem, jobs, machines, value, piece.., cert, end.";
+const ORDER: &str = "\
+The lines of an answer stand in this order: answer 2, problem, jobs, machines, value,
+any number of lines piece, cert, end.";
 
 /// What is wrong with the text of an answer.
 pub(crate) fn explain_answer(
@@ -78,7 +79,7 @@ fn form_of(first: &[u8]) -> &'static str {
     if is(first, b"piece") {
         "A piece is \"piece JOB MACHINE START STOP\", four whole numbers, before the line \"cert\"."
     } else if is(first, b"cert") {
-        "Job sets are numbers from 1; a range such as 1-8 is read in version 2 (\"answer 2\") alone."
+        "Behind the kind stand jobs from 1; a range such as 1-8 needs the heading \"answer 2\"."
     } else if is(first, b"end") {
         "The line \"end\" stands alone and last."
     } else {

@@ -1,8 +1,8 @@
 //! What is wrong with a notation, and the problems nearest to one that is not solved.
-use crate::page::{Page, push_word};
+use crate::page::Page;
 use crate::solved::{CLASSES, notation_of, push_class};
 use std::alloc::{AllocError, Global};
-use strsim::levenshtein;
+use strsim::osa_distance;
 use tf_model::problem::{Env, Problem};
 use tf_notation::reading::read;
 
@@ -53,11 +53,11 @@ impl Expected {
     fn allows(self) -> &'static str {
         match self {
             Expected::Environment => {
-                "Here stands the environment: 1, P, Q, R, F, O or J, the last six perhaps with a count."
+                "Here stands the environment: 1, P, Q, R, F, O or J, as in P or P2."
             }
             Expected::Bar => "Here stands \"|\": a notation is ENVIRONMENT|CONDITIONS|OBJECTIVE.",
             Expected::Condition => {
-                "Here stand conditions with commas between them, each once, or nothing: rj, prec, prmp."
+                "Here stand conditions, as rj, prec, prmp, with commas between them."
             }
             Expected::Objective => {
                 "Here stands the objective, such as Cmax, Lmax, hmax, sumC or sumwC."
@@ -94,7 +94,7 @@ pub(crate) fn explain_notation(
     if text.contains(&b'/') {
         page.say("Fields are divided by \"|\" and not by \"/\", as in \"1||Lmax\".")?;
     }
-    if !text.contains(&b'|') {
+    if !text.contains(&b'|') && !text.contains(&b'/') {
         page.say("Put quotes round the notation: without them the shell takes \"|\" for a pipe.")?;
     }
     Ok(())
@@ -125,23 +125,24 @@ fn say_nearest(
     let mut best: Option<(usize, &'static str)> = None;
     for known in expected.words() {
         let other = known.to_ascii_lowercase(alloc)?;
-        let edits = levenshtein(alloc, lower.as_str(), other.as_str())?;
+        let edits = osa_distance(alloc, lower.as_str(), other.as_str())?;
         if edits <= MOST_EDITS && best.is_none_or(|(least, _)| edits < least) {
             best = Some((edits, *known));
         }
     }
-    let Some((_, known)) = best else {
-        return Ok(());
-    };
-    if known == word {
-        push_word(&mut page.text, word.as_bytes())?;
-        return page.say(" stands here for the second time.");
+    match best {
+        None => Ok(()),
+        Some((_, known)) if known == word => {
+            writeln!(page.text, "\"{known}\" stands here for the second time.")
+        }
+        Some((0, known)) => {
+            writeln!(
+                page.text,
+                "It is written \"{known}\": upper and lower case differ."
+            )
+        }
+        Some((_, known)) => writeln!(page.text, "Perhaps \"{known}\" is meant."),
     }
-    push_word(&mut page.text, word.as_bytes())?;
-    writeln!(
-        page.text,
-        " is nearest to \"{known}\"; upper and lower case differ."
-    )
 }
 
 /// The solved problems nearest to one that is not solved.
@@ -153,8 +154,8 @@ pub(crate) fn explain_unsolved(
     let Ok(asked) = read(problem.as_bytes()) else {
         return Ok(());
     };
+    page.say("This problem is well formed, and no method of this program solves it:")?;
     page.show(problem.as_bytes())?;
-    page.say("This problem is well formed, and no method of this program solves it.")?;
     if let Some(reason) = reason_of(&asked) {
         page.say(reason)?;
     }

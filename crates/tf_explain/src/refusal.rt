@@ -173,7 +173,7 @@ fn say_lacking(page: &mut Page, instance: &Instance, field: Field) -> Result<(),
         .filter(|job| lacks(job, field))
         .count();
     let (letter, _) = letter_of(field);
-    writeln!(page.text, "{lacking} of {jobs} jobs have no {letter}.")?;
+    writeln!(page.text, "Jobs without {letter}: {lacking} of {jobs}.")?;
     if lacking == jobs {
         page.say(
             "Or name a problem that the table has the fields for: \"threefield problems FILE\".",

@@ -85,8 +85,8 @@ fn machines_of(class: Class) -> &'static str {
     }
 }
 
-/// A line for each problem that is solved: its notation, the fields that it needs, and what it means.
-/// With an instance those alone that it has the fields for.
+/// A line for each problem that is solved: its notation, the fields that it needs, and what it
+/// means. With an instance those alone that it has the fields for.
 ///
 /// # Errors
 ///

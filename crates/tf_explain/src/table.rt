@@ -42,8 +42,7 @@ struct Judge<'a> {
     slips: Vec<Slip<'a>>,
 }
 
-/// All slips of a table, up to the most that are told, with the line that was refused first where no
-/// slip is in it. Whether there was one.
+/// Tells all slips of a table, up to the most that are told, and whether there was one.
 pub(crate) fn explain_table(
     alloc: Global,
     page: &mut Page,

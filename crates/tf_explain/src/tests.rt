@@ -1,7 +1,4 @@
-use crate::advice::Cause;
-use std::test::Fail;
-
-#[test]
-fn each_cause_has_advice(rt: HostRuntime) {
-    assert!(rt; Cause::Negative.advice().is_some());
-}
+//! Mistakes that people make, and what is printed for each.
+mod answers;
+mod cases;
+mod mistakes;

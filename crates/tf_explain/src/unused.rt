@@ -25,7 +25,7 @@ pub(crate) fn explain_unused(
     if arcs > 0 && !class.is_ordered() {
         writeln!(
             page.text,
-            "Not part of {notation}: the arcs ({arcs} lines \"prec\")."
+            "Not part of {notation}: arcs (lines \"prec\": {arcs})."
         )?;
     }
     let given = machines.or(instance.machines());
@@ -48,5 +48,8 @@ fn note(
     if is_used || jobs == 0 {
         return Ok(());
     }
-    writeln!(page.text, "Not part of {notation}: {field} of {jobs} jobs.")
+    writeln!(
+        page.text,
+        "Not part of {notation}: {field} (jobs that have it: {jobs})."
+    )
 }

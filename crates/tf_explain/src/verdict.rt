@@ -33,9 +33,10 @@ pub(crate) struct Case<'a> {
 impl Case<'_> {
     // The task that was asked for.
     fn task(&self) -> Option<Task> {
-        let problem = read(self.request.problem.as_str().as_bytes()).ok()?;
-        let instance = instance_in(self.alloc, &self.request.form, &self.instance)?;
-        prepare(self.alloc, &instance, &problem, self.request.machines).ok()
+        let request = self.request;
+        let problem = read(request.problem.as_str().as_bytes()).ok()?;
+        let instance = instance_in(self.alloc, &request.form, &self.instance)?;
+        prepare(self.alloc, &instance, &problem, request.machines).ok()
     }
 
     // What the answer says.
@@ -144,6 +145,18 @@ fn say_misfit(page: &mut Page, case: &Case<'_>, misfit: &Misfit) -> Result<(), A
         Misfit::OutOfOrder(before, after) => say_order(page, case, before.get(), after.get()),
         Misfit::OutOfMemory => Ok(()),
     }
+}
+
+// Which jobs and machines there are.
+fn say_sizes(page: &mut Page, case: &Case<'_>) -> Result<(), AllocError> {
+    let Some(task) = case.task() else {
+        return Ok(());
+    };
+    let (jobs, machines) = (task.len(), task.machines());
+    writeln!(
+        page.text,
+        "Jobs count from 1 to {jobs}, and machines from 1 to {machines}."
+    )
 }
 
 fn say_amount(page: &mut Page, case: &Case<'_>, job: u32) -> Result<(), AllocError> {

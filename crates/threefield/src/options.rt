@@ -163,8 +163,9 @@ fn solve_command<'a>(alloc: Global) -> Result<Command<'a>, AllocError> {
     let version = Arg::new(alloc, "answer")
         .long("answer")
         .value_name("VERSION")
-        .help("The version of the answer text")
+        .help("The version of the answer text, 1 or 2")
         .value_parser(VERSIONS.as_slice())
+        .hide_possible_values(true)
         .default_value("2");
     with_options(alloc, Command::new(alloc, "solve"))?
         .about("Prints a best schedule, and a certificate that none is better")
@@ -228,8 +229,9 @@ fn with_options<'a>(alloc: Global, command: Command<'a>) -> Result<Command<'a>, 
         .short('f')
         .long("format")
         .value_name("FORM")
-        .help("The form of the instance")
+        .help("The form of the instance: table, wt or flow")
         .value_parser(FORMATS.as_slice())
+        .hide_possible_values(true)
         .default_value("table");
     let machines = Arg::new(alloc, "machines")
         .short('m')
