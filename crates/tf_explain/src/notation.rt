@@ -108,6 +108,24 @@ fn word_at(text: &[u8], byte: usize) -> &[u8] {
         .unwrap_or(&[])
 }
 
+// Of how many edits and at which place the spelling is that differs least from a word.
+fn nearest(
+    alloc: Global,
+    words: &[&str],
+    word: &str,
+) -> Result<Option<(usize, usize)>, AllocError> {
+    let lower = word.to_ascii_lowercase(alloc)?;
+    let mut best: Option<(usize, usize)> = None;
+    for (place, known) in words.iter().enumerate() {
+        let other = known.to_ascii_lowercase(alloc)?;
+        let edits = osa_distance(alloc, lower.as_str(), other.as_str())?;
+        if edits <= MOST_EDITS && best.is_none_or(|(least, _)| edits < least) {
+            best = Some((edits, place));
+        }
+    }
+    Ok(best)
+}
+
 // The spelling that is read and differs least.
 fn say_nearest(
     alloc: Global,
@@ -121,27 +139,21 @@ fn say_nearest(
     if word.is_empty() {
         return Ok(());
     }
-    let lower = word.to_ascii_lowercase(alloc)?;
-    let mut best: Option<(usize, &'static str)> = None;
-    for known in expected.words() {
-        let other = known.to_ascii_lowercase(alloc)?;
-        let edits = osa_distance(alloc, lower.as_str(), other.as_str())?;
-        if edits <= MOST_EDITS && best.is_none_or(|(least, _)| edits < least) {
-            best = Some((edits, *known));
-        }
-    }
-    match best {
+    let Some((edits, place)) = nearest(alloc, expected.words(), word)? else {
+        return Ok(());
+    };
+    match expected.words().get(place) {
         None => Ok(()),
-        Some((_, known)) if known == word => {
+        Some(known) if *known == word => {
             writeln!(page.text, "\"{known}\" stands here for the second time.")
         }
-        Some((0, known)) => {
+        Some(known) if edits == 0 => {
             writeln!(
                 page.text,
                 "It is written \"{known}\": upper and lower case differ."
             )
         }
-        Some((_, known)) => writeln!(page.text, "Perhaps \"{known}\" is meant."),
+        Some(known) => writeln!(page.text, "Perhaps \"{known}\" is meant."),
     }
 }
 

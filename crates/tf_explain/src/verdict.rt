@@ -96,15 +96,16 @@ fn say_other_task(page: &mut Page, case: &Case<'_>) -> Result<(), AllocError> {
         let problem = problem.as_str();
         writeln!(
             page.text,
-            "The answer is for {problem}, {jobs} jobs, {machines} machines."
+            "The answer is for {problem}; jobs: {jobs}, machines: {machines}."
         )?;
     }
     if let Some(task) = case.task() {
-        let problem = case.request.problem.as_str();
+        let request = case.request;
+        let problem = request.problem.as_str();
         let (jobs, machines) = (task.len(), task.machines());
         writeln!(
             page.text,
-            "Asked was for {problem}, {jobs} jobs, {machines} machines."
+            "Asked was for {problem}; jobs: {jobs}, machines: {machines}."
         )?;
     }
     page.say("Check it against the instance and the problem that it was made for.")
@@ -115,11 +116,8 @@ fn say_misfit(page: &mut Page, case: &Case<'_>, misfit: &Misfit) -> Result<(), A
         Misfit::Stranger(job, machine) => {
             case.quote_pieces_of(page, job.get())?;
             let (job, machine) = (job.get(), machine.get());
-            writeln!(
-                page.text,
-                "The instance has no job {job}, or the task no machine {machine}."
-            )?;
-            page.say("Jobs and machines count from 1.")
+            writeln!(page.text, "There is no job {job} or no machine {machine}.")?;
+            say_sizes(page, case)
         }
         Misfit::JobTwice(job, time) => {
             let job = job.get();

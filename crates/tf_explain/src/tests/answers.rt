@@ -236,8 +236,8 @@ end
             told: "\
 answer.txt, line 8:
     piece 4 1 6 7
-The instance has no job 4, or the task no machine 1.
-Jobs and machines count from 1.
+There is no job 4 or no machine 1.
+Jobs count from 1 to 3, and machines from 1 to 1.
 ",
         },
         answer: "\
@@ -259,8 +259,8 @@ end
             form: As::Table,
             text: JOBS,
             told: "\
-The answer is for 1||sumC, 3 jobs, 1 machines.
-Asked was for 1||Lmax, 3 jobs, 1 machines.
+The answer is for 1||sumC; jobs: 3, machines: 1.
+Asked was for 1||Lmax; jobs: 3, machines: 1.
 Check it against the instance and the problem that it was made for.
 ",
         },
