@@ -99,7 +99,7 @@ fn say_counts(page: &mut Page, source: &Source<'_>, jobs: u32) -> Result<(), All
     } else {
         writeln!(
             page.text,
-            "that is {instances} and {rest} numbers more, so --jobs is wrong."
+            "that is {instances} of them and {rest} numbers more, so --jobs is wrong."
         )
     }
 }

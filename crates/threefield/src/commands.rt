@@ -1,7 +1,7 @@
 //! The commands, over whatever gives and takes bytes.
 ghost use Rattle.threefield.specs.Asking.{requested};
 ghost use Rattle.threefield.specs.Columns.{HasWidth};
-ghost use Rattle.threefield.specs.Ending.{EndsSolving, EndsChecking, EndsDrawing};
+ghost use Rattle.threefield.specs.Ending.{EndsSolving, EndsChecking, EndsDrawing, OverText};
 ghost use Rattle.std.specs.Prelude.{◌≡◌, ◌≤◌};
 ghost use Rattle.tf_text.specs.Counted.{use_of};
 ghost use Rattle.tf_text.specs.declared.chart.TheConstants.{MOST_COLUMNS};
@@ -105,24 +105,33 @@ fn solve_explained<S: Sources, W: Write, E: Write>(
     writer: &mut Counted<W>,
     errors: &mut Counted<E>,
 ) -> u8 {
-    let text = match whole(alloc, sources, options.input) {
-        Ok(text) => text,
-        Err(error) => return not_read(alloc, options.input, &error, errors),
-    };
-    let instance = Source {
-        name: options.input,
-        text: text.as_slice(),
-    };
+    match whole(alloc, sources, options.input) {
+        Ok(text) => {
+            let instance = Source {
+                name: options.input,
+                text: text.as_slice(),
+            };
+            solve_text(alloc, options, layout, instance, writer, errors)
+        }
+        Err(error) => not_read(alloc, options.input, &error, errors),
+    }
+}
+
+/// Solves a text, and explains what came of it.
+fn solve_text<W: Write, E: Write>(
+    alloc: Global,
+    options: &Options<'_>,
+    layout: Layout,
+    instance: Source<'_>,
+    writer: &mut Counted<W>,
+    errors: &mut Counted<E>,
+) -> u8
+    ensures { OverText instance.text.now (λ reader. EndsSolving (requested options.now layout)
+        reader (use_of W.contents writer.old writer.new) result) }
+{
     let mut reader = Counted::new(instance.text);
-    solve(
-        alloc,
-        options,
-        layout,
-        &mut reader,
-        writer,
-        errors,
-        Some(instance),
-    )
+    let told = Some(instance);
+    solve(alloc, options, layout, &mut reader, writer, errors, told)
 }
 
 /// Judges an answer where both texts are read first, and explains what came of it.
@@ -142,26 +151,41 @@ fn check_explained<S: Sources, W: Write, E: Write>(
         Ok(text) => text,
         Err(error) => return not_read(alloc, answer, &error, errors),
     };
-    let texts = Texts {
-        instance: Source {
-            name: options.input,
-            text: instance_text.as_slice(),
-        },
-        answer: Source {
-            name: answer,
-            text: answer_text.as_slice(),
-        },
+    let instance = Source {
+        name: options.input,
+        text: instance_text.as_slice(),
     };
-    let mut instance = Counted::new(texts.instance.text);
-    let mut answer = Counted::new(texts.answer.text);
+    let answer = Source {
+        name: answer,
+        text: answer_text.as_slice(),
+    };
+    check_texts(alloc, options, instance, answer, writer, errors)
+}
+
+/// Judges an answer, where both texts are known, and explains what came of it.
+fn check_texts<W: Write, E: Write>(
+    alloc: Global,
+    options: &Options<'_>,
+    instance: Source<'_>,
+    answer: Source<'_>,
+    writer: &mut Counted<W>,
+    errors: &mut Counted<E>,
+) -> u8
+    ensures { OverText instance.text.now (λ reader. OverText answer.text.now (λ answer_reader.
+        EndsChecking (requested options.now Layout.Two) reader answer_reader
+        (use_of W.contents writer.old writer.new) result)) }
+{
+    let mut reader = Counted::new(instance.text);
+    let mut answer_reader = Counted::new(answer.text);
+    let told = Some(Texts { instance, answer });
     check(
         alloc,
         options,
-        &mut instance,
-        &mut answer,
+        &mut reader,
+        &mut answer_reader,
         writer,
         errors,
-        Some(texts),
+        told,
     )
 }
 
@@ -176,16 +200,32 @@ fn gantt_explained<S: Sources, W: Write, E: Write>(
 ) -> u8
     requires { (1 ≤ columns) × (columns ≤ MOST_COLUMNS) }
 {
-    let text = match whole(alloc, sources, answer) {
-        Ok(text) => text,
-        Err(error) => return not_read(alloc, answer, &error, errors),
-    };
-    let source = Source {
-        name: answer,
-        text: text.as_slice(),
-    };
-    let mut reader = Counted::new(source.text);
-    gantt(alloc, &mut reader, columns, writer, errors, Some(source))
+    match whole(alloc, sources, answer) {
+        Ok(text) => {
+            let answer = Source {
+                name: answer,
+                text: text.as_slice(),
+            };
+            gantt_text(alloc, answer, columns, writer, errors)
+        }
+        Err(error) => not_read(alloc, answer, &error, errors),
+    }
+}
+
+/// Draws the answer of a text, and explains what came of it.
+fn gantt_text<W: Write, E: Write>(
+    alloc: Global,
+    answer: Source<'_>,
+    columns: u32,
+    writer: &mut Counted<W>,
+    errors: &mut Counted<E>,
+) -> u8
+    requires { (1 ≤ columns) × (columns ≤ MOST_COLUMNS) }
+    ensures { OverText answer.text.now (λ reader. EndsDrawing columns reader
+        (use_of W.contents writer.old writer.new) result) }
+{
+    let mut reader = Counted::new(answer.text);
+    gantt(alloc, &mut reader, columns, writer, errors, Some(answer))
 }
 
 /// Lists the problems that are solved, with a job table those that it has the fields for.

@@ -10,7 +10,7 @@ use tf_model::limit::MOST_BYTES;
 use tf_text::counted::Counted;
 
 /// The texts of a check.
-#[derive(Clone, Copy, Debug)]
+#[derive(Clone, Copy)]
 pub struct Texts<'a> {
     pub instance: Source<'a>,
     pub answer: Source<'a>,

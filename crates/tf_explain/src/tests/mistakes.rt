@@ -654,7 +654,7 @@ jobs.txt, line 3:
 A negative number stands where a time or a weight is read.
 Due dates alone may be negative, so the usual cause is a wrong --jobs.
 The file has 9 numbers, and an instance of 4 jobs takes 12:
-that is 0 and 9 numbers more, so --jobs is wrong.
+that is 0 of them and 9 numbers more, so --jobs is wrong.
 ",
     },
     Mistake {
