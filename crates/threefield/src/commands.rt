@@ -126,8 +126,9 @@ fn solve_text<W: Write, E: Write>(
     writer: &mut Counted<W>,
     errors: &mut Counted<E>,
 ) -> u8
-    ensures { OverText instance.text.now (λ reader. EndsSolving (requested options.now layout)
-        reader (use_of W.contents writer.old writer.new) result) }
+    ensures { OverText instance.entry.text.now (λ reader.
+        EndsSolving (requested options.now layout) reader
+        (use_of W.contents writer.old writer.new) result) }
 {
     let mut reader = Counted::new(instance.text);
     let told = Some(instance);
@@ -171,7 +172,8 @@ fn check_texts<W: Write, E: Write>(
     writer: &mut Counted<W>,
     errors: &mut Counted<E>,
 ) -> u8
-    ensures { OverText instance.text.now (λ reader. OverText answer.text.now (λ answer_reader.
+    ensures { OverText instance.entry.text.now (λ reader.
+        OverText answer.entry.text.now (λ answer_reader.
         EndsChecking (requested options.now Layout.Two) reader answer_reader
         (use_of W.contents writer.old writer.new) result)) }
 {
@@ -221,7 +223,7 @@ fn gantt_text<W: Write, E: Write>(
     errors: &mut Counted<E>,
 ) -> u8
     requires { (1 ≤ columns) × (columns ≤ MOST_COLUMNS) }
-    ensures { OverText answer.text.now (λ reader. EndsDrawing columns reader
+    ensures { OverText answer.entry.text.now (λ reader. EndsDrawing columns reader
         (use_of W.contents writer.old writer.new) result) }
 {
     let mut reader = Counted::new(answer.text);
