@@ -4,6 +4,7 @@ use crate::piece_lines::{going_on, pieces_of, quote_pieces};
 use crate::source::{Source, words_of};
 use crate::tardiness::is_table;
 use std::alloc::{AllocError, Global};
+use tf_model::limit::{LIMIT, MOST_BYTES, MOST_JOBS, MOST_MACHINES};
 use tf_schedule::schedule::PieceFault;
 use tf_text::answer::fault::AnswerFault;
 use tf_words::word::is;
@@ -35,12 +36,14 @@ pub(crate) fn explain_answer(
         );
     }
     match *fault {
-        AnswerFault::TooLong => writeln!(page.text, "{title} has more than 67108864 bytes."),
+        AnswerFault::TooLong => writeln!(page.text, "{title} has more than {MOST_BYTES} bytes."),
         AnswerFault::BadLine(line) => explain_line(alloc, page, source, line as usize),
         AnswerFault::NumberTooLarge(line) => {
             page.quote_number(source, line as usize)?;
-            page.say("A job is at most 100000, a machine at most 1000, a time at most")?;
-            page.say("4000000000000000000.")
+            writeln!(
+                page.text,
+                "Jobs go up to {MOST_JOBS}, machines to {MOST_MACHINES}, times to {LIMIT}."
+            )
         }
         AnswerFault::BadNotation => {
             if let Some(line) = source.line_beginning(alloc, &[b"problem".as_slice()])? {
@@ -97,7 +100,10 @@ pub(crate) fn explain_pieces(
     match *fault {
         PieceFault::OutOfRange(piece) => {
             quote_piece(alloc, page, source, piece)?;
-            page.say("A piece starts at 0 or later and stops at 4000000000000000000 at most.")
+            writeln!(
+                page.text,
+                "A piece starts at 0 or later, and stops at {LIMIT} at most."
+            )
         }
         PieceFault::EmptyPiece(piece) => {
             quote_piece(alloc, page, source, piece)?;

@@ -12,8 +12,9 @@ use crate::verdict::{Case, explain_verdict};
 use std::alloc::{AllocError, Global};
 use std::io;
 use tf_engine::fault::RunFault;
-use tf_engine::request::Request;
+use tf_engine::request::{Form, Request};
 use tf_engine::run_check::Checked;
+use tf_read::fault::ReadFault;
 
 /// What a solved problem did not use of its instance, and nothing where it used all of it.
 ///
@@ -26,12 +27,24 @@ pub fn solved(
     instance: &Source<'_>,
 ) -> Result<String, AllocError> {
     let mut page = Page::new(alloc);
+    say_unused(alloc, &mut page, request, instance)?;
+    Ok(page.text)
+}
+
+fn say_unused(
+    alloc: Global,
+    page: &mut Page,
+    request: &Request,
+    instance: &Source<'_>,
+) -> Result<(), AllocError> {
     let problem = request.problem.as_str();
     let read = instance_in(alloc, &request.form, instance);
-    if let (Some(class), Some(instance)) = (class_in(problem), read) {
-        explain_unused(&mut page, problem, class, request.machines, &instance)?;
+    match (class_in(problem), read) {
+        (Some(class), Some(instance)) => {
+            explain_unused(page, problem, class, request.machines, &instance)
+        }
+        _ => Ok(()),
     }
-    Ok(page.text)
 }
 
 /// What is wrong and how to mend it, where a run over an instance, and perhaps an answer, was
@@ -61,7 +74,8 @@ pub fn refused(
         RunFault::Cycle(jobs) => {
             explain_cycle(alloc, &mut page, instance, jobs.as_slice())?;
         }
-        _ => {
+        RunFault::Device => say_output(&mut page)?,
+        RunFault::Answer(_) | RunFault::Pieces(_) | RunFault::OutOfMemory => {
             if let Some(answer) = answer {
                 return not_drawn(alloc, fault, answer);
             }
@@ -84,12 +98,34 @@ pub fn not_drawn(
     match fault {
         RunFault::Answer(fault) => explain_answer(alloc, &mut page, answer, fault)?,
         RunFault::Pieces(fault) => explain_pieces(alloc, &mut page, answer, fault)?,
+        RunFault::Device => say_output(&mut page)?,
         _ => {}
     }
     Ok(page.text)
 }
 
-/// Why an answer was rejected, with the numbers; nothing where it was accepted.
+// All texts were read before the run, so the device that failed was that of the output.
+fn say_output(page: &mut Page) -> Result<(), AllocError> {
+    page.say("Standard output failed: the disk is full, or who reads it has gone.")
+}
+
+/// What is wrong with a job table by itself.
+///
+/// # Errors
+///
+/// There was no memory.
+pub fn not_listed(
+    alloc: Global,
+    fault: &ReadFault,
+    table: &Source<'_>,
+) -> Result<String, AllocError> {
+    let mut page = Page::new(alloc);
+    explain_text(alloc, &mut page, table, &Form::Table, fault)?;
+    Ok(page.text)
+}
+
+/// Why an answer was rejected, with the numbers; where it was accepted, what the problem did not
+/// use of the instance.
 ///
 /// # Errors
 ///
@@ -102,6 +138,10 @@ pub fn checked(
     answer: &Source<'_>,
 ) -> Result<String, AllocError> {
     let mut page = Page::new(alloc);
+    if let Checked::Accepted = checked {
+        say_unused(alloc, &mut page, request, instance)?;
+        return Ok(page.text);
+    }
     let case = Case {
         alloc,
         request,

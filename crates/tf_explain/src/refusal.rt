@@ -9,6 +9,7 @@ use tf_model::class::class_of;
 use tf_model::ids::JobId;
 use tf_model::instance::Instance;
 use tf_model::job::Job;
+use tf_model::limit::{LIMIT, MOST_COSTED_JOBS};
 use tf_model::prepare::{Field, Refusal};
 use tf_notation::reading::read;
 
@@ -26,7 +27,7 @@ pub(crate) fn explain_refusal(
         Refusal::TooManyJobs => {
             writeln!(
                 page.text,
-                "{problem} gives each job a cost of its own: at most 2000 jobs."
+                "{problem} gives each job a cost of its own: at most {MOST_COSTED_JOBS} jobs."
             )
         }
         Refusal::MachinesMissing => {
@@ -52,7 +53,10 @@ pub(crate) fn explain_refusal(
             page.say("Leave the job out, or count it as 1.")
         }
         Refusal::TotalTooLarge => {
-            page.say("All times together, or times by weights, are above 4000000000000000000.")?;
+            writeln!(
+                page.text,
+                "All times together, or times by weights, are above {LIMIT}."
+            )?;
             page.say("Take a coarser unit of time or of weight.")
         }
         Refusal::OutOfMemory => Ok(()),

@@ -6,6 +6,7 @@ use crate::table::explain_table;
 use crate::tardiness::explain_tardiness;
 use std::alloc::{AllocError, Global};
 use tf_engine::request::Form;
+use tf_model::limit::{MOST_ARCS, MOST_BYTES, MOST_JOBS};
 use tf_read::fault::ReadFault;
 
 /// What is wrong with the text of an instance that was read in this form.
@@ -42,10 +43,10 @@ fn say_whole(page: &mut Page, source: &Source<'_>, fault: &ReadFault) -> Result<
         return Ok(true);
     }
     match fault {
-        ReadFault::TooLong => writeln!(page.text, "{title} has more than 67108864 bytes.")?,
+        ReadFault::TooLong => writeln!(page.text, "{title} has more than {MOST_BYTES} bytes.")?,
         ReadFault::NoJobs => writeln!(page.text, "{title} has no job.")?,
-        ReadFault::TooManyJobs => writeln!(page.text, "{title} has more than 100000 jobs.")?,
-        ReadFault::TooManyArcs => writeln!(page.text, "{title} has more than 200000 arcs.")?,
+        ReadFault::TooManyJobs => writeln!(page.text, "{title} has more than {MOST_JOBS} jobs.")?,
+        ReadFault::TooManyArcs => writeln!(page.text, "{title} has more than {MOST_ARCS} arcs.")?,
         _ => return Ok(false),
     }
     if matches!(fault, ReadFault::NoJobs) {

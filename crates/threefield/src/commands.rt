@@ -19,6 +19,8 @@ use tf_engine::run_solve::run_solve;
 use tf_explain::explain;
 use tf_explain::solved::solved_problems;
 use tf_explain::source::Source;
+use tf_model::instance::Instance;
+use tf_read::fault::ReadFault;
 use tf_read::job_table::read_table;
 use tf_text::answer::layout::Layout;
 use tf_text::counted::Counted;
@@ -34,66 +36,90 @@ pub fn perform<S: Sources, W: Write, E: Write>(
     requires { HasWidth work.now }
 {
     match work {
-        Work::Solve(options, layout) if options.telling.explain => {
-            solve_explained(alloc, sources, options, *layout, writer, errors)
-        }
         Work::Solve(options, layout) => {
-            let Ok(instance) = sources.open(options.input) else {
-                return say_device(errors);
-            };
-            let mut instance = Counted::new(instance);
-            solve(alloc, options, *layout, &mut instance, writer, errors, None)
-        }
-        Work::Check(options, answer) if options.telling.explain => {
-            check_explained(alloc, sources, options, answer, writer, errors)
+            solve_named(alloc, sources, options, *layout, writer, errors)
         }
         Work::Check(options, answer) => {
-            let (Ok(instance), Ok(answer)) = (sources.open(options.input), sources.open(answer))
-            else {
-                return say_device(errors);
-            };
-            let mut instance = Counted::new(instance);
-            let mut answer = Counted::new(answer);
-            check(
-                alloc,
-                options,
-                &mut instance,
-                &mut answer,
-                writer,
-                errors,
-                None,
-            )
+            check_named(alloc, sources, options, answer, writer, errors)
         }
+        Work::Gantt {
+            answer,
+            columns,
+            explain: false,
+        } => gantt_named(alloc, sources, answer, *columns, writer, errors),
         Work::Gantt {
             answer,
             columns,
             explain: true,
         } => gantt_explained(alloc, sources, answer, *columns, writer, errors),
-        Work::Gantt {
-            answer,
-            columns,
-            explain: false,
-        } => {
-            let Ok(answer) = sources.open(answer) else {
-                return say_device(errors);
-            };
-            let mut answer = Counted::new(answer);
-            gantt(alloc, &mut answer, *columns, writer, errors, None)
-        }
         Work::Problems(None) => list(alloc, None, writer, errors),
-        Work::Problems(Some(name)) => match whole(alloc, sources, name) {
-            Ok(text) => list(
-                alloc,
-                Some(Source {
-                    name: *name,
-                    text: text.as_slice(),
-                }),
-                writer,
-                errors,
-            ),
-            Err(error) => not_read(alloc, name, &error, errors),
-        },
+        Work::Problems(Some(name)) => list_named(alloc, sources, name, writer, errors),
     }
+}
+
+/// Solves the instance of that name.
+fn solve_named<S: Sources, W: Write, E: Write>(
+    alloc: Global,
+    sources: &S,
+    options: &Options<'_>,
+    layout: Layout,
+    writer: &mut Counted<W>,
+    errors: &mut Counted<E>,
+) -> u8 {
+    if options.telling.explain {
+        return solve_explained(alloc, sources, options, layout, writer, errors);
+    }
+    let Ok(instance) = sources.open(options.input) else {
+        return say_device(errors);
+    };
+    let mut instance = Counted::new(instance);
+    solve(alloc, options, layout, &mut instance, writer, errors, None)
+}
+
+/// Judges the answer of that name.
+fn check_named<S: Sources, W: Write, E: Write>(
+    alloc: Global,
+    sources: &S,
+    options: &Options<'_>,
+    answer: &str,
+    writer: &mut Counted<W>,
+    errors: &mut Counted<E>,
+) -> u8 {
+    if options.telling.explain {
+        return check_explained(alloc, sources, options, answer, writer, errors);
+    }
+    let (Ok(instance), Ok(answer)) = (sources.open(options.input), sources.open(answer)) else {
+        return say_device(errors);
+    };
+    let mut instance = Counted::new(instance);
+    let mut answer = Counted::new(answer);
+    check(
+        alloc,
+        options,
+        &mut instance,
+        &mut answer,
+        writer,
+        errors,
+        None,
+    )
+}
+
+/// Draws the answer of that name.
+fn gantt_named<S: Sources, W: Write, E: Write>(
+    alloc: Global,
+    sources: &S,
+    answer: &str,
+    columns: u32,
+    writer: &mut Counted<W>,
+    errors: &mut Counted<E>,
+) -> u8
+    requires { (1 ≤ columns) × (columns ≤ MOST_COLUMNS) }
+{
+    let Ok(answer) = sources.open(answer) else {
+        return say_device(errors);
+    };
+    let mut answer = Counted::new(answer);
+    gantt(alloc, &mut answer, columns, writer, errors, None)
 }
 
 /// Solves a text that is read first, and explains what came of it.
@@ -230,19 +256,39 @@ fn gantt_text<W: Write, E: Write>(
     gantt(alloc, &mut reader, columns, writer, errors, Some(answer))
 }
 
-/// Lists the problems that are solved, with a job table those that it has the fields for.
-fn list<W: Write, E: Write>(
+/// Lists the problems that the table of that name has the fields for.
+fn list_named<S: Sources, W: Write, E: Write>(
     alloc: Global,
-    table: Option<Source<'_>>,
+    sources: &S,
+    name: &str,
     writer: &mut Counted<W>,
     errors: &mut Counted<E>,
 ) -> u8 {
-    let instance = match table.map(|table| read_table(alloc, table.text)) {
-        None => None,
-        Some(Ok(instance)) => Some(instance),
-        Some(Err(fault)) => return report(&RunFault::<Global>::from(fault), errors),
+    let text = match whole(alloc, sources, name) {
+        Ok(text) => text,
+        Err(error) => return not_read(alloc, name, &error, errors),
     };
-    let Ok(text) = solved_problems(alloc, instance.as_ref()) else {
+    let text = text.as_slice();
+    match read_table(alloc, text) {
+        Ok(instance) => list(alloc, Some(&instance), writer, errors),
+        Err(ReadFault::OutOfMemory) => say_memory(errors),
+        Err(fault) => {
+            let table = Source { name, text };
+            let status = report(&RunFault::<Global>::Text(fault), errors);
+            tell(explain::not_listed(alloc, &fault, &table), errors);
+            status
+        }
+    }
+}
+
+/// Lists the problems that are solved, with an instance those that it has the fields for.
+fn list<W: Write, E: Write>(
+    alloc: Global,
+    instance: Option<&Instance>,
+    writer: &mut Counted<W>,
+    errors: &mut Counted<E>,
+) -> u8 {
+    let Ok(text) = solved_problems(alloc, instance) else {
         return say_memory(errors);
     };
     match writer.push_all(text.as_bytes()) {

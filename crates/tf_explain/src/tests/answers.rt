@@ -23,7 +23,7 @@ static ANSWERS: [Rejected; 18] = [
             problem: "1||Lmax",
             form: As::Table,
             text: JOBS,
-            told: "",
+            told: "Not part of 1||Lmax: r= (jobs that have it: 3).\n",
         },
         answer: "\
 answer 2

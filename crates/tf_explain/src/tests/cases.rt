@@ -35,7 +35,7 @@ pub(super) struct Mistake {
 }
 
 impl As {
-    fn request(self, rt: &HostRuntime, problem: &str) -> Result<Request, AllocError> {
+    pub(super) fn request(self, rt: &HostRuntime, problem: &str) -> Result<Request, AllocError> {
         let form = match self {
             As::Table | As::Machines(_) => Form::Table,
             As::Wt(jobs, index) => Form::Wt { jobs, index },

@@ -417,6 +417,13 @@ P||sumC         needs p=: sum of completion times, M machines in parallel
 P|prmp|Cmax     needs p=: makespan, M machines in parallel, with preemption
 ";
     writes(&rt, &["problems", "-"], 0, fit)?;
-    let bad = b"threefield: refused: BadLine 1\n";
+    let bad = b"threefield: refused: BadLine 1
+answer, line 1:
+    answer 2
+    ^^^^^^
+This is an answer text, and an instance is wanted here.
+\"check\" takes INPUT first and ANSWER second; perhaps they are exchanged.
+The first line of a job table is exactly \"table 1\".
+";
     says(&rt, &["problems", "answer"], 2, bad)
 }
