@@ -1,5 +1,5 @@
 -- How a command ends: after a run of what was asked for, with the status of what the run gave.
-use Rattle.std.specs.Prelude.{◌≡◌, ℕ, Result, Ok, Err}
+use Rattle.std.specs.Prelude.{◌≡◌, ℕ, List, Some, Result, Ok, Err}
 use Rattle.std.specs.declared.alloc.Global.{Global}
 use Rattle.tf_text.specs.Counted.{DeviceUse}
 use Rattle.tf_engine.specs.declared.fault.RunFault.{RunFault}
@@ -36,3 +36,9 @@ pub record EndsDrawing (columns : ℕ) (answer writer : DeviceUse) (status : ℕ
   pub run : Result (Unit {0}) (RunFault Global)
   pub outcome : IsDrawingOf columns answer writer run
   pub ends : status ≡ status_of_run run
+
+-- the command ends so over a reader of this text
+pub record OverText (text : List ℕ) (Ends : DeviceUse → Type 0) : Type 0 where
+  pub reader : DeviceUse
+  pub known : reader.before ≡ Some text
+  pub ends : Ends reader

@@ -1,19 +1,27 @@
 //! The commands, over whatever gives and takes bytes.
 ghost use Rattle.threefield.specs.Asking.{requested};
 ghost use Rattle.threefield.specs.Columns.{HasWidth};
-ghost use Rattle.threefield.specs.Ending.{EndsSolving, EndsChecking, EndsDrawing};
+ghost use Rattle.threefield.specs.Ending.{EndsSolving, EndsChecking, EndsDrawing, OverText};
 ghost use Rattle.std.specs.Prelude.{◌≡◌, ◌≤◌};
 ghost use Rattle.tf_text.specs.Counted.{use_of};
 ghost use Rattle.tf_text.specs.declared.chart.TheConstants.{MOST_COLUMNS};
 
-use crate::options::{Options, Work};
+use crate::explained::{Texts, not_read, tell, whole};
+use crate::options::{Options, Telling, Work};
 use crate::report::{report, say_device, say_memory, status_of_check};
 use crate::source::Sources;
 use std::alloc::Global;
 use std::io::{Read, Write};
+use tf_engine::fault::RunFault;
 use tf_engine::run_check::run_check;
 use tf_engine::run_gantt::run_gantt;
 use tf_engine::run_solve::run_solve;
+use tf_explain::explain;
+use tf_explain::solved::solved_problems;
+use tf_explain::source::Source;
+use tf_model::instance::Instance;
+use tf_read::fault::ReadFault;
+use tf_read::job_table::read_table;
 use tf_text::answer::layout::Layout;
 use tf_text::counted::Counted;
 
@@ -29,28 +37,263 @@ pub fn perform<S: Sources, W: Write, E: Write>(
 {
     match work {
         Work::Solve(options, layout) => {
-            let Ok(instance) = sources.open(options.input) else {
-                return say_device(errors);
-            };
-            let mut instance = Counted::new(instance);
-            solve(alloc, options, *layout, &mut instance, writer, errors)
+            solve_named(alloc, sources, options, *layout, writer, errors)
         }
         Work::Check(options, answer) => {
-            let (Ok(instance), Ok(answer)) = (sources.open(options.input), sources.open(answer))
-            else {
-                return say_device(errors);
-            };
-            let mut instance = Counted::new(instance);
-            let mut answer = Counted::new(answer);
-            check(alloc, options, &mut instance, &mut answer, writer, errors)
+            check_named(alloc, sources, options, answer, writer, errors)
         }
-        Work::Gantt { answer, columns } => {
-            let Ok(answer) = sources.open(answer) else {
-                return say_device(errors);
+        Work::Gantt {
+            answer,
+            columns,
+            explain: false,
+        } => gantt_named(alloc, sources, answer, *columns, writer, errors),
+        Work::Gantt {
+            answer,
+            columns,
+            explain: true,
+        } => gantt_explained(alloc, sources, answer, *columns, writer, errors),
+        Work::Problems(None) => list(alloc, None, writer, errors),
+        Work::Problems(Some(name)) => list_named(alloc, sources, name, writer, errors),
+    }
+}
+
+/// Solves the instance of that name.
+fn solve_named<S: Sources, W: Write, E: Write>(
+    alloc: Global,
+    sources: &S,
+    options: &Options<'_>,
+    layout: Layout,
+    writer: &mut Counted<W>,
+    errors: &mut Counted<E>,
+) -> u8 {
+    if options.telling.explain {
+        return solve_explained(alloc, sources, options, layout, writer, errors);
+    }
+    let Ok(instance) = sources.open(options.input) else {
+        return say_device(errors);
+    };
+    let mut instance = Counted::new(instance);
+    solve(alloc, options, layout, &mut instance, writer, errors, None)
+}
+
+/// Judges the answer of that name.
+fn check_named<S: Sources, W: Write, E: Write>(
+    alloc: Global,
+    sources: &S,
+    options: &Options<'_>,
+    answer: &str,
+    writer: &mut Counted<W>,
+    errors: &mut Counted<E>,
+) -> u8 {
+    if options.telling.explain {
+        return check_explained(alloc, sources, options, answer, writer, errors);
+    }
+    let (Ok(instance), Ok(answer)) = (sources.open(options.input), sources.open(answer)) else {
+        return say_device(errors);
+    };
+    let mut instance = Counted::new(instance);
+    let mut answer = Counted::new(answer);
+    check(
+        alloc,
+        options,
+        &mut instance,
+        &mut answer,
+        writer,
+        errors,
+        None,
+    )
+}
+
+/// Draws the answer of that name.
+fn gantt_named<S: Sources, W: Write, E: Write>(
+    alloc: Global,
+    sources: &S,
+    answer: &str,
+    columns: u32,
+    writer: &mut Counted<W>,
+    errors: &mut Counted<E>,
+) -> u8
+    requires { (1 ≤ columns) × (columns ≤ MOST_COLUMNS) }
+{
+    let Ok(answer) = sources.open(answer) else {
+        return say_device(errors);
+    };
+    let mut answer = Counted::new(answer);
+    gantt(alloc, &mut answer, columns, writer, errors, None)
+}
+
+/// Solves a text that is read first, and explains what came of it.
+fn solve_explained<S: Sources, W: Write, E: Write>(
+    alloc: Global,
+    sources: &S,
+    options: &Options<'_>,
+    layout: Layout,
+    writer: &mut Counted<W>,
+    errors: &mut Counted<E>,
+) -> u8 {
+    match whole(alloc, sources, options.input) {
+        Ok(text) => {
+            let instance = Source {
+                name: options.input,
+                text: text.as_slice(),
             };
-            let mut answer = Counted::new(answer);
-            gantt(alloc, &mut answer, *columns, writer, errors)
+            solve_text(alloc, options, layout, instance, writer, errors)
         }
+        Err(error) => not_read(alloc, options.input, &error, errors),
+    }
+}
+
+/// Solves a text, and explains what came of it.
+fn solve_text<W: Write, E: Write>(
+    alloc: Global,
+    options: &Options<'_>,
+    layout: Layout,
+    instance: Source<'_>,
+    writer: &mut Counted<W>,
+    errors: &mut Counted<E>,
+) -> u8
+    ensures { OverText instance.entry.text.now (λ reader.
+        EndsSolving (requested options.now layout) reader
+        (use_of W.contents writer.old writer.new) result) }
+{
+    let mut reader = Counted::new(instance.text);
+    let told = Some(instance);
+    solve(alloc, options, layout, &mut reader, writer, errors, told)
+}
+
+/// Judges an answer where both texts are read first, and explains what came of it.
+fn check_explained<S: Sources, W: Write, E: Write>(
+    alloc: Global,
+    sources: &S,
+    options: &Options<'_>,
+    answer: &str,
+    writer: &mut Counted<W>,
+    errors: &mut Counted<E>,
+) -> u8 {
+    let instance_text = match whole(alloc, sources, options.input) {
+        Ok(text) => text,
+        Err(error) => return not_read(alloc, options.input, &error, errors),
+    };
+    let answer_text = match whole(alloc, sources, answer) {
+        Ok(text) => text,
+        Err(error) => return not_read(alloc, answer, &error, errors),
+    };
+    let instance = Source {
+        name: options.input,
+        text: instance_text.as_slice(),
+    };
+    let answer = Source {
+        name: answer,
+        text: answer_text.as_slice(),
+    };
+    check_texts(alloc, options, instance, answer, writer, errors)
+}
+
+/// Judges an answer, where both texts are known, and explains what came of it.
+fn check_texts<W: Write, E: Write>(
+    alloc: Global,
+    options: &Options<'_>,
+    instance: Source<'_>,
+    answer: Source<'_>,
+    writer: &mut Counted<W>,
+    errors: &mut Counted<E>,
+) -> u8
+    ensures { OverText instance.entry.text.now (λ reader.
+        OverText answer.entry.text.now (λ answer_reader.
+        EndsChecking (requested options.now Layout.Two) reader answer_reader
+        (use_of W.contents writer.old writer.new) result)) }
+{
+    let mut reader = Counted::new(instance.text);
+    let mut answer_reader = Counted::new(answer.text);
+    let told = Some(Texts { instance, answer });
+    check(
+        alloc,
+        options,
+        &mut reader,
+        &mut answer_reader,
+        writer,
+        errors,
+        told,
+    )
+}
+
+/// Draws an answer that is read first, and explains what came of it.
+fn gantt_explained<S: Sources, W: Write, E: Write>(
+    alloc: Global,
+    sources: &S,
+    answer: &str,
+    columns: u32,
+    writer: &mut Counted<W>,
+    errors: &mut Counted<E>,
+) -> u8
+    requires { (1 ≤ columns) × (columns ≤ MOST_COLUMNS) }
+{
+    match whole(alloc, sources, answer) {
+        Ok(text) => {
+            let answer = Source {
+                name: answer,
+                text: text.as_slice(),
+            };
+            gantt_text(alloc, answer, columns, writer, errors)
+        }
+        Err(error) => not_read(alloc, answer, &error, errors),
+    }
+}
+
+/// Draws the answer of a text, and explains what came of it.
+fn gantt_text<W: Write, E: Write>(
+    alloc: Global,
+    answer: Source<'_>,
+    columns: u32,
+    writer: &mut Counted<W>,
+    errors: &mut Counted<E>,
+) -> u8
+    requires { (1 ≤ columns) × (columns ≤ MOST_COLUMNS) }
+    ensures { OverText answer.entry.text.now (λ reader. EndsDrawing columns reader
+        (use_of W.contents writer.old writer.new) result) }
+{
+    let mut reader = Counted::new(answer.text);
+    gantt(alloc, &mut reader, columns, writer, errors, Some(answer))
+}
+
+/// Lists the problems that the table of that name has the fields for.
+fn list_named<S: Sources, W: Write, E: Write>(
+    alloc: Global,
+    sources: &S,
+    name: &str,
+    writer: &mut Counted<W>,
+    errors: &mut Counted<E>,
+) -> u8 {
+    let text = match whole(alloc, sources, name) {
+        Ok(text) => text,
+        Err(error) => return not_read(alloc, name, &error, errors),
+    };
+    let text = text.as_slice();
+    match read_table(alloc, text) {
+        Ok(instance) => list(alloc, Some(&instance), writer, errors),
+        Err(ReadFault::OutOfMemory) => say_memory(errors),
+        Err(fault) => {
+            let table = Source { name, text };
+            let status = report(&RunFault::<Global>::Text(fault), errors);
+            tell(explain::not_listed(alloc, &fault, &table), errors);
+            status
+        }
+    }
+}
+
+/// Lists the problems that are solved, with an instance those that it has the fields for.
+fn list<W: Write, E: Write>(
+    alloc: Global,
+    instance: Option<&Instance>,
+    writer: &mut Counted<W>,
+    errors: &mut Counted<E>,
+) -> u8 {
+    let Ok(text) = solved_problems(alloc, instance) else {
+        return say_memory(errors);
+    };
+    match writer.push_all(text.as_bytes()) {
+        Ok(()) => 0,
+        Err(_) => say_device(errors),
     }
 }
 
@@ -62,6 +305,7 @@ fn solve<R: Read, W: Write, E: Write>(
     instance: &mut Counted<R>,
     writer: &mut Counted<W>,
     errors: &mut Counted<E>,
+    explained: Option<Source<'_>>,
 ) -> u8
     ensures { EndsSolving (requested options.now layout)
         (use_of R.remaining instance.old instance.new) (use_of W.contents writer.old writer.new)
@@ -71,8 +315,24 @@ fn solve<R: Read, W: Write, E: Write>(
         return say_memory(errors);
     };
     match run_solve(alloc, &request, instance, writer) {
-        Ok(()) => 0,
-        Err(fault) => report(&fault, errors),
+        Ok(()) => {
+            if let Some(text) = explained {
+                tell_idle(options.telling, errors);
+                tell(explain::solved(alloc, &request, &text), errors);
+            }
+            0
+        }
+        Err(fault) => {
+            let status = report(&fault, errors);
+            if let Some(text) = explained {
+                tell_idle(options.telling, errors);
+                tell(
+                    explain::refused(alloc, &fault, &request, &text, None),
+                    errors,
+                );
+            }
+            status
+        }
     }
 }
 
@@ -84,6 +344,7 @@ fn check<R: Read, S: Read, W: Write, E: Write>(
     answer: &mut Counted<S>,
     writer: &mut Counted<W>,
     errors: &mut Counted<E>,
+    explained: Option<Texts<'_>>,
 ) -> u8
     ensures { EndsChecking (requested options.now Layout.Two)
         (use_of R.remaining instance.old instance.new) (use_of S.remaining answer.old answer.new)
@@ -93,8 +354,27 @@ fn check<R: Read, S: Read, W: Write, E: Write>(
         return say_memory(errors);
     };
     match run_check(alloc, &request, instance, answer, writer) {
-        Ok(checked) => status_of_check(&checked),
-        Err(fault) => report(&fault, errors),
+        Ok(checked) => {
+            if let Some(Texts { instance, answer }) = explained {
+                tell_idle(options.telling, errors);
+                tell(
+                    explain::checked(alloc, &checked, &request, &instance, &answer),
+                    errors,
+                );
+            }
+            status_of_check(&checked)
+        }
+        Err(fault) => {
+            let status = report(&fault, errors);
+            if let Some(Texts { instance, answer }) = explained {
+                tell_idle(options.telling, errors);
+                tell(
+                    explain::refused(alloc, &fault, &request, &instance, Some(&answer)),
+                    errors,
+                );
+            }
+            status
+        }
     }
 }
 
@@ -105,6 +385,7 @@ fn gantt<R: Read, W: Write, E: Write>(
     columns: u32,
     writer: &mut Counted<W>,
     errors: &mut Counted<E>,
+    explained: Option<Source<'_>>,
 ) -> u8
     requires { (1 ≤ columns) × (columns ≤ MOST_COLUMNS) }
     ensures { EndsDrawing columns (use_of R.remaining answer.old answer.new)
@@ -112,7 +393,20 @@ fn gantt<R: Read, W: Write, E: Write>(
 {
     match run_gantt(alloc, answer, writer, columns) {
         Ok(()) => 0,
-        Err(fault) => report(&fault, errors),
+        Err(fault) => {
+            let status = report(&fault, errors);
+            if let Some(text) = explained {
+                tell(explain::not_drawn(alloc, &fault, &text), errors);
+            }
+            status
+        }
+    }
+}
+
+// What is to be said of the options.
+fn tell_idle<E: Write>(telling: Telling, errors: &mut Counted<E>) {
+    if let Some(text) = telling.idle {
+        let _ = errors.push_all(text.as_bytes());
     }
 }
 

@@ -2,6 +2,7 @@
 #![tactic(auto)]
 
 mod commands;
+mod explained;
 mod options;
 mod report;
 mod source;

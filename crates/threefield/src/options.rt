@@ -6,7 +6,7 @@ ghost use Rattle.threefield.specs.Columns.{HasColumns};
 ghost use Rattle.threefield.specs.OptionNumber.{numeral_in};
 
 use clap::error::ErrorKind;
-use clap::{Arg, ArgMatches, Command, Error};
+use clap::{Arg, ArgAction, ArgMatches, Command, Error};
 use std::alloc::{AllocError, Global};
 use tf_engine::request::{Form, Request};
 use tf_engine::text::Text;
@@ -23,6 +23,15 @@ pub struct Options<'a> {
     pub form: FormOption<'a>,
     pub machines: Option<u32>,
     pub input: &'a str,
+    pub telling: Telling,
+}
+
+/// Whether what is wrong is said in plain words too, and what is to be said of the options.
+#[derive(Clone, Copy, Debug)]
+pub struct Telling {
+    pub explain: bool,
+    /// An option that the form of the instance does not use.
+    pub idle: Option<&'static str>,
 }
 
 /// The form of the instance, with what that form needs.
@@ -77,7 +86,13 @@ pub enum Work<'a> {
     /// Judge the answer of this name.
     Check(Options<'a>, &'a str),
     /// Draw the answer of this name, in so many columns at most.
-    Gantt { answer: &'a str, columns: u32 },
+    Gantt {
+        answer: &'a str,
+        columns: u32,
+        explain: bool,
+    },
+    /// List the problems that are solved, with a job table those that it has the fields for.
+    Problems(Option<&'a str>),
 }
 
 /// What the command line asks for.
@@ -93,14 +108,37 @@ pub enum Asked<'a> {
     NoMemory,
 }
 
-const SOLVED: &str = "\
-Solved: 1||sumwC, 1||sumC, 1||Lmax, 1||hmax, 1|prec|Lmax, 1|prec|hmax, each also with prmp;
-        1|rj,prmp|Lmax; F2||Cmax, O2||Cmax, also with prmp; P||sumC; P|prmp|Cmax.
+const ABOUT_ALL: &str = "\
+First steps: threefield solve -p \"1||Lmax\" TABLE, and with --explain where it
+             is refused. Put quotes round the problem: | is a pipe otherwise.
+             threefield problems lists what is solved.
 
-Example: threefield solve --problem \"P2|prmp|Cmax\" examples/table.txt
+Exit status: 0 done, 1 rejected, 2 refused, 3 want of memory,
+             4 a file or a device failed, 5 the command line is wrong.";
 
-Exit status: 0 answered, 2 refused, 3 want of memory, 4 a file or a device failed,
-             5 the command line is wrong.";
+const ABOUT_SOLVE: &str = "\
+Example: threefield solve -p \"P2|prmp|Cmax\" examples/table.txt
+
+Exit status: 0 answered, 2 refused, 3 want of memory,
+             4 a file or a device failed, 5 the command line is wrong.";
+
+const ABOUT_CHECK: &str = "\
+Example: threefield check -p \"P2|prmp|Cmax\" examples/table.txt answer.txt
+
+Exit status: 0 accepted, 1 rejected, 2 refused, 3 want of memory,
+             4 a file or a device failed, 5 the command line is wrong.";
+
+const ABOUT_GANTT: &str = "\
+Example: threefield solve -p \"1||sumC\" table.txt | threefield gantt -c 40
+
+Exit status: 0 drawn, 2 refused, 3 want of memory,
+             4 a file or a device failed, 5 the command line is wrong.";
+
+const ABOUT_PROBLEMS: &str = "\
+Example: threefield problems examples/all_fields.txt
+
+Exit status: 0 listed, 2 the table is refused, 3 want of memory,
+             4 a file or a device failed, 5 the command line is wrong.";
 
 static FORMATS: [&str; 3] = ["table", "wt", "flow"];
 
@@ -108,67 +146,107 @@ static VERSIONS: [&str; 2] = ["1", "2"];
 
 /// The program's commands.
 pub fn command<'a>(alloc: Global) -> Result<Command<'a>, AllocError> {
-    let version = Arg::new(alloc, "answer")
-        .long("answer")
-        .value_name("VERSION")
-        .help("The version of the answer text")
-        .value_parser(VERSIONS.as_slice())
-        .default_value("2");
-    let solve = with_options(alloc, Command::new(alloc, "solve"))?
-        .about("Prints a best schedule, its value and a certificate that none is better")
-        .after_help(SOLVED)
-        .arg(version)?;
-    let check = with_options(alloc, Command::new(alloc, "check"))?
-        .about("Judges an answer: accepted, or rejected and why")
-        .arg(answer(alloc))?;
-    let columns = Arg::new(alloc, "columns")
-        .long("columns")
-        .value_name("N")
-        .help("The most columns of the chart, 1 to 1000")
-        .default_value("72");
-    let gantt = Command::new(alloc, "gantt")
-        .about("Draws the schedule of an answer, a line for each machine")
-        .arg(columns)?
-        .arg(answer(alloc))?;
     Command::new(alloc, "threefield")
         .bin_name("threefield")?
         .about("Exact machine scheduling with certificates")
         .version("0.1.0")
-        .disable_help_subcommand(true)
+        .after_help(ABOUT_ALL)
         .subcommand_required(true)
-        .subcommand(solve)?
-        .subcommand(check)?
-        .subcommand(gantt)
+        .arg_required_else_help(true)
+        .subcommand(solve_command(alloc)?)?
+        .subcommand(check_command(alloc)?)?
+        .subcommand(gantt_command(alloc)?)?
+        .subcommand(problems_command(alloc)?)
 }
 
-fn answer<'a>(alloc: Global) -> Arg<'a> {
-    Arg::new(alloc, "ANSWER")
+fn solve_command<'a>(alloc: Global) -> Result<Command<'a>, AllocError> {
+    let version = Arg::new(alloc, "answer")
+        .long("answer")
+        .value_name("VERSION")
+        .help("The version of the answer text, 1 or 2")
+        .value_parser(VERSIONS.as_slice())
+        .hide_possible_values(true)
+        .default_value("2");
+    with_options(alloc, Command::new(alloc, "solve"))?
+        .about("Prints a best schedule, and a certificate that none is better")
+        .after_help(ABOUT_SOLVE)
+        .arg(version)
+}
+
+fn check_command<'a>(alloc: Global) -> Result<Command<'a>, AllocError> {
+    let answer = Arg::new(alloc, "ANSWER")
         .help("The answer: a file, or - for standard input")
-        .required(true)
+        .required(true);
+    with_options(alloc, Command::new(alloc, "check"))?
+        .about("Judges an answer: accepted, or rejected and why")
+        .after_help(ABOUT_CHECK)
+        .arg(answer)
+}
+
+fn gantt_command<'a>(alloc: Global) -> Result<Command<'a>, AllocError> {
+    let columns = Arg::new(alloc, "columns")
+        .short('c')
+        .long("columns")
+        .value_name("N")
+        .help("The most columns of the chart, 1 to 1000")
+        .allow_negative_numbers(true)
+        .default_value("72");
+    let answer = Arg::new(alloc, "ANSWER")
+        .help("The answer: a file, or - for standard input")
+        .default_value("-");
+    Command::new(alloc, "gantt")
+        .about("Draws the schedule of an answer, a line for each machine")
+        .after_help(ABOUT_GANTT)
+        .arg(columns)?
+        .arg(explain(alloc))?
+        .arg(answer)
+}
+
+fn problems_command<'a>(alloc: Global) -> Result<Command<'a>, AllocError> {
+    let file = Arg::new(alloc, "FILE").help("A job table: lists what it has the fields for");
+    Command::new(alloc, "problems")
+        .about("Lists the problems that are solved, and what each needs")
+        .after_help(ABOUT_PROBLEMS)
+        .arg(file)
+}
+
+fn explain<'a>(alloc: Global) -> Arg<'a> {
+    Arg::new(alloc, "explain")
+        .long("explain")
+        .help("Says in plain words what is wrong, and how to mend it")
+        .action(ArgAction::SetTrue)
 }
 
 // The command with what names a problem and an instance.
 fn with_options<'a>(alloc: Global, command: Command<'a>) -> Result<Command<'a>, AllocError> {
     let problem = Arg::new(alloc, "problem")
+        .short('p')
         .long("problem")
         .value_name("TEXT")
-        .help("The problem in three-field notation, as P2|prmp|Cmax")
+        .help("The problem, in quotes: \"P2|prmp|Cmax\"")
         .required(true);
     let format = Arg::new(alloc, "format")
+        .short('f')
         .long("format")
         .value_name("FORM")
-        .help("The form of the instance")
+        .help("The form of the instance: table, wt or flow")
         .value_parser(FORMATS.as_slice())
+        .hide_possible_values(true)
         .default_value("table");
     let machines = Arg::new(alloc, "machines")
+        .short('m')
         .long("machines")
         .value_name("M")
-        .help("The number of machines, 1 to 1000");
+        .help("The number of machines, 1 to 1000")
+        .allow_negative_numbers(true);
     let input = Arg::new(alloc, "INPUT")
         .help("The instance: a file, or - for standard input")
         .required(true);
     let command = command.arg(problem)?.arg(format)?;
-    with_form_options(alloc, command)?.arg(machines)?.arg(input)
+    with_form_options(alloc, command)?
+        .arg(machines)?
+        .arg(explain(alloc))?
+        .arg(input)
 }
 
 // The command with the options of the forms.
@@ -176,11 +254,13 @@ fn with_form_options<'a>(alloc: Global, command: Command<'a>) -> Result<Command<
     let jobs = Arg::new(alloc, "jobs")
         .long("jobs")
         .value_name("N")
-        .help("With wt: the number of jobs of an instance, 1 to 100000");
+        .help("With wt: the jobs of each instance, 1 to 100000")
+        .allow_negative_numbers(true);
     let index = Arg::new(alloc, "index")
         .long("index")
         .value_name("K")
         .help("With wt: which instance, from 1")
+        .allow_negative_numbers(true)
         .default_value("1");
     let name = Arg::new(alloc, "name")
         .long("name")
@@ -206,6 +286,9 @@ pub fn understand<'a>(command: Command<'a>, words: &'a [String]) -> Asked<'a>
     };
     if name == "gantt" {
         return gantt_in(given);
+    }
+    if name == "problems" {
+        return Asked::Work(Work::Problems(given.get_str("FILE")));
     }
     let options = match options_in(given) {
         Ok(options) => options,
@@ -240,7 +323,11 @@ fn gantt_in<'a>(given: &ArgMatches<'a>) -> Asked<'a>
         return Asked::NoMemory;
     };
     match number_within(word, 1, MOST_COLUMNS) {
-        Some(columns) => Asked::Work(Work::Gantt { answer, columns }),
+        Some(columns) => Asked::Work(Work::Gantt {
+            answer,
+            columns,
+            explain: given.get_flag("explain"),
+        }),
         None => Asked::Unfit("--columns takes a number from 1 to 1000"),
     }
 }
@@ -259,12 +346,32 @@ fn options_in<'a>(given: &ArgMatches<'a>) -> Result<Options<'a>, Asked<'a>>
             None => return Err(Asked::Unfit("--machines takes a number from 1 to 1000")),
         },
     };
+    let form = form_in(given)?;
     Ok(Options {
         problem,
-        form: form_in(given)?,
+        form,
         machines,
         input,
+        telling: Telling {
+            explain: given.get_flag("explain"),
+            idle: idle_in(given, &form),
+        },
     })
+}
+
+// An option that was given, and that the form does not use.
+fn idle_in(given: &ArgMatches<'_>, form: &FormOption<'_>) -> Option<&'static str> {
+    let is_wt = matches!(form, FormOption::Wt { .. });
+    let is_flow = matches!(form, FormOption::Flow { .. });
+    if given.contains_id("jobs") && !is_wt {
+        Some("--jobs is of --format wt alone, and does not count here.\n")
+    } else if given.contains_id("name") && !is_flow {
+        Some("--name is of --format flow alone, and does not count here.\n")
+    } else if given.contains_id("pair") && !is_flow {
+        Some("--pair is of --format flow alone, and does not count here.\n")
+    } else {
+        None
+    }
 }
 
 // The form that was chosen. The options of the others are not looked at.

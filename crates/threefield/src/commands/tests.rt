@@ -21,6 +21,7 @@ impl Sources for Texts {
             "shop" => Ok(SHOP),
             "answer" => Ok(ANSWER),
             "other" => Ok(OTHER),
+            "slips" => Ok(SLIPS),
             _ => Err(io::Error::from(ErrorKind::NotFound)),
         }
     }
@@ -43,6 +44,12 @@ piece 2 2 0 2
 piece 3 2 2 6
 cert load
 end
+";
+
+/// Two lines are wrong.
+const SLIPS: &[u8] = b"table 1
+job 1 p = 4
+job 2 due=3
 ";
 
 /// The same in version 1.
@@ -317,4 +324,106 @@ fn a_file_that_cannot_be_opened_is_a_device_fault_before_all_else(
         2,
         refused,
     )
+}
+
+const TOLD: &[u8] = b"threefield: refused: BadLine 2
+These lines are wrong:
+slips, line 2:
+    job 1 p = 4
+          ^
+There is a blank next to a \"=\" or a \",\", so one field is two words or more.
+Write each field as one word, as in p=3 or p=3,4.
+slips, line 3:
+    job 2 due=3
+          ^^^^^
+A field is named by one lower case letter.
+p= is the time, w= the weight, d= the due date, r= the release date, h= the cost.
+A job line is \"job K p=T\" with any of w= d= r= h=, and K counts up from 1.
+";
+
+#[test]
+fn explanations_follow_the_line_of_a_fault(rt: HostRuntime) -> Result<(), Fail> {
+    says(
+        &rt,
+        &["solve", "-p", "1||sumC", "--explain", "slips"],
+        2,
+        TOLD,
+    )?;
+    let unknown = b"threefield: refused: NotationFault 3
+The problem is not in three-field notation:
+    1||sumX
+       ^^^^
+Here stands the objective, such as Cmax, Lmax, hmax, sumC or sumwC.
+Perhaps \"sumC\" is meant.
+";
+    says(
+        &rt,
+        &["solve", "-p", "1||sumX", "--explain", "-"],
+        2,
+        unknown,
+    )?;
+    let absent = b"threefield: device fault\nabsent: entity not found\n";
+    says(
+        &rt,
+        &["solve", "-p", "1||sumC", "--explain", "absent"],
+        4,
+        absent,
+    )?;
+    says(&rt, &["gantt", "--explain", "absent"], 4, absent)?;
+    let drawn = b"threefield: refused: answer BadLine 1
+standard input, line 1:
+    table 1
+This is a job table, and an answer text is wanted here.
+\"check\" takes INPUT first and ANSWER second; perhaps they are exchanged.
+";
+    says(&rt, &["gantt", "--explain"], 2, drawn)
+}
+
+#[test]
+fn explanations_change_no_byte_of_what_is_printed(rt: HostRuntime) -> Result<(), Fail> {
+    writes(
+        &rt,
+        &["solve", "-p", "P2|prmp|Cmax", "--explain", "-"],
+        0,
+        ANSWER,
+    )?;
+    let good = ["check", "-p", "P2|prmp|Cmax", "--explain", "-", "answer"];
+    writes(&rt, &good, 0, b"accepted\n")?;
+    let worse = ["check", "-p", "P2|prmp|Cmax", "--explain", "-", "other"];
+    let told = b"The line \"value\" says 7, and the pieces cost 6.
+Correct the line \"value\", or the pieces.
+";
+    ends(&rt, &worse, 1, b"rejected: WrongValue\n", told)?;
+    let three = b"length 6\nmachine 1 |112|\nmachine 2 |233|\n";
+    writes(&rt, &["gantt", "-c", "3", "--explain", "answer"], 0, three)?;
+    let idle = [
+        "solve",
+        "-p",
+        "P2|prmp|Cmax",
+        "--pair",
+        "0,1",
+        "--explain",
+        "-",
+    ];
+    let said = b"--pair is of --format flow alone, and does not count here.\n";
+    ends(&rt, &idle, 0, ANSWER, said)
+}
+
+#[test]
+fn problems_are_those_that_a_table_has_the_fields_for(rt: HostRuntime) -> Result<(), Fail> {
+    let fit = b"1||sumC         needs p=: sum of completion times, 1 machine
+1|prmp|sumC     needs p=: sum of completion times, 1 machine, with preemption
+P||sumC         needs p=: sum of completion times, M machines in parallel
+P|prmp|Cmax     needs p=: makespan, M machines in parallel, with preemption
+";
+    writes(&rt, &["problems", "-"], 0, fit)?;
+    let bad = b"threefield: refused: BadLine 1
+answer, line 1:
+    answer 2
+    ^^^^^^
+This is an answer text, and an instance is wanted here.
+\"check\" takes INPUT first and ANSWER second; perhaps they are exchanged.
+The first line of a job table is exactly \"table 1\".
+";
+    says(&rt, &["problems", "answer"], 2, bad)
 }

@@ -251,7 +251,6 @@ fn versions_of_answers(rt: HostRuntime) -> Result<(), Fail> {
 #[test]
 fn lines_that_are_misused(rt: HostRuntime) -> Result<(), Fail> {
     is_misused(&rt, &[])?;
-    is_misused(&rt, &["help"])?;
     is_misused(&rt, &["solve", "file"])?;
     is_misused(&rt, &["solve", "--problem", "P||sumC"])?;
     is_misused(
@@ -275,9 +274,13 @@ fn lines_that_are_misused(rt: HostRuntime) -> Result<(), Fail> {
 fn draws(rt: &HostRuntime, line: &[&str], wanted: u32) -> Result<(), Fail> {
     let words = words(rt, line)?;
     match understand(command(rt.alloc())?, words.as_slice()) {
-        Asked::Work(Work::Gantt { answer, columns }) => {
-            ensure(answer == "file" && columns == wanted, "another drawing")
-        }
+        Asked::Work(
+            Work::Gantt {
+                answer,
+                columns,
+                ..
+            },
+        ) => { ensure(answer == "file" && columns == wanted, "another drawing") }
         _ => Err(Fail::new("no drawing")),
     }
 }
@@ -289,12 +292,14 @@ fn charts(rt: HostRuntime) -> Result<(), Fail> {
     draws(&rt, &["gantt", "--columns=1000", "file"], 1_000)?;
     is_unfit(&rt, &["gantt", "--columns=0", "file"])?;
     is_unfit(&rt, &["gantt", "--columns=1001", "file"])?;
-    is_misused(&rt, &["gantt"])
+    is_unfit(&rt, &["gantt", "-c", "-1", "file"])
 }
 
 #[test]
 fn help(rt: HostRuntime) -> Result<(), Fail> {
     is_help(&rt, &["--help"])?;
+    is_help(&rt, &["help"])?;
+    is_help(&rt, &["help", "solve"])?;
     is_help(&rt, &["--version"])?;
     is_help(&rt, &["solve", "--help"])
 }

@@ -1,0 +1,165 @@
+//! What may be said of a run that is over.
+use crate::answer::{explain_answer, explain_pieces};
+use crate::cycle::explain_cycle;
+use crate::instance::instance_in;
+use crate::notation::explain_notation;
+use crate::page::Page;
+use crate::refusal::{class_in, explain_refusal};
+use crate::source::Source;
+use crate::text::explain_text;
+use crate::unused::explain_unused;
+use crate::verdict::{Case, explain_verdict};
+use std::alloc::{AllocError, Global};
+use std::io;
+use tf_engine::fault::RunFault;
+use tf_engine::request::{Form, Request};
+use tf_engine::run_check::Checked;
+use tf_read::fault::ReadFault;
+
+/// What a solved problem did not use of its instance, and nothing where it used all of it.
+///
+/// # Errors
+///
+/// There was no memory.
+pub fn solved(
+    alloc: Global,
+    request: &Request,
+    instance: &Source<'_>,
+) -> Result<String, AllocError> {
+    let mut page = Page::new(alloc);
+    say_unused(alloc, &mut page, request, instance)?;
+    Ok(page.text)
+}
+
+fn say_unused(
+    alloc: Global,
+    page: &mut Page,
+    request: &Request,
+    instance: &Source<'_>,
+) -> Result<(), AllocError> {
+    let problem = request.problem.as_str();
+    let read = instance_in(alloc, &request.form, instance);
+    match (class_in(problem), read) {
+        (Some(class), Some(instance)) => {
+            explain_unused(page, problem, class, request.machines, &instance)
+        }
+        _ => Ok(()),
+    }
+}
+
+/// What is wrong and how to mend it, where a run over an instance, and perhaps an answer, was
+/// refused.
+///
+/// # Errors
+///
+/// There was no memory.
+pub fn refused(
+    alloc: Global,
+    fault: &RunFault,
+    request: &Request,
+    instance: &Source<'_>,
+    answer: Option<&Source<'_>>,
+) -> Result<String, AllocError> {
+    let mut page = Page::new(alloc);
+    match fault {
+        RunFault::Notation(fault) => {
+            explain_notation(alloc, &mut page, request.problem.as_str(), fault.byte)?;
+        }
+        RunFault::Text(fault) => {
+            explain_text(alloc, &mut page, instance, &request.form, fault)?;
+        }
+        RunFault::Task(refusal) => {
+            explain_refusal(alloc, &mut page, request, instance, refusal)?;
+        }
+        RunFault::Cycle(jobs) => {
+            explain_cycle(alloc, &mut page, instance, jobs.as_slice())?;
+        }
+        RunFault::Device => say_output(&mut page)?,
+        RunFault::Answer(_) | RunFault::Pieces(_) | RunFault::OutOfMemory => {
+            if let Some(answer) = answer {
+                return not_drawn(alloc, fault, answer);
+            }
+        }
+    }
+    Ok(page.text)
+}
+
+/// What is wrong with an answer that was not read or not drawn.
+///
+/// # Errors
+///
+/// There was no memory.
+pub fn not_drawn(
+    alloc: Global,
+    fault: &RunFault,
+    answer: &Source<'_>,
+) -> Result<String, AllocError> {
+    let mut page = Page::new(alloc);
+    match fault {
+        RunFault::Answer(fault) => explain_answer(alloc, &mut page, answer, fault)?,
+        RunFault::Pieces(fault) => explain_pieces(alloc, &mut page, answer, fault)?,
+        RunFault::Device => say_output(&mut page)?,
+        _ => {}
+    }
+    Ok(page.text)
+}
+
+// All texts were read before the run, so the device that failed was that of the output.
+fn say_output(page: &mut Page) -> Result<(), AllocError> {
+    page.say("Standard output failed: the disk is full, or who reads it has gone.")
+}
+
+/// What is wrong with a job table by itself.
+///
+/// # Errors
+///
+/// There was no memory.
+pub fn not_listed(
+    alloc: Global,
+    fault: &ReadFault,
+    table: &Source<'_>,
+) -> Result<String, AllocError> {
+    let mut page = Page::new(alloc);
+    explain_text(alloc, &mut page, table, &Form::Table, fault)?;
+    Ok(page.text)
+}
+
+/// Why an answer was rejected, with the numbers; where it was accepted, what the problem did not
+/// use of the instance.
+///
+/// # Errors
+///
+/// There was no memory.
+pub fn checked(
+    alloc: Global,
+    checked: &Checked,
+    request: &Request,
+    instance: &Source<'_>,
+    answer: &Source<'_>,
+) -> Result<String, AllocError> {
+    let mut page = Page::new(alloc);
+    if let Checked::Accepted = checked {
+        say_unused(alloc, &mut page, request, instance)?;
+        return Ok(page.text);
+    }
+    let case = Case {
+        alloc,
+        request,
+        instance: *instance,
+        answer: *answer,
+    };
+    explain_verdict(&mut page, &case, checked)?;
+    Ok(page.text)
+}
+
+/// Which source failed, and the system's reason.
+///
+/// # Errors
+///
+/// There was no memory.
+pub fn not_read(alloc: Global, name: &str, error: &io::Error) -> Result<String, AllocError> {
+    let mut page = Page::new(alloc);
+    let title = Source { name, text: b"" }.title();
+    writeln!(page.text, "{title}: {error}")?;
+    Ok(page.text)
+}

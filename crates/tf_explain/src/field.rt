@@ -1,0 +1,148 @@
+//! What is wrong with the fields of a job line.
+ghost use Rattle.std.specs.Prelude.{◌<◌, IfSome};
+
+use crate::advice::Cause;
+use crate::number::{fault_of_number, fault_of_size};
+use tf_words::number::{Number, number_of};
+use tf_words::part::divided;
+
+/// The fields that a line has named so far.
+#[derive(Clone, Copy, Debug)]
+pub(crate) struct Named {
+    letters: [bool; 5],
+}
+
+/// The letters of the fields.
+const LETTERS: [u8; 5] = [b'p', b'w', b'd', b'r', b'h'];
+
+impl Named {
+    pub(crate) fn none() -> Named {
+        Named {
+            letters: [false; 5],
+        }
+    }
+
+    /// Whether the processing time is among them.
+    pub(crate) fn has_time(&self) -> bool {
+        self.letters[0]
+    }
+
+    /// With a word that should be a field: what is wrong with it, if something is.
+    pub(crate) fn add(&mut self, word: &[u8]) -> Option<Cause> {
+        let Some((key, value)) = divided(word, b'=') else {
+            return Some(cause_of_no_field(word));
+        };
+        let Some(place) = letter_place(key) else {
+            return Some(cause_of_other_key(key));
+        };
+        if self.letters[place] {
+            return Some(Cause::FieldTwice);
+        }
+        self.letters[place] = true;
+        if value.is_empty() {
+            return Some(Cause::BlankInField);
+        }
+        match LETTERS[place] {
+            b'p' => fault_of_times(value),
+            b'd' => fault_of_number(value),
+            b'h' => fault_of_cost(value),
+            _ => fault_of_size(value),
+        }
+    }
+}
+
+fn letter_place(key: &[u8]) -> Option<usize>
+    ensures { IfSome result (λ k. k < 5) }
+{
+    match key {
+        b"p" => Some(0),
+        b"w" => Some(1),
+        b"d" => Some(2),
+        b"r" => Some(3),
+        b"h" => Some(4),
+        _ => None,
+    }
+}
+
+// A word without "=".
+fn cause_of_no_field(word: &[u8]) -> Cause {
+    if letter_place(word).is_some() {
+        Cause::BlankInField
+    } else if word.starts_with(b"#") || word.starts_with(b"//") {
+        Cause::Remark
+    } else if word.starts_with(b",") || word.ends_with(b",") {
+        Cause::BlankInField
+    } else {
+        Cause::NoEquals
+    }
+}
+
+// What stands before "=" and is no field's letter.
+fn cause_of_other_key(key: &[u8]) -> Cause {
+    if key.is_empty() {
+        Cause::BlankInField
+    } else if key.len() > 1 || key.iter().all(|byte| byte.is_ascii_uppercase()) {
+        Cause::LongName
+    } else {
+        Cause::UnknownField
+    }
+}
+
+// The value of `p=`: one number, or two with a comma between them.
+fn fault_of_times(value: &[u8]) -> Option<Cause> {
+    let commas = value.iter().filter(|byte| **byte == b',').count();
+    if commas > 1 {
+        return Some(Cause::ManyTimes);
+    }
+    value
+        .split(|byte| *byte == b',')
+        .find_map(|part| fault_of_size(part))
+}
+
+// The value of `h=`: a base, and steps with rising times and values that do not fall.
+fn fault_of_cost(value: &[u8]) -> Option<Cause> {
+    let mut last: Option<i64> = None;
+    let mut time: Option<i64> = None;
+    for part in value.split(|byte| *byte == b',') {
+        let Some(before) = last else {
+            match number_of(part) {
+                Number::Value(base) => last = Some(base),
+                _ => return fault_of_base(part),
+            }
+            continue;
+        };
+        let Some((when, cost)) = divided(part, b':') else {
+            return Some(Cause::StepForm);
+        };
+        match (number_of(when), number_of(cost)) {
+            (Number::Value(at), Number::Value(next)) if at >= 0 => {
+                if time.is_some_and(|earlier| at <= earlier) {
+                    return Some(Cause::TimesNotRising);
+                }
+                if next < before {
+                    return Some(Cause::CostFalls);
+                }
+                time = Some(at);
+                last = Some(next);
+            }
+            _ => return fault_of_step(when, cost),
+        }
+    }
+    None
+}
+
+fn fault_of_base(base: &[u8]) -> Option<Cause> {
+    if base.contains(&b':') {
+        Some(Cause::StepForm)
+    } else {
+        fault_of_number(base)
+    }
+}
+
+fn fault_of_step(time: &[u8], cost: &[u8]) -> Option<Cause> {
+    if cost.contains(&b':') {
+        Some(Cause::StepForm)
+    } else {
+        fault_of_size(time).or(fault_of_number(cost))
+    }
+}

@@ -1,0 +1,24 @@
+//! Plain words on a run: what is wrong with what was read, and how to mend it.
+#![tactic(auto)]
+
+mod advice;
+mod answer;
+mod cycle;
+pub mod explain;
+mod field;
+mod instance;
+mod notation;
+mod number;
+mod page;
+mod piece_lines;
+mod refusal;
+mod shop;
+pub mod solved;
+pub mod source;
+mod table;
+mod tardiness;
+#[cfg(test)]
+mod tests;
+mod text;
+mod unused;
+mod verdict;

@@ -1,0 +1,220 @@
+//! What is wrong with a notation, and the problems nearest to one that is not solved.
+use crate::page::Page;
+use crate::solved::{CLASSES, notation_of, push_class};
+use std::alloc::{AllocError, Global};
+use strsim::osa_distance;
+use tf_model::problem::{Env, Problem};
+use tf_notation::reading::read;
+
+/// What a field may say.
+#[derive(Clone, Copy, Debug, PartialEq, Eq)]
+enum Expected {
+    Environment,
+    Bar,
+    Condition,
+    Objective,
+    End,
+}
+
+static CONDITIONS: [&str; 9] = [
+    "rj", "r_j", "prec", "prmp", "pmtn", "prmu", "nwt", "block", "rcrc",
+];
+
+static OBJECTIVES: [&str; 9] = [
+    "Cmax", "Lmax", "hmax", "sumC", "sumwC", "sumT", "sumwT", "sumU", "sumwU",
+];
+
+static ENVIRONMENTS: [&str; 7] = ["1", "P", "Q", "R", "F", "O", "J"];
+
+static NOTHING: [&str; 0] = [];
+
+/// The most edits by which a word is taken for another.
+const MOST_EDITS: usize = 2;
+
+impl Expected {
+    // What may stand at a byte of the text, by the bars before it.
+    fn at(text: &[u8], byte: usize) -> Expected {
+        let front = text.get(..byte).unwrap_or(text);
+        let bars = front.iter().filter(|byte| **byte == b'|').count();
+        let is_behind = front
+            .trim_ascii()
+            .last()
+            .is_some_and(|byte| *byte != b'|' && *byte != b',');
+        match (bars, is_behind) {
+            (0, false) => Expected::Environment,
+            (0, true) => Expected::Bar,
+            (1, false) => Expected::Condition,
+            (1, true) => Expected::Bar,
+            (2, false) => Expected::Objective,
+            _ => Expected::End,
+        }
+    }
+
+    fn allows(self) -> &'static str {
+        match self {
+            Expected::Environment => {
+                "Here stands the environment: 1, P, Q, R, F, O or J, as in P or P2."
+            }
+            Expected::Bar => "Here stands \"|\": a notation is ENVIRONMENT|CONDITIONS|OBJECTIVE.",
+            Expected::Condition => {
+                "Here stand conditions, as rj, prec, prmp, with commas between them."
+            }
+            Expected::Objective => {
+                "Here stands the objective, such as Cmax, Lmax, hmax, sumC or sumwC."
+            }
+            Expected::End => "Here the notation is over: nothing stands behind the objective.",
+        }
+    }
+
+    fn words(self) -> &'static [&'static str] {
+        match self {
+            Expected::Environment => ENVIRONMENTS.as_slice(),
+            Expected::Condition => CONDITIONS.as_slice(),
+            Expected::Objective => OBJECTIVES.as_slice(),
+            Expected::Bar | Expected::End => NOTHING.as_slice(),
+        }
+    }
+}
+
+/// What is wrong with the text at that byte.
+pub(crate) fn explain_notation(
+    alloc: Global,
+    page: &mut Page,
+    problem: &str,
+    byte: usize,
+) -> Result<(), AllocError> {
+    let text = problem.as_bytes();
+    let word = word_at(text, byte);
+    page.say("The problem is not in three-field notation:")?;
+    page.show(text)?;
+    page.mark(text, byte, word.len())?;
+    let expected = Expected::at(text, byte);
+    page.say(expected.allows())?;
+    say_nearest(alloc, page, expected, word)?;
+    if text.contains(&b'/') {
+        page.say("Fields are divided by \"|\" and not by \"/\", as in \"1||Lmax\".")?;
+    }
+    if !text.contains(&b'|') && !text.contains(&b'/') {
+        page.say("Put quotes round the notation: without them the shell takes \"|\" for a pipe.")?;
+    }
+    Ok(())
+}
+
+/// The word at which the text goes on from that byte.
+fn word_at(text: &[u8], byte: usize) -> &[u8] {
+    let rest = text.get(byte..).unwrap_or(&[]);
+    rest.split(|byte| !byte.is_ascii_alphanumeric() && *byte != b'_')
+        .next()
+        .unwrap_or(&[])
+}
+
+// Of how many edits and at which place the spelling is that differs least from a word.
+fn nearest(
+    alloc: Global,
+    words: &[&str],
+    word: &str,
+) -> Result<Option<(usize, usize)>, AllocError> {
+    let lower = word.to_ascii_lowercase(alloc)?;
+    let mut best: Option<(usize, usize)> = None;
+    for (place, known) in words.iter().enumerate() {
+        let other = known.to_ascii_lowercase(alloc)?;
+        let edits = osa_distance(alloc, lower.as_str(), other.as_str())?;
+        if edits <= MOST_EDITS && best.is_none_or(|(least, _)| edits < least) {
+            best = Some((edits, place));
+        }
+    }
+    Ok(best)
+}
+
+// The spelling that is read and differs least.
+fn say_nearest(
+    alloc: Global,
+    page: &mut Page,
+    expected: Expected,
+    word: &[u8],
+) -> Result<(), AllocError> {
+    let Ok(word) = std::str::from_utf8(word) else {
+        return Ok(());
+    };
+    if word.is_empty() {
+        return Ok(());
+    }
+    let Some((edits, place)) = nearest(alloc, expected.words(), word)? else {
+        return Ok(());
+    };
+    match expected.words().get(place) {
+        None => Ok(()),
+        Some(known) if *known == word => {
+            writeln!(page.text, "\"{known}\" stands here for the second time.")
+        }
+        Some(known) if edits == 0 => {
+            writeln!(
+                page.text,
+                "It is written \"{known}\": upper and lower case differ."
+            )
+        }
+        Some(known) => writeln!(page.text, "Perhaps \"{known}\" is meant."),
+    }
+}
+
+/// The solved problems nearest to one that is not solved.
+pub(crate) fn explain_unsolved(
+    alloc: Global,
+    page: &mut Page,
+    problem: &str,
+) -> Result<(), AllocError> {
+    let Ok(asked) = read(problem.as_bytes()) else {
+        return Ok(());
+    };
+    page.say("This problem is well formed, and no method of this program solves it:")?;
+    page.show(problem.as_bytes())?;
+    if let Some(reason) = reason_of(&asked) {
+        page.say(reason)?;
+    }
+    let least = CLASSES
+        .iter()
+        .map(|class| distance(&asked, &class.notation()))
+        .min()
+        .unwrap_or(0);
+    page.say("Nearest to it of those that are solved:")?;
+    for class in &CLASSES {
+        if distance(&asked, &class.notation()) == least {
+            page.text.push_str("    ")?;
+            push_class(alloc, &mut page.text, *class)?;
+        }
+    }
+    page.say("\"threefield problems\" lists them all.")
+}
+
+// Why such a problem is not solved, where it is one that is often asked for.
+fn reason_of(asked: &Problem) -> Option<&'static str> {
+    if asked.env.is_shop() && asked.count.is_some_and(|m| m != 2) {
+        return Some("Shops are solved on two machines.");
+    }
+    match asked.env {
+        Env::JobShop => Some("Job shops are not solved."),
+        Env::Uniform | Env::Unrelated => Some("Machines in parallel are solved if all are alike."),
+        _ if asked.release && !asked.prmp => {
+            Some("Release dates are solved on one machine with preemption, as 1|rj,prmp|Lmax.")
+        }
+        _ => None,
+    }
+}
+
+/// In how much two problems differ.
+fn distance(one: &Problem, other: &Problem) -> usize {
+    let parts = [
+        (one.env != other.env, 4),
+        (one.goal != other.goal, 3),
+        (one.release != other.release, 2),
+        (one.prec != other.prec, 2),
+        (one.prmp != other.prmp, 1),
+    ];
+    let mut distance: usize = 0;
+    for (differs, weight) in parts {
+        if differs {
+            distance = distance.saturating_add(weight);
+        }
+    }
+    distance
+}

@@ -1,0 +1,50 @@
+//! Why a word of a table is no number of its place.
+use crate::advice::Cause;
+use tf_words::number::{Number, number_of};
+
+/// What is wrong with a number that has to be at least 0, if something is.
+pub(crate) fn fault_of_size(word: &[u8]) -> Option<Cause> {
+    match number_of(word) {
+        Number::Value(value) if value < 0 => Some(Cause::Negative),
+        _ => fault_of_number(word),
+    }
+}
+
+/// What is wrong with a number, if something is.
+pub(crate) fn fault_of_number(word: &[u8]) -> Option<Cause> {
+    match number_of(word) {
+        Number::Value(_) => None,
+        Number::TooLarge => Some(Cause::TooLarge),
+        Number::NotANumber => Some(cause_of_no_number(word)),
+    }
+}
+
+// The usual reason.
+fn cause_of_no_number(word: &[u8]) -> Cause {
+    if word.is_empty() {
+        Cause::BlankInField
+    } else if word.starts_with(b"+") {
+        Cause::PlusSign
+    } else if is_among(word, b".") {
+        Cause::DecimalPoint
+    } else if is_among(word, b",") {
+        Cause::DecimalComma
+    } else if is_among(word, b"'_") {
+        Cause::Thousands
+    } else if begins_with_digit(word) {
+        Cause::Unit
+    } else {
+        Cause::NotANumber
+    }
+}
+
+// Whether the word has digits, and beside them these marks and a sign alone.
+fn is_among(word: &[u8], marks: &[u8]) -> bool {
+    word.iter().any(|byte| byte.is_ascii_digit())
+        && word.iter().any(|byte| marks.contains(byte))
+        && word.iter().all(|byte| byte.is_ascii_digit() || *byte == b'-' || marks.contains(byte))
+}
+
+fn begins_with_digit(word: &[u8]) -> bool {
+    word.first().is_some_and(|byte| byte.is_ascii_digit())
+}

@@ -1,0 +1,192 @@
+//! Why an instance is no task of a problem.
+use crate::instance::instance_in;
+use crate::notation::explain_unsolved;
+use crate::page::Page;
+use crate::source::Source;
+use std::alloc::{AllocError, Global};
+use tf_engine::request::{Form, Request};
+use tf_model::class::class_of;
+use tf_model::ids::JobId;
+use tf_model::instance::Instance;
+use tf_model::job::Job;
+use tf_model::limit::{LIMIT, MOST_COSTED_JOBS};
+use tf_model::prepare::{Field, Refusal};
+use tf_notation::reading::read;
+
+/// Why the source's instance is no task of what was asked for.
+pub(crate) fn explain_refusal(
+    alloc: Global,
+    page: &mut Page,
+    request: &Request,
+    source: &Source<'_>,
+    refusal: &Refusal,
+) -> Result<(), AllocError> {
+    let problem = request.problem.as_str();
+    match *refusal {
+        Refusal::NoSolver => explain_unsolved(alloc, page, problem),
+        Refusal::TooManyJobs => {
+            writeln!(
+                page.text,
+                "{problem} gives each job a cost of its own: at most {MOST_COSTED_JOBS} jobs."
+            )
+        }
+        Refusal::MachinesMissing => {
+            writeln!(
+                page.text,
+                "{problem} needs a number of machines, and no place gives one."
+            )?;
+            page.say("Write it in the notation (P3), as --machines 3, or as a line \"machines 3\".")
+        }
+        Refusal::MachinesDisagree => say_machines(alloc, page, request, source),
+        Refusal::MachineCount(m) => {
+            writeln!(
+                page.text,
+                "Shops are solved on two machines, and here are {m}."
+            )?;
+            page.say("Take two machines of a flow shop file with --pair, as in --pair 0,2.")
+        }
+        Refusal::WrongTimes(job) => say_times(alloc, page, request, source, job),
+        Refusal::MissingField(job, field) => say_field(alloc, page, request, source, job, field),
+        Refusal::ZeroTime(job) => {
+            quote_job(alloc, page, source, job)?;
+            page.say("A time is at least 1, but for an operation of a shop.")?;
+            page.say("Leave the job out, or count it as 1.")
+        }
+        Refusal::TotalTooLarge => {
+            writeln!(
+                page.text,
+                "All times together, or times by weights, are above {LIMIT}."
+            )?;
+            page.say("Take a coarser unit of time or of weight.")
+        }
+        Refusal::OutOfMemory => Ok(()),
+    }
+}
+
+fn quote_job(
+    alloc: Global,
+    page: &mut Page,
+    source: &Source<'_>,
+    job: JobId,
+) -> Result<(), AllocError> {
+    match source.job_line(alloc, job.get())? {
+        Some(line) => page.quote(source, &line, None),
+        None => Ok(()),
+    }
+}
+
+// The number of machines in each place that gives one.
+fn say_machines(
+    alloc: Global,
+    page: &mut Page,
+    request: &Request,
+    source: &Source<'_>,
+) -> Result<(), AllocError> {
+    page.say("The number of machines is given in two places, and they disagree:")?;
+    if let Ok(problem) = read(request.problem.as_str().as_bytes())
+        && let Some(m) = problem.count
+    {
+        writeln!(page.text, "    {m} in the notation")?;
+    }
+    if let Some(m) = request.machines {
+        writeln!(page.text, "    {m} by --machines")?;
+    }
+    let title = source.title();
+    let instance = instance_in(alloc, &request.form, source);
+    if let Some(m) = instance.and_then(|instance| instance.machines()) {
+        writeln!(page.text, "    {m} in {title}")?;
+    }
+    match request.form {
+        Form::Flow { .. } => {
+            page.say("Take two machines of the file with --pair, as in --pair 0,2.")
+        }
+        _ => page.say("Leave out all but one."),
+    }
+}
+
+fn say_times(
+    alloc: Global,
+    page: &mut Page,
+    request: &Request,
+    source: &Source<'_>,
+    job: JobId,
+) -> Result<(), AllocError> {
+    quote_job(alloc, page, source, job)?;
+    let problem = request.problem.as_str();
+    let is_shop = read(problem.as_bytes()).is_ok_and(|problem| problem.env.is_shop());
+    if is_shop {
+        writeln!(
+            page.text,
+            "{problem} is a shop: a job has two times, as in p=3,4."
+        )
+    } else {
+        writeln!(
+            page.text,
+            "{problem} is no shop: a job has one time, as in p=3."
+        )?;
+        page.say("p=3,5 is two times of a shop, and not three and a half: all numbers are whole.")
+    }
+}
+
+/// The letter of a field, and its name.
+fn letter_of(field: Field) -> (&'static str, &'static str) {
+    match field {
+        Field::Weight => ("w=", "weight"),
+        Field::Due => ("d=", "due date"),
+        Field::Release => ("r=", "release date"),
+        Field::Cost => ("h=", "cost function"),
+    }
+}
+
+fn lacks(job: &Job, field: Field) -> bool {
+    match field {
+        Field::Weight => job.weight.is_none(),
+        Field::Due => job.due.is_none(),
+        Field::Release => job.release.is_none(),
+        Field::Cost => job.cost.is_none(),
+    }
+}
+
+fn say_field(
+    alloc: Global,
+    page: &mut Page,
+    request: &Request,
+    source: &Source<'_>,
+    job: JobId,
+    field: Field,
+) -> Result<(), AllocError> {
+    quote_job(alloc, page, source, job)?;
+    let problem = request.problem.as_str();
+    let (letter, name) = letter_of(field);
+    writeln!(
+        page.text,
+        "{problem} needs {letter} (the {name}) of each job."
+    )?;
+    match instance_in(alloc, &request.form, source) {
+        Some(instance) => say_lacking(page, &instance, field),
+        None => Ok(()),
+    }
+}
+
+// How many jobs lack a field, and what to do if it is all of them.
+fn say_lacking(page: &mut Page, instance: &Instance, field: Field) -> Result<(), AllocError> {
+    let jobs = instance.len();
+    let lacking = instance
+        .jobs()
+        .iter()
+        .filter(|job| lacks(job, field))
+        .count();
+    let (letter, _) = letter_of(field);
+    writeln!(page.text, "Jobs without {letter}: {lacking} of {jobs}.")?;
+    if lacking == jobs {
+        page.say(
+            "Or name a problem that the table has the fields for: \"threefield problems FILE\".",
+        )?;
+    }
+    Ok(())
+}
+
+/// The class of a problem line, if it is of one.
+pub(crate) fn class_in(problem: &str) -> Option<tf_model::class::Class> {
+    class_of(&read(problem.as_bytes()).ok()?)
+}

@@ -1,0 +1,106 @@
+//! What is wrong with a flow shop file.
+use crate::page::{Page, push_word};
+use crate::source::{Source, Word, words_of};
+use crate::tardiness::is_table;
+use std::alloc::{AllocError, Global};
+use tf_read::fault::ReadFault;
+use tf_read::flow_shop::read_flowshop;
+use tf_words::word::is;
+
+/// The most names that are told.
+const MOST_NAMES: usize = 20;
+
+/// What is wrong, where the instance of this name was read.
+pub(crate) fn explain_shop(
+    alloc: Global,
+    page: &mut Page,
+    source: &Source<'_>,
+    name: &str,
+    fault: &ReadFault,
+) -> Result<(), AllocError> {
+    if is_table(source) {
+        page.say("This is a job table: leave --format flow out.")?;
+        return page.quote_number(source, 1);
+    }
+    match *fault {
+        ReadFault::NoInstance => say_names(alloc, page, source, name),
+        ReadFault::NotAFlowShop(line) => {
+            page.quote_number(source, line as usize)?;
+            page.say(
+                "In each job the machines stand in the order 0, 1, 2, .., each with its time.",
+            )?;
+            page.say("A file in which they do not is one of a job shop, which is not solved.")
+        }
+        ReadFault::BadPair => say_machines(alloc, page, source, name),
+        ReadFault::EndsEarly => {
+            page.say("The file ends before the instance does: it is cut off, or no line has the")?;
+            page.say("numbers of jobs and machines, two numbers alone.")
+        }
+        ReadFault::BadNumber(line) | ReadFault::NumberTooLarge(line) => {
+            page.quote_number(source, line as usize)?;
+            page.say("Behind the sizes stand whole numbers alone: machine and time in turn.")
+        }
+        ReadFault::Negative(line) => {
+            page.quote_number(source, line as usize)?;
+            page.say("A time is at least 0.")
+        }
+        ReadFault::BadLine(line) => {
+            page.quote_number(source, line as usize)?;
+            page.say("The second number is that of the machines, from 1 to 1000.")
+        }
+        _ => Ok(()),
+    }
+}
+
+// The names of the instances that the file has.
+fn say_names(
+    alloc: Global,
+    page: &mut Page,
+    source: &Source<'_>,
+    name: &str,
+) -> Result<(), AllocError> {
+    page.text.push_str("The file has no line \"instance ")?;
+    page.text.push_str(name)?;
+    page.say("\".")?;
+    let mut names: usize = 0;
+    for line in source.text.split(|byte| *byte == b'\n') {
+        let words = words_of(alloc, line)?;
+        if let Some(found) = name_in(words.as_slice()) {
+            names = names.saturating_add(1);
+            if names <= MOST_NAMES {
+                page.text
+                    .push_str(if names == 1 { "It has: " } else { ", " })?;
+                push_word(&mut page.text, found.bytes)?;
+            }
+        }
+    }
+    match names {
+        0 => page.say("It has no line \"instance NAME\" at all: perhaps it is another file."),
+        _ if names > MOST_NAMES => page.say(" and more."),
+        _ => page.say("."),
+    }
+}
+
+fn name_in<'a>(words: &[Word<'a>]) -> Option<Word<'a>> {
+    match words {
+        [key, name] if is(key.bytes, b"instance") => Some(*name),
+        _ => None,
+    }
+}
+
+fn say_machines(
+    alloc: Global,
+    page: &mut Page,
+    source: &Source<'_>,
+    name: &str,
+) -> Result<(), AllocError> {
+    let whole = read_flowshop(alloc, source.text, name.as_bytes(), None);
+    page.say("--pair takes two different machines of the instance, counted from 0.")?;
+    match whole.ok().and_then(|instance| instance.machines()) {
+        Some(machines) => {
+            let last = machines.saturating_sub(1);
+            writeln!(page.text, "This one has the machines 0 to {last}.")
+        }
+        None => Ok(()),
+    }
+}

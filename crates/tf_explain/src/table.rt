@@ -1,0 +1,296 @@
+//! What is wrong with a job table, line by line.
+use crate::advice::{Advice, Cause};
+use crate::field::Named;
+use crate::number::fault_of_number;
+use crate::page::Page;
+use crate::source::{Source, SourceLine, Word, words_of};
+use std::alloc::{AllocError, Global};
+use tf_model::limit::MOST_MACHINES;
+use tf_words::digits::is_numeral;
+use tf_words::number::{Number, number_of};
+use tf_words::word::is;
+
+/// The most slips that are told.
+const MOST_SLIPS: usize = 20;
+
+/// A line that is wrong, with the word at fault where it can be told.
+#[derive(Clone, Copy, Debug)]
+struct Slip<'a> {
+    line: SourceLine<'a>,
+    word: Option<Word<'a>>,
+    cause: Cause,
+}
+
+/// Which lines may come next.
+#[derive(Clone, Copy, Debug, PartialEq, Eq)]
+enum Stage {
+    Heading,
+    Machines,
+    Jobs,
+    Arcs,
+    // the text is of another form, and is not looked at
+    Other,
+}
+
+/// The lines so far.
+#[derive(Drop)]
+struct Judge<'a> {
+    alloc: Global,
+    stage: Stage,
+    // the number of the last job
+    jobs: i64,
+    slips: Vec<Slip<'a>>,
+}
+
+/// Tells all slips of a table, up to the most that are told, and whether there was one.
+pub(crate) fn explain_table(
+    alloc: Global,
+    page: &mut Page,
+    source: &Source<'_>,
+) -> Result<bool, AllocError> {
+    let mut judge = Judge {
+        alloc,
+        stage: Stage::Heading,
+        jobs: 0,
+        slips: Vec::new(alloc),
+    };
+    for (k, bytes) in source.text.split(|byte| *byte == b'\n').enumerate() {
+        let line = SourceLine {
+            number: k.saturating_add(1),
+            bytes,
+        };
+        judge.line(line)?;
+        if judge.slips.len() > MOST_SLIPS {
+            break;
+        }
+    }
+    say_slips(page, source, judge.slips.as_slice())?;
+    Ok(!judge.slips.is_empty())
+}
+
+fn say_slips(page: &mut Page, source: &Source<'_>, slips: &[Slip<'_>]) -> Result<(), AllocError> {
+    if slips.len() > 1 {
+        page.say("These lines are wrong:")?;
+    }
+    for slip in slips.iter().take(MOST_SLIPS) {
+        page.quote(source, &slip.line, slip.word)?;
+        if let Some(advice) = slip.cause.advice() {
+            page.say(advice.wrong)?;
+            page.say(advice.mend)?;
+        }
+    }
+    if slips.len() > MOST_SLIPS {
+        page.say("There are more.")?;
+    }
+    say_places(page, slips)
+}
+
+// What the places of the slips allow, each once.
+fn say_places(page: &mut Page, slips: &[Slip<'_>]) -> Result<(), AllocError> {
+    let mut said: Option<&Advice> = None;
+    for slip in slips.iter().take(MOST_SLIPS) {
+        let advice = slip.cause.advice();
+        if let Some(advice) = advice
+            && said.is_none_or(|last| last.place != advice.place)
+        {
+            page.say(advice.place.allows())?;
+        }
+        said = advice;
+    }
+    Ok(())
+}
+
+impl<'a> Judge<'a> {
+    fn slip(
+        &mut self,
+        line: SourceLine<'a>,
+        word: Option<Word<'a>>,
+        cause: Cause,
+    ) -> Result<(), AllocError> {
+        self.slips.push(Slip { line, word, cause })?;
+        Ok(())
+    }
+
+    // One line more.
+    fn line(&mut self, line: SourceLine<'a>) -> Result<(), AllocError> {
+        let words = words_of(self.alloc, line.bytes)?;
+        let Some(first) = words.first().copied() else {
+            return Ok(());
+        };
+        if first.bytes.starts_with(b"#") {
+            return Ok(());
+        }
+        match self.stage {
+            Stage::Heading => self.heading(line, words.as_slice(), first),
+            Stage::Other => Ok(()),
+            _ => self.body(line, words.as_slice(), first),
+        }
+    }
+
+    fn heading(
+        &mut self,
+        line: SourceLine<'a>,
+        words: &[Word<'a>],
+        first: Word<'a>,
+    ) -> Result<(), AllocError> {
+        self.stage = Stage::Machines;
+        if is_heading(words) {
+            return Ok(());
+        }
+        let cause = cause_of_heading(first.bytes);
+        self.slip(line, Some(first), cause)?;
+        match cause {
+            Cause::IsAnswer | Cause::IsFlowShop | Cause::IsNumbers => self.stage = Stage::Other,
+            Cause::NoHeading => self.body(line, words, first)?,
+            _ => {}
+        }
+        Ok(())
+    }
+
+    // A line below the heading.
+    fn body(
+        &mut self,
+        line: SourceLine<'a>,
+        words: &[Word<'a>],
+        first: Word<'a>,
+    ) -> Result<(), AllocError> {
+        match first.bytes {
+            b"machines" => self.machines(line, words, first),
+            b"job" => self.job(line, words, first),
+            b"prec" => self.arc(line, words, first),
+            other => self.slip(line, Some(first), cause_of_other_line(other)),
+        }
+    }
+
+    fn machines(
+        &mut self,
+        line: SourceLine<'a>,
+        words: &[Word<'a>],
+        first: Word<'a>,
+    ) -> Result<(), AllocError> {
+        if self.stage != Stage::Machines {
+            return self.slip(line, Some(first), Cause::MachinesPlace);
+        }
+        self.stage = Stage::Jobs;
+        let [_, count] = words else {
+            return self.slip(line, None, Cause::MachinesForm);
+        };
+        match number_of(count.bytes) {
+            Number::Value(m) if 1 <= m && m <= i64::from(MOST_MACHINES) => Ok(()),
+            Number::NotANumber => match fault_of_number(count.bytes) {
+                Some(cause) => self.slip(line, Some(*count), cause),
+                None => Ok(()),
+            },
+            _ => self.slip(line, Some(*count), Cause::MachinesRange),
+        }
+    }
+
+    fn job(
+        &mut self,
+        line: SourceLine<'a>,
+        words: &[Word<'a>],
+        first: Word<'a>,
+    ) -> Result<(), AllocError> {
+        if self.stage == Stage::Arcs {
+            return self.slip(line, Some(first), Cause::JobAfterArc);
+        }
+        self.stage = Stage::Jobs;
+        let wanted = self.jobs.saturating_add(1);
+        self.jobs = wanted;
+        let Some(number) = words.get(1).copied() else {
+            return self.slip(line, None, Cause::NoJobNumber);
+        };
+        match number_of(number.bytes) {
+            Number::Value(k) if is_numeral(number.bytes) => {
+                self.jobs = k;
+                if k != wanted {
+                    let cause = if k == 0 {
+                        Cause::JobZero
+                    } else {
+                        Cause::JobOrder
+                    };
+                    return self.slip(line, Some(number), cause);
+                }
+                if number.bytes.starts_with(b"0") {
+                    return self.slip(line, Some(number), Cause::LeadingZero);
+                }
+            }
+            _ => return self.slip(line, Some(number), Cause::NoJobNumber),
+        }
+        self.fields(line, words)
+    }
+
+    fn fields(&mut self, line: SourceLine<'a>, words: &[Word<'a>]) -> Result<(), AllocError> {
+        let mut named = Named::none();
+        for word in words.iter().skip(2) {
+            if let Some(cause) = named.add(word.bytes) {
+                return self.slip(line, Some(*word), cause);
+            }
+        }
+        if named.has_time() {
+            Ok(())
+        } else {
+            self.slip(line, None, Cause::NoTime)
+        }
+    }
+
+    fn arc(
+        &mut self,
+        line: SourceLine<'a>,
+        words: &[Word<'a>],
+        first: Word<'a>,
+    ) -> Result<(), AllocError> {
+        if self.jobs == 0 {
+            return self.slip(line, Some(first), Cause::ArcBeforeJobs);
+        }
+        self.stage = Stage::Arcs;
+        let [_, before, after] = words else {
+            return self.slip(line, None, Cause::ArcForm);
+        };
+        for job in [before, after] {
+            match number_of(job.bytes) {
+                Number::Value(k) if 1 <= k && k <= self.jobs => {}
+                Number::NotANumber => return self.slip(line, Some(*job), Cause::ArcForm),
+                _ => return self.slip(line, Some(*job), Cause::ArcStranger),
+            }
+        }
+        Ok(())
+    }
+}
+
+fn is_heading(words: &[Word<'_>]) -> bool {
+    match words {
+        [first, second] => is(first.bytes, b"table") && is(second.bytes, b"1"),
+        _ => false,
+    }
+}
+
+fn cause_of_heading(first: &[u8]) -> Cause {
+    if first.starts_with(b"\xef\xbb\xbf") {
+        Cause::ByteOrderMark
+    } else if is(first, b"answer") {
+        Cause::IsAnswer
+    } else if is(first, b"instance") || first.starts_with(b"+++") {
+        Cause::IsFlowShop
+    } else if is_numeral(first) {
+        Cause::IsNumbers
+    } else if is(first, b"job") || is(first, b"machines") {
+        Cause::NoHeading
+    } else {
+        Cause::OtherHeading
+    }
+}
+
+fn cause_of_other_line(first: &[u8]) -> Cause {
+    if is(first, b"table") {
+        Cause::HeadingAgain
+    } else if first.starts_with(b"machines=") {
+        Cause::MachinesOneWord
+    } else if first.starts_with(b"job") {
+        Cause::JobOneWord
+    } else if first.iter().any(|byte| byte.is_ascii_uppercase()) {
+        Cause::UpperCase
+    } else {
+        Cause::UnknownLine
+    }
+}

@@ -1,0 +1,105 @@
+//! What is wrong with a weighted tardiness file.
+use crate::number::{fault_of_number, fault_of_size};
+use crate::page::Page;
+use crate::source::{Source, SourceLine, Word, words_of};
+use std::alloc::{AllocError, Global};
+use tf_read::fault::ReadFault;
+
+/// What is wrong, where the file was read as instances of so many jobs.
+pub(crate) fn explain_tardiness(
+    alloc: Global,
+    page: &mut Page,
+    source: &Source<'_>,
+    jobs: u32,
+    fault: &ReadFault,
+) -> Result<(), AllocError> {
+    if is_table(source) {
+        page.say("This is a job table: leave --format wt out.")?;
+        return page.quote_number(source, 1);
+    }
+    match *fault {
+        ReadFault::BadNumber(line) | ReadFault::NumberTooLarge(line) => {
+            quote_bad_word(alloc, page, source, line as usize, false)?;
+            page.say("A weighted tardiness file has whole numbers alone.")
+        }
+        ReadFault::Negative(line) => {
+            quote_bad_word(alloc, page, source, line as usize, true)?;
+            page.say("A negative number stands where a time or a weight is read.")?;
+            page.say("Due dates alone may be negative, so the usual cause is a wrong --jobs.")?;
+            say_counts(page, source, jobs)
+        }
+        ReadFault::NoInstance => {
+            page.say("The file ends before the instance that --index names.")?;
+            say_counts(page, source, jobs)
+        }
+        ReadFault::EndsEarly => {
+            page.say("The file ends within the instance: it is cut off, or --jobs is wrong.")?;
+            say_counts(page, source, jobs)
+        }
+        _ => Ok(()),
+    }
+}
+
+/// Whether the text begins as a job table does.
+pub(crate) fn is_table(source: &Source<'_>) -> bool {
+    source.text.trim_ascii().starts_with(b"table 1")
+}
+
+// The line with the first word of it that is at fault.
+fn quote_bad_word(
+    alloc: Global,
+    page: &mut Page,
+    source: &Source<'_>,
+    number: usize,
+    is_size: bool,
+) -> Result<(), AllocError> {
+    let Some(line) = source.line(number) else {
+        return Ok(());
+    };
+    let word = bad_word(alloc, &line, is_size)?;
+    page.quote(source, &line, word)?;
+    match word.and_then(|word| fault_of_number(word.bytes)?.advice()) {
+        Some(advice) => page.say(advice.wrong),
+        None => Ok(()),
+    }
+}
+
+/// The first word of a line that is no number, or that is negative where a size is wanted.
+fn bad_word<'a>(
+    alloc: Global,
+    line: &SourceLine<'a>,
+    is_size: bool,
+) -> Result<Option<Word<'a>>, AllocError> {
+    let words = words_of(alloc, line.bytes)?;
+    for word in &words {
+        let fault = if is_size {
+            fault_of_size(word.bytes)
+        } else {
+            fault_of_number(word.bytes)
+        };
+        if fault.is_some() {
+            return Ok(Some(*word));
+        }
+    }
+    Ok(None)
+}
+
+// How many instances of this size the file has room for.
+fn say_counts(page: &mut Page, source: &Source<'_>, jobs: u32) -> Result<(), AllocError> {
+    let words = source.word_count();
+    let each = (jobs.max(1) as usize).saturating_mul(3);
+    let instances = words / each;
+    let rest = words % each;
+    writeln!(
+        page.text,
+        "The file has {words} numbers, and an instance of {jobs} jobs takes {each}:"
+    )?;
+    if rest == 0 {
+        writeln!(page.text, "it has {instances} of them, counted from 1.")
+    } else {
+        writeln!(
+            page.text,
+            "that is {instances} of them and {rest} numbers more, so --jobs is wrong."
+        )
+    }
+}

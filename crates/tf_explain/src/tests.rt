@@ -1,0 +1,5 @@
+//! Mistakes that people make, and what is printed for each.
+mod answers;
+mod cases;
+mod devices;
+mod mistakes;

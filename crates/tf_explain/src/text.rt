@@ -1,0 +1,69 @@
+//! What is wrong with the text of an instance.
+use crate::page::Page;
+use crate::shop::explain_shop;
+use crate::source::Source;
+use crate::table::explain_table;
+use crate::tardiness::explain_tardiness;
+use std::alloc::{AllocError, Global};
+use tf_engine::request::Form;
+use tf_model::limit::{MOST_ARCS, MOST_BYTES, MOST_JOBS};
+use tf_read::fault::ReadFault;
+
+/// What is wrong with the text of an instance that was read in this form.
+pub(crate) fn explain_text(
+    alloc: Global,
+    page: &mut Page,
+    source: &Source<'_>,
+    form: &Form,
+    fault: &ReadFault,
+) -> Result<(), AllocError> {
+    if say_whole(page, source, fault)? {
+        return Ok(());
+    }
+    match form {
+        Form::Table => {
+            if !explain_table(alloc, page, source)? {
+                say_first(page, source, fault)?;
+            }
+            Ok(())
+        }
+        Form::Wt { jobs, .. } => explain_tardiness(alloc, page, source, *jobs, fault),
+        Form::Flow { name, .. } => explain_shop(alloc, page, source, name.as_str(), fault),
+    }
+}
+
+// What is wrong with the text as a whole, if that is it.
+fn say_whole(page: &mut Page, source: &Source<'_>, fault: &ReadFault) -> Result<bool, AllocError> {
+    let title = source.title();
+    if source.text.trim_ascii().is_empty() {
+        writeln!(
+            page.text,
+            "{title} is empty: has it been written, and is the name right?"
+        )?;
+        return Ok(true);
+    }
+    match fault {
+        ReadFault::TooLong => writeln!(page.text, "{title} has more than {MOST_BYTES} bytes.")?,
+        ReadFault::NoJobs => writeln!(page.text, "{title} has no job.")?,
+        ReadFault::TooManyJobs => writeln!(page.text, "{title} has more than {MOST_JOBS} jobs.")?,
+        ReadFault::TooManyArcs => writeln!(page.text, "{title} has more than {MOST_ARCS} arcs.")?,
+        _ => return Ok(false),
+    }
+    if matches!(fault, ReadFault::NoJobs) {
+        page.say("A job line is \"job 1 p=3\", with the fields that the problem needs.")?;
+    }
+    Ok(true)
+}
+
+// The line that was refused, where nothing more is known of it.
+fn say_first(page: &mut Page, source: &Source<'_>, fault: &ReadFault) -> Result<(), AllocError> {
+    match *fault {
+        ReadFault::BadLine(line)
+        | ReadFault::BadNumber(line)
+        | ReadFault::NumberTooLarge(line)
+        | ReadFault::Negative(line)
+        | ReadFault::BadCost(line)
+        | ReadFault::BadArc(line) => page.quote_number(source, line as usize),
+        _ => Ok(()),
+    }
+}

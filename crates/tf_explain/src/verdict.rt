@@ -1,0 +1,267 @@
+//! Why an answer was rejected.
+use crate::answer::explain_pieces;
+use crate::instance::instance_in;
+use crate::page::Page;
+use crate::piece_lines::{going_on, of_job, quote_pieces};
+use crate::source::Source;
+use std::alloc::{AllocError, Global};
+use tf_check::evidence::Evidence;
+use tf_check::fault::BoundFault;
+use tf_check::verdict::Reason;
+use tf_engine::request::Request;
+use tf_engine::run_check::Checked;
+use tf_model::prepare::prepare;
+use tf_model::task::Task;
+use tf_notation::reading::read;
+use tf_notation::writing::notation_text;
+use tf_schedule::cost::cost;
+use tf_schedule::fit::Misfit;
+use tf_schedule::piece::Piece;
+use tf_schedule::schedule::Schedule;
+use tf_text::answer::reading::read_answer;
+use tf_text::answer::sheet::Sheet;
+
+/// The texts and what was asked for.
+#[derive(Clone, Copy)]
+pub(crate) struct Case<'a> {
+    pub(crate) alloc: Global,
+    pub(crate) request: &'a Request,
+    pub(crate) instance: Source<'a>,
+    pub(crate) answer: Source<'a>,
+}
+
+impl Case<'_> {
+    // The task that was asked for.
+    fn task(&self) -> Option<Task> {
+        let request = self.request;
+        let problem = read(request.problem.as_str().as_bytes()).ok()?;
+        let instance = instance_in(self.alloc, &request.form, &self.instance)?;
+        prepare(self.alloc, &instance, &problem, request.machines).ok()
+    }
+
+    // What the answer says.
+    fn sheet(&self) -> Option<Sheet> {
+        read_answer(self.alloc, self.answer.text).ok()
+    }
+
+    fn quote_certificate(&self, page: &mut Page) -> Result<(), AllocError> {
+        let key = [b"cert".as_slice()];
+        match self.answer.line_beginning(self.alloc, &key)? {
+            Some(line) => page.quote(&self.answer, &line, None),
+            None => Ok(()),
+        }
+    }
+
+    fn quote_job(&self, page: &mut Page, job: u32) -> Result<(), AllocError> {
+        match self.instance.job_line(self.alloc, job)? {
+            Some(line) => page.quote(&self.instance, &line, None),
+            None => Ok(()),
+        }
+    }
+
+    fn quote_pieces_of(&self, page: &mut Page, job: u32) -> Result<(), AllocError> {
+        let pieces = of_job(self.alloc, &self.answer, job)?;
+        quote_pieces(page, &self.answer, pieces.as_slice())
+    }
+}
+
+/// Why the answer was rejected, if it was.
+pub(crate) fn explain_verdict(
+    page: &mut Page,
+    case: &Case<'_>,
+    checked: &Checked,
+) -> Result<(), AllocError> {
+    match checked {
+        Checked::Accepted => Ok(()),
+        Checked::OtherTask => say_other_task(page, case),
+        Checked::Rejected(Reason::Pieces(fault)) => {
+            explain_pieces(case.alloc, page, &case.answer, fault)
+        }
+        Checked::Rejected(Reason::Misfit(misfit)) => say_misfit(page, case, misfit),
+        Checked::Rejected(Reason::WrongValue) => say_value(page, case),
+        Checked::Rejected(Reason::Bound(fault)) => {
+            case.quote_certificate(page)?;
+            say_bound_fault(page, fault)
+        }
+        Checked::Rejected(Reason::BoundBelowValue) => say_gap(page, case),
+    }
+}
+
+fn say_other_task(page: &mut Page, case: &Case<'_>) -> Result<(), AllocError> {
+    let Some(sheet) = case.sheet() else {
+        return Ok(());
+    };
+    let (jobs, machines) = (sheet.jobs, sheet.machines);
+    if let Ok(problem) = notation_text(case.alloc, &sheet.problem) {
+        let problem = problem.as_str();
+        writeln!(
+            page.text,
+            "The answer is for {problem}; jobs: {jobs}, machines: {machines}."
+        )?;
+    }
+    if let Some(task) = case.task() {
+        let request = case.request;
+        let problem = request.problem.as_str();
+        let (jobs, machines) = (task.len(), task.machines());
+        writeln!(
+            page.text,
+            "Asked was for {problem}; jobs: {jobs}, machines: {machines}."
+        )?;
+    }
+    page.say("Check it against the instance and the problem that it was made for.")
+}
+
+fn say_misfit(page: &mut Page, case: &Case<'_>, misfit: &Misfit) -> Result<(), AllocError> {
+    match *misfit {
+        Misfit::Stranger(job, machine) => {
+            case.quote_pieces_of(page, job.get())?;
+            let (job, machine) = (job.get(), machine.get());
+            writeln!(page.text, "There is no job {job} or no machine {machine}.")?;
+            say_sizes(page, case)
+        }
+        Misfit::JobTwice(job, time) => {
+            let job = job.get();
+            writeln!(page.text, "Job {job} is on two machines at time {time}:")?;
+            let going = going_on(case.alloc, &case.answer, None, Some(job), time)?;
+            quote_pieces(page, &case.answer, going.as_slice())
+        }
+        Misfit::WrongAmount(job) => say_amount(page, case, job.get()),
+        Misfit::Broken(job) => {
+            let job = job.get();
+            writeln!(
+                page.text,
+                "Job {job} is interrupted, and the problem has no \"prmp\":"
+            )?;
+            case.quote_pieces_of(page, job)
+        }
+        Misfit::TooEarly(job) => {
+            let job = job.get();
+            writeln!(page.text, "Job {job} starts before its release date:")?;
+            case.quote_job(page, job)?;
+            case.quote_pieces_of(page, job)
+        }
+        Misfit::OutOfOrder(before, after) => say_order(page, case, before.get(), after.get()),
+        Misfit::OutOfMemory => Ok(()),
+    }
+}
+
+// Which jobs and machines there are.
+fn say_sizes(page: &mut Page, case: &Case<'_>) -> Result<(), AllocError> {
+    let Some(task) = case.task() else {
+        return Ok(());
+    };
+    let (jobs, machines) = (task.len(), task.machines());
+    writeln!(
+        page.text,
+        "Jobs count from 1 to {jobs}, and machines from 1 to {machines}."
+    )
+}
+
+fn say_amount(page: &mut Page, case: &Case<'_>, job: u32) -> Result<(), AllocError> {
+    case.quote_job(page, job)?;
+    let pieces = of_job(case.alloc, &case.answer, job)?;
+    let mut total: i64 = 0;
+    for piece in &pieces {
+        total = total.saturating_add(piece.stop.saturating_sub(piece.start));
+    }
+    writeln!(
+        page.text,
+        "The pieces of job {job} are {total} time steps together:"
+    )?;
+    quote_pieces(page, &case.answer, pieces.as_slice())?;
+    page.say("They have to be its time, in a shop that of each machine.")
+}
+
+fn say_order(page: &mut Page, case: &Case<'_>, before: u32, after: u32) -> Result<(), AllocError> {
+    if before == after {
+        writeln!(
+            page.text,
+            "Job {before} is on machine 2 before it is over on machine 1:"
+        )?;
+        return case.quote_pieces_of(page, before);
+    }
+    let first = before.to_string(case.alloc)?;
+    let second = after.to_string(case.alloc)?;
+    let front = [b"prec".as_slice(), first.as_bytes(), second.as_bytes()];
+    if let Some(line) = case.instance.line_beginning(case.alloc, &front)? {
+        page.quote(&case.instance, &line, None)?;
+    }
+    writeln!(page.text, "Job {after} starts before job {before} is over:")?;
+    case.quote_pieces_of(page, before)?;
+    case.quote_pieces_of(page, after)
+}
+
+// What the answer's pieces cost.
+fn true_cost(case: &Case<'_>, task: &Task, sheet: &Sheet) -> Option<i128> {
+    let mut pieces: Vec<Piece> = Vec::new(case.alloc);
+    pieces
+        .extend_from_slice(sheet.answer.pieces.as_slice())
+        .ok()?;
+    let schedule = Schedule::new(pieces).ok()?;
+    Some(cost(task, &schedule))
+}
+
+fn say_value(page: &mut Page, case: &Case<'_>) -> Result<(), AllocError> {
+    let (Some(task), Some(sheet)) = (case.task(), case.sheet()) else {
+        return Ok(());
+    };
+    let value = sheet.answer.value;
+    if let Some(cost) = true_cost(case, &task, &sheet) {
+        writeln!(
+            page.text,
+            "The line \"value\" says {value}, and the pieces cost {cost}."
+        )?;
+    }
+    page.say("Correct the line \"value\", or the pieces.")
+}
+
+fn say_gap(page: &mut Page, case: &Case<'_>) -> Result<(), AllocError> {
+    case.quote_certificate(page)?;
+    let (Some(task), Some(sheet)) = (case.task(), case.sheet()) else {
+        return Ok(());
+    };
+    let value = sheet.answer.value;
+    if let Ok(bound) = sheet.answer.certificate.bound(case.alloc, &task) {
+        let gap = i128::from(value).saturating_sub(bound);
+        writeln!(
+            page.text,
+            "The schedule fits and costs {value}. The certificate shows that none"
+        )?;
+        writeln!(
+            page.text,
+            "costs less than {bound}, so a gap of {gap} is left."
+        )?;
+    }
+    page.say("Either a better schedule exists, or another certificate shows that none does:")?;
+    page.say("the lines \"value\" and \"cert\" of \"threefield solve\" tell which.")
+}
+
+fn say_bound_fault(page: &mut Page, fault: &BoundFault) -> Result<(), AllocError> {
+    match *fault {
+        BoundFault::OtherKind => page.say("This kind of certificate is not one of the problem's."),
+        BoundFault::BadMachine(machine) => {
+            let machine = machine.get();
+            writeln!(page.text, "The task has no machine {machine}.")
+        }
+        BoundFault::BadJob(job) => {
+            let job = job.get();
+            writeln!(page.text, "The task has no job {job}.")
+        }
+        BoundFault::Repeated(job) => {
+            let job = job.get();
+            writeln!(page.text, "Job {job} stands twice in the certificate.")
+        }
+        BoundFault::EmptySet => page.say("The certificate names no job."),
+        BoundFault::Condition(job) => {
+            let job = job.get();
+            writeln!(
+                page.text,
+                "Job {job} breaks the condition of this kind of certificate."
+            )
+        }
+        BoundFault::BadDelta => {
+            page.say("The number behind \"split\" is negative, or no job of its side reaches it.")
+        }
+        BoundFault::OutOfMemory => Ok(()),
+    }
+}
