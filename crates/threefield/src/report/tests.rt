@@ -141,3 +141,29 @@ fn other_faults(rt: HostRuntime) -> Result<(), Fail> {
     )?;
     says(&rt, RunFault::Device, 4, "threefield: device fault\n")
 }
+
+/// The line of a fault on a writer with less room: the status stays, and a prefix is written.
+fn is_cut_short(fault: &RunFault, status: u8, line: &[u8]) -> Result<(), Fail> {
+    for most in 0..line.len().min(64) {
+        let mut room = [0; 64];
+        let (mut taken, _) = room.split_at_mut(most);
+        let mut writer = Counted::new(&mut taken);
+        let answered = report(fault, &mut writer);
+        drop(writer);
+        if answered != status || !line.starts_with(&room[..most]) {
+            return Err(Fail::new("another status or line"));
+        }
+    }
+    Ok(())
+}
+
+#[test]
+fn a_writer_without_room_gets_a_prefix(rt: HostRuntime) -> Result<(), Fail> {
+    let jobs = vec![in rt.alloc(); JobId::at(2), JobId::at(11)]?;
+    let cycle = RunFault::Cycle(JobList::new(jobs));
+    is_cut_short(&cycle, 2, b"threefield: refused: Cycle 3 12\n")?;
+    let line = RunFault::Text(ReadFault::BadLine(2));
+    is_cut_short(&line, 2, b"threefield: refused: BadLine 2\n")?;
+    is_cut_short(&RunFault::OutOfMemory, 3, b"threefield: want of memory\n")?;
+    is_cut_short(&RunFault::Device, 4, b"threefield: device fault\n")
+}
