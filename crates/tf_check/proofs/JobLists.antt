@@ -123,10 +123,6 @@ module _ (k : SchedulingTask) (xs : List ℕ) (i x : ℕ) (lt : i < length xs) (
             (cases_eq c x);
       }
 
-pub no_marks : (k : SchedulingTask) (seen : List Bool) → length seen ≡ length k.jobs
-    → ((j : ℕ) → get_or seen j false ≡ false) → AreMarks k seen []
-no_marks k seen len none = record { len = len; marked = λ c known. none (c - 1) }
-
 -- ---- what a list without a fault says
 
 pub jobs_in_task : (k : SchedulingTask) (xs : List ℕ) → list_fault k [] xs ≡ None → All (IsJob k) xs

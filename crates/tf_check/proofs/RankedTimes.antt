@@ -31,16 +31,6 @@ pub ranked_start : (k : SchedulingTask) (xs : List ℕ)
     → 0 + ranked k.machines (time_of k) 0 xs ≡ ranks_value k xs
 ranked_start k xs = omega (arith, ranks_value_from k 0 xs)
 
--- one job more
-pub ranked_more : (m : ℕ) (p : ℕ → ℕ) (xs : List ℕ) (i x v all : ℕ) → i < length xs
-    → x ≡ get_or xs i x
-    → v + ranked m p i (drop i xs) ≡ all
-    → v + div_ceil (i + 1) m * p x + ranked m p (i + 1) (drop (i + 1) xs) ≡ all
-ranked_more m p xs i x v all lt at so_far =
-    let next : ranked m p i (drop i xs) ≡ ranked m p i (x ∷ drop (i + 1) xs) =
-    at_drop_more (ranked m p i) xs i x lt ∙ ap (λ y. ranked m p i (y ∷ drop (i + 1) xs)) (sym at) in
-    omega (arith, so_far, next)
-
 -- no rank is above the number of the jobs
 ranked-le : (m : ℕ) → 1 ≤ m → (p : ℕ → ℕ) (i : ℕ) (xs : List ℕ)
     → ranked m p i xs ≤ (i + length xs) * sum_by p xs

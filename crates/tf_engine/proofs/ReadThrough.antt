@@ -2,7 +2,7 @@
 use Rattle.std.proofs.Common.{◌≡◌, ℕ, ◌+◌, ◌<◌, ◌≤◌, Bool, true, false, List, Option, None, Some, Result, Ok, Err, IfSome, length, ◌⊎◌, inl, inr, refl, sym, ap, ◌∙◌, arith, length-append}
 use Rattle.std.specs.Io.KnownBytes.{Consumes, IsAtEnd}
 use Rattle.std.proofs.KnownBytes.{Consumes-whole}
-use Rattle.tf_model.specs.declared.limit.TheConstants.{MOST_BYTES}
+use Rattle.tf_model.specs.Limit.{most_bytes}
 use Rattle.tf_read.specs.declared.fault.ReadFault.{ReadFault}
 use Rattle.tf_read.specs.declared.fault.ReadFault.TheVariants as reads
 use Rattle.tf_read.specs.Faults.{Fails}
@@ -25,14 +25,14 @@ all_given old new bytes given end = Consumes-whole old new bytes (λ all. bytes 
 
 -- a reader that gave too many has a text that is too long
 longer : (old new : Option (List ℕ)) (bytes : List ℕ) → Consumes old new bytes
-    → MOST_BYTES < length bytes → IfSome old (λ all. MOST_BYTES < length all)
+    → most_bytes < length bytes → IfSome old (λ all. most_bytes < length all)
 longer None new bytes given more = tt
 longer (Some all) None bytes given more = absurd given
 longer (Some all) (Some rest) bytes given more =
     omega (arith, ap length given, length-append bytes rest, more)
 
 module _ (X A T : Type 0) (says : List ℕ → Result X ReadFault) (remaining : T → Option (List ℕ))
-    (old new : Counted T) (counted : pulled_of new ≤ pulled_of old + (MOST_BYTES + 1)) where
+    (old new : Counted T) (counted : pulled_of new ≤ pulled_of old + (most_bytes + 1)) where
   -- what is left of the reader, before and after
   abbrev first : Option (List ℕ)
   first = remaining (inner_of old)
@@ -46,7 +46,7 @@ module _ (X A T : Type 0) (says : List ℕ → Result X ReadFault) (remaining : 
 
   -- where memory was wanting nothing is said of any text
   pub reads_wanting : (new ≡ old) ⊎ (has_failed new ≡ false)
-      → ConsumesAtMost (MOST_BYTES + 1) first last
+      → ConsumesAtMost (most_bytes + 1) first last
       → ReadsTo {A = A} said remaining old new (Err OutOfMemory)
   reads_wanting unfailed pulled =
       let (text, is) = text_for first in
@@ -64,7 +64,7 @@ module _ (X A T : Type 0) (says : List ℕ → Result X ReadFault) (remaining : 
       }
 
   -- nor where the reader failed
-  pub reads_failing : has_failed new ≡ true → ConsumesAtMost (MOST_BYTES + 1) first last
+  pub reads_failing : has_failed new ≡ true → ConsumesAtMost (most_bytes + 1) first last
       → ReadsTo {A = A} said remaining old new (Err Device)
   reads_failing h pulled =
       let (text, is) = text_for first in
@@ -85,7 +85,7 @@ module _ (X A T : Type 0) (says : List ℕ → Result X ReadFault) (remaining : 
   faulty : (e : ReadFault) (text : List ℕ) → IsTextOf first text → says text ≡ Err e
       → has_failed new ≡ false
       → (is_of_whole {X = X} {A = A} (Err (of_read e)) ≡ true → IsAtEnd last)
-      → ConsumesAtMost (MOST_BYTES + 1) first last
+      → ConsumesAtMost (most_bytes + 1) first last
       → ReadsTo {A = A} said remaining old new (Err (of_read e))
   faulty reads.OutOfMemory text is h ok end pulled = reads_wanting (inr ok) pulled
   faulty _ text is h ok end pulled =
@@ -103,9 +103,9 @@ module _ (X A T : Type 0) (says : List ℕ → Result X ReadFault) (remaining : 
       }
 
   -- the instance that all bytes hold
-  pub reads_value : (bytes : List ℕ) → length bytes ≤ MOST_BYTES + 1 → Consumes first last bytes
-      → IsAtEnd last ⊎ (MOST_BYTES < length bytes) → has_failed new ≡ false
-      → ((text : List ℕ) → MOST_BYTES < length text → says text ≡ Err reads.TooLong)
+  pub reads_value : (bytes : List ℕ) → length bytes ≤ most_bytes + 1 → Consumes first last bytes
+      → IsAtEnd last ⊎ (most_bytes < length bytes) → has_failed new ≡ false
+      → ((text : List ℕ) → most_bytes < length text → says text ≡ Err reads.TooLong)
       → (x : X) → says bytes ≡ Ok x → ReadsTo {A = A} said remaining old new (Ok x)
   reads_value bytes few given (inl end) ok long x h =
       record {
@@ -125,25 +125,25 @@ module _ (X A T : Type 0) (says : List ℕ → Result X ReadFault) (remaining : 
       f)
 
   -- or their first fault
-  pub reads_fault : (bytes : List ℕ) → length bytes ≤ MOST_BYTES + 1 → Consumes first last bytes
-      → IsAtEnd last ⊎ (MOST_BYTES < length bytes) → has_failed new ≡ false
-      → ((text : List ℕ) → MOST_BYTES < length text → says text ≡ Err reads.TooLong)
+  pub reads_fault : (bytes : List ℕ) → length bytes ≤ most_bytes + 1 → Consumes first last bytes
+      → IsAtEnd last ⊎ (most_bytes < length bytes) → has_failed new ≡ false
+      → ((text : List ℕ) → most_bytes < length text → says text ≡ Err reads.TooLong)
       → (e : ReadFault) → says bytes ≡ Err e
       → ReadsTo {A = A} said remaining old new (Err (of_read e))
   reads_fault bytes few given (inl end) ok long e h =
       faulty e bytes (all_given first last bytes given end) h ok (λ r. end) (bytes, few, given)
   reads_fault bytes few given (inr more) ok long e h =
       let (text, is, longer_than) =
-      long_text_for first MOST_BYTES (longer first last bytes given more) in
+      long_text_for first most_bytes (longer first last bytes given more) in
       let same : e ≡ reads.TooLong = let both : Err e ≡ Err reads.TooLong = sym h
       ∙ long bytes more in cc in
       faulty e text is (long text longer_than ∙ ap Err (sym same)) ok
       (λ r. let whole : false ≡ true = rw same at r in cc) (bytes, few, given)
 
   -- the same where a growth may have been refused on the way
-  pub reads_fails : (bytes : List ℕ) → length bytes ≤ MOST_BYTES + 1 → Consumes first last bytes
-      → IsAtEnd last ⊎ (MOST_BYTES < length bytes) → has_failed new ≡ false
-      → ((text : List ℕ) → MOST_BYTES < length text → says text ≡ Err reads.TooLong)
+  pub reads_fails : (bytes : List ℕ) → length bytes ≤ most_bytes + 1 → Consumes first last bytes
+      → IsAtEnd last ⊎ (most_bytes < length bytes) → has_failed new ≡ false
+      → ((text : List ℕ) → most_bytes < length text → says text ≡ Err reads.TooLong)
       → (e : ReadFault) → Fails e (says bytes)
       → ReadsTo {A = A} said remaining old new (Err (of_read e))
   reads_fails bytes few given ended ok long reads.OutOfMemory h =
@@ -152,13 +152,13 @@ module _ (X A T : Type 0) (says : List ℕ → Result X ReadFault) (remaining : 
 
   -- where the text could not be read to its end, or is too long
   pub reads_input : (f : InputFault)
-      → (f ≡ inputs.TooLong → IfSome first (λ all. MOST_BYTES < length all))
+      → (f ≡ inputs.TooLong → IfSome first (λ all. most_bytes < length all))
       → has_failed new ≡ is_device f
-      → ((text : List ℕ) → MOST_BYTES < length text → says text ≡ Err reads.TooLong)
-      → ConsumesAtMost (MOST_BYTES + 1) first last
+      → ((text : List ℕ) → most_bytes < length text → says text ≡ Err reads.TooLong)
+      → ConsumesAtMost (most_bytes + 1) first last
       → ReadsTo {A = A} said remaining old new (Err (of_input f))
   reads_input inputs.Device more h long pulled = reads_failing h pulled
   reads_input inputs.OutOfMemory more h long pulled = reads_wanting (inr h) pulled
   reads_input inputs.TooLong more h long pulled =
-      let (text, is, longer_than) = long_text_for first MOST_BYTES (more refl) in
+      let (text, is, longer_than) = long_text_for first most_bytes (more refl) in
       faulty reads.TooLong text is (long text longer_than) h (λ r. cc) pulled

@@ -11,7 +11,7 @@ use Rattle.tf_model.specs.Limit.{limit}
 use Rattle.tf_model.specs.Whole.{IsWithin}
 use Rattle.tf_model.specs.Bounds.{stands_in}
 use Rattle.tf_check.specs.declared.fault.BoundFault.TheVariants.{BadJob, BadMachine}
-use Rattle.tf_model.specs.declared.limit.TheConstants.{MOST_JOBS, MOST_MACHINES}
+use Rattle.tf_model.specs.Limit.{most_jobs, most_machines}
 use Rattle.tf_model.specs.Timetable.{Timetable}
 use Rattle.tf_model.specs.SchedulingTask.{SchedulingTask, IsJob, all_jobs, time_of, time_on}
 use Rattle.tf_model.specs.Sound.{IsSound}
@@ -52,13 +52,13 @@ by_recursion P [] all = tt
 by_recursion P (x ∷ xs) all = (All-head P x xs all, by_recursion P xs (All-tail P x xs all))
 
 -- a job of the task is one that a text may name
-job_count : (k : SchedulingTask) (j : ℕ) → IsSound k → IsJob k j → IsCount MOST_JOBS j
+job_count : (k : SchedulingTask) (j : ℕ) → IsSound k → IsJob k j → IsCount most_jobs j
 job_count k j sound is = (is.0, omega (arith, is.1, sound.few_jobs))
 
 jobs_count : (k : SchedulingTask) (jobs : List ℕ) → IsSound k → list_fault k [] jobs ≡ None
     → AreJobs jobs
 jobs_count k jobs sound none =
-    by_recursion (IsCount MOST_JOBS) jobs
+    by_recursion (IsCount most_jobs) jobs
     (λ n d h. job_count k (get_or jobs n d) sound (jobs_in_task k jobs none n d h))
 
 ones : (xs : List ℕ) → sum_by (λ (x : ℕ). 1) xs ≡ length xs
@@ -122,7 +122,7 @@ one_job k j false is e = cc
 
 -- a machine that has no fault is 1 or 2
 machine_count : (machine : ℕ) (t : Bool) → (nat_lt 0 machine && nat_le machine 2) ≡ t
-    → cond t None (Some (BadMachine machine)) ≡ None → IsCount MOST_MACHINES machine
+    → cond t None (Some (BadMachine machine)) ≡ None → IsCount most_machines machine
 machine_count machine true is e =
     let facts = and_parts (nat_lt 0 machine) (nat_le machine 2) is in
     (ltb-true 0 machine facts.0, omega (arith, leb-true machine 2 facts.1))

@@ -2,7 +2,7 @@
 use Rattle.std.proofs.Common.{◌≡◌, ℕ, ◌<◌, List, Option, Bool, true, Ok, Err, IfSome, length, refl, sym, ◌∙◌, subst, inl, inr}
 use Rattle.std.proofs.lemmas.Bool.{lt-ltb}
 use Rattle.std.proofs.KnownBytes.{Keeps-refl}
-use Rattle.tf_model.specs.declared.limit.TheConstants.{MOST_BYTES}
+use Rattle.tf_model.specs.Limit.{most_bytes}
 use Rattle.tf_model.specs.SchedulingTask.{SchedulingTask}
 use Rattle.tf_model.specs.declared.problem.Problem.{Problem}
 use Rattle.tf_text.specs.declared.counted.Counted.{Counted}
@@ -22,10 +22,10 @@ use Rattle.tf_engine.proofs.Unread.{text_for, long_text_for, refused_task, meant
 
 -- an answer text that is too long is refused as such
 pub answer_too_long : (A : Type 0) (known : Option (List ℕ))
-    → IfSome known (λ all. MOST_BYTES < length all) → GivesSaid {A = A} known (Err (Answer TooLong))
+    → IfSome known (λ all. most_bytes < length all) → GivesSaid {A = A} known (Err (Answer TooLong))
 unfolding answer_in
-answer_too_long A known h = let (text, is, more) = long_text_for known MOST_BYTES h in
-    (text, is, rw (lt-ltb MOST_BYTES (length text) more) refl)
+answer_too_long A known h = let (text, is, more) = long_text_for known most_bytes h in
+    (text, is, rw (lt-ltb most_bytes (length text) more) refl)
 
 -- nothing was written where the answer says no sheet
 unsaid : (request : RequestData) (text : List ℕ) (task : SchedulingTask)

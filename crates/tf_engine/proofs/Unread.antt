@@ -2,7 +2,7 @@
 use Rattle.std.proofs.Common.{◌≡◌, ℕ, zero, suc, ◌+◌, ◌<◌, List, [], ◌∷◌, Option, None, Some, Ok, Err, IfSome, IsErrAnd, Result, length, refl, sym, ap, ◌∙◌, subst, inl, inr, Bool, true, false, arith}
 use Rattle.std.proofs.lemmas.Bool.{lt-ltb}
 use Rattle.std.proofs.KnownBytes.{Keeps-refl}
-use Rattle.tf_model.specs.declared.limit.TheConstants.{MOST_BYTES}
+use Rattle.tf_model.specs.Limit.{most_bytes}
 use Rattle.tf_model.specs.declared.problem.Problem.{Problem}
 use Rattle.tf_model.specs.declared.class.Class.{Class}
 use Rattle.tf_model.specs.declared.prepare.Refusal.{Refusal}
@@ -58,22 +58,12 @@ pub refused_task : (request : RequestData) (text : List ℕ) (refused : Refused)
 refused_task request text refused h = ap (λ r. r >>= λ problem. task_in request problem text) h
 
 -- a text that is too long is refused as such in every form
-pub too_long : (form : FormData) (text : List ℕ) → MOST_BYTES < length text
+pub too_long : (form : FormData) (text : List ℕ) → most_bytes < length text
     → instance_in form text ≡ Err TooLong
 unfolding job_table
-too_long InTable text h = rw (lt-ltb MOST_BYTES (length text) h) refl
+too_long InTable text h = rw (lt-ltb most_bytes (length text) h) refl
 too_long (InWt jobs index) text h = wt.too_long jobs index text h
 too_long (InFlow name pair) text h = flow.too_long name pair text h
-
--- and so no task is meant
-pub long_task : (request : RequestData) (problem : Problem) (text : List ℕ)
-    → problem_for request.problem ≡ Ok problem → MOST_BYTES < length text
-    → task_for request text ≡ Err (ByText TooLong)
-long_task request problem text ok h =
-    meant_by request problem text ok
-    ∙ ap (λ r. refused_by ByText r
-    >>= λ instance. refused_by ByTask (prepared instance problem request.machines))
-    (too_long request.form text h)
 
 -- no refusal of the problem line comes after the answer text
 pub before_answer : (text : List ℕ) (refused : Refused) → problem_for text ≡ Err refused

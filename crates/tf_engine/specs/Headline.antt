@@ -11,7 +11,7 @@ use Rattle.tf_engine.specs.Faults.{Refused, ByCycle, stop_of}
 use Rattle.tf_engine.specs.RequestData.{RequestData}
 use Rattle.tf_check.specs.Accepted.{IsAccepted, IsBestAnswer}
 use Rattle.tf_text.specs.Readable.{IsReadable}
-use Rattle.tf_model.specs.declared.limit.TheConstants.{MOST_BYTES}
+use Rattle.tf_model.specs.Limit.{most_bytes}
 use Rattle.tf_engine.specs.declared.run_check.Checked.TheVariants.{Accepted}
 use Rattle.tf_engine.specs.Checking.{IsChecked}
 use Rattle.tf_engine.specs.Refusal.{problem_for, task_for}
@@ -42,7 +42,7 @@ pub record Answers (request : RequestData) (text out : List ℕ) : Type 0 where
   pub sheet : SheetData
   pub solved : IsSolved request text sheet
   pub written : out ≡ answer_text request.layout sheet
-  pub again : length out ≤ MOST_BYTES → IsChecked request text out Accepted
+  pub again : length out ≤ most_bytes → IsChecked request text out Accepted
 
 -- the request and the text mean a task, the jobs are a cycle of its arcs, and no timetable fits
 pub record IsCyclic (request : RequestData) (text : List ℕ) (jobs : List ℕ) : Type 0 where

@@ -2,7 +2,7 @@
 use Rattle.std.specs.Prelude.{◌≡◌, ℕ, ◌+◌, ◌≤◌, ◌⊎◌, true, false, List, Option, Result, Ok, Err, MatchResult, OnOk, IfErr}
 use Rattle.std.specs.Io.KnownBytes.{IsAtEnd}
 use Rattle.tf_model.specs.InstanceData.{InstanceData}
-use Rattle.tf_model.specs.declared.limit.TheConstants.{MOST_BYTES}
+use Rattle.tf_model.specs.Limit.{most_bytes}
 use Rattle.tf_model.specs.declared.problem.Problem.{Problem}
 use Rattle.tf_text.specs.declared.counted.Counted.{Counted}
 use Rattle.tf_text.specs.Counted.{inner_of, pulled_of, has_failed, ConsumesAtMost}
@@ -50,9 +50,9 @@ pub record ReadsTo {X A T : Type 0} (says : List ℕ → Result X Refused)
     pub wanting : IfErr result
         (λ e. stop_of e ≡ Wants → (new ≡ old) ⊎ (has_failed new ≡ false))
     pub ended : is_of_whole result ≡ true → IsAtEnd (remaining (inner_of new))
-    pub pulled : ConsumesAtMost (MOST_BYTES + 1) (remaining (inner_of old))
+    pub pulled : ConsumesAtMost (most_bytes + 1) (remaining (inner_of old))
         (remaining (inner_of new))
-    pub counted : pulled_of new ≤ pulled_of old + (MOST_BYTES + 1)
+    pub counted : pulled_of new ≤ pulled_of old + (most_bytes + 1)
 
 -- the instance that a text of this form holds, as a part of a run says it
 abbrev pub instance_said : FormData → List ℕ → Result InstanceData Refused

@@ -1,4 +1,5 @@
 //! Checking somebody's answer, from bytes to bytes.
+ghost use Rattle.tf_model.specs.Limit.{most_bytes};
 ghost use Rattle.std.specs.Prelude.{◌≡◌, ◌+◌, ◌≤◌, ◌⊎◌, ℕ, List, Some, true, false, Ok, Err, IsOk, OnOk, IfOk, IfErr, IsErrAnd, IsTrue, ◌↔◌};
 ghost use Rattle.std.specs.Io.KnownBytes.{IsAtEnd};
 ghost use Rattle.tf_text.specs.Counted.{inner_of, pulled_of, has_failed, use_of, ConsumesAtMost};
@@ -16,7 +17,6 @@ use std::io::{Read, Write};
 use tf_check::check::check;
 use tf_check::verdict::{Reason, Verdict};
 use tf_model::class::class_of;
-use tf_model::limit::MOST_BYTES;
 use tf_model::memory::OutOfMemory;
 use tf_model::task::Task;
 use tf_text::answer::sheet::Sheet;
@@ -84,12 +84,12 @@ pub fn run_check<A: Allocator + Copy, B: Allocator, R: Read, S: Read, W: Write>(
     ensures answer_later { IfErr result (λ e.
         is_refusal (stop_of e) ≡ true → is_of_answer (stop_of e) ≡ false →
         answer.new ≡ answer.old) }
-    ensures pulled { ConsumesAtMost (MOST_BYTES + 1) (R.remaining (inner_of instance.old))
+    ensures pulled { ConsumesAtMost (most_bytes + 1) (R.remaining (inner_of instance.old))
         (R.remaining (inner_of instance.new)) }
-    ensures counted { pulled_of instance.new ≤ pulled_of instance.old + (MOST_BYTES + 1) }
-    ensures pulled_answer { ConsumesAtMost (MOST_BYTES + 1) (S.remaining (inner_of answer.old))
+    ensures counted { pulled_of instance.new ≤ pulled_of instance.old + (most_bytes + 1) }
+    ensures pulled_answer { ConsumesAtMost (most_bytes + 1) (S.remaining (inner_of answer.old))
         (S.remaining (inner_of answer.new)) }
-    ensures counted_answer { pulled_of answer.new ≤ pulled_of answer.old + (MOST_BYTES + 1) }
+    ensures counted_answer { pulled_of answer.new ≤ pulled_of answer.old + (most_bytes + 1) }
 {
     let problem = problem_for(request.problem.as_str())?;
     let task = task_read(alloc, request, &problem, instance)?;

@@ -1,6 +1,6 @@
 //! Drawing an answer, from bytes to bytes.
 ghost use Rattle.std.specs.Prelude.{◌≡◌, ◌+◌, ◌≤◌, true, false, OnOk, IfOk, IfErr};
-ghost use Rattle.tf_model.specs.declared.limit.TheConstants.{MOST_BYTES};
+ghost use Rattle.tf_model.specs.Limit.{most_bytes};
 ghost use Rattle.std.specs.Io.KnownBytes.{IsAtEnd};
 ghost use Rattle.tf_text.specs.Counted.{inner_of, pulled_of, has_failed, use_of, ConsumesAtMost};
 ghost use Rattle.tf_engine.specs.Faults.{stop_of, is_failure, is_of_whole_answer};
@@ -44,9 +44,9 @@ pub fn run_gantt<A: Allocator + Copy, R: Read, W: Write>(
         (λ e. is_failure (stop_of e) ≡ false → has_failed reader.new ≡ false) }
     ensures ended { is_of_whole_answer result ≡ true →
         IsAtEnd (R.remaining (inner_of reader.new)) }
-    ensures pulled { ConsumesAtMost (MOST_BYTES + 1) (R.remaining (inner_of reader.old))
+    ensures pulled { ConsumesAtMost (most_bytes + 1) (R.remaining (inner_of reader.old))
         (R.remaining (inner_of reader.new)) }
-    ensures counted { pulled_of reader.new ≤ pulled_of reader.old + (MOST_BYTES + 1) }
+    ensures counted { pulled_of reader.new ≤ pulled_of reader.old + (most_bytes + 1) }
 {
     let sheet = sheet_said(alloc, reader)?;
     let schedule = schedule_of(alloc, &sheet)?;

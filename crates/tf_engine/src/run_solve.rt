@@ -1,4 +1,5 @@
 //! Solving from bytes to bytes.
+ghost use Rattle.tf_model.specs.Limit.{most_bytes};
 ghost use Rattle.std.specs.Prelude.{◌≡◌, ◌+◌, ◌≤◌, ◌⊎◌, ℕ, List, true, false, Ok, Err, IsOk, OnOk, IfOk, IfErr, IsErrAnd};
 ghost use Rattle.std.specs.Io.KnownBytes.{IsAtEnd};
 ghost use Rattle.tf_text.specs.Counted.{inner_of, pulled_of, has_failed, use_of, ConsumesAtMost};
@@ -13,7 +14,6 @@ use crate::solve::solve;
 use crate::task_for::{problem_for, task_read};
 use std::alloc::Allocator;
 use std::io::{Read, Write};
-use tf_model::limit::MOST_BYTES;
 use tf_model::problem::Problem;
 use tf_model::task::Task;
 use tf_text::answer::sheet::Sheet;
@@ -50,9 +50,9 @@ pub fn run_solve<A: Allocator + Copy, B: Allocator, R: Read, W: Write>(
         (reader.new ≡ reader.old) ⊎ (has_failed reader.new ≡ false)) }
     ensures ended { IsOk (problem_for request.now.problem) →
         is_of_whole result ≡ true → IsAtEnd (R.remaining (inner_of reader.new)) }
-    ensures pulled { ConsumesAtMost (MOST_BYTES + 1) (R.remaining (inner_of reader.old))
+    ensures pulled { ConsumesAtMost (most_bytes + 1) (R.remaining (inner_of reader.old))
         (R.remaining (inner_of reader.new)) }
-    ensures counted { pulled_of reader.new ≤ pulled_of reader.old + (MOST_BYTES + 1) }
+    ensures counted { pulled_of reader.new ≤ pulled_of reader.old + (most_bytes + 1) }
 {
     let problem = problem_for(request.problem.as_str())?;
     let task = task_read(alloc, request, &problem, reader)?;

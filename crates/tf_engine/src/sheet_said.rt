@@ -1,6 +1,6 @@
 //! From an answer text to its sheet.
 ghost use Rattle.std.specs.Prelude.{◌≡◌, ◌+◌, ◌<◌, ◌≤◌, true, false, OnOk, IfOk, IfErr};
-ghost use Rattle.tf_model.specs.declared.limit.TheConstants.{MOST_BYTES, MOST_MACHINES};
+ghost use Rattle.tf_model.specs.Limit.{most_bytes, most_machines};
 ghost use Rattle.std.specs.Io.KnownBytes.{IsAtEnd};
 ghost use Rattle.tf_text.specs.Counted.{inner_of, pulled_of, has_failed, ConsumesAtMost};
 ghost use Rattle.tf_engine.specs.Faults.{stop_of, is_failure, is_of_whole_answer};
@@ -25,10 +25,10 @@ pub(crate) fn sheet_said<A: Allocator + Copy, S: Read>(
     ensures device { IfErr result (λ e. has_failed answer.new ≡ is_failure (stop_of e)) }
     ensures ended { is_of_whole_answer result ≡ true →
         IsAtEnd (S.remaining (inner_of answer.new)) }
-    ensures machines { IfOk result (λ s. (0 < s.machines) × (s.machines ≤ MOST_MACHINES)) }
-    ensures pulled { ConsumesAtMost (MOST_BYTES + 1) (S.remaining (inner_of answer.old))
+    ensures machines { IfOk result (λ s. (0 < s.machines) × (s.machines ≤ most_machines)) }
+    ensures pulled { ConsumesAtMost (most_bytes + 1) (S.remaining (inner_of answer.old))
         (S.remaining (inner_of answer.new)) }
-    ensures counted { pulled_of answer.new ≤ pulled_of answer.old + (MOST_BYTES + 1) }
+    ensures counted { pulled_of answer.new ≤ pulled_of answer.old + (most_bytes + 1) }
 {
     match read_all(alloc, answer) {
         Ok(text) => Ok(read_answer(alloc, text.as_slice())?),

@@ -16,7 +16,6 @@ pub mod Ranges
 pub mod Split
 pub mod SplitBound
 pub mod Cycles
-pub mod Amounts
 pub mod Prepared
 pub mod Totals
 pub mod Rows

@@ -359,24 +359,6 @@ module _ (v : ℕ) (times : ℕ → ℕ) (job need : ℕ) (from_one : 0 < job) (
         front = (omega arith, omega arith, λ lt. omega arith);
       }
 
--- before the first job
-pub filled_start : (v : ℕ) (times : ℕ → ℕ) → IsFilled v times 0 [] 1 0
-filled_start v times = record {
-  placed = λ k d h. absurd (omega arith);
-  schedule = record {
-    sound = λ k d h. absurd (omega arith);
-    none_twice = λ i t. omega arith;
-    in_order = λ a b d lt h. absurd (omega arith);
-  };
-  before_front = λ h u some. absurd (omega arith);
-  one_place = λ j u. omega arith;
-  no_later_job = λ j u lt. refl;
-  amounts = λ j some le. absurd (omega arith);
-  no_later_work = λ j lt. refl;
-  position = omega arith;
-  front = (omega arith, omega arith, λ lt. absurd (omega arith));
-}
-
 -- the machines suffice
 pub front_in_range : (v : ℕ) (times : ℕ → ℕ) (n : ℕ) (ps : List Piece) (i t m : ℕ) → 0 < m
     → sum_by times (range_with_len 1 n) ≤ m * v → IsFilled v times n ps i t → i ≤ m

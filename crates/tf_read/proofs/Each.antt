@@ -30,10 +30,6 @@ abbrev pub with_front : {Y : Type 0} → List Y → Result (List Y) ReadFault
 with_front front (Ok ys) = Ok (front ++ ys)
 with_front front (Err e) = Err e
 
-pub front_none : {Y : Type 0} (r : Result (List Y) ReadFault) → with_front [] r ≡ r
-front_none (Ok ys) = refl
-front_none (Err e) = refl
-
 regroup : {Y : Type 0} (front : List Y) (y : Y) (r : Result (List Y) ReadFault)
     → with_front front (r >>= λ others. Ok (y ∷ others)) ≡ with_front (front ++ y ∷ []) r
 regroup front y (Ok ys) = ap (λ zs. Ok zs) (sym (append_assoc front (y ∷ []) ys))

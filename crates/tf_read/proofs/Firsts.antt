@@ -1,7 +1,7 @@
 -- Up to the first element that passes, and from it on.
 use Rattle.std.proofs.Common.{◌≡◌, ℕ, suc, Bool, true, false, List, [], ◌∷◌, take, drop, refl, sym, ap, ◌∙◌, arith}
 use Rattle.std.specs.List.{before_first, position_or_len}
-use Rattle.tf_read.specs.JobTable.{from_first}
+use Rattle.tf_read.specs.JobTable.{since_first}
 
 later : {X : Type 0} (p : X → Bool) (x : X) (xs : List X) → p x ≡ false
     → position_or_len p (x ∷ xs) ≡ suc (position_or_len p xs)
@@ -16,11 +16,7 @@ pub before_no : {X : Type 0} (p : X → Bool) (x : X) (xs all : List X) → all 
 before_no p x xs all same e = ap (before_first p) same
     ∙ ap (λ (n : ℕ). take n (x ∷ xs)) (later p x xs e)
 
-pub from_yes : {X : Type 0} (p : X → Bool) (x : X) (xs all : List X) → all ≡ x ∷ xs → p x ≡ true
-    → from_first p all ≡ all
-from_yes p x xs all same e = ap (from_first p) same ∙ rw e (sym same)
-
 pub from_no : {X : Type 0} (p : X → Bool) (x : X) (xs all : List X) → all ≡ x ∷ xs → p x ≡ false
-    → from_first p all ≡ from_first p xs
-from_no p x xs all same e = ap (from_first p) same
+    → since_first p all ≡ since_first p xs
+from_no p x xs all same e = ap (since_first p) same
     ∙ ap (λ (n : ℕ). drop n (x ∷ xs)) (later p x xs e)

@@ -7,12 +7,12 @@ use Rattle.std.proofs.lemmas.List.FromFn.{length-map-range_with_len}
 use Rattle.tf_words.specs.Words.{Word}
 use Rattle.tf_words.specs.declared.number.Number.{Number}
 use Rattle.tf_model.specs.InstanceData.{IsInstance, has_negative, has_beyond, count_fault}
-use Rattle.tf_model.specs.declared.limit.TheConstants.{MOST_JOBS, MOST_MACHINES}
+use Rattle.tf_model.specs.Limit.{most_jobs, most_machines}
 use Rattle.tf_read.specs.declared.fault.ReadFault.{ReadFault}
 use Rattle.tf_read.specs.declared.fault.ReadFault.TheVariants.{EndsEarly}
 use Rattle.tf_model.specs.Outcome.{◌>>=◌}
 use Rattle.tf_read.specs.Faults.{each_from, natural}
-use Rattle.tf_read.specs.FlowShop.{judged, machine_count, at, time_place, job_with, job, jobs_of, present, pairs_of}
+use Rattle.tf_read.specs.FlowShop.{shop_number, machines_kept, at, time_place, job_with, job, shop_jobs, shop_of, pairs_of}
 use Rattle.tf_read.specs.Pairs.{Pairs, first, second, count, wanted, missing, AreKept, kept_job, kept_jobs, Holds, HasRead, IsTime, AreTimes}
 use Rattle.tf_words.specs.Scan.{IsInRange}
 use Rattle.tf_read.proofs.Judged.{in_range, natural_within, judged as is_instance}
@@ -20,16 +20,16 @@ use Rattle.tf_read.proofs.OneInstance.{none_at}
 use Rattle.tf_read.proofs.FlowWords.{count_below, count_all}
 
 goes_on : (n m : ℕ) (pair : Option (ℕ × ℕ)) (seen : List Word) (r : Result (List ℤ) ReadFault)
-    → each_from (judged m) 0 (take (2 * n * m) seen) ≡ r
-    → pairs_of n m pair seen ≡ (r >>= λ numbers. present n m pair numbers)
+    → each_from (shop_number m) 0 (take (2 * n * m) seen) ≡ r
+    → pairs_of n m pair seen ≡ (r >>= λ numbers. shop_of n m pair numbers)
 unfolding pairs_of
-goes_on n m pair seen r h = ap (λ x. x >>= λ numbers. present n m pair numbers) h
+goes_on n m pair seen r h = ap (λ x. x >>= λ numbers. shop_of n m pair numbers) h
 
 -- the fault
 missing_at : (fault : Option ReadFault) (p : Pairs) (pair : Option (ℕ × ℕ)) (seen : List Word)
     (e : ReadFault)
     → p.machine < p.machines
-    → Holds fault p (each_from (judged p.machines) 0 (take (wanted p) seen))
+    → Holds fault p (each_from (shop_number p.machines) 0 (take (wanted p) seen))
     → option_or fault (cond (ltb p.job p.jobs) (Some EndsEarly) None) ≡ Some e
     → pairs_of p.jobs p.machines pair seen ≡ Err e
 missing_at (Some d) p pair seen e within h m = goes_on p.jobs p.machines pair seen (Err d) h
@@ -62,10 +62,10 @@ pub all_over : (p : Pairs) → missing p ≡ None → p.jobs ≤ p.job
 all_over p m = (none_missing p.fault p m).1
 
 holds : (p : Pairs) (seen : List Word) → missing p ≡ None → HasRead p seen
-    → Holds None p (each_from (judged p.machines) 0 (take (wanted p) seen))
+    → Holds None p (each_from (shop_number p.machines) 0 (take (wanted p) seen))
 holds p seen m h =
     subst (λ (o : Option ReadFault). Holds o p
-    (each_from (judged p.machines) 0 (take (wanted p) seen))) (none_missing p.fault p m).0 h
+    (each_from (shop_number p.machines) 0 (take (wanted p) seen))) (none_missing p.fault p m).0 h
 
 -- behind the last job no time is left over
 pub whole_length : (n jobs job machine first : ℕ) → n ≡ job + cond (ltb first machine) 1 0
@@ -87,7 +87,7 @@ same_made {X} f g a (suc n) same =
 
 same_jobs : (p : Pairs) (all : List ℤ) → AreKept p (first p) p.firsts all
     → AreKept p (second p) p.seconds all → length p.firsts ≡ p.jobs → length p.seconds ≡ p.jobs
-    → jobs_of p.jobs p.machines (first p) (second p) all
+    → shop_jobs p.jobs p.machines (first p) (second p) all
     ≡ kept_jobs p.jobs p.machines p.firsts p.seconds
 same_jobs p all ones twos firsts seconds =
     same_made (job p.machines (first p) (second p) all) (kept_job p.machines p.firsts p.seconds) 0
@@ -104,7 +104,7 @@ pub whole_is : (p : Pairs) (seen : List Word) → p.job ≤ p.jobs → (p.jobs �
     ≡ Ok (record {
       jobs = kept_jobs p.jobs p.machines p.firsts p.seconds;
       arcs = [];
-      machines = Some (machine_count p.machines p.pair);
+      machines = Some (machines_kept p.machines p.pair);
     })
 whole_is p seen few machine named h m =
     let le = all_over p m in
@@ -118,12 +118,6 @@ whole_is p seen few machine named h m =
     whole_length _ p.jobs p.job p.machine (second p) w.4.tally (machine le) le few in
     goes_on p.jobs p.machines p.pair seen (Ok w.0) w.1
     ∙ rw (long, same_jobs p w.0 w.3 w.4 firsts seconds) refl
-
--- a number that is read as a time is one
-pub read_time : (line : ℕ) (n : Number) (z : ℤ) → IsInRange n → natural line n ≡ Ok z → IsTime z
-read_time line n z range h =
-    let n' = natural_within line n z h in
-    (n'.1, in_range z (subst IsInRange n'.0 range))
 
 -- times with one more
 none_there : AreTimes []
@@ -155,22 +149,22 @@ job_ok m firsts seconds j a b = elim (cases_Bool (eqb m 1)) [
   | inr e ↦ (rw (e, a.0, b.0) refl, rw (e, a.1, b.1) refl)
 ]
 
-machines_ok : (m : ℕ) (pair : Option (ℕ × ℕ)) → 0 < m → m ≤ MOST_MACHINES
-    → count_fault (Some (machine_count m pair)) ≡ None
+machines_ok : (m : ℕ) (pair : Option (ℕ × ℕ)) → 0 < m → m ≤ most_machines
+    → count_fault (Some (machines_kept m pair)) ≡ None
 machines_ok m None some few =
     let low : ltb m 1 ≡ false = le-ltb _ _ (omega arith) in
-    let high : ltb MOST_MACHINES m ≡ false = le-ltb _ _ few in
+    let high : ltb most_machines m ≡ false = le-ltb _ _ few in
     rw (low, high) refl
 machines_ok m (Some pair) some few = refl
 
 pub whole_judged : (jobs machines : ℕ) (pair : Option (ℕ × ℕ)) (firsts seconds : List ℤ) → 0 < jobs
-    → jobs ≤ MOST_JOBS → 0 < machines → machines ≤ MOST_MACHINES → AreTimes firsts
+    → jobs ≤ most_jobs → 0 < machines → machines ≤ most_machines → AreTimes firsts
     → AreTimes seconds
     → IsInstance
     (record {
       jobs = kept_jobs jobs machines firsts seconds;
       arcs = [];
-      machines = Some (machine_count machines pair);
+      machines = Some (machines_kept machines pair);
     })
 whole_judged jobs machines pair firsts seconds some few machines_some machines_few first_times
     second_times =
@@ -180,7 +174,7 @@ whole_judged jobs machines pair firsts seconds some few machines_some machines_f
       jobs = kept_jobs jobs machines firsts seconds;
       arcs = [];
       machines =
-          Some (machine_count machines pair);
+          Some (machines_kept machines pair);
     }) (record {
       some = omega (arith, length_is);
       few = omega (arith, length_is);

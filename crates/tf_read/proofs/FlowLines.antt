@@ -2,7 +2,7 @@
 use Rattle.std.proofs.Common.{◌≡◌, ℕ, ◌+◌, Bool, true, false, cond, List, [], ◌∷◌, Option, Some, None, Err, ap, ◌∙◌}
 use Rattle.tf_words.specs.Words.{words, words_from}
 use Rattle.tf_read.specs.declared.fault.ReadFault.TheVariants.{EndsEarly, NoInstance}
-use Rattle.tf_read.specs.FlowShop.{sizes_in, at_sizes, sized, from_sizes, is_heading, from_heading}
+use Rattle.tf_read.specs.FlowShop.{sizes_in, at_sizes, sized, from_sizes, is_name_line, from_heading}
 
 sizes_at : (pair : Option (ℕ × ℕ)) (n : ℕ) (line : List ℕ) (more all : List (List ℕ))
     (found : Option (ℕ × ℕ))
@@ -30,7 +30,7 @@ no_sizes pair n all e = ap (from_sizes pair n) e
 
 pub heading_found : (name : List ℕ) (pair : Option (ℕ × ℕ)) (n : ℕ) (line : List ℕ)
     (more all : List (List ℕ))
-    → all ≡ line ∷ more → is_heading name (words line) ≡ true
+    → all ≡ line ∷ more → is_name_line name (words line) ≡ true
     → from_heading name pair n all ≡ from_sizes pair (n + 1) more
 unfolding from_heading
 heading_found name pair n line more all e h = ap (from_heading name pair n) e
@@ -39,7 +39,7 @@ heading_found name pair n line more all e h = ap (from_heading name pair n) e
 
 pub heading_later : (name : List ℕ) (pair : Option (ℕ × ℕ)) (n : ℕ) (line : List ℕ)
     (more all : List (List ℕ))
-    → all ≡ line ∷ more → is_heading name (words line) ≡ false
+    → all ≡ line ∷ more → is_name_line name (words line) ≡ false
     → from_heading name pair n all ≡ from_heading name pair (n + 1) more
 unfolding from_heading
 heading_later name pair n line more all e h = ap (from_heading name pair n) e

@@ -4,7 +4,7 @@ use Rattle.std.proofs.lemmas.Bool.{cases_Bool, lt-ltb, le-ltb, ne_eqb, false≢t
 use Rattle.std.proofs.lemmas.List.{append-nil}
 use Rattle.std.proofs.lemmas.List.Folds.{list_all-append}
 use Rattle.tf_words.specs.Words.{Word, words, lines, words_from}
-use Rattle.tf_model.specs.declared.limit.TheConstants.{MOST_BYTES, MOST_JOBS, MOST_MACHINES}
+use Rattle.tf_model.specs.Limit.{most_bytes, most_jobs, most_machines}
 use Rattle.tf_read.specs.declared.fault.ReadFault.{ReadFault}
 use Rattle.tf_read.specs.declared.fault.ReadFault.TheVariants.{TooLong, EndsEarly, NoInstance}
 use Rattle.tf_read.specs.declared.heading.HeadingLine.{HeadingLine}
@@ -13,7 +13,7 @@ use Rattle.tf_read.specs.declared.sizes.SizesLine.{SizesLine}
 use Rattle.tf_read.specs.declared.sizes.SizesLine.TheVariants as sizes
 use Rattle.tf_model.specs.Outcome.{◌>>=◌}
 use Rattle.tf_read.specs.Faults.{Fails, each_from}
-use Rattle.tf_read.specs.FlowShop.{is_pair, judged, present, pairs_of, sized, sizes_in, from_sizes, is_heading, from_heading, flow_shop}
+use Rattle.tf_read.specs.FlowShop.{are_machines, shop_number, shop_of, pairs_of, sized, sizes_in, from_sizes, is_name_line, from_heading, flow_shop}
 use Rattle.tf_read.specs.PresentLine.{AreOfLine}
 use Rattle.tf_read.specs.Heading.{HeadingShown}
 use Rattle.tf_read.specs.Sizes.{SizesShown, judged_sizes}
@@ -27,19 +27,19 @@ use Rattle.tf_read.proofs.Progress.{all_of}
 use Rattle.tf_read.proofs.PresentLine.{line_over, line_last}
 
 -- a text that is too long is refused as such, and any other is read from its first line on
-pub too_long : (name : List ℕ) (pair : Option (ℕ × ℕ)) (text : List ℕ) → MOST_BYTES < length text
+pub too_long : (name : List ℕ) (pair : Option (ℕ × ℕ)) (text : List ℕ) → most_bytes < length text
     → flow_shop name pair text ≡ Err TooLong
 unfolding flow_shop
-too_long name pair text long = let e : ltb MOST_BYTES (length text) ≡ true = lt-ltb _ _ long in
+too_long name pair text long = let e : ltb most_bytes (length text) ≡ true = lt-ltb _ _ long in
     rw e refl
 
-pub within : (name : List ℕ) (pair : Option (ℕ × ℕ)) (text : List ℕ) → length text ≤ MOST_BYTES
+pub within : (name : List ℕ) (pair : Option (ℕ × ℕ)) (text : List ℕ) → length text ≤ most_bytes
     → flow_shop name pair text ≡ from_heading name pair 1 (lines text)
 unfolding flow_shop
-within name pair text short = let e : ltb MOST_BYTES (length text) ≡ false = le-ltb _ _ short in
+within name pair text short = let e : ltb most_bytes (length text) ≡ false = le-ltb _ _ short in
     rw e refl
 
--- a byte more of the present line
+-- a byte more of the shop_of line
 of_line : (bytes : List ℕ) (b : ℕ) → AreOfLine bytes → (b ≡ 10 → ⊥) → AreOfLine (bytes ++ b ∷ [])
 of_line bytes b all other = let no' : eqb b 10 ≡ false = ne_eqb b 10 other in
     list_all-append (λ c. not (eqb c 10)) bytes (b ∷ []) ∙ rw (all, no') refl
@@ -84,7 +84,7 @@ pub heading_idle : (name : List ℕ) (pair : Option (ℕ × ℕ)) (line : ℕ) (
 heading_idle name pair line fed front own h = (
   h.0 ++ front,
   of_line_all h.0 front h.1 own,
-  λ more. ap (λ text. is_heading name (words text)) (append_assoc h.0 front more)
+  λ more. ap (λ text. is_name_line name (words text)) (append_assoc h.0 front more)
       ∙ h.2 (front ++ more),
   λ more. ap (λ text. from_heading name pair 1 (lines text)) (append_assoc fed front more)
       ∙ h.3 (front ++ more)
@@ -103,17 +103,10 @@ sizes_idle name pair line fed front own h = (
       ∙ ap (λ text. from_sizes pair line (lines text)) (sym (append_assoc h.0 front more)),
 )
 
--- whatever follows a fault
-pub ended_idle : (name : List ℕ) (pair : Option (ℕ × ℕ)) (fault : ReadFault) (fed front : List ℕ)
-    → HasEnded name pair fault fed → HasEnded name pair fault (fed ++ front)
-ended_idle name pair fault fed front h = λ more.
-    subst (λ text. Fails fault (from_heading name pair 1 (lines text)))
-    (sym (append_assoc fed front more)) (h (front ++ more))
-
 -- the end of a line on which the heading was wanted
 pub heading_read : (name : List ℕ) (pair : Option (ℕ × ℕ)) (line : ℕ) (shown : HeadingLine)
     (front : SizesLine) (fed : List ℕ)
-    → ((bytes : List ℕ) → HeadingShown name bytes shown → is_heading name (words bytes) ≡ true)
+    → ((bytes : List ℕ) → HeadingShown name bytes shown → is_name_line name (words bytes) ≡ true)
     → SizesShown [] front → WantsHeading name pair line shown fed
     → WantsSizes name pair (line + 1) front (fed ++ 10 ∷ [])
 heading_read name pair line shown front fed yes' at h = (
@@ -128,7 +121,7 @@ heading_read name pair line shown front fed yes' at h = (
 
 pub heading_missed : (name : List ℕ) (pair : Option (ℕ × ℕ)) (line : ℕ) (shown front : HeadingLine)
     (fed : List ℕ)
-    → ((bytes : List ℕ) → HeadingShown name bytes shown → is_heading name (words bytes) ≡ false)
+    → ((bytes : List ℕ) → HeadingShown name bytes shown → is_name_line name (words bytes) ≡ false)
     → HeadingShown name [] front → WantsHeading name pair line shown fed
     → WantsHeading name pair (line + 1) front (fed ++ 10 ∷ [])
 heading_missed name pair line shown front fed no' at h = (
@@ -176,11 +169,11 @@ sized_is : (pair : Option (ℕ × ℕ)) (line jobs machines : ℕ) (words : List
 unfolding sized
 sized_is pair line jobs machines words = elim (cases_Bool (eqb jobs 0)) [
   | inl e ↦ rw e refl
-  | inr e ↦ elim (cases_Bool (ltb MOST_JOBS jobs)) [
+  | inr e ↦ elim (cases_Bool (ltb most_jobs jobs)) [
     | inl f ↦ rw (e, f) refl
-    | inr f ↦ elim (cases_Bool (eqb machines 0 || ltb MOST_MACHINES machines)) [
+    | inr f ↦ elim (cases_Bool (eqb machines 0 || ltb most_machines machines)) [
       | inl g ↦ rw (e, f, g) refl
-      | inr g ↦ elim (cases_Bool (not (is_pair machines pair))) [
+      | inr g ↦ elim (cases_Bool (not (are_machines machines pair))) [
         | inl p ↦ rw (e, f, g, p) refl
         | inr p ↦ rw (e, f, g, p) refl
       ]
@@ -198,7 +191,7 @@ sized_by pair line jobs machines words r h = sized_is pair line jobs machines wo
 -- the end of the text
 pub heading_last : (name : List ℕ) (pair : Option (ℕ × ℕ)) (line : ℕ) (bytes : List ℕ)
     (found : Bool)
-    → AreOfLine bytes → is_heading name (words bytes) ≡ found
+    → AreOfLine bytes → is_name_line name (words bytes) ≡ found
     → from_heading name pair line (lines bytes) ≡ Err (cond found EndsEarly NoInstance)
 unfolding lines words
 heading_last name pair line [] true all h = absurd (false≢true h)
@@ -233,7 +226,8 @@ no_pairs jobs machines pair some machines_some =
     let product : 2 * jobs * 1 ≤ 2 * jobs * machines =
     mul-le-mul_left (2 * jobs) (let d : 1 ≤ machines = omega arith in d) in
     let wanted : ltb 0 (2 * jobs * machines) ≡ true = lt-ltb _ _ (omega (arith, product)) in
-    ap (λ ws. each_from (judged machines) 0 ws >>= λ numbers. present jobs machines pair numbers)
+    ap (λ ws. each_from (shop_number machines) 0 ws
+    >>= λ numbers. shop_of jobs machines pair numbers)
     (all_of (2 * jobs * machines) [] (omega arith)) ∙ rw wanted refl
 
 -- more of the pairs

@@ -12,7 +12,7 @@ use Rattle.tf_read.specs.declared.fault.ReadFault.{ReadFault}
 use Rattle.tf_model.specs.Outcome.{◌>>=◌}
 use Rattle.tf_read.specs.Faults.{each_from, natural}
 use Rattle.tf_words.specs.Scan.{IsOf}
-use Rattle.tf_read.specs.FlowShop.{is_time, machine_at, machine_is, number_at, judged, at, time_place, first_machine, second_machine, pairs_of}
+use Rattle.tf_read.specs.FlowShop.{is_time, machine_at, machine_is, shop_number_read, shop_number, at, time_place, first_kept, second_kept, pairs_of}
 use Rattle.tf_read.specs.Pairs.{Pairs, first, second, count, wanted, AreKept, Holds, HasRead, after_name, with_time, after_time, is_last}
 use Rattle.tf_read.specs.Said.{Says}
 use Rattle.tf_read.proofs.Progress.{stays_fault, stays_with, pushed_with, all_of}
@@ -34,14 +34,14 @@ judged_is : (p : Pairs) (line : ℕ) (read : Number) (word : Word) (named : Bool
     (r : Result ℤ ReadFault)
     → p.is_named ≡ named → p.machine < p.machines → IsOf word line read
     → cond named (natural line read) (machine_is p.machine line read) ≡ r
-    → judged p.machines (count p) word ≡ r
+    → shop_number p.machines (count p) word ≡ r
 judged_is p line read word named r e within of h =
     let at = place p.is_named p.job p.machines p.machine within in
     let t : is_time (count p) ≡ named = at.0 ∙ e in
-    ap (λ (l : ℕ). number_at p.machines (count p) l (number word.bytes)) (sym of.line_is)
-    ∙ ap (number_at p.machines (count p) line) (sym of.number_is) ∙ rw (t, at.1) h
+    ap (λ (l : ℕ). shop_number_read p.machines (count p) l (number word.bytes)) (sym of.line_is)
+    ∙ ap (shop_number_read p.machines (count p) line) (sym of.number_is) ∙ rw (t, at.1) h
 
--- how many words were judged
+-- how many words were shop_number
 below : (j n m k b : ℕ) → j < n → k < m → b ≤ 1 → 2 * (j * m + k) + b < 2 * n * m
 below j n m k b lt within one =
     let le : (j + 1) * m ≤ n * m = mul-le-mul_right m (let d : j + 1 ≤ n = omega arith in d) in
@@ -62,12 +62,13 @@ count_all p jobs machine named = rw (jobs, machine, named) (omega arith)
 -- nothing more is wanted
 stays : (fault : Option ReadFault) (p : Pairs) (seen : List Word) (word : Word)
     → (is_some fault || leb p.jobs p.job) ≡ true → (p.jobs ≤ p.job → wanted p ≤ count p)
-    → Holds fault p (each_from (judged p.machines) 0 (take (wanted p) seen))
-    → Holds fault p (each_from (judged p.machines) 0 (take (wanted p) (seen ++ word ∷ [])))
-stays (Some e) p seen word over all h = stays_fault (judged p.machines) (wanted p) seen word e h
+    → Holds fault p (each_from (shop_number p.machines) 0 (take (wanted p) seen))
+    → Holds fault p (each_from (shop_number p.machines) 0 (take (wanted p) (seen ++ word ∷ [])))
+stays (Some e) p seen word over all h =
+    stays_fault (shop_number p.machines) (wanted p) seen word e h
 stays None p seen word over all h = (
   h.0,
-  stays_with (judged p.machines) (wanted p) (count p) seen word h.0
+  stays_with (shop_number p.machines) (wanted p) (count p) seen word h.0
       (all (leb-true p.jobs p.job over)) h.2 h.1,
   h.2,
   h.3,
@@ -210,11 +211,11 @@ read_more : (p : Pairs) (seen : List Word) (word : Word) (all : List ℤ) (line 
     (named : Bool) (r : Result ℤ ReadFault)
     → (false || leb p.jobs p.job) ≡ false → p.is_named ≡ named → p.machine < p.machines
     → IsOf word line read → cond named (natural line read) (machine_is p.machine line read) ≡ r
-    → count p ≡ length all → each_from (judged p.machines) 0 (take (wanted p) seen) ≡ Ok all
-    → each_from (judged p.machines) 0 (take (wanted p) (seen ++ word ∷ []))
+    → count p ≡ length all → each_from (shop_number p.machines) 0 (take (wanted p) seen) ≡ Ok all
+    → each_from (shop_number p.machines) 0 (take (wanted p) (seen ++ word ∷ []))
     ≡ (r >>= λ z. Ok (all ++ z ∷ []))
 read_more p seen word all line read named r more e within of h c g =
-    pushed_with (judged p.machines) (wanted p) (count p) seen word all
+    pushed_with (shop_number p.machines) (wanted p) (count p) seen word all
     (count_below p (leb-false p.jobs p.job more) within) c g
     ∙ ap (λ x. x >>= λ z. Ok (all ++ z ∷ [])) (judged_is p line read word named r e within of h)
 
@@ -228,7 +229,7 @@ named_at : (fault : Option ReadFault) (p : Pairs) (seen : List Word) (word : Wor
     (read : Number) (r : Result ℤ ReadFault)
     → p.fault ≡ fault → (is_some fault || leb p.jobs p.job) ≡ false → p.is_named ≡ false
     → p.machine < p.machines → IsOf word line read → machine_is p.machine line read ≡ r
-    → Holds fault p (each_from (judged p.machines) 0 (take (wanted p) seen))
+    → Holds fault p (each_from (shop_number p.machines) 0 (take (wanted p) seen))
     → HasRead (after_name p r) (seen ++ word ∷ [])
 named_at (Some d) p seen word line read r f more now within of h g = absurd (let e : ⊥ = cc in e)
 named_at None p seen word line read (Err e) f more now within of h g =
@@ -237,7 +238,7 @@ named_at None p seen word line read (Ok z) f more now within of h g =
     let c : 2 * (p.job * p.machines + p.machine) + 0 ≡ length g.0 =
     counted_as p false (length g.0) now g.2 in
     subst (λ (o : Option ReadFault). Holds o (record p { is_named = true })
-    (each_from (judged p.machines) 0 (take (wanted p) (seen ++ word ∷ [])))) (sym f) (
+    (each_from (shop_number p.machines) 0 (take (wanted p) (seen ++ word ∷ [])))) (sym f) (
       g.0 ++ z ∷ [],
       read_more p seen word g.0 line read false (Ok z) more now within of h g.2 g.1,
       omega (arith, c, length-append g.0 (z ∷ [])),
@@ -268,7 +269,7 @@ timed_at : (fault : Option ReadFault) (p : Pairs) (seen : List Word) (word : Wor
     (read : Number) (r : Result ℤ ReadFault)
     → p.fault ≡ fault → (is_some fault || leb p.jobs p.job) ≡ false → p.is_named ≡ true
     → p.machine < p.machines → IsOf word line read → natural line read ≡ r
-    → Holds fault p (each_from (judged p.machines) 0 (take (wanted p) seen))
+    → Holds fault p (each_from (shop_number p.machines) 0 (take (wanted p) seen))
     → HasRead (after_time p r) (seen ++ word ∷ [])
 timed_at (Some d) p seen word line read r f more now within of h g = absurd (let e : ⊥ = cc in e)
 timed_at None p seen word line read (Err e) f more now within of h g =
@@ -277,7 +278,7 @@ timed_at None p seen word line read (Ok z) f more now within of h g =
     let c : 2 * (p.job * p.machines + p.machine) + 1 ≡ length g.0 =
     counted_as p true (length g.0) now g.2 in
     subst (λ (o : Option ReadFault). Holds o (after_time p (Ok z))
-    (each_from (judged p.machines) 0 (take (wanted p) (seen ++ word ∷ [])))) (sym f) (
+    (each_from (shop_number p.machines) 0 (take (wanted p) (seen ++ word ∷ [])))) (sym f) (
       g.0 ++ z ∷ [],
       read_more p seen word g.0 line read true (Ok z) more now within of h g.2 g.1,
       count_next p (length g.0) c ∙ sym (length-append g.0 (z ∷ [])),
@@ -313,8 +314,8 @@ none_kept p machine there job none =
     let first : ltb machine p.machine ≡ false = le-ltb _ _ (omega (arith, none)) in
     record { there = there; tally = rw (first, job) refl; each = λ j lt. absurd (omega (arith, lt)) }
 
-pub none_read : (jobs machines : ℕ) (pair : Option (ℕ × ℕ)) → first_machine pair < machines
-    → second_machine machines pair < machines
+pub none_read : (jobs machines : ℕ) (pair : Option (ℕ × ℕ)) → first_kept pair < machines
+    → second_kept machines pair < machines
     → HasRead (record {
       jobs = jobs;
       machines = machines;
@@ -329,7 +330,7 @@ pub none_read : (jobs machines : ℕ) (pair : Option (ℕ × ℕ)) → first_mac
 unfolding each_from
 none_read jobs machines pair first second = (
   [],
-  ap (each_from (judged machines) 0) (all_of (2 * jobs * machines) [] (omega arith)),
+  ap (each_from (shop_number machines) 0) (all_of (2 * jobs * machines) [] (omega arith)),
   omega arith,
   none_kept _ _ first refl refl,
   none_kept _ _ second refl refl,

@@ -10,7 +10,7 @@ use Rattle.tf_words.specs.Words.{is_white, words}
 use Rattle.tf_read.specs.declared.heading.HeadingWord.{HeadingWord}
 use Rattle.tf_read.specs.declared.heading.HeadingWord.TheVariants.{Instance, Name}
 use Rattle.tf_read.specs.declared.heading.HeadingLine.TheVariants.{Spelled, Whole, Other}
-use Rattle.tf_read.specs.FlowShop.{is_heading}
+use Rattle.tf_read.specs.FlowShop.{is_name_line}
 use Rattle.tf_read.specs.PresentLine.{IsInLine}
 use Rattle.tf_read.specs.Heading.{spelling, words_before, HeadingShown}
 use Rattle.tf_read.proofs.PresentLine.{with_gap, with_end, words_at_gap, words_in_word, grows}
@@ -47,7 +47,7 @@ too_short s k lt = elim (cases_Bool (bytes_eq (take k s) s)) [
 
 other_word : (name : List ℕ) (word : HeadingWord) (w : List ℕ) (ws : List (List ℕ))
     → bytes_eq w (spelling word name) ≡ false
-    → is_heading name (words_before word ++ w ∷ ws) ≡ false
+    → is_name_line name (words_before word ++ w ∷ ws) ≡ false
 other_word name Instance w ws h = rw h refl
 other_word name Name w ws h = rw h refl
 
@@ -59,7 +59,7 @@ pub other_letter : (name bytes wanted : List ℕ) (word : HeadingWord) (matched 
 other_letter name bytes wanted word matched b is black other h = λ more.
     let g = grows bytes (words_before word) (take matched (spelling word name)) b black h.1 more in
     let no' = subst (λ (s : List ℕ). matched < length s → get_or s matched 0 ≡ b → ⊥) is other in
-    ap (is_heading name) g.2
+    ap (is_name_line name) g.2
     ∙ other_word name word (take matched (spelling word name) ++ b ∷ [] ++ g.0) g.1
     (differs (spelling word name) matched b g.0 no' h.0)
 
@@ -83,7 +83,7 @@ pub not_ended : (name bytes : List ℕ) (word : HeadingWord) (matched b : ℕ) �
 not_ended name bytes word matched b some lt white h = λ more.
     let at = with_end bytes (words_before word) (take matched (spelling word name)) b
     (begun (spelling word name) matched some h.0) white h.1 in
-    ap (is_heading name)
+    ap (is_name_line name)
     (at.goes_on more
     ∙ append_assoc (words_before word) (take matched (spelling word name) ∷ []) (words more))
     ∙ other_word name word (take matched (spelling word name)) (words more)
@@ -103,7 +103,7 @@ whole_word name bytes word matched b some all white h =
 pub third_word : (name bytes : List ℕ) (b : ℕ) → is_white b ≡ false → HeadingShown name bytes Whole
     → HeadingShown name (bytes ++ b ∷ []) Other
 third_word name bytes b black at = λ more. let g =
-    grows bytes (codes "instance" ∷ name ∷ []) [] b black at more in ap (is_heading name) g.2
+    grows bytes (codes "instance" ∷ name ∷ []) [] b black at more in ap (is_name_line name) g.2
     ∙ longer name (bytes_eq name name) ((b ∷ []) ++ g.0) g.1
   where
     longer : (name : List ℕ) (same : Bool) (w : List ℕ) (ws : List (List ℕ))
@@ -112,23 +112,24 @@ third_word name bytes b black at = λ more. let g =
     longer name false w ws = refl
 
 -- the end of the line
-itself : (name : List ℕ) → is_heading name (codes "instance" ∷ name ∷ []) ≡ true
+itself : (name : List ℕ) → is_name_line name (codes "instance" ∷ name ∷ []) ≡ true
 itself name = let same : bytes_eq name name ≡ true = (bytes_eq-Decides name name).1 refl in
     rw same refl
 
 pub whole_is : (name bytes : List ℕ) → HeadingShown name bytes Whole
-    → true ≡ is_heading name (words bytes)
+    → true ≡ is_name_line name (words bytes)
 whole_is name bytes at =
-    sym (ap (is_heading name) (words_at_gap bytes (codes "instance" ∷ name ∷ []) at) ∙ itself name)
+    sym (ap (is_name_line name) (words_at_gap bytes (codes "instance" ∷ name ∷ []) at)
+    ∙ itself name)
 
 name_at : (name w : List ℕ) (same : Bool) → bytes_eq w name ≡ same
-    → is_heading name (codes "instance" ∷ w ∷ []) ≡ same
+    → is_name_line name (codes "instance" ∷ w ∷ []) ≡ same
 name_at name w true e = rw e refl
 name_at name w false e = rw e refl
 
 pub name_is : (name bytes : List ℕ) (matched : ℕ) → 0 < matched
     → HeadingShown name bytes (Spelled Name matched)
-    → eqb matched (length name) ≡ is_heading name (words bytes)
+    → eqb matched (length name) ≡ is_name_line name (words bytes)
 name_is name bytes matched some h =
     let all : words bytes ≡ codes "instance" ∷ take matched name ∷ [] =
     words_in_word bytes (codes "instance" ∷ []) (take matched name)
@@ -138,43 +139,44 @@ name_is name bytes matched some h =
           let len : matched ≡ length name = eqb-true matched (length name) e in
           let same : bytes_eq (take matched name) name ≡ true =
           (bytes_eq-Decides (take matched name) name).1 (take_all matched name (omega arith)) in
-          rw e (sym (ap (is_heading name) all ∙ name_at name (take matched name) true same))
+          rw e (sym (ap (is_name_line name) all ∙ name_at name (take matched name) true same))
       | inr e ↦
           let other : matched ≢ length name = eqb-false matched (length name) e in
-          rw e (sym (ap (is_heading name) all
+          rw e (sym (ap (is_name_line name) all
           ∙ name_at name (take matched name) false
           (too_short name matched (omega (arith, other, h.0)))))
     ]
 
 pub no_name : (name bytes : List ℕ) (matched : ℕ) → matched ≤ 0
-    → HeadingShown name bytes (Spelled Name matched) → ltb 0 matched ≡ is_heading name (words bytes)
+    → HeadingShown name bytes (Spelled Name matched)
+    → ltb 0 matched ≡ is_name_line name (words bytes)
 no_name name bytes matched none h =
     let zero' : matched ≡ 0 = omega arith in
     let at : IsInLine bytes (codes "instance" ∷ []) [] =
     subst (λ (k : ℕ). IsInLine bytes (codes "instance" ∷ []) (take k name)) zero' h.1 in
-    rw zero' (sym (ap (is_heading name) (words_at_gap bytes (codes "instance" ∷ []) at)))
+    rw zero' (sym (ap (is_name_line name) (words_at_gap bytes (codes "instance" ∷ []) at)))
 
 one_word : (name w : List ℕ) (same : Bool) → bytes_eq w (codes "instance") ≡ same
-    → is_heading name (w ∷ []) ≡ false
+    → is_name_line name (w ∷ []) ≡ false
 one_word name w true e = rw e refl
 one_word name w false e = rw e refl
 
 pub no_second : (name bytes : List ℕ) (matched : ℕ)
-    → HeadingShown name bytes (Spelled Instance matched) → false ≡ is_heading name (words bytes)
+    → HeadingShown name bytes (Spelled Instance matched) → false ≡ is_name_line name (words bytes)
 no_second name bytes matched h = elim (cases_lt 0 matched) [
   | inl some ↦
-      sym (ap (is_heading name)
+      sym (ap (is_name_line name)
       (words_in_word bytes [] (take matched (codes "instance"))
       (begun (codes "instance") matched some h.0) h.1)
       ∙ one_word name (take matched (codes "instance")) _ refl)
   | inr none ↦
       let zero' : matched ≡ 0 = omega arith in
-      sym (ap (is_heading name)
+      sym (ap (is_name_line name)
       (words_at_gap bytes []
       (subst (λ (k : ℕ). IsInLine bytes [] (take k (codes "instance"))) zero' h.1)))
 ]
 
 pub other_is : (name bytes : List ℕ) → HeadingShown name bytes Other
-    → false ≡ is_heading name (words bytes)
+    → false ≡ is_name_line name (words bytes)
 other_is name bytes h =
-    sym (ap (λ (bs : List ℕ). is_heading name (words bs)) (sym (append-nil bytes)) ∙ h [])
+    sym (ap (λ (bs : List ℕ). is_name_line name (words bs)) (sym (append-nil bytes)) ∙ h [])

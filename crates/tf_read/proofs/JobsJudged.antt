@@ -7,7 +7,7 @@ use Rattle.tf_model.specs.JobFields.{JobFields}
 use Rattle.tf_model.specs.InstanceData.{IsInstance, any_time, any_given, is_negative, is_beyond, has_negative, has_beyond, is_no_job, is_bad_arc, count_fault}
 use Rattle.tf_model.specs.declared.job.Times.{Times}
 use Rattle.tf_model.specs.declared.job.Times.TheVariants.{One, Two}
-use Rattle.tf_model.specs.declared.limit.TheConstants.{MOST_JOBS, MOST_MACHINES, MOST_ARCS}
+use Rattle.tf_model.specs.Limit.{most_jobs, most_machines, most_arcs}
 use Rattle.tf_words.specs.declared.number.Number.{Number}
 use Rattle.tf_words.specs.declared.number.Number.TheVariants.{NotANumber, TooLarge, Value}
 use Rattle.tf_model.specs.Outcome.{◌>>=◌}
@@ -15,7 +15,7 @@ use Rattle.tf_read.specs.Faults.{each_from, natural, integer}
 use Rattle.tf_read.specs.JobLine.{SomeFields, no_fields, times_in, times_at, field_in, field_at, complete, fields_at}
 use Rattle.tf_words.specs.WordParts.{divided}
 use Rattle.tf_read.specs.CostField.{cost_at}
-use Rattle.tf_read.specs.JobTable.{machine_count, machines_at, numbered_job, job_at, arc_job, arc_of, arc_at, arcs_of}
+use Rattle.tf_read.specs.JobTable.{machines_named, machines_at, numbered_job, job_line, arc_job, arc_of, arc_line, arcs_of}
 use Rattle.tf_model.proofs.Outcomes.{bind_ok}
 use Rattle.tf_read.proofs.Judged.{same_ok, then_ok, else_ok, GivesOnly, on_fault, on_test, on_value, or_false, value_within, integer_within, natural_within, none_there, few, judged}
 
@@ -191,17 +191,17 @@ numbered_ok line k [] job h = cc
 numbered_ok line k (word ∷ more) job h =
     fields_ok line no_fields more job none_ok (then_ok _ _ _ _ h).1
 
-pub job_ok : (k : ℕ) (line : Line) (job : JobFields) → job_at k line ≡ Ok job
-    → (k ≤ MOST_JOBS) × IsJob job
-unfolding job_at
+pub job_ok : (k : ℕ) (line : Line) (job : JobFields) → job_line k line ≡ Ok job
+    → (k ≤ most_jobs) × IsJob job
+unfolding job_line
 job_ok k line job h =
     let e = else_ok _ _ _ _ (else_ok _ _ _ _ h).1 in
-    let below : k ≤ MOST_JOBS = ltb-false MOST_JOBS k e.0 in
+    let below : k ≤ most_jobs = ltb-false most_jobs k e.0 in
     (below, numbered_ok line.number k _ job e.1)
 
 -- a number of machines that was judged, or none
-count_ok : (line : ℕ) (n : Number) (m : ℕ) → machine_count line n ≡ Ok m
-    → (1 ≤ m) × (m ≤ MOST_MACHINES)
+count_ok : (line : ℕ) (n : Number) (m : ℕ) → machines_named line n ≡ Ok m
+    → (1 ≤ m) × (m ≤ most_machines)
 count_ok line NotANumber m h = cc
 count_ok line TooLarge m h = cc
 count_ok line (Value (negsuc k)) m h = cc
@@ -210,8 +210,8 @@ count_ok line (Value (pos k)) m h =
     let both = and_parts _ _ e.0 in
     let same : k ≡ m = same_ok (Ok k) refl e.1 in
     let above : 1 ≤ k = leb-true 1 k both.0 in
-    let below : k ≤ MOST_MACHINES = leb-true k MOST_MACHINES both.1 in
-    (subst (λ (n : ℕ). 1 ≤ n) same above, subst (λ (n : ℕ). n ≤ MOST_MACHINES) same below)
+    let below : k ≤ most_machines = leb-true k most_machines both.1 in
+    (subst (λ (n : ℕ). 1 ≤ n) same above, subst (λ (n : ℕ). n ≤ most_machines) same below)
 
 pub machines_ok : (line : ℕ) (words : List (List ℕ)) (m : ℕ) → machines_at line words ≡ Ok m
     → count_fault (Some m) ≡ None
@@ -220,7 +220,7 @@ machines_ok line [] m h = cc
 machines_ok line (word ∷ []) m h =
     let both = count_ok line (number word) m h in
     let low : ltb m 1 ≡ false = le-ltb m 1 both.0 in
-    let high : ltb MOST_MACHINES m ≡ false = le-ltb MOST_MACHINES m both.1 in
+    let high : ltb most_machines m ≡ false = le-ltb most_machines m both.1 in
     rw (low, high) refl
 machines_ok line (word ∷ other ∷ more) m h = cc
 
@@ -247,45 +247,47 @@ arc_of_ok jobs line (a ∷ b ∷ []) arc h =
     (arc_job_ok jobs line (number b) y.0 y.1))
 arc_of_ok jobs line (a ∷ b ∷ c ∷ more) arc h = cc
 
-pub arc_ok : (jobs k : ℕ) (line : Line) (arc : ℕ × ℕ) → arc_at jobs k line ≡ Ok arc
-    → (k ≤ MOST_ARCS) × (is_bad_arc jobs arc ≡ false)
-unfolding arc_at
+pub arc_ok : (jobs k : ℕ) (line : Line) (arc : ℕ × ℕ) → arc_line jobs k line ≡ Ok arc
+    → (k ≤ most_arcs) × (is_bad_arc jobs arc ≡ false)
+unfolding arc_line
 arc_ok jobs k line arc h =
     let e = else_ok _ _ _ _ (else_ok _ _ _ _ h).1 in
-    let below : k ≤ MOST_ARCS = ltb-false MOST_ARCS k e.0 in
+    let below : k ≤ most_arcs = ltb-false most_arcs k e.0 in
     (below, arc_of_ok jobs line.number _ arc e.1)
 
 -- the jobs of a table are few enough
-pub jobs_few : (lines : List Line) (jobs : List JobFields) → each_from job_at 1 lines ≡ Ok jobs
-    → length jobs ≤ MOST_JOBS
+pub jobs_few : (lines : List Line) (jobs : List JobFields) → each_from job_line 1 lines ≡ Ok jobs
+    → length jobs ≤ most_jobs
 jobs_few lines jobs h =
-    let le : length jobs + 1 ≤ MOST_JOBS + 1 =
-    few job_at MOST_JOBS (λ k line job r. (job_ok k line job r).0) 1 lines jobs (omega arith)
+    let le : length jobs + 1 ≤ most_jobs + 1 =
+    few job_line most_jobs (λ k line job r. (job_ok k line job r).0) 1 lines jobs (omega arith)
     h in
     omega arith
 
 -- the jobs and the arcs of a table make an instance
 pub table_judged : (lines later : List Line) (jobs : List JobFields) (n : ℕ) (arcs : List (ℕ × ℕ))
     (machines : Option ℕ)
-    → each_from job_at 1 lines ≡ Ok jobs → n ≡ length jobs → arcs_of n later ≡ Ok arcs
+    → each_from job_line 1 lines ≡ Ok jobs → n ≡ length jobs → arcs_of n later ≡ Ok arcs
     → count_fault machines ≡ None
     → IsInstance (record { jobs = jobs; arcs = arcs; machines = machines })
 unfolding arcs_of
 table_judged lines later jobs n arcs machines h count g m =
     let e = else_ok _ _ _ _ (subst (λ (k : ℕ). arcs_of k later ≡ Ok arcs) count g) in
     let d : length jobs ≢ 0 = eqb-false _ _ e.0 in
-    let le : length arcs + 1 ≤ MOST_ARCS + 1 =
-    few (arc_at (length jobs)) MOST_ARCS (λ k line arc r. (arc_ok (length jobs) k line arc r).0)
+    let le : length arcs + 1 ≤ most_arcs + 1 =
+    few (arc_line (length jobs)) most_arcs (λ k line arc r. (arc_ok (length jobs) k line arc r).0)
     1 later arcs (omega arith) e.1 in
     judged (record { jobs = jobs; arcs = arcs; machines = machines }) (record {
       some = omega arith;
       few = jobs_few lines jobs h;
       machines = m;
       arcs = omega arith;
-      negative = none_there job_at has_negative (λ k line job r. (job_ok k line job r).1.0) 1 lines
+      negative = none_there job_line has_negative
+          (λ k line job r. (job_ok k line job r).1.0) 1 lines
           jobs h;
-      beyond = none_there job_at has_beyond (λ k line job r. (job_ok k line job r).1.1) 1 lines jobs
+      beyond = none_there job_line has_beyond
+          (λ k line job r. (job_ok k line job r).1.1) 1 lines jobs
           h;
-      bad_arc = none_there (arc_at (length jobs)) (is_bad_arc (length jobs))
+      bad_arc = none_there (arc_line (length jobs)) (is_bad_arc (length jobs))
           (λ k line arc r. (arc_ok (length jobs) k line arc r).1) 1 later arcs e.1;
     })

@@ -8,7 +8,7 @@ use Rattle.tf_words.specs.declared.number.Number.{Number}
 use Rattle.tf_words.specs.Scan.{IsInRange}
 use Rattle.tf_words.specs.declared.number.Number.TheVariants.{NotANumber, TooLarge, Value}
 use Rattle.tf_model.specs.InstanceData.{InstanceData, IsInstance, is_negative, is_beyond, has_negative, has_beyond, is_bad_arc, count_fault}
-use Rattle.tf_model.specs.declared.limit.TheConstants.{MOST_JOBS, MOST_ARCS}
+use Rattle.tf_model.specs.Limit.{most_jobs, most_arcs}
 use Rattle.tf_read.specs.declared.fault.ReadFault.{ReadFault}
 use Rattle.tf_words.proofs.Limited.{number_within}
 use Rattle.tf_model.proofs.Outcomes.{bind_ok}
@@ -133,9 +133,9 @@ few read most ok k (x ∷ xs) ys from h =
 -- that isn't there
 pub record IsJudged (i : InstanceData) : Type 0 where
   pub some : 0 < length i.jobs
-  pub few : length i.jobs ≤ MOST_JOBS
+  pub few : length i.jobs ≤ most_jobs
   pub machines : count_fault i.machines ≡ None
-  pub arcs : length i.arcs ≤ MOST_ARCS
+  pub arcs : length i.arcs ≤ most_arcs
   pub negative : position has_negative i.jobs ≡ None
   pub beyond : position has_beyond i.jobs ≡ None
   pub bad_arc : position (is_bad_arc (length i.jobs)) i.arcs ≡ None
@@ -143,8 +143,8 @@ pub record IsJudged (i : InstanceData) : Type 0 where
 pub judged : (i : InstanceData) → IsJudged i → IsInstance i
 judged i j =
     let some : eqb (length i.jobs) 0 ≡ false = ne_eqb _ _ (λ e. omega (arith, j.some, e)) in
-    let few : ltb MOST_JOBS (length i.jobs) ≡ false = le-ltb _ _ j.few in
-    let arcs : ltb MOST_ARCS (length i.arcs) ≡ false = le-ltb _ _ j.arcs in
+    let few : ltb most_jobs (length i.jobs) ≡ false = le-ltb _ _ j.few in
+    let arcs : ltb most_arcs (length i.arcs) ≡ false = le-ltb _ _ j.arcs in
     let machines : count_fault i.machines ≡ None = j.machines in
     let negative : position has_negative i.jobs ≡ None = j.negative in
     let beyond : position has_beyond i.jobs ≡ None = j.beyond in

@@ -10,12 +10,12 @@ use Rattle.tf_words.specs.Words.{Word}
 use Rattle.tf_words.specs.declared.number.Number.{Number}
 use Rattle.tf_model.specs.JobFields.{JobFields}
 use Rattle.tf_model.specs.InstanceData.{IsInstance, is_negative, is_beyond, has_negative, has_beyond}
-use Rattle.tf_model.specs.declared.limit.TheConstants.{MOST_JOBS}
+use Rattle.tf_model.specs.Limit.{most_jobs}
 use Rattle.tf_read.specs.declared.fault.ReadFault.{ReadFault}
 use Rattle.tf_read.specs.declared.fault.ReadFault.TheVariants.{NoInstance, EndsEarly}
 use Rattle.tf_model.specs.Outcome.{◌>>=◌}
 use Rattle.tf_read.specs.Faults.{each_from}
-use Rattle.tf_read.specs.WeightedTardiness.{number_at, judged, at, job, jobs_of, present, instance_of}
+use Rattle.tf_read.specs.WeightedTardiness.{tardiness_number_read, tardiness_number, at, job, tardiness_jobs, tardiness_of, instance_of}
 use Rattle.tf_read.specs.Numbers.{Progress, skipped, wanted, missing, with_number, Holds, HasRead, AreInRange}
 use Rattle.tf_words.specs.Scan.{IsInRange}
 use Rattle.tf_read.proofs.Progress.{counted}
@@ -23,15 +23,15 @@ use Rattle.tf_read.proofs.Judged.{in_range, or_false, natural_within, integer_wi
 
 -- how a whole reading goes on
 pub goes_on : (n k : ℕ) (seen : List Word) (r : Result (List ℤ) ReadFault)
-    → each_from (judged n) 0 (take (3 * n * k) seen) ≡ r
-    → instance_of n k seen ≡ (r >>= λ numbers. present n k numbers)
+    → each_from (tardiness_number n) 0 (take (3 * n * k) seen) ≡ r
+    → instance_of n k seen ≡ (r >>= λ numbers. tardiness_of n k numbers)
 unfolding instance_of
-goes_on n k seen r h = ap (λ x. x >>= λ numbers. present n k numbers) h
+goes_on n k seen r h = ap (λ x. x >>= λ numbers. tardiness_of n k numbers) h
 
 judge_end : (n k count : ℕ) (all : List ℤ) (e : ReadFault) → count ≡ length all
     → cond (leb count (3 * n * (k - 1))) (Some NoInstance)
     (cond (ltb count (3 * n * k)) (Some EndsEarly) None) ≡ Some e
-    → present n k all ≡ Err e
+    → tardiness_of n k all ≡ Err e
 judge_end n k count all e c h = elim (cases_Bool (leb (length all) (3 * n * (k - 1)))) [
   | inl early ↦ let same : NoInstance ≡ e = let d : Some NoInstance ≡ Some e = rw (c, early) at h in
       cc in rw early (ap (λ x. Err x) same)
@@ -43,7 +43,7 @@ judge_end n k count all e c h = elim (cases_Bool (leb (length all) (3 * n * (k -
 ]
 
 missing_at : (fault : Option ReadFault) (p : Progress) (seen : List Word) (e : ReadFault)
-    → Holds fault p (each_from (judged p.jobs) 0 (take (wanted p) seen))
+    → Holds fault p (each_from (tardiness_number p.jobs) 0 (take (wanted p) seen))
     → option_or fault
     (cond (leb p.count (skipped p)) (Some NoInstance)
     (cond (ltb p.count (wanted p)) (Some EndsEarly) None)) ≡ Some e
@@ -60,14 +60,14 @@ missing_is p seen e h m = missing_at p.fault p seen e h m
 -- the numbers of a text that are all there
 record IsWhole (p : Progress) (seen : List Word) : Type 0 where
   all : List ℤ
-  read : each_from (judged p.jobs) 0 (take (wanted p) seen) ≡ Ok all
+  read : each_from (tardiness_number p.jobs) 0 (take (wanted p) seen) ≡ Ok all
   count : p.count ≡ length all
   numbers : p.numbers ≡ drop (skipped p) all
   begun : skipped p < length all
   ended : wanted p ≤ length all
 
 whole_at : (fault : Option ReadFault) (p : Progress) (seen : List Word)
-    → Holds fault p (each_from (judged p.jobs) 0 (take (wanted p) seen))
+    → Holds fault p (each_from (tardiness_number p.jobs) 0 (take (wanted p) seen))
     → option_or fault
     (cond (leb p.count (skipped p)) (Some NoInstance)
     (cond (ltb p.count (wanted p)) (Some EndsEarly) None)) ≡ None
@@ -91,22 +91,18 @@ whole_at None p seen h m = elim (cases_Bool (leb p.count (skipped p))) [
   ]
 ]
 
-length_all : (p : Progress) (seen : List Word) (w : IsWhole p seen) → length w.all ≤ wanted p
-length_all p seen w = let c : length w.all ≡ min (wanted p) (length seen) =
-    counted (judged p.jobs) (wanted p) seen w.all w.read in omega arith
-
 at_own : (numbers : List ℤ) (start i : ℕ) → at (drop start numbers) i ≡ at numbers (start + i)
 at_own numbers start i = get_or-drop start numbers i (pos 0)
 
 pub whole_is : (p : Progress) (seen : List Word) → HasRead p seen → missing p ≡ None
     → instance_of p.jobs p.index seen
-    ≡ Ok (record { jobs = jobs_of p.jobs p.numbers; arcs = []; machines = None })
+    ≡ Ok (record { jobs = tardiness_jobs p.jobs p.numbers; arcs = []; machines = None })
 whole_is p seen h m =
     let w = whole_at p.fault p seen h m in
     let late : leb (length w.all) (3 * p.jobs * (p.index - 1)) ≡ false = lt-leb _ _ w.begun in
     let long : ltb (length w.all) (3 * p.jobs * p.index) ≡ false = le-ltb _ _ w.ended in
-    let own : jobs_of p.jobs (drop (skipped p) w.all) ≡ jobs_of p.jobs p.numbers =
-    ap (jobs_of p.jobs) (sym w.numbers) in
+    let own : tardiness_jobs p.jobs (drop (skipped p) w.all) ≡ tardiness_jobs p.jobs p.numbers =
+    ap (tardiness_jobs p.jobs) (sym w.numbers) in
     goes_on p.jobs p.index seen (Ok w.all) w.read
     ∙ rw (late, long) (ap (λ js. Ok (record { jobs = js; arcs = []; machines = None })) own)
 
@@ -130,7 +126,7 @@ place_behind m c p next some is then =
 
 -- a number that is read is within the limit, and not negative where a time or a weight stands
 read_number : (n i line : ℕ) (number : Number) (z : ℤ) → IsInRange number
-    → number_at n i line number ≡ Ok z
+    → tardiness_number_read n i line number ≡ Ok z
     → (is_beyond z ≡ false) × (i % (3 * n) < 2 * n → is_negative z ≡ false)
 read_number n i line number z range h = elim (cases_Bool (ltb (i % (3 * n)) (2 * n))) [
   | inl early ↦
@@ -169,7 +165,7 @@ numbers_more n numbers z all beyond negative = record {
 kept_at : (p : Progress) (line : ℕ) (number : Number) (z : ℤ) → IsInRange number
     → p.count < wanted p → wanted p ≡ skipped p + 3 * p.jobs
     → length p.numbers ≡ p.count - skipped p
-    → AreInRange p.jobs p.numbers → number_at p.jobs p.count line number ≡ Ok z
+    → AreInRange p.jobs p.numbers → tardiness_number_read p.jobs p.count line number ≡ Ok z
     → AreInRange p.jobs (with_number p z).numbers
 kept_at p line number z range more own tally all h = elim (cases_Bool (leb (skipped p) p.count)) [
   | inl own' ↦
@@ -186,7 +182,7 @@ kept_at p line number z range more own tally all h = elim (cases_Bool (leb (skip
 pub number_kept : (p : Progress) (line : ℕ) (number : Number) (r : Result ℤ ReadFault)
     → IsInRange number → p.count < wanted p → wanted p ≡ skipped p + 3 * p.jobs
     → length p.numbers ≡ p.count - skipped p
-    → AreInRange p.jobs p.numbers → number_at p.jobs p.count line number ≡ r
+    → AreInRange p.jobs p.numbers → tardiness_number_read p.jobs p.count line number ≡ r
     → IfOk r (λ z. AreInRange p.jobs (with_number p z).numbers)
 number_kept p line number (Ok z) range more own tally all h =
     kept_at p line number z range more own tally all h
@@ -209,23 +205,12 @@ none_at test f n h =
     ≡ false = le-ltb _ _ (omega arith) in
     rw (e, t) refl
 
--- all words up to the instance's last were judged
-pub whole_count : (p : Progress) (seen : List Word) → HasRead p seen → missing p ≡ None
-    → p.count ≡ wanted p
-whole_count p seen h m =
-    let w = whole_at p.fault p seen h m in
-    let c : length w.all ≡ min (wanted p) (length seen) =
-    counted (judged p.jobs) (wanted p) seen w.all w.read in
-    let d : p.count ≡ length w.all = w.count in
-    let e : wanted p ≤ length w.all = w.ended in
-    omega arith
-
 -- the words up to an instance's last
 pub all_before : (n k : ℕ) → 0 < k → 3 * n * (k - 1) + 3 * n ≡ 3 * n * k
 all_before n zero lt = absurd (omega arith)
 all_before n (suc k) lt = let e : suc k - 1 ≡ k = omega arith in rw e (sym (mul-suc (3 * n) k))
 
-pub all_near : (n k : ℕ) → n ≤ MOST_JOBS → 0 < k → k < 4294967296
+pub all_near : (n k : ℕ) → n ≤ most_jobs → 0 < k → k < 4294967296
     → 3 * n * (k - 1) + 3 * n < 4611686018427387904
 all_near n k few some near =
     let whole : 3 * n * k ≤ 3 * n * 4294967296 =
@@ -246,11 +231,12 @@ job_ok n numbers all j lt = (
       refl,
 )
 
-pub whole_judged : (n : ℕ) (numbers : List ℤ) → 0 < n → n ≤ MOST_JOBS → AreInRange n numbers
-    → IsInstance (record { jobs = jobs_of n numbers; arcs = []; machines = None })
+pub whole_judged : (n : ℕ) (numbers : List ℤ) → 0 < n → n ≤ most_jobs → AreInRange n numbers
+    → IsInstance (record { jobs = tardiness_jobs n numbers; arcs = []; machines = None })
 whole_judged n numbers some few all =
-    let count : length (jobs_of n numbers) ≡ n = length-map-range_with_len (job n numbers) 0 n in
-    is_instance (record { jobs = jobs_of n numbers; arcs = []; machines = None }) (record {
+    let count : length (tardiness_jobs n numbers) ≡ n =
+    length-map-range_with_len (job n numbers) 0 n in
+    is_instance (record { jobs = tardiness_jobs n numbers; arcs = []; machines = None }) (record {
       some = omega (arith, count);
       few = omega (arith, count);
       machines = refl;

@@ -10,7 +10,7 @@ use Rattle.tf_read.specs.declared.fault.ReadFault.{ReadFault}
 use Rattle.tf_model.specs.Outcome.{◌>>=◌}
 use Rattle.tf_read.specs.Faults.{each_from}
 use Rattle.tf_words.specs.Scan.{IsOf}
-use Rattle.tf_read.specs.WeightedTardiness.{number_at, judged}
+use Rattle.tf_read.specs.WeightedTardiness.{tardiness_number_read, tardiness_number}
 use Rattle.tf_read.specs.Numbers.{Progress, skipped, wanted, Holds, HasRead}
 use Rattle.tf_read.proofs.Judged.{each_cons, each_none}
 
@@ -79,7 +79,7 @@ stays_fault read m xs x e h = elim (cases_lt (length xs) m) [
   | inr le ↦ ap (each_from read 0) (full m xs x le) ∙ h
 ]
 
--- the number of words that were judged
+-- the number of words that were tardiness_number
 pub counted : {X Y : Type 0} (read : ℕ → X → Result Y ReadFault) (m : ℕ) (xs : List X) (ys : List Y)
     → each_from read 0 (take m xs) ≡ Ok ys → length ys ≡ min m (length xs)
 counted read m xs ys h = each_length read 0 (take m xs) ys h ∙ length-take m xs
@@ -109,12 +109,12 @@ stays_with read m c xs x all le count h =
 
 stays : (fault : Option ReadFault) (p : Progress) (seen : List Word) (word : Word)
     → (is_some fault || leb (wanted p) p.count) ≡ true
-    → Holds fault p (each_from (judged p.jobs) 0 (take (wanted p) seen))
-    → Holds fault p (each_from (judged p.jobs) 0 (take (wanted p) (seen ++ word ∷ [])))
-stays (Some e) p seen word over h = stays_fault (judged p.jobs) (wanted p) seen word e h
+    → Holds fault p (each_from (tardiness_number p.jobs) 0 (take (wanted p) seen))
+    → Holds fault p (each_from (tardiness_number p.jobs) 0 (take (wanted p) (seen ++ word ∷ [])))
+stays (Some e) p seen word over h = stays_fault (tardiness_number p.jobs) (wanted p) seen word e h
 stays None p seen word over h = (
   h.0,
-  stays_with (judged p.jobs) (wanted p) p.count seen word h.0
+  stays_with (tardiness_number p.jobs) (wanted p) p.count seen word h.0
       (leb-true (wanted p) p.count over) h.2 h.1,
   h.2,
   h.3,
@@ -126,25 +126,25 @@ pub unchanged : (p : Progress) (seen : List Word) (word : Word)
 unchanged p seen word over h = stays p.fault p seen word over h
 
 pushed : (p : Progress) (seen : List Word) (word : Word) (all : List ℤ) → p.count < wanted p
-    → p.count ≡ length all → each_from (judged p.jobs) 0 (take (wanted p) seen) ≡ Ok all
-    → each_from (judged p.jobs) 0 (take (wanted p) (seen ++ word ∷ []))
-    ≡ (judged p.jobs p.count word >>= λ z. Ok (all ++ z ∷ []))
+    → p.count ≡ length all → each_from (tardiness_number p.jobs) 0 (take (wanted p) seen) ≡ Ok all
+    → each_from (tardiness_number p.jobs) 0 (take (wanted p) (seen ++ word ∷ []))
+    ≡ (tardiness_number p.jobs p.count word >>= λ z. Ok (all ++ z ∷ []))
 pushed p seen word all lt count h =
-    pushed_with (judged p.jobs) (wanted p) p.count seen word all lt count h
+    pushed_with (tardiness_number p.jobs) (wanted p) p.count seen word all lt count h
 
 -- the word's number by its line and its value
 read_as : (n i line : ℕ) (read : Number) (word : Word) (r : Result ℤ ReadFault)
-    → IsOf word line read → number_at n i line read ≡ r → judged n i word ≡ r
+    → IsOf word line read → tardiness_number_read n i line read ≡ r → tardiness_number n i word ≡ r
 read_as n i line read word r of h =
-    ap (λ (l : ℕ). number_at n i l (number word.bytes)) (sym of.line_is)
-    ∙ ap (number_at n i line) (sym of.number_is) ∙ h
+    ap (λ (l : ℕ). tardiness_number_read n i l (number word.bytes)) (sym of.line_is)
+    ∙ ap (tardiness_number_read n i line) (sym of.number_is) ∙ h
 
 fails_at : (fault : Option ReadFault) (p : Progress) (seen : List Word) (word : Word) (line : ℕ)
     (read : Number) (e : ReadFault)
     → (is_some fault || leb (wanted p) p.count) ≡ false → IsOf word line read
-    → number_at p.jobs p.count line read ≡ Err e
-    → Holds fault p (each_from (judged p.jobs) 0 (take (wanted p) seen))
-    → each_from (judged p.jobs) 0 (take (wanted p) (seen ++ word ∷ [])) ≡ Err e
+    → tardiness_number_read p.jobs p.count line read ≡ Err e
+    → Holds fault p (each_from (tardiness_number p.jobs) 0 (take (wanted p) seen))
+    → each_from (tardiness_number p.jobs) 0 (take (wanted p) (seen ++ word ∷ [])) ≡ Err e
 fails_at (Some d) p seen word line read e more of h g = cc
 fails_at None p seen word line read e more of h g =
     pushed p seen word g.0 (leb-false (wanted p) p.count more) g.2 g.1
@@ -154,7 +154,7 @@ fails_at None p seen word line read e more of h g =
 pub fails : (p : Progress) (seen : List Word) (word : Word) (line : ℕ) (read : Number)
     (e : ReadFault)
     → (is_some p.fault || leb (wanted p) p.count) ≡ false → IsOf word line read
-    → number_at p.jobs p.count line read ≡ Err e → HasRead p seen
+    → tardiness_number_read p.jobs p.count line read ≡ Err e → HasRead p seen
     → HasRead (record p { fault = Some e }) (seen ++ word ∷ [])
 fails p seen word line read e more of h g = fails_at p.fault p seen word line read e more of h g
 
@@ -173,14 +173,14 @@ kept skipped count numbers all z c n = elim (cases_Bool (leb skipped count)) [
 keeps_at : (fault : Option ReadFault) (p : Progress) (seen : List Word) (word : Word) (line : ℕ)
     (read : Number) (z : ℤ)
     → (is_some fault || leb (wanted p) p.count) ≡ false → IsOf word line read
-    → number_at p.jobs p.count line read ≡ Ok z
-    → Holds fault p (each_from (judged p.jobs) 0 (take (wanted p) seen))
+    → tardiness_number_read p.jobs p.count line read ≡ Ok z
+    → Holds fault p (each_from (tardiness_number p.jobs) 0 (take (wanted p) seen))
     → Holds fault
     (record p {
       count = p.count + 1;
       numbers = cond (leb (skipped p) p.count) (p.numbers ++ z ∷ []) p.numbers;
     })
-    (each_from (judged p.jobs) 0 (take (wanted p) (seen ++ word ∷ [])))
+    (each_from (tardiness_number p.jobs) 0 (take (wanted p) (seen ++ word ∷ [])))
 keeps_at (Some d) p seen word line read z more of h g = absurd (let f : ⊥ = cc in f)
 keeps_at None p seen word line read z more of h g = (
   g.0 ++ z ∷ [],
@@ -192,7 +192,7 @@ keeps_at None p seen word line read z more of h g = (
 
 pub keeps : (p : Progress) (seen : List Word) (word : Word) (line : ℕ) (read : Number) (z : ℤ)
     → (is_some p.fault || leb (wanted p) p.count) ≡ false → IsOf word line read
-    → number_at p.jobs p.count line read ≡ Ok z → HasRead p seen
+    → tardiness_number_read p.jobs p.count line read ≡ Ok z → HasRead p seen
     → HasRead (record
     p {
       count = p.count + 1;
@@ -207,7 +207,7 @@ pub none_read : (jobs index : ℕ)
 unfolding each_from
 none_read jobs index = (
   [],
-  ap (each_from (judged jobs) 0) (all_of (3 * jobs * index) [] (omega arith)),
+  ap (each_from (tardiness_number jobs) 0) (all_of (3 * jobs * index) [] (omega arith)),
   refl,
   sym (drop_of_length-le [] (omega arith)),
 )

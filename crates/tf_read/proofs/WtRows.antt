@@ -5,7 +5,7 @@ use Rattle.tf_words.specs.Digits.{numeral}
 use Rattle.tf_words.specs.Number.{number}
 use Rattle.tf_model.specs.JobFields.{JobFields}
 use Rattle.tf_model.specs.declared.job.Times.TheVariants.{One}
-use Rattle.tf_model.specs.declared.limit.TheConstants.{MOST_JOBS}
+use Rattle.tf_model.specs.Limit.{most_jobs}
 use Rattle.tf_read.specs.declared.fault.ReadFault.TheVariants.{EndsEarly, NoInstance, Negative, NoJobs, TooManyJobs, BadNumber, NumberTooLarge}
 use Rattle.tf_read.specs.Faults.{each_from}
 use Rattle.tf_read.specs.WeightedTardiness.{instance_of, weighted_tardiness}
@@ -56,7 +56,7 @@ unfolding weighted_tardiness instance_of each_from placed_words words_from words
     numeral
 no_jobs = refl
 
-too_many : weighted_tardiness (MOST_JOBS + 1) 1 text ≡ Err TooManyJobs
+too_many : weighted_tardiness (most_jobs + 1) 1 text ≡ Err TooManyJobs
 unfolding weighted_tardiness instance_of each_from placed_words words_from words lines number
     numeral
 too_many = refl

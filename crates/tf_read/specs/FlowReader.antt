@@ -1,6 +1,6 @@
 -- A reader of a flow shop, to which a text is fed.
 use Rattle.std.specs.Prelude.{◌≡◌, ℕ, ◌+◌, ◌≤◌, List, ◌++◌, length, min}
-use Rattle.tf_model.specs.declared.limit.TheConstants.{MOST_BYTES}
+use Rattle.tf_model.specs.Limit.{most_bytes}
 use Rattle.tf_read.specs.declared.flow_shop.FlowReader.{FlowReader}
 use Rattle.tf_read.specs.FlowShop.{flow_shop}
 use Rattle.tf_read.specs.FlowStage.{HasTaken}
@@ -12,8 +12,8 @@ pub record HasFed {A : Type 0} (reader : FlowReader A) (says : TextSays) (fed : 
   where
     pub wanted : (text : List ℕ)
         → says text ≡ flow_shop reader.wanted.name.now reader.wanted.pair text
-    pub length_is : reader.length.bytes ≡ min (length fed) (MOST_BYTES + 1)
-    pub taken : length fed ≤ MOST_BYTES
+    pub length_is : reader.length.bytes ≡ min (length fed) (most_bytes + 1)
+    pub taken : length fed ≤ most_bytes
         → HasTaken reader.wanted.name.now reader.wanted.pair reader.stage fed
 
 -- whatever is wanted and was fed before, the piece was fed since

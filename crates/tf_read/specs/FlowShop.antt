@@ -8,7 +8,7 @@ use Rattle.tf_words.specs.Words.{Word, words, lines, words_from}
 use Rattle.tf_model.specs.JobFields.{JobFields}
 use Rattle.tf_model.specs.InstanceData.{InstanceData}
 use Rattle.tf_model.specs.declared.job.Times.TheVariants.{One, Two}
-use Rattle.tf_model.specs.declared.limit.TheConstants.{MOST_BYTES, MOST_JOBS, MOST_MACHINES}
+use Rattle.tf_model.specs.Limit.{most_bytes, most_jobs, most_machines}
 use Rattle.tf_words.specs.declared.number.Number.{Number}
 use Rattle.tf_words.specs.declared.number.Number.TheVariants.{NotANumber, TooLarge, Value}
 use Rattle.tf_read.specs.declared.fault.ReadFault.{ReadFault}
@@ -31,26 +31,26 @@ machine_is wanted line TooLarge = Err (NotAFlowShop line)
 machine_is wanted line (Value (negsuc i)) = Err (NotAFlowShop line)
 machine_is wanted line (Value (pos i)) = if i == wanted then Ok (pos i) else Err (NotAFlowShop line)
 
-abbrev pub number_at : ℕ → ℕ → ℕ → Number → Result ℤ ReadFault
-number_at machines i line read =
+abbrev pub shop_number_read : ℕ → ℕ → ℕ → Number → Result ℤ ReadFault
+shop_number_read machines i line read =
     if is_time i then natural line read else machine_is (machine_at machines i) line read
 
-abbrev pub judged : ℕ → ℕ → Word → Result ℤ ReadFault
-judged machines i word = number_at machines i word.line (number word.bytes)
+abbrev pub shop_number : ℕ → ℕ → Word → Result ℤ ReadFault
+shop_number machines i word = shop_number_read machines i word.line (number word.bytes)
 
 -- the machines whose times are kept
-abbrev pub first_machine : Option (ℕ × ℕ) → ℕ
-first_machine None = 0
-first_machine (Some pair) = pair.0
+abbrev pub first_kept : Option (ℕ × ℕ) → ℕ
+first_kept None = 0
+first_kept (Some pair) = pair.0
 
 -- where there is but one machine, it is both
-abbrev pub second_machine : ℕ → Option (ℕ × ℕ) → ℕ
-second_machine machines None = if machines == 1 then 0 else 1
-second_machine machines (Some pair) = pair.1
+abbrev pub second_kept : ℕ → Option (ℕ × ℕ) → ℕ
+second_kept machines None = if machines == 1 then 0 else 1
+second_kept machines (Some pair) = pair.1
 
-abbrev pub machine_count : ℕ → Option (ℕ × ℕ) → ℕ
-machine_count machines None = machines
-machine_count machines (Some pair) = 2
+abbrev pub machines_kept : ℕ → Option (ℕ × ℕ) → ℕ
+machines_kept machines None = machines
+machines_kept machines (Some pair) = 2
 
 -- the number at a place
 abbrev pub at : List ℤ → ℕ → ℤ
@@ -76,30 +76,30 @@ job machines first second numbers j =
     job_with machines (at numbers (time_place machines first j))
     (at numbers (time_place machines second j))
 
-abbrev pub jobs_of : ℕ → ℕ → ℕ → ℕ → List ℤ → List JobFields
-jobs_of jobs machines first second numbers =
+abbrev pub shop_jobs : ℕ → ℕ → ℕ → ℕ → List ℤ → List JobFields
+shop_jobs jobs machines first second numbers =
     map (job machines first second numbers) (range_with_len 0 jobs)
 
 -- the instance, where all its numbers are there
-abbrev pub present : ℕ → ℕ → Option (ℕ × ℕ) → List ℤ → Result InstanceData ReadFault
-present jobs machines pair numbers =
+abbrev pub shop_of : ℕ → ℕ → Option (ℕ × ℕ) → List ℤ → Result InstanceData ReadFault
+shop_of jobs machines pair numbers =
     if nat_lt (length numbers) (2 * jobs * machines) then Err EndsEarly
     else Ok (record {
-      jobs = jobs_of jobs machines (first_machine pair) (second_machine machines pair) numbers;
+      jobs = shop_jobs jobs machines (first_kept pair) (second_kept machines pair) numbers;
       arcs = [];
-      machines = Some (machine_count machines pair);
+      machines = Some (machines_kept machines pair);
     })
 
 -- for each job and each machine the machine and the time, however the lines are broken
 unfoldable pub pairs_of : ℕ → ℕ → Option (ℕ × ℕ) → List Word → Result InstanceData ReadFault
 pairs_of jobs machines pair words =
-    each_from (judged machines) 0 (take (2 * jobs * machines) words)
-    >>= λ numbers. present jobs machines pair numbers
+    each_from (shop_number machines) 0 (take (2 * jobs * machines) words)
+    >>= λ numbers. shop_of jobs machines pair numbers
 
 -- two machines that are there, and not the same
-abbrev pub is_pair : ℕ → Option (ℕ × ℕ) → Bool
-is_pair machines None = true
-is_pair machines (Some pair) =
+abbrev pub are_machines : ℕ → Option (ℕ × ℕ) → Bool
+are_machines machines None = true
+are_machines machines (Some pair) =
     not (pair.0 == pair.1) && nat_lt pair.0 machines && nat_lt pair.1 machines
 
 -- a size of digits alone; of those above the limit each is as good as another
@@ -113,9 +113,9 @@ size (Value (negsuc n)) = 0
 unfoldable pub sized : Option (ℕ × ℕ) → ℕ → ℕ → ℕ → List Word → Result InstanceData ReadFault
 sized pair line jobs machines words =
     if jobs == 0 then Err NoJobs
-    else if nat_lt MOST_JOBS jobs then Err TooManyJobs
-    else if machines == 0 || nat_lt MOST_MACHINES machines then Err (BadLine line)
-    else if not (is_pair machines pair) then Err BadPair
+    else if nat_lt most_jobs jobs then Err TooManyJobs
+    else if machines == 0 || nat_lt most_machines machines then Err (BadLine line)
+    else if not (are_machines machines pair) then Err BadPair
     else pairs_of jobs machines pair words
 
 -- two words of digits alone
@@ -139,17 +139,17 @@ from_sizes pair n (line ∷ more) =
     at_sizes pair n (sizes_in (words line)) more (from_sizes pair (n + 1) more)
 
 -- exactly `instance` and the name
-abbrev pub is_heading : List ℕ → List (List ℕ) → Bool
-is_heading name words = pointwise bytes_eq words (codes "instance" ∷ name ∷ [])
+abbrev pub is_name_line : List ℕ → List (List ℕ) → Bool
+is_name_line name words = pointwise bytes_eq words (codes "instance" ∷ name ∷ [])
 
 -- from the first heading of the name on
 unfoldable pub from_heading : List ℕ → Option (ℕ × ℕ) → ℕ → List (List ℕ)
     → Result InstanceData ReadFault
 from_heading name pair n [] = Err NoInstance
 from_heading name pair n (line ∷ more) =
-    if is_heading name (words line) then from_sizes pair (n + 1) more else from_heading name pair
-    (n + 1) more
+    if is_name_line name (words line) then from_sizes pair (n + 1) more
+    else from_heading name pair (n + 1) more
 
 unfoldable pub flow_shop : List ℕ → Option (ℕ × ℕ) → List ℕ → Result InstanceData ReadFault
 flow_shop name pair text =
-    if nat_lt MOST_BYTES (length text) then Err TooLong else from_heading name pair 1 (lines text)
+    if nat_lt most_bytes (length text) then Err TooLong else from_heading name pair 1 (lines text)

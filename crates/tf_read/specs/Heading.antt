@@ -5,7 +5,7 @@ use Rattle.tf_read.specs.declared.heading.HeadingWord.{HeadingWord}
 use Rattle.tf_read.specs.declared.heading.HeadingWord.TheVariants.{Instance, Name}
 use Rattle.tf_read.specs.declared.heading.HeadingLine.{HeadingLine}
 use Rattle.tf_read.specs.declared.heading.HeadingLine.TheVariants.{Spelled, Whole, Other}
-use Rattle.tf_read.specs.FlowShop.{is_heading}
+use Rattle.tf_read.specs.FlowShop.{is_name_line}
 use Rattle.tf_read.specs.PresentLine.{IsInLine}
 
 abbrev pub spelling : HeadingWord → List ℕ → List ℕ
@@ -21,4 +21,4 @@ abbrev pub HeadingShown : List ℕ → List ℕ → HeadingLine → Type 0
 HeadingShown name bytes (Spelled word matched) = (matched ≤ length (spelling word name))
     × IsInLine bytes (words_before word) (take matched (spelling word name))
 HeadingShown name bytes Whole = IsInLine bytes (codes "instance" ∷ name ∷ []) []
-HeadingShown name bytes Other = (more : List ℕ) → is_heading name (words (bytes ++ more)) ≡ false
+HeadingShown name bytes Other = (more : List ℕ) → is_name_line name (words (bytes ++ more)) ≡ false

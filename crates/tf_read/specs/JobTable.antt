@@ -7,7 +7,7 @@ use Rattle.tf_words.specs.Number.{number, plain}
 use Rattle.tf_words.specs.Words.{Line, lines, first_is, kept_from}
 use Rattle.tf_model.specs.JobFields.{JobFields}
 use Rattle.tf_model.specs.InstanceData.{InstanceData, is_no_job}
-use Rattle.tf_model.specs.declared.limit.TheConstants.{MOST_BYTES, MOST_JOBS, MOST_MACHINES, MOST_ARCS}
+use Rattle.tf_model.specs.Limit.{most_bytes, most_jobs, most_machines, most_arcs}
 use Rattle.tf_words.specs.declared.number.Number.{Number}
 use Rattle.tf_words.specs.declared.number.Number.TheVariants.{NotANumber, TooLarge, Value}
 use Rattle.tf_read.specs.declared.fault.ReadFault.{ReadFault}
@@ -17,33 +17,34 @@ use Rattle.tf_read.specs.Faults.{each_from}
 use Rattle.tf_read.specs.JobLine.{fields_at, no_fields}
 
 -- `machines m`, with m from 1 to the most machines
-abbrev pub machine_count : ℕ → Number → Result ℕ ReadFault
-machine_count line NotANumber = Err (BadNumber line)
-machine_count line TooLarge = Err (BadLine line)
-machine_count line (Value (negsuc m)) = Err (BadLine line)
-machine_count line (Value (pos m)) =
-    if nat_le 1 m && nat_le m MOST_MACHINES then Ok m else Err (BadLine line)
+abbrev pub machines_named : ℕ → Number → Result ℕ ReadFault
+machines_named line NotANumber = Err (BadNumber line)
+machines_named line TooLarge = Err (BadLine line)
+machines_named line (Value (negsuc m)) = Err (BadLine line)
+machines_named line (Value (pos m)) =
+    if nat_le 1 m && nat_le m most_machines then Ok m else Err (BadLine line)
 
 unfoldable pub machines_at : ℕ → List (List ℕ) → Result ℕ ReadFault
 machines_at line [] = Err (BadLine line)
-machines_at line (word ∷ []) = machine_count line (number word)
+machines_at line (word ∷ []) = machines_named line (number word)
 machines_at line (word ∷ other ∷ more) = Err (BadLine line)
 
-abbrev pub is_number : ℕ → Option ℕ → Bool
-is_number k None = false
-is_number k (Some n) = n == k
+abbrev pub is_job_number : ℕ → Option ℕ → Bool
+is_job_number k None = false
+is_job_number k (Some n) = n == k
 
 -- the number k without leading zeros, and the fields
 abbrev pub numbered_job : ℕ → ℕ → List (List ℕ) → Result JobFields ReadFault
 numbered_job line k [] = Err (BadLine line)
 numbered_job line k (word ∷ more) =
-    if is_number k (plain MOST_JOBS word) then fields_at line no_fields more else Err (BadLine line)
+    if is_job_number k (plain most_jobs word) then fields_at line no_fields more
+    else Err (BadLine line)
 
 -- the line of job k
-unfoldable pub job_at : ℕ → Line → Result JobFields ReadFault
-job_at k line =
+unfoldable pub job_line : ℕ → Line → Result JobFields ReadFault
+job_line k line =
     if not (first_is (codes "job") line.words) then Err (BadLine line.number)
-    else if nat_lt MOST_JOBS k then Err TooManyJobs
+    else if nat_lt most_jobs k then Err TooManyJobs
     else numbered_job line.number k (drop 1 line.words)
 
 -- a line `prec ..`
@@ -67,30 +68,30 @@ arc_of jobs line (a ∷ b ∷ []) =
 arc_of jobs line (a ∷ b ∷ c ∷ more) = Err (BadLine line)
 
 -- the line of arc k
-unfoldable pub arc_at : ℕ → ℕ → Line → Result (ℕ × ℕ) ReadFault
-arc_at jobs k line =
+unfoldable pub arc_line : ℕ → ℕ → Line → Result (ℕ × ℕ) ReadFault
+arc_line jobs k line =
     if not (is_arc line) then Err (BadLine line.number)
-    else if nat_lt MOST_ARCS k then Err TooManyArcs
+    else if nat_lt most_arcs k then Err TooManyArcs
     else arc_of jobs line.number (drop 1 line.words)
 
 -- what is missing where no job is there
-abbrev pub no_job : List Line → ReadFault
-no_job [] = NoJobs
-no_job (line ∷ more) = BadLine line.number
+abbrev pub without_jobs : List Line → ReadFault
+without_jobs [] = NoJobs
+without_jobs (line ∷ more) = BadLine line.number
 
 -- a line for each arc, behind one job or more
 unfoldable pub arcs_of : ℕ → List Line → Result (List (ℕ × ℕ)) ReadFault
-arcs_of jobs all = if jobs == 0 then Err (no_job all) else each_from (arc_at jobs) 1 all
+arcs_of jobs all = if jobs == 0 then Err (without_jobs all) else each_from (arc_line jobs) 1 all
 
 -- from the first element that passes on
-abbrev pub from_first : {X : Type 0} → (X → Bool) → List X → List X
-from_first p xs = drop (position_or_len p xs) xs
+abbrev pub since_first : {X : Type 0} → (X → Bool) → List X → List X
+since_first p xs = drop (position_or_len p xs) xs
 
 -- a line for each job up to the first arc, and then the arcs
 unfoldable pub body_of : Option ℕ → List Line → Result InstanceData ReadFault
 body_of machines all = do
-  jobs ← each_from job_at 1 (before_first is_arc all)
-  arcs ← arcs_of (length jobs) (from_first is_arc all)
+  jobs ← each_from job_line 1 (before_first is_arc all)
+  arcs ← arcs_of (length jobs) (since_first is_arc all)
   Ok (record { jobs = jobs; arcs = arcs; machines = machines })
 
 -- at most one line `machines m` before them
@@ -102,15 +103,15 @@ below_heading (line ∷ more) =
     else body_of None (line ∷ more)
 
 -- the heading is exactly `table 1`
-abbrev pub is_heading : List (List ℕ) → Bool
-is_heading words = pointwise bytes_eq words (codes "table" ∷ codes "1" ∷ [])
+abbrev pub is_table_heading : List (List ℕ) → Bool
+is_table_heading words = pointwise bytes_eq words (codes "table" ∷ codes "1" ∷ [])
 
 unfoldable pub table_of : List Line → Result InstanceData ReadFault
 table_of [] = Err EndsEarly
 table_of (heading ∷ more) =
-    if is_heading heading.words then below_heading more else Err (BadLine heading.number)
+    if is_table_heading heading.words then below_heading more else Err (BadLine heading.number)
 
 -- a text by its kept lines
 unfoldable pub job_table : List ℕ → Result InstanceData ReadFault
 job_table text =
-    if nat_lt MOST_BYTES (length text) then Err TooLong else table_of (kept_from 1 (lines text))
+    if nat_lt most_bytes (length text) then Err TooLong else table_of (kept_from 1 (lines text))

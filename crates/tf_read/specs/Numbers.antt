@@ -7,13 +7,13 @@ use Rattle.tf_read.specs.declared.fault.ReadFault.{ReadFault}
 use Rattle.tf_read.specs.declared.fault.ReadFault.TheVariants.{NoInstance, EndsEarly}
 use Rattle.tf_read.specs.Faults.{each_from}
 use Rattle.tf_read.specs.Said.{Says}
-use Rattle.tf_read.specs.WeightedTardiness.{at, judged, instance_of}
+use Rattle.tf_read.specs.WeightedTardiness.{at, tardiness_number, instance_of}
 
 -- how far the reading of the instance of this index is, where each has so many jobs
 pub record Progress : Type 0 where
   pub jobs : ℕ
   pub index : ℕ
-  pub count : ℕ  -- the words that were judged
+  pub count : ℕ  -- the words that were tardiness_number
   pub numbers : List ℤ  -- those of the instance
   pub fault : Option ReadFault
 
@@ -31,7 +31,7 @@ Holds (Some fault) p read = read ≡ Err fault
 
 -- these are the words that were read
 abbrev pub HasRead : Progress → List Word → Type 0
-HasRead p seen = Holds p.fault p (each_from (judged p.jobs) 0 (take (wanted p) seen))
+HasRead p seen = Holds p.fault p (each_from (tardiness_number p.jobs) 0 (take (wanted p) seen))
 
 -- the fault that was met, or what is missing at the end
 abbrev pub missing : Progress → Option ReadFault

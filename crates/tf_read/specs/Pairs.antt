@@ -9,7 +9,7 @@ use Rattle.tf_read.specs.declared.fault.ReadFault.{ReadFault}
 use Rattle.tf_read.specs.declared.fault.ReadFault.TheVariants.{EndsEarly}
 use Rattle.tf_read.specs.Faults.{each_from}
 use Rattle.tf_read.specs.Said.{Says}
-use Rattle.tf_read.specs.FlowShop.{at, time_place, first_machine, second_machine, job_with, judged, pairs_of}
+use Rattle.tf_read.specs.FlowShop.{at, time_place, first_kept, second_kept, job_with, shop_number, pairs_of}
 
 -- how far the reading of so many jobs on so many machines is, of which the times on this pair are
 -- kept
@@ -26,12 +26,12 @@ pub record Pairs : Type 0 where
 
 -- the machines whose times are kept
 abbrev pub first : Pairs → ℕ
-first p = first_machine p.pair
+first p = first_kept p.pair
 
 abbrev pub second : Pairs → ℕ
-second p = second_machine p.machines p.pair
+second p = second_kept p.machines p.pair
 
--- the words that were judged, and those that are wanted
+-- the words that were shop_number, and those that are wanted
 abbrev pub count : Pairs → ℕ
 count p = 2 * (p.job * p.machines + p.machine) + (if p.is_named then 1 else 0)
 
@@ -60,9 +60,9 @@ Holds (Some fault) p read = read ≡ Err fault
 
 -- these are the words that were read
 abbrev pub HasRead : Pairs → List Word → Type 0
-HasRead p seen = Holds p.fault p (each_from (judged p.machines) 0 (take (wanted p) seen))
+HasRead p seen = Holds p.fault p (each_from (shop_number p.machines) 0 (take (wanted p) seen))
 
--- with the name of a machine more, as it is judged
+-- with the name of a machine more, as it is shop_number
 abbrev pub after_name : Pairs → Result ℤ ReadFault → Pairs
 after_name p (Ok z) = record p { is_named = true }
 after_name p (Err e) = record p { fault = Some e }
@@ -74,7 +74,7 @@ with_time wanted machine times z = if machine == wanted then times ++ z ∷ [] e
 abbrev pub is_last : Pairs → Bool
 is_last p = p.machine + 1 == p.machines
 
--- with a time more, as it is judged
+-- with a time more, as it is shop_number
 abbrev pub after_time : Pairs → Result ℤ ReadFault → Pairs
 after_time p (Err e) = record p { fault = Some e }
 after_time p (Ok z) = record p {

@@ -5,12 +5,12 @@ use Rattle.std.specs.Char.{is_ascii_digit}
 use Rattle.std.specs.Str.Parse.{digits_value}
 use Rattle.tf_words.specs.Number.{limit}
 use Rattle.tf_words.specs.Words.{words}
-use Rattle.tf_model.specs.declared.limit.TheConstants.{MOST_JOBS, MOST_MACHINES}
+use Rattle.tf_model.specs.Limit.{most_jobs, most_machines}
 use Rattle.tf_read.specs.declared.fault.ReadFault.{ReadFault}
 use Rattle.tf_read.specs.declared.fault.ReadFault.TheVariants.{BadPair, BadLine, NoJobs, TooManyJobs}
 use Rattle.tf_read.specs.declared.sizes.SizesLine.{SizesLine}
 use Rattle.tf_read.specs.declared.sizes.SizesLine.TheVariants.{Blank, Jobs, Between, Machines, Both, Other}
-use Rattle.tf_read.specs.FlowShop.{is_pair, sizes_in}
+use Rattle.tf_read.specs.FlowShop.{are_machines, sizes_in}
 use Rattle.tf_read.specs.PresentLine.{IsInLine}
 
 -- the value of digits; of those above the limit each is as good as another
@@ -40,7 +40,7 @@ SizesShown bytes Other = (more : List ℕ) → sizes_in (words (bytes ++ more)) 
 abbrev pub judged_sizes : Option (ℕ × ℕ) → ℕ → ℕ × ℕ → Result (ℕ × ℕ) ReadFault
 judged_sizes pair line sizes =
     if sizes.0 == 0 then Err NoJobs
-    else if nat_lt MOST_JOBS sizes.0 then Err TooManyJobs
-    else if sizes.1 == 0 || nat_lt MOST_MACHINES sizes.1 then Err (BadLine line)
-    else if not (is_pair sizes.1 pair) then Err BadPair
+    else if nat_lt most_jobs sizes.0 then Err TooManyJobs
+    else if sizes.1 == 0 || nat_lt most_machines sizes.1 then Err (BadLine line)
+    else if not (are_machines sizes.1 pair) then Err BadPair
     else Ok sizes

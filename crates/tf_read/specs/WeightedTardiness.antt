@@ -7,7 +7,7 @@ use Rattle.tf_words.specs.Words.{Word, placed_words}
 use Rattle.tf_model.specs.JobFields.{JobFields}
 use Rattle.tf_model.specs.InstanceData.{InstanceData}
 use Rattle.tf_model.specs.declared.job.Times.TheVariants.{One}
-use Rattle.tf_model.specs.declared.limit.TheConstants.{MOST_BYTES, MOST_JOBS}
+use Rattle.tf_model.specs.Limit.{most_bytes, most_jobs}
 use Rattle.tf_words.specs.declared.number.Number.{Number}
 use Rattle.tf_read.specs.declared.fault.ReadFault.{ReadFault}
 use Rattle.tf_read.specs.declared.fault.ReadFault.TheVariants.{TooLong, EndsEarly, NoInstance, NoJobs, TooManyJobs}
@@ -16,12 +16,12 @@ use Rattle.tf_read.specs.Faults.{each_from, natural, integer}
 
 -- Of each 3n words the first 2n are times and weights, and the last n are due dates, which may be
 -- negative. Words count from 0 here.
-abbrev pub number_at : ℕ → ℕ → ℕ → Number → Result ℤ ReadFault
-number_at n i line read =
+abbrev pub tardiness_number_read : ℕ → ℕ → ℕ → Number → Result ℤ ReadFault
+tardiness_number_read n i line read =
     if nat_lt (i % (3 * n)) (2 * n) then natural line read else integer line read
 
-abbrev pub judged : ℕ → ℕ → Word → Result ℤ ReadFault
-judged n i word = number_at n i word.line (number word.bytes)
+abbrev pub tardiness_number : ℕ → ℕ → Word → Result ℤ ReadFault
+tardiness_number n i word = tardiness_number_read n i word.line (number word.bytes)
 
 -- the number at a place
 abbrev pub at : List ℤ → ℕ → ℤ
@@ -38,35 +38,36 @@ job n numbers j =
       cost = None;
     }
 
-abbrev pub jobs_of : ℕ → List ℤ → List JobFields
-jobs_of n numbers = map (job n numbers) (range_with_len 0 n)
+abbrev pub tardiness_jobs : ℕ → List ℤ → List JobFields
+tardiness_jobs n numbers = map (job n numbers) (range_with_len 0 n)
 
 -- instance k, of which these are the numbers up to its last
-abbrev pub present : ℕ → ℕ → List ℤ → Result InstanceData ReadFault
-present n k numbers =
+abbrev pub tardiness_of : ℕ → ℕ → List ℤ → Result InstanceData ReadFault
+tardiness_of n k numbers =
     if nat_le (length numbers) (3 * n * (k - 1)) then Err NoInstance
     else if nat_lt (length numbers) (3 * n * k) then Err EndsEarly
     else Ok (record {
-      jobs = jobs_of n (drop (3 * n * (k - 1)) numbers);
+      jobs = tardiness_jobs n (drop (3 * n * (k - 1)) numbers);
       arcs = [];
       machines =
           None;
     })
 
--- the words up to the last one of instance k are judged, as far as there are some
+-- the words up to the last one of instance k are tardiness_number, as far as there are some
 unfoldable pub instance_of : ℕ → ℕ → List Word → Result InstanceData ReadFault
 instance_of n k words =
-    each_from (judged n) 0 (take (3 * n * k) words) >>= λ numbers. present n k numbers
+    each_from (tardiness_number n) 0 (take (3 * n * k) words)
+    >>= λ numbers. tardiness_of n k numbers
 
 -- why no text has instance k of n jobs
 abbrev pub request_fault : ℕ → ℕ → Option ReadFault
 request_fault n k =
     if n == 0 then Some NoJobs
-    else if nat_lt MOST_JOBS n then Some TooManyJobs
+    else if nat_lt most_jobs n then Some TooManyJobs
     else if k == 0 then Some NoInstance
     else None
 
 unfoldable pub weighted_tardiness : ℕ → ℕ → List ℕ → Result InstanceData ReadFault
 weighted_tardiness n k text =
-    if nat_lt MOST_BYTES (length text) then Err TooLong
+    if nat_lt most_bytes (length text) then Err TooLong
     else unless (request_fault n k) (instance_of n k (placed_words text))

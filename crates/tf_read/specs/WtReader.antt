@@ -1,6 +1,6 @@
 -- A reader of a weighted tardiness instance, to which a text is fed.
 use Rattle.std.specs.Prelude.{◌≡◌, ℕ, ◌+◌, ◌≤◌, List, ◌++◌, length, min}
-use Rattle.tf_model.specs.declared.limit.TheConstants.{MOST_BYTES}
+use Rattle.tf_model.specs.Limit.{most_bytes}
 use Rattle.tf_read.specs.declared.weighted_tardiness.WtReader.{WtReader}
 use Rattle.tf_read.specs.Said.{TextSays}
 use Rattle.tf_read.specs.WeightedTardiness.{weighted_tardiness}
@@ -12,8 +12,8 @@ pub record HasFed {A : Type 0} (reader : WtReader A) (says : TextSays) (fed : Li
   pub jobs : ℕ
   pub index : ℕ
   pub wanted : (text : List ℕ) → says text ≡ weighted_tardiness jobs index text
-  pub length_is : reader.length.bytes ≡ min (length fed) (MOST_BYTES + 1)
-  pub taken : length fed ≤ MOST_BYTES → HasTaken jobs index reader.reading fed
+  pub length_is : reader.length.bytes ≡ min (length fed) (most_bytes + 1)
+  pub taken : length fed ≤ most_bytes → HasTaken jobs index reader.reading fed
 
 -- whatever is wanted and was fed before, the piece was fed since
 abbrev pub Takes : {A : Type 0} → WtReader A → List ℕ → WtReader A → Type 0

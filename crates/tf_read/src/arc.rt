@@ -4,7 +4,7 @@ ghost use Rattle.tf_words.specs.Number.{number};
 ghost use Rattle.tf_words.specs.Words.{words};
 ghost use Rattle.tf_words.specs.Lines.{word_line_of, word_lines_of};
 ghost use Rattle.tf_read.specs.Faults.{Gives, each_from};
-ghost use Rattle.tf_read.specs.JobTable.{is_arc, arc_job, arc_of, arc_at, no_job, arcs_of};
+ghost use Rattle.tf_read.specs.JobTable.{is_arc, arc_job, arc_of, arc_line, without_jobs, arcs_of};
 
 use crate::fault::ReadFault;
 use crate::room::room_for;
@@ -59,9 +59,9 @@ pub(crate) fn is_arc(line: &Line<'_>) -> bool
     behind_key(line.bytes, b"prec").is_some()
 }
 
-#[tactic(auto, unfolding(crate::specs::JobTable::arc_at))]
+#[tactic(auto, unfolding(crate::specs::JobTable::arc_line))]
 fn arc_at(jobs: u32, k: usize, line: &Line<'_>) -> Result<(JobId, JobId), ReadFault>
-    ensures { result ≡ arc_at jobs k (word_line_of line.now) }
+    ensures { result ≡ arc_line jobs k (word_line_of line.now) }
 {
     let Some(text) = behind_key(line.bytes, b"prec") else {
         return Err(ReadFault::BadLine(line.number));
@@ -77,7 +77,7 @@ fn arcs_from<A: Allocator>(
     jobs: u32,
     lines: &Lines<'_>,
 ) -> Result<Vec<(JobId, JobId), A>, ReadFault>
-    ensures { Gives (λ v. v.items) result (each_from (arc_at jobs) 1 (word_lines_of lines.now)) }
+    ensures { Gives (λ v. v.items) result (each_from (arc_line jobs) 1 (word_lines_of lines.now)) }
 {
     let room = room_for(lines.bytes_left(), SHORTEST_LINE, MOST_ARCS);
     let mut arcs = Vec::with_capacity(alloc, room)?;
@@ -91,7 +91,7 @@ fn arcs_from<A: Allocator>(
 }
 
 fn no_job(lines: &Lines<'_>) -> ReadFault
-    ensures { result ≡ no_job (word_lines_of lines.now) }
+    ensures { result ≡ without_jobs (word_lines_of lines.now) }
 {
     match lines.split_first() {
         None => ReadFault::NoJobs,

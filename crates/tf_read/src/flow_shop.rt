@@ -28,7 +28,7 @@ pub struct FlowReader<'a, A: Allocator = Global> {
 
 impl<'a, A: Allocator + Copy> FlowReader<'a, A> {
     ghost use Rattle.std.specs.Prelude.{◌≡◌, ◌<◌, List, [], ℕ, Err, length};
-    ghost use Rattle.tf_model.specs.declared.limit.TheConstants.{MOST_BYTES};
+    ghost use Rattle.tf_model.specs.Limit.{most_bytes};
     ghost use Rattle.tf_read.specs.Said.{TextSays};
     ghost use Rattle.tf_read.specs.FlowReader.{HasFed};
 
@@ -52,7 +52,7 @@ impl<'a, A: Allocator + Copy> FlowReader<'a, A> {
             Gives (λ i. i) result (says fed) }
         // A text that is too long comes before a growth that was refused.
         ensures too_long { (says : TextSays) (fed : List ℕ) → HasFed self.entry says fed →
-            MOST_BYTES < length fed → result ≡ Err ReadFault.TooLong }
+            most_bytes < length fed → result ≡ Err ReadFault.TooLong }
     {
         if self.length.is_too_long() {
             return Err(ReadFault::TooLong);

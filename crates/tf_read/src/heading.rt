@@ -1,7 +1,7 @@
 //! The heading of a flow shop, a line of `instance` and a name, byte by byte.
 ghost use Rattle.std.specs.Prelude.{◌≡◌, ℕ, List, [], ◌∷◌, ◌++◌, length, true, false};
 ghost use Rattle.tf_words.specs.Words.{words, is_white};
-ghost use Rattle.tf_read.specs.FlowShop.{is_heading};
+ghost use Rattle.tf_read.specs.FlowShop.{is_name_line};
 ghost use Rattle.tf_read.specs.Heading.{spelling, HeadingShown};
 
 use tf_words::word::is_white;
@@ -70,7 +70,7 @@ fn ended(word: HeadingWord, matched: usize, len: usize) -> HeadingLine
 /// Whether the word is the name and all of it is there.
 fn is_whole(word: HeadingWord, matched: usize, name: &[u8]) -> bool
     ensures { (bytes : List ℕ) → HeadingShown name.now bytes (HeadingLine.Spelled word matched) →
-        result ≡ is_heading name.now (words bytes) }
+        result ≡ is_name_line name.now (words bytes) }
 {
     match word {
         HeadingWord::Instance => false,
@@ -114,7 +114,7 @@ impl HeadingLine {
     /// Whether the line is a heading, where it ends here.
     pub(crate) fn is_heading(self, name: &[u8]) -> bool
         ensures { (bytes : List ℕ) → HeadingShown name.now bytes self →
-            result ≡ is_heading name.now (words bytes) }
+            result ≡ is_name_line name.now (words bytes) }
     {
         match self {
             HeadingLine::Whole => true,

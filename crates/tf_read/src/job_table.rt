@@ -6,7 +6,7 @@ ghost use Rattle.tf_words.specs.Lines.{word_line_of, word_lines_of};
 ghost use Rattle.tf_words.specs.Number.{number};
 ghost use Rattle.tf_model.specs.InstanceData.{count_fault};
 ghost use Rattle.tf_read.specs.Faults.{Gives, each_from};
-ghost use Rattle.tf_read.specs.JobTable.{machine_count, machines_at, job_at, is_arc, from_first, body_of, below_heading, is_heading, job_table};
+ghost use Rattle.tf_read.specs.JobTable.{machines_named, machines_at, job_line, is_arc, since_first, body_of, below_heading, is_table_heading, job_table};
 
 use crate::arc::{arcs_of, is_arc};
 use crate::fault::ReadFault;
@@ -24,7 +24,7 @@ use tf_words::word::{behind_key, first_word, is};
 const SHORTEST_LINE: usize = 10;
 
 fn machine_count(line: u32, word: &[u8]) -> Result<u32, ReadFault>
-    ensures { result ≡ machine_count line (number word.now) }
+    ensures { result ≡ machines_named line (number word.now) }
 {
     match number_of(word) {
         Number::NotANumber => Err(ReadFault::BadNumber(line)),
@@ -52,9 +52,9 @@ fn machines_at(line: u32, text: &[u8]) -> Result<u32, ReadFault>
     }
 }
 
-#[tactic(auto, unfolding(crate::specs::JobTable::job_at))]
+#[tactic(auto, unfolding(crate::specs::JobTable::job_line))]
 fn job_at<A: Allocator + Copy>(alloc: A, k: u32, line: &Line<'_>) -> Result<Job<A>, ReadFault>
-    ensures { Gives (λ j. j) result (job_at k (word_line_of line.now)) }
+    ensures { Gives (λ j. j) result (job_line k (word_line_of line.now)) }
 {
     let Some(text) = behind_key(line.bytes, b"job") else {
         return Err(ReadFault::BadLine(line.number));
@@ -77,9 +77,9 @@ fn jobs_of<'a, A: Allocator + Copy>(
     lines: &Lines<'a>,
 ) -> Result<(Vec<Job<A>, A>, Lines<'a>), ReadFault>
     ensures jobs { Gives (λ x. x.0.items) result
-        (each_from job_at 1 (before_first is_arc (word_lines_of lines.now))) }
+        (each_from job_line 1 (before_first is_arc (word_lines_of lines.now))) }
     ensures rest { IfOk result
-        (λ x. word_lines_of x.1 ≡ from_first is_arc (word_lines_of lines.now)) }
+        (λ x. word_lines_of x.1 ≡ since_first is_arc (word_lines_of lines.now)) }
 {
     let room = room_for(lines.bytes_left(), SHORTEST_LINE, MOST_JOBS);
     let mut jobs = Vec::with_capacity(alloc, room)?;
@@ -96,7 +96,7 @@ fn jobs_of<'a, A: Allocator + Copy>(
 }
 
 fn is_heading(line: &Line<'_>) -> bool
-    ensures { result ≡ is_heading (words line.now.bytes.now) }
+    ensures { result ≡ is_table_heading (words line.now.bytes.now) }
 {
     match behind_key(line.bytes, b"table") {
         None => false,

@@ -1,6 +1,6 @@
 //! How long a text is that comes in pieces.
 ghost use Rattle.std.specs.Prelude.{◌≡◌, ◌+◌, ◌≤◌, min, nat_le, nat_lt};
-ghost use Rattle.tf_model.specs.declared.limit.TheConstants.{MOST_BYTES};
+ghost use Rattle.tf_model.specs.Limit.{most_bytes};
 
 use tf_model::limit::MOST_BYTES;
 
@@ -8,7 +8,7 @@ use tf_model::limit::MOST_BYTES;
 #[derive(Clone, Copy, Debug)]
 pub(crate) struct Length {
     pub bytes: usize,
-    pub ghost within: { bytes ≤ MOST_BYTES + 1 },
+    pub ghost within: { bytes ≤ most_bytes + 1 },
 }
 
 impl Length {
@@ -21,7 +21,7 @@ impl Length {
 
     /// With so many bytes more.
     pub(crate) fn grow(&mut self, more: usize)
-        ensures { self.new.bytes ≡ min (self.old.bytes + more) (MOST_BYTES + 1) }
+        ensures { self.new.bytes ≡ min (self.old.bytes + more) (most_bytes + 1) }
     {
         let left = MOST_BYTES + 1 - self.bytes;
         self.bytes += more.min(left);
@@ -29,7 +29,7 @@ impl Length {
 
     /// Whether there are more bytes than a text may have.
     pub(crate) fn is_too_long(self) -> bool
-        ensures { result ≡ nat_lt MOST_BYTES self.bytes }
+        ensures { result ≡ nat_lt most_bytes self.bytes }
     {
         self.bytes > MOST_BYTES
     }

@@ -1,11 +1,11 @@
 //! The numbers of one instance among those of a text.
 ghost use Rattle.std.specs.Prelude.{◌≡◌, ℕ, ◌+◌, ◌-◌, ◌*◌, ◌%◌, ◌^◌, ◌<◌, ◌≤◌, List, [], ◌∷◌, ◌++◌, length, Some, false, is_some, ◌||◌, nat_le, IfOk, vec_capacity, vec_len, if◌then◌else◌};
 ghost use Rattle.tf_words.specs.Words.{Word};
-ghost use Rattle.tf_model.specs.declared.limit.TheConstants.{MOST_JOBS};
+ghost use Rattle.tf_model.specs.Limit.{most_jobs};
 ghost use Rattle.tf_read.specs.Said.{Says};
 ghost use Rattle.tf_words.specs.Scan.{IsInRange};
 ghost use Rattle.tf_read.specs.Numbers.{skipped, wanted, missing, with_number, AreInRange, Reads};
-ghost use Rattle.tf_read.specs.WeightedTardiness.{number_at, job, instance_of};
+ghost use Rattle.tf_read.specs.WeightedTardiness.{tardiness_number_read, job, instance_of};
 
 use crate::fault::ReadFault;
 use crate::number::{integer_of, natural_of};
@@ -38,7 +38,7 @@ pub(crate) struct Numbers<A: Allocator> {
 
 impl<A: Allocator> Model for Numbers<A> {
     ghost use Rattle.std.specs.Prelude.{◌≡◌, ◌+◌, ◌-◌, ◌*◌, ◌%◌, ◌^◌, ◌<◌, ◌≤◌, vec_len, vec_capacity};
-    ghost use Rattle.tf_model.specs.declared.limit.TheConstants.{MOST_JOBS};
+    ghost use Rattle.tf_model.specs.Limit.{most_jobs};
     ghost use Rattle.tf_read.specs.Numbers.{Progress, AreInRange};
 
     ghost Value = { Progress };
@@ -54,7 +54,7 @@ impl<A: Allocator> Model for Numbers<A> {
 
     ghost invariant = { λ f. record {
       some : 0 < f.jobs;
-      few : f.jobs ≤ MOST_JOBS;
+      few : f.jobs ≤ most_jobs;
       before : f.skipped ≡ 3 * f.jobs * (f.index - 1);
       up_to : f.wanted ≡ 3 * f.jobs * f.index;
       own : f.wanted ≡ f.skipped + 3 * f.jobs;
@@ -75,7 +75,7 @@ impl<A: Allocator> Numbers<A> {
     where
         A: Copy,
         requires some { 0 < jobs }
-        requires few { jobs ≤ MOST_JOBS }
+        requires few { jobs ≤ most_jobs }
         requires from_one { 0 < index }
         requires near { index < 2 ^ 32 }
         ensures { IfOk result (λ p. Reads p (instance_of jobs index) []) }
@@ -106,7 +106,7 @@ impl<A: Allocator> Numbers<A> {
     fn number(&self, line: u32, number: Number) -> Result<i64, ReadFault>
         requires wanted { self.now.count < wanted self.now }
         requires in_range { IsInRange number }
-        ensures value { result ≡ number_at self.now.jobs self.now.count line number }
+        ensures value { result ≡ tardiness_number_read self.now.jobs self.now.count line number }
         ensures in_range { IfOk result
             (λ z. AreInRange self.now.jobs (with_number self.now z).numbers) }
     {

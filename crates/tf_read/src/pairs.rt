@@ -1,10 +1,11 @@
 //! The times of a flow shop among the words of a text.
+ghost use Rattle.tf_model.specs.Limit.{most_jobs, most_machines};
 ghost use Rattle.std.specs.Prelude.{◌≡◌, ℕ, ◌+◌, ◌-◌, ◌*◌, ◌^◌, ◌<◌, ◌≤◌, ◌==◌, List, [], ◌∷◌, ◌++◌, length, Ok, Some, None, true, false, is_some, ◌||◌, nat_le, IfOk, IsTrue, vec_len, vec_capacity, if◌then◌else◌};
 ghost use Rattle.tf_words.specs.Words.{Word};
 ghost use Rattle.tf_read.specs.Faults.{natural};
 ghost use Rattle.tf_read.specs.Said.{Says};
 ghost use Rattle.tf_words.specs.Scan.{IsInRange};
-ghost use Rattle.tf_read.specs.FlowShop.{is_pair, machine_is, first_machine, second_machine, machine_count, pairs_of};
+ghost use Rattle.tf_read.specs.FlowShop.{are_machines, machine_is, first_kept, second_kept, machines_kept, pairs_of};
 ghost use Rattle.tf_read.specs.Pairs.{Reads, IsTime, AreTimes, after_name, after_time, kept_job, missing};
 
 use crate::fault::ReadFault;
@@ -15,7 +16,6 @@ use std::alloc::{AllocError, Allocator};
 use std::marker::Model;
 use tf_model::instance::Instance;
 use tf_model::job::{Job, Times};
-use tf_model::limit::{MOST_JOBS, MOST_MACHINES};
 use tf_words::number::Number;
 
 /// The times of the jobs on two machines so far, and the first fault among the words up to the last
@@ -43,8 +43,8 @@ pub(crate) struct Pairs<A: Allocator> {
 
 impl<A: Allocator> Model for Pairs<A> {
     ghost use Rattle.std.specs.Prelude.{◌≡◌, ◌+◌, ◌<◌, ◌≤◌, false, nat_lt, vec_len, vec_capacity, if◌then◌else◌};
-    ghost use Rattle.tf_model.specs.declared.limit.TheConstants.{MOST_JOBS, MOST_MACHINES};
-    ghost use Rattle.tf_read.specs.FlowShop.{first_machine, second_machine};
+    ghost use Rattle.tf_model.specs.Limit.{most_jobs, most_machines};
+    ghost use Rattle.tf_read.specs.FlowShop.{first_kept, second_kept};
     ghost use Rattle.tf_read.specs.Pairs.{Pairs as PairsSoFar, AreTimes};
 
     ghost Value = { PairsSoFar };
@@ -65,13 +65,13 @@ impl<A: Allocator> Model for Pairs<A> {
     ghost invariant = { λ f. record {
       some : 0 < f.jobs;
       within : f.machine < f.machines;
-      machines_few : f.machines ≤ MOST_MACHINES;
-      first_is : f.first ≡ first_machine f.pair;
-      second_is : f.second ≡ second_machine f.machines f.pair;
+      machines_few : f.machines ≤ most_machines;
+      first_is : f.first ≡ first_kept f.pair;
+      second_is : f.second ≡ second_kept f.machines f.pair;
       first_there : f.first < f.machines;
       second_there : f.second < f.machines;
       few : f.job ≤ f.jobs;
-      jobs_few : f.jobs ≤ MOST_JOBS;
+      jobs_few : f.jobs ≤ most_jobs;
       over : f.jobs ≤ f.job → f.machine ≡ 0;
       over_named : f.jobs ≤ f.job → f.is_named ≡ false;
       firsts_len : vec_len f.firsts ≡ f.job + (if nat_lt f.first f.machine then 1 else 0);
@@ -105,9 +105,9 @@ fn machine_is(machine: u32, line: u32, number: Number) -> Result<i64, ReadFault>
 /// The machine whose times come first, and the one whose times come second.
 fn kept(machines: u32, pair: Option<(u32, u32)>) -> (u32, u32)
     requires some { 0 < machines }
-    requires pair { IsTrue (is_pair machines pair) }
-    ensures first { result.0 ≡ first_machine pair }
-    ensures second { result.1 ≡ second_machine machines pair }
+    requires pair { IsTrue (are_machines machines pair) }
+    ensures first { result.0 ≡ first_kept pair }
+    ensures second { result.1 ≡ second_kept machines pair }
     ensures first_there { result.0 < machines }
     ensures second_there { result.1 < machines }
 {
@@ -147,10 +147,10 @@ impl<A: Allocator> Pairs<A> {
     where
         A: Copy,
         requires some { 0 < jobs }
-        requires few { jobs ≤ MOST_JOBS }
+        requires few { jobs ≤ most_jobs }
         requires machines_some { 0 < machines }
-        requires machines_few { machines ≤ MOST_MACHINES }
-        requires pair { IsTrue (is_pair machines pair) }
+        requires machines_few { machines ≤ most_machines }
+        requires pair { IsTrue (are_machines machines pair) }
         ensures { IfOk result (λ p. Reads p (pairs_of jobs machines pair) []) }
     {
         let (first, second) = kept(machines, pair);
@@ -308,7 +308,7 @@ fn job<A: Allocator>(machines: u32, firsts: &[i64], seconds: &[i64], j: usize) -
 
 /// The number of machines of the instance.
 fn machine_count(machines: u32, pair: Option<(u32, u32)>) -> u32
-    ensures { result ≡ machine_count machines pair }
+    ensures { result ≡ machines_kept machines pair }
 {
     if pair.is_some() { 2 } else { machines }
 }

@@ -1,8 +1,9 @@
 //! The sizes of a flow shop, a line of two words of digits alone, byte by byte.
+ghost use Rattle.tf_model.specs.Limit.{most_jobs, most_machines};
 ghost use Rattle.std.specs.Prelude.{◌≡◌, ℕ, ◌<◌, ◌≤◌, List, [], ◌∷◌, ◌++◌, IfOk, IsTrue, true, false};
 ghost use Rattle.std.specs.Char.{is_ascii_digit};
 ghost use Rattle.tf_words.specs.Words.{words, is_white};
-ghost use Rattle.tf_read.specs.FlowShop.{is_pair, sizes_in};
+ghost use Rattle.tf_read.specs.FlowShop.{are_machines, sizes_in};
 ghost use Rattle.tf_read.specs.Sizes.{HasDigits, IsSize, SizesShown, judged_sizes};
 
 use crate::fault::ReadFault;
@@ -101,7 +102,7 @@ impl SizesLine {
 
 /// Whether there is such a pair among so many machines.
 fn is_pair(machines: u32, pair: Option<(u32, u32)>) -> bool
-    ensures { result ≡ is_pair machines pair }
+    ensures { result ≡ are_machines machines pair }
 {
     match pair {
         None => true,
@@ -118,10 +119,10 @@ pub(crate) fn judged_sizes(
     ensures value { result ≡ judged_sizes pair line sizes }
     ensures within { IfOk result (λ s. record {
       some : 0 < s.0;
-      few : s.0 ≤ MOST_JOBS;
+      few : s.0 ≤ most_jobs;
       machines_some : 0 < s.1;
-      machines_few : s.1 ≤ MOST_MACHINES;
-      pair : IsTrue (is_pair s.1 pair);
+      machines_few : s.1 ≤ most_machines;
+      pair : IsTrue (are_machines s.1 pair);
     }) }
 {
     let (jobs, machines) = sizes;

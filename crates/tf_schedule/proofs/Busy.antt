@@ -102,15 +102,6 @@ least_le f (p ∷ ps) j (suc k) d h own = step (eqb p.job j) (least_le f ps j k 
     step true le = omega arith
     step false le = le
 
-pub least_at_most : (f : Piece → ℕ) (ps : List Piece) (j : ℕ) → least_by f ps j ≤ limit
-least_at_most f [] j = omega arith
-least_at_most f (p ∷ ps) j = step (eqb p.job j) (least_at_most f ps j)
-  where
-    step : (b : Bool) → least_by f ps j ≤ limit
-        → cond b (min (f p) (least_by f ps j)) (least_by f ps j) ≤ limit
-    step true le = omega arith
-    step false le = le
-
 least_step : (f : Piece → ℕ) (j : ℕ) (p : Piece) (ps : List Piece) (b : Bool) → eqb p.job j ≡ b
     → cond b (min (f p) (least_by f ps j)) (least_by f ps j) < limit
     → (least_by f ps j < limit → Any (λ q. (q.job ≡ j) × (f q ≡ least_by f ps j)) ps)

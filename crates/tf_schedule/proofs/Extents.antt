@@ -177,9 +177,3 @@ module _ (ps : List Piece) (k : ℕ) (p : Piece) (in_range : k < length ps) (rea
             ]
           ];
         }
-
--- no piece yet
-pub no_extents : (ps : List Piece) (jobs : ℕ) (extents : List Extent) → length extents ≡ jobs
-    → ((k : ℕ) (d : Extent) → k < jobs → get_or extents k d ≡ no_extent)
-    → HasExtents (take 0 ps) jobs extents
-no_extents ps jobs extents len each = record { len = len; each = each }

@@ -18,19 +18,6 @@ pub record IsFoundBy (k : SchedulingTask) (counts : List ℕ) (arcs : List (ℕ 
   pub none : (j : ℕ) → IsJob k j → get_or next (j - 1) None ≡ None → (n : ℕ) (d : ℕ × ℕ) → n < i
       → n < length arcs → (get_or arcs n d).0 ≡ j → 0 < of_job counts (get_or arcs n d).1 → ⊥
 
-pub found_none : (k : SchedulingTask) (counts : List ℕ) (arcs : List (ℕ × ℕ)) (m : ℕ)
-    → m ≡ length k.jobs → IsFoundBy k counts arcs 0 (replicate m None)
-found_none k counts arcs m len = record {
-  len = length-replicate m None ∙ len;
-  found = λ j x job e. absurd
-      (no_some x
-      (sym (get_or-replicate m (j - 1) None None (omega (arith, job.0, job.1, len))) ∙ e));
-  none = λ j job e n d lt. absurd (omega arith);
-}
-  where
-    no_some : (x : ℕ) → ◌≡◌ {A = Option ℕ} None (Some x) → ⊥
-    no_some x e = cc
-
 module _ (k : SchedulingTask) (counts : List ℕ) (arcs : List (ℕ × ℕ)) (i : ℕ)
     (next : List (Option ℕ)) (lt : i < length arcs) (arc : ℕ × ℕ) (at : get_or arcs i arc ≡ arc)
     (so_far : IsFoundBy k counts arcs i next) where

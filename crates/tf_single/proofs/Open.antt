@@ -58,18 +58,6 @@ free_is k sound taken j = along k.arcs sound.arcs_in
         (along arcs (All-tail (λ arc. IsJob k arc.0 × IsJob k arc.1) a arcs all))
         (sum_by-cons (λ arc. as_one ((arc.0 == j) && not (stands_in taken arc.1))) a arcs)
 
--- at the start no job is taken
-pub arcs_at_start : (k : SchedulingTask) (j : ℕ)
-    → count_by (λ arc. arc.0 == j) k.arcs ≡ arcs_left k [] j
-arcs_at_start k j =
-    sum_by-same (λ (arc : ℕ × ℕ). as_one (arc.0 == j))
-    (λ arc. as_one ((arc.0 == j) && not (stands_in [] arc.1))) k.arcs
-    (λ arc. ap as_one (sym (and_true (arc.0 == j))))
-  where
-    and_true : (a : Bool) → (a && true) ≡ a
-    and_true true = refl
-    and_true false = refl
-
 module _ (k : SchedulingTask) (sound : IsSound k) (taken counts free : List ℕ)
     (now : IsOpen k taken [] counts free) where
   free_test : (s z : Bool) (n : ℕ) → n ≡ cond s 0 (cond z 1 0) → 1 ≤ n → (s ≡ false) × (z ≡ true)

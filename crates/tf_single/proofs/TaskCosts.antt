@@ -11,30 +11,6 @@ use Rattle.tf_model.specs.declared.cost.Late.{Late}
 use Rattle.tf_schedule.proofs.Prices.{costed_price, due_price}
 use Rattle.tf_single.specs.Costs.{AreCosts, late_value}
 
-pub steps_are : (k : SchedulingTask) → IsSound k → IsTrue (is_costed k.class)
-    → AreCosts step_value k k.costs
-steps_are k sound costed = record {
-  len = sound.costed costed;
-  each = λ j c d job within.
-      ap (λ (s : Steps). step_value s c)
-      (get_or_default k.costs (j - 1) d no_steps
-      (omega (arith, job.0, job.1, sound.costed costed)))
-      ∙ costed_price k j c costed;
-}
-
-pub lates_are : (k : SchedulingTask) → IsTrue (is_due k.class) → (lates : List Late)
-    → length lates ≡ length k.jobs
-    → ((n : ℕ) (d : Late) → n < length lates → (get_or lates n d).due ≡ (job_data k (n + 1)).due)
-    → AreCosts late_value k lates
-lates_are k due lates len dues = record {
-  len = len;
-  each = λ j c d job within.
-      let same : j - 1 + 1 ≡ j = omega (arith, job.0) in
-      ap (λ z. pos c -ℤ z)
-      (dues (j - 1) d (omega (arith, len, job.0, job.1)) ∙ ap (λ n. (job_data k n).due) same)
-      ∙ due_price k j c due;
-}
-
 -- one job more
 pub dues_push : (k : SchedulingTask) (lates : List Late) (late : Late) (m : ℕ) → length lates ≡ m
     → late.due ≡ (job_data k (m + 1)).due

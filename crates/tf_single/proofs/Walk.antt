@@ -38,26 +38,6 @@ abbrev pub is_unmet : Option ℕ → Bool
 is_unmet None = true
 is_unmet (Some place) = false
 
--- one job fewer
-pub met_more : (places : List (Option ℕ)) (i n : ℕ) → i < length places
-    → get_or places i None ≡ None
-    → count_by is_unmet (set places i (Some n)) < count_by is_unmet places
-met_more [] i n lt none = absurd (omega arith)
-met_more (p ∷ ps) zero n lt none =
-    omega (
-      arith,
-      sum_by-cons (λ q. cond (is_unmet q) 1 0) (Some n) ps,
-      sum_by-cons (λ q. cond (is_unmet q) 1 0) p ps,
-      ap {B = ℕ} (λ q. cond (is_unmet q) 1 0) none,
-    )
-met_more (p ∷ ps) (suc i) n lt none =
-    omega (
-      arith,
-      sum_by-cons (λ q. cond (is_unmet q) 1 0) p (set ps i (Some n)),
-      sum_by-cons (λ q. cond (is_unmet q) 1 0) p ps,
-      met_more ps i n (omega (arith, lt)) none,
-    )
-
 -- what the places say of the path
 abbrev pub AreMet : SchedulingTask → List (Option ℕ) → List ℕ → Type 0
 AreMet k places path = (j n : ℕ) → IsJob k j → get_or places (j - 1) None ≡ Some n

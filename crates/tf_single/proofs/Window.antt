@@ -56,9 +56,6 @@ le-greatest-fold f a (x ∷ xs) =
 
 -- ---- the window
 
-pub single_from_class : (k : SchedulingTask) → k.class ≡ ReleaseLmax → is_single k.class ≡ true
-single_from_class k e = ap is_single e
-
 -- the bound of the window of the last stretch before the latest job is the greatest lateness
 pub window-reaches : (k : SchedulingTask) (rows : Timetable) → IsSound k → k.class ≡ ReleaseLmax
     → FitsBroken k rows → RunsEarliestDue k rows

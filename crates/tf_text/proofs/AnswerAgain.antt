@@ -24,7 +24,7 @@ use Rattle.tf_text.specs.Readable.{IsCount, IsReadablePiece, AreFew, AreListed, 
 use Rattle.tf_text.specs.AnswerReading.{count_in, time_in, value_in, side_of, most_job, most_machine, is_item, few, jobs_listed, jobs_in, exactly, heading_at, problem_in, problem_at, word_behind, count_at, value_at, piece_in, pieces_at, split_in, claim_in, kind_in, certificate_in, certificate_at, answer_at, sheet_of, answer_in}
 use Rattle.tf_notation.proofs.Again.{IsCounted, again}
 use Rattle.tf_notation.proofs.Counted.{is_counted}
-use Rattle.tf_model.specs.declared.limit.TheConstants.{MOST_BYTES, MOST_JOBS}
+use Rattle.tf_model.specs.Limit.{most_bytes, most_jobs}
 use Rattle.tf_text.proofs.BehindBlank.{behind_blank}
 use Rattle.tf_text.proofs.NotationWord.{word-canonical, behind_problem, no_return}
 use mir.Val.{SFits}
@@ -45,7 +45,7 @@ number_count most n small is = ap is_some (numeral-decimal n (omega (arith, is.1
 few_again : (layout : Layout) (line : ℕ) (jobs : List ℕ) → AreFew layout jobs
     → few layout line jobs ≡ Ok jobs
 few_again One line jobs are = refl
-few_again Two line jobs are = let fits : ltb MOST_JOBS (length jobs) ≡ false = le-ltb _ _ are in
+few_again Two line jobs are = let fits : ltb most_jobs (length jobs) ≡ false = le-ltb _ _ are in
     rw fits refl
 
 listed_again : (layout : Layout) (line : ℕ) (jobs : List ℕ) → AreListed layout jobs
@@ -403,7 +403,7 @@ sheet_again layout s is counted read =
 -- the text of a sheet whose numbers are in their ranges is read as that sheet, if it is not too
 -- long
 pub text_again : (layout : Layout) (s : SheetData) → IsReadable layout s
-    → length (answer_text layout s) ≤ MOST_BYTES → answer_in (answer_text layout s) ≡ Ok s
+    → length (answer_text layout s) ≤ most_bytes → answer_in (answer_text layout s) ≡ Ok s
 unfolding answer_text answer_in
 text_again layout s is short =
     let read = is.problem in
@@ -411,6 +411,6 @@ text_again layout s is short =
     let kept : kept_lines 1 (lines (flat_map line_text (answer_lines layout s)))
     ≡ numbered 1 (answer_lines layout s) =
     kept-text (answer_lines layout s) (sheet_are_lines layout s is counted) in
-    let fits : ltb MOST_BYTES (length (flat_map line_text (answer_lines layout s))) ≡ false =
+    let fits : ltb most_bytes (length (flat_map line_text (answer_lines layout s))) ≡ false =
     le-ltb _ _ short in
     rw (fits, kept) (sheet_again layout s is counted (again s.problem counted))

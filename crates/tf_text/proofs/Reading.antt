@@ -3,7 +3,7 @@ use Rattle.std.proofs.Common.{◌≡◌, ◌<◌, ◌≤◌, ◌+◌, ◌-◌, �
 use Rattle.std.proofs.lemmas.List.{append-nil, length-append}
 use Rattle.std.proofs.lemmas.List.FromFn.{length-range_with_len}
 use Rattle.std.proofs.lemmas.Bool.{cases_Bool, ltb-true, ltb-false, lt-ltb, le-ltb}
-use Rattle.tf_model.specs.declared.limit.TheConstants.{MOST_JOBS}
+use Rattle.tf_model.specs.Limit.{most_jobs}
 use Rattle.tf_text.specs.declared.answer.fault.AnswerFault.TheVariants.{TooLong, BadLine, NumberTooLarge, BadNotation, EndsEarly, OutOfMemory}
 use Rattle.tf_text.specs.declared.answer.layout.Layout.TheVariants.{One, Two}
 use Rattle.tf_text.specs.declared.answer.run.Run.{Run}
@@ -90,41 +90,41 @@ job_pushed old items new first number job order same before push =
 
 -- so many jobs, and those that reading gives: whether they are more than an instance may have
 abbrev pub with_count : ℕ → Result (List ℕ) AnswerFault → Result Bool AnswerFault
-with_count count read = read >>= λ jobs. Ok (ltb MOST_JOBS (count + length jobs))
+with_count count read = read >>= λ jobs. Ok (ltb most_jobs (count + length jobs))
 
 -- before the first word
 pub no_count : (read : Result (List ℕ) AnswerFault)
     → with_count 0 read ≡ (read >>= λ jobs. Ok (are_many jobs))
-no_count (Ok jobs) = ap (λ n. Ok (ltb MOST_JOBS n)) (zero-add (length jobs))
+no_count (Ok jobs) = ap (λ n. Ok (ltb most_jobs n)) (zero-add (length jobs))
 no_count (Err e) = refl
 
 -- more than is allowed stays more
-same_side : (count new n m : ℕ) → new ≡ min (count + n) (MOST_JOBS + 1)
-    → ltb MOST_JOBS (count + (n + m)) ≡ ltb MOST_JOBS (new + m)
-same_side count new n m is = elim (cases_Bool (ltb MOST_JOBS (count + (n + m)))) [
-  | inl e ↦ (let many : MOST_JOBS < count + (n + m) = ltb-true _ _ e in e
-      ∙ sym (lt-ltb MOST_JOBS (new + m) (omega arith)))
-  | inr e ↦ (let not_many : count + (n + m) ≤ MOST_JOBS = ltb-false _ _ e in e
-      ∙ sym (le-ltb MOST_JOBS (new + m) (omega arith)))
+same_side : (count new n m : ℕ) → new ≡ min (count + n) (most_jobs + 1)
+    → ltb most_jobs (count + (n + m)) ≡ ltb most_jobs (new + m)
+same_side count new n m is = elim (cases_Bool (ltb most_jobs (count + (n + m)))) [
+  | inl e ↦ (let many : most_jobs < count + (n + m) = ltb-true _ _ e in e
+      ∙ sym (lt-ltb most_jobs (new + m) (omega arith)))
+  | inr e ↦ (let not_many : count + (n + m) ≤ most_jobs = ltb-false _ _ e in e
+      ∙ sym (le-ltb most_jobs (new + m) (omega arith)))
 ]
 
 -- the jobs of a run, counted up to one more than is allowed
 more_count : (count new : ℕ) (run : Run) (read : Result (List ℕ) AnswerFault) → run.first ≤ run.last
-    → new ≡ min (count + (run.last - run.first + 1)) (MOST_JOBS + 1)
+    → new ≡ min (count + (run.last - run.first + 1)) (most_jobs + 1)
     → with_count count (with_jobs (run_jobs run) read) ≡ with_count new read
 more_count count new run (Ok jobs) order is =
     let many : length (run_jobs run) ≡ run.last + 1 - run.first =
     length-range_with_len run.first (run.last + 1 - run.first) in
     let longer : length (run_jobs run ++ jobs) ≡ (run.last - run.first + 1) + length jobs =
     omega (arith, length-append (run_jobs run) jobs, many) in
-    ap (λ n. Ok (ltb MOST_JOBS (count + n))) longer
+    ap (λ n. Ok (ltb most_jobs (count + n))) longer
     ∙ ap (λ b. Ok b) (same_side count new (run.last - run.first + 1) (length jobs) is)
 more_count count new run (Err e) order is = refl
 
 -- the loop's step: the jobs of one word more
 pub count_step : (line count new : ℕ) (run : Run) (word : List ℕ) (all more : List (List ℕ))
     (total : Result Bool AnswerFault)
-    → run.first ≤ run.last → new ≡ min (count + (run.last - run.first + 1)) (MOST_JOBS + 1)
+    → run.first ≤ run.last → new ≡ min (count + (run.last - run.first + 1)) (most_jobs + 1)
     → all ≡ word ∷ more → run_in line word ≡ Ok run
     → with_count count (jobs_from line all) ≡ total → with_count new (jobs_from line more) ≡ total
 count_step line count new run word all more total order is words read same =
@@ -140,16 +140,16 @@ pub count_fails : (line count : ℕ) (word : List ℕ) (all more : List (List �
 unfolding jobs_from
 count_fails line count word all more e total same is fails =
     subst (Fails e) (sym (ap (λ ws. with_count count (jobs_from line ws)) is) ∙ same)
-    (fails_then e (jobs_from line (word ∷ more)) (λ jobs. Ok (ltb MOST_JOBS (count + length jobs)))
+    (fails_then e (jobs_from line (word ∷ more)) (λ jobs. Ok (ltb most_jobs (count + length jobs)))
     (fails_then e (run_in line word)
     (λ run. jobs_from line more >>= λ others. Ok (run_jobs run ++ others)) fails))
 
 -- no word is left
 pub count_end : (line count : ℕ) (all : List (List ℕ)) → all ≡ []
-    → with_count count (jobs_from line all) ≡ Ok (ltb MOST_JOBS count)
+    → with_count count (jobs_from line all) ≡ Ok (ltb most_jobs count)
 unfolding jobs_from
 count_end line count all is = ap (λ ws. with_count count (jobs_from line ws)) is
-    ∙ ap (λ n. Ok (ltb MOST_JOBS n)) (add-zero count)
+    ∙ ap (λ n. Ok (ltb most_jobs n)) (add-zero count)
 
 -- a fault of counting is one of reading
 pub many_fails : (e : AnswerFault) (read : Result (List ℕ) AnswerFault)
@@ -213,10 +213,6 @@ Read = Result (List Piece × List KeptLine) AnswerFault
 -- pieces that are read, and then those that reading gives
 abbrev pub with_pieces : List Piece → Read → Read
 with_pieces front read = read >>= λ x. Ok (front ++ x.0, x.1)
-
-pub no_pieces : (read : Read) → with_pieces [] read ≡ read
-no_pieces (Ok x) = refl
-no_pieces (Err e) = refl
 
 pieces_regroup : (front : List Piece) (piece : Piece) (read : Read)
     → with_pieces front (read >>= λ others. Ok (piece ∷ others.0, others.1))

@@ -10,7 +10,7 @@ use Rattle.tf_words.specs.Number.{is_numeral}
 use Rattle.tf_model.specs.Whole.{as_time}
 use Rattle.tf_words.specs.Words.{words, lines, first_is, KeptLine, kept_lines}
 use Rattle.tf_words.specs.declared.limit.TheConstants.{LIMIT}
-use Rattle.tf_model.specs.declared.limit.TheConstants.{MOST_BYTES, MOST_JOBS, MOST_MACHINES}
+use Rattle.tf_model.specs.Limit.{most_bytes, most_jobs, most_machines}
 use Rattle.tf_model.specs.declared.problem.Problem.{Problem}
 use Rattle.tf_notation.specs.Reading.{notation}
 use Rattle.tf_schedule.specs.declared.piece.Piece.{Piece}
@@ -43,10 +43,10 @@ Gives = Outcome.Gives fault_in
 
 -- the greatest numbers of a job and of a machine that a text may name
 abbrev pub most_job : ℕ
-most_job = MOST_JOBS
+most_job = most_jobs
 
 abbrev pub most_machine : ℕ
-most_machine = MOST_MACHINES
+most_machine = most_machines
 
 -- a number that counts from 1: below 1 the line is none of its kind
 abbrev pub counted : ℕ → Ranged → Result ℕ AnswerFault
@@ -123,7 +123,7 @@ jobs_from line (word ∷ more) = do
 
 -- they are more jobs than an instance may have
 abbrev pub are_many : List ℕ → Bool
-are_many jobs = nat_lt MOST_JOBS (length jobs)
+are_many jobs = nat_lt most_jobs (length jobs)
 
 -- the same of jobs by their words
 abbrev pub name_many : ℕ → List (List ℕ) → Result Bool AnswerFault
@@ -359,4 +359,4 @@ sheet_of all = do
 -- a text that is not too long, by its kept lines
 unfoldable pub answer_in : List ℕ → Result SheetData AnswerFault
 answer_in text =
-    if nat_lt MOST_BYTES (length text) then Err TooLong else sheet_of (kept_lines 1 (lines text))
+    if nat_lt most_bytes (length text) then Err TooLong else sheet_of (kept_lines 1 (lines text))

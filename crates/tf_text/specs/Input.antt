@@ -1,7 +1,7 @@
 -- Whole texts from a reader.
 use Rattle.std.specs.Prelude.{◌≡◌, ℕ, ◌+◌, ◌<◌, ◌≤◌, ◌⊎◌, Bool, true, false, List, length, Option, Result, IfSome, OnOk}
 use Rattle.std.specs.Io.KnownBytes.{Consumes, IsAtEnd}
-use Rattle.tf_model.specs.declared.limit.TheConstants.{MOST_BYTES}
+use Rattle.tf_model.specs.Limit.{most_bytes}
 use Rattle.tf_text.specs.declared.input.InputFault.{InputFault}
 use Rattle.tf_text.specs.declared.input.InputFault.TheVariants.{Device, TooLong, OutOfMemory}
 
@@ -20,7 +20,7 @@ is_device OutOfMemory = false
 pub record Drains {S E : Type 0} (Takes : S → List ℕ → S → Type 0) (old new : Option (List ℕ))
     (before after : S) (result : Result (Unit {0}) E) : Type 0 where
   pub bytes : List ℕ
-  pub at_most : length bytes ≤ MOST_BYTES + 1
+  pub at_most : length bytes ≤ most_bytes + 1
   pub given : Consumes old new bytes
   pub taken : Takes before bytes after
-  pub ended : OnOk result (IsAtEnd new ⊎ (MOST_BYTES < length bytes))
+  pub ended : OnOk result (IsAtEnd new ⊎ (most_bytes < length bytes))

@@ -3,7 +3,7 @@ use Rattle.std.specs.Prelude.{ℕ, ◌≤◌, List, length}
 use Rattle.std.specs.Int.RustNames.{FitsSigned}
 use Rattle.std.specs.List.{AllByRecursion}
 use Rattle.tf_model.specs.Whole.{IsWithin}
-use Rattle.tf_model.specs.declared.limit.TheConstants.{MOST_JOBS}
+use Rattle.tf_model.specs.Limit.{most_jobs}
 use Rattle.tf_notation.specs.Reading.{IsRead}
 use Rattle.tf_schedule.specs.declared.piece.Piece.{Piece}
 use Rattle.tf_check.specs.Claim.{Claim, ByPairs, ByLastOf, ByWindow, BySplit, ByLoad, ByMachine, ByOneJob, ByRanks}
@@ -29,7 +29,7 @@ AreJobs = AllByRecursion (IsCount most_job)
 -- in version 2 a job set has at most as many jobs as an instance
 abbrev pub AreFew : Layout → List ℕ → Type 0
 AreFew One jobs = Unit {0}
-AreFew Two jobs = length jobs ≤ MOST_JOBS
+AreFew Two jobs = length jobs ≤ most_jobs
 
 -- a job set of a certificate
 abbrev pub AreListed : Layout → List ℕ → Type 0

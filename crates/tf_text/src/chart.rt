@@ -1,4 +1,5 @@
 //! Charts of schedules.
+ghost use Rattle.tf_model.specs.Limit.{most_machines};
 ghost use Rattle.std.specs.Prelude.{◌≡◌, ◌≤◌, ◌<◌, ◌+◌, ◌^◌, ◌++◌, true, false, length, min, max, unwrap_or, IsErr, OnOk, OnErr};
 ghost use Rattle.arrayvec.specs.ArrayVec.{array_vec_len};
 ghost use Rattle.tf_schedule.specs.Drawing.{greatest_stop, job_at};
@@ -12,7 +13,6 @@ use itoa::Buffer;
 use std::alloc::Allocator;
 use std::io::Write;
 use tf_model::ids::{JobId, MachineId};
-use tf_model::limit::MOST_MACHINES;
 use tf_schedule::schedule::Schedule;
 
 /// The most columns of a chart.
@@ -37,7 +37,7 @@ pub fn write_gantt<A: Allocator, W: Write>(
     machines: u32,
     columns: u32,
 ) -> Result<(), Device>
-    requires machines { (1 ≤ machines) × (machines ≤ MOST_MACHINES) }
+    requires machines { (1 ≤ machines) × (machines ≤ most_machines) }
     requires columns { (1 ≤ columns) × (columns ≤ MOST_COLUMNS) }
     ensures written { OnOk result (Appends (W.contents (inner_of writer.old))
         (W.contents (inner_of writer.new)) (chart_text schedule.now machines columns)) }
@@ -59,7 +59,7 @@ pub fn write_gantt<A: Allocator, W: Write>(
 
 // The machine at a place, counted from 0.
 fn machine_at(place: u32) -> MachineId
-    requires { place < MOST_MACHINES }
+    requires { place < most_machines }
     ensures { result ≡ place + 1 }
 {
     MachineId::new(place + 1).unwrap()

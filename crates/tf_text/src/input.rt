@@ -1,4 +1,5 @@
 //! Whole texts from a reader.
+ghost use Rattle.tf_model.specs.Limit.{most_bytes};
 ghost use Rattle.std.specs.Prelude.{◌≡◌, ◌+◌, ◌<◌, ◌≤◌, true, false, length, OnOk, IfOk, OnErr, IfSome, IfErr, IsErr, IsErrOf};
 ghost use Rattle.std.specs.Io.KnownBytes.{IsAtEnd};
 ghost use Rattle.tf_text.specs.Counted.{inner_of, pulled_of, has_failed, ConsumesAtMost};
@@ -44,7 +45,7 @@ pub fn drain<R: Read, F: Feed>(reader: &mut Counted<R>, into: &mut F) -> Result<
     ensures taken { Drains F.Takes (R.remaining (inner_of reader.old))
         (R.remaining (inner_of reader.new))
         into.old into.new result }
-    ensures counted { pulled_of reader.new ≤ pulled_of reader.old + (MOST_BYTES + 1) }
+    ensures counted { pulled_of reader.new ≤ pulled_of reader.old + (most_bytes + 1) }
     ensures unfailed { OnOk result (has_failed reader.new ≡ false) }
     ensures device { OnErr result (has_failed reader.new ≡ true) }
     ensures failed_before { has_failed reader.old ≡ true → IsErr result
@@ -103,15 +104,15 @@ pub fn read_all<A: Allocator, R: Read>(
     reader: &mut Counted<R>,
 ) -> Result<Vec<u8, A>, InputFault>
     ensures text { IfOk result (λ text. IsTextOf (R.remaining (inner_of reader.old)) text.items) }
-    ensures fits { IfOk result (λ text. length text.items ≤ MOST_BYTES) }
+    ensures fits { IfOk result (λ text. length text.items ≤ most_bytes) }
     ensures end { OnOk result (IsAtEnd (R.remaining (inner_of reader.new))) }
     ensures too_long { IsErrOf result InputFault.TooLong →
-        IfSome (R.remaining (inner_of reader.old)) (λ all. MOST_BYTES < length all) }
+        IfSome (R.remaining (inner_of reader.old)) (λ all. most_bytes < length all) }
     ensures unfailed { OnOk result (has_failed reader.new ≡ false) }
     ensures device { IfErr result (λ e. has_failed reader.new ≡ is_device e) }
-    ensures pulled { ConsumesAtMost (MOST_BYTES + 1) (R.remaining (inner_of reader.old))
+    ensures pulled { ConsumesAtMost (most_bytes + 1) (R.remaining (inner_of reader.old))
         (R.remaining (inner_of reader.new)) }
-    ensures counted { pulled_of reader.new ≤ pulled_of reader.old + (MOST_BYTES + 1) }
+    ensures counted { pulled_of reader.new ≤ pulled_of reader.old + (most_bytes + 1) }
     ensures failed_before { has_failed reader.old ≡ true →
         IsErrOf result InputFault.Device × (reader.new ≡ reader.old) }
 {

@@ -1,4 +1,5 @@
 //! Answer texts, read.
+ghost use Rattle.tf_model.specs.Limit.{most_machines};
 ghost use Rattle.std.specs.Prelude.{◌≡◌, ◌^◌, ◌-◌, ◌<◌, ◌≤◌, ◌∷◌, ◌++◌, [], true, false, length, drop, codes, option_map, position, OnOk, IfOk, MatchOption};
 ghost use Rattle.std.specs.List.{list_all};
 ghost use Rattle.tf_words.specs.Words.{words, lines, kept_lines, first_is};
@@ -594,7 +595,7 @@ fn answer_at<A: Allocator + Copy>(
 #[tactic(auto, unfolding(crate::specs::AnswerReading::sheet_of))]
 fn sheet_of<A: Allocator + Copy>(alloc: A, lines: &Lines<'_>) -> Result<Sheet<A>, AnswerFault>
     ensures read { Gives (λ s. s) result (sheet_of (lines_of lines.now)) }
-    ensures machines { IfOk result (λ s. (0 < s.machines) × (s.machines ≤ MOST_MACHINES)) }
+    ensures machines { IfOk result (λ s. (0 < s.machines) × (s.machines ≤ most_machines)) }
 {
     let (layout, lines) = heading_at(lines)?;
     let (problem, lines) = problem_at(&lines)?;
@@ -620,7 +621,7 @@ fn sheet_of<A: Allocator + Copy>(alloc: A, lines: &Lines<'_>) -> Result<Sheet<A>
 #[tactic(auto, unfolding(crate::specs::AnswerReading::answer_in))]
 pub fn read_answer<A: Allocator + Copy>(alloc: A, text: &[u8]) -> Result<Sheet<A>, AnswerFault>
     ensures read { Gives (λ s. s) result (answer_in text.now) }
-    ensures machines { IfOk result (λ s. (0 < s.machines) × (s.machines ≤ MOST_MACHINES)) }
+    ensures machines { IfOk result (λ s. (0 < s.machines) × (s.machines ≤ most_machines)) }
 {
     if text.len() > MOST_BYTES {
         return Err(AnswerFault::TooLong);

@@ -1,4 +1,5 @@
 //! Answer texts, written.
+ghost use Rattle.tf_model.specs.Limit.{most_bytes};
 ghost use Rattle.std.specs.Prelude.{◌≡◌, ℕ, List, [], ◌∷◌, ◌++◌, ◌≤◌, ◌<◌, map, codes, IfSome, MatchOption, length, true, false, Ok, OnOk, IfOk, IsErr, IsErrOf};
 ghost use Rattle.std.specs.List.{flat_map, join_with_byte};
 ghost use Rattle.std.specs.Fmt.{decimal, signed_decimal};
@@ -21,7 +22,6 @@ use std::io::Write;
 use tf_check::answer::Answer;
 use tf_check::certificate::Certificate;
 use tf_model::ids::JobId;
-use tf_model::limit::MOST_BYTES;
 use tf_model::memory::OutOfMemory;
 use tf_notation::writing::notation_text;
 use tf_schedule::piece::Piece;
@@ -262,7 +262,7 @@ pub fn answer_bytes<A: Allocator + Copy, M: Allocator>(
     ensures text { IfOk result (λ text. text.items ≡ answer_text layout sheet.now) }
     // The text is read as the sheet.
     ensures round_trip { IfOk result (λ text. IsReadable layout sheet.now →
-        length text.items ≤ MOST_BYTES → answer_in text.items ≡ Ok sheet.now) }
+        length text.items ≤ most_bytes → answer_in text.items ≡ Ok sheet.now) }
 {
     let notation = notation_text(alloc, &sheet.problem)?;
     let mut text = Vec::from_slice(alloc, heading(layout))?;
@@ -295,7 +295,7 @@ pub fn write_answer<A: Allocator + Copy, M: Allocator, W: Write>(
 
     // What was written is read as the sheet.
     ensures round_trip { OnOk result (IsReadable layout sheet.now →
-        length (answer_text layout sheet.now) ≤ MOST_BYTES →
+        length (answer_text layout sheet.now) ≤ most_bytes →
         answer_in (answer_text layout sheet.now) ≡ Ok sheet.now) }
 {
     let text = answer_bytes(alloc, sheet, layout)?;

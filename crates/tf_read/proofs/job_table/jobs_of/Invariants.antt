@@ -1,19 +1,19 @@
 use Rattle.std.proofs.Common.{◌≡◌, ◌+◌, ◌≤◌, length, vec_len}
 use Rattle.std.specs.List.{before_first}
 use Rattle.tf_words.specs.Lines.{word_lines_of}
-use Rattle.tf_model.specs.declared.limit.TheConstants.{MOST_JOBS}
+use Rattle.tf_model.specs.Limit.{most_jobs}
 use Rattle.tf_read.specs.Faults.{each_from}
-use Rattle.tf_read.specs.JobTable.{is_arc, from_first, job_at}
+use Rattle.tf_read.specs.JobTable.{is_arc, since_first, job_line}
 use Rattle.tf_read.proofs.Each.{with_front}
 use Rattle.tf_read.proofs.job_table.jobs_of.Given as goal
 
 abbrev pub invariant-loop-line : goal.invariant-loop-line
 invariant-loop-line g l = record {
-  few : vec_len l.jobs ≤ MOST_JOBS;
+  few : vec_len l.jobs ≤ most_jobs;
   same : with_front l.jobs.items
-      (each_from job_at (vec_len l.jobs + 1) (before_first is_arc (word_lines_of l.rest)))
-      ≡ each_from job_at 1 (before_first is_arc (word_lines_of l.lines));
-  left : from_first is_arc (word_lines_of l.rest) ≡ from_first is_arc (word_lines_of l.lines);
+      (each_from job_line (vec_len l.jobs + 1) (before_first is_arc (word_lines_of l.rest)))
+      ≡ each_from job_line 1 (before_first is_arc (word_lines_of l.lines));
+  left : since_first is_arc (word_lines_of l.rest) ≡ since_first is_arc (word_lines_of l.lines);
 }
 
 abbrev pub decreases-loop-line : goal.decreases-loop-line

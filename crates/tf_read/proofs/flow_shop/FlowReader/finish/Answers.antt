@@ -1,6 +1,6 @@
 use Rattle.std.proofs.Common.{◌≤◌, length, sym, ◌∙◌, arith}
 use Rattle.std.proofs.lemmas.Bool.{ltb-true, ltb-false}
-use Rattle.tf_model.specs.declared.limit.TheConstants.{MOST_BYTES}
+use Rattle.tf_model.specs.Limit.{most_bytes}
 use Rattle.tf_read.proofs.Each.{gives_same}
 use Rattle.tf_read.proofs.FlowReading.{too_long, within}
 use Rattle.tf_read.proofs.flow_shop.FlowReader.finish.Goals as goal
@@ -13,7 +13,7 @@ returns-then-is_too_long-clause-given g c = λ says fed h.
 pub returns-clause-given : goal.returns-clause-given
 returns-clause-given g c = λ says fed h.
     let short = ltb-false _ _ (sym c.is_too_long.ensures ∙ c.if-is_too_long.false) in
-    let few : length fed ≤ MOST_BYTES = omega (arith, short, h.length_is) in
+    let few : length fed ≤ most_bytes = omega (arith, short, h.length_is) in
     gives_same _ _ _ _ (sym (h.wanted fed ∙ within _ _ fed few)) (c.ended.ensures fed (h.taken few))
 
 pub returns-clause-too_long : goal.returns-clause-too_long

@@ -2,7 +2,7 @@ use Rattle.std.proofs.Common.{◌≡◌, ◌++◌, ◌≤◌, ℕ, List, length,
 use Rattle.tf_notation.specs.Canonical.{canonical}
 use Rattle.tf_text.specs.AnswerText.{SheetData, answer_text}
 use Rattle.tf_text.specs.AnswerReading.{answer_in}
-use Rattle.tf_model.specs.declared.limit.TheConstants.{MOST_BYTES}
+use Rattle.tf_model.specs.Limit.{most_bytes}
 use Rattle.tf_text.proofs.AnswerAgain.{text_again}
 use Rattle.tf_text.proofs.Written.{sheet_written}
 use Rattle.tf_text.proofs.answer.writing.answer_bytes.Goals as goal
@@ -22,4 +22,4 @@ returns-clause-round_trip g c readable short =
     let text = returns-clause-text g c in
     ap answer_in text
     ∙ text_again c.args.layout c.args.sheet.now readable
-    (subst (λ (bytes : List ℕ). length bytes ≤ MOST_BYTES) text short)
+    (subst (λ (bytes : List ℕ). length bytes ≤ most_bytes) text short)
