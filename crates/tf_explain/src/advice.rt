@@ -96,7 +96,7 @@ static ADVICE: [Advice; 41] = [
     Advice {
         cause: Cause::ByteOrderMark,
         place: Place::Heading,
-        wrong: "An editor put a byte order mark, three bytes, before the text.",
+        wrong: "The file begins with a byte order mark, which an editor wrote.",
         mend: "Save the file as UTF-8 without a byte order mark.",
     },
     Advice {

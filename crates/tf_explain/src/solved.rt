@@ -29,8 +29,8 @@ pub(crate) static CLASSES: [Class; 19] = [
     Class::PrmpOpenTwo,
 ];
 
-/// How wide the column of notations is.
-const WIDTH: usize = 16;
+/// What the columns of the list are.
+const HEADING: &str = "PROBLEM          NEEDS        WHAT IS LEAST, AND WHERE\n";
 
 /// The notation of a class.
 pub(crate) fn notation_of(alloc: Global, class: Class) -> Result<String, AllocError> {
@@ -40,8 +40,8 @@ pub(crate) fn notation_of(alloc: Global, class: Class) -> Result<String, AllocEr
     }
 }
 
-/// The fields of a job that a class uses.
-pub(crate) fn fields_of(class: Class) -> &'static str {
+/// What a class needs of an instance.
+fn needs_of(class: Class) -> &'static str {
     if class.is_shop() {
         "p=A,B"
     } else if class.is_weighted() {
@@ -49,9 +49,17 @@ pub(crate) fn fields_of(class: Class) -> &'static str {
     } else if class.is_released() {
         "p= r= d="
     } else if class.is_due() {
-        "p= d="
+        if class.is_ordered() {
+            "p= d=, arcs"
+        } else {
+            "p= d="
+        }
     } else if class.is_costed() {
-        "p= h="
+        if class.is_ordered() {
+            "p= h=, arcs"
+        } else {
+            "p= h="
+        }
     } else {
         "p="
     }
@@ -60,7 +68,7 @@ pub(crate) fn fields_of(class: Class) -> &'static str {
 /// What is least in a class.
 fn meaning_of(class: Class) -> &'static str {
     if class.is_weighted() {
-        "weighted sum of completion times"
+        "weighted completion times"
     } else if class.is_sum() {
         "sum of completion times"
     } else if class.is_due() {
@@ -92,7 +100,7 @@ fn machines_of(class: Class) -> &'static str {
 ///
 /// There was no memory.
 pub fn solved_problems(alloc: Global, instance: Option<&Instance>) -> Result<String, AllocError> {
-    let mut text = String::new(alloc);
+    let mut text = String::from_str(alloc, HEADING)?;
     for class in &CLASSES {
         if instance.is_none_or(|instance| has_fields(*class, instance)) {
             push_class(alloc, &mut text, *class)?;
@@ -104,20 +112,19 @@ pub fn solved_problems(alloc: Global, instance: Option<&Instance>) -> Result<Str
 /// A line for one problem.
 pub(crate) fn push_class(alloc: Global, text: &mut String, class: Class) -> Result<(), AllocError> {
     let notation = notation_of(alloc, class)?;
-    text.push_str(notation.as_str())?;
-    for _ in notation.len()..WIDTH {
-        text.push(' ')?;
-    }
-    let fields = fields_of(class);
-    let arcs = if class.is_ordered() { " and arcs" } else { "" };
+    let notation = notation.as_str();
+    let needs = needs_of(class);
     let meaning = meaning_of(class);
     let machines = machines_of(class);
     let breaks = if class.may_break() {
-        ", with preemption"
+        ", preemptive"
     } else {
         ""
     };
-    writeln!(text, "needs {fields}{arcs}: {meaning}, {machines}{breaks}")
+    writeln!(
+        text,
+        "{notation:<17}{needs:<13}{meaning}, {machines}{breaks}"
+    )
 }
 
 /// Whether an instance has the fields that a class uses, and no more jobs than it allows.

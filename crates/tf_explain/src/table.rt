@@ -266,7 +266,7 @@ fn is_heading(words: &[Word<'_>]) -> bool {
 }
 
 fn cause_of_heading(first: &[u8]) -> Cause {
-    if first.starts_with(b"\xef\xbb\xbf") {
+    if first.starts_with(b"\xef\xbb\xbf") || first.starts_with(b"\xff\xfe") {
         Cause::ByteOrderMark
     } else if is(first, b"answer") {
         Cause::IsAnswer

@@ -229,7 +229,7 @@ fn with_options<'a>(alloc: Global, command: Command<'a>) -> Result<Command<'a>, 
         .short('f')
         .long("format")
         .value_name("FORM")
-        .help("The form of the instance: table, wt or flow")
+        .help("Form of INPUT: table, wt or flow")
         .value_parser(FORMATS.as_slice())
         .hide_possible_values(true)
         .default_value("table");
@@ -269,7 +269,8 @@ fn with_form_options<'a>(alloc: Global, command: Command<'a>) -> Result<Command<
     let pair = Arg::new(alloc, "pair")
         .long("pair")
         .value_name("I,K")
-        .help("With flow: the two machines that count, from 0");
+        .help("With flow: the two machines that count, from 0")
+        .allow_hyphen_values(true);
     command.arg(jobs)?.arg(index)?.arg(name)?.arg(pair)
 }
 

@@ -135,7 +135,7 @@ job 1 p=3
 jobs.txt, line 1:
     \\xef\\xbb\\xbftable 1
     ^^^^^^^^
-An editor put a byte order mark, three bytes, before the text.
+The file begins with a byte order mark, which an editor wrote.
 Save the file as UTF-8 without a byte order mark.
 The first line of a job table is exactly \"table 1\".
 ",
@@ -461,10 +461,10 @@ job 1 p=3
 This problem is well formed, and no method of this program solves it:
     1||sumU
 Nearest to it of those that are solved:
-    1||sumC         needs p=: sum of completion times, 1 machine
-    1||sumwC        needs p= w=: weighted sum of completion times, 1 machine
-    1||Lmax         needs p= d=: greatest lateness, 1 machine
-    1||hmax         needs p= h=: greatest cost, 1 machine
+    1||sumC          p=           sum of completion times, 1 machine
+    1||sumwC         p= w=        weighted completion times, 1 machine
+    1||Lmax          p= d=        greatest lateness, 1 machine
+    1||hmax          p= h=        greatest cost, 1 machine
 \"threefield problems\" lists them all.
 ",
     },
@@ -480,7 +480,7 @@ This problem is well formed, and no method of this program solves it:
     1|rj|Lmax
 Release dates are solved on one machine with preemption, as 1|rj,prmp|Lmax.
 Nearest to it of those that are solved:
-    1|rj,prmp|Lmax  needs p= r= d=: greatest lateness, 1 machine, with preemption
+    1|rj,prmp|Lmax   p= r= d=     greatest lateness, 1 machine, preemptive
 \"threefield problems\" lists them all.
 ",
     },
@@ -496,8 +496,8 @@ This problem is well formed, and no method of this program solves it:
     J2||Cmax
 Job shops are not solved.
 Nearest to it of those that are solved:
-    F2||Cmax        needs p=A,B: makespan, flow shop of 2 machines
-    O2||Cmax        needs p=A,B: makespan, open shop of 2 machines
+    F2||Cmax         p=A,B        makespan, flow shop of 2 machines
+    O2||Cmax         p=A,B        makespan, open shop of 2 machines
 \"threefield problems\" lists them all.
 ",
     },
@@ -513,7 +513,7 @@ This problem is well formed, and no method of this program solves it:
     F5||Cmax
 Shops are solved on two machines.
 Nearest to it of those that are solved:
-    F2||Cmax        needs p=A,B: makespan, flow shop of 2 machines
+    F2||Cmax         p=A,B        makespan, flow shop of 2 machines
 \"threefield problems\" lists them all.
 ",
     },

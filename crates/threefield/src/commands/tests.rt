@@ -411,10 +411,11 @@ Correct the line \"value\", or the pieces.
 
 #[test]
 fn problems_are_those_that_a_table_has_the_fields_for(rt: HostRuntime) -> Result<(), Fail> {
-    let fit = b"1||sumC         needs p=: sum of completion times, 1 machine
-1|prmp|sumC     needs p=: sum of completion times, 1 machine, with preemption
-P||sumC         needs p=: sum of completion times, M machines in parallel
-P|prmp|Cmax     needs p=: makespan, M machines in parallel, with preemption
+    let fit = b"PROBLEM          NEEDS        WHAT IS LEAST, AND WHERE
+1||sumC          p=           sum of completion times, 1 machine
+1|prmp|sumC      p=           sum of completion times, 1 machine, preemptive
+P||sumC          p=           sum of completion times, M machines in parallel
+P|prmp|Cmax      p=           makespan, M machines in parallel, preemptive
 ";
     writes(&rt, &["problems", "-"], 0, fit)?;
     let bad = b"threefield: refused: BadLine 1

@@ -209,7 +209,17 @@ fn pairs_that_are_none(rt: HostRuntime) -> Result<(), Fail> {
         "--pair=0,1,2",
         "-",
     ];
-    is_unfit(&rt, &three)
+    is_unfit(&rt, &three)?;
+    let negative = [
+        "solve",
+        "--problem=F||Cmax",
+        "--format=flow",
+        "--name=demo",
+        "--pair",
+        "-1,2",
+        "-",
+    ];
+    is_unfit(&rt, &negative)
 }
 
 #[test]
@@ -292,7 +302,8 @@ fn charts(rt: HostRuntime) -> Result<(), Fail> {
     draws(&rt, &["gantt", "--columns=1000", "file"], 1_000)?;
     is_unfit(&rt, &["gantt", "--columns=0", "file"])?;
     is_unfit(&rt, &["gantt", "--columns=1001", "file"])?;
-    is_unfit(&rt, &["gantt", "-c", "-1", "file"])
+    is_unfit(&rt, &["gantt", "-c", "-1", "file"])?;
+    draws(&rt, &["gantt", "-c", "40", "file"], 40)
 }
 
 #[test]
