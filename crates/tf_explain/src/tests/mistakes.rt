@@ -526,7 +526,7 @@ job 1 p=3
 ",
         told: "\
 P||sumC needs a number of machines, and no place gives one.
-Write it in the notation (P3), as --machines 3, or as a line \"machines 3\".
+Write it in the notation, as in P3 or F2, as --machines 3, or as a line \"machines 3\".
 ",
     },
     Mistake {
