@@ -79,7 +79,7 @@ impl Place {
 /// What is wrong, and how to mend it.
 #[derive(Clone, Copy, Debug)]
 pub(crate) struct Advice {
-    cause: Cause,
+    pub(crate) cause: Cause,
     pub(crate) place: Place,
     pub(crate) wrong: &'static str,
     pub(crate) mend: &'static str,
@@ -92,7 +92,7 @@ impl Cause {
     }
 }
 
-static ADVICE: [Advice; 41] = [
+pub(crate) static ADVICE: [Advice; 41] = [
     Advice {
         cause: Cause::ByteOrderMark,
         place: Place::Heading,

@@ -21,20 +21,10 @@ pub(crate) fn explain_answer(
     source: &Source<'_>,
     fault: &AnswerFault,
 ) -> Result<(), AllocError> {
+    if say_other_file(page, source)? {
+        return Ok(());
+    }
     let title = source.title();
-    if source.text.trim_ascii().is_empty() {
-        return writeln!(
-            page.text,
-            "{title} is empty: perhaps the run that wrote it was refused."
-        );
-    }
-    if is_table(source) {
-        page.quote_number(source, 1)?;
-        page.say("This is a job table, and an answer text is wanted here.")?;
-        return page.say(
-            "\"check\" takes INPUT first and ANSWER second; perhaps they are exchanged.",
-        );
-    }
     match *fault {
         AnswerFault::TooLong => writeln!(page.text, "{title} has more than {MOST_BYTES} bytes."),
         AnswerFault::BadLine(line) => explain_line(alloc, page, source, line as usize),
@@ -59,6 +49,25 @@ pub(crate) fn explain_answer(
         }
         AnswerFault::OutOfMemory => Ok(()),
     }
+}
+
+// Whether the text is empty or another file, which is then said.
+fn say_other_file(page: &mut Page, source: &Source<'_>) -> Result<bool, AllocError> {
+    let title = source.title();
+    if source.text.trim_ascii().is_empty() {
+        writeln!(
+            page.text,
+            "{title} is empty: perhaps the run that wrote it was refused."
+        )?;
+        return Ok(true);
+    }
+    if is_table(source) {
+        page.quote_number(source, 1)?;
+        page.say("This is a job table, and an answer text is wanted here.")?;
+        page.say("\"check\" takes INPUT first and ANSWER second; perhaps they are exchanged.")?;
+        return Ok(true);
+    }
+    Ok(false)
 }
 
 fn explain_line(

@@ -6,6 +6,7 @@ use crate::notation::explain_notation;
 use crate::page::Page;
 use crate::refusal::{class_in, explain_refusal};
 use crate::source::Source;
+use crate::tardiness::explain_rest;
 use crate::text::explain_text;
 use crate::unused::explain_unused;
 use crate::verdict::{Case, explain_verdict};
@@ -37,6 +38,9 @@ fn say_unused(
     request: &Request,
     instance: &Source<'_>,
 ) -> Result<(), AllocError> {
+    if let Form::Wt { jobs, .. } = request.form {
+        explain_rest(page, instance, jobs)?;
+    }
     let problem = request.problem.as_str();
     let read = instance_in(alloc, &request.form, instance);
     match (class_in(problem), read) {

@@ -30,13 +30,7 @@ pub(crate) fn explain_refusal(
                 "{problem} gives each job a cost of its own: at most {MOST_COSTED_JOBS} jobs."
             )
         }
-        Refusal::MachinesMissing => {
-            writeln!(
-                page.text,
-                "{problem} needs a number of machines, and no place gives one."
-            )?;
-            page.say("Write it in the notation (P3), as --machines 3, or as a line \"machines 3\".")
-        }
+        Refusal::MachinesMissing => say_no_machines(page, problem),
         Refusal::MachinesDisagree => say_machines(alloc, page, request, source),
         Refusal::MachineCount(m) => {
             writeln!(
@@ -61,6 +55,16 @@ pub(crate) fn explain_refusal(
         }
         Refusal::OutOfMemory => Ok(()),
     }
+}
+
+fn say_no_machines(page: &mut Page, problem: &str) -> Result<(), AllocError> {
+    writeln!(
+        page.text,
+        "{problem} needs a number of machines, and no place gives one."
+    )?;
+    page.say(
+        "Write it in the notation, as in P3 or F2, as --machines 3, or as a line \"machines 3\".",
+    )
 }
 
 fn quote_job(

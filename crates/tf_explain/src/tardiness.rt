@@ -1,4 +1,6 @@
 //! What is wrong with a weighted tardiness file.
+ghost use Rattle.std.specs.Prelude.{◌<◌};
+
 use crate::number::{fault_of_number, fault_of_size};
 use crate::page::Page;
 use crate::source::{Source, SourceLine, Word, words_of};
@@ -84,10 +86,30 @@ fn bad_word<'a>(
     Ok(None)
 }
 
+/// Says so where the numbers of the file are not those of whole instances of this size.
+pub(crate) fn explain_rest(
+    page: &mut Page,
+    source: &Source<'_>,
+    jobs: u32,
+) -> Result<(), AllocError> {
+    if source.word_count() % numbers_of(jobs) == 0 {
+        Ok(())
+    } else {
+        say_counts(page, source, jobs)
+    }
+}
+
+/// How many numbers an instance of this size takes.
+fn numbers_of(jobs: u32) -> usize
+    ensures { 0 < result }
+{
+    (jobs.max(1) as usize).saturating_mul(3)
+}
+
 // How many instances of this size the file has room for.
 fn say_counts(page: &mut Page, source: &Source<'_>, jobs: u32) -> Result<(), AllocError> {
     let words = source.word_count();
-    let each = (jobs.max(1) as usize).saturating_mul(3);
+    let each = numbers_of(jobs);
     let instances = words / each;
     let rest = words % each;
     writeln!(
@@ -99,7 +121,7 @@ fn say_counts(page: &mut Page, source: &Source<'_>, jobs: u32) -> Result<(), All
     } else {
         writeln!(
             page.text,
-            "that is {instances} of them and {rest} numbers more, so --jobs is wrong."
+            "that is {instances} of them and {rest} numbers more, so --jobs may be wrong."
         )
     }
 }

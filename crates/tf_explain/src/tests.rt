@@ -3,3 +3,4 @@ mod answers;
 mod cases;
 mod devices;
 mod mistakes;
+mod table_of_advice;

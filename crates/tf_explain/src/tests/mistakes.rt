@@ -2,7 +2,7 @@
 use super::cases::{As, Mistake};
 use std::test::Fail;
 
-static MISTAKES: [Mistake; 46] = [
+static MISTAKES: [Mistake; 47] = [
     Mistake {
         problem: "1||sumC",
         form: As::Table,
@@ -526,7 +526,7 @@ job 1 p=3
 ",
         told: "\
 P||sumC needs a number of machines, and no place gives one.
-Write it in the notation (P3), as --machines 3, or as a line \"machines 3\".
+Write it in the notation, as in P3 or F2, as --machines 3, or as a line \"machines 3\".
 ",
     },
     Mistake {
@@ -654,7 +654,7 @@ jobs.txt, line 3:
 A negative number stands where a time or a weight is read.
 Due dates alone may be negative, so the usual cause is a wrong --jobs.
 The file has 9 numbers, and an instance of 4 jobs takes 12:
-that is 0 of them and 9 numbers more, so --jobs is wrong.
+that is 0 of them and 9 numbers more, so --jobs may be wrong.
 ",
     },
     Mistake {
@@ -743,6 +743,16 @@ jobs.txt, line 9:
      1 3 0 4
 In each job the machines stand in the order 0, 1, 2, .., each with its time.
 A file in which they do not is one of a job shop, which is not solved.
+",
+    },
+    Mistake {
+        problem: "1||Lmax",
+        form: As::Wt(2, 1),
+        text: " 3 1 2\n 2 5 1\n 4 9 6\n",
+        told: "\
+The file has 9 numbers, and an instance of 2 jobs takes 6:
+that is 1 of them and 3 numbers more, so --jobs may be wrong.
+Not part of 1||Lmax: w= (jobs that have it: 2).
 ",
     },
     Mistake {
