@@ -1,4 +1,8 @@
-//! Plain words on a run: what is wrong with what was read, and how to mend it.
+//! Plain words on a run that is over: what is wrong with what was read, and how to mend it. It
+//! looks at the texts again and decides nothing.
+//!
+//! [`explain`] has a call for each way in which a run ends, and [`solved`] lists the problems that
+//! are solved.
 #![tactic(auto)]
 
 mod advice;

@@ -1,6 +1,6 @@
 //! What is wrong with a notation, and the problems nearest to one that is not solved.
 use crate::page::Page;
-use crate::solved::{CLASSES, notation_of, push_class};
+use crate::solved::{CLASSES, push_class};
 use std::alloc::{AllocError, Global};
 use strsim::osa_distance;
 use tf_model::problem::{Env, Problem};

@@ -5,7 +5,7 @@ use crate::page::Page;
 use crate::source::Source;
 use std::alloc::{AllocError, Global};
 use tf_engine::request::{Form, Request};
-use tf_model::class::class_of;
+use tf_model::class::{Class, class_of};
 use tf_model::ids::JobId;
 use tf_model::instance::Instance;
 use tf_model::job::Job;
@@ -191,6 +191,6 @@ fn say_lacking(page: &mut Page, instance: &Instance, field: Field) -> Result<(),
 }
 
 /// The class of a problem line, if it is of one.
-pub(crate) fn class_in(problem: &str) -> Option<tf_model::class::Class> {
+pub(crate) fn class_in(problem: &str) -> Option<Class> {
     class_of(&read(problem.as_bytes()).ok()?)
 }

@@ -33,7 +33,7 @@ pub(crate) static CLASSES: [Class; 19] = [
 const HEADING: &str = "PROBLEM          NEEDS        WHAT IS LEAST, AND WHERE\n";
 
 /// The notation of a class.
-pub(crate) fn notation_of(alloc: Global, class: Class) -> Result<String, AllocError> {
+fn notation_of(alloc: Global, class: Class) -> Result<String, AllocError> {
     match notation_text(alloc, &class.notation()) {
         Ok(text) => Ok(text),
         Err(_) => Err(AllocError),

@@ -2,5 +2,9 @@
 mod answers;
 mod cases;
 mod devices;
+mod file_mistakes;
 mod mistakes;
+mod notation_mistakes;
+mod table_mistakes;
 mod table_of_advice;
+mod task_mistakes;
