@@ -11,10 +11,10 @@ pub mod request;
 pub mod run_check;
 pub mod run_gantt;
 pub mod run_solve;
-mod sheet_said;
+pub mod sheet_said;
 pub mod solve;
-mod task_for;
+pub mod task_for;
 pub mod text;
 #[cfg(test)]
 mod trial;
-mod verdict_line;
+pub mod verdict_line;
