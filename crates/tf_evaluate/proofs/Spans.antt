@@ -3,11 +3,15 @@ use Rattle.std.proofs.Common.{◌≡◌, ◌≢◌, ℕ, ◌+◌, ◌<◌, ◌�
 use Rattle.std.proofs.lemmas.List.{take_more}
 use Rattle.std.proofs.lemmas.Bool.{cases_lt}
 use Rattle.std.proofs.lemmas.Bool.Decides.{nat_tests}
+use Rattle.tf_model.specs.SchedulingTask.{SchedulingTask}
+use Rattle.tf_model.specs.Cost.{price}
 use Rattle.tf_schedule.specs.declared.piece.Piece.{Piece}
 use Rattle.tf_schedule.specs.Drawing.{stop_of}
 use Rattle.tf_schedule.specs.Amounts.{least_by, start_of, last_stop}
 use Rattle.tf_schedule.proofs.Extents.{greatest_push}
 use Rattle.tf_evaluate.specs.declared.outcomes.Span.{Span}
+use Rattle.tf_evaluate.specs.declared.evaluation.JobOutcome.{JobOutcome}
+use Rattle.tf_evaluate.specs.Outcomes.{first_start}
 use Rattle.tf_evaluate.specs.Spans.{no_span, with_piece, span_of, HasSpans}
 
 -- the least start with one more piece
@@ -110,3 +114,12 @@ pub no_spans : (ps : List Piece) (jobs : ℕ) (spans : List Span) → length spa
     → ((k : ℕ) (d : Span) → k < jobs → get_or spans k d ≡ no_span)
     → HasSpans (take 0 ps) jobs spans
 no_spans ps jobs spans len each = record { len = len; each = each }
+
+-- what happens to a job whose pieces have this span
+abbrev pub outcome_in : SchedulingTask → ℕ → Span → JobOutcome
+outcome_in k j s = record {
+  job = j;
+  start = first_start s.start s.stop;
+  completion = s.stop;
+  price = price k j s.stop;
+}

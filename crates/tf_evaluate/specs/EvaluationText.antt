@@ -43,21 +43,24 @@ outcome_words o =
     codes "job" ∷ decimal o.job ∷ decimal o.start ∷ decimal o.completion ∷ signed_decimal o.price
     ∷ []
 
--- all lines: a heading, what is asked, how the pieces fit, the four numbers, and the jobs
+-- how the pieces fit, and the four numbers: what is claimed, the cost, the least cost with the gap
+-- between the two, and what the certificate bounds
+abbrev pub judgement_lines : EvaluationData → List (List (List ℕ))
+judgement_lines e =
+    fit_words e.fit
+    ∷ (codes "claimed" ∷ signed_decimal e.claimed ∷ [])
+    ∷ (value_lines e.fit
+    ++ (codes "best" ∷ signed_decimal e.best ∷ [])
+    ∷ (gap_lines e.fit e.best ++ bound_lines e.bound))
+
+-- all lines: a heading, what is asked, the judgement, and the jobs
 abbrev pub evaluation_lines : EvaluationData → List (List (List ℕ))
 evaluation_lines e =
     (codes "evaluation" ∷ codes "1" ∷ [])
     ∷ (codes "problem" ∷ canonical e.problem ∷ [])
     ∷ (codes "jobs" ∷ decimal e.jobs ∷ [])
     ∷ (codes "machines" ∷ decimal e.machines ∷ [])
-    ∷ fit_words e.fit
-    ∷ (codes "claimed" ∷ signed_decimal e.claimed ∷ [])
-    ∷ (value_lines e.fit
-    ++ (codes "best" ∷ signed_decimal e.best ∷ [])
-    ∷ (gap_lines e.fit e.best
-    ++ bound_lines e.bound
-    ++ map outcome_words e.outcomes
-    ++ (codes "end" ∷ []) ∷ []))
+    ∷ (judgement_lines e ++ (map outcome_words e.outcomes ++ (codes "end" ∷ []) ∷ []))
 
 -- the text of an evaluation
 unfoldable pub evaluation_text : EvaluationData → List ℕ

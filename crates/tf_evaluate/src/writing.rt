@@ -2,7 +2,7 @@
 ghost use Rattle.std.specs.Prelude.{◌≡◌, [], ◌∷◌, ◌++◌, map, IfOk, OnOk};
 ghost use Rattle.std.specs.List.{flat_map, join_with_byte};
 ghost use Rattle.tf_text.specs.AnswerText.{line_text};
-ghost use Rattle.tf_evaluate.specs.EvaluationText.{fit_words, value_lines, gap_lines, bound_words, bound_lines, outcome_words, evaluation_text};
+ghost use Rattle.tf_evaluate.specs.EvaluationText.{fit_words, value_lines, gap_lines, bound_words, bound_lines, outcome_words, judgement_lines, evaluation_text};
 
 use crate::evaluation::{Evaluation, Fit, JobOutcome};
 use std::alloc::Allocator;
@@ -25,15 +25,27 @@ pub fn evaluation_bytes<A: Allocator + Copy, M: Allocator>(
     text.push(b'\n')?;
     push_number_line(&mut text, b"jobs", evaluation.jobs)?;
     push_number_line(&mut text, b"machines", evaluation.machines)?;
-    push_fit(&mut text, &evaluation.fit)?;
-    push_number_line(&mut text, b"claimed", evaluation.claimed)?;
-    push_value(&mut text, &evaluation.fit)?;
-    push_number_line(&mut text, b"best", evaluation.best)?;
-    push_gap(&mut text, &evaluation.fit, evaluation.best)?;
-    push_bound(&mut text, &evaluation.bound)?;
+    push_judgement(&mut text, evaluation)?;
     push_outcomes(&mut text, evaluation.outcomes.as_slice())?;
     text.extend_from_slice(b"end\n")?;
     Ok(text)
+}
+
+// How the pieces fit, and the four numbers.
+fn push_judgement<A: Allocator, M: Allocator>(
+    text: &mut Vec<u8, A>,
+    evaluation: &Evaluation<M>,
+) -> Result<(), OutOfMemory>
+    ensures { OnOk result (text.new.items
+        ≡ text.old.items ++ flat_map line_text (judgement_lines evaluation.now)) }
+{
+    push_fit(text, &evaluation.fit)?;
+    push_number_line(text, b"claimed", evaluation.claimed)?;
+    push_value(text, &evaluation.fit)?;
+    push_number_line(text, b"best", evaluation.best)?;
+    push_gap(text, &evaluation.fit, evaluation.best)?;
+    push_bound(text, &evaluation.bound)?;
+    Ok(())
 }
 
 // `fits`, or `misfit` and why.
