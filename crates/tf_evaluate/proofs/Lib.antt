@@ -1,3 +1,4 @@
 pub mod Spans
 pub mod Written
 pub mod Judged
+pub mod Unevaluated
