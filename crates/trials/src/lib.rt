@@ -7,6 +7,8 @@ mod counted;
 pub mod devices;
 #[cfg(test)]
 mod devices_in_runs;
+#[cfg(test)]
+mod evaluated;
 pub mod examples;
 pub mod growths;
 pub mod runs;
