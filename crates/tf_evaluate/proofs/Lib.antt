@@ -2,3 +2,4 @@ pub mod Spans
 pub mod Written
 pub mod Judged
 pub mod Unevaluated
+pub mod Standing

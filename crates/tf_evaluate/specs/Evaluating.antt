@@ -1,8 +1,9 @@
 -- How an answer stands to a task.
-use Rattle.std.specs.Prelude.{◌≡◌, ℕ, ℤ, List, [], map, length, Option, None, Some, Result}
+use Rattle.std.specs.Prelude.{◌≡◌, ◌↔◌, ℕ, ℤ, ◌<ℤ◌, List, [], map, length, Option, None, Some, Result}
 use Rattle.tf_model.specs.declared.problem.Problem.{Problem}
 use Rattle.tf_model.specs.SchedulingTask.{SchedulingTask, all_jobs}
 use Rattle.tf_model.specs.Timetable.{Timetable}
+use Rattle.tf_model.specs.Feasible.{Fits as FitsTask}
 use Rattle.tf_model.specs.Cost.{cost, IsBest}
 use Rattle.tf_schedule.specs.declared.piece.Piece.{Piece}
 use Rattle.tf_check.specs.Claim.{AnswerData}
@@ -15,7 +16,9 @@ use Rattle.tf_engine.specs.Checking.{IsFor}
 use Rattle.tf_evaluate.specs.declared.evaluation.Fit.{Fit}
 use Rattle.tf_evaluate.specs.declared.evaluation.Fit.TheVariants.{Fits, OtherTask, NoSchedule, Misfit}
 use Rattle.tf_evaluate.specs.declared.evaluation.JobOutcome.{JobOutcome}
-use Rattle.tf_evaluate.specs.EvaluationData.{EvaluationData}
+use Rattle.tf_evaluate.specs.declared.evaluation.Standing.{Standing}
+use Rattle.tf_evaluate.specs.declared.evaluation.Standing.TheVariants.{Best, Beaten, Unfit}
+use Rattle.tf_evaluate.specs.EvaluationData.{EvaluationData, standing_of, gap}
 use Rattle.tf_evaluate.specs.Outcomes.{outcome_of}
 
 -- some timetable fits and costs this, and none that fits costs less
@@ -35,6 +38,16 @@ abbrev pub HasFit : SchedulingTask → SheetData → Fit → Type 0
 HasFit k sheet OtherTask = ¬ (IsFor k sheet)
 HasFit k sheet fit = IsFor k sheet × IsJudged k sheet.answer fit
 
+-- what the schedule comes to: none that fits costs less, or this other timetable does
+abbrev pub HasStanding : SchedulingTask → SheetData → Standing → Type 0
+HasStanding k sheet Best = IsFor k sheet × (rows : Timetable)
+    × DrawsFitting k sheet.answer.pieces rows × IsBest k rows (cost k rows)
+HasStanding k sheet Beaten = IsFor k sheet × (rows : Timetable)
+    × DrawsFitting k sheet.answer.pieces rows
+    × (other : Timetable) × FitsTask k other × (cost k other <ℤ cost k rows)
+HasStanding k sheet Unfit = IsFor k sheet → (rows : Timetable)
+    → ¬ (DrawsFitting k sheet.answer.pieces rows)
+
 -- what the certificate bounds, or its first fault
 abbrev pub bound_for : SchedulingTask → AnswerData → Fit → Option (Result ℤ BoundFault)
 bound_for k a OtherTask = None
@@ -45,6 +58,11 @@ abbrev pub outcomes_for : SchedulingTask → List Piece → Fit → List JobOutc
 outcomes_for k ps OtherTask = []
 outcomes_for k ps (NoSchedule fault) = []
 outcomes_for k ps _ = map (outcome_of k ps) (all_jobs k)
+
+-- the gap is 0 exactly where the schedule is best
+abbrev pub HasGap : Fit → ℤ → Type 0
+HasGap (Fits value) best = (gap value best ≡ 0) ↔ (standing_of (Fits value) best ≡ Best)
+HasGap _ best = Unit {0}
 
 pub record IsEvaluation (problem : Problem) (k : SchedulingTask) (sheet : SheetData)
     (e : EvaluationData) : Type 0 where

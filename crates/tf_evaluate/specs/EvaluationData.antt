@@ -1,5 +1,5 @@
 -- What an evaluation says, whatever memory holds it.
-use Rattle.std.specs.Prelude.{ℕ, ℤ, int_le, List, Option, Result, if◌then◌else◌}
+use Rattle.std.specs.Prelude.{ℕ, ℤ, ◌-ℤ◌, unsigned_abs, int_le, List, Option, Result, if◌then◌else◌}
 use Rattle.tf_model.specs.declared.problem.Problem.{Problem}
 use Rattle.tf_check.specs.declared.fault.BoundFault.{BoundFault}
 use Rattle.tf_evaluate.specs.declared.evaluation.Fit.{Fit}
@@ -17,6 +17,10 @@ pub record EvaluationData : Type 0 where
   pub best : ℤ
   pub bound : Option (Result ℤ BoundFault)
   pub outcomes : List JobOutcome
+
+-- how far a cost is from the least one
+abbrev pub gap : ℤ → ℤ → ℕ
+gap value best = unsigned_abs (value -ℤ best)
 
 -- a schedule that fits is best where it costs no more than the least cost
 abbrev pub standing_of : Fit → ℤ → Standing

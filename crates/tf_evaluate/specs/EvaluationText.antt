@@ -1,5 +1,5 @@
 -- The text of an evaluation.
-use Rattle.std.specs.Prelude.{ℕ, ℤ, ◌-ℤ◌, unsigned_abs, List, [], ◌∷◌, ◌++◌, map, codes, Option, None, Some, Result, Ok, Err}
+use Rattle.std.specs.Prelude.{ℕ, ℤ, List, [], ◌∷◌, ◌++◌, map, codes, Option, None, Some, Result, Ok, Err}
 use Rattle.std.specs.List.{flat_map}
 use Rattle.std.specs.Fmt.{decimal, signed_decimal}
 use Rattle.tf_notation.specs.Canonical.{canonical}
@@ -9,7 +9,7 @@ use Rattle.tf_engine.specs.VerdictLine.{piece_fault_words, misfit_words, bound_f
 use Rattle.tf_evaluate.specs.declared.evaluation.Fit.{Fit}
 use Rattle.tf_evaluate.specs.declared.evaluation.Fit.TheVariants.{Fits, OtherTask, NoSchedule, Misfit}
 use Rattle.tf_evaluate.specs.declared.evaluation.JobOutcome.{JobOutcome}
-use Rattle.tf_evaluate.specs.EvaluationData.{EvaluationData}
+use Rattle.tf_evaluate.specs.EvaluationData.{EvaluationData, gap}
 
 -- `fits`, or `misfit` and why
 abbrev pub fit_words : Fit → List (List ℕ)
@@ -25,7 +25,7 @@ value_lines _ = []
 
 -- by how much it costs more than the least cost
 abbrev pub gap_lines : Fit → ℤ → List (List (List ℕ))
-gap_lines (Fits value) best = (codes "gap" ∷ decimal (unsigned_abs (value -ℤ best)) ∷ []) ∷ []
+gap_lines (Fits value) best = (codes "gap" ∷ decimal (gap value best) ∷ []) ∷ []
 gap_lines _ best = []
 
 -- what the certificate bounds, or its first fault

@@ -16,7 +16,7 @@ use Rattle.tf_engine.specs.Headline.{IsRefusedRun}
 use Rattle.tf_engine.specs.Checking.{IsRefusedCheck, HasReaderFailed}
 use Rattle.tf_evaluate.specs.declared.evaluation.Standing.{Standing}
 use Rattle.tf_evaluate.specs.EvaluationData.{EvaluationData, standing_of}
-use Rattle.tf_evaluate.specs.Evaluating.{IsEvaluation}
+use Rattle.tf_evaluate.specs.Evaluating.{IsEvaluation, HasStanding, HasGap}
 use Rattle.tf_evaluate.specs.EvaluationText.{evaluation_text}
 
 -- the request and the instance text mean a task, the answer text says a sheet, and this is its
@@ -30,6 +30,8 @@ pub record IsEvaluated (request : RequestData) (instance answer : List ℕ) (e :
   pub sheet : SheetData
   pub said : answer_in answer ≡ Ok sheet
   pub evaluation : IsEvaluation problem task sheet e
+  pub standing : HasStanding task sheet (standing_of e.fit e.best)
+  pub gap_is : HasGap e.fit e.best
 
 -- a text that says the evaluation
 abbrev pub SaysEvaluation : RequestData → List ℕ → List ℕ → List ℕ → Type 0

@@ -1,7 +1,8 @@
 //! An answer, evaluated.
 ghost use Rattle.std.specs.Prelude.{◌≡◌, IfOk, IfErr};
 ghost use Rattle.tf_engine.specs.Solvers.{IsNotSolved};
-ghost use Rattle.tf_evaluate.specs.Evaluating.{IsEvaluation, IsLeastCost, HasFit, IsJudged, bound_for, outcomes_for};
+ghost use Rattle.tf_evaluate.specs.Evaluating.{IsEvaluation, IsLeastCost, HasFit, HasStanding, HasGap, IsJudged, bound_for, outcomes_for};
+ghost use Rattle.tf_evaluate.specs.EvaluationData.{standing_of};
 
 use crate::evaluation::{Evaluation, Fit, JobOutcome};
 use crate::outcomes::outcomes;
@@ -28,6 +29,8 @@ pub fn evaluate<A: Allocator + Copy, B: Allocator, C: Allocator>(
     sheet: &Sheet<C>,
 ) -> Result<Evaluation<A>, SolveFault<A>>
     ensures evaluation { IfOk result (IsEvaluation problem.now task.now sheet.now) }
+    ensures standing { IfOk result
+        (λ e. HasStanding task.now sheet.now (standing_of e.fit e.best) × HasGap e.fit e.best) }
     ensures refused { IfErr result (IsNotSolved task.now) }
 {
     let best = least_cost(alloc, task)?;
