@@ -1,17 +1,14 @@
 -- What a schedule comes to.
-use Rattle.std.proofs.Common.{◌≡◌, ◌↔◌, ◌<◌, ◌≤ℤ◌, ◌<ℤ◌, ◌-ℤ◌, ℤ, pos, negsuc, ℕ, List, int_le, nat_le, unsigned_abs, Bool, true, false, cond, All, refl, sym, subst, ap, ◌∙◌, arith}
+use Rattle.std.proofs.Common.{◌≡◌, ◌<◌, ◌≤ℤ◌, ◌<ℤ◌, ◌-ℤ◌, ℤ, pos, negsuc, ℕ, int_le, nat_le, unsigned_abs, Bool, true, false, cond, refl, sym, subst, ap, ◌∙◌, arith}
 use Rattle.std.specs.Int.Signed.{le_z_yes}
 use Rattle.std.specs.Prelude.{T}
 use Rattle.std.proofs.lemmas.Bool.{le-leb, lt-ltb}
 use Rattle.std.proofs.lemmas.Bool.Decides.{nat_tests}
 use Rattle.std.proofs.lemmas.Int.{ints}
-use Rattle.std.specs.List.Sorted.{IsPermutation}
 use Rattle.std.proofs.lemmas.List.Sorted.{All-permutation, IsPermutation-sym}
 use Rattle.tf_model.specs.SchedulingTask.{SchedulingTask}
 use Rattle.tf_model.specs.Timetable.{Timetable}
 use Rattle.tf_model.specs.Feasible.{Fits as FitsTask}
-use Rattle.tf_model.specs.Cost.{cost}
-use Rattle.tf_schedule.specs.declared.piece.Piece.{Piece}
 use Rattle.tf_schedule.specs.declared.fit.Misfit.{Misfit as MisfitOf}
 use Rattle.tf_schedule.specs.Drawing.{drawing, IsOnMachine}
 use Rattle.tf_schedule.proofs.Permuted.{drawing_permutation, drawing_only}
@@ -24,7 +21,7 @@ use Rattle.tf_text.specs.AnswerText.{SheetData}
 use Rattle.tf_evaluate.specs.declared.evaluation.Fit.{Fit}
 use Rattle.tf_evaluate.specs.declared.evaluation.Fit.TheVariants.{Fits, OtherTask, NoSchedule, Misfit}
 use Rattle.tf_evaluate.specs.declared.evaluation.Standing.TheVariants.{Best, Beaten}
-use Rattle.tf_evaluate.specs.EvaluationData.{standing_of, gap}
+use Rattle.tf_evaluate.specs.EvaluationData.{standing_of}
 use Rattle.tf_evaluate.specs.Evaluating.{IsLeastCost, HasFit, HasStanding, HasGap}
 
 -- ---- a schedule that fits

@@ -6,8 +6,6 @@ use Rattle.tf_model.specs.declared.problem.Problem.{Problem}
 use Rattle.tf_text.specs.declared.counted.Counted.{Counted}
 use Rattle.tf_text.specs.Counted.{has_failed, DeviceUse, use_of, unused}
 use Rattle.tf_text.specs.Input.{IsTextOf}
-use Rattle.tf_text.specs.AnswerText.{SheetData}
-use Rattle.tf_text.specs.AnswerReading.{answer_in}
 use Rattle.tf_engine.specs.declared.fault.RunFault.{RunFault}
 use Rattle.tf_engine.specs.declared.solve.SolveFault.{SolveFault}
 use Rattle.tf_engine.specs.declared.solve.SolveFault.TheVariants as solves

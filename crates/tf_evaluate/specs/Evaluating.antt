@@ -1,5 +1,5 @@
 -- How an answer stands to a task.
-use Rattle.std.specs.Prelude.{◌≡◌, ◌↔◌, ℕ, ℤ, ◌<ℤ◌, List, [], map, length, Option, None, Some, Result}
+use Rattle.std.specs.Prelude.{◌≡◌, ◌↔◌, ℤ, ◌<ℤ◌, List, [], map, length, Option, None, Some, Result}
 use Rattle.tf_model.specs.declared.problem.Problem.{Problem}
 use Rattle.tf_model.specs.SchedulingTask.{SchedulingTask, all_jobs}
 use Rattle.tf_model.specs.Timetable.{Timetable}

@@ -124,9 +124,7 @@ fn outcomes_of<A: Allocator + Copy, B: Allocator, C: Allocator>(
         (λ v. v.items ≡ outcomes_for task.now sheet.now.answer.pieces fit.now) }
 {
     match fit {
-        Fit::Fits(_) | Fit::Misfit(_) => {
-            outcomes(alloc, task, sheet.answer.pieces.as_slice())
-        }
+        Fit::Fits(_) | Fit::Misfit(_) => { outcomes(alloc, task, sheet.answer.pieces.as_slice()) }
         Fit::OtherTask | Fit::NoSchedule(_) => Ok(Vec::new(alloc)),
     }
 }

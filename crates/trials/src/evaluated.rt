@@ -190,7 +190,13 @@ fn answer_of(rt: &HostRuntime, case: &Case) -> Result<Vec<u8>, AllocError> {
 /// another first line.
 fn wanted_of(rt: &HostRuntime, case: &Case) -> Result<Vec<u8>, AllocError> {
     let mut text = Vec::from_slice(rt.alloc(), b"evaluation 1\n")?;
-    for line in case.example.answer.split_inclusive(|byte| *byte == b'\n').take(4).skip(1) {
+    for line in case
+        .example
+        .answer
+        .split_inclusive(|byte| *byte == b'\n')
+        .take(4)
+        .skip(1)
+    {
         text.extend_from_slice(line)?;
     }
     text.extend_from_slice(case.wanted)?;
@@ -203,7 +209,13 @@ fn each_case_is_evaluated(rt: HostRuntime) -> Result<(), Fail> {
         let request = request_for(&rt, &case.example, Layout::One)?;
         let answer = answer_of(&rt, case)?;
         let mut out = Vec::new(rt.alloc());
-        let result = evaluate_into(rt.alloc(), &request, case.example.instance, &answer, &mut out);
+        let result = evaluate_into(
+            rt.alloc(),
+            &request,
+            case.example.instance,
+            &answer,
+            &mut out,
+        );
         ensure(result == Ok(case.standing), case.example.name)?;
         ensure(out == wanted_of(&rt, case)?, case.example.name)?;
     }
@@ -229,7 +241,10 @@ fn what_is_printed_is_best(rt: HostRuntime) -> Result<(), Fail> {
             let mut out = Vec::new(rt.alloc());
             let result = evaluate_into(rt.alloc(), &request, example.instance, &answer, &mut out);
             ensure(result == Ok(Standing::Best), example.name)?;
-            ensure(has_line(&out, b"fits") && has_line(&out, b"gap 0"), example.name)?;
+            ensure(
+                has_line(&out, b"fits") && has_line(&out, b"gap 0"),
+                example.name,
+            )?;
         }
     }
     Ok(())
@@ -263,8 +278,9 @@ fn each_case_is_evaluated_whatever_growth_is_refused(rt: HostRuntime) -> Result<
         let request = request_for(&rt, &case.example, Layout::One)?;
         let answer = answer_of(&rt, case)?;
         let wanted = wanted_of(&rt, case)?;
-        let call =
-            |heap: &Refusing<Global>| evaluates_on(&rt, heap, &request, case, &answer, &wanted);
+        let call = |heap: &Refusing<Global>| evaluates_on(
+            &rt, heap, &request, case, &answer, &wanted,
+        );
         let growths = refuse_each_growth(&rt, call)?;
         ensure(growths > 3, case.example.name)?;
     }
@@ -291,7 +307,13 @@ fn cycles_are_refused_and_failures_stop(rt: HostRuntime) -> Result<(), Fail> {
         let mut instance = Counted::new(&mut source);
         let mut answer = Counted::new(&mut other);
         let mut writer = Counted::new(&mut sink);
-        let result = run_evaluate(rt.alloc(), &request, &mut instance, &mut answer, &mut writer);
+        let result = run_evaluate(
+            rt.alloc(),
+            &request,
+            &mut instance,
+            &mut answer,
+            &mut writer,
+        );
         ensure(result == Err(RunFault::Device), "no device fault")?;
         ensure(sink.calls() == call, "it was called again")?;
     }

@@ -1,4 +1,4 @@
-use Rattle.std.proofs.Common.{◌≡◌, ap, subst, ◌∙◌, rules, SFits, to_z, of_z}
+use Rattle.std.proofs.Common.{◌≡◌, ap, subst, ◌∙◌, rules, SFits}
 use Rattle.std.specs.Int.{w128}
 use Rattle.std.specs.List.Sorted.{IsPermutation}
 use Rattle.std.proofs.lemmas.Int.{to_z-of_z}

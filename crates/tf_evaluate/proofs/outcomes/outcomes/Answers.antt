@@ -1,7 +1,6 @@
-use Rattle.std.proofs.Common.{◌≡◌, ◌+◌, ◌<◌, ◌≤◌, ℕ, List, [], ◌∷◌, ◌++◌, map, sym, ap, ◌∙◌, arith}
+use Rattle.std.proofs.Common.{◌≡◌, ◌+◌, ◌<◌, List, [], ◌∷◌, ◌++◌, map, sym, ap, ◌∙◌, arith}
 use Rattle.std.specs.List.{range_with_len}
 use Rattle.std.proofs.lemmas.List.FromFn.{map-range_with_len_more}
-use Rattle.tf_model.specs.Limit.{limit}
 use Rattle.tf_schedule.proofs.Busy.{stop_within}
 use Rattle.tf_evaluate.specs.declared.outcomes.Span.{Span}
 use Rattle.tf_evaluate.specs.declared.evaluation.JobOutcome.{JobOutcome}
