@@ -4,7 +4,7 @@ ghost use Rattle.std.specs.Io.KnownBytes.{IsAtEnd};
 ghost use Rattle.tf_model.specs.declared.limit.TheConstants.{MOST_BYTES};
 ghost use Rattle.tf_text.specs.Counted.{inner_of, pulled_of, has_failed, use_of, ConsumesAtMost};
 ghost use Rattle.tf_engine.specs.Refusal.{problem_for};
-ghost use Rattle.tf_engine.specs.Faults.{Refuses, Wants, stop_of, is_failure, is_refusal};
+ghost use Rattle.tf_engine.specs.Faults.{Refuses, Wants, stop_of, is_failure, is_refusal, is_of_answer, is_of_whole, is_of_whole_answer};
 ghost use Rattle.tf_evaluate.specs.RunEvaluating.{IsEvaluationOf};
 
 use crate::evaluate::evaluate;
@@ -50,11 +50,14 @@ pub fn run_evaluate<A: Allocator + Copy, B: Allocator, R: Read, S: Read, W: Writ
         IfErr result (λ e. is_refusal (stop_of e) ≡ true → has_failed instance.new ≡ false) }
     ensures wanting { IfErr result (λ e. stop_of e ≡ Wants →
         (instance.new ≡ instance.old) ⊎ (has_failed instance.new ≡ false)) }
+    ensures ended { IsOk (problem_for request.now.problem) →
+        is_of_whole result ≡ true → IsAtEnd (R.remaining (inner_of instance.new)) }
+    ensures read_answer { IfErr result
+        (λ e. is_of_answer (stop_of e) ≡ true → has_failed answer.new ≡ false) }
     ensures wanting_answer { IfErr result (λ e. stop_of e ≡ Wants →
         (answer.new ≡ answer.old) ⊎ (has_failed answer.new ≡ false)) }
-    ensures ended { OnOk result
-        (IsAtEnd (R.remaining (inner_of instance.new))
-        × IsAtEnd (S.remaining (inner_of answer.new))) }
+    ensures ended_answer { is_of_whole_answer result ≡ true →
+        IsAtEnd (S.remaining (inner_of answer.new)) }
     ensures pulled { ConsumesAtMost (MOST_BYTES + 1) (R.remaining (inner_of instance.old))
         (R.remaining (inner_of instance.new)) }
     ensures counted { pulled_of instance.new ≤ pulled_of instance.old + (MOST_BYTES + 1) }
