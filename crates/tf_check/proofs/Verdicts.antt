@@ -89,7 +89,7 @@ none_here Q P None good bad both = bad
 none_here Q P (Some x) good bad both = both x (good x refl) bad
 
 -- pieces with a fault are out of range, empty, or claim a cell twice
-fault_excludes : (ps : List Piece) (fault : PieceFault) → All IsPiece ps → NoneTwice ps
+pub fault_excludes : (ps : List Piece) (fault : PieceFault) → All IsPiece ps → NoneTwice ps
     → HasFirstFault ps fault → ⊥
 fault_excludes ps (OutOfRange n) sound once h =
     none_here (λ p. ¬ (IsInRange p)) IsPiece (slice_get ps (n - 1))

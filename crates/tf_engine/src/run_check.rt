@@ -100,8 +100,8 @@ pub fn run_check<A: Allocator + Copy, B: Allocator, R: Read, S: Read, W: Write>(
     Ok(checked)
 }
 
-// Whether the sheet's problem is of the task's class, and its sizes are the task's.
-fn is_for<B: Allocator, C: Allocator>(task: &Task<B>, sheet: &Sheet<C>) -> bool
+/// Whether the sheet's problem is of the task's class, and its sizes are the task's.
+pub fn is_for<B: Allocator, C: Allocator>(task: &Task<B>, sheet: &Sheet<C>) -> bool
     ensures { IsTrue result ↔ IsFor task.now sheet.now }
 {
     class_of(&sheet.problem) == Some(task.class())

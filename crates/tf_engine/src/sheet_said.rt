@@ -16,7 +16,7 @@ use tf_text::counted::Counted;
 use tf_text::input::{InputFault, read_all};
 
 /// The sheet that the answer text says.
-pub(crate) fn sheet_said<A: Allocator + Copy, S: Read>(
+pub fn sheet_said<A: Allocator + Copy, S: Read>(
     alloc: A,
     answer: &mut Counted<S>,
 ) -> Result<Sheet<A>, RunFault<A>>

@@ -16,7 +16,7 @@ use tf_notation::reading::read;
 use tf_text::counted::Counted;
 
 /// The problem of a line, which has a class.
-pub(crate) fn problem_for<A: Allocator>(text: &str) -> Result<Problem, RunFault<A>>
+pub fn problem_for<A: Allocator>(text: &str) -> Result<Problem, RunFault<A>>
     ensures { GivesProblem result (problem_for text.now) }
 {
     let problem = read(text.as_bytes())?;
@@ -27,7 +27,7 @@ pub(crate) fn problem_for<A: Allocator>(text: &str) -> Result<Problem, RunFault<
 }
 
 /// The task of a problem and the instance that the reader's text holds.
-pub(crate) fn task_read<A: Allocator + Copy, B: Allocator, R: Read>(
+pub fn task_read<A: Allocator + Copy, B: Allocator, R: Read>(
     alloc: A,
     request: &Request<B>,
     problem: &Problem,

@@ -83,7 +83,8 @@ fn push_name<A: Allocator>(text: &mut Vec<u8, A>, name: &[u8]) -> Result<(), Out
     Ok(())
 }
 
-fn push_piece_fault<A: Allocator>(
+/// Adds a fault of the pieces by its name and its arguments.
+pub fn push_piece_fault<A: Allocator>(
     text: &mut Vec<u8, A>,
     fault: &PieceFault,
 ) -> Result<(), OutOfMemory>
@@ -99,7 +100,8 @@ fn push_piece_fault<A: Allocator>(
     }
 }
 
-fn push_misfit<A: Allocator>(text: &mut Vec<u8, A>, misfit: &Misfit) -> Result<(), OutOfMemory>
+/// Adds a misfit by its name and its arguments.
+pub fn push_misfit<A: Allocator>(text: &mut Vec<u8, A>, misfit: &Misfit) -> Result<(), OutOfMemory>
     ensures { OnOk result
         (text.new.items ≡ text.old.items ++ join_with_byte 32 (misfit_words misfit.now)) }
 {
@@ -116,7 +118,8 @@ fn push_misfit<A: Allocator>(text: &mut Vec<u8, A>, misfit: &Misfit) -> Result<(
     }
 }
 
-fn push_bound_fault<A: Allocator>(
+/// Adds a fault of a certificate by its name and its arguments.
+pub fn push_bound_fault<A: Allocator>(
     text: &mut Vec<u8, A>,
     fault: &BoundFault,
 ) -> Result<(), OutOfMemory>

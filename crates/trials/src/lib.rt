@@ -11,6 +11,8 @@ pub mod devices;
 mod devices_in_runs;
 #[cfg(test)]
 mod drawn;
+#[cfg(test)]
+mod evaluated;
 pub mod examples;
 pub mod growths;
 #[cfg(test)]

@@ -11,6 +11,8 @@ use tf_engine::run_check::{Checked, run_check};
 use tf_engine::run_gantt::run_gantt;
 use tf_engine::run_solve::run_solve;
 use tf_engine::text::Text;
+use tf_evaluate::evaluation::Standing;
+use tf_evaluate::run_evaluate::run_evaluate;
 use tf_text::answer::layout::Layout;
 use tf_text::counted::Counted;
 
@@ -88,6 +90,20 @@ pub fn check_into<A: Allocator + Copy>(
     let mut answer = Counted::new(answer);
     let mut writer = Counted::new(out);
     run_check(alloc, request, &mut instance, &mut answer, &mut writer)
+}
+
+/// Evaluates an answer text.
+pub fn evaluate_into<A: Allocator + Copy>(
+    alloc: A,
+    request: &Request,
+    instance: &[u8],
+    answer: &[u8],
+    out: &mut Vec<u8>,
+) -> Result<Standing, RunFault<A>> {
+    let mut instance = Counted::new(instance);
+    let mut answer = Counted::new(answer);
+    let mut writer = Counted::new(out);
+    run_evaluate(alloc, request, &mut instance, &mut answer, &mut writer)
 }
 
 /// Draws an answer text.

@@ -143,7 +143,8 @@ fn push_jobs<A: Allocator>(
     }
 }
 
-fn push_number_line<A: Allocator, I: Integer>(
+/// Adds a line of a word and a number.
+pub fn push_number_line<A: Allocator, I: Integer>(
     text: &mut Vec<u8, A>,
     key: &[u8],
     number: I,

@@ -1,0 +1,5 @@
+pub mod Spans
+pub mod Written
+pub mod Judged
+pub mod Unevaluated
+pub mod Standing

@@ -1,0 +1,121 @@
+-- What a schedule comes to.
+use Rattle.std.proofs.Common.{◌≡◌, ◌<◌, ◌≤ℤ◌, ◌<ℤ◌, ◌-ℤ◌, ℤ, pos, negsuc, ℕ, int_le, nat_le, unsigned_abs, Bool, true, false, cond, refl, sym, subst, ap, ◌∙◌, arith}
+use Rattle.std.specs.Int.Signed.{le_z_yes}
+use Rattle.std.specs.Prelude.{T}
+use Rattle.std.proofs.lemmas.Bool.{le-leb, lt-ltb}
+use Rattle.std.proofs.lemmas.Bool.Decides.{nat_tests}
+use Rattle.std.proofs.lemmas.Int.{ints}
+use Rattle.std.proofs.lemmas.List.Sorted.{All-permutation, IsPermutation-sym}
+use Rattle.tf_model.specs.SchedulingTask.{SchedulingTask}
+use Rattle.tf_model.specs.Timetable.{Timetable}
+use Rattle.tf_model.specs.Feasible.{Fits as FitsTask}
+use Rattle.tf_schedule.specs.declared.fit.Misfit.{Misfit as MisfitOf}
+use Rattle.tf_schedule.specs.Drawing.{drawing, IsOnMachine}
+use Rattle.tf_schedule.proofs.Permuted.{drawing_permutation, drawing_only}
+use Rattle.tf_schedule.proofs.Excludes.{no_misfit}
+use Rattle.tf_check.specs.Claim.{AnswerData}
+use Rattle.tf_check.specs.Verdict.{DrawsFitting, HasReason}
+use Rattle.tf_check.specs.declared.verdict.Reason.TheVariants as reasons
+use Rattle.tf_check.proofs.Verdicts.{fault_excludes}
+use Rattle.tf_text.specs.AnswerText.{SheetData}
+use Rattle.tf_evaluate.specs.declared.evaluation.Fit.{Fit}
+use Rattle.tf_evaluate.specs.declared.evaluation.Fit.TheVariants.{Fits, OtherTask, NoSchedule, Misfit}
+use Rattle.tf_evaluate.specs.declared.evaluation.Standing.TheVariants.{Best, Beaten}
+use Rattle.tf_evaluate.specs.EvaluationData.{standing_of}
+use Rattle.tf_evaluate.specs.Evaluating.{IsLeastCost, HasFit, HasStanding, HasGap}
+
+-- ---- a schedule that fits
+
+no_more : (a b : ℤ) → int_le a b ≡ true → a ≤ℤ b
+no_more a b e = le_z_yes (subst T (sym e) tt)
+
+below : (a b : ℕ) → nat_le a b ≡ false → b < a
+below a b e = grind (arith, nat_tests)
+
+more : (a b : ℤ) → int_le a b ≡ false → b <ℤ a
+more (pos a) (pos b) e = record { lt = subst T (sym (lt-ltb b a (below a b e))) tt }
+more (pos a) (negsuc b) e = record { lt = tt }
+more (negsuc a) (pos b) e = cc
+more (negsuc a) (negsuc b) e = record { lt = subst T (sym (lt-ltb a b (below b a e))) tt }
+
+fitting_standing : (k : SchedulingTask) (sheet : SheetData) (value best : ℤ) (b : Bool)
+    → int_le value best ≡ b → HasFit k sheet (Fits value) → IsLeastCost k best
+    → HasStanding k sheet (cond b Best Beaten)
+fitting_standing k sheet value best true e (is, (rows, fitting, costs)) (least, is_best) = (
+  is,
+  rows,
+  fitting,
+  record {
+    fits = fitting.fits;
+    value = refl;
+    least = λ other fits.
+        omega (arith, ints, costs, is_best.least other fits, no_more value best e);
+  },
+)
+fitting_standing k sheet value best false e (is, (rows, fitting, costs)) (least, is_best) = (
+  is,
+  rows,
+  fitting,
+  least,
+  is_best.fits,
+  omega (arith, ints, costs, is_best.value, more value best e),
+)
+
+-- ---- a schedule that does not
+
+-- pieces with a misfit draw nothing that fits
+misfit_excludes : (k : SchedulingTask) (a : AnswerData) (misfit : MisfitOf) (rows : Timetable)
+    → HasReason k a (reasons.Misfit misfit) → DrawsFitting k a.pieces rows → ⊥
+misfit_excludes k a misfit rows (qs, kept, schedule, first, other) h =
+    let same : drawing k.machines qs ≡ drawing k.machines a.pieces =
+    sym (drawing_permutation k.machines qs a.pieces schedule.none_twice
+    (IsPermutation-sym a.pieces qs kept)) in
+    let drawn : rows ≡ drawing k.machines qs =
+    drawing_only k.machines a.pieces rows h.draws ∙ sym same in
+    other (no_misfit k qs schedule
+    (All-permutation (λ p. 0 < p.job) a.pieces qs kept h.draws.numbered)
+    (All-permutation (IsOnMachine k.machines) a.pieces qs kept h.draws.on_machines)
+    (subst (FitsTask k) drawn h.fits) misfit first)
+
+pub standing_is : (k : SchedulingTask) (sheet : SheetData) (fit : Fit) (best : ℤ)
+    → HasFit k sheet fit → IsLeastCost k best → HasStanding k sheet (standing_of fit best)
+standing_is k sheet (Fits value) best h least =
+    fitting_standing k sheet value best (int_le value best) refl h least
+standing_is k sheet OtherTask best h least = λ is rows fitting. h is
+standing_is k sheet (NoSchedule fault) best h least = λ is rows fitting.
+    fault_excludes sheet.answer.pieces fault fitting.pieces fitting.draws.none_twice h.1
+standing_is k sheet (Misfit misfit) best h least = λ is rows fitting.
+    misfit_excludes k sheet.answer misfit rows h.1 fitting
+
+-- ---- the gap
+
+no_size : (z : ℤ) → unsigned_abs z ≡ 0 → z ≡ pos 0
+no_size (pos n) e = ap pos e
+no_size (negsuc n) e = absurd (omega (arith, e))
+
+le_self : (b : ℤ) → int_le b b ≡ true
+le_self (pos n) = le-leb n n (omega arith)
+le_self (negsuc n) = le-leb n n (omega arith)
+
+best_only : (b : Bool) → cond b Best Beaten ≡ Best → b ≡ true
+best_only true e = refl
+best_only false e = cc
+
+pub gap_is : (k : SchedulingTask) (sheet : SheetData) (fit : Fit) (best : ℤ)
+    → HasFit k sheet fit → IsLeastCost k best → HasGap fit best
+gap_is k sheet (Fits value) best (is, (rows, fitting, costs)) (least, is_best) =
+    let above : best ≤ℤ value =
+    omega (arith, ints, costs, is_best.least rows fitting.fits) in (
+      λ none.
+          let apart : value -ℤ best ≡ pos 0 = no_size (value -ℤ best) none in
+          let same : value ≡ best = omega (arith, ints, apart) in
+          ap (λ b. cond b Best Beaten)
+          (ap (λ v. int_le v best) same ∙ le_self best),
+      λ is.
+          let below : value ≤ℤ best = no_more value best (best_only (int_le value best) is) in
+          let apart : value -ℤ best ≡ pos 0 = omega (arith, ints, above, below) in
+          ap unsigned_abs apart,
+    )
+gap_is k sheet OtherTask best h least = tt
+gap_is k sheet (NoSchedule fault) best h least = tt
+gap_is k sheet (Misfit misfit) best h least = tt

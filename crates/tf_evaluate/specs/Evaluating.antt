@@ -1,0 +1,76 @@
+-- How an answer stands to a task.
+use Rattle.std.specs.Prelude.{◌≡◌, ◌↔◌, ℤ, ◌<ℤ◌, List, [], map, length, Option, None, Some, Result}
+use Rattle.tf_model.specs.declared.problem.Problem.{Problem}
+use Rattle.tf_model.specs.SchedulingTask.{SchedulingTask, all_jobs}
+use Rattle.tf_model.specs.Timetable.{Timetable}
+use Rattle.tf_model.specs.Feasible.{Fits as FitsTask}
+use Rattle.tf_model.specs.Cost.{cost, IsBest}
+use Rattle.tf_schedule.specs.declared.piece.Piece.{Piece}
+use Rattle.tf_check.specs.Claim.{AnswerData}
+use Rattle.tf_check.specs.Bound.{bound_by}
+use Rattle.tf_check.specs.Verdict.{DrawsFitting, HasReason}
+use Rattle.tf_check.specs.declared.fault.BoundFault.{BoundFault}
+use Rattle.tf_check.specs.declared.verdict.Reason.TheVariants as reasons
+use Rattle.tf_text.specs.AnswerText.{SheetData}
+use Rattle.tf_engine.specs.Checking.{IsFor}
+use Rattle.tf_evaluate.specs.declared.evaluation.Fit.{Fit}
+use Rattle.tf_evaluate.specs.declared.evaluation.Fit.TheVariants.{Fits, OtherTask, NoSchedule, Misfit}
+use Rattle.tf_evaluate.specs.declared.evaluation.JobOutcome.{JobOutcome}
+use Rattle.tf_evaluate.specs.declared.evaluation.Standing.{Standing}
+use Rattle.tf_evaluate.specs.declared.evaluation.Standing.TheVariants.{Best, Beaten, Unfit}
+use Rattle.tf_evaluate.specs.EvaluationData.{EvaluationData, standing_of, gap}
+use Rattle.tf_evaluate.specs.Outcomes.{outcome_of}
+
+-- some timetable fits and costs this, and none that fits costs less
+abbrev pub IsLeastCost : SchedulingTask → ℤ → Type 0
+IsLeastCost k best = (rows : Timetable) × IsBest k rows best
+
+-- how the pieces of an answer stand to the task that it is for
+abbrev pub IsJudged : SchedulingTask → AnswerData → Fit → Type 0
+IsJudged k a (Fits value) = (rows : Timetable) × DrawsFitting k a.pieces rows
+    × (cost k rows ≡ value)
+IsJudged k a OtherTask = ⊥
+IsJudged k a (NoSchedule fault) = HasReason k a (reasons.Pieces fault)
+IsJudged k a (Misfit misfit) = HasReason k a (reasons.Misfit misfit)
+
+-- the same of a sheet, which may be for another task
+abbrev pub HasFit : SchedulingTask → SheetData → Fit → Type 0
+HasFit k sheet OtherTask = ¬ (IsFor k sheet)
+HasFit k sheet fit = IsFor k sheet × IsJudged k sheet.answer fit
+
+-- what the schedule comes to: none that fits costs less, or this other timetable does
+abbrev pub HasStanding : SchedulingTask → SheetData → Standing → Type 0
+HasStanding k sheet Best = IsFor k sheet × (rows : Timetable)
+    × DrawsFitting k sheet.answer.pieces rows × IsBest k rows (cost k rows)
+HasStanding k sheet Beaten = IsFor k sheet × (rows : Timetable)
+    × DrawsFitting k sheet.answer.pieces rows
+    × (other : Timetable) × FitsTask k other × (cost k other <ℤ cost k rows)
+HasStanding k sheet Unfit = IsFor k sheet → (rows : Timetable)
+    → ¬ (DrawsFitting k sheet.answer.pieces rows)
+
+-- what the certificate bounds, or its first fault
+abbrev pub bound_for : SchedulingTask → AnswerData → Fit → Option (Result ℤ BoundFault)
+bound_for k a OtherTask = None
+bound_for k a _ = Some (bound_by a.certificate k)
+
+-- what happens to the jobs from 1 on, where the pieces make a schedule
+abbrev pub outcomes_for : SchedulingTask → List Piece → Fit → List JobOutcome
+outcomes_for k ps OtherTask = []
+outcomes_for k ps (NoSchedule fault) = []
+outcomes_for k ps _ = map (outcome_of k ps) (all_jobs k)
+
+-- the gap is 0 exactly where the schedule is best
+abbrev pub HasGap : Fit → ℤ → Type 0
+HasGap (Fits value) best = (gap value best ≡ 0) ↔ (standing_of (Fits value) best ≡ Best)
+HasGap _ best = Unit {0}
+
+pub record IsEvaluation (problem : Problem) (k : SchedulingTask) (sheet : SheetData)
+    (e : EvaluationData) : Type 0 where
+  pub problem_is : e.problem ≡ problem
+  pub jobs : e.jobs ≡ length k.jobs
+  pub machines : e.machines ≡ k.machines
+  pub fit : HasFit k sheet e.fit
+  pub claimed : e.claimed ≡ sheet.answer.value
+  pub best : IsLeastCost k e.best
+  pub bound : e.bound ≡ bound_for k sheet.answer e.fit
+  pub outcomes : e.outcomes ≡ outcomes_for k sheet.answer.pieces e.fit

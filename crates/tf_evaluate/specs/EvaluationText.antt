@@ -1,0 +1,67 @@
+-- The text of an evaluation.
+use Rattle.std.specs.Prelude.{ℕ, ℤ, List, [], ◌∷◌, ◌++◌, map, codes, Option, None, Some, Result, Ok, Err}
+use Rattle.std.specs.List.{flat_map}
+use Rattle.std.specs.Fmt.{decimal, signed_decimal}
+use Rattle.tf_notation.specs.Canonical.{canonical}
+use Rattle.tf_check.specs.declared.fault.BoundFault.{BoundFault}
+use Rattle.tf_text.specs.AnswerText.{line_text}
+use Rattle.tf_engine.specs.VerdictLine.{piece_fault_words, misfit_words, bound_fault_words}
+use Rattle.tf_evaluate.specs.declared.evaluation.Fit.{Fit}
+use Rattle.tf_evaluate.specs.declared.evaluation.Fit.TheVariants.{Fits, OtherTask, NoSchedule, Misfit}
+use Rattle.tf_evaluate.specs.declared.evaluation.JobOutcome.{JobOutcome}
+use Rattle.tf_evaluate.specs.EvaluationData.{EvaluationData, gap}
+
+-- `fits`, or `misfit` and why
+abbrev pub fit_words : Fit → List (List ℕ)
+fit_words (Fits value) = codes "fits" ∷ []
+fit_words OtherTask = codes "misfit" ∷ codes "OtherTask" ∷ []
+fit_words (NoSchedule fault) = codes "misfit" ∷ piece_fault_words fault
+fit_words (Misfit misfit) = codes "misfit" ∷ misfit_words misfit
+
+-- what a schedule that fits costs
+abbrev pub value_lines : Fit → List (List (List ℕ))
+value_lines (Fits value) = (codes "value" ∷ signed_decimal value ∷ []) ∷ []
+value_lines _ = []
+
+-- by how much it costs more than the least cost
+abbrev pub gap_lines : Fit → ℤ → List (List (List ℕ))
+gap_lines (Fits value) best = (codes "gap" ∷ decimal (gap value best) ∷ []) ∷ []
+gap_lines _ best = []
+
+-- what the certificate bounds, or its first fault
+abbrev pub bound_words : Result ℤ BoundFault → List (List ℕ)
+bound_words (Ok bound) = signed_decimal bound ∷ []
+bound_words (Err fault) = bound_fault_words fault
+
+abbrev pub bound_lines : Option (Result ℤ BoundFault) → List (List (List ℕ))
+bound_lines None = []
+bound_lines (Some bound) = (codes "bound" ∷ bound_words bound) ∷ []
+
+-- a job: its number, its first start, its completion, and what the class counts of it
+abbrev pub outcome_words : JobOutcome → List (List ℕ)
+outcome_words o =
+    codes "job" ∷ decimal o.job ∷ decimal o.start ∷ decimal o.completion ∷ signed_decimal o.price
+    ∷ []
+
+-- how the pieces fit, and the four numbers: what is claimed, the cost, the least cost with the gap
+-- between the two, and what the certificate bounds
+abbrev pub judgement_lines : EvaluationData → List (List (List ℕ))
+judgement_lines e =
+    fit_words e.fit
+    ∷ (codes "claimed" ∷ signed_decimal e.claimed ∷ [])
+    ∷ (value_lines e.fit
+    ++ (codes "best" ∷ signed_decimal e.best ∷ [])
+    ∷ (gap_lines e.fit e.best ++ bound_lines e.bound))
+
+-- all lines: a heading, what is asked, the judgement, and the jobs
+abbrev pub evaluation_lines : EvaluationData → List (List (List ℕ))
+evaluation_lines e =
+    (codes "evaluation" ∷ codes "1" ∷ [])
+    ∷ (codes "problem" ∷ canonical e.problem ∷ [])
+    ∷ (codes "jobs" ∷ decimal e.jobs ∷ [])
+    ∷ (codes "machines" ∷ decimal e.machines ∷ [])
+    ∷ (judgement_lines e ++ (map outcome_words e.outcomes ++ (codes "end" ∷ []) ∷ []))
+
+-- the text of an evaluation
+unfoldable pub evaluation_text : EvaluationData → List ℕ
+evaluation_text e = flat_map line_text (evaluation_lines e)

@@ -1,0 +1,8 @@
+-- what a caller has to believe
+pub mod EvaluationData
+pub mod Outcomes
+pub mod Evaluating
+pub mod EvaluationText
+pub mod RunEvaluating
+-- within the crate
+pub mod Spans

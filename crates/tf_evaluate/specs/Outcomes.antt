@@ -1,0 +1,20 @@
+-- What happens to a job, by its pieces.
+use Rattle.std.specs.Prelude.{ℕ, ◌==◌, List, if◌then◌else◌}
+use Rattle.tf_model.specs.SchedulingTask.{SchedulingTask}
+use Rattle.tf_model.specs.Cost.{price}
+use Rattle.tf_schedule.specs.declared.piece.Piece.{Piece}
+use Rattle.tf_schedule.specs.Amounts.{least_by, start_of, last_stop}
+use Rattle.tf_evaluate.specs.declared.evaluation.JobOutcome.{JobOutcome}
+
+-- the least start, 0 of a job without pieces, which has no stop
+abbrev pub first_start : ℕ → ℕ → ℕ
+first_start start stop = if stop == 0 then 0 else start
+
+-- the first start of its pieces, their last stop, and what the class counts of it
+abbrev pub outcome_of : SchedulingTask → List Piece → ℕ → JobOutcome
+outcome_of k ps j = record {
+  job = j;
+  start = first_start (least_by start_of ps j) (last_stop ps j);
+  completion = last_stop ps j;
+  price = price k j (last_stop ps j);
+}

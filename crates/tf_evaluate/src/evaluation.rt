@@ -1,0 +1,97 @@
+//! What an evaluation says.
+use std::alloc::{Allocator, Global};
+use std::marker::Model;
+use tf_check::fault::BoundFault;
+use tf_model::ids::JobId;
+use tf_model::problem::Problem;
+use tf_schedule::fit::Misfit;
+use tf_schedule::schedule::PieceFault;
+
+/// How the pieces of an answer stand to a task.
+#[derive(Debug, Drop, PartialEq, Eq)]
+pub enum Fit {
+    /// They draw a timetable that fits, and this is what it costs.
+    Fits(i128),
+    /// The answer is for a task of another class, or with other numbers of jobs or machines.
+    OtherTask,
+    /// They make no schedule.
+    NoSchedule(PieceFault),
+    /// The schedule does not fit.
+    Misfit(Misfit),
+}
+
+/// What a schedule comes to.
+#[derive(Clone, Copy, Debug, Drop, PartialEq, Eq)]
+pub enum Standing {
+    /// It fits, and none that fits costs less.
+    Best,
+    /// It fits, and one that fits costs less.
+    Beaten,
+    /// It does not fit.
+    Unfit,
+}
+
+/// What happens to a job.
+#[derive(Clone, Copy, Debug, Drop, PartialEq, Eq)]
+pub struct JobOutcome {
+    pub job: JobId,
+    /// The first start of its pieces, in time steps; 0 where it has none.
+    pub start: u64,
+    /// The last stop of its pieces, in time steps; 0 where it has none.
+    pub completion: u64,
+    /// What the class counts of it: the completion itself, the lateness, the value of its cost
+    /// function, or the weighted completion.
+    pub price: i128,
+}
+
+/// An answer, as it stands to a task.
+#[derive(Drop)]
+pub struct Evaluation<A: Allocator = Global> {
+    /// The problem that is asked.
+    pub problem: Problem,
+    /// The task's numbers of jobs and of machines.
+    pub jobs: u32,
+    pub machines: u32,
+    pub fit: Fit,
+    /// The value that the answer claims.
+    pub claimed: i64,
+    /// The least cost of a timetable that fits.
+    pub best: i64,
+    /// What the certificate bounds, or its first fault; `None` for an answer to another task.
+    pub bound: Option<Result<i128, BoundFault>>,
+    /// The jobs from 1 on, where the pieces make a schedule and the answer is for the task.
+    pub outcomes: Vec<JobOutcome, A>,
+}
+
+impl<A: Allocator> Model for Evaluation<A> {
+    ghost use Rattle.tf_evaluate.specs.EvaluationData.{EvaluationData};
+
+    ghost Value = { EvaluationData };
+
+    ghost view = { λ e. record {
+      problem = e.problem;
+      jobs = e.jobs;
+      machines = e.machines;
+      fit = e.fit;
+      claimed = e.claimed;
+      best = e.best;
+      bound = e.bound;
+      outcomes = e.outcomes.items;
+    } };
+}
+
+impl<A: Allocator> Evaluation<A> {
+    ghost use Rattle.std.specs.Prelude.{◌≡◌};
+    ghost use Rattle.tf_evaluate.specs.EvaluationData.{standing_of};
+
+    /// What the schedule comes to.
+    pub fn standing(&self) -> Standing
+        ensures { result ≡ standing_of self.now.fit self.now.best }
+    {
+        match &self.fit {
+            Fit::Fits(value) if *value <= i128::from(self.best) => Standing::Best,
+            Fit::Fits(_) => Standing::Beaten,
+            _ => Standing::Unfit,
+        }
+    }
+}

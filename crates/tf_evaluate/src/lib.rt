@@ -1,0 +1,8 @@
+//! How good an answer is: what it costs, what the least cost is, and what happens to each job.
+#![tactic(auto)]
+
+pub mod evaluate;
+pub mod evaluation;
+mod outcomes;
+pub mod run_evaluate;
+pub mod writing;
