@@ -1,7 +1,7 @@
 //! Evaluating somebody's answer, from bytes to bytes.
 ghost use Rattle.std.specs.Prelude.{◌≡◌, ◌+◌, ◌≤◌, ◌⊎◌, true, false, IsOk, OnOk, IfErr, IsErrAnd};
 ghost use Rattle.std.specs.Io.KnownBytes.{IsAtEnd};
-ghost use Rattle.tf_model.specs.declared.limit.TheConstants.{MOST_BYTES};
+ghost use Rattle.tf_model.specs.Limit.{most_bytes};
 ghost use Rattle.tf_text.specs.Counted.{inner_of, pulled_of, has_failed, use_of, ConsumesAtMost};
 ghost use Rattle.tf_engine.specs.Refusal.{problem_for};
 ghost use Rattle.tf_engine.specs.Faults.{Refuses, Wants, stop_of, is_failure, is_refusal, is_of_answer, is_of_whole, is_of_whole_answer};
@@ -58,12 +58,12 @@ pub fn run_evaluate<A: Allocator + Copy, B: Allocator, R: Read, S: Read, W: Writ
         (answer.new ≡ answer.old) ⊎ (has_failed answer.new ≡ false)) }
     ensures ended_answer { is_of_whole_answer result ≡ true →
         IsAtEnd (S.remaining (inner_of answer.new)) }
-    ensures pulled { ConsumesAtMost (MOST_BYTES + 1) (R.remaining (inner_of instance.old))
+    ensures pulled { ConsumesAtMost (most_bytes + 1) (R.remaining (inner_of instance.old))
         (R.remaining (inner_of instance.new)) }
-    ensures counted { pulled_of instance.new ≤ pulled_of instance.old + (MOST_BYTES + 1) }
-    ensures pulled_answer { ConsumesAtMost (MOST_BYTES + 1) (S.remaining (inner_of answer.old))
+    ensures counted { pulled_of instance.new ≤ pulled_of instance.old + (most_bytes + 1) }
+    ensures pulled_answer { ConsumesAtMost (most_bytes + 1) (S.remaining (inner_of answer.old))
         (S.remaining (inner_of answer.new)) }
-    ensures counted_answer { pulled_of answer.new ≤ pulled_of answer.old + (MOST_BYTES + 1) }
+    ensures counted_answer { pulled_of answer.new ≤ pulled_of answer.old + (most_bytes + 1) }
 {
     let problem = problem_for(request.problem.as_str())?;
     let task = task_read(alloc, request, &problem, instance)?;

@@ -2,7 +2,7 @@
 use Rattle.std.specs.Prelude.{◌≤◌}
 use Rattle.tf_text.specs.declared.chart.TheConstants.{MOST_COLUMNS}
 use Rattle.threefield.specs.declared.options.Work.{Work as Asking}
-use Rattle.threefield.specs.declared.options.Work.TheVariants.{Solve, Check, Gantt, Problems}
+use Rattle.threefield.specs.declared.options.Work.TheVariants.{Solve, Check, Evaluate, Gantt, Problems}
 use Rattle.threefield.specs.declared.options.Asked.{Asked}
 use Rattle.threefield.specs.declared.options.Asked.TheVariants.{Work}
 
@@ -10,6 +10,7 @@ use Rattle.threefield.specs.declared.options.Asked.TheVariants.{Work}
 abbrev pub HasWidth : Asking → Type 0
 HasWidth (Solve options layout) = Unit {0}
 HasWidth (Check options answer) = Unit {0}
+HasWidth (Evaluate options answer) = Unit {0}
 HasWidth (Gantt answer columns explain) = (1 ≤ columns) × (columns ≤ MOST_COLUMNS)
 HasWidth (Problems table) = Unit {0}
 

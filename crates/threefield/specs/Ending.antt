@@ -8,7 +8,9 @@ use Rattle.tf_engine.specs.RequestData.{RequestData}
 use Rattle.tf_engine.specs.Headline.{IsRunOf}
 use Rattle.tf_engine.specs.Checking.{IsCheckOf}
 use Rattle.tf_engine.specs.Charting.{IsDrawingOf}
-use Rattle.threefield.specs.Statuses.{status_of, status_of_check}
+use Rattle.tf_evaluate.specs.declared.evaluation.Standing.{Standing}
+use Rattle.tf_evaluate.specs.RunEvaluating.{IsEvaluationOf}
+use Rattle.threefield.specs.Statuses.{status_of, status_of_check, status_of_standing}
 
 -- after a run: 0 where it gave an answer, and otherwise the status of its fault
 abbrev pub status_of_run : {A : Type 0} → Result (Unit {0}) (RunFault A) → ℕ
@@ -19,6 +21,11 @@ status_of_run (Err fault) = status_of fault
 abbrev pub status_of_checking : {A : Type 0} → Result Checked (RunFault A) → ℕ
 status_of_checking (Ok checked) = status_of_check checked
 status_of_checking (Err fault) = status_of fault
+
+-- after an evaluation: how good the answer is, and otherwise the status of its fault
+abbrev pub status_of_evaluating : {A : Type 0} → Result Standing (RunFault A) → ℕ
+status_of_evaluating (Ok standing) = status_of_standing standing
+status_of_evaluating (Err fault) = status_of fault
 
 pub record EndsSolving (request : RequestData) (instance writer : DeviceUse) (status : ℕ) : Type 0
   where
@@ -36,6 +43,12 @@ pub record EndsDrawing (columns : ℕ) (answer writer : DeviceUse) (status : ℕ
   pub run : Result (Unit {0}) (RunFault Global)
   pub outcome : IsDrawingOf columns answer writer run
   pub ends : status ≡ status_of_run run
+
+pub record EndsEvaluating (request : RequestData) (instance answer writer : DeviceUse) (status : ℕ)
+    : Type 0 where
+  pub run : Result Standing (RunFault Global)
+  pub outcome : IsEvaluationOf request instance answer writer run
+  pub ends : status ≡ status_of_evaluating run
 
 -- the command ends so over a reader of this text
 pub record OverText (text : List ℕ) (Ends : DeviceUse → Type 0) : Type 0 where

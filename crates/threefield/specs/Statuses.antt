@@ -4,6 +4,8 @@ use Rattle.tf_engine.specs.declared.fault.RunFault.{RunFault}
 use Rattle.tf_engine.specs.Faults.{Stop, Refuses, Fails, Wants, stop_of}
 use Rattle.tf_engine.specs.declared.run_check.Checked.{Checked}
 use Rattle.tf_engine.specs.declared.run_check.Checked.TheVariants.{Accepted, OtherTask, Rejected}
+use Rattle.tf_evaluate.specs.declared.evaluation.Standing.{Standing}
+use Rattle.tf_evaluate.specs.declared.evaluation.Standing.TheVariants.{Best, Beaten, Unfit}
 
 abbrev pub status_by : Stop → ℕ
 status_by (Refuses refused) = 2
@@ -19,3 +21,9 @@ abbrev pub status_of_check : Checked → ℕ
 status_of_check Accepted = 0
 status_of_check OtherTask = 1
 status_of_check (Rejected reason) = 1
+
+-- after an evaluation: best, does not fit, or fits and is beaten
+abbrev pub status_of_standing : Standing → ℕ
+status_of_standing Best = 0
+status_of_standing Unfit = 1
+status_of_standing Beaten = 6

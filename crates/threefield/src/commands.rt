@@ -6,6 +6,7 @@ ghost use Rattle.std.specs.Prelude.{◌≡◌, ◌≤◌};
 ghost use Rattle.tf_text.specs.Counted.{use_of};
 ghost use Rattle.tf_text.specs.declared.chart.TheConstants.{MOST_COLUMNS};
 
+use crate::evaluated::evaluate_named;
 use crate::explained::{Texts, not_read, tell, whole};
 use crate::options::{Options, Telling, Work};
 use crate::report::{report, say_device, say_memory, status_of_check};
@@ -41,6 +42,9 @@ pub fn perform<S: Sources, W: Write, E: Write>(
         }
         Work::Check(options, answer) => {
             check_named(alloc, sources, options, answer, writer, errors)
+        }
+        Work::Evaluate(options, answer) => {
+            evaluate_named(alloc, sources, options, answer, writer, errors)
         }
         Work::Gantt {
             answer,
@@ -404,7 +408,7 @@ fn gantt<R: Read, W: Write, E: Write>(
 }
 
 // What is to be said of the options.
-fn tell_idle<E: Write>(telling: Telling, errors: &mut Counted<E>) {
+pub fn tell_idle<E: Write>(telling: Telling, errors: &mut Counted<E>) {
     if let Some(text) = telling.idle {
         let _ = errors.push_all(text.as_bytes());
     }

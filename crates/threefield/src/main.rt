@@ -2,6 +2,7 @@
 #![tactic(auto)]
 
 mod commands;
+mod evaluated;
 mod explained;
 mod options;
 mod report;

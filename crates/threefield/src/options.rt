@@ -85,6 +85,8 @@ pub enum Work<'a> {
     Solve(Options<'a>, Layout),
     /// Judge the answer of this name.
     Check(Options<'a>, &'a str),
+    /// Tell how good the answer of this name is.
+    Evaluate(Options<'a>, &'a str),
     /// Draw the answer of this name, in so many columns at most.
     Gantt {
         answer: &'a str,
@@ -128,6 +130,13 @@ Example: threefield check -p \"P2|prmp|Cmax\" examples/table.txt answer.txt
 Exit status: 0 accepted, 1 rejected, 2 refused, 3 want of memory,
              4 a file or a device failed, 5 the command line is wrong.";
 
+const ABOUT_EVALUATE: &str = "\
+Example: threefield evaluate -p \"P2|prmp|Cmax\" examples/table.txt answer.txt
+
+Exit status: 0 best, 1 does not fit, 2 refused, 3 want of memory,
+             4 a file or a device failed, 5 the command line is wrong,
+             6 fits, and another schedule costs less.";
+
 const ABOUT_GANTT: &str = "\
 Example: threefield solve -p \"1||sumC\" table.txt | threefield gantt -c 40
 
@@ -155,6 +164,7 @@ pub fn command<'a>(alloc: Global) -> Result<Command<'a>, AllocError> {
         .arg_required_else_help(true)
         .subcommand(solve_command(alloc)?)?
         .subcommand(check_command(alloc)?)?
+        .subcommand(evaluate_command(alloc)?)?
         .subcommand(gantt_command(alloc)?)?
         .subcommand(problems_command(alloc)?)
 }
@@ -174,13 +184,23 @@ fn solve_command<'a>(alloc: Global) -> Result<Command<'a>, AllocError> {
 }
 
 fn check_command<'a>(alloc: Global) -> Result<Command<'a>, AllocError> {
-    let answer = Arg::new(alloc, "ANSWER")
-        .help("The answer: a file, or - for standard input")
-        .required(true);
     with_options(alloc, Command::new(alloc, "check"))?
         .about("Judges an answer: accepted, or rejected and why")
         .after_help(ABOUT_CHECK)
-        .arg(answer)
+        .arg(answer(alloc))
+}
+
+fn evaluate_command<'a>(alloc: Global) -> Result<Command<'a>, AllocError> {
+    with_options(alloc, Command::new(alloc, "evaluate"))?
+        .about("Tells how good an answer is, job by job, and its gap to the best")
+        .after_help(ABOUT_EVALUATE)
+        .arg(answer(alloc))
+}
+
+fn answer<'a>(alloc: Global) -> Arg<'a> {
+    Arg::new(alloc, "ANSWER")
+        .help("The answer: a file, or - for standard input")
+        .required(true)
 }
 
 fn gantt_command<'a>(alloc: Global) -> Result<Command<'a>, AllocError> {
@@ -303,6 +323,9 @@ pub fn understand<'a>(command: Command<'a>, words: &'a [String]) -> Asked<'a>
         Some(answer) => {
             if answer == "-" && options.input == "-" {
                 return Asked::Unfit("INPUT and ANSWER cannot both be standard input");
+            }
+            if name == "evaluate" {
+                return Asked::Work(Work::Evaluate(options, answer));
             }
             Asked::Work(Work::Check(options, answer))
         }

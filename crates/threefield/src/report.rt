@@ -1,11 +1,12 @@
 //! What the program says of a run that gave no answer.
 ghost use Rattle.std.specs.Prelude.{◌≡◌};
-ghost use Rattle.threefield.specs.Statuses.{status_of, status_of_check};
+ghost use Rattle.threefield.specs.Statuses.{status_of, status_of_check, status_of_standing};
 
 use std::alloc::Allocator;
 use std::io::Write;
 use tf_engine::fault::RunFault;
 use tf_engine::run_check::Checked;
+use tf_evaluate::evaluation::Standing;
 use tf_model::ids::JobId;
 use tf_model::prepare::{Field, Refusal};
 use tf_read::fault::ReadFault;
@@ -39,6 +40,17 @@ pub fn status_of_check(checked: &Checked) -> u8
     match checked {
         Checked::Accepted => 0,
         Checked::OtherTask | Checked::Rejected(_) => 1,
+    }
+}
+
+/// The exit status of an evaluation that was written.
+pub fn status_of_standing(standing: &Standing) -> u8
+    ensures { result ≡ status_of_standing standing.now }
+{
+    match standing {
+        Standing::Best => 0,
+        Standing::Unfit => 1,
+        Standing::Beaten => 6,
     }
 }
 

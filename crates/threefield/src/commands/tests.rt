@@ -22,6 +22,7 @@ impl Sources for Texts {
             "answer" => Ok(ANSWER),
             "other" => Ok(OTHER),
             "slips" => Ok(SLIPS),
+            "late" => Ok(LATE),
             _ => Err(io::Error::from(ErrorKind::NotFound)),
         }
     }
@@ -42,6 +43,19 @@ piece 1 1 0 4
 piece 2 1 4 6
 piece 2 2 0 2
 piece 3 2 2 6
+cert load
+end
+";
+
+/// A schedule that fits and costs 2 more than the best.
+const LATE: &[u8] = b"answer 2
+problem P2|prmp|Cmax
+jobs 3
+machines 2
+value 9
+piece 1 1 0 4
+piece 2 1 4 8
+piece 3 2 0 4
 cert load
 end
 ";
@@ -164,6 +178,74 @@ fn solving_writes_the_answer_in_the_version_that_is_asked_for(rt: HostRuntime) -
     writes(&rt, &second, 0, ANSWER)?;
     let first = ["solve", "--problem", "P2|prmp|Cmax", "--answer", "1", "-"];
     writes(&rt, &first, 0, FIRST)
+}
+
+#[test]
+fn evaluating_tells_the_gap_and_each_job(rt: HostRuntime) -> Result<(), Fail> {
+    let best = b"evaluation 1
+problem P2|prmp|Cmax
+jobs 3
+machines 2
+fits
+claimed 6
+value 6
+best 6
+gap 0
+bound 6
+job 1 0 4 4
+job 2 0 6 6
+job 3 2 6 6
+end
+";
+    writes(
+        &rt,
+        &["evaluate", "-p", "P2|prmp|Cmax", "-", "answer"],
+        0,
+        best,
+    )?;
+    let late = b"evaluation 1
+problem P2|prmp|Cmax
+jobs 3
+machines 2
+fits
+claimed 9
+value 8
+best 6
+gap 2
+bound 6
+job 1 0 4 4
+job 2 4 8 8
+job 3 0 4 4
+end
+";
+    writes(
+        &rt,
+        &["evaluate", "-p", "P2|prmp|Cmax", "-", "late"],
+        6,
+        late,
+    )?;
+    let other = b"evaluation 1
+problem P3|prmp|Cmax
+jobs 3
+machines 3
+misfit OtherTask
+claimed 6
+best 4
+end
+";
+    writes(
+        &rt,
+        &["evaluate", "-p", "P3|prmp|Cmax", "-", "answer"],
+        1,
+        other,
+    )?;
+    let refused = b"threefield: refused: answer BadLine 1\n";
+    says(
+        &rt,
+        &["evaluate", "-p", "P2|prmp|Cmax", "-", "shop"],
+        2,
+        refused,
+    )
 }
 
 #[test]

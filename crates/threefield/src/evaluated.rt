@@ -1,0 +1,140 @@
+//! The command that tells how good an answer is.
+ghost use Rattle.threefield.specs.Asking.{requested};
+ghost use Rattle.threefield.specs.Ending.{EndsEvaluating, OverText};
+ghost use Rattle.std.specs.Prelude.{◌≡◌};
+ghost use Rattle.tf_text.specs.Counted.{use_of};
+
+use crate::commands::tell_idle;
+use crate::explained::{Texts, not_read, tell, whole};
+use crate::options::Options;
+use crate::report::{report, say_device, say_memory, status_of_standing};
+use crate::source::Sources;
+use std::alloc::Global;
+use std::io::{Read, Write};
+use tf_evaluate::run_evaluate::run_evaluate;
+use tf_explain::explain;
+use tf_explain::source::Source;
+use tf_text::answer::layout::Layout;
+use tf_text::counted::Counted;
+
+/// Tells how good the answer of that name is.
+pub fn evaluate_named<S: Sources, W: Write, E: Write>(
+    alloc: Global,
+    sources: &S,
+    options: &Options<'_>,
+    answer: &str,
+    writer: &mut Counted<W>,
+    errors: &mut Counted<E>,
+) -> u8 {
+    if options.telling.explain {
+        return evaluate_explained(alloc, sources, options, answer, writer, errors);
+    }
+    let (Ok(instance), Ok(answer)) = (sources.open(options.input), sources.open(answer)) else {
+        return say_device(errors);
+    };
+    let mut instance = Counted::new(instance);
+    let mut answer = Counted::new(answer);
+    evaluate(
+        alloc,
+        options,
+        &mut instance,
+        &mut answer,
+        writer,
+        errors,
+        None,
+    )
+}
+
+/// Evaluates an answer where both texts are read first, and explains a refusal.
+fn evaluate_explained<S: Sources, W: Write, E: Write>(
+    alloc: Global,
+    sources: &S,
+    options: &Options<'_>,
+    answer: &str,
+    writer: &mut Counted<W>,
+    errors: &mut Counted<E>,
+) -> u8 {
+    let instance_text = match whole(alloc, sources, options.input) {
+        Ok(text) => text,
+        Err(error) => return not_read(alloc, options.input, &error, errors),
+    };
+    let answer_text = match whole(alloc, sources, answer) {
+        Ok(text) => text,
+        Err(error) => return not_read(alloc, answer, &error, errors),
+    };
+    let texts = Texts {
+        instance: Source {
+            name: options.input,
+            text: instance_text.as_slice(),
+        },
+        answer: Source {
+            name: answer,
+            text: answer_text.as_slice(),
+        },
+    };
+    evaluate_texts(alloc, options, texts, writer, errors)
+}
+
+/// Evaluates an answer, where both texts are known, and explains a refusal.
+fn evaluate_texts<W: Write, E: Write>(
+    alloc: Global,
+    options: &Options<'_>,
+    texts: Texts<'_>,
+    writer: &mut Counted<W>,
+    errors: &mut Counted<E>,
+) -> u8
+    ensures { OverText texts.entry.instance.text.now (λ reader.
+        OverText texts.entry.answer.text.now (λ answer_reader.
+        EndsEvaluating (requested options.now Layout.Two) reader answer_reader
+        (use_of W.contents writer.old writer.new) result)) }
+{
+    let mut reader = Counted::new(texts.instance.text);
+    let mut answer_reader = Counted::new(texts.answer.text);
+    evaluate(
+        alloc,
+        options,
+        &mut reader,
+        &mut answer_reader,
+        writer,
+        errors,
+        Some(texts),
+    )
+}
+
+/// Tells how good an answer is, and the exit status.
+fn evaluate<R: Read, S: Read, W: Write, E: Write>(
+    alloc: Global,
+    options: &Options<'_>,
+    instance: &mut Counted<R>,
+    answer: &mut Counted<S>,
+    writer: &mut Counted<W>,
+    errors: &mut Counted<E>,
+    explained: Option<Texts<'_>>,
+) -> u8
+    ensures { EndsEvaluating (requested options.now Layout.Two)
+        (use_of R.remaining instance.old instance.new) (use_of S.remaining answer.old answer.new)
+        (use_of W.contents writer.old writer.new) result }
+{
+    let Ok(request) = options.request(alloc, Layout::Two) else {
+        return say_memory(errors);
+    };
+    match run_evaluate(alloc, &request, instance, answer, writer) {
+        Ok(standing) => {
+            if explained.is_some() {
+                tell_idle(options.telling, errors);
+            }
+            status_of_standing(&standing)
+        }
+        Err(fault) => {
+            let status = report(&fault, errors);
+            if let Some(Texts { instance, answer }) = explained {
+                tell_idle(options.telling, errors);
+                tell(
+                    explain::refused(alloc, &fault, &request, &instance, Some(&answer)),
+                    errors,
+                );
+            }
+            status
+        }
+    }
+}
