@@ -1,0 +1,59 @@
+#!/usr/bin/env python3
+"""Runs the commands that the pages show and compares what they print with what the pages say.
+
+    python3 examples/check_pages.py [PAGE..]    in the root folder, with threefield on the path
+
+A command stands behind "$ " in a block of the kind `console`, and the lines below it are what it prints on both outputs.
+Where no line is shown, it only has to succeed. A file that a page shows by `cat` and that is not there yet is one that
+its reader writes, so it is written. The kit's own commands, which take long, are left out.
+"""
+import os
+import re
+import subprocess
+import sys
+
+PAGES = ["README.md", "docs/usage.md", "docs/answers.md", "docs/evaluating.md", "examples/README.md"]
+LEFT_OUT = re.compile(r"^(export |.*\brt (try|run|ci)\b)")
+
+
+def commands(page):
+    """The commands of a page, each with the lines that are shown below it."""
+    with open(page, encoding="utf-8") as file:
+        text = file.read()
+    for block in re.findall(r"^```console\n(.*?)^```", text, re.M | re.S):
+        for part in re.split(r"^\$ ", block, flags=re.M)[1:]:
+            command, _, shown = part.partition("\n")
+            yield command, shown
+
+
+def wrong(command, shown):
+    """Runs a command, and tells what is wrong with it, if something is."""
+    listed = re.fullmatch(r"cat (/tmp/\S+)", command)
+    if listed and not os.path.exists(listed[1]):
+        with open(listed[1], "w", encoding="utf-8") as file:
+            file.write(shown)
+    ran = subprocess.run(["bash", "-c", command], stdout=subprocess.PIPE, stderr=subprocess.STDOUT, text=True)
+    if shown and ran.stdout != shown:
+        return f"prints\n{ran.stdout}in place of\n{shown}"
+    if not shown and ran.returncode:
+        return f"ends with status {ran.returncode} and prints\n{ran.stdout}"
+    return None
+
+
+def main(pages):
+    ran = failed = 0
+    for page in pages:
+        for command, shown in commands(page):
+            if LEFT_OUT.match(command):
+                continue
+            ran += 1
+            fault = wrong(command, shown)
+            if fault:
+                failed += 1
+                print(f"{page}: $ {command}\n{fault}")
+    print(f"{ran} commands, {failed} wrong")
+    return failed > 0
+
+
+if __name__ == "__main__":
+    sys.exit(main(sys.argv[1:] or PAGES))
