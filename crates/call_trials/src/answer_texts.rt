@@ -135,7 +135,7 @@ fn is_judged_cut(alloc: Global, layout: Layout, text: &[u8], cut: &[u8]) -> Resu
 }
 
 #[test]
-fn an_answer_cut_anywhere(rt: HostRuntime) -> Result<(), Fail> {
+fn an_answer_is_read_only_with_its_end(rt: HostRuntime) -> Result<(), Fail> {
     let alloc = rt.alloc();
     for layout in [Layout::One, Layout::Two] {
         let text = two_parallel_text(alloc, layout)?;
@@ -187,7 +187,7 @@ fn is_written(alloc: Global, line: &str, wanted: &str) -> Result<(), Fail> {
 }
 
 #[test]
-fn jobs_in_ranges(rt: HostRuntime) -> Result<(), Fail> {
+fn three_jobs_that_count_up_are_written_as_a_range(rt: HostRuntime) -> Result<(), Fail> {
     let alloc = rt.alloc();
     is_written(alloc, "cert last 3 4 5 1", "cert last 3-5 1")?;
     is_written(alloc, "cert last 3-5 1", "cert last 3-5 1")?;
@@ -201,7 +201,7 @@ fn jobs_in_ranges(rt: HostRuntime) -> Result<(), Fail> {
 }
 
 #[test]
-fn ranges_at_fault(rt: HostRuntime) -> Result<(), Fail> {
+fn ranges_at_fault_are_refused(rt: HostRuntime) -> Result<(), Fail> {
     let alloc = rt.alloc();
     is_refused(alloc, "cert last 7-3", AnswerFault::BadLine(6))?;
     is_refused(alloc, "cert last 3-3", AnswerFault::BadLine(6))?;
@@ -221,7 +221,7 @@ fn ranges_at_fault(rt: HostRuntime) -> Result<(), Fail> {
 }
 
 #[test]
-fn versions(rt: HostRuntime) -> Result<(), Fail> {
+fn ranges_need_the_second_version(rt: HostRuntime) -> Result<(), Fail> {
     let alloc = rt.alloc();
     is_no_text(alloc, "answer 3", "cert last 1", AnswerFault::BadLine(1))?;
     is_no_text(alloc, "answer 01", "cert last 1", AnswerFault::BadLine(1))?;

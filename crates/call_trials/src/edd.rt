@@ -141,7 +141,7 @@ fn the_window_begins_behind_later_dues(rt: HostRuntime) -> Result<(), Fail> {
 }
 
 #[test]
-fn windows_that_bound_nothing(rt: HostRuntime) -> Result<(), Fail> {
+fn windows_at_fault_are_refused(rt: HostRuntime) -> Result<(), Fail> {
     let task = task_of(&rt, &[(0, 2, 5), (0, 2, 5)])?;
     let window = Window {
         jobs: JobList::new(Vec::new(rt.alloc())),
@@ -161,7 +161,7 @@ fn windows_that_bound_nothing(rt: HostRuntime) -> Result<(), Fail> {
 }
 
 #[test]
-fn many_jobs(rt: HostRuntime) -> Result<(), Fail> {
+fn jobs_released_in_turn_run_in_turn(rt: HostRuntime) -> Result<(), Fail> {
     let mut jobs = Vec::new(rt.alloc());
     for k in 0..2000 {
         jobs.push((k, 1, k + 1))?;

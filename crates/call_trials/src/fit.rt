@@ -67,7 +67,7 @@ fn parallel(rt: &impl Abort, alloc: Global) -> Result<Task, Fail> {
 }
 
 #[test]
-fn parallel_machines(rt: HostRuntime) -> Result<(), Fail> {
+fn each_misfit_on_parallel_machines_is_found(rt: HostRuntime) -> Result<(), Fail> {
     let task = parallel(&rt, rt.alloc())?;
     let pieces = vec![in rt.alloc();
         piece(&rt, 1, 1, 0, 4),
@@ -121,7 +121,7 @@ fn weighted(time: i64, weight: i64) -> Job {
 }
 
 #[test]
-fn weighted_sum(rt: HostRuntime) -> Result<(), Fail> {
+fn a_broken_job_is_found_and_a_weighted_sum_costed(rt: HostRuntime) -> Result<(), Fail> {
     let jobs = vec![in rt.alloc(); weighted(3, 3), weighted(1, 1), weighted(2, 2)]?;
     let task = task(
         &rt,
@@ -164,7 +164,7 @@ fn released(release: i64, time: i64, due: i64) -> Job {
 }
 
 #[test]
-fn release_dates(rt: HostRuntime) -> Result<(), Fail> {
+fn a_job_before_its_release_is_found(rt: HostRuntime) -> Result<(), Fail> {
     let problem = Problem {
         release: true,
         prmp: true,
@@ -197,7 +197,7 @@ fn release_dates(rt: HostRuntime) -> Result<(), Fail> {
 }
 
 #[test]
-fn negative_lateness(rt: HostRuntime) -> Result<(), Fail> {
+fn lateness_may_be_negative(rt: HostRuntime) -> Result<(), Fail> {
     let jobs = vec![in rt.alloc();
         Job {
             due: Some(100),
@@ -225,7 +225,7 @@ fn stepped(rt: &impl Abort, time: i64, base: i64, steps: Vec<(i64, i64)>) -> Job
 }
 
 #[test]
-fn arcs(rt: HostRuntime) -> Result<(), Fail> {
+fn an_arc_that_is_not_kept_is_found(rt: HostRuntime) -> Result<(), Fail> {
     let problem = Problem {
         prec: true,
         ..Problem::plain(Env::Single, Goal::Hmax)
@@ -259,7 +259,7 @@ fn arcs(rt: HostRuntime) -> Result<(), Fail> {
 }
 
 #[test]
-fn flow_shop(rt: HostRuntime) -> Result<(), Fail> {
+fn machines_in_the_wrong_order_are_found(rt: HostRuntime) -> Result<(), Fail> {
     let jobs = vec![in rt.alloc();
         Job {
             times: Times::Two(1, 2),

@@ -41,7 +41,7 @@ fn answer(
 }
 
 #[test]
-fn five_jobs(rt: HostRuntime) -> Result<(), Fail> {
+fn five_jobs_go_by_the_rule(rt: HostRuntime) -> Result<(), Fail> {
     let pieces = [
         (3, 1, 0, 1),
         (1, 1, 1, 4),
@@ -66,7 +66,7 @@ fn five_jobs(rt: HostRuntime) -> Result<(), Fail> {
 
 // Operations of time 0 have no pieces and hold up none.
 #[test]
-fn times_of_zero(rt: HostRuntime) -> Result<(), Fail> {
+fn operations_of_time_0_have_no_piece(rt: HostRuntime) -> Result<(), Fail> {
     let times = [(0, 3), (4, 0), (0, 0)];
     let answer = answer(&rt, rt.alloc(), &times, false)?;
     assert!(rt; are_pieces(answer.pieces.as_slice(), &[(2, 1, 0, 4), (1, 2, 0, 3)]));
@@ -76,7 +76,7 @@ fn times_of_zero(rt: HostRuntime) -> Result<(), Fail> {
 }
 
 #[test]
-fn no_work(rt: HostRuntime) -> Result<(), Fail> {
+fn a_shop_without_work_has_length_0(rt: HostRuntime) -> Result<(), Fail> {
     let answer = answer(&rt, rt.alloc(), &[(0, 0), (0, 0)], false)?;
     assert!(rt; are_pieces(answer.pieces.as_slice(), &[]));
     assert!(rt; answer.value == 0);
@@ -86,7 +86,7 @@ fn no_work(rt: HostRuntime) -> Result<(), Fail> {
 
 // Jobs that tie come in the order of their numbers, early and late ones.
 #[test]
-fn ties(rt: HostRuntime) -> Result<(), Fail> {
+fn ties_go_by_number(rt: HostRuntime) -> Result<(), Fail> {
     let pieces = [
         (2, 1, 0, 1),
         (4, 1, 1, 2),

@@ -2,11 +2,15 @@ use std::alloc::Global;
 use std::test::Fail;
 use tf_check::answer::Answer;
 use tf_check::certificate::Certificate;
+use tf_check::evidence::Evidence;
+use tf_check::fault::BoundFault;
+use tf_check::last_of::LastOf;
 use tf_model::class::Class;
 use tf_model::cost::StepCost;
 use tf_model::ids::JobId;
 use tf_model::instance::Instance;
 use tf_model::job::{Job, Times};
+use tf_model::job_list::JobList;
 use tf_model::prepare::prepare;
 use tf_model::problem::{Env, Goal, Problem};
 use tf_model::task::Task;
@@ -129,7 +133,7 @@ fn is_cycle(solved: &Result<Answer, LawlerFault>, jobs: &[u32]) -> bool {
 }
 
 #[test]
-fn costs_with_an_arc(rt: HostRuntime) -> Result<(), Fail> {
+fn the_cheapest_free_job_goes_last(rt: HostRuntime) -> Result<(), Fail> {
     let jobs = [(2, 0, 5, 10), (3, 0, 9, 7), (4, 1, 9, 8)];
     let task = costed_task(&rt, &jobs, &[(3, 1)])?;
     assert!(rt; is_answer(&answered(&rt, &task)?, &[3, 1, 2], 10, &[1, 3]));
@@ -137,7 +141,7 @@ fn costs_with_an_arc(rt: HostRuntime) -> Result<(), Fail> {
 }
 
 #[test]
-fn cycles(rt: HostRuntime) -> Result<(), Fail> {
+fn a_cycle_is_named(rt: HostRuntime) -> Result<(), Fail> {
     let jobs = [(2, 0, 5, 10), (3, 0, 9, 7), (4, 1, 9, 8)];
     let task = costed_task(&rt, &jobs, &[(1, 2), (2, 1)])?;
     assert!(rt; is_cycle(&answered(&rt, &task)?, &[1, 2]));
@@ -147,7 +151,7 @@ fn cycles(rt: HostRuntime) -> Result<(), Fail> {
 }
 
 #[test]
-fn due_dates(rt: HostRuntime) -> Result<(), Fail> {
+fn the_job_that_is_due_last_goes_last(rt: HostRuntime) -> Result<(), Fail> {
     let task = due_task(&rt, &[(1, 100)], &[])?;
     assert!(rt; is_answer(&answered(&rt, &task)?, &[1], -99, &[1]));
     let task = due_task(&rt, &[(1, 5), (1, 5)], &[])?;
@@ -158,7 +162,7 @@ fn due_dates(rt: HostRuntime) -> Result<(), Fail> {
 }
 
 #[test]
-fn equal_due_dates(rt: HostRuntime) -> Result<(), Fail> {
+fn equal_due_dates_go_by_number(rt: HostRuntime) -> Result<(), Fail> {
     let task = due_task(&rt, &[(2, 4), (1, 4), (3, 4), (1, 3)], &[])?;
     assert!(rt; is_answer(&answered(&rt, &task)?, &[4, 1, 2, 3], 3, &[1, 2, 3, 4]));
     let task = due_task(&rt, &[(2, 4), (1, 4), (3, 4), (1, 3)], &[(3, 1), (2, 4)])?;
@@ -167,7 +171,7 @@ fn equal_due_dates(rt: HostRuntime) -> Result<(), Fail> {
 }
 
 #[test]
-fn a_chain(rt: HostRuntime) -> Result<(), Fail> {
+fn a_chain_is_kept(rt: HostRuntime) -> Result<(), Fail> {
     let jobs = [(1, 9), (2, 1), (3, 8), (4, 2)];
     let task = due_task(&rt, &jobs, &[(3, 1), (1, 4), (4, 2)])?;
     assert!(rt; is_answer(&answered(&rt, &task)?, &[3, 1, 4, 2], 9, &[1, 2, 3, 4]));
@@ -175,8 +179,20 @@ fn a_chain(rt: HostRuntime) -> Result<(), Fail> {
 }
 
 #[test]
-fn due_on_a_cycle(rt: HostRuntime) -> Result<(), Fail> {
+fn a_cycle_is_named_with_due_dates_too(rt: HostRuntime) -> Result<(), Fail> {
     let task = due_task(&rt, &[(1, 5), (1, 6), (1, 7)], &[(2, 3), (3, 2), (1, 2)])?;
     assert!(rt; is_cycle(&answered(&rt, &task)?, &[2, 3]));
+    Ok(())
+}
+
+#[test]
+fn a_set_whose_jobs_go_in_a_circle_bounds_nothing(rt: HostRuntime) -> Result<(), Fail> {
+    let jobs = [(2, 0, 5, 10), (3, 0, 9, 7), (4, 1, 9, 8)];
+    let task = costed_task(&rt, &jobs, &[(1, 2), (2, 1)])?;
+    let last = LastOf {
+        jobs: JobList::new(vec![in rt.alloc(); JobId::at(0), JobId::at(1)]?),
+    };
+    let bound = last.bound(rt.alloc(), &task);
+    assert!(rt; bound == Err(BoundFault::Condition(JobId::at(0))));
     Ok(())
 }

@@ -12,6 +12,8 @@ mod johnson;
 #[cfg(test)]
 mod lawler;
 #[cfg(test)]
+mod mcnaughton;
+#[cfg(test)]
 mod model;
 #[cfg(test)]
 mod notation;

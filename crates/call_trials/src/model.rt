@@ -1,7 +1,8 @@
 use std::process::Abort;
 use std::test::Fail;
+use tf_model::class::{Class, class_of};
 use tf_model::cost::{Cost, CostFault, StepCost};
-use tf_model::ids::JobId;
+use tf_model::ids::{JobId, MachineId};
 use tf_model::instance::{Instance, InstanceFault};
 use tf_model::job::{Job, Times};
 use tf_model::limit::LIMIT;
@@ -17,7 +18,7 @@ fn step_fault(base: i64, steps: Vec<(i64, i64)>) -> Option<CostFault> {
 }
 
 #[test]
-fn step_costs(rt: HostRuntime) -> Result<(), Fail> {
+fn steps_rise_and_do_not_fall(rt: HostRuntime) -> Result<(), Fail> {
     let steps = vec![in rt.alloc(); (5, 3), (5, 4)]?;
     assert_eq!(rt; step_fault(0, steps), Some(CostFault::TimesNotRising));
     let steps = vec![in rt.alloc(); (5, 3), (9, 2)]?;
@@ -48,7 +49,7 @@ fn weighted(time: i64, weight: i64) -> Job {
 }
 
 #[test]
-fn instance_faults(rt: HostRuntime) -> Result<(), Fail> {
+fn an_instance_has_its_first_fault(rt: HostRuntime) -> Result<(), Fail> {
     let arcs = Vec::new(rt.alloc());
     let fault = Instance::new(Vec::new(rt.alloc()), arcs, None).err();
     assert_eq!(rt; fault, Some(InstanceFault::NoJobs));
@@ -107,7 +108,7 @@ fn refusal(
 }
 
 #[test]
-fn refusals_of_one_job(rt: HostRuntime) -> Result<(), Fail> {
+fn a_job_has_its_refusal(rt: HostRuntime) -> Result<(), Fail> {
     let makespan = problem(Env::Parallel, None, Goal::Cmax, true);
     let pair = problem(Env::Parallel, Some(2), Goal::Cmax, true);
     let flow = problem(Env::Flow, None, Goal::Cmax, false);
@@ -140,7 +141,7 @@ fn refusals_of_one_job(rt: HostRuntime) -> Result<(), Fail> {
 }
 
 #[test]
-fn totals(rt: HostRuntime) -> Result<(), Fail> {
+fn totals_stay_within_the_limit(rt: HostRuntime) -> Result<(), Fail> {
     let weights = problem(Env::Single, None, Goal::SumWC, false);
     let jobs = vec![in rt.alloc(); weighted(LIMIT, 1)]?;
     assert_eq!(rt; refusal(&rt, &weights, None, None, jobs)?, None);
@@ -176,4 +177,31 @@ fn each_refusal_before_the_next(rt: HostRuntime) -> Result<(), Fail> {
     let wanted = Refusal::ZeroTime(job_id(&rt, 2));
     assert_eq!(rt; refusal(&rt, &weights, None, None, jobs)?, Some(wanted));
     Ok(())
+}
+
+#[test]
+fn jobs_and_machines_count_from_1(rt: HostRuntime) {
+    assert!(rt; JobId::new(0).is_none());
+    assert!(rt; MachineId::new(0).is_none());
+    assert_eq!(rt; JobId::new(1).map(JobId::get), Some(1));
+    assert_eq!(rt; MachineId::new(1_000).map(MachineId::get), Some(1_000));
+}
+
+/// Problems without conditions, and the class of each.
+const CLASSES: [(Env, Goal, Option<Class>); 8] = [
+    (Env::Single, Goal::SumWC, Some(Class::WeightedSum)),
+    (Env::Single, Goal::SumC, Some(Class::PlainSum)),
+    (Env::Single, Goal::Lmax, Some(Class::Lmax)),
+    (Env::Single, Goal::Hmax, Some(Class::Hmax)),
+    (Env::Parallel, Goal::SumC, Some(Class::ParallelSum)),
+    (Env::Parallel, Goal::Cmax, None),
+    (Env::Flow, Goal::Cmax, Some(Class::FlowTwo)),
+    (Env::OpenShop, Goal::Cmax, Some(Class::OpenTwo)),
+];
+
+#[test]
+fn a_problem_has_the_class_of_its_notation(rt: HostRuntime) {
+    for (env, goal, class) in CLASSES {
+        assert!(rt; class_of(&Problem::plain(env, goal)) == class);
+    }
 }

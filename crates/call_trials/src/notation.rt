@@ -17,7 +17,7 @@ const PREEMPTIVE_LATENESS: Problem = Problem {
 };
 
 #[test]
-fn reads_fields(rt: HostRuntime) {
+fn fields_may_be_spelled_in_other_words(rt: HostRuntime) {
     let problem = read(b"1 | pmtn , r_j | L_max");
     assert_eq!(rt; problem, Ok(PREEMPTIVE_LATENESS));
 }

@@ -51,13 +51,13 @@ fn answers(
 }
 
 #[test]
-fn no_work(rt: HostRuntime) -> Result<(), Fail> {
+fn a_shop_without_work_has_length_0(rt: HostRuntime) -> Result<(), Fail> {
     answers(&rt, rt.alloc(), &[(0, 0), (0, 0)], &[], 0, Some(1), 0)
 }
 
 // An early leader, behind whom machine 2 does not wait.
 #[test]
-fn early_leader(rt: HostRuntime) -> Result<(), Fail> {
+fn an_early_job_leads(rt: HostRuntime) -> Result<(), Fail> {
     let pieces = [
         (2, 1, 0, 1),
         (1, 1, 1, 5),
@@ -72,21 +72,21 @@ fn early_leader(rt: HostRuntime) -> Result<(), Fail> {
 
 // The leader is as long as the timetable.
 #[test]
-fn long_leader(rt: HostRuntime) -> Result<(), Fail> {
+fn a_long_job_leads(rt: HostRuntime) -> Result<(), Fail> {
     let pieces = [(2, 1, 0, 1), (1, 1, 5, 10), (1, 2, 0, 5), (2, 2, 5, 6)];
     answers(&rt, rt.alloc(), &[(5, 5), (1, 1)], &pieces, 10, None, 1)
 }
 
 // A leader that is not early, so the machines change places.
 #[test]
-fn late_leader(rt: HostRuntime) -> Result<(), Fail> {
+fn a_late_job_leads(rt: HostRuntime) -> Result<(), Fail> {
     let pieces = [(1, 1, 0, 5), (2, 1, 5, 6), (2, 2, 0, 2), (1, 2, 5, 7)];
     answers(&rt, rt.alloc(), &[(5, 2), (1, 2)], &pieces, 7, None, 1)
 }
 
 // Of jobs of the same lesser time an early one leads, and the first of these.
 #[test]
-fn first_early_of_equals(rt: HostRuntime) -> Result<(), Fail> {
+fn the_first_of_equals_leads(rt: HostRuntime) -> Result<(), Fail> {
     let pieces = [
         (3, 1, 0, 2),
         (1, 1, 2, 5),

@@ -18,7 +18,7 @@ fn fault(pieces: Vec<Piece>) -> Option<PieceFault> {
 }
 
 #[test]
-fn faults(rt: HostRuntime) -> Result<(), Fail> {
+fn pieces_have_their_first_fault(rt: HostRuntime) -> Result<(), Fail> {
     let first_machine = MachineId::new(1).expect(&rt, "a machine");
     let pieces = vec![in rt.alloc(); piece(&rt, 1, 1, 0, 4), piece(&rt, 2, 1, 3, 5)]?;
     assert_eq!(rt;

@@ -58,6 +58,24 @@ pub fn parallel(
     )
 }
 
+// The task of jobs with these times, a makespan and preemption on that number of machines.
+pub fn preemptive(
+    rt: &impl Abort,
+    alloc: Global,
+    machines: u32,
+    times: &[i64],
+) -> Result<Task, Fail> {
+    let mut jobs = Vec::new(alloc);
+    for time in times {
+        jobs.push(job(Times::One(*time)))?;
+    }
+    let problem = Problem {
+        prmp: true,
+        ..Problem::plain(Env::Parallel, Goal::Cmax)
+    };
+    prepared(rt, alloc, jobs, &problem, machines)
+}
+
 fn prepared(
     rt: &impl Abort,
     alloc: Global,

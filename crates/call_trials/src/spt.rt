@@ -54,7 +54,7 @@ fn runs(
 }
 
 #[test]
-fn two_machines(rt: HostRuntime) -> Result<(), Fail> {
+fn jobs_are_dealt_by_their_times(rt: HostRuntime) -> Result<(), Fail> {
     let pieces = [
         (1, 1, 0, 1),
         (3, 1, 1, 4),
@@ -74,7 +74,7 @@ fn two_machines(rt: HostRuntime) -> Result<(), Fail> {
 }
 
 #[test]
-fn more_machines_than_jobs(rt: HostRuntime) -> Result<(), Fail> {
+fn each_job_has_a_machine_of_its_own(rt: HostRuntime) -> Result<(), Fail> {
     let pieces = [
         (1, 1, 0, 1),
         (2, 2, 0, 2),
@@ -95,13 +95,13 @@ fn more_machines_than_jobs(rt: HostRuntime) -> Result<(), Fail> {
 
 // Jobs of one time are dealt by number.
 #[test]
-fn ties(rt: HostRuntime) -> Result<(), Fail> {
+fn ties_go_by_number(rt: HostRuntime) -> Result<(), Fail> {
     let pieces = [(2, 1, 0, 1), (3, 1, 1, 3), (1, 2, 0, 2)];
     runs(&rt, rt.alloc(), 2, &[2, 1, 2], &pieces, 6, &[3, 1, 2])
 }
 
 #[test]
-fn ranks_that_bound_nothing(rt: HostRuntime) -> Result<(), Fail> {
+fn ranks_at_fault_are_refused(rt: HostRuntime) -> Result<(), Fail> {
     let alloc = rt.alloc();
     let task = parallel(&rt, alloc, 2, &[1, 2, 3, 4, 5])?;
     let second = JobId::new(2).expect(&rt, "a job");

@@ -76,7 +76,7 @@ fn runs(
 
 // Jobs of one ratio run by number.
 #[test]
-fn ties(rt: HostRuntime) -> Result<(), Fail> {
+fn ties_go_by_number(rt: HostRuntime) -> Result<(), Fail> {
     let pieces = [(1, 0, 3), (2, 3, 4), (3, 4, 6)];
     runs(
         &rt,
@@ -90,20 +90,20 @@ fn ties(rt: HostRuntime) -> Result<(), Fail> {
 
 // 4/3 and 3/2 are the same in whole numbers.
 #[test]
-fn by_products(rt: HostRuntime) -> Result<(), Fail> {
+fn ratios_are_compared_by_products(rt: HostRuntime) -> Result<(), Fail> {
     let pieces = [(2, 0, 2), (1, 2, 5)];
     runs(&rt, rt.alloc(), Goal::SumWC, &[(3, 4), (2, 3)], &pieces, 26)
 }
 
 #[test]
-fn no_weight(rt: HostRuntime) -> Result<(), Fail> {
+fn jobs_without_weight_go_last(rt: HostRuntime) -> Result<(), Fail> {
     let pieces = [(2, 0, 1), (1, 1, 3)];
     runs(&rt, rt.alloc(), Goal::SumWC, &[(2, 0), (1, 3)], &pieces, 3)
 }
 
 // Without weights, by time: the weights of the instance do not count.
 #[test]
-fn unweighted(rt: HostRuntime) -> Result<(), Fail> {
+fn the_shortest_goes_first(rt: HostRuntime) -> Result<(), Fail> {
     let pieces = [(2, 0, 1), (3, 1, 3), (1, 3, 6)];
     runs(
         &rt,
@@ -116,7 +116,7 @@ fn unweighted(rt: HostRuntime) -> Result<(), Fail> {
 }
 
 #[test]
-fn as_long_as_can_be(rt: HostRuntime) -> Result<(), Fail> {
+fn the_greatest_total_is_solved(rt: HostRuntime) -> Result<(), Fail> {
     let limit = 4_000_000_000_000_000_000;
     runs(
         &rt,

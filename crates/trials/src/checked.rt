@@ -74,7 +74,7 @@ fn judges(rt: &HostRuntime, place: usize, line: &str, wanted: &str) -> Result<()
 }
 
 #[test]
-fn an_answer_and_its_problem(rt: HostRuntime) -> Result<(), Fail> {
+fn an_answer_for_another_task_is_rejected(rt: HostRuntime) -> Result<(), Fail> {
     judges(&rt, 2, "problem P3|prmp|Cmax", "accepted\n")?;
     judges(&rt, 2, "problem P2||sumC", "rejected: OtherTask\n")?;
     judges(&rt, 3, "jobs 4", "rejected: OtherTask\n")?;
@@ -84,7 +84,7 @@ fn an_answer_and_its_problem(rt: HostRuntime) -> Result<(), Fail> {
 }
 
 #[test]
-fn a_piece_changed(rt: HostRuntime) -> Result<(), Fail> {
+fn a_changed_piece_is_rejected(rt: HostRuntime) -> Result<(), Fail> {
     judges(&rt, 6, "piece 4 1 0 4", "rejected: Stranger 4 1\n")?;
     judges(&rt, 6, "piece 1 1 2 2", "rejected: EmptyPiece 1\n")?;
     judges(&rt, 6, "piece 1 1 -1 4", "rejected: OutOfRange 1\n")?;
@@ -93,7 +93,7 @@ fn a_piece_changed(rt: HostRuntime) -> Result<(), Fail> {
 }
 
 #[test]
-fn a_value_or_a_certificate_changed(rt: HostRuntime) -> Result<(), Fail> {
+fn a_changed_value_or_certificate_is_rejected(rt: HostRuntime) -> Result<(), Fail> {
     judges(&rt, 5, "value 7", "rejected: WrongValue\n")?;
     judges(&rt, 10, "cert job 1", "rejected: BoundBelowValue\n")?;
     judges(&rt, 10, "cert job 4", "rejected: BadJob 4\n")?;
@@ -116,7 +116,7 @@ fn refuses_text(rt: &HostRuntime, answer: &[u8], fault: AnswerFault) -> Result<(
 }
 
 #[test]
-fn refusals(rt: HostRuntime) -> Result<(), Fail> {
+fn answers_at_fault_are_refused(rt: HostRuntime) -> Result<(), Fail> {
     refuses(&rt, 6, "piece 1 1 0", AnswerFault::BadLine(6))?;
     refuses(&rt, 2, "problem 1||sumX", AnswerFault::BadNotation)?;
     let late = "piece 1 1 0 4000000000000000001";

@@ -30,7 +30,7 @@ fn is_judged(rt: &HostRuntime, text: &[u8]) -> Result<(), Fail> {
 }
 
 #[test]
-fn each_byte_replaced(rt: HostRuntime) -> Result<(), Fail> {
+fn a_replaced_byte_is_accepted_only_where_it_says_the_same(rt: HostRuntime) -> Result<(), Fail> {
     for layout in LAYOUTS {
         let text = headed(&rt, FOURS.answer, layout)?;
         for place in 0..text.len() {

@@ -9,7 +9,7 @@ use std::test::Fail;
 use tf_text::answer::layout::Layout;
 
 #[test]
-fn splits(rt: HostRuntime) -> Result<(), Fail> {
+fn splits_at_fault_are_rejected(rt: HostRuntime) -> Result<(), Fail> {
     let sixth = "cert split second 6 1 3 4 5";
     changed(&rt, &FLOW, 16, sixth, "rejected: Condition 5\n")?;
     let far = "cert split first 100 1";
@@ -21,7 +21,7 @@ fn splits(rt: HostRuntime) -> Result<(), Fail> {
 }
 
 #[test]
-fn job_lists(rt: HostRuntime) -> Result<(), Fail> {
+fn job_lists_at_fault_are_rejected(rt: HostRuntime) -> Result<(), Fail> {
     let rising = "cert ranks 1 2 3 4 5";
     changed(&rt, &DEALT, 11, rising, "rejected: Condition 2\n")?;
     let twice = "cert ranks 5 5";
@@ -33,7 +33,7 @@ fn job_lists(rt: HostRuntime) -> Result<(), Fail> {
 }
 
 #[test]
-fn job_lists_with_ranges(rt: HostRuntime) -> Result<(), Fail> {
+fn ranges_name_the_jobs_between(rt: HostRuntime) -> Result<(), Fail> {
     let second = headed(&rt, FLOW.answer, Layout::Two)?;
     let ranges = with_line(&rt, &second, 16, "cert split second 5 1 3-5")?;
     writes(&rt, FLOW.problem, FLOW.instance, &ranges, "accepted\n")?;
@@ -52,7 +52,7 @@ fn job_lists_with_ranges(rt: HostRuntime) -> Result<(), Fail> {
 }
 
 #[test]
-fn kinds_and_numbers(rt: HostRuntime) -> Result<(), Fail> {
+fn other_kinds_and_numbers_are_rejected(rt: HostRuntime) -> Result<(), Fail> {
     changed(&rt, &RATIOS, 9, "cert load", "rejected: OtherKind\n")?;
     changed(&rt, &OPEN, 12, "cert job 4", "rejected: BadJob 4\n")?;
     let third = "cert machine 3";
@@ -60,7 +60,7 @@ fn kinds_and_numbers(rt: HostRuntime) -> Result<(), Fail> {
 }
 
 #[test]
-fn values_and_pieces(rt: HostRuntime) -> Result<(), Fail> {
+fn a_wrong_value_or_an_early_piece_is_rejected(rt: HostRuntime) -> Result<(), Fail> {
     changed(&rt, &FLOW, 5, "value 23", "rejected: WrongValue\n")?;
     let early = "piece 3 1 6 7";
     changed(&rt, &BROKEN_OFF, 9, early, "rejected: TooEarly 3\n")
@@ -92,7 +92,7 @@ end
 ";
 
 #[test]
-fn weighted_completions(rt: HostRuntime) -> Result<(), Fail> {
+fn an_interrupted_job_is_rejected_without_preemption(rt: HostRuntime) -> Result<(), Fail> {
     let with_prmp = "1|prmp|sumwC";
     judges_text(
         &rt,
@@ -111,7 +111,7 @@ fn weighted_completions(rt: HostRuntime) -> Result<(), Fail> {
 }
 
 #[test]
-fn a_late_start(rt: HostRuntime) -> Result<(), Fail> {
+fn a_late_start_has_its_whole_cost(rt: HostRuntime) -> Result<(), Fail> {
     let table = b"table 1\njob 1 p=1 w=2000000000000000000\n";
     let answer = b"answer 1
 problem 1||sumwC
@@ -126,7 +126,7 @@ end
 }
 
 #[test]
-fn arcs_that_are_broken(rt: HostRuntime) -> Result<(), Fail> {
+fn arcs_that_are_not_kept_are_rejected(rt: HostRuntime) -> Result<(), Fail> {
     let turned = b"answer 1
 problem 1|prec|hmax
 jobs 3
@@ -156,7 +156,7 @@ end
 }
 
 #[test]
-fn shops(rt: HostRuntime) -> Result<(), Fail> {
+fn machines_in_the_wrong_order_are_rejected(rt: HostRuntime) -> Result<(), Fail> {
     let other = "rejected: OtherTask\n";
     judges_text(&rt, OPEN.problem, OPEN.instance, FOURS.answer, other)?;
     let backward = b"answer 1
@@ -174,7 +174,7 @@ end
 }
 
 #[test]
-fn an_open_shop_in_turns(rt: HostRuntime) -> Result<(), Fail> {
+fn an_open_shop_goes_in_turns_with_preemption_alone(rt: HostRuntime) -> Result<(), Fail> {
     let table = b"table 1\njob 1 p=2,2\njob 2 p=2,2\n";
     let in_turns = b"answer 1
 problem O2|prmp|Cmax

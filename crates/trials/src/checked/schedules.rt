@@ -25,7 +25,7 @@ fn judges(rt: &HostRuntime, lines: &[&str], wanted: &str) -> Result<(), Fail> {
 }
 
 #[test]
-fn pieces_in_any_order(rt: HostRuntime) -> Result<(), Fail> {
+fn pieces_may_come_in_any_order(rt: HostRuntime) -> Result<(), Fail> {
     let touching = [
         "value 6",
         "piece 3 2 2 6",
@@ -39,7 +39,7 @@ fn pieces_in_any_order(rt: HostRuntime) -> Result<(), Fail> {
 }
 
 #[test]
-fn a_machine_that_waits(rt: HostRuntime) -> Result<(), Fail> {
+fn a_machine_that_waits_costs_its_time(rt: HostRuntime) -> Result<(), Fail> {
     let late = [
         "value 9",
         "piece 1 1 0 4",
@@ -51,7 +51,7 @@ fn a_machine_that_waits(rt: HostRuntime) -> Result<(), Fail> {
 }
 
 #[test]
-fn machines_that_wait(rt: HostRuntime) -> Result<(), Fail> {
+fn machines_may_wait_beside_a_long_job(rt: HostRuntime) -> Result<(), Fail> {
     let head = "answer 1\nproblem P3|prmp|Cmax\njobs 3\nmachines 3";
     let lines = [
         "value 9",
@@ -72,7 +72,7 @@ fn machines_that_wait(rt: HostRuntime) -> Result<(), Fail> {
 }
 
 #[test]
-fn one_machine_for_all(rt: HostRuntime) -> Result<(), Fail> {
+fn one_machine_for_all_is_not_best(rt: HostRuntime) -> Result<(), Fail> {
     let head = "answer 1\nproblem P2|prmp|Cmax\njobs 3\nmachines 2";
     let lines = [
         "value 3",
@@ -87,7 +87,7 @@ fn one_machine_for_all(rt: HostRuntime) -> Result<(), Fail> {
 }
 
 #[test]
-fn faults_of_pieces(rt: HostRuntime) -> Result<(), Fail> {
+fn pieces_at_fault_are_rejected(rt: HostRuntime) -> Result<(), Fail> {
     let twice = ["value 6", "piece 1 1 0 4", "piece 2 1 3 5", "cert load"];
     judges(&rt, &twice, "rejected: MachineTwice 1 3\n")?;
     // one piece with both faults, and two pieces
@@ -108,7 +108,7 @@ fn faults_of_pieces(rt: HostRuntime) -> Result<(), Fail> {
 }
 
 #[test]
-fn a_stranger(rt: HostRuntime) -> Result<(), Fail> {
+fn a_stranger_is_rejected(rt: HostRuntime) -> Result<(), Fail> {
     let machine = ["value 6", "piece 1 3 0 4", "cert load"];
     judges(&rt, &machine, "rejected: Stranger 1 3\n")?;
     // job 2 is also twice at time 4
@@ -124,7 +124,7 @@ fn a_stranger(rt: HostRuntime) -> Result<(), Fail> {
 }
 
 #[test]
-fn a_job_twice(rt: HostRuntime) -> Result<(), Fail> {
+fn a_job_in_two_places_is_rejected(rt: HostRuntime) -> Result<(), Fail> {
     let twice = [
         "value 6",
         "piece 1 1 0 4",
@@ -146,7 +146,7 @@ fn a_job_twice(rt: HostRuntime) -> Result<(), Fail> {
 }
 
 #[test]
-fn a_wrong_amount(rt: HostRuntime) -> Result<(), Fail> {
+fn a_wrong_amount_is_rejected(rt: HostRuntime) -> Result<(), Fail> {
     let short = [
         "value 6",
         "piece 1 1 0 4",
@@ -166,7 +166,7 @@ fn a_wrong_amount(rt: HostRuntime) -> Result<(), Fail> {
 }
 
 #[test]
-fn a_wrong_value(rt: HostRuntime) -> Result<(), Fail> {
+fn a_wrong_value_is_rejected(rt: HostRuntime) -> Result<(), Fail> {
     // the certificate names no job of the task
     let dear = [
         "value 7",
@@ -193,7 +193,7 @@ fn judges_sum(rt: &HostRuntime, lines: &[&str], wanted: &str) -> Result<(), Fail
 }
 
 #[test]
-fn a_broken_job(rt: HostRuntime) -> Result<(), Fail> {
+fn a_broken_job_is_rejected(rt: HostRuntime) -> Result<(), Fail> {
     let broken = [
         "value 25",
         "piece 1 1 0 2",
@@ -224,7 +224,7 @@ fn judges_released(rt: &HostRuntime, lines: &[&str], wanted: &str) -> Result<(),
 }
 
 #[test]
-fn a_job_too_early(rt: HostRuntime) -> Result<(), Fail> {
+fn a_job_before_its_release_is_rejected(rt: HostRuntime) -> Result<(), Fail> {
     let early = [
         "value -1",
         "piece 1 1 0 1",
@@ -252,7 +252,7 @@ fn judges_arc(rt: &HostRuntime, lines: &[&str], wanted: &str) -> Result<(), Fail
 }
 
 #[test]
-fn jobs_out_of_order(rt: HostRuntime) -> Result<(), Fail> {
+fn jobs_out_of_order_are_rejected(rt: HostRuntime) -> Result<(), Fail> {
     let swapped = [
         "value 8",
         "piece 1 1 0 2",
@@ -282,7 +282,7 @@ fn judges_flow(rt: &HostRuntime, lines: &[&str], wanted: &str) -> Result<(), Fai
 }
 
 #[test]
-fn machines_out_of_order(rt: HostRuntime) -> Result<(), Fail> {
+fn machines_out_of_order_are_rejected(rt: HostRuntime) -> Result<(), Fail> {
     let backward = [
         "value 5",
         "piece 1 2 0 2",
