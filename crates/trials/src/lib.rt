@@ -1,18 +1,12 @@
-//! Tests over the public calls of all crates: worked examples, answers of others, devices that fail,
-//! growths that are refused. What they share is here for other crates of tests.
+//! Tests over the public calls of all crates: worked examples, devices that fail, growths that are
+//! refused. What they share is here for other crates of tests.
 #![tactic(auto)]
 
-#[cfg(test)]
-mod checked;
 #[cfg(test)]
 mod counted;
 pub mod devices;
 #[cfg(test)]
 mod devices_in_runs;
-#[cfg(test)]
-mod drawn;
-#[cfg(test)]
-mod evaluated;
 pub mod examples;
 pub mod growths;
 #[cfg(test)]

@@ -2,13 +2,13 @@
 ghost use Rattle.std.specs.Prelude.{◌≤◌};
 ghost use Rattle.tf_text.specs.declared.chart.TheConstants.{MOST_COLUMNS};
 
-use crate::examples::headed;
-use crate::examples::parallel::{DEALT, FOURS};
-use crate::runs::{LAYOUTS, draw_into, ensure};
 use std::test::Fail;
 use tf_engine::fault::RunFault;
 use tf_schedule::schedule::PieceFault;
 use tf_text::answer::fault::AnswerFault;
+use trials::examples::headed;
+use trials::examples::parallel::{DEALT, FOURS};
+use trials::runs::{LAYOUTS, draw_into, ensure};
 
 fn draws(rt: &HostRuntime, answer: &[u8], columns: u32, chart: &[u8]) -> Result<(), Fail>
     requires { (1 ≤ columns) × (columns ≤ MOST_COLUMNS) }

@@ -1,12 +1,12 @@
 //! An answer text with each of its bytes replaced.
 use super::check_texts;
-use crate::examples::headed;
-use crate::examples::parallel::FOURS;
-use crate::runs::{LAYOUTS, ensure};
 use std::test::Fail;
 use tf_check::certificate::Certificate;
 use tf_engine::run_check::Checked;
 use tf_text::answer::reading::read_answer;
+use trials::examples::headed;
+use trials::examples::parallel::FOURS;
+use trials::runs::{LAYOUTS, ensure};
 
 /// Whether the text says the pieces, the value and the certificate for three jobs of 4.
 fn says_the_same(rt: &HostRuntime, text: &[u8]) -> Result<bool, Fail> {

@@ -1,10 +1,10 @@
 //! Schedules of others: each misfit, and of two the one that is judged first.
 use super::judges_text;
-use crate::examples::latest::{BROKEN_OFF, COSTS};
-use crate::examples::parallel::{FOURS, ONE_LONG, ONES};
-use crate::examples::sums::RATIOS;
 use std::alloc::AllocError;
 use std::test::Fail;
+use trials::examples::latest::{BROKEN_OFF, COSTS};
+use trials::examples::parallel::{FOURS, ONE_LONG, ONES};
+use trials::examples::sums::RATIOS;
 
 /// The answer text of a head and further lines.
 fn answer_of(rt: &HostRuntime, head: &str, lines: &[&str]) -> Result<String, AllocError> {

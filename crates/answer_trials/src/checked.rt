@@ -3,10 +3,6 @@ mod damaged;
 mod judged;
 mod schedules;
 
-use crate::devices::{Failure, Source, Way};
-use crate::examples::parallel::{FOURS, ONES};
-use crate::examples::{Example, headed, with_line};
-use crate::runs::{LAYOUTS, check_into, ensure, request_table};
 use std::alloc::AllocError;
 use std::test::Fail;
 use tf_engine::fault::RunFault;
@@ -15,6 +11,10 @@ use tf_notation::reading::NotationFault;
 use tf_read::fault::ReadFault;
 use tf_text::answer::fault::AnswerFault;
 use tf_text::counted::Counted;
+use trials::devices::{Failure, Source, Way};
+use trials::examples::parallel::{FOURS, ONES};
+use trials::examples::{Example, headed, with_line};
+use trials::runs::{LAYOUTS, check_into, ensure, request_table};
 
 /// What a check answers, and what it writes.
 fn check_texts(

@@ -1,12 +1,4 @@
 //! Answers, evaluated: each evaluation by hand.
-use crate::devices::{Failure, Sink, Source, Way};
-use crate::examples::latest::{BROKEN_OFF, COSTS, DUE_ARC, EQUAL_DUE, TWO_ARCS};
-use crate::examples::parallel::{DEALT, FOURS};
-use crate::examples::shops::{FLOW, FLOW_ZEROS, OPEN};
-use crate::examples::sums::{NO_WEIGHT, RATIOS, SHORTEST};
-use crate::examples::{Example, WORKED, answer_in, with_line};
-use crate::growths::{Ended, refuse_each_growth};
-use crate::runs::{LAYOUTS, ensure, evaluate_into, request_for, request_table};
 use refusing::Refusing;
 use std::alloc::{AllocError, Global};
 use std::test::Fail;
@@ -16,6 +8,14 @@ use tf_evaluate::evaluation::Standing;
 use tf_evaluate::run_evaluate::run_evaluate;
 use tf_text::answer::layout::Layout;
 use tf_text::counted::Counted;
+use trials::devices::{Failure, Sink, Source, Way};
+use trials::examples::latest::{BROKEN_OFF, COSTS, DUE_ARC, EQUAL_DUE, TWO_ARCS};
+use trials::examples::parallel::{DEALT, FOURS};
+use trials::examples::shops::{FLOW, FLOW_ZEROS, OPEN};
+use trials::examples::sums::{NO_WEIGHT, RATIOS, SHORTEST};
+use trials::examples::{Example, WORKED, answer_in, with_line};
+use trials::growths::{Ended, refuse_each_growth};
+use trials::runs::{LAYOUTS, ensure, evaluate_into, request_for, request_table};
 
 /// An example whose answer has other lines, counted from 1, and its evaluation.
 #[derive(Clone, Copy)]

@@ -1,12 +1,12 @@
 //! Answers of others, each judged by hand.
 use super::{changed, judges_text, writes};
-use crate::examples::latest::{ALIKE, BROKEN_OFF, COSTS, EQUAL_DUE, TWO_ARCS};
-use crate::examples::parallel::{DEALT, FOURS};
-use crate::examples::shops::{FLOW, FLOW_ONE, FLOW_TURNED, OPEN};
-use crate::examples::sums::RATIOS;
-use crate::examples::{headed, with_line};
 use std::test::Fail;
 use tf_text::answer::layout::Layout;
+use trials::examples::latest::{ALIKE, BROKEN_OFF, COSTS, EQUAL_DUE, TWO_ARCS};
+use trials::examples::parallel::{DEALT, FOURS};
+use trials::examples::shops::{FLOW, FLOW_ONE, FLOW_TURNED, OPEN};
+use trials::examples::sums::RATIOS;
+use trials::examples::{headed, with_line};
 
 #[test]
 fn splits_at_fault_are_rejected(rt: HostRuntime) -> Result<(), Fail> {

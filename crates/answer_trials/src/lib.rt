@@ -1,0 +1,9 @@
+//! Tests over the runs that take an answer: it is judged, drawn and evaluated.
+#![tactic(auto)]
+
+#[cfg(test)]
+mod checked;
+#[cfg(test)]
+mod drawn;
+#[cfg(test)]
+mod evaluated;
