@@ -5,6 +5,7 @@ pub mod Sums
 pub mod Units
 pub mod Work
 pub mod Costs
+pub mod StepSearch
 pub mod Loads
 pub mod LastOf
 pub mod PairSums

@@ -18,7 +18,7 @@ use Rattle.tf_model.specs.declared.prepare.Refusal.TheVariants.{MachineCount, Wr
 use Rattle.tf_model.specs.Whole.{as_time, IsWithin}
 use Rattle.tf_model.specs.Steps.{no_steps}
 use Rattle.tf_model.specs.StepFaults.{IsStepCost}
-use Rattle.tf_model.specs.CostLaws.{late_law, step_law}
+use Rattle.tf_model.specs.CostLaws.{late_law, none_of_two, step_law}
 use Rattle.tf_model.specs.JobFields.{JobFields}
 use Rattle.tf_model.specs.InstanceData.{InstanceData, IsInstance, any_time, any_given, is_beyond, has_negative, has_beyond, is_no_job, is_bad_arc, first_with, count_fault, counts_fault}
 use Rattle.tf_model.specs.SchedulingTask.{JobData, no_job, SchedulingTask, IsJob, job_data, time_of, all_jobs, costs_of}
@@ -33,11 +33,6 @@ use Rattle.tf_model.proofs.Outcomes.{bind_ok}
 use Rattle.tf_model.proofs.Costs.{sum_by-all_jobs}
 
 -- ---- what an absent fault says
-
-none_of_two : {A : Type 0} (o later : Option A) → option_or o later ≡ None
-    → (o ≡ None) × (later ≡ None)
-none_of_two (Some x) later e = cc
-none_of_two None later e = (refl, e)
 
 none_mapped : {A B : Type 0} (f : A → B) (o : Option A) → option_map f o ≡ None → o ≡ None
 none_mapped f (Some x) e = cc

@@ -13,8 +13,9 @@ pub late_law : (due : ℤ) (c e : ℕ) → c ≤ e → (pos c -ℤ due) ≤ℤ (
 late_law due c e h = omega (arith, ints)
 
 -- neither is there where their first is not
-none_of_two : (o later : Option CostFault) → option_or o later ≡ None → (o ≡ None) × (later ≡ None)
-none_of_two (Some fault) later e = cc
+pub none_of_two : {A : Type 0} (o later : Option A) → option_or o later ≡ None
+    → (o ≡ None) × (later ≡ None)
+none_of_two (Some x) later e = cc
 none_of_two None later e = (refl, e)
 
 not_below : (a b : ℤ) → int_lt a b ≡ false → b ≤ℤ a
@@ -35,7 +36,7 @@ step_rises time value step e =
     by_tests false false true is e = cc
     by_tests false false false is e = not_below step.1 value is
 
-abbrev after : ℕ → ℤ → ℤ × ℤ → ℤ
+abbrev pub after : ℕ → ℤ → ℤ × ℤ → ℤ
 after c v step = cond (int_le step.0 (pos c)) step.1 v
 
 both_come : (z : ℤ) (c e : ℕ) → c ≤ e → int_le z (pos c) ≡ true → int_le z (pos e) ≡ false → ⊥
@@ -61,7 +62,7 @@ climbs time value (step ∷ steps) c e v w h le vw wv =
     by_tests false true p q rises on = on v step.1 (omega (arith, ints)) (omega (arith, ints))
     by_tests false false p q rises on = on v w vw (omega (arith, ints))
 
-no_base_fault : (b : Bool) (rest : Option CostFault) → cond b (Some OutOfRange) rest ≡ None
+pub no_base_fault : (b : Bool) (rest : Option CostFault) → cond b (Some OutOfRange) rest ≡ None
     → rest ≡ None
 no_base_fault true rest e = cc
 no_base_fault false rest e = e

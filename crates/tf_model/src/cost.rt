@@ -1,8 +1,8 @@
 //! Costs of completion times.
-ghost use Rattle.std.specs.Prelude.{◌≡◌, ℕ, ℤ, pos, ◌-ℤ◌, ◌<◌, ◌≤◌, ◌<ℤ◌, ◌≤ℤ◌, true, false, length, MatchResult, IsTrue, ◌↔◌};
+ghost use Rattle.std.specs.Prelude.{◌≡◌, ℕ, ℤ, pos, ◌-ℤ◌, ◌<◌, ◌≤◌, ◌<ℤ◌, ◌≤ℤ◌, true, false, length, MatchResult, IsTrue, ◌↔◌, int_le};
 ghost use Rattle.tf_model.specs.Whole.{as_time, IsWithin};
 ghost use Rattle.tf_model.specs.Steps.{step_value};
-ghost use Rattle.tf_model.specs.StepFaults.{steps_fault, step_fault};
+ghost use Rattle.tf_model.specs.StepFaults.{steps_fault, step_fault, IsStepCost};
 
 use crate::instance::is_beyond;
 use crate::limit::LIMIT;
@@ -144,17 +144,18 @@ impl<A: Allocator> Cost for StepCost<A> {
     }
 }
 
+// The value of the last step whose time has come: they are in order of time.
 fn value_of(base: i64, steps: &[(i64, i64)], c: i64) -> i64
-    requires { pos 0 ≤ℤ c }
+    requires time { pos 0 ≤ℤ c }
+    requires sound { IsStepCost (record { base = base; steps = steps.now }) }
     ensures { result ≡ step_value (record { base = base; steps = steps.now }) (as_time c) }
 {
-    let mut value = base;
-    for step in steps {
-        if step.0 <= c {
-            value = step.1;
-        }
-    }
-    value
+    let come = steps.partition_point(
+        |step: &(i64, i64)| -> bool
+            ensures { result ≡ int_le step.now.0 c }
+        { step.0 <= c },
+    );
+    if come == 0 { base } else { steps[come - 1].1 }
 }
 
 fn step_fault(time: i64, value: i64, step: &(i64, i64)) -> Option<CostFault>

@@ -14,7 +14,7 @@ use Rattle.tf_schedule.specs.Claims.{places, JobsOnce}
 use Rattle.tf_schedule.specs.Schedule.{IsPiece}
 use Rattle.tf_schedule.specs.Drawing.{duration, greatest_stop, stop_of}
 use Rattle.tf_schedule.specs.Amounts.{work, greatest_by, least_by, start_of}
-use Rattle.tf_schedule.specs.Extent.{no_extent, extended, extent_of, HasExtents}
+use Rattle.tf_schedule.specs.Extent.{extended, extent_of, HasExtents}
 use Rattle.tf_schedule.proofs.Times.{time_le}
 use Rattle.tf_schedule.proofs.Drawing.{sum_places, greatest_stop_le}
 use Rattle.tf_model.specs.Limit.{limit}

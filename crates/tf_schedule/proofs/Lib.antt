@@ -24,4 +24,5 @@ pub mod Laying
 pub mod Apart
 pub mod Makespan
 pub mod LaidFits
+pub mod OneMachine
 pub mod OneOperation

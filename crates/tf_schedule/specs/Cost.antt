@@ -1,11 +1,9 @@
 -- What a schedule costs: pieces that name no job or no machine of the task are left out.
-use Rattle.std.specs.Prelude.{◌≡◌, ℕ, ℤ, ◌+◌, ◌*◌, ◌<◌, ◌&&◌, ◌==◌, max, Bool, nat_lt, nat_le, List, length, filter, slice_index, if◌then◌else◌}
-use Rattle.std.specs.List.{sum_by, range_with_len}
-use Rattle.tf_model.specs.SchedulingTask.{SchedulingTask, job_data}
+use Rattle.std.specs.Prelude.{ℤ, ◌&&◌, Bool, nat_lt, nat_le, List, length, filter}
+use Rattle.tf_model.specs.SchedulingTask.{SchedulingTask}
 use Rattle.tf_model.specs.Cost.{cost}
 use Rattle.tf_schedule.specs.declared.piece.Piece.{Piece}
-use Rattle.tf_schedule.specs.Drawing.{drawing, stop_of}
-use Rattle.tf_schedule.specs.Amounts.{last_stop}
+use Rattle.tf_schedule.specs.Drawing.{drawing}
 
 -- whether the piece names a job and a machine of the task
 abbrev pub is_known : SchedulingTask → Piece → Bool

@@ -1,10 +1,9 @@
 -- The timetable that pieces draw (Pinedo, chapter 2, draws it as a Gantt chart).
-use Rattle.std.specs.Prelude.{◌≡◌, ◌↔◌, length, ℕ, ◌+◌, ◌-◌, ◌<◌, ◌≤◌, ◌==◌, ◌&&◌, List, [], ◌∷◌, max, min, map, filter, if◌then◌else◌}
-use Rattle.std.specs.List.{sum_by, range_with_len, All, Any}
+use Rattle.std.specs.Prelude.{◌≡◌, ◌↔◌, length, ℕ, ◌+◌, ◌-◌, ◌<◌, ◌≤◌, List, [], ◌∷◌, max, map, if◌then◌else◌}
+use Rattle.std.specs.List.{range_with_len, All, Any}
 use Rattle.tf_schedule.specs.declared.piece.Piece.{Piece}
 use Rattle.tf_schedule.specs.Piece.{as_time, covers}
 use Rattle.tf_schedule.specs.Schedule.{NoneTwice}
-use Rattle.tf_model.specs.Limit.{limit}
 use Rattle.tf_model.specs.Timetable.{Timetable, cell}
 
 -- the job of the piece that claims the cell of machine i, counted from 1, at time t: 0 where none

@@ -1,6 +1,6 @@
 -- Why pieces do not fit a task: the first misfit, told in the rows of the timetable that the pieces
 -- draw.
-use Rattle.std.specs.Prelude.{◌≡◌, ℕ, pos, ◌≤ℤ◌, ◌<◌, ◌≤◌, ◌⊎◌, List, [], length, take, slice_get, slice_index_or, Option, Some, MatchOption, IsTrue, IsFalse}
+use Rattle.std.specs.Prelude.{◌≡◌, ℕ, pos, ◌≤ℤ◌, ◌<◌, ◌≤◌, ◌⊎◌, List, [], length, take, slice_get, slice_index_or, Some, IsTrue, IsFalse}
 use Rattle.std.specs.List.{All}
 use Rattle.tf_model.specs.Timetable.{Timetable, cells_of}
 use Rattle.tf_model.specs.SchedulingTask.{SchedulingTask, IsJob}

@@ -1,6 +1,6 @@
 -- A piece of work, and the cells that pieces claim (Pinedo, chapter 2). Machines, jobs and times
 -- are whole numbers.
-use Rattle.std.specs.Prelude.{◌≡◌, ℕ, ℤ, pos, ◌≤ℤ◌, ◌<ℤ◌, Bool, ◌==◌, nat_le, nat_lt, ◌&&◌, ◌||◌, int_le, List}
+use Rattle.std.specs.Prelude.{ℕ, pos, ◌≤ℤ◌, ◌<ℤ◌, Bool, ◌==◌, nat_le, nat_lt, ◌&&◌, List}
 use Rattle.std.specs.List.{count_by}
 use Rattle.tf_schedule.specs.declared.piece.Piece.{Piece}
 use Rattle.tf_model.specs.Limit.{limit}

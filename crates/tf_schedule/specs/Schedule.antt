@@ -4,7 +4,7 @@ use Rattle.std.specs.List.{All, AllPairs}
 use Rattle.tf_schedule.specs.declared.piece.Piece.{Piece}
 use Rattle.tf_schedule.specs.declared.schedule.PieceFault.{PieceFault}
 use Rattle.tf_schedule.specs.declared.schedule.PieceFault.TheVariants.{OutOfRange, EmptyPiece, MachineTwice}
-use Rattle.tf_schedule.specs.Piece.{IsInRange, IsNotEmpty, machine_of, job_of, claims_by, as_time}
+use Rattle.tf_schedule.specs.Piece.{IsInRange, IsNotEmpty, machine_of, claims_by, as_time}
 
 -- the piece is in range and not empty
 abbrev pub IsPiece : Piece → Type 0

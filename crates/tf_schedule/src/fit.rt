@@ -63,7 +63,8 @@ impl From<AllocError> for Misfit {
 }
 
 /// Whether the pieces draw a timetable that fits the task, or else the first misfit in the order of
-/// [`Misfit`]. It takes memory for a copy of the pieces, and for a few numbers for each job.
+/// [`Misfit`]. It takes memory for a few numbers for each job, and on more than one machine for a
+/// copy of the pieces.
 pub fn fits<A: Allocator + Copy, B: Allocator, C: Allocator>(
     alloc: A,
     task: &Task<B>,
@@ -82,7 +83,7 @@ pub fn fits<A: Allocator + Copy, B: Allocator, C: Allocator>(
     if let Some(piece) = first_stranger(task, pieces) {
         return Err(Misfit::Stranger(piece.job, piece.machine));
     }
-    if let Some(piece) = first_in_two_places(alloc, pieces)? {
+    if let Some(piece) = first_in_two_places(alloc, task, pieces)? {
         return Err(Misfit::JobTwice(piece.job, piece.start));
     }
     if task.class().is_shop() {
@@ -187,14 +188,20 @@ fn end_of_first(pieces: &[Piece]) -> usize
 
 // A piece at whose start its job runs in two places: the smallest such job, and its first such
 // time.
-fn first_in_two_places<A: Allocator>(
+fn first_in_two_places<A: Allocator, B: Allocator>(
     alloc: A,
+    task: &Task<B>,
     pieces: &[Piece],
 ) -> Result<Option<Piece>, AllocError>
-    requires { All IsPiece pieces.now }
+    requires schedule { IsSchedule pieces.now }
+    requires known { All (IsKnown task.now) pieces.now }
     ensures { IfOk result (λ found.
         MatchOption found (JobsOnce pieces.now) (StartsFirstClashBy job_of pieces.now)) }
 {
+    // A machine has one job at a time.
+    if task.machines() == 1 {
+        return Ok(None);
+    }
     let mut by_job = copied(alloc, pieces)?;
     Line::Job.sort(&mut by_job);
     Ok(Line::Job.first_overlap(&by_job))

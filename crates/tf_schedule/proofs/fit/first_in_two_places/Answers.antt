@@ -1,4 +1,4 @@
-use Rattle.std.proofs.Common.{List, Option, Some, None, MatchOption, subst}
+use Rattle.std.proofs.Common.{List, Option, Some, None, MatchOption, arith}
 use Rattle.std.specs.List.Sorted.{IsPermutation}
 use Rattle.std.proofs.lemmas.List.Sorted.{All-permutation}
 use Rattle.tf_schedule.specs.declared.piece.Piece.{Piece}
@@ -6,13 +6,14 @@ use Rattle.tf_schedule.specs.Line.{StartsFirstClashBy}
 use Rattle.tf_schedule.specs.Piece.{as_time, job_of}
 use Rattle.tf_schedule.specs.Schedule.{IsPiece}
 use Rattle.tf_schedule.specs.Claims.{JobsOnce}
+use Rattle.tf_schedule.proofs.OneMachine.{once_on_one}
 use Rattle.tf_schedule.proofs.Scan.{none_twice_permutation, first_clash_permutation}
 use Rattle.tf_schedule.proofs.fit.first_in_two_places.Goals as goal
 
 pub first_overlap-requires-clause-sound : goal.first_overlap-requires-clause-sound
 first_overlap-requires-clause-sound g c =
     rw c.deref.ensures.value
-    (All-permutation IsPiece _ _ (rw c.in_ok-by_job.ensures at c.sort.ensures.kept) c.requires)
+    (All-permutation IsPiece _ _ (rw c.in_ok-by_job.ensures at c.sort.ensures.kept) c.requires.schedule.sound)
 
 pub first_overlap-requires-clause-in_order : goal.first_overlap-requires-clause-in_order
 first_overlap-requires-clause-in_order g c = rw c.deref.ensures.value c.sort.ensures.in_order
@@ -28,3 +29,9 @@ pub returns : goal.returns
 returns g c =
     found_before _ _ c.first_overlap.result (rw c.in_ok-by_job.ensures at c.sort.ensures.kept)
     (rw c.deref.ensures.value at c.first_overlap.ensures)
+
+pub returns-then-machines-eq1 : goal.returns-then-machines-eq1
+returns-then-machines-eq1 g c =
+    once_on_one c.args.task.now c.args.pieces.now
+    (omega (arith, c.machines.ensures.value, c.if-machines-eq1.true)) c.requires.schedule
+    c.requires.known
