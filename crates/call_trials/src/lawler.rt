@@ -141,6 +141,30 @@ fn the_cheapest_free_job_goes_last(rt: HostRuntime) -> Result<(), Fail> {
 }
 
 #[test]
+fn of_equal_costs_the_greater_number_goes_last(rt: HostRuntime) -> Result<(), Fail> {
+    // Job 1 costs nothing, and the others cost the same from time 2 on.
+    let jobs = [(1, 0, 9, 1), (1, 0, 2, 5), (1, 0, 2, 5), (1, 0, 2, 5)];
+    let task = costed_task(&rt, &jobs, &[])?;
+    assert!(rt; is_answer(&answered(&rt, &task)?, &[2, 3, 4, 1], 5, &[2, 3, 4]));
+    let task = costed_task(&rt, &jobs, &[(4, 2)])?;
+    assert!(rt; is_answer(&answered(&rt, &task)?, &[4, 2, 3, 1], 5, &[2, 3, 4]));
+    Ok(())
+}
+
+#[test]
+fn the_cycle_goes_to_the_smallest_successor(rt: HostRuntime) -> Result<(), Fail> {
+    let jobs = [(1, 0, 9, 1), (1, 0, 9, 1), (1, 0, 9, 1), (1, 0, 9, 1)];
+    let task = costed_task(&rt, &jobs, &[(1, 3), (1, 2), (2, 1), (3, 1)])?;
+    assert!(rt; is_cycle(&answered(&rt, &task)?, &[1, 2]));
+    let task = costed_task(&rt, &jobs, &[(1, 3), (3, 1), (3, 2), (2, 3), (4, 1)])?;
+    assert!(rt; is_cycle(&answered(&rt, &task)?, &[1, 3]));
+    // The walk from job 1 comes again to job 3.
+    let task = costed_task(&rt, &jobs, &[(1, 4), (1, 3), (4, 1), (3, 2), (2, 3)])?;
+    assert!(rt; is_cycle(&answered(&rt, &task)?, &[3, 2]));
+    Ok(())
+}
+
+#[test]
 fn a_cycle_is_named(rt: HostRuntime) -> Result<(), Fail> {
     let jobs = [(2, 0, 5, 10), (3, 0, 9, 7), (4, 1, 9, 8)];
     let task = costed_task(&rt, &jobs, &[(1, 2), (2, 1)])?;

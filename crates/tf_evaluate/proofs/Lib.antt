@@ -1,4 +1,3 @@
-pub mod Spans
 pub mod Written
 pub mod Judged
 pub mod Unevaluated

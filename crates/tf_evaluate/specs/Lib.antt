@@ -4,5 +4,5 @@ pub mod Outcomes
 pub mod Evaluating
 pub mod EvaluationText
 pub mod RunEvaluating
+
 -- within the crate
-pub mod Spans

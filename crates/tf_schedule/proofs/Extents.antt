@@ -69,7 +69,7 @@ greatest_push f (q ∷ ps) p j =
     step false true x y g h e = e
     step false false x y g h e = e
 
-least_push : (f : Piece → ℕ) (ps : List Piece) (p : Piece) (j : ℕ)
+pub least_push : (f : Piece → ℕ) (ps : List Piece) (p : Piece) (j : ℕ)
     → least_by f (ps ++ p ∷ []) j
     ≡ cond (eqb p.job j) (min (f p) (least_by f ps j)) (least_by f ps j)
 least_push f [] p j = refl

@@ -1,3 +1,4 @@
+pub mod Spans
 pub mod Times
 pub mod Scan
 pub mod Order

@@ -8,6 +8,7 @@ pub mod Cost
 -- for the proofs of this crate and of those above it
 pub mod Claims
 pub mod Amounts
+pub mod Spans
 -- within the crate
 pub mod Stops
 pub mod Smallest

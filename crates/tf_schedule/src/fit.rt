@@ -19,6 +19,7 @@ use crate::extent::{Extent, extents};
 use crate::line::Line;
 use crate::piece::Piece;
 use crate::schedule::Schedule;
+use crate::span::are_apart;
 use std::alloc::{AllocError, Allocator};
 use tf_model::class::Class;
 use tf_model::ids::{JobId, MachineId};
@@ -63,8 +64,8 @@ impl From<AllocError> for Misfit {
 }
 
 /// Whether the pieces draw a timetable that fits the task, or else the first misfit in the order of
-/// [`Misfit`]. It takes memory for a few numbers for each job, and on more than one machine for a
-/// copy of the pieces.
+/// [`Misfit`]. It takes memory for a few numbers for each job, and for a copy of the pieces where a
+/// job has one between two others.
 pub fn fits<A: Allocator + Copy, B: Allocator, C: Allocator>(
     alloc: A,
     task: &Task<B>,
@@ -188,7 +189,7 @@ fn end_of_first(pieces: &[Piece]) -> usize
 
 // A piece at whose start its job runs in two places: the smallest such job, and its first such
 // time.
-fn first_in_two_places<A: Allocator, B: Allocator>(
+fn first_in_two_places<A: Allocator + Copy, B: Allocator>(
     alloc: A,
     task: &Task<B>,
     pieces: &[Piece],
@@ -200,6 +201,9 @@ fn first_in_two_places<A: Allocator, B: Allocator>(
 {
     // A machine has one job at a time.
     if task.machines() == 1 {
+        return Ok(None);
+    }
+    if are_apart(alloc, task.len(), pieces)? {
         return Ok(None);
     }
     let mut by_job = copied(alloc, pieces)?;

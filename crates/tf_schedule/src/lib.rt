@@ -9,3 +9,4 @@ pub mod piece;
 pub mod piece_list;
 pub mod schedule;
 pub mod semi_active;
+pub mod span;

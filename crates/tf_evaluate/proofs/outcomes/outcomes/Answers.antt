@@ -1,13 +1,23 @@
-use Rattle.std.proofs.Common.{◌≡◌, ◌+◌, ◌<◌, List, [], ◌∷◌, ◌++◌, map, sym, ap, ◌∙◌, arith}
+use Rattle.std.proofs.Common.{◌≡◌, ℕ, ◌+◌, ◌<◌, List, [], ◌∷◌, ◌++◌, map, sym, ap, ◌∙◌, arith}
 use Rattle.std.specs.List.{range_with_len}
 use Rattle.std.proofs.lemmas.List.FromFn.{map-range_with_len_more}
 use Rattle.tf_schedule.proofs.Busy.{stop_within}
-use Rattle.tf_evaluate.specs.declared.outcomes.Span.{Span}
+use Rattle.tf_model.specs.Cost.{price}
+use Rattle.tf_model.specs.SchedulingTask.{SchedulingTask}
+use Rattle.tf_schedule.specs.declared.span.Span.{Span}
+use Rattle.tf_schedule.specs.Spans.{span_of}
 use Rattle.tf_evaluate.specs.declared.evaluation.JobOutcome.{JobOutcome}
-use Rattle.tf_evaluate.specs.Outcomes.{outcome_of}
-use Rattle.tf_evaluate.specs.Spans.{span_of}
-use Rattle.tf_evaluate.proofs.Spans.{outcome_in}
+use Rattle.tf_evaluate.specs.Outcomes.{first_start, outcome_of}
 use Rattle.tf_evaluate.proofs.outcomes.outcomes.Goals as goal
+
+-- what happens to a job whose pieces have this span
+abbrev outcome_in : SchedulingTask → ℕ → Span → JobOutcome
+outcome_in k j s = record {
+  job = j;
+  start = first_start s.start s.stop;
+  completion = s.stop;
+  price = price k j s.stop;
+}
 
 pub outcome-requires-clause-stop : goal.outcome-requires-clause-stop
 outcome-requires-clause-stop g c =

@@ -4,7 +4,7 @@ use Rattle.tf_model.specs.Limit.{limit}
 use Rattle.tf_schedule.specs.declared.piece.Piece.{Piece}
 use Rattle.tf_schedule.specs.Amounts.{least_by, start_of, last_stop}
 use Rattle.tf_schedule.specs.Drawing.{stop_of}
-use Rattle.tf_evaluate.specs.declared.outcomes.Span.{Span}
+use Rattle.tf_schedule.specs.declared.span.Span.{Span}
 
 -- of a job without pieces: from the limit to 0
 abbrev pub no_span : Span

@@ -1,34 +1,20 @@
 -- The spans of jobs, piece by piece.
-use Rattle.std.proofs.Common.{◌≡◌, ◌≢◌, ℕ, ◌+◌, ◌<◌, max, min, Bool, true, false, cond, eqb, List, [], ◌∷◌, ◌++◌, length, get_or, take, set, get_or-set_other, get_or-set_same, length-set, refl, sym, ap, ◌∙◌, arith, inl, inr}
+use Rattle.std.proofs.Common.{◌≡◌, ◌≢◌, ℕ, ◌⊎◌, ◌+◌, ◌<◌, ◌≤◌, max, min, Bool, true, false, cond, eqb, List, [], ◌∷◌, ◌++◌, length, get_or, take, set, get_or-set_other, get_or-set_same, length-set, refl, sym, ap, ◌∙◌, subst, ⊎_elim, arith, inl, inr}
 use Rattle.std.proofs.lemmas.List.{take_more}
 use Rattle.std.proofs.lemmas.Bool.{cases_lt}
 use Rattle.std.proofs.lemmas.Bool.Decides.{nat_tests}
-use Rattle.tf_model.specs.SchedulingTask.{SchedulingTask}
-use Rattle.tf_model.specs.Cost.{price}
 use Rattle.tf_schedule.specs.declared.piece.Piece.{Piece}
 use Rattle.tf_schedule.specs.Drawing.{stop_of}
 use Rattle.tf_schedule.specs.Amounts.{least_by, start_of, last_stop}
-use Rattle.tf_schedule.proofs.Extents.{greatest_push}
-use Rattle.tf_evaluate.specs.declared.outcomes.Span.{Span}
-use Rattle.tf_evaluate.specs.declared.evaluation.JobOutcome.{JobOutcome}
-use Rattle.tf_evaluate.specs.Outcomes.{first_start}
-use Rattle.tf_evaluate.specs.Spans.{no_span, with_piece, span_of, HasSpans}
-
--- the least start with one more piece
-least_push : (ps : List Piece) (p : Piece) (j : ℕ)
-    → least_by start_of (ps ++ p ∷ []) j
-    ≡ cond (eqb p.job j) (min (start_of p) (least_by start_of ps j)) (least_by start_of ps j)
-least_push [] p j = refl
-least_push (q ∷ ps) p j =
-    step (eqb q.job j) (eqb p.job j) (start_of q) (start_of p) (least_by start_of ps j)
-    (least_by start_of (ps ++ p ∷ []) j) (least_push ps p j)
-  where
-    step : (a b : Bool) (x y g h : ℕ) → h ≡ cond b (min y g) g
-        → cond a (min x h) h ≡ cond b (min y (cond a (min x g) g)) (cond a (min x g) g)
-    step true true x y g h e = omega arith
-    step true false x y g h e = omega arith
-    step false true x y g h e = e
-    step false false x y g h e = e
+use Rattle.std.specs.List.{All}
+use Rattle.std.proofs.lemmas.List.Elements.{All-take}
+use Rattle.std.proofs.lemmas.List.Sums.{sum_by_more}
+use Rattle.tf_schedule.specs.Claims.{runs, places, JobsOnce}
+use Rattle.tf_schedule.specs.Schedule.{IsPiece}
+use Rattle.tf_schedule.proofs.Busy.{busy_within, works_from_test}
+use Rattle.tf_schedule.proofs.Extents.{greatest_push, least_push}
+use Rattle.tf_schedule.specs.declared.span.Span.{Span}
+use Rattle.tf_schedule.specs.Spans.{no_span, with_piece, span_of, HasSpans}
 
 same_span : (s s' t t' : ℕ) → s ≡ s' → t ≡ t'
     → ◌≡◌ {A = Span} (record { start = s; stop = t }) (record { start = s'; stop = t' })
@@ -43,7 +29,7 @@ module _ (ps : List Piece) (k : ℕ) (p : Piece) (in_range : k < length ps) (rea
         → least_by start_of (take (k + 1) ps) j
         ≡ cond (eqb p.job j) (min (start_of p) (least_by start_of (take k ps) j))
         (least_by start_of (take k ps) j)
-    start_more j = ap (λ qs. least_by start_of qs j) taken ∙ least_push (take k ps) p j
+    start_more j = ap (λ qs. least_by start_of qs j) taken ∙ least_push start_of (take k ps) p j
 
     stop_more : (j : ℕ)
         → last_stop (take (k + 1) ps) j
@@ -109,17 +95,37 @@ module _ (ps : List Piece) (k : ℕ) (p : Piece) (in_range : k < length ps) (rea
       each = λ n d lt. has.each n d lt ∙ sym (span_other (n + 1) (λ e. omega arith));
     }
 
--- no piece yet
-pub no_spans : (ps : List Piece) (jobs : ℕ) (spans : List Span) → length spans ≡ jobs
-    → ((k : ℕ) (d : Span) → k < jobs → get_or spans k d ≡ no_span)
-    → HasSpans (take 0 ps) jobs spans
-no_spans ps jobs spans len each = record { len = len; each = each }
+-- the piece lies before the span or behind it
+abbrev pub IsApartFrom : Span → Piece → Type 0
+IsApartFrom s p = (stop_of p ≤ s.start) ⊎ (s.stop ≤ start_of p)
 
--- what happens to a job whose pieces have this span
-abbrev pub outcome_in : SchedulingTask → ℕ → Span → JobOutcome
-outcome_in k j s = record {
-  job = j;
-  start = first_start s.start s.stop;
-  completion = s.stop;
-  price = price k j s.stop;
-}
+-- a piece before or behind all earlier ones of its job leaves the jobs in one place
+module _ (ps : List Piece) (k : ℕ) (p : Piece) (in_range : k < length ps) (read : p ≡ get_or ps k p)
+    (sound : All IsPiece ps) where
+  pub once_more : JobsOnce (take k ps)
+      → IsApartFrom (span_of (take k ps) p.job) p → JobsOnce (take (k + 1) ps)
+  once_more once apart n t =
+      by_test (runs n t p) refl
+    where
+      more : places (take (k + 1) ps) n t ≡ places (take k ps) n t + cond (runs n t p) 1 0
+      more = sum_by_more (λ q. cond (runs n t q) 1 0) ps k p in_range
+          ∙ ap (λ (q : Piece). places (take k ps) n t + cond (runs n t q) 1 0) (sym read)
+
+      idle : runs n t p ≡ true → places (take k ps) n t ≡ 0
+      idle test = elim (cases_lt 0 (places (take k ps) n t)) [
+        | inl busy ↦
+            let works = works_from_test n t p test in
+            let own : 0 < places (take k ps) p.job t =
+            subst (λ j. 0 < places (take k ps) j t) (sym works.job) busy in
+            let within = busy_within (take k ps) (All-take IsPiece k ps sound) p.job t own in
+            absurd (⊎_elim
+            (λ before. omega (arith, before, within.0, works.going))
+            (λ behind. omega (arith, behind, within.1, works.started)) apart)
+        | inr none ↦ omega (arith, none)
+      ]
+
+      by_test : (b : Bool) → runs n t p ≡ b → places (take (k + 1) ps) n t ≤ 1
+      by_test false test =
+          omega (arith, more, once n t, ap {B = ℕ} (λ (b : Bool). cond b 1 0) test)
+      by_test true test =
+          omega (arith, more, idle test, ap {B = ℕ} (λ (b : Bool). cond b 1 0) test)

@@ -1,10 +1,10 @@
 use Rattle.std.proofs.Common.{◌≡◌, ◌+◌, ◌-◌, ◌<◌, get_or, length, ap, ◌∙◌, arith}
 use Rattle.std.proofs.lemmas.List.{get_or_default}
-use Rattle.tf_evaluate.specs.declared.outcomes.Span.{Span}
-use Rattle.tf_evaluate.specs.Spans.{with_piece}
-use Rattle.tf_evaluate.proofs.Spans.{spans_more, spans_kept}
-use Rattle.tf_evaluate.proofs.outcomes.spans.Goals.{then-k-jobs, else-k-jobs}
-use Rattle.tf_evaluate.proofs.outcomes.spans.Goals as goal
+use Rattle.tf_schedule.specs.declared.span.Span.{Span}
+use Rattle.tf_schedule.specs.Spans.{with_piece}
+use Rattle.tf_schedule.proofs.Spans.{spans_more, spans_kept}
+use Rattle.tf_schedule.proofs.span.spans.Goals.{then-k-jobs, else-k-jobs}
+use Rattle.tf_schedule.proofs.span.spans.Goals as goal
 
 pub loop-piece-preserved : goal.loop-piece-preserved
 loop-piece-preserved g c =
