@@ -1,13 +1,13 @@
 -- Arcs that are grouped by the job that they lead to, and the part of them that leads to one job.
-use Rattle.std.proofs.Common.{◌≡◌, ℕ, ◌+◌, ◌-◌, ◌≤◌, ◌<◌, Bool, true, false, ◌&&◌, ◌==◌, cond, nat_lt, List, [], ◌∷◌, length, get_or, take, drop, zero, suc, refl, ap, ◌∙◌, ⊎_elim, arith, count_by}
-use Rattle.std.specs.List.Sorted.{IsSorted, IsPartitionPoint, IsPartitionedBy}
+use Rattle.std.proofs.Common.{◌≡◌, ℕ, ◌+◌, ◌-◌, ◌≤◌, ◌<◌, Bool, false, ◌&&◌, ◌==◌, cond, List, [], ◌∷◌, ◌++◌, length, get_or, take, drop, zero, suc, refl, sym, ap, subst, ◌∙◌, ⊎_elim, inl, inr, arith, count_by}
+use Rattle.std.specs.List.Sorted.{IsSorted, IsPartitionPoint}
 use Rattle.std.specs.Ordering.{is_lt}
-use Rattle.std.proofs.lemmas.Bool.{eq-eqb, ne_eqb, ltb-true, ltb-false, cases_lt}
-use Rattle.std.proofs.lemmas.List.{get_or-drop, get_or-take, length-drop, length-take}
-use Rattle.std.proofs.lemmas.List.Sorted.{ranks_by, sorted_far, IsPartitionedBy-ltb}
+use Rattle.std.proofs.lemmas.Bool.{eq-eqb, ne_eqb, cases_lt}
+use Rattle.std.proofs.lemmas.List.{get_or-drop, get_or-take, get_or_append_left, get_or_default, get_or_past, get_or_push, length-append, length-drop, length-take}
+use Rattle.std.proofs.lemmas.List.Sorted.{ranks_by, sorted_far}
 use Rattle.std.proofs.lemmas.List.Sums.{sum_by-cons, sum_by-take-drop}
 use Rattle.tf_schedule.proofs.Counting.{count_none}
-use Rattle.tf_single.specs.ArcsInto.{AreGrouped}
+use Rattle.tf_single.specs.ArcsInto.{AreGrouped, AreEnds, IsEnd}
 use Rattle.tf_single.proofs.ByRelease.{pair_cmp, pair_total, first_le}
 
 -- sorted pairs are grouped
@@ -16,21 +16,6 @@ sorted_grouped pairs rising i j d le h =
     first_le (get_or pairs i d) (get_or pairs j d)
     (sorted_far (λ x y. is_lt (pair_cmp x y)) (ranks_by pair_total (λ (p : ℕ × ℕ). p)) pairs
     rising i j d le h)
-
-pub grouped_parted : (arcs : List (ℕ × ℕ)) (number : ℕ) → AreGrouped arcs
-    → IsPartitionedBy (λ arc. nat_lt arc.0 number) arcs
-grouped_parted arcs number grouped =
-    IsPartitionedBy-ltb (λ (arc : ℕ × ℕ). arc.0) arcs number grouped
-
--- what the point of the test says of the numbers
-pub point_says : (arcs : List (ℕ × ℕ)) (number at : ℕ)
-    → IsPartitionPoint (λ arc. nat_lt arc.0 number ≡ true) (λ arc. nat_lt arc.0 number ≡ false) arcs
-    at
-    → IsPartitionPoint (λ arc. arc.0 < number) (λ arc. number ≤ arc.0) arcs at
-point_says arcs number at point = (
-  λ k d from to. ltb-true (get_or arcs k d).0 number (point.0 k d from to),
-  λ k d from to. ltb-false (get_or arcs k d).0 number (point.1 k d from to),
-)
 
 -- tests that agree count the same
 count_same : (p q : ℕ × ℕ → Bool) (xs : List (ℕ × ℕ))
@@ -108,3 +93,100 @@ module _ (arcs : List (ℕ × ℕ)) (job s e : ℕ)
         behind,
         inside,
       )
+
+-- the arcs between two ends are those that lead to the job
+pub between_ends : (arcs : List (ℕ × ℕ)) (ends : List ℕ) → AreEnds arcs ends
+    → (job s e : ℕ) → 0 < job → s ≡ get_or ends (job - 1) (length arcs)
+    → e ≡ get_or ends job (length arcs)
+    → (s ≤ e) × (e ≤ length arcs)
+    × ((i : ℕ) → count_by (λ arc. arc.1 == i) (take (e - s) (drop s arcs))
+    ≡ count_by (λ arc. (arc.0 == job) && (arc.1 == i)) arcs)
+between_ends arcs ends are job s e some at_s at_e =
+    let low : IsEnd arcs (job - 1) s = subst (IsEnd arcs (job - 1)) (sym at_s) (are (job - 1)) in
+    let high : IsEnd arcs job e = subst (IsEnd arcs job) (sym at_e) (are job) in
+    let one : job - 1 + 1 ≡ job = omega (arith, some) in
+    let first = subst
+    (λ n. IsPartitionPoint (λ (arc : ℕ × ℕ). arc.0 < n) (λ (arc : ℕ × ℕ). n ≤ arc.0) arcs s) one
+    low.point in (
+      start_le arcs job s e first high.point low.within high.within,
+      high.within,
+      part_counts arcs job s e first high.point low.within high.within,
+    )
+
+-- ---- the ends, arc by arc
+
+-- the ends that are told are right, and the arcs before `count` lead no further than they go
+pub record HasEndsBefore (arcs : List (ℕ × ℕ)) (count : ℕ) (ends : List ℕ) : Type 0 where
+  pub told : (n d : ℕ) → n < length ends → IsEnd arcs n (get_or ends n d)
+  pub before : (k : ℕ) (d : ℕ × ℕ) → k < count → k < length arcs
+      → (get_or arcs k d).0 ≤ length ends
+
+pub no_ends : (arcs : List (ℕ × ℕ)) → HasEndsBefore arcs 0 []
+no_ends arcs = record {
+  told = λ n d h. absurd (omega (arith, h));
+  before = λ k d h within. absurd (omega (arith, h));
+}
+
+-- one more number, which is below the arc's end
+pub ends_push : (arcs : List (ℕ × ℕ)) (count : ℕ) (ends : List ℕ) → AreGrouped arcs
+    → HasEndsBefore arcs count ends → count < length arcs → (d : ℕ × ℕ)
+    → length ends < (get_or arcs count d).0 → HasEndsBefore arcs count (ends ++ count ∷ [])
+ends_push arcs count ends grouped has within d below = record {
+  told = λ n x h. elim (cases_lt n (length ends)) [
+    | inl old ↦
+        subst (IsEnd arcs n) (sym (get_or_append_left ends (count ∷ []) x n old)) (has.told n x old)
+    | inr new ↦
+        let at : n ≡ length ends = omega (arith, h, new, length-append ends (count ∷ [])) in
+        let read : get_or (ends ++ count ∷ []) n x ≡ count =
+        get_or_push ends count x n (sym at) in
+        subst (IsEnd arcs n) (sym read) (record {
+          within = omega (arith, within);
+          point = (
+            λ k y from to. omega (arith, at, has.before k y to (omega (arith, to, within))),
+            λ k y from to. omega (
+              arith,
+              at,
+              below,
+              grouped count k d from to,
+              ap (λ (a : ℕ × ℕ). a.0) (get_or_default arcs k d y to),
+            ),
+          );
+        })
+  ];
+  before = λ k y h inside. omega
+      (arith, has.before k y h inside, length-append ends (count ∷ []));
+}
+
+-- the arc itself leads no further
+pub ends_next : (arcs : List (ℕ × ℕ)) (count : ℕ) (ends : List ℕ) → HasEndsBefore arcs count ends
+    → count < length arcs → (d : ℕ × ℕ) → (get_or arcs count d).0 ≤ length ends
+    → HasEndsBefore arcs (count + 1) ends
+ends_next arcs count ends has within d upto = record {
+  told = has.told;
+  before = λ k y h inside. elim (cases_lt k count) [
+    | inl less ↦ has.before k y less inside
+    | inr from ↦
+        let at : k ≡ count = omega (arith, h, from) in
+        omega (
+          arith,
+          upto,
+          ap (λ n. (get_or arcs n y).0) at,
+          ap (λ (a : ℕ × ℕ). a.0) (get_or_default arcs count d y within),
+        )
+  ];
+}
+
+-- after all arcs the ends are right at each number
+pub ends_all : (arcs : List (ℕ × ℕ)) (count : ℕ) (ends : List ℕ) → HasEndsBefore arcs count ends
+    → length arcs ≤ count → AreEnds arcs ends
+ends_all arcs count ends has all n = elim (cases_lt n (length ends)) [
+  | inl told ↦ has.told n (length arcs) told
+  | inr beyond ↦
+      subst (IsEnd arcs n) (sym (get_or_past ends n (length arcs) beyond)) (record {
+        within = omega arith;
+        point = (
+          λ k y from to. omega (arith, beyond, has.before k y (omega (arith, to, all)) to),
+          λ k y from to. absurd (omega (arith, from, to)),
+        );
+      })
+]

@@ -1,15 +1,10 @@
 -- The cost functions of a task are its costs, job by job.
-use Rattle.std.proofs.Common.{◌≡◌, ℕ, ◌+◌, ◌-◌, ◌<◌, pos, ◌-ℤ◌, List, [], ◌∷◌, ◌++◌, length, get_or, ⊎_elim, ap, sym, ◌∙◌, arith, IsTrue}
+use Rattle.std.proofs.Common.{◌≡◌, ℕ, ◌+◌, ◌<◌, List, [], ◌∷◌, ◌++◌, length, get_or, ⊎_elim, ap, sym, ◌∙◌, arith}
 use Rattle.std.proofs.lemmas.Bool.{cases_lt}
-use Rattle.std.proofs.lemmas.List.{get_or_default, get_or_append_left, length-append}
+use Rattle.std.proofs.lemmas.List.{get_or_append_left, length-append}
 use Rattle.std.proofs.Math.Seq.{get_or-append_seam}
-use Rattle.tf_model.specs.ClassTable.{is_costed, is_due}
 use Rattle.tf_model.specs.SchedulingTask.{SchedulingTask, job_data}
-use Rattle.tf_model.specs.Sound.{IsSound}
-use Rattle.tf_model.specs.Steps.{Steps, no_steps, step_value}
 use Rattle.tf_model.specs.declared.cost.Late.{Late}
-use Rattle.tf_schedule.proofs.Prices.{costed_price, due_price}
-use Rattle.tf_single.specs.Costs.{AreCosts, late_value}
 
 -- one job more
 pub dues_push : (k : SchedulingTask) (lates : List Late) (late : Late) (m : ℕ) → length lates ≡ m

@@ -1,9 +1,8 @@
 -- A walk along arcs, which closes where it comes to a job of its own.
-use Rattle.std.proofs.Common.{◌≡◌, ℕ, zero, suc, ◌-◌, ◌<◌, Option, None, Some, Bool, true, false, cond, List, [], ◌∷◌, ◌++◌, length, get_or, set, drop, sym, ap, ◌∙◌, subst, arith, ⊎_elim, Contains, count_by}
+use Rattle.std.proofs.Common.{◌≡◌, ℕ, zero, suc, ◌-◌, ◌<◌, Option, None, Some, Bool, true, false, List, [], ◌∷◌, ◌++◌, length, get_or, set, drop, sym, ap, ◌∙◌, subst, arith, ⊎_elim, Contains}
 use Rattle.std.proofs.lemmas.Bool.{cases_eq}
 use Rattle.std.proofs.lemmas.List.{length-append, get_or-set_same, get_or-set_other, get_or_append_left}
 use Rattle.std.proofs.Math.Seq.{get_or-append_seam}
-use Rattle.std.proofs.lemmas.List.Sums.{sum_by-cons}
 use Rattle.tf_model.specs.SchedulingTask.{SchedulingTask, IsJob}
 use Rattle.tf_model.specs.Cycle.{Leads, IsCycle}
 

@@ -12,7 +12,7 @@ ghost use Rattle.tf_single.specs.LawlerFault.{HoldsCycle};
 ghost use Rattle.tf_single.specs.Open.{arcs_left, IsOpen};
 ghost use Rattle.tf_single.specs.Progress.{of_job};
 
-use crate::arcs_into::{arcs_by_end, arcs_into};
+use crate::arcs_into::ArcsByEnd;
 use crate::cycle::cycle;
 use crate::lawler_fault::LawlerFault;
 use std::alloc::Allocator;
@@ -34,7 +34,7 @@ pub(crate) fn last_first<A: Allocator + Copy, B: Allocator, C: Cost>(
         (λ v. IsSound task.now × AreChosen task.now v.items × (rest_of task.now v.items ≡ []))
         (λ fault. HoldsCycle task.now fault) }
 {
-    let arcs = arcs_by_end(alloc, task)?;
+    let arcs = ArcsByEnd::of(alloc, task)?;
     let counts = successor_counts(alloc, task)?;
     let free = without_successor(alloc, task, &counts)?;
     let mut open = Open {
@@ -155,25 +155,24 @@ pub(crate) struct Open<A: Allocator> {
     free: Vec<JobId, A>,
 }
 
-impl<A: Allocator> Open<A> {
+impl<A: Allocator + Copy> Open<A> {
     ghost use Rattle.std.specs.Prelude.{◌≡◌, ℕ, ◌<◌, ◌++◌, ◌∷◌, [], map, length};
     ghost use Rattle.std.specs.Prelude.{slice_index, slice_index_or, IfOk};
     ghost use Rattle.tf_model.specs.SchedulingTask.{IsJob};
     ghost use Rattle.tf_model.specs.Sound.{IsSound};
     ghost use Rattle.std.specs.List.Sorted.{IsPermutation};
-    ghost use Rattle.tf_single.specs.ArcsInto.{turned, AreGrouped};
+    ghost use Rattle.tf_single.specs.ArcsInto.{turned};
     ghost use Rattle.tf_single.specs.Open.{IsOpen};
 
     // The free job at the place is taken.
     fn take<B: Allocator>(
         &mut self,
         task: &Task<B>,
-        arcs: &[(JobId, JobId)],
+        arcs: &ArcsByEnd<A>,
         place: usize,
     ) -> Result<JobId, OutOfMemory>
         requires sound { IsSound task.now }
         requires arcs { IsPermutation (map turned task.now.arcs) arcs.now }
-        requires grouped { AreGrouped arcs.now }
         requires now { IsOpen task.now self.old.taken.items [] self.old.counts.items
             self.old.free.items }
         requires place { place < length self.old.free.items }
@@ -184,7 +183,7 @@ impl<A: Allocator> Open<A> {
     {
         let job = self.free.swap_remove(place);
         self.taken.push(job)?;
-        self.release(task, arcs_into(arcs, job))?;
+        self.release(task, arcs.leading_to(job))?;
         Ok(job)
     }
 

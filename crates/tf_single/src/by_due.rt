@@ -10,7 +10,7 @@ ghost use Rattle.tf_single.specs.Backward.{AreChosen, rest_of};
 ghost use Rattle.tf_single.specs.ByDue.{AreDue, jobs_due};
 ghost use Rattle.tf_single.specs.LawlerFault.{HoldsCycle};
 
-use crate::arcs_into::{arcs_by_end, arcs_into};
+use crate::arcs_into::ArcsByEnd;
 use crate::backward::{successor_counts, without_successor};
 use crate::cycle::cycle;
 use crate::lawler_fault::LawlerFault;
@@ -32,7 +32,7 @@ pub(crate) fn latest_due_first<A: Allocator + Copy, B: Allocator>(
         (λ v. IsSound task.now × AreChosen task.now v.items × (rest_of task.now v.items ≡ []))
         (λ fault. HoldsCycle task.now fault) }
 {
-    let arcs = arcs_by_end(alloc, task)?;
+    let arcs = ArcsByEnd::of(alloc, task)?;
     let counts = successor_counts(alloc, task)?;
     let jobs = without_successor(alloc, task, &counts)?;
     let free = by_due(alloc, task, &jobs)?;
@@ -88,7 +88,7 @@ struct OpenByDue<A: Allocator> {
     free: BinaryHeap<DueJob, A>,
 }
 
-impl<A: Allocator> OpenByDue<A> {
+impl<A: Allocator + Copy> OpenByDue<A> {
     ghost use Rattle.std.specs.Prelude.{◌≡◌, ℕ, ◌+◌, ◌<◌, [], map, length, slice_index_or};
     ghost use Rattle.std.specs.Prelude.{IfOk, IsTrue};
     ghost use Rattle.std.specs.BinaryHeap.{heap_items};
@@ -96,20 +96,15 @@ impl<A: Allocator> OpenByDue<A> {
     ghost use Rattle.tf_model.specs.ClassTable.{is_due};
     ghost use Rattle.tf_model.specs.SchedulingTask.{IsJob};
     ghost use Rattle.tf_model.specs.Sound.{IsSound};
-    ghost use Rattle.tf_single.specs.ArcsInto.{turned, AreGrouped};
+    ghost use Rattle.tf_single.specs.ArcsInto.{turned};
     ghost use Rattle.tf_single.specs.Backward.{AreChosen};
     ghost use Rattle.tf_single.specs.ByDue.{IsOpenByDue};
 
     // The free job that is due last is taken.
-    fn take<B: Allocator>(
-        &mut self,
-        task: &Task<B>,
-        arcs: &[(JobId, JobId)],
-    ) -> Result<(), OutOfMemory>
+    fn take<B: Allocator>(&mut self, task: &Task<B>, arcs: &ArcsByEnd<A>) -> Result<(), OutOfMemory>
         requires sound { IsSound task.now }
         requires class { IsTrue (is_due task.now.class) }
         requires arcs { IsPermutation (map turned task.now.arcs) arcs.now }
-        requires grouped { AreGrouped arcs.now }
         requires now { IsOpenByDue task.now self.old.taken.items [] self.old.counts.items
             (heap_items self.old.free) }
         requires some { 0 < length (heap_items self.old.free) }
@@ -122,7 +117,7 @@ impl<A: Allocator> OpenByDue<A> {
     {
         let job = self.free.pop().unwrap().job;
         self.taken.push(job)?;
-        self.release(task, arcs_into(arcs, job))
+        self.release(task, arcs.leading_to(job))
     }
 
     // Each of these arcs leads to a job that is left no more.

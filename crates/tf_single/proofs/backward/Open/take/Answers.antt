@@ -9,7 +9,7 @@ use Rattle.tf_single.proofs.backward.Open.take.Goals as goal
 pub release-requires-clause-arcs : goal.release-requires-clause-arcs
 release-requires-clause-arcs g c =
     into_part c.args.task.now c.requires.sound c.args.arcs.now c.requires.arcs
-    c.swap_remove-job.result c.arcs_into.result.now c.arcs_into.ensures
+    c.swap_remove-job.result c.leading_to.result.now c.leading_to.ensures
 
 pub release-requires-clause-now : goal.release-requires-clause-now
 release-requires-clause-now g c =
@@ -17,7 +17,7 @@ release-requires-clause-now g c =
     let j : ℕ = c.swap_remove-job.result in
     let free : List ℕ = c.args.self.now.free.items in
     let others : List ℕ = c.swap_remove-job.new.self.items in
-    let pending : List ℕ = map (λ (arc : ℕ × ℕ). arc.1) c.arcs_into.result.now in
+    let pending : List ℕ = map (λ (arc : ℕ × ℕ). arc.1) c.leading_to.result.now in
     let at : Contains free j =
     (c.args.place, c.requires.place, sym c.swap_remove-job.ensures.value) in
     let moved : IsPermutation free (j ∷ others) =
@@ -26,7 +26,7 @@ release-requires-clause-now g c =
     c.swap_remove-job.ensures.value) in
     let taken = open_taken k c.requires.sound c.args.self.now.taken.items
     c.args.self.now.counts.items free c.requires.now j at others moved pending
-    (λ i. seconds_count c.arcs_into.result.now i ∙ c.arcs_into.ensures i
+    (λ i. seconds_count c.leading_to.result.now i ∙ c.leading_to.ensures i
     ∙ into_counts k c.args.arcs.now j i c.requires.arcs) in
     subst (λ xs. IsOpen k xs pending c.args.self.now.counts.items others)
     (sym c.in_ok-push.ensures.items) taken

@@ -13,7 +13,7 @@ use Rattle.tf_single.proofs.by_due.OpenByDue.take.Goals as goal
 pub release-requires-clause-arcs : goal.release-requires-clause-arcs
 release-requires-clause-arcs g c =
     into_part c.args.task.now c.requires.sound c.args.arcs.now c.requires.arcs
-    c.unwrap-job.result.job c.arcs_into.result.now c.arcs_into.ensures
+    c.unwrap-job.result.job c.leading_to.result.now c.leading_to.ensures
 
 pub release-requires-clause-now : goal.release-requires-clause-now
 release-requires-clause-now g c =
@@ -21,7 +21,7 @@ release-requires-clause-now g c =
     let x : DueJob = c.unwrap-job.result in
     let free : List DueJob = heap_items c.args.self.now.free in
     let more : List DueJob = heap_items c.pop.new.self in
-    let pending : List ℕ = map (λ (arc : ℕ × ℕ). arc.1) c.arcs_into.result.now in
+    let pending : List ℕ = map (λ (arc : ℕ × ℕ). arc.1) c.leading_to.result.now in
     let moved : IsPermutation free (x ∷ more) =
     subst (λ r. IfSome r (λ y. IsPermutation free (y ∷ more))) c.unwrap-job.ensures
     c.pop.ensures.permutation in
@@ -32,7 +32,7 @@ release-requires-clause-now g c =
     (sym c.in_ok-push.ensures.items)
     (due_taken k c.requires.sound c.requires.class c.args.self.now.taken.items
     c.args.self.now.counts.items free c.requires.now x more moved pops pending
-    (λ i. seconds_count c.arcs_into.result.now i ∙ c.arcs_into.ensures i
+    (λ i. seconds_count c.leading_to.result.now i ∙ c.leading_to.ensures i
     ∙ into_counts k c.args.arcs.now x.job i c.requires.arcs))
 
 pub returns-clause-chosen : goal.returns-clause-chosen

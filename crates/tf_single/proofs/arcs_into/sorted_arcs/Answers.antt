@@ -1,5 +1,5 @@
 use Rattle.tf_single.proofs.Grouped.{sorted_grouped}
-use Rattle.tf_single.proofs.arcs_into.arcs_by_end.Goals as goal
+use Rattle.tf_single.proofs.arcs_into.sorted_arcs.Goals as goal
 
 pub returns-clause-grouped : goal.returns-clause-grouped
 returns-clause-grouped g c =
