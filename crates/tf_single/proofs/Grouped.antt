@@ -121,12 +121,6 @@ pub record HasEndsBefore (arcs : List (ℕ × ℕ)) (count : ℕ) (ends : List �
   pub before : (k : ℕ) (d : ℕ × ℕ) → k < count → k < length arcs
       → (get_or arcs k d).0 ≤ length ends
 
-pub no_ends : (arcs : List (ℕ × ℕ)) → HasEndsBefore arcs 0 []
-no_ends arcs = record {
-  told = λ n d h. absurd (omega (arith, h));
-  before = λ k d h within. absurd (omega (arith, h));
-}
-
 -- one more number, which is below the arc's end
 pub ends_push : (arcs : List (ℕ × ℕ)) (count : ℕ) (ends : List ℕ) → AreGrouped arcs
     → HasEndsBefore arcs count ends → count < length arcs → (d : ℕ × ℕ)
@@ -155,25 +149,6 @@ ends_push arcs count ends grouped has within d below = record {
   ];
   before = λ k y h inside. omega
       (arith, has.before k y h inside, length-append ends (count ∷ []));
-}
-
--- the arc itself leads no further
-pub ends_next : (arcs : List (ℕ × ℕ)) (count : ℕ) (ends : List ℕ) → HasEndsBefore arcs count ends
-    → count < length arcs → (d : ℕ × ℕ) → (get_or arcs count d).0 ≤ length ends
-    → HasEndsBefore arcs (count + 1) ends
-ends_next arcs count ends has within d upto = record {
-  told = has.told;
-  before = λ k y h inside. elim (cases_lt k count) [
-    | inl less ↦ has.before k y less inside
-    | inr from ↦
-        let at : k ≡ count = omega (arith, h, from) in
-        omega (
-          arith,
-          upto,
-          ap (λ n. (get_or arcs n y).0) at,
-          ap (λ (a : ℕ × ℕ). a.0) (get_or_default arcs count d y within),
-        )
-  ];
 }
 
 -- after all arcs the ends are right at each number
