@@ -4,6 +4,8 @@ pub mod Said
 pub mod CostField
 pub mod JobLine
 pub mod JobTable
+pub mod NextJob
+pub mod NextArc
 pub mod WeightedTardiness
 pub mod FlowShop
 -- within the crate
