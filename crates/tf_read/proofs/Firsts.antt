@@ -1,5 +1,5 @@
 -- Up to the first element that passes, and from it on.
-use Rattle.std.proofs.Common.{◌≡◌, ℕ, suc, Bool, true, false, List, [], ◌∷◌, take, drop, refl, ap, ◌∙◌, arith}
+use Rattle.std.proofs.Common.{◌≡◌, ℕ, suc, Bool, false, List, ◌∷◌, take, drop, ap, ◌∙◌, arith}
 use Rattle.std.specs.List.{before_first, position_or_len}
 use Rattle.tf_read.specs.JobTable.{since_first}
 

@@ -1,6 +1,7 @@
 pub mod Each
 pub mod Fields
 pub mod UsualFields
+pub mod UsualSteps
 pub mod UsualJob
 pub mod UsualArc
 pub mod Firsts

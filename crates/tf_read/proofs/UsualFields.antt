@@ -1,9 +1,8 @@
 -- Fields in their usual form.
-use Rattle.std.proofs.Common.{◌≡◌, ℕ, ◌+◌, ◌-◌, ◌<◌, ◌≤◌, pos, true, false, not, eqb, ltb, List, [], ◌∷◌, ◌++◌, length, take, drop, get_or, Some, None, Ok, is_some, to_z, w64, refl, ap, ◌∙◌, arith}
+use Rattle.std.proofs.Common.{◌≡◌, ℕ, ◌+◌, ◌-◌, ◌≤◌, true, false, not, eqb, ltb, List, [], ◌∷◌, ◌++◌, length, take, drop, get_or, Some, None, Ok, is_some, to_z, w64, refl, sym, ap, ◌∙◌, arith}
 use Rattle.std.specs.List.{list_all, position_or_len}
 use Rattle.std.specs.Char.{is_ascii_digit}
-use Rattle.std.proofs.lemmas.Bool.{and_parts, and_from, not-true, eq-eqb, ne_eqb, lt-ltb, le-ltb}
-use Rattle.std.proofs.lemmas.Int.{ints}
+use Rattle.std.proofs.lemmas.Bool.{and_parts, and_from, not-true, eq-eqb, ne_eqb, lt-ltb, le-ltb, false≢true}
 use Rattle.std.proofs.Math.Seq.{take-append_seam, drop-append-add}
 use Rattle.std.proofs.lemmas.List.{length-append, take_all}
 use Rattle.std.proofs.lemmas.List.Folds.{list_all-append}
@@ -12,7 +11,6 @@ use Rattle.tf_words.specs.Words.{is_white}
 use Rattle.tf_words.specs.Number.{number}
 use Rattle.tf_words.specs.WordParts.{divided}
 use Rattle.tf_words.specs.FirstLine.{IsNumeralOf, BeginsWhite, IsWordBefore}
-use Rattle.tf_words.proofs.DigitsRead.{digit_is}
 use Rattle.tf_words.proofs.FirstLine.{digits_dark, numeral_parts, word_first, behind_blank}
 use Rattle.tf_words.proofs.NumeralOf.{Few, as_pos, number_is}
 use Rattle.tf_model.specs.declared.job.Times.{Times}
@@ -41,7 +39,7 @@ nowhere byte (c ∷ cs) h =
     rw other (omega (arith, nowhere byte cs both.1))
 
 -- a word is divided at its first such byte
-divided_at : (byte : ℕ) (front back : List ℕ) → list_all (λ b. not (eqb b byte)) front ≡ true
+pub divided_at : (byte : ℕ) (front back : List ℕ) → list_all (λ b. not (eqb b byte)) front ≡ true
     → divided byte (front ++ byte ∷ back) ≡ Some (front, back)
 divided_at byte front back h =
     let at = at_byte byte front back h in
@@ -54,33 +52,33 @@ divided_at byte front back h =
     rw at (rw (within, first, second) refl)
 
 -- a word without such a byte is not divided
-not_divided : (byte : ℕ) (word : List ℕ) → list_all (λ b. not (eqb b byte)) word ≡ true
+pub not_divided : (byte : ℕ) (word : List ℕ) → list_all (λ b. not (eqb b byte)) word ≡ true
     → divided byte word ≡ None
 not_divided byte word h =
     let at = nowhere byte word h in
     let far : ltb (length word) (length word) ≡ false = le-ltb _ _ (omega arith) in
     rw at (rw far refl)
 
--- digits are no comma
-no_comma : (digits : List ℕ) → list_all is_ascii_digit digits ≡ true
-    → list_all (λ b. not (eqb b 44)) digits ≡ true
-no_comma [] h = refl
-no_comma (d ∷ ds) h =
+-- digits are no byte that is none
+pub without_byte : (byte : ℕ) (digits : List ℕ) → is_ascii_digit byte ≡ false
+    → list_all is_ascii_digit digits ≡ true → list_all (λ b. not (eqb b byte)) digits ≡ true
+without_byte byte [] none h = refl
+without_byte byte (d ∷ ds) none h =
     let both = and_parts _ _ h in
-    let low = (digit_is d both.0).0 in
-    let other : eqb d 44 ≡ false = ne_eqb d 44 (λ e. omega (arith, low, e)) in
-    rw other (no_comma ds both.1)
+    let other : eqb d byte ≡ false =
+    ne_eqb d byte (λ e. false≢true (sym none ∙ ap is_ascii_digit (sym e) ∙ both.0)) in
+    rw other (without_byte byte ds none both.1)
 
 -- ---- numbers
 
 -- digits as a number that may not be negative
-natural_is : (line : ℕ) (digits : List ℕ) (n : ℕ) → IsNumeralOf digits n → Few n
+pub natural_is : (line : ℕ) (digits : List ℕ) (n : ℕ) → IsNumeralOf digits n → Few n
     → natural line (number digits) ≡ Ok (to_z w64 n)
 natural_is line digits n is few =
     ap (natural line) (number_is digits n is (omega arith)) ∙ ap (λ z. Ok z) (as_pos n few)
 
 -- digits as a number that may be negative
-integer_is : (line : ℕ) (digits : List ℕ) (n : ℕ) → IsNumeralOf digits n → Few n
+pub integer_is : (line : ℕ) (digits : List ℕ) (n : ℕ) → IsNumeralOf digits n → Few n
     → integer line (number digits) ≡ Ok (to_z w64 n)
 integer_is line digits n is few =
     ap (integer line) (number_is digits n is (omega arith)) ∙ ap (λ z. Ok z) (as_pos n few)
@@ -92,7 +90,7 @@ pub one_time : (line : ℕ) (digits : List ℕ) (n : ℕ) → IsNumeralOf digits
     → times_at line digits ≡ Ok (One (to_z w64 n))
 unfolding times_at
 one_time line digits n is few =
-    let whole = not_divided 44 digits (no_comma digits (numeral_parts digits is.numeral).1) in
+    let whole = not_divided 44 digits (without_byte 44 digits refl (numeral_parts digits is.numeral).1) in
     ap (times_in line digits) whole ∙ rw (natural_is line digits n is few) refl
 
 -- digits, a comma and digits as two times
@@ -101,8 +99,8 @@ pub two_times : (line : ℕ) (first second : List ℕ) (m n : ℕ) → IsNumeral
     → times_at line (first ++ 44 ∷ second) ≡ Ok (Two (to_z w64 m) (to_z w64 n))
 unfolding times_at
 two_times line first second m n is few other small =
-    let cut = divided_at 44 first second (no_comma first (numeral_parts first is.numeral).1) in
-    let whole = not_divided 44 second (no_comma second (numeral_parts second other.numeral).1) in
+    let cut = divided_at 44 first second (without_byte 44 first refl (numeral_parts first is.numeral).1) in
+    let whole = not_divided 44 second (without_byte 44 second refl (numeral_parts second other.numeral).1) in
     ap (times_in line (first ++ 44 ∷ second)) cut
     ∙ rw whole
     (rw (natural_is line first m is few) (rw (natural_is line second n other small) refl))

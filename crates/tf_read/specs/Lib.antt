@@ -9,6 +9,7 @@ pub mod NextArc
 pub mod WeightedTardiness
 pub mod FlowShop
 -- within the crate
+pub mod UsualSteps
 pub mod WordFeed
 pub mod Numbers
 pub mod WtReading

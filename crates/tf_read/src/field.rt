@@ -75,6 +75,8 @@ impl<A: Allocator> Fields<A> {
     /// With the field of one word more.
     #[tactic(auto, unfolding(crate::specs::JobLine::field_at))]
     fn add(&mut self, alloc: A, line: u32, word: &[u8]) -> Result<(), ReadFault>
+    where
+        A: Copy,
         ensures { Gives (λ _. self.new) result (field_at line self.old word.now) }
     {
         let Some((key, value)) = divided(word, b'=') else {
