@@ -23,6 +23,16 @@ begins_with (c ∷ cs) rest b some first is =
     let same : rest ≡ cs = is ∙ all in
     cc
 
+-- and by its first two
+pub begins_with_two : (text rest : List ℕ) (a b : ℕ) → 2 ≤ length text → get_or text 0 0 ≡ a
+    → get_or text 1 0 ≡ b → rest ≡ take (length text - 2) (drop 2 text) → text ≡ a ∷ b ∷ rest
+begins_with_two [] rest a b some first second is = absurd (omega arith)
+begins_with_two (c ∷ []) rest a b some first second is = absurd (omega arith)
+begins_with_two (c ∷ d ∷ more) rest a b some first second is =
+    let all : take (length (c ∷ d ∷ more) - 2) more ≡ more = take_all _ more (omega arith) in
+    let same : rest ≡ more = is ∙ all in
+    cc
+
 -- a text cut behind its first bytes, which are the key
 pub key_front : (text front rest key : List ℕ) (k : ℕ) → front ≡ take k text → rest ≡ drop k text
     → bytes_eq front key ≡ true → text ≡ key ++ rest
@@ -91,27 +101,28 @@ word_first text (c ∷ word) rest is some h begins =
 
 -- ---- a blank before it
 
--- a blank before lines is no part of a word
-blank_onto : (ls : List (List ℕ)) → (first_words (onto_first 32 ls) ≡ first_words ls)
-    × (drop 1 (onto_first 32 ls) ≡ drop 1 ls)
+-- a white byte before lines is no part of a word
+white_onto : (b : ℕ) (ls : List (List ℕ)) → is_white b ≡ true
+    → (first_words (onto_first b ls) ≡ first_words ls) × (drop 1 (onto_first b ls) ≡ drop 1 ls)
 unfolding words
-blank_onto [] = (words_white 32 [] refl, refl)
-blank_onto (l ∷ ls) = (words_white 32 l refl, refl)
+white_onto b [] white = (words_white b [] white, refl)
+white_onto b (l ∷ ls) white = (words_white b l white, refl)
 
--- a blank before a text changes neither the words of its first line nor the lines behind it
-blank_first : (rest : List ℕ) → (line_words (32 ∷ rest) ≡ line_words rest)
-    × (lines_behind (32 ∷ rest) ≡ lines_behind rest)
+-- a white byte before a text, but for a line feed, changes neither the words of its first line nor
+-- the lines behind it
+white_first : (b : ℕ) (rest : List ℕ) → is_white b ≡ true → eqb b 10 ≡ false
+    → (line_words (b ∷ rest) ≡ line_words rest) × (lines_behind (b ∷ rest) ≡ lines_behind rest)
 unfolding line_words lines_behind
-blank_first rest =
-    let k = (at_white 32 rest).1 refl in
-    let b = blank_onto (lines rest) in
-    (ap first_words k ∙ b.0, ap (drop 1) k ∙ b.1)
+white_first b rest white other =
+    let k = (at_white b rest).1 other in
+    let on = white_onto b (lines rest) white in
+    (ap first_words k ∙ on.0, ap (drop 1) k ∙ on.1)
 
 -- a word behind a blank
 pub behind_blank : (text from word rest : List ℕ) → text ≡ 32 ∷ from → IsWordBefore from word rest
     → IsWordBefore text word rest
 behind_blank text from word rest is before =
-    let b = blank_first from in
+    let b = white_first 32 from refl refl in
     record {
       words = ap line_words is ∙ b.0 ∙ before.words;
       behind = ap lines_behind is ∙ b.1 ∙ before.behind;
@@ -128,6 +139,17 @@ line_ends text rest is =
     record {
       words = ap line_words is ∙ ap first_words k;
       behind = ap lines_behind is ∙ ap (drop 1) k;
+      shorter = omega (arith, ap length is);
+    }
+
+-- and so do a carriage return and a line feed
+pub return_ends : (text rest : List ℕ) → text ≡ 13 ∷ 10 ∷ rest → IsLineEnd text rest
+return_ends text rest is =
+    let white = white_first 13 (10 ∷ rest) refl refl in
+    let end = line_ends (10 ∷ rest) rest refl in
+    record {
+      words = ap line_words is ∙ white.0 ∙ end.words;
+      behind = ap lines_behind is ∙ white.1 ∙ end.behind;
       shorter = omega (arith, ap length is);
     }
 

@@ -46,12 +46,12 @@ pub fn digits_first(text: &[u8]) -> Option<(u64, &[u8])>
     Some((value, rest))
 }
 
-/// Whether a word that ends here is over, as a blank or a line feed tells.
+/// Whether a word that ends here is over, as a blank or the end of a line tells.
 pub fn is_over(rest: &[u8]) -> bool
     ensures { result ≡ true → BeginsWhite rest.now }
 {
     match rest {
-        [b' ' | b'\n', ..] => true,
+        [b' ' | b'\n' | b'\r', ..] => true,
         _ => false,
     }
 }
@@ -103,12 +103,15 @@ pub fn behind_first_key<'a>(text: &'a [u8], key: &[u8]) -> Option<&'a [u8]>
     }
 }
 
-/// What follows the line feed with which a text begins.
+/// What follows the line feed with which a text begins, maybe behind a carriage return.
 pub fn behind_line_feed(text: &[u8]) -> Option<&[u8]>
     ensures { IfSome result (λ rest. IsLineEnd text.now rest.now) }
 {
+    if let [b'\n', rest @ ..] = text {
+        return Some(rest);
+    }
     match text {
-        [b'\n', rest @ ..] => Some(rest),
+        [b'\r', b'\n', rest @ ..] => Some(rest),
         _ => None,
     }
 }
