@@ -1,15 +1,11 @@
 -- Up to the first element that passes, and from it on.
-use Rattle.std.proofs.Common.{◌≡◌, ℕ, suc, Bool, true, false, List, [], ◌∷◌, take, drop, refl, sym, ap, ◌∙◌, arith}
+use Rattle.std.proofs.Common.{◌≡◌, ℕ, suc, Bool, false, List, ◌∷◌, take, drop, ap, ◌∙◌, arith}
 use Rattle.std.specs.List.{before_first, position_or_len}
 use Rattle.tf_read.specs.JobTable.{since_first}
 
 later : {X : Type 0} (p : X → Bool) (x : X) (xs : List X) → p x ≡ false
     → position_or_len p (x ∷ xs) ≡ suc (position_or_len p xs)
 later p x xs e = rw e (omega arith)
-
-pub before_yes : {X : Type 0} (p : X → Bool) (x : X) (xs all : List X) → all ≡ x ∷ xs → p x ≡ true
-    → before_first p all ≡ []
-before_yes p x xs all same e = ap (before_first p) same ∙ rw e refl
 
 pub before_no : {X : Type 0} (p : X → Bool) (x : X) (xs all : List X) → all ≡ x ∷ xs → p x ≡ false
     → before_first p all ≡ x ∷ before_first p xs

@@ -5,17 +5,15 @@ use Rattle.std.specs.Option.{option_or}
 use Rattle.std.proofs.lemmas.Bool.{cases_Bool, ltb-false, ltb-true, le-ltb, lt-ltb}
 use Rattle.std.proofs.lemmas.List.FromFn.{length-map-range_with_len}
 use Rattle.tf_words.specs.Words.{Word}
-use Rattle.tf_words.specs.declared.number.Number.{Number}
 use Rattle.tf_model.specs.InstanceData.{IsInstance, has_negative, has_beyond, count_fault}
 use Rattle.tf_model.specs.Limit.{most_jobs, most_machines}
 use Rattle.tf_read.specs.declared.fault.ReadFault.{ReadFault}
 use Rattle.tf_read.specs.declared.fault.ReadFault.TheVariants.{EndsEarly}
 use Rattle.tf_model.specs.Outcome.{◌>>=◌}
-use Rattle.tf_read.specs.Faults.{each_from, natural}
+use Rattle.tf_read.specs.Faults.{each_from}
 use Rattle.tf_read.specs.FlowShop.{shop_number, machines_kept, at, time_place, job_with, job, shop_jobs, shop_of, pairs_of}
 use Rattle.tf_read.specs.Pairs.{Pairs, first, second, count, wanted, missing, AreKept, kept_job, kept_jobs, Holds, HasRead, IsTime, AreTimes}
-use Rattle.tf_words.specs.Scan.{IsInRange}
-use Rattle.tf_read.proofs.Judged.{in_range, natural_within, judged as is_instance}
+use Rattle.tf_read.proofs.Judged.{judged as is_instance}
 use Rattle.tf_read.proofs.OneInstance.{none_at}
 use Rattle.tf_read.proofs.FlowWords.{count_below, count_all}
 

@@ -1,5 +1,9 @@
 pub mod Each
 pub mod Fields
+pub mod UsualFields
+pub mod UsualSteps
+pub mod UsualJob
+pub mod UsualArc
 pub mod Firsts
 pub mod RoomKept
 pub mod Judged

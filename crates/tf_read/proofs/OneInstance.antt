@@ -1,5 +1,5 @@
 -- The instance of the numbers that were read.
-use Rattle.std.proofs.Common.{◌≡◌, ℕ, zero, suc, ◌+◌, ◌-◌, ◌*◌, ◌%◌, ◌<◌, ◌≤◌, Bool, false, cond, eqb, leb, ltb, List, [], ◌∷◌, ◌++◌, length, map, take, drop, ℤ, pos, Option, Some, None, Result, Ok, Err, refl, sym, ap, subst, ◌∙◌, arith, inl, inr, IfOk, position, min, mul-le-mul_left, add-one}
+use Rattle.std.proofs.Common.{◌≡◌, ℕ, zero, suc, ◌+◌, ◌-◌, ◌*◌, ◌%◌, ◌<◌, ◌≤◌, Bool, false, cond, eqb, leb, ltb, List, [], ◌∷◌, ◌++◌, length, map, take, drop, ℤ, pos, Option, Some, None, Result, Ok, Err, refl, sym, ap, subst, ◌∙◌, arith, inl, inr, IfOk, position, mul-le-mul_left, add-one}
 use Rattle.std.specs.List.{range_with_len, position_or_len}
 use Rattle.std.specs.Option.{option_or}
 use Rattle.std.proofs.lemmas.Bool.{cases_Bool, leb-true, leb-false, ltb-false, lt-leb, le-ltb, eqb-true, eqb-false}
@@ -18,7 +18,6 @@ use Rattle.tf_read.specs.Faults.{each_from}
 use Rattle.tf_read.specs.WeightedTardiness.{tardiness_number_read, tardiness_number, at, job, tardiness_jobs, tardiness_of, instance_of}
 use Rattle.tf_read.specs.Numbers.{Progress, skipped, wanted, missing, with_number, Holds, HasRead, AreInRange}
 use Rattle.tf_words.specs.Scan.{IsInRange}
-use Rattle.tf_read.proofs.Progress.{counted}
 use Rattle.tf_read.proofs.Judged.{in_range, or_false, natural_within, integer_within, past_end, judged as is_instance}
 
 -- how a whole reading goes on

@@ -4,9 +4,12 @@ pub mod Said
 pub mod CostField
 pub mod JobLine
 pub mod JobTable
+pub mod NextJob
+pub mod NextArc
 pub mod WeightedTardiness
 pub mod FlowShop
 -- within the crate
+pub mod UsualSteps
 pub mod WordFeed
 pub mod Numbers
 pub mod WtReading

@@ -1,13 +1,15 @@
 //! The arc lines of a job table.
-ghost use Rattle.std.specs.Prelude.{◌≡◌};
+ghost use Rattle.std.specs.Prelude.{◌≡◌, [], MatchOption, MatchResult};
 ghost use Rattle.tf_words.specs.Number.{number};
 ghost use Rattle.tf_words.specs.Words.{words};
 ghost use Rattle.tf_words.specs.Lines.{word_line_of, word_lines_of};
 ghost use Rattle.tf_read.specs.Faults.{Gives, each_from};
+ghost use Rattle.tf_read.specs.NextArc.{BeginsWithArc, BeginsWithBadArc};
 ghost use Rattle.tf_read.specs.JobTable.{is_arc, arc_job, arc_of, arc_line, without_jobs, arcs_of};
 
 use crate::fault::ReadFault;
 use crate::room::room_for;
+use crate::usual::usual_arc;
 use std::alloc::Allocator;
 use tf_model::ids::JobId;
 use tf_model::limit::MOST_ARCS;
@@ -72,6 +74,27 @@ fn arc_at(jobs: u32, k: usize, line: &Line<'_>) -> Result<(JobId, JobId), ReadFa
     arc_of(jobs, line.number, text)
 }
 
+/// Arc k, whose line comes first, and the lines behind it.
+fn next_arc<'a>(
+    jobs: u32,
+    k: usize,
+    lines: &Lines<'a>,
+) -> Result<Option<((JobId, JobId), Lines<'a>)>, ReadFault>
+    ensures { MatchResult result
+        (λ next. MatchOption next (word_lines_of lines.now ≡ [])
+        (λ x. BeginsWithArc jobs k (word_lines_of lines.now) x.0 (word_lines_of x.1)))
+        (λ e. BeginsWithBadArc jobs k (word_lines_of lines.now) e) }
+{
+    if let Some(next) = usual_arc(jobs, k, lines) {
+        return Ok(Some(next));
+    }
+    let Some((line, after)) = lines.split_first() else {
+        return Ok(None);
+    };
+    let arc = arc_at(jobs, k, &line)?;
+    Ok(Some((arc, after)))
+}
+
 fn arcs_from<A: Allocator>(
     alloc: A,
     jobs: u32,
@@ -82,12 +105,16 @@ fn arcs_from<A: Allocator>(
     let room = room_for(lines.bytes_left(), SHORTEST_LINE, MOST_ARCS);
     let mut arcs = Vec::with_capacity(alloc, room)?;
     let mut rest = *lines;
-    while let Some((line, after)) = rest.split_first() {
-        let arc = arc_at(jobs, arcs.len() + 1, &line)?;
-        arcs.push(arc)?;
-        rest = after;
+    loop {
+        match next_arc(jobs, arcs.len() + 1, &rest) {
+            Err(fault) => return Err(fault),
+            Ok(None) => return Ok(arcs),
+            Ok(Some((arc, after))) => {
+                arcs.push(arc)?;
+                rest = after;
+            }
+        }
     }
-    Ok(arcs)
 }
 
 fn no_job(lines: &Lines<'_>) -> ReadFault

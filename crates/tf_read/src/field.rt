@@ -16,12 +16,12 @@ use tf_words::word::{first_word, is};
 
 /// The fields of a job line so far.
 #[derive(Drop)]
-struct Fields<A: Allocator> {
-    times: Option<Times>,
-    weight: Option<i64>,
-    due: Option<i64>,
-    release: Option<i64>,
-    cost: Option<StepCost<A>>,
+pub(crate) struct Fields<A: Allocator> {
+    pub(crate) times: Option<Times>,
+    pub(crate) weight: Option<i64>,
+    pub(crate) due: Option<i64>,
+    pub(crate) release: Option<i64>,
+    pub(crate) cost: Option<StepCost<A>>,
 }
 
 impl<A: Allocator> Model for Fields<A> {
@@ -60,7 +60,7 @@ fn times_at(line: u32, value: &[u8]) -> Result<Times, ReadFault>
 }
 
 impl<A: Allocator> Fields<A> {
-    fn none() -> Self
+    pub(crate) fn none() -> Self
         ensures { result ≡ no_fields }
     {
         Fields {
@@ -75,6 +75,8 @@ impl<A: Allocator> Fields<A> {
     /// With the field of one word more.
     #[tactic(auto, unfolding(crate::specs::JobLine::field_at))]
     fn add(&mut self, alloc: A, line: u32, word: &[u8]) -> Result<(), ReadFault>
+    where
+        A: Copy,
         ensures { Gives (λ _. self.new) result (field_at line self.old word.now) }
     {
         let Some((key, value)) = divided(word, b'=') else {

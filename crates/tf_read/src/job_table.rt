@@ -1,17 +1,19 @@
 //! The job table: a line for each job.
-ghost use Rattle.std.specs.Prelude.{◌≡◌, ◌≤◌, None, IfOk};
+ghost use Rattle.std.specs.Prelude.{◌≡◌, ◌≤◌, None, IfOk, MatchOption, MatchResult};
 ghost use Rattle.std.specs.List.{before_first};
 ghost use Rattle.tf_words.specs.Words.{words};
 ghost use Rattle.tf_words.specs.Lines.{word_line_of, word_lines_of};
 ghost use Rattle.tf_words.specs.Number.{number};
 ghost use Rattle.tf_model.specs.InstanceData.{count_fault};
 ghost use Rattle.tf_read.specs.Faults.{Gives, each_from};
+ghost use Rattle.tf_read.specs.NextJob.{HasNoJob, BeginsWithJob, BeginsWithFault};
 ghost use Rattle.tf_read.specs.JobTable.{machines_named, machines_at, job_line, is_arc, since_first, body_of, below_heading, is_table_heading, job_table};
 
 use crate::arc::{arcs_of, is_arc};
 use crate::fault::ReadFault;
 use crate::field::job_of;
 use crate::room::room_for;
+use crate::usual::usual_job;
 use std::alloc::Allocator;
 use tf_model::instance::Instance;
 use tf_model::job::Job;
@@ -71,6 +73,30 @@ fn job_at<A: Allocator + Copy>(alloc: A, k: u32, line: &Line<'_>) -> Result<Job<
     job_of(alloc, line.number, after)
 }
 
+/// Job k, whose line comes first, and the lines behind it.
+fn next_job<'a, A: Allocator + Copy>(
+    alloc: A,
+    k: u32,
+    lines: &Lines<'a>,
+) -> Result<Option<(Job<A>, Lines<'a>)>, ReadFault>
+    ensures { MatchResult result
+        (λ next. MatchOption next (HasNoJob (word_lines_of lines.now))
+        (λ x. BeginsWithJob k (word_lines_of lines.now) x.0 (word_lines_of x.1)))
+        (λ e. BeginsWithFault k (word_lines_of lines.now) e) }
+{
+    if let Some(next) = usual_job(k, lines) {
+        return Ok(Some(next));
+    }
+    let Some((line, after)) = lines.split_first() else {
+        return Ok(None);
+    };
+    if is_arc(&line) {
+        return Ok(None);
+    }
+    let job = job_at(alloc, k, &line)?;
+    Ok(Some((job, after)))
+}
+
 /// The jobs, a line for each, up to the first arc, and the lines from it on.
 fn jobs_of<'a, A: Allocator + Copy>(
     alloc: A,
@@ -84,11 +110,7 @@ fn jobs_of<'a, A: Allocator + Copy>(
     let room = room_for(lines.bytes_left(), SHORTEST_LINE, MOST_JOBS);
     let mut jobs = Vec::with_capacity(alloc, room)?;
     let mut rest = *lines;
-    while let Some((line, after)) = rest.split_first() {
-        if is_arc(&line) {
-            return Ok((jobs, rest));
-        }
-        let job = job_at(alloc, jobs.len() as u32 + 1, &line)?;
+    while let Some((job, after)) = next_job(alloc, jobs.len() as u32 + 1, &rest)? {
         jobs.push(job)?;
         rest = after;
     }

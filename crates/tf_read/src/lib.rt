@@ -15,5 +15,6 @@ mod numbers;
 mod pairs;
 mod room;
 mod sizes;
+mod usual;
 pub mod weighted_tardiness;
 mod word_feed;

@@ -1,6 +1,7 @@
 pub mod Written
 pub mod Rows
 pub mod Reading
+pub mod UsualPiece
 pub mod WordLines
 pub mod Numerals
 pub mod BehindBlank

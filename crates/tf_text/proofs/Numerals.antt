@@ -79,7 +79,7 @@ numeral-signed (negsuc n) fits =
     let value : digits_value 10 (decimal (suc n)) ≡ suc n = d.1 in
     rw (whole, value) refl
 
-judged_within : (least most z : ℤ) → least ≤ℤ z → z ≤ℤ most → judged least most z ≡ Within z
+pub judged_within : (least most z : ℤ) → least ≤ℤ z → z ≤ℤ most → judged least most z ≡ Within z
 judged_within least most z low high = grind (arith, ints)
 
 pub count-decimal : (line most n : ℕ) → most < 2 ^ 63 → IsCount most n

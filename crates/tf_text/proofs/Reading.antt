@@ -276,18 +276,21 @@ piece_fails front line all more e total same is key fails =
     (fails_then e (piece_in line.number (drop 1 (words line.bytes))) (then_others more) fails))
 
 -- a line of another kind
-pub pieces_stop : (front : List Piece) (line : KeptLine) (all more : List KeptLine)
+pub pieces_stop : (line : KeptLine) (all more : List KeptLine)
     → all ≡ line ∷ more → first_is (codes "piece") (words line.bytes) ≡ false
-    → with_pieces front (pieces_at all) ≡ Ok (front, all)
+    → pieces_at all ≡ Ok ([], all)
 unfolding pieces_at
-pieces_stop front line all more is other =
+pieces_stop line all more is other =
     let here : pieces_at (line ∷ more) ≡ Ok ([], line ∷ more) = rw other refl in
-    ap (λ ls. with_pieces front (pieces_at ls)) is ∙ ap (with_pieces front) here
-    ∙ ap (λ pieces. Ok (pieces, line ∷ more)) (append-nil front)
-    ∙ ap (λ ls. Ok (front, ls)) (sym is)
+    ap pieces_at is ∙ here ∙ ap (λ ls. Ok ([], ls)) (sym is)
 
-pub pieces_end : (front : List Piece) (all : List KeptLine) → all ≡ []
-    → with_pieces front (pieces_at all) ≡ Ok (front, all)
+-- no line
+pub pieces_end : (all : List KeptLine) → all ≡ [] → pieces_at all ≡ Ok ([], all)
 unfolding pieces_at
-pieces_end front all is = ap (λ ls. with_pieces front (pieces_at ls)) is
-    ∙ ap (λ pieces. Ok (pieces, [])) (append-nil front) ∙ ap (λ ls. Ok (front, ls)) (sym is)
+pieces_end all is = ap pieces_at is ∙ ap (λ ls. Ok ([], ls)) (sym is)
+
+-- no piece is left
+pub pieces_none : (front : List Piece) (all : List KeptLine) → pieces_at all ≡ Ok ([], all)
+    → with_pieces front (pieces_at all) ≡ Ok (front, all)
+pieces_none front all none = ap (with_pieces front) none
+    ∙ ap (λ pieces. Ok (pieces, all)) (append-nil front)

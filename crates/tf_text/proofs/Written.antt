@@ -1,5 +1,5 @@
 -- What is written piece by piece, as lines of words.
-use Rattle.std.proofs.Common.{◌≡◌, ℕ, ℤ, Bool, List, [], ◌∷◌, ◌++◌, map, codes, refl, sym, ap, ◌∙◌, append_assoc}
+use Rattle.std.proofs.Common.{◌≡◌, ℕ, ℤ, pos, Bool, List, [], ◌∷◌, ◌++◌, map, codes, refl, sym, ap, ◌∙◌, append_assoc}
 use Rattle.std.proofs.lemmas.Grind.{flat_map-append}
 use Rattle.std.proofs.lemmas.List.{append-nil}
 use Rattle.std.specs.List.{flat_map, join_with_byte}
@@ -54,6 +54,13 @@ piece_written t0 t1 t2 t3 t4 t5 t6 key a b c d e1 e2 e3 e4 e5 e6 =
     let from2 : t6 ≡ t1 ++ (32 ∷ a ++ (32 ∷ b ++ (32 ∷ c ++ (32 ∷ d ++ 10 ∷ [])))) =
     then t1 t2 t6 _ _ e2 from3 in
     then t0 t1 t6 key _ e1 from2 ∙ ap (λ text. t0 ++ text) (piece_joined key a b c d)
+
+-- a line of which the end was written first
+pub line_from_end : (s0 s1 s2 s3 s4 s5 key a b c d : List ℕ) → s0 ≡ 10 ∷ []
+    → s1 ≡ (32 ∷ d) ++ s0 → s2 ≡ (32 ∷ c) ++ s1 → s3 ≡ (32 ∷ b) ++ s2 → s4 ≡ (32 ∷ a) ++ s3
+    → s5 ≡ key ++ s4 → s5 ≡ line_text (key ∷ a ∷ b ∷ c ∷ d ∷ [])
+line_from_end s0 s1 s2 s3 s4 s5 key a b c d e0 e1 e2 e3 e4 e5 =
+    rw (e5, e4, e3, e2, e1, e0) (piece_joined key a b c d)
 
 -- the kind of a certificate and its jobs
 pub jobs_written : (layout : Layout) (t0 t1 t2 kind jobs same : List ℕ) → same ≡ jobs
@@ -158,3 +165,7 @@ sheet_written layout s t0 t1 t2 t3 t4 t5 e0 e1 e2 e3 e4 e5 =
     ((codes "jobs" ∷ decimal s.jobs ∷ []) ∷ (codes "machines" ∷ decimal s.machines ∷ [])
     ∷ result_lines layout s.answer)) heading
     ∙ sheet_joined layout s
+
+-- a number that is not negative, as one without a sign
+pub signed_is : (n : ℕ) (z : ℤ) → pos n ≡ z → decimal n ≡ signed_decimal z
+signed_is n z is = ap signed_decimal is

@@ -6,3 +6,5 @@ pub mod AnswerText
 pub mod Chart
 pub mod AnswerReading
 pub mod Readable
+-- within the crate
+pub mod NextPiece

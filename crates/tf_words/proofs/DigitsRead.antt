@@ -1,11 +1,12 @@
 -- Reading digits from the left.
-use Rattle.std.proofs.Common.{◌≡◌, ℕ, ◌+◌, ◌-◌, ◌*◌, ◌<◌, ◌≤◌, true, false, ltb, List, length, get_or, take, refl, ap, ◌∙◌, arith}
+use Rattle.std.proofs.Common.{◌≡◌, [], ◌∷◌, ℕ, ◌+◌, ◌-◌, ◌*◌, ◌^◌, ◌<◌, ◌≤◌, true, false, ltb, List, length, get_or, take, refl, ap, ◌∙◌, arith}
 use Rattle.std.specs.List.{list_all}
 use Rattle.std.specs.Char.{is_ascii_digit, digit_value}
-use Rattle.std.specs.Str.Parse.{digits_value}
+use Rattle.std.specs.Str.Parse.{AllDigits, digits_value}
 use Rattle.std.proofs.lemmas.Bool.{and_parts, leb-true, le-ltb, lt-ltb}
 use Rattle.std.proofs.lemmas.List.Recursion.{and_at}
-use Rattle.std.proofs.lemmas.Int.Digits.{digits_value_more}
+use Rattle.std.proofs.lemmas.Int.Digits.{digits_value_more, digits_value-lt}
+use Rattle.std.proofs.Math.Nat.{pow-le-pow_right}
 
 pub digit_is : (c : ℕ) → is_ascii_digit c ≡ true → (48 ≤ c) × (c ≤ 57) × (digit_value c ≡ c - 48)
 digit_is c h =
@@ -29,3 +30,19 @@ one_more ds i all lt =
       digits_value_more 10 ds i lt
           ∙ ap (λ (n : ℕ). digits_value 10 (take i ds) * 10 + n) d.2,
     )
+
+-- digits as the library calls them
+all_digits : (ds : List ℕ) → list_all is_ascii_digit ds ≡ true → AllDigits 10 ds
+all_digits [] h = tt
+all_digits (d ∷ ds) h =
+    let both = and_parts _ _ h in
+    let digit = digit_is d both.0 in
+    (omega (arith, digit.0, digit.1, digit.2), all_digits ds both.1)
+
+-- the value of no more than so many digits
+pub few_digits : (ds : List ℕ) (k : ℕ) → list_all is_ascii_digit ds ≡ true → length ds ≤ k
+    → digits_value 10 ds < 10 ^ k
+few_digits ds k all few =
+    let below : digits_value 10 ds < 10 ^ length ds = digits_value-lt 10 ds (all_digits ds all) in
+    let more : 10 ^ length ds ≤ 10 ^ k = pow-le-pow_right {n = 10} (omega arith) few in
+    omega (arith, below, more)

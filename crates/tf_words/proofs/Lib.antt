@@ -5,6 +5,8 @@ pub mod DigitsRead
 pub mod Saturated
 pub mod Limited
 pub mod Stream
+pub mod FirstLine
+pub mod NumeralOf
 pub mod Grows
 pub mod Scanned
 pub mod Pieces

@@ -36,7 +36,7 @@ unfolding lines words_from words
 line_feed n rest = refl
 
 -- the bytes of a word before a text stand before its first line
-abbrev before_first_line : List ℕ → List (List ℕ) → List (List ℕ)
+abbrev pub before_first_line : List ℕ → List (List ℕ) → List (List ℕ)
 before_first_line word [] = word ∷ []
 before_first_line word (l ∷ ls) = (word ++ l) ∷ ls
 
@@ -62,7 +62,7 @@ goes_on : (c : ℕ) (bs : List ℕ) → not (is_white c) ≡ true → lines (c �
 unfolding lines
 goes_on c bs h = rw (no_feed c h) refl
 
-word_lines : (c : ℕ) (word text : List ℕ) → IsWordBytes (c ∷ word)
+pub word_lines : (c : ℕ) (word text : List ℕ) → IsWordBytes (c ∷ word)
     → lines (c ∷ (word ++ text)) ≡ before_first_line (c ∷ word) (lines text)
 word_lines c [] text h = goes_on c text (and_parts _ _ h).0 ∙ onto_one c (lines text)
 word_lines c (d ∷ word) text h = goes_on c (d ∷ (word ++ text)) (and_parts _ _ h).0
@@ -108,7 +108,7 @@ empty_line_ends n c word ls h =
     ap (λ ws. at_line n ws ++ words_from (n + 1) ls)
     (ap words (append-nil (c ∷ word)) ∙ word_alone c word h)
 
-at_white : (b : ℕ) (rest : List ℕ)
+pub at_white : (b : ℕ) (rest : List ℕ)
     → (eqb b 10 ≡ true → lines (b ∷ rest) ≡ [] ∷ lines rest)
     × (eqb b 10 ≡ false → lines (b ∷ rest) ≡ onto_first b (lines rest))
 unfolding lines

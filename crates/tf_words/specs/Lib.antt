@@ -3,6 +3,7 @@ pub mod Limit
 pub mod Words
 pub mod Lines
 pub mod LineParts
+pub mod FirstLine
 pub mod WordParts
 pub mod Digits
 pub mod Number

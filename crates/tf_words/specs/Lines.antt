@@ -23,3 +23,7 @@ word_lines_of l = map by_words (lines_of l)
 -- the text that is left
 abbrev pub bytes_left : Lines → List ℕ
 bytes_left l = l.rest.now
+
+-- the number of the first line that is left
+abbrev pub number_left : Lines → ℕ
+number_left l = l.number

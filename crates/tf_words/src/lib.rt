@@ -3,6 +3,7 @@
 
 pub mod digits;
 pub mod feed;
+pub mod first_line;
 pub mod limit;
 pub mod line;
 pub mod number;

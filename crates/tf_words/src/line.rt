@@ -1,5 +1,5 @@
 //! The lines of a text that have a word and are no comment.
-ghost use Rattle.std.specs.Prelude.{◌≡◌, ℕ, ◌+◌, ◌^◌, ◌<◌, ◌≤◌, ◌∷◌, [], ◌-◌, ◌==◌, length, drop, position, MatchOption, IfSome};
+ghost use Rattle.std.specs.Prelude.{◌≡◌, ℕ, ◌+◌, ◌^◌, ◌<◌, ◌≤◌, ◌∷◌, [], ◌-◌, ◌==◌, true, List, length, drop, position, MatchOption, IfSome};
 ghost use Rattle.std.specs.List.{position_or_len};
 ghost use Rattle.std.specs.Option.{option_map_or};
 ghost use Rattle.tf_words.specs.Words.{is_front, words, lines, is_kept, kept_lines};
@@ -105,7 +105,8 @@ fn if_kept(text: &[u8]) -> (Option<&[u8]>, &[u8])
 }
 
 impl<'a> Lines<'a> {
-    ghost use Rattle.tf_words.specs.Lines.{line_of, lines_of, word_line_of, word_lines_of, bytes_left};
+    ghost use Rattle.tf_words.specs.Lines.{line_of, lines_of, word_line_of, word_lines_of, bytes_left, number_left};
+    ghost use Rattle.tf_words.specs.FirstLine.{line_words, lines_behind};
 
     /// All lines of a text.
     pub fn new(text: &'a [u8]) -> Lines<'a>
@@ -123,6 +124,31 @@ impl<'a> Lines<'a> {
         ensures { result.now ≡ bytes_left self.now }
     {
         self.rest
+    }
+
+    /// The lines behind the first one, which is kept, from the text behind its line feed on.
+    pub fn behind_first(&self, rest: &'a [u8]) -> Lines<'a>
+        requires kept { is_kept (line_words (bytes_left self.now)) ≡ true }
+        requires rest { lines_behind (bytes_left self.now) ≡ lines rest.now }
+        requires shorter { length rest.now < length (bytes_left self.now) }
+        ensures lines { (bytes : List ℕ) × (words bytes ≡ line_words (bytes_left self.now))
+            × (lines_of self.now ≡ record { number = number_left self.now; bytes = bytes }
+            ∷ lines_of result) }
+        ensures words { word_lines_of self.now
+            ≡ record { number = number_left self.now; words = line_words (bytes_left self.now) }
+            ∷ word_lines_of result }
+    {
+        Lines {
+            rest,
+            number: self.number + 1,
+        }
+    }
+
+    /// The number of the first line that is left.
+    pub fn number_left(&self) -> u32
+        ensures { result ≡ number_left self.now }
+    {
+        self.number
     }
 
     /// The first line that is kept, and the lines after it.

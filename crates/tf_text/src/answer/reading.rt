@@ -1,12 +1,13 @@
 //! Answer texts, read.
 ghost use Rattle.tf_model.specs.Limit.{most_machines};
-ghost use Rattle.std.specs.Prelude.{◌≡◌, ◌^◌, ◌-◌, ◌<◌, ◌≤◌, ◌∷◌, ◌++◌, [], true, false, length, drop, codes, option_map, position, OnOk, IfOk, MatchOption};
+ghost use Rattle.std.specs.Prelude.{◌≡◌, ◌^◌, ◌-◌, ◌<◌, ◌≤◌, ◌∷◌, ◌++◌, [], true, false, length, drop, codes, option_map, position, OnOk, IfOk, MatchOption, MatchResult};
 ghost use Rattle.std.specs.List.{list_all};
 ghost use Rattle.tf_words.specs.Words.{words, lines, kept_lines, first_is};
 ghost use Rattle.tf_check.specs.Certificate.{claim_of};
 ghost use Rattle.tf_words.specs.Lines.{line_of, lines_of};
 ghost use Rattle.tf_words.specs.Ranged.{is_number};
 ghost use Rattle.tf_text.specs.JobWords.{run_jobs};
+ghost use Rattle.tf_text.specs.NextPiece.{HasNoPiece, BeginsWithPiece, BeginsWithFault};
 ghost use Rattle.tf_text.specs.declared.answer.layout.Layout.TheVariants.{Two};
 ghost use Rattle.tf_text.specs.AnswerReading.{Gives, numerals, range_ends, is_item, run_in, name_many, jobs_listed, version_in, heading_at, count_in, time_in, value_in, most_job, most_machine, jobs_from, jobs_in, is_exactly, next, exactly, problem_in, problem_at, only, word_behind, count_at, value_at, four, piece_in, pieces_at, bare, side_of, split_of, split_in, claim_in, kind_in, certificate_in, certificate_at, finished, answer_at, sheet_of, answer_in};
 
@@ -14,6 +15,7 @@ use crate::answer::fault::AnswerFault;
 use crate::answer::layout::Layout;
 use crate::answer::run::Run;
 use crate::answer::sheet::Sheet;
+use crate::answer::usual::usual_piece;
 use std::alloc::{AllocError, Allocator};
 use tf_check::answer::Answer;
 use tf_check::certificate::Certificate;
@@ -412,6 +414,26 @@ fn jobs_in<A: Allocator + Copy>(
     jobs_listed(alloc, layout, line, text)
 }
 
+// The piece whose line comes first, and the lines behind it.
+fn next_piece<'a>(lines: &Lines<'a>) -> Result<Option<(Piece, Lines<'a>)>, AnswerFault>
+    ensures { MatchResult result
+        (λ next. MatchOption next (HasNoPiece (lines_of lines.now))
+        (λ x. BeginsWithPiece (lines_of lines.now) x.0 (lines_of x.1)))
+        (λ e. BeginsWithFault (lines_of lines.now) e) }
+{
+    if let Some(next) = usual_piece(lines) {
+        return Ok(Some(next));
+    }
+    let Some((line, after)) = lines.split_first() else {
+        return Ok(None);
+    };
+    let Some(words) = behind_key(line.bytes, b"piece") else {
+        return Ok(None);
+    };
+    let piece = piece_in(line.number, words)?;
+    Ok(Some((piece, after)))
+}
+
 fn pieces_at<'a, A: Allocator + Copy>(
     alloc: A,
     lines: &Lines<'a>,
@@ -420,15 +442,16 @@ fn pieces_at<'a, A: Allocator + Copy>(
 {
     let mut pieces = Vec::new(alloc);
     let mut rest = *lines;
-    while let Some((line, after)) = rest.split_first() {
-        let Some(words) = behind_key(line.bytes, b"piece") else {
-            return Ok((PieceList::new(pieces), rest));
-        };
-        let piece = piece_in(line.number, words)?;
-        pieces.push(piece)?;
-        rest = after;
+    loop {
+        match next_piece(&rest) {
+            Err(fault) => return Err(fault),
+            Ok(None) => return Ok((PieceList::new(pieces), rest)),
+            Ok(Some((piece, after))) => {
+                pieces.push(piece)?;
+                rest = after;
+            }
+        }
     }
-    Ok((PieceList::new(pieces), rest))
 }
 
 fn bare<A: Allocator>(

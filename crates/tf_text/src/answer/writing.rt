@@ -13,6 +13,7 @@ ghost use Rattle.tf_text.specs.Readable.{IsReadable};
 ghost use Rattle.tf_text.specs.declared.answer.writing.WriteFault.TheVariants.{Device as DeviceFault, OutOfMemory as MemoryFault};
 
 use crate::answer::layout::Layout;
+use crate::answer::line::{ROOM, write_piece};
 use crate::answer::run::Run;
 use crate::answer::sheet::Sheet;
 use crate::counted::{Counted, Device};
@@ -158,7 +159,8 @@ pub fn push_number_line<A: Allocator, I: Integer>(
     Ok(())
 }
 
-fn push_piece<A: Allocator>(text: &mut Vec<u8, A>, piece: &Piece) -> Result<(), OutOfMemory>
+// The line of a piece whose times may be negative.
+fn push_signed_piece<A: Allocator>(text: &mut Vec<u8, A>, piece: &Piece) -> Result<(), OutOfMemory>
     ensures { OnOk result (text.new.items ≡ text.old.items ++ line_text (piece_words piece.now)) }
 {
     text.extend_from_slice(b"piece")?;
@@ -167,6 +169,18 @@ fn push_piece<A: Allocator>(text: &mut Vec<u8, A>, piece: &Piece) -> Result<(), 
     push_number(text, piece.start)?;
     push_number(text, piece.stop)?;
     text.push(b'\n')?;
+    Ok(())
+}
+
+fn push_piece<A: Allocator>(text: &mut Vec<u8, A>, piece: &Piece) -> Result<(), OutOfMemory>
+    ensures { OnOk result (text.new.items ≡ text.old.items ++ line_text (piece_words piece.now)) }
+{
+    if piece.start < 0 || piece.stop < 0 {
+        return push_signed_piece(text, piece);
+    }
+    let mut line = [0; ROOM];
+    let from = write_piece(piece, &mut line);
+    text.extend_from_slice(&line[from..])?;
     Ok(())
 }
 

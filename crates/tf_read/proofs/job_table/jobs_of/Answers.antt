@@ -1,41 +1,39 @@
 use Rattle.std.proofs.Common.{ℕ, ◌+◌, ap, sym, ◌∙◌, arith}
 use Rattle.std.proofs.lemmas.Result.{err_from_is_err_and}
-use Rattle.std.specs.List.{before_first}
+use Rattle.tf_words.specs.Lines.{word_lines_of}
 use Rattle.tf_read.specs.JobTable.{is_arc, job_line}
+use Rattle.tf_read.specs.NextJob.{HasNoJob, BeginsWithJob}
 use Rattle.tf_read.proofs.Each.{each_next, each_faults, each_done}
-use Rattle.tf_read.proofs.Firsts.{before_yes, before_no, from_no}
+use Rattle.tf_read.proofs.Firsts.{before_no, from_no}
 use Rattle.tf_read.proofs.JobsJudged.{job_ok}
 use Rattle.tf_read.proofs.job_table.jobs_of.Goals as goal
 
-pub returns-then-is_arc-clause-jobs : goal.returns-then-is_arc-clause-jobs
-returns-then-is_arc-clause-jobs g c =
-    each_done job_line _ _ _ _ c.loop-line.invariant.same
-    (before_yes is_arc _ _ _ c.in-Some.ensures.words (sym c.is_arc.ensures ∙ c.if-is_arc.true))
-
 pub returns-in_err-job-clause-jobs : goal.returns-in_err-job-clause-jobs
-returns-in_err-job-clause-jobs g c = let p =
+returns-in_err-job-clause-jobs g c =
+    let p =
     err_from_is_err_and c.from_residual-in_err-job.result c.from_residual-in_err-job.ensures.1 in
+    let line = c.in_err-job.ensures in
     rw (p.1, p.2)
-    (each_faults job_line _ _ _ _ _ _ _ _ c.loop-line.invariant.same
-    (before_no is_arc _ _ _ c.in-Some.ensures.words (sym c.is_arc.ensures ∙ c.if-is_arc.false))
-    (ap (λ (n : ℕ). n + 1) c.len.ensures) c.in_err-job.ensures)
+    (each_faults job_line _ _ _ _ _ _ _ _ c.loop-jobs.invariant.same
+    (before_no is_arc _ _ _ line.is line.no_arc)
+    (ap (λ (n : ℕ). n + 1) c.len.ensures) line.fails)
 
-pub loop-line-preserved : goal.loop-line-preserved
-loop-line-preserved g c =
+pub loop-jobs-preserved : goal.loop-jobs-preserved
+loop-jobs-preserved g c =
     let push = c.in_ok-push.ensures in
-    let few = (job_ok _ _ _ c.in_ok-job.ensures).0 in
+    let next : BeginsWithJob (c.len.result + 1) (word_lines_of c.loop-jobs.rest) c.in-Some.job
+    (word_lines_of c.in-Some.after) = rw c.in-Some.is at c.in_ok-job.ensures in
+    let few = (job_ok _ _ _ next.read).0 in
     record {
       few = omega (arith, push.len, few, c.len.ensures);
       same = each_next job_line _ _ _ _ _ _ _ _ _ _ push.items push.len
-          (ap (λ (n : ℕ). n + 1) c.len.ensures)
-          (before_no is_arc _ _ _ c.in-Some.ensures.words
-          (sym c.is_arc.ensures ∙ c.if-is_arc.false)) c.in_ok-job.ensures
-          c.loop-line.invariant.same;
-      left = sym (from_no is_arc _ _ _ c.in-Some.ensures.words
-          (sym c.is_arc.ensures ∙ c.if-is_arc.false)) ∙ c.loop-line.invariant.left;
+          (ap (λ (n : ℕ). n + 1) c.len.ensures) (before_no is_arc _ _ _ next.is next.no_arc)
+          next.read c.loop-jobs.invariant.same;
+      left = sym (from_no is_arc _ _ _ next.is next.no_arc) ∙ c.loop-jobs.invariant.left;
     }
 
 pub returns-clause-jobs : goal.returns-clause-jobs
 returns-clause-jobs g c =
-    each_done job_line _ _ _ _ c.loop-line.invariant.same
-    (ap (before_first is_arc) c.in_default.ensures.words)
+    let over : HasNoJob (word_lines_of c.loop-jobs.rest) =
+    rw c.in_default.is at c.in_ok-job.ensures in
+    each_done job_line _ _ _ _ c.loop-jobs.invariant.same over.none

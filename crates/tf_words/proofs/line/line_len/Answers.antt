@@ -1,4 +1,4 @@
-use Rattle.std.proofs.Common.{◌≤◌, length, sym, ◌∙◌, arith}
+use Rattle.std.proofs.Common.{length, sym, ◌∙◌, arith}
 use Rattle.tf_words.proofs.Parts.{is_place, no_place}
 use Rattle.tf_words.proofs.Lines.{feed_within}
 use Rattle.tf_words.proofs.line.line_len.Goals as goal

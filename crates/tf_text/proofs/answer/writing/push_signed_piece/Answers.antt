@@ -1,7 +1,7 @@
 use Rattle.std.proofs.Common.{◌≡◌, ◌∷◌, ◌++◌, rules}
 use Rattle.std.specs.Fmt.{decimal, signed_decimal}
 use Rattle.tf_text.proofs.Written.{piece_written}
-use Rattle.tf_text.proofs.answer.writing.push_piece.Goals as goal
+use Rattle.tf_text.proofs.answer.writing.push_signed_piece.Goals as goal
 
 pub returns : goal.returns
 returns g c =
