@@ -3,7 +3,8 @@
 
     python3 examples/check_pages.py [PAGE..]    in the root folder, with threefield on the path
 
-A command stands behind "$ " in a block of the kind `console`, and the lines below it are what it prints on both outputs.
+A command stands behind "$ " in a block of the kind `console`, its further lines behind "> ", and the lines below it are
+what it prints on both outputs.
 Where no line is shown, it only has to succeed. A file that a page shows by `cat` and that is not there yet is one that
 its reader writes, so it is written. The kit's own commands, which take long, are left out.
 """
@@ -12,7 +13,8 @@ import re
 import subprocess
 import sys
 
-PAGES = ["README.md", "docs/usage.md", "docs/answers.md", "docs/evaluating.md", "examples/README.md"]
+PAGES = ["README.md", "docs/usage.md", "docs/answers.md", "docs/evaluating.md", "examples/README.md",
+         "examples/certificates/README.md"]
 LEFT_OUT = re.compile(r"^(export |.*\brt (try|run|ci)\b)")
 
 
@@ -23,6 +25,9 @@ def commands(page):
     for block in re.findall(r"^```console\n(.*?)^```", text, re.M | re.S):
         for part in re.split(r"^\$ ", block, flags=re.M)[1:]:
             command, _, shown = part.partition("\n")
+            while shown.startswith("> "):
+                line, _, shown = shown.partition("\n")
+                command += "\n" + line[2:]
             yield command, shown
 
 

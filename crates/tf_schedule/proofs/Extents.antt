@@ -4,7 +4,7 @@ use Rattle.std.specs.List.{All, sum_by, range_with_len}
 use Rattle.std.proofs.lemmas.List.{take_more}
 use Rattle.std.proofs.lemmas.List.Sums.{sum_by_more, sum_by-le, sum_by_more_le}
 use Rattle.std.proofs.lemmas.List.FromFn.{length-range_with_len}
-use Rattle.std.proofs.lemmas.Bool.{cases_lt}
+use Rattle.std.proofs.lemmas.Bool.{cases_eq}
 use Rattle.std.proofs.lemmas.Bool.Decides.{nat_tests}
 use Rattle.std.proofs.Common.{pos}
 use Rattle.tf_schedule.specs.declared.piece.Piece.{Piece}
@@ -84,6 +84,21 @@ least_push f (q ∷ ps) p j =
     step false true x y g h e = e
     step false false x y g h e = e
 
+-- one entry for each job, of which one is set
+pub set_entry : {X : Type 0} (before after : ℕ → X) (xs : List X) (jobs at : ℕ) (x : X)
+    → length xs ≡ jobs → at < jobs → x ≡ after (at + 1)
+    → ((j : ℕ) → j ≢ at + 1 → after j ≡ before j)
+    → ((k : ℕ) (d : X) → k < jobs → get_or xs k d ≡ before (k + 1))
+    → (k : ℕ) (d : X) → k < jobs → get_or (set xs at x) k d ≡ after (k + 1)
+set_entry before after xs jobs at x len in' now others each k d lt = elim (cases_eq k at) [
+  | inl same ↦
+      ap (λ m. get_or (set xs at x) m d) same ∙ get_or-set_same xs at x d (omega (arith, len, in'))
+      ∙ now ∙ ap (λ m. after (m + 1)) (sym same)
+  | inr differ ↦
+      get_or-set_other xs at k x d differ ∙ each k d lt
+      ∙ sym (others (k + 1) (λ e. differ (omega (arith, e))))
+]
+
 module _ (ps : List Piece) (k : ℕ) (p : Piece) (in_range : k < length ps) (read : p ≡ get_or ps k p)
   where
     taken : take (k + 1) ps ≡ take k ps ++ p ∷ []
@@ -159,21 +174,7 @@ module _ (ps : List Piece) (k : ℕ) (p : Piece) (in_range : k < length ps) (rea
         ∙ ap (λ (e : Extent). extended e p) before ∙ sym (extent_same (at + 1) (sym is_at)) in
         record {
           len = length-set extents at x ∙ has.len;
-          each = λ n d lt. elim (cases_lt n at) [
-            | inl below ↦
-                let other : n ≢ at = λ e. omega arith in
-                get_or-set_other extents at n x d other ∙ has.each n d lt
-                ∙ sym (extent_other (n + 1) (λ e. omega arith))
-            | inr from ↦ elim (cases_lt at n) [
-              | inl above ↦
-                  let other : n ≢ at = λ e. omega arith in
-                  get_or-set_other extents at n x d other ∙ has.each n d lt
-                  ∙ sym (extent_other (n + 1) (λ e. omega arith))
-              | inr upto ↦
-                  let same : n ≡ at = omega arith in
-                  let inside : at < length extents = omega (arith, has.len) in
-                  ap (λ m. get_or (set extents at x) m d) same ∙ get_or-set_same extents at x d inside
-                  ∙ now ∙ ap (λ m. extent_of (take (k + 1) ps) (m + 1)) (sym same)
-            ]
-          ];
+          each = set_entry (extent_of (take k ps)) (extent_of (take (k + 1) ps)) extents jobs at x
+              has.len (omega (arith, is_at, le)) now
+              (λ j other. extent_other j (λ e. other (omega (arith, e, is_at)))) has.each;
         }

@@ -1,5 +1,5 @@
 -- The spans of jobs, piece by piece.
-use Rattle.std.proofs.Common.{◌≡◌, ◌≢◌, ℕ, ◌⊎◌, ◌+◌, ◌<◌, ◌≤◌, max, min, Bool, true, false, cond, eqb, List, [], ◌∷◌, ◌++◌, length, get_or, take, set, get_or-set_other, get_or-set_same, length-set, refl, sym, ap, ◌∙◌, subst, ⊎_elim, arith, inl, inr}
+use Rattle.std.proofs.Common.{◌≡◌, ◌≢◌, ℕ, ◌⊎◌, ◌+◌, ◌<◌, ◌≤◌, max, min, Bool, true, false, cond, eqb, List, [], ◌∷◌, ◌++◌, length, get_or, take, set, length-set, refl, sym, ap, ◌∙◌, subst, ⊎_elim, arith, inl, inr}
 use Rattle.std.proofs.lemmas.List.{take_more}
 use Rattle.std.proofs.lemmas.Bool.{cases_lt}
 use Rattle.std.proofs.lemmas.Bool.Decides.{nat_tests}
@@ -12,9 +12,9 @@ use Rattle.std.proofs.lemmas.List.Sums.{sum_by_more}
 use Rattle.tf_schedule.specs.Claims.{runs, places, JobsOnce}
 use Rattle.tf_schedule.specs.Schedule.{IsPiece}
 use Rattle.tf_schedule.proofs.Busy.{busy_within, works_from_test}
-use Rattle.tf_schedule.proofs.Extents.{greatest_push, least_push}
+use Rattle.tf_schedule.proofs.Extents.{greatest_push, least_push, set_entry}
 use Rattle.tf_schedule.specs.declared.span.Span.{Span}
-use Rattle.tf_schedule.specs.Spans.{no_span, with_piece, span_of, HasSpans}
+use Rattle.tf_schedule.specs.Spans.{with_piece, span_of, HasSpans}
 
 same_span : (s s' t t' : ℕ) → s ≡ s' → t ≡ t'
     → ◌≡◌ {A = Span} (record { start = s; stop = t }) (record { start = s'; stop = t' })
@@ -68,23 +68,8 @@ module _ (ps : List Piece) (k : ℕ) (p : Piece) (in_range : k < length ps) (rea
         ∙ ap (λ (s : Span). with_piece s p) before ∙ sym (span_same (at + 1) (sym is_at)) in
         record {
           len = length-set spans at x ∙ has.len;
-          each = λ n d lt. elim (cases_lt n at) [
-            | inl below ↦
-                let other : n ≢ at = λ e. omega arith in
-                get_or-set_other spans at n x d other ∙ has.each n d lt
-                ∙ sym (span_other (n + 1) (λ e. omega arith))
-            | inr from ↦ elim (cases_lt at n) [
-              | inl above ↦
-                  let other : n ≢ at = λ e. omega arith in
-                  get_or-set_other spans at n x d other ∙ has.each n d lt
-                  ∙ sym (span_other (n + 1) (λ e. omega arith))
-              | inr upto ↦
-                  let same : n ≡ at = omega arith in
-                  let inside : at < length spans = omega (arith, has.len) in
-                  ap (λ m. get_or (set spans at x) m d) same ∙ get_or-set_same spans at x d inside
-                  ∙ now ∙ ap (λ m. span_of (take (k + 1) ps) (m + 1)) (sym same)
-            ]
-          ];
+          each = set_entry (span_of (take k ps)) (span_of (take (k + 1) ps)) spans jobs at x has.len
+              le now (λ j other. span_other j (λ e. other (omega (arith, e, is_at)))) has.each;
         }
 
     -- a piece of another job
