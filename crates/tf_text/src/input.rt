@@ -13,7 +13,11 @@ use tf_model::limit::MOST_BYTES;
 use tf_words::feed::Feed;
 use thiserror::Error;
 
+/// A text that is read on the way is pulled by so many bytes.
 const CHUNK: usize = 4096;
+
+/// One that is kept, by so many.
+const LARGE_CHUNK: usize = 65_536;
 
 /// Why a text was not read.
 #[derive(Clone, Copy, Debug, PartialEq, Eq, Error)]
@@ -37,6 +41,35 @@ impl From<Device> for InputFault {
     }
 }
 
+/// Feeds what the reader gives, by pieces of the length of a chunk at most.
+fn drain_by<R: Read, F: Feed>(
+    reader: &mut Counted<R>,
+    into: &mut F,
+    chunk: &mut [u8],
+) -> Result<(), Device>
+    requires { 0 < length chunk.old }
+    ensures taken { Drains F.Takes (R.remaining (inner_of reader.old))
+        (R.remaining (inner_of reader.new))
+        into.old into.new result }
+    ensures counted { pulled_of reader.new ≤ pulled_of reader.old + (most_bytes + 1) }
+    ensures unfailed { OnOk result (has_failed reader.new ≡ false) }
+    ensures device { OnErr result (has_failed reader.new ≡ true) }
+    ensures failed_before { has_failed reader.old ≡ true → IsErr result
+        × (reader.new ≡ reader.old) }
+{
+    let mut left = MOST_BYTES + 1;
+    while left > 0 {
+        let most = chunk.len().min(left);
+        let n = reader.pull(&mut chunk[..most])?;
+        if n == 0 {
+            return Ok(());
+        }
+        into.feed(&chunk[..n]);
+        left -= n;
+    }
+    Ok(())
+}
+
 /// Feeds what the reader gives up to its end, or one byte more than [`MOST_BYTES`] where there are
 /// more.
 ///
@@ -51,18 +84,7 @@ pub fn drain<R: Read, F: Feed>(reader: &mut Counted<R>, into: &mut F) -> Result<
     ensures failed_before { has_failed reader.old ≡ true → IsErr result
         × (reader.new ≡ reader.old) }
 {
-    let mut chunk = [0u8; CHUNK];
-    let mut left = MOST_BYTES + 1;
-    while left > 0 {
-        let most = CHUNK.min(left);
-        let n = reader.pull(&mut chunk[..most])?;
-        if n == 0 {
-            return Ok(());
-        }
-        into.feed(&chunk[..n]);
-        left -= n;
-    }
-    Ok(())
+    drain_by(reader, into, &mut [0u8; CHUNK])
 }
 
 // A text that is kept, as far as there was memory for it.
@@ -120,7 +142,7 @@ pub fn read_all<A: Allocator, R: Read>(
         text: Vec::new(alloc),
         is_whole: true,
     };
-    drain(reader, &mut kept)?;
+    drain_by(reader, &mut kept, &mut [0u8; LARGE_CHUNK])?;
     let Kept { text, is_whole } = kept;
     if !is_whole {
         return Err(InputFault::OutOfMemory);

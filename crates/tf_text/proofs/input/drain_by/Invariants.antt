@@ -2,14 +2,14 @@ use Rattle.std.proofs.Common.{◌≡◌, ℕ, ◌+◌, ◌<◌, ◌≤◌, true,
 use Rattle.std.specs.Io.KnownBytes.{Consumes}
 use Rattle.tf_model.specs.Limit.{most_bytes}
 use Rattle.tf_text.specs.Counted.{inner_of, pulled_of, has_failed}
-use Rattle.tf_text.proofs.input.drain.Given as goal
+use Rattle.tf_text.proofs.input.drain_by.Given as goal
 
 -- what the reader gave was taken, and nothing failed
 abbrev pub invariant-loop-left : goal.invariant-loop-left
 invariant-loop-left g l =
     let remaining = g.R.Read.remaining in
     record {
-      room : length l.chunk ≡ 4096;
+      room : 0 < length l.chunk;
       taken : (bytes : List ℕ) × (length bytes + l.left ≡ most_bytes + 1)
           × Consumes (remaining (inner_of l.fn.reader)) (remaining (inner_of l.reader)) bytes
           × g.F.Feed.Takes l.fn.into bytes l.into;
