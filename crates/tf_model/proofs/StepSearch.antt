@@ -1,5 +1,5 @@
 -- The value of a step cost, found by a search among its steps.
-use Rattle.std.proofs.Common.{◌≡◌, ℕ, ℤ, pos, negsuc, zero, suc, ◌+◌, ◌-◌, ◌<◌, ◌≤◌, ◌≤ℤ◌, ◌<ℤ◌, ◌||◌, Bool, true, false, List, [], ◌∷◌, Option, None, Some, cond, int_le, int_lt, length, get_or, refl, sym, ap, ◌∙◌, arith}
+use Rattle.std.proofs.Common.{◌≡◌, ℕ, ℤ, pos, negsuc, zero, suc, ◌<◌, ◌≤ℤ◌, ◌||◌, Bool, true, false, List, [], ◌∷◌, None, Some, cond, int_le, int_lt, length, get_or, refl, sym, ap, ◌∙◌, arith}
 use Rattle.std.specs.List.{fold}
 use Rattle.std.specs.List.Sorted.{IsPartitionedBy, IsPartitionPoint}
 use Rattle.std.proofs.lemmas.Int.{ints}
@@ -8,7 +8,6 @@ use Rattle.tf_model.specs.Steps.{Steps, step_value}
 use Rattle.tf_model.specs.StepFaults.{step_fault, rise_fault, IsStepCost}
 use Rattle.tf_model.specs.CostLaws.{none_of_two, no_base_fault, after}
 use Rattle.tf_model.specs.Whole.{as_time}
-use Rattle.tf_model.specs.declared.cost.CostFault.{CostFault}
 use Rattle.tf_model.specs.declared.cost.CostFault.TheVariants.{OutOfRange, TimesNotRising, CostFalls}
 
 -- a step without a fault is later than the one before

@@ -253,36 +253,34 @@ fn row_of<A: Allocator>(class: Class, job: &Job<A>) -> JobRow
     }
 }
 
-// The time of all jobs.
-fn total_work<A: Allocator>(class: Class, jobs: &[Job<A>]) -> u128
+// What the jobs come to, by what the class uses of them: their time, their weight and their last
+// release date.
+#[derive(Clone, Copy)]
+struct Totals {
+    work: u128,
+    weight: u128,
+    release: u64,
+}
+
+fn totals_of<A: Allocator>(class: Class, jobs: &[Job<A>]) -> Totals
     requires { length jobs.now ≤ MOST_JOBS }
-    ensures { result ≡ work_of (map (data_of class) jobs.now) }
+    ensures work { result.work ≡ work_of (map (data_of class) jobs.now) }
+    ensures weight { result.weight ≡ sum_by (λ job. job.weight) (map (data_of class) jobs.now) }
+    ensures release { result.release
+        ≡ greatest_of (map (λ job. job.release) (map (data_of class) jobs.now)) }
 {
-    let mut total: u128 = 0;
+    let mut totals = Totals {
+        work: 0,
+        weight: 0,
+        release: 0,
+    };
     for job in jobs {
         let row = row_of(class, job);
-        total += u128::from(row.first) + u128::from(row.second);
+        totals.work += u128::from(row.first) + u128::from(row.second);
+        totals.weight += u128::from(row.weight);
+        totals.release = totals.release.max(row.release);
     }
-    total
-}
-
-fn total_weight<A: Allocator>(class: Class, jobs: &[Job<A>]) -> u128
-    requires { length jobs.now ≤ MOST_JOBS }
-    ensures { result ≡ sum_by (λ job. job.weight) (map (data_of class) jobs.now) }
-{
-    jobs.iter()
-        .map(|job| u128::from(row_of(class, job).weight))
-        .sum()
-}
-
-fn last_release<A: Allocator>(class: Class, jobs: &[Job<A>]) -> u64
-    ensures { result ≡ greatest_of (map (λ job. job.release) (map (data_of class) jobs.now)) }
-{
-    let mut last: u64 = 0;
-    for job in jobs {
-        last = last.max(row_of(class, job).release);
-    }
-    last
+    totals
 }
 
 // Whether a total of the class is beyond the limit.
@@ -291,13 +289,14 @@ fn is_too_large<A: Allocator>(class: Class, jobs: &[Job<A>]) -> bool
     ensures { result ≡ is_too_large class (map (data_of class) jobs.now) }
 {
     const MOST: u128 = LIMIT as u128;
-    let work = total_work(class, jobs);
-    if work > MOST || u128::from(last_release(class, jobs)) + work > MOST {
+    let totals = totals_of(class, jobs);
+    if totals.work > MOST || u128::from(totals.release) + totals.work > MOST {
         return true;
     }
     class.is_sum()
-        && total_weight(class, jobs)
-            .checked_mul(work)
+        && totals
+            .weight
+            .checked_mul(totals.work)
             .is_none_or(|total| total > MOST)
 }
 

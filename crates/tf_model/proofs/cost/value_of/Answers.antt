@@ -1,7 +1,6 @@
-use Rattle.std.proofs.Common.{◌≡◌, ℕ, ℤ, pos, ◌+◌, ◌-◌, ◌<◌, true, false, suc, length, int_le, get_or, rules, of_calls, w64, to_z, of_z, ap, subst, ◌∙◌, arith}
+use Rattle.std.proofs.Common.{◌≡◌, ℕ, pos, ◌-◌, suc, int_le, get_or, rules, of_calls, w64, to_z, of_z, subst, ◌∙◌, arith}
 use Rattle.std.proofs.lemmas.Int.{to_z-of_z}
 use Rattle.std.proofs.lemmas.List.Sorted.{IsPartitionPoint-from_clause}
-use Rattle.std.specs.List.Sorted.{IsPartitionPoint}
 use Rattle.tf_model.specs.Steps.{Steps}
 use Rattle.tf_model.proofs.StepSearch.{IsPoint, cost_parted, base_stays, last_value}
 use Rattle.tf_model.proofs.cost.value_of.Goals as goal
