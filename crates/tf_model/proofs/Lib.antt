@@ -1,4 +1,5 @@
 pub mod Classes
+pub mod Complete
 pub mod OfClass
 pub mod Outcomes
 pub mod Sums

@@ -19,3 +19,4 @@ pub mod Cycle
 pub mod CostLaws
 pub mod CountFor
 pub mod Distinct
+pub mod Complete

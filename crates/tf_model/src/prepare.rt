@@ -1,15 +1,17 @@
 //! From an instance and a problem to a task, or to the one refusal.
 ghost use Rattle.std.specs.Prelude.{◌≡◌, ℕ, ◌+◌, ◌<◌, ◌≤◌, ◌^◌, ◌*◌, Ok, Err, Option, None, Some, length, map, take, position, MatchResult, IfOk, IfErr, All};
+ghost use Rattle.std.specs.Bool.{then_some};
 ghost use Rattle.std.specs.Option.{option_map, ForSome};
-ghost use Rattle.std.specs.List.{sum_by};
+ghost use Rattle.std.specs.List.{list_all, sum_by};
 ghost use Rattle.tf_model.specs.Whole.{as_time};
 ghost use Rattle.tf_model.specs.StepFaults.{IsStepCost};
 ghost use Rattle.tf_model.specs.InstanceData.{IsInstance, first_with};
 ghost use Rattle.tf_model.specs.SchedulingTask.{SchedulingTask};
 ghost use Rattle.tf_model.specs.ClassTable.{is_shop, is_single, is_weighted, is_released, is_due, is_costed, is_ordered, is_sum};
 ghost use Rattle.tf_model.specs.Prepare.{is_too_many, machines_for, agreed, given, count_for, has_wrong_times, lacking, missing_from, has_zero_time, zero_time, data_of, steps_of, kept_costs, kept_arcs, task_of, work_of, greatest_of, is_too_large, jobs_refusal, prepared, Prepares};
+ghost use Rattle.tf_model.specs.Complete.{is_complete};
 ghost use Rattle.tf_model.specs.CountFor.{IsCountFor};
-ghost use Rattle.tf_model.specs.declared.prepare.Refusal.TheVariants.{OutOfMemory};
+ghost use Rattle.tf_model.specs.declared.prepare.Refusal.TheVariants.{OutOfMemory, TotalTooLarge};
 
 use crate::class::{Class, class_of};
 use crate::cost::StepCost;
@@ -217,6 +219,21 @@ fn zero_time_at<A: Allocator>(jobs: &[Job<A>]) -> Option<usize>
     jobs.iter().position(|job| has_zero_time(job))
 }
 
+// Whether a job by itself is no reason to refuse.
+fn is_complete<A: Allocator>(class: Class, job: &Job<A>) -> bool
+    ensures { result ≡ is_complete class job.now }
+{
+    !has_wrong_times(class, job)
+        && lacking(class, job).is_none()
+        && (class.is_shop() || !has_zero_time(job))
+}
+
+fn are_complete<A: Allocator>(class: Class, jobs: &[Job<A>]) -> bool
+    ensures { result ≡ list_all (is_complete class) jobs.now }
+{
+    jobs.iter().all(|job| is_complete(class, job))
+}
+
 // A number that is not negative.
 fn as_time(number: i64) -> u64
     ensures { result ≡ as_time number }
@@ -300,11 +317,21 @@ fn is_too_large<A: Allocator>(class: Class, jobs: &[Job<A>]) -> bool
             .is_none_or(|total| total > MOST)
 }
 
-// The first refusal for the jobs' sake.
+fn total_refusal<A: Allocator>(class: Class, jobs: &[Job<A>]) -> Option<Refusal>
+    requires { length jobs.now ≤ MOST_JOBS }
+    ensures { result ≡ then_some (is_too_large class (map (data_of class) jobs.now)) TotalTooLarge }
+{
+    is_too_large(class, jobs).then_some(Refusal::TotalTooLarge)
+}
+
+// The first refusal for the jobs' sake. Mostly there is none, which one walk tells.
 fn jobs_refusal<A: Allocator>(class: Class, jobs: &[Job<A>]) -> Option<Refusal>
     requires { length jobs.now ≤ MOST_JOBS }
     ensures { result ≡ jobs_refusal class jobs.now }
 {
+    if are_complete(class, jobs) {
+        return total_refusal(class, jobs);
+    }
     if let Some(job) = numbered(wrong_times_at(class, jobs)) {
         return Some(Refusal::WrongTimes(job));
     }
@@ -316,10 +343,7 @@ fn jobs_refusal<A: Allocator>(class: Class, jobs: &[Job<A>]) -> Option<Refusal>
     {
         return Some(Refusal::ZeroTime(job));
     }
-    if is_too_large(class, jobs) {
-        return Some(Refusal::TotalTooLarge);
-    }
-    None
+    total_refusal(class, jobs)
 }
 
 fn rows_of<A: Allocator, B: Allocator>(
