@@ -1,5 +1,5 @@
 -- Reading digits from the left.
-use Rattle.std.proofs.Common.{◌≡◌, [], ◌∷◌, ℕ, ◌+◌, ◌-◌, ◌*◌, ◌^◌, ◌<◌, ◌≤◌, true, false, ltb, List, length, get_or, take, refl, ap, ◌∙◌, arith}
+use Rattle.std.proofs.Common.{◌≡◌, [], ◌∷◌, ℕ, ◌+◌, ◌-◌, ◌*◌, ◌^◌, ◌<◌, ◌≤◌, true, false, ltb, List, length, get_or, take, length-take, refl, ap, ◌∙◌, arith}
 use Rattle.std.specs.List.{list_all}
 use Rattle.std.specs.Char.{is_ascii_digit, digit_value}
 use Rattle.std.specs.Str.Parse.{AllDigits, digits_value}
@@ -39,10 +39,13 @@ all_digits (d ∷ ds) h =
     let digit = digit_is d both.0 in
     (omega (arith, digit.0, digit.1, digit.2), all_digits ds both.1)
 
--- the value of no more than so many digits
-pub few_digits : (ds : List ℕ) (k : ℕ) → list_all is_ascii_digit ds ≡ true → length ds ≤ k
-    → digits_value 10 ds < 10 ^ k
-few_digits ds k all few =
-    let below : digits_value 10 ds < 10 ^ length ds = digits_value-lt 10 ds (all_digits ds all) in
-    let more : 10 ^ length ds ≤ 10 ^ k = pow-le-pow_right {n = 10} (omega arith) few in
+-- the value of no more than so many digits with which a text begins
+pub few_digits : (text : List ℕ) (at k : ℕ) → list_all is_ascii_digit (take at text) ≡ true → at ≤ k
+    → digits_value 10 (take at text) < 10 ^ k
+few_digits text at k all few =
+    let read = take at text in
+    let below : digits_value 10 read < 10 ^ length read =
+    digits_value-lt 10 read (all_digits read all) in
+    let more : 10 ^ length read ≤ 10 ^ k =
+    pow-le-pow_right {n = 10} (omega arith) (omega (arith, few, length-take at text)) in
     omega (arith, below, more)

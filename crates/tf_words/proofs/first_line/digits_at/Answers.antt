@@ -1,4 +1,4 @@
-use Rattle.std.proofs.Common.{◌≡◌, ◌+◌, ◌*◌, ◌<◌, ◌≤◌, true, length, get_or, take, sym, ◌∙◌, arith, length-take}
+use Rattle.std.proofs.Common.{◌≡◌, ◌+◌, ◌*◌, ◌<◌, true, length, get_or, take, sym, ◌∙◌, arith}
 use Rattle.std.specs.Char.{is_ascii_digit, digit_value}
 use Rattle.std.specs.Str.Parse.{digits_value}
 use Rattle.std.proofs.lemmas.Bool.{and_from}
@@ -9,33 +9,17 @@ use Rattle.tf_words.proofs.first_line.digits_at.Goals as goal
 
 pub overflow_mul-value : goal.overflow_mul-value
 overflow_mul-value c =
-    let read = take c.loop-at.at c.args.text.now in
-    let short : length read ≤ 17 =
-    omega (
-      arith,
-      c.min-most.ensures,
-      c.loop-at-test.true,
-      length-take c.loop-at.at c.args.text.now,
-    ) in
-    let few : digits_value 10 read < 100000000000000000 =
-    few_digits read 17 c.loop-at.invariant.digits short in
+    let few : digits_value 10 (take c.loop-at.at c.args.text.now) < 100000000000000000 =
+    few_digits c.args.text.now c.loop-at.at 17 c.loop-at.invariant.digits
+    (omega (arith, c.min-most.ensures, c.loop-at-test.true)) in
     omega (arith, c.loop-at.invariant.value)
 
 pub overflow_add-value : goal.overflow_add-value
 overflow_add-value c =
-    let read = take c.loop-at.at c.args.text.now in
-    let short : length read ≤ 17 =
-    omega (
-      arith,
-      c.min-most.ensures,
-      c.loop-at-test.true,
-      length-take c.loop-at.at c.args.text.now,
-    ) in
-    let few : digits_value 10 read < 100000000000000000 =
-    few_digits read 17 c.loop-at.invariant.digits short in
-    let digit : is_ascii_digit (get_or c.args.text.now c.loop-at.at 0) ≡ true =
-    sym c.is_ascii_digit.ensures.value ∙ c.if-is_ascii_digit.true in
-    let d = digit_is (get_or c.args.text.now c.loop-at.at 0) digit in
+    let few : digits_value 10 (take c.loop-at.at c.args.text.now) < 100000000000000000 =
+    few_digits c.args.text.now c.loop-at.at 17 c.loop-at.invariant.digits
+    (omega (arith, c.min-most.ensures, c.loop-at-test.true)) in
+    let d = digit_is (get_or c.args.text.now c.loop-at.at 0) (sym c.is_ascii_digit.ensures.value ∙ c.if-is_ascii_digit.true) in
     omega (arith, c.loop-at.invariant.value, d.1, c.from.ensures)
 
 pub loop-at-preserved : goal.loop-at-preserved
@@ -58,28 +42,14 @@ loop-at-preserved c =
 
 pub returns-else-is_ascii_digit-clause-few : goal.returns-else-is_ascii_digit-clause-few
 returns-else-is_ascii_digit-clause-few c =
-    let read = take c.loop-at.at c.args.text.now in
-    let short : length read ≤ 18 =
-    omega (
-      arith,
-      c.min-most.ensures,
-      c.loop-at-test.true,
-      length-take c.loop-at.at c.args.text.now,
-    ) in
-    let few : digits_value 10 read < 1000000000000000000 =
-    few_digits read 18 c.loop-at.invariant.digits short in
+    let few : digits_value 10 (take c.loop-at.at c.args.text.now) < 1000000000000000000 =
+    few_digits c.args.text.now c.loop-at.at 18 c.loop-at.invariant.digits
+    (omega (arith, c.min-most.ensures, c.loop-at.invariant.within)) in
     omega (arith, c.loop-at.invariant.value)
 
 pub returns-after-loop-at-clause-few : goal.returns-after-loop-at-clause-few
 returns-after-loop-at-clause-few c =
-    let read = take c.loop-at.at c.args.text.now in
-    let short : length read ≤ 18 =
-    omega (
-      arith,
-      c.min-most.ensures,
-      c.loop-at.invariant.within,
-      length-take c.loop-at.at c.args.text.now,
-    ) in
-    let few : digits_value 10 read < 1000000000000000000 =
-    few_digits read 18 c.loop-at.invariant.digits short in
+    let few : digits_value 10 (take c.loop-at.at c.args.text.now) < 1000000000000000000 =
+    few_digits c.args.text.now c.loop-at.at 18 c.loop-at.invariant.digits
+    (omega (arith, c.min-most.ensures, c.loop-at.invariant.within)) in
     omega (arith, c.loop-at.invariant.value)
