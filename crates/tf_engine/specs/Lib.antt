@@ -8,7 +8,7 @@ pub mod Runs
 pub mod VerdictLine
 pub mod Checking
 pub mod Headline
-pub mod Charting
+pub mod Drawing
 -- within the crate
 pub mod Passed
 pub mod Parts

@@ -7,6 +7,7 @@ pub mod request;
 pub mod run_check;
 pub mod run_gantt;
 pub mod run_solve;
+pub mod schedule_said;
 pub mod sheet_said;
 pub mod solve;
 pub mod task_for;

@@ -1,22 +1,16 @@
 //! Drawing an answer, from bytes to bytes.
-ghost use Rattle.std.specs.Prelude.{◌≡◌, ◌+◌, ◌≤◌, true, false, OnOk, IfOk, IfErr};
+ghost use Rattle.std.specs.Prelude.{◌≡◌, ◌+◌, ◌≤◌, true, false, OnOk, IfErr};
 ghost use Rattle.tf_model.specs.Limit.{most_bytes};
 ghost use Rattle.std.specs.Io.KnownBytes.{IsAtEnd};
 ghost use Rattle.tf_text.specs.Counted.{inner_of, pulled_of, has_failed, use_of, ConsumesAtMost};
 ghost use Rattle.tf_engine.specs.Faults.{stop_of, is_failure, is_of_whole_answer};
-ghost use Rattle.tf_engine.specs.Charting.{IsDrawingOf, IsOfPieces};
-ghost use Rattle.tf_engine.specs.Parts.{StopsBy};
-ghost use Rattle.std.specs.List.Sorted.{IsPermutation};
-ghost use Rattle.tf_schedule.specs.Schedule.{IsSchedule};
+ghost use Rattle.tf_engine.specs.Drawing.{IsDrawingOf, IsChart};
 
 use crate::fault::RunFault;
+use crate::schedule_said::schedule_said;
 use crate::sheet_said::sheet_said;
 use std::alloc::Allocator;
 use std::io::{Read, Write};
-use tf_model::memory::OutOfMemory;
-use tf_schedule::piece::Piece;
-use tf_schedule::schedule::Schedule;
-use tf_text::answer::sheet::Sheet;
 use tf_text::chart::{MOST_COLUMNS, write_gantt};
 use tf_text::counted::Counted;
 
@@ -33,7 +27,7 @@ pub fn run_gantt<A: Allocator + Copy, R: Read, W: Write>(
     columns: u32,
 ) -> Result<(), RunFault<A>>
     requires columns { (1 ≤ columns) × (columns ≤ MOST_COLUMNS) }
-    ensures outcome { IsDrawingOf columns (use_of R.remaining reader.old reader.new)
+    ensures outcome { IsDrawingOf (IsChart columns) (use_of R.remaining reader.old reader.new)
         (use_of W.contents writer.old writer.new) result }
     ensures unfailed { OnOk result
         ((has_failed reader.new ≡ false) × (has_failed writer.new ≡ false)) }
@@ -49,23 +43,7 @@ pub fn run_gantt<A: Allocator + Copy, R: Read, W: Write>(
     ensures counted { pulled_of reader.new ≤ pulled_of reader.old + (most_bytes + 1) }
 {
     let sheet = sheet_said(alloc, reader)?;
-    let schedule = schedule_of(alloc, &sheet)?;
+    let schedule = schedule_said(alloc, &sheet)?;
     write_gantt(writer, &schedule, sheet.machines, columns)?;
     Ok(())
-}
-
-// The schedule of the answer's pieces.
-fn schedule_of<A: Allocator + Copy>(alloc: A, sheet: &Sheet<A>) -> Result<Schedule<A>, RunFault<A>>
-    ensures kept { IfOk result (λ s. IsPermutation sheet.now.answer.pieces s) }
-    ensures schedule { IfOk result IsSchedule }
-    ensures refused { IfErr result (λ e. StopsBy (IsOfPieces sheet.now.answer.pieces) (stop_of e)) }
-{
-    let pieces = copied(alloc, sheet.answer.pieces.as_slice())?;
-    Ok(Schedule::new(pieces)?)
-}
-
-fn copied<A: Allocator>(alloc: A, pieces: &[Piece]) -> Result<Vec<Piece, A>, OutOfMemory>
-    ensures { IfOk result (λ copy. copy.items ≡ pieces.now) }
-{
-    Ok(pieces.to_vec(alloc)?)
 }

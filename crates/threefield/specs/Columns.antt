@@ -1,20 +1,27 @@
 -- How many columns a chart may have.
 use Rattle.std.specs.Prelude.{◌≤◌}
 use Rattle.tf_text.specs.declared.chart.TheConstants.{MOST_COLUMNS}
+use Rattle.threefield.specs.declared.options.Drawing.{Drawing}
+use Rattle.threefield.specs.declared.options.Drawing.TheVariants.{Chart, Picture}
 use Rattle.threefield.specs.declared.options.Work.{Work as Asking}
 use Rattle.threefield.specs.declared.options.Work.TheVariants.{Solve, Check, Evaluate, Gantt, Problems}
 use Rattle.threefield.specs.declared.options.Asked.{Asked}
 use Rattle.threefield.specs.declared.options.Asked.TheVariants.{Work}
 
--- a drawing has some columns, and no more than there is room for
-abbrev pub HasWidth : Asking → Type 0
-HasWidth (Solve options layout) = Unit {0}
-HasWidth (Check options answer) = Unit {0}
-HasWidth (Evaluate options answer) = Unit {0}
-HasWidth (Gantt answer columns explain) = (1 ≤ columns) × (columns ≤ MOST_COLUMNS)
-HasWidth (Problems table) = Unit {0}
+-- a chart has some columns, and no more than there is room for
+abbrev pub HasWidth : Drawing → Type 0
+HasWidth (Chart columns) = (1 ≤ columns) × (columns ≤ MOST_COLUMNS)
+HasWidth Picture = Unit {0}
 
--- the same of what a command line asks for
+-- the same of what is asked for
+abbrev pub IsSized : Asking → Type 0
+IsSized (Solve options layout) = Unit {0}
+IsSized (Check options answer) = Unit {0}
+IsSized (Evaluate options answer) = Unit {0}
+IsSized (Gantt answer drawing explain) = HasWidth drawing
+IsSized (Problems table) = Unit {0}
+
+-- and of what a command line asks for
 abbrev pub HasColumns : Asked → Type 0
-HasColumns (Work work) = HasWidth work
+HasColumns (Work work) = IsSized work
 HasColumns _ = Unit {0}

@@ -7,9 +7,13 @@ use Rattle.tf_engine.specs.declared.run_check.Checked.{Checked}
 use Rattle.tf_engine.specs.RequestData.{RequestData}
 use Rattle.tf_engine.specs.Headline.{IsRunOf}
 use Rattle.tf_engine.specs.Checking.{IsCheckOf}
-use Rattle.tf_engine.specs.Charting.{IsDrawingOf}
+use Rattle.tf_text.specs.AnswerText.{SheetData}
+use Rattle.tf_engine.specs.Drawing.{IsDrawingOf, IsChart}
+use Rattle.tf_picture.specs.Picture.{IsPicture}
 use Rattle.tf_evaluate.specs.declared.evaluation.Standing.{Standing}
 use Rattle.tf_evaluate.specs.RunEvaluating.{IsEvaluationOf}
+use Rattle.threefield.specs.declared.options.Drawing.{Drawing}
+use Rattle.threefield.specs.declared.options.Drawing.TheVariants.{Chart, Picture}
 use Rattle.threefield.specs.Statuses.{status_of, status_of_check, status_of_standing}
 
 -- after a run: 0 where it gave an answer, and otherwise the status of its fault
@@ -39,9 +43,14 @@ pub record EndsChecking (request : RequestData) (instance answer writer : Device
   pub outcome : IsCheckOf request instance answer writer run
   pub ends : status ≡ status_of_checking run
 
-pub record EndsDrawing (columns : ℕ) (answer writer : DeviceUse) (status : ℕ) : Type 0 where
+-- what such a drawing is
+abbrev pub drawn_as : Drawing → SheetData → List ℕ → Type 0
+drawn_as (Chart columns) = IsChart columns
+drawn_as Picture = IsPicture
+
+pub record EndsDrawing (drawing : Drawing) (answer writer : DeviceUse) (status : ℕ) : Type 0 where
   pub run : Result (Unit {0}) (RunFault Global)
-  pub outcome : IsDrawingOf columns answer writer run
+  pub outcome : IsDrawingOf (drawn_as drawing) answer writer run
   pub ends : status ≡ status_of_run run
 
 pub record EndsEvaluating (request : RequestData) (instance answer writer : DeviceUse) (status : ℕ)

@@ -1,14 +1,13 @@
 //! The commands, over whatever gives and takes bytes.
 ghost use Rattle.threefield.specs.Asking.{requested};
-ghost use Rattle.threefield.specs.Columns.{HasWidth};
+ghost use Rattle.threefield.specs.Columns.{HasWidth, IsSized};
 ghost use Rattle.threefield.specs.Ending.{EndsSolving, EndsChecking, EndsDrawing, OverText};
-ghost use Rattle.std.specs.Prelude.{◌≡◌, ◌≤◌};
+ghost use Rattle.std.specs.Prelude.{◌≡◌};
 ghost use Rattle.tf_text.specs.Counted.{use_of};
-ghost use Rattle.tf_text.specs.declared.chart.TheConstants.{MOST_COLUMNS};
 
 use crate::evaluated::evaluate_named;
 use crate::explained::{Texts, not_read, tell, whole};
-use crate::options::{Options, Telling, Work};
+use crate::options::{Drawing, Options, Telling, Work};
 use crate::report::{report, say_device, say_memory, status_of_check};
 use crate::source::Sources;
 use std::alloc::Global;
@@ -21,6 +20,7 @@ use tf_explain::explain;
 use tf_explain::solved::solved_problems;
 use tf_explain::source::Source;
 use tf_model::instance::Instance;
+use tf_picture::run_picture::run_picture;
 use tf_read::fault::ReadFault;
 use tf_read::job_table::read_table;
 use tf_text::answer::layout::Layout;
@@ -34,7 +34,7 @@ pub fn perform<S: Sources, W: Write, E: Write>(
     writer: &mut Counted<W>,
     errors: &mut Counted<E>,
 ) -> u8
-    requires { HasWidth work.now }
+    requires { IsSized work.now }
 {
     match work {
         Work::Solve(options, layout) => {
@@ -48,14 +48,14 @@ pub fn perform<S: Sources, W: Write, E: Write>(
         }
         Work::Gantt {
             answer,
-            columns,
+            drawing,
             explain: false,
-        } => gantt_named(alloc, sources, answer, *columns, writer, errors),
+        } => gantt_named(alloc, sources, answer, *drawing, writer, errors),
         Work::Gantt {
             answer,
-            columns,
+            drawing,
             explain: true,
-        } => gantt_explained(alloc, sources, answer, *columns, writer, errors),
+        } => gantt_explained(alloc, sources, answer, *drawing, writer, errors),
         Work::Problems(None) => list(alloc, None, writer, errors),
         Work::Problems(Some(name)) => list_named(alloc, sources, name, writer, errors),
     }
@@ -113,17 +113,17 @@ fn gantt_named<S: Sources, W: Write, E: Write>(
     alloc: Global,
     sources: &S,
     answer: &str,
-    columns: u32,
+    drawing: Drawing,
     writer: &mut Counted<W>,
     errors: &mut Counted<E>,
 ) -> u8
-    requires { (1 ≤ columns) × (columns ≤ MOST_COLUMNS) }
+    requires { HasWidth drawing }
 {
     let Ok(answer) = sources.open(answer) else {
         return say_device(errors);
     };
     let mut answer = Counted::new(answer);
-    gantt(alloc, &mut answer, columns, writer, errors, None)
+    gantt(alloc, &mut answer, drawing, writer, errors, None)
 }
 
 /// Solves a text that is read first, and explains what came of it.
@@ -226,11 +226,11 @@ fn gantt_explained<S: Sources, W: Write, E: Write>(
     alloc: Global,
     sources: &S,
     answer: &str,
-    columns: u32,
+    drawing: Drawing,
     writer: &mut Counted<W>,
     errors: &mut Counted<E>,
 ) -> u8
-    requires { (1 ≤ columns) × (columns ≤ MOST_COLUMNS) }
+    requires { HasWidth drawing }
 {
     match whole(alloc, sources, answer) {
         Ok(text) => {
@@ -238,7 +238,7 @@ fn gantt_explained<S: Sources, W: Write, E: Write>(
                 name: answer,
                 text: text.as_slice(),
             };
-            gantt_text(alloc, answer, columns, writer, errors)
+            gantt_text(alloc, answer, drawing, writer, errors)
         }
         Err(error) => not_read(alloc, answer, &error, errors),
     }
@@ -248,16 +248,16 @@ fn gantt_explained<S: Sources, W: Write, E: Write>(
 fn gantt_text<W: Write, E: Write>(
     alloc: Global,
     answer: Source<'_>,
-    columns: u32,
+    drawing: Drawing,
     writer: &mut Counted<W>,
     errors: &mut Counted<E>,
 ) -> u8
-    requires { (1 ≤ columns) × (columns ≤ MOST_COLUMNS) }
-    ensures { OverText answer.entry.text.now (λ reader. EndsDrawing columns reader
+    requires { HasWidth drawing }
+    ensures { OverText answer.entry.text.now (λ reader. EndsDrawing drawing reader
         (use_of W.contents writer.old writer.new) result) }
 {
     let mut reader = Counted::new(answer.text);
-    gantt(alloc, &mut reader, columns, writer, errors, Some(answer))
+    gantt(alloc, &mut reader, drawing, writer, errors, Some(answer))
 }
 
 /// Lists the problems that the table of that name has the fields for.
@@ -386,16 +386,20 @@ fn check<R: Read, S: Read, W: Write, E: Write>(
 fn gantt<R: Read, W: Write, E: Write>(
     alloc: Global,
     answer: &mut Counted<R>,
-    columns: u32,
+    drawing: Drawing,
     writer: &mut Counted<W>,
     errors: &mut Counted<E>,
     explained: Option<Source<'_>>,
 ) -> u8
-    requires { (1 ≤ columns) × (columns ≤ MOST_COLUMNS) }
-    ensures { EndsDrawing columns (use_of R.remaining answer.old answer.new)
+    requires { HasWidth drawing }
+    ensures { EndsDrawing drawing (use_of R.remaining answer.old answer.new)
         (use_of W.contents writer.old writer.new) result }
 {
-    match run_gantt(alloc, answer, writer, columns) {
+    let drawn = match drawing {
+        Drawing::Chart { columns } => run_gantt(alloc, answer, writer, columns),
+        Drawing::Picture => run_picture(alloc, answer, writer),
+    };
+    match drawn {
         Ok(()) => 0,
         Err(fault) => {
             let status = report(&fault, errors);

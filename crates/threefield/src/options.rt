@@ -78,6 +78,15 @@ impl Options<'_> {
     }
 }
 
+/// How the schedule of an answer is drawn.
+#[derive(Clone, Copy, Debug, PartialEq, Eq)]
+pub enum Drawing {
+    /// As a chart of letters, in so many columns at most.
+    Chart { columns: u32 },
+    /// As a picture in SVG.
+    Picture,
+}
+
 /// What a command line that is well formed asks for.
 #[derive(Drop)]
 pub enum Work<'a> {
@@ -87,10 +96,10 @@ pub enum Work<'a> {
     Check(Options<'a>, &'a str),
     /// Tell how good the answer of this name is.
     Evaluate(Options<'a>, &'a str),
-    /// Draw the answer of this name, in so many columns at most.
+    /// Draw the answer of this name.
     Gantt {
         answer: &'a str,
-        columns: u32,
+        drawing: Drawing,
         explain: bool,
     },
     /// List the problems that are solved, with a job table those that it has the fields for.
@@ -139,6 +148,7 @@ Exit status: 0 best, 1 does not fit, 2 refused, 3 want of memory,
 
 const ABOUT_GANTT: &str = "\
 Example: threefield solve -p \"1||sumC\" table.txt | threefield gantt -c 40
+         threefield gantt --svg answer.txt > answer.svg
 
 Exit status: 0 drawn, 2 refused, 3 want of memory,
              4 a file or a device failed, 5 the command line is wrong.";
@@ -211,6 +221,11 @@ fn gantt_command<'a>(alloc: Global) -> Result<Command<'a>, AllocError> {
         .help("The most columns of the chart, 1 to 1000")
         .allow_negative_numbers(true)
         .default_value("72");
+    let svg = Arg::new(alloc, "svg")
+        .long("svg")
+        .help("Draws a picture, as SVG, in place of the chart")
+        .action(ArgAction::SetTrue)
+        .conflicts_with("columns")?;
     let answer = Arg::new(alloc, "ANSWER")
         .help("The answer: a file, or - for standard input")
         .default_value("-");
@@ -218,6 +233,7 @@ fn gantt_command<'a>(alloc: Global) -> Result<Command<'a>, AllocError> {
         .about("Draws the schedule of an answer, a line for each machine")
         .after_help(ABOUT_GANTT)
         .arg(columns)?
+        .arg(svg)?
         .arg(explain(alloc))?
         .arg(answer)
 }
@@ -346,14 +362,19 @@ fn gantt_in<'a>(given: &ArgMatches<'a>) -> Asked<'a>
     let (Some(answer), Some(word)) = (given.get_str("ANSWER"), given.get_str("columns")) else {
         return Asked::NoMemory;
     };
-    match number_within(word, 1, MOST_COLUMNS) {
-        Some(columns) => Asked::Work(Work::Gantt {
-            answer,
-            columns,
-            explain: given.get_flag("explain"),
-        }),
-        None => Asked::Unfit("--columns takes a number from 1 to 1000"),
-    }
+    let drawing = if given.get_flag("svg") {
+        Drawing::Picture
+    } else {
+        match number_within(word, 1, MOST_COLUMNS) {
+            Some(columns) => Drawing::Chart { columns },
+            None => return Asked::Unfit("--columns takes a number from 1 to 1000"),
+        }
+    };
+    Asked::Work(Work::Gantt {
+        answer,
+        drawing,
+        explain: given.get_flag("explain"),
+    })
 }
 
 // What names the problem and the instance, or what is asked for in place of it.

@@ -376,6 +376,7 @@ fn a_drawing_has_so_many_columns(rt: HostRuntime) -> Result<(), Fail> {
     let three = b"length 6\nmachine 1 |112|\nmachine 2 |233|\n";
     writes(&rt, &["gantt", "--columns", "3", "answer"], 0, three)?;
     let no_answer = b"threefield: refused: answer BadLine 1\n";
+    says(&rt, &["gantt", "--svg", "-"], 2, no_answer)?;
     says(&rt, &["gantt", "-"], 2, no_answer)
 }
 

@@ -1,4 +1,4 @@
-use super::{Asked, FormOption, Work, command, understand};
+use super::{Asked, Drawing, FormOption, Work, command, understand};
 use std::alloc::AllocError;
 use std::test::Fail;
 use tf_text::answer::layout::Layout;
@@ -281,29 +281,47 @@ fn lines_that_are_misused(rt: HostRuntime) -> Result<(), Fail> {
     )
 }
 
-fn draws(rt: &HostRuntime, line: &[&str], wanted: u32) -> Result<(), Fail> {
+fn draws(rt: &HostRuntime, line: &[&str], wanted: Drawing) -> Result<(), Fail> {
     let words = words(rt, line)?;
     match understand(command(rt.alloc())?, words.as_slice()) {
         Asked::Work(
             Work::Gantt {
                 answer,
-                columns,
+                drawing,
                 ..
             },
-        ) => { ensure(answer == "file" && columns == wanted, "another drawing") }
+        ) => { ensure(answer == "file" && drawing == wanted, "another drawing") }
         _ => Err(Fail::new("no drawing")),
     }
 }
 
 #[test]
 fn charts(rt: HostRuntime) -> Result<(), Fail> {
-    draws(&rt, &["gantt", "file"], 72)?;
-    draws(&rt, &["gantt", "--columns", "1", "file"], 1)?;
-    draws(&rt, &["gantt", "--columns=1000", "file"], 1_000)?;
+    draws(&rt, &["gantt", "file"], Drawing::Chart { columns: 72 })?;
+    draws(
+        &rt,
+        &["gantt", "--columns", "1", "file"],
+        Drawing::Chart { columns: 1 },
+    )?;
+    draws(
+        &rt,
+        &["gantt", "--columns=1000", "file"],
+        Drawing::Chart { columns: 1_000 },
+    )?;
     is_unfit(&rt, &["gantt", "--columns=0", "file"])?;
     is_unfit(&rt, &["gantt", "--columns=1001", "file"])?;
     is_unfit(&rt, &["gantt", "-c", "-1", "file"])?;
-    draws(&rt, &["gantt", "-c", "40", "file"], 40)
+    draws(
+        &rt,
+        &["gantt", "-c", "40", "file"],
+        Drawing::Chart { columns: 40 },
+    )
+}
+
+#[test]
+fn pictures(rt: HostRuntime) -> Result<(), Fail> {
+    draws(&rt, &["gantt", "--svg", "file"], Drawing::Picture)?;
+    is_misused(&rt, &["gantt", "--svg", "--columns=40", "file"])
 }
 
 #[test]

@@ -15,13 +15,17 @@ use Rattle.tf_engine.specs.declared.fault.RunFault.{RunFault}
 use Rattle.tf_engine.specs.Faults.{Refused, ByAnswer, ByPieces, stop_of}
 use Rattle.tf_engine.specs.Runs.{Leaves}
 
--- the text says a sheet whose pieces are sound and claim no cell twice, and `out` is its chart
-pub record IsChartOf (text : List ℕ) (columns : ℕ) (out : List ℕ) : Type 0 where
+-- the text says a sheet whose pieces are sound and claim no cell twice, and `out` shows it
+pub record IsShown (Shows : SheetData → List ℕ → Type 0) (text out : List ℕ) : Type 0 where
   pub sheet : SheetData
   pub said : answer_in text ≡ Ok sheet
   pub sound : All IsPiece sheet.answer.pieces
   pub once : NoneTwice sheet.answer.pieces
-  pub drawn : out ≡ chart_text sheet.answer.pieces sheet.machines columns
+  pub shown : Shows sheet out
+
+-- a chart shows a sheet, in so many columns at most
+abbrev pub IsChart : ℕ → SheetData → List ℕ → Type 0
+IsChart columns sheet out = out ≡ chart_text sheet.answer.pieces sheet.machines columns
 
 -- the refusal is the first fault of the pieces
 abbrev pub IsOfPieces : List Piece → Refused → Type 0
@@ -35,25 +39,25 @@ pub record IsUndrawn (text : List ℕ) (refused : Refused) : Type 0 where
   pub first : IsOfPieces sheet.answer.pieces refused
 
 -- the first fault of the text, or of the pieces that it says
-abbrev pub IsRefusedChart : List ℕ → Refused → Type 0
-IsRefusedChart text refused =
+abbrev pub IsRefusedDrawing : List ℕ → Refused → Type 0
+IsRefusedDrawing text refused =
     ((fault : AnswerFault) × (refused ≡ ByAnswer fault) × (answer_in text ≡ Err fault))
     ⊎ IsUndrawn text refused
 
--- A drawing run writes the chart, or gives the one refusal. Where memory was wanting it gives
--- neither; where the reader failed nothing was written, and where the writer failed a prefix of the
--- chart was.
-abbrev pub ChartOutcome : {A : Type 0} → ℕ → List ℕ → DeviceUse → DeviceUse
-    → Result (Unit {0}) (RunFault A) → Type 0
-ChartOutcome columns text reader writer (Ok _) =
-    (out : List ℕ) × IsChartOf text columns out × Appends writer.before writer.after out
-ChartOutcome columns text reader writer (Err e) =
-    Leaves (IsChartOf text columns) (IsRefusedChart text) (reader.failed ≡ true) writer (stop_of e)
+-- A drawing run writes what shows the sheet, or gives the one refusal. Where memory was wanting it
+-- gives neither; where the reader failed nothing was written, and where the writer failed a prefix
+-- of what shows the sheet was.
+abbrev pub DrawingOutcome : {A : Type 0} → (SheetData → List ℕ → Type 0) → List ℕ → DeviceUse
+    → DeviceUse → Result (Unit {0}) (RunFault A) → Type 0
+DrawingOutcome Shows text reader writer (Ok _) =
+    (out : List ℕ) × IsShown Shows text out × Appends writer.before writer.after out
+DrawingOutcome Shows text reader writer (Err e) =
+    Leaves (IsShown Shows text) (IsRefusedDrawing text) (reader.failed ≡ true) writer (stop_of e)
 
 -- The outcome is that of a text, which is all bytes of the reader up to its end where they are
 -- known.
-pub record IsDrawingOf {A : Type 0} (columns : ℕ) (reader writer : DeviceUse)
-    (result : Result (Unit {0}) (RunFault A)) : Type 0 where
+pub record IsDrawingOf {A : Type 0} (Shows : SheetData → List ℕ → Type 0)
+    (reader writer : DeviceUse) (result : Result (Unit {0}) (RunFault A)) : Type 0 where
   pub text : List ℕ
   pub is_all : IsTextOf reader.before text
-  pub outcome : ChartOutcome columns text reader writer result
+  pub outcome : DrawingOutcome Shows text reader writer result

@@ -1,0 +1,21 @@
+use Rattle.std.proofs.Common.{◌≡◌, ◌++◌, ap, sym, subst, ◌∙◌, arith}
+use Rattle.std.specs.List.{All, flat_map}
+use Rattle.tf_schedule.specs.Schedule.{IsPiece}
+use Rattle.tf_schedule.specs.Drawing.{greatest_stop}
+use Rattle.tf_picture.specs.Picture.{bar_if_shown}
+use Rattle.tf_picture.proofs.Room.{all_within}
+use Rattle.tf_picture.proofs.picture.picture.Goals as goal
+
+pub push_bars-requires : goal.push_bars-requires
+push_bars-requires g c =
+    let same = ap greatest_stop c.pieces.ensures.all ∙ sym c.of-frame.ensures.length in
+    all_within c.of-frame.result.length c.pieces.result.now
+    (subst (All IsPiece) (sym c.pieces.ensures.all) c.pieces.ensures.schedule.sound)
+    (omega (arith, same))
+
+pub behind-requires : goal.behind-requires
+behind-requires g c =
+    let same = ap greatest_stop c.pieces-2.ensures.all ∙ sym c.of-frame.ensures.length in
+    all_within c.of-frame.result.length c.pieces-2.result.now
+    (subst (All IsPiece) (sym c.pieces-2.ensures.all) c.pieces-2.ensures.schedule.sound)
+    (omega (arith, same))

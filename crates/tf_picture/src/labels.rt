@@ -1,0 +1,50 @@
+//! The numbers in the bars.
+ghost use Rattle.std.specs.Prelude.{◌≤◌, OnOk};
+ghost use Rattle.std.specs.List.{All};
+ghost use Rattle.tf_picture.specs.Within.{IsWithin};
+
+use crate::bars::width;
+use crate::frame::Frame;
+use crate::writing::push_label;
+use itoa::Buffer;
+use std::alloc::Allocator;
+use tf_model::memory::OutOfMemory;
+use tf_schedule::piece::Piece;
+
+/// Adds the job's number for each piece on a machine of the frame whose bar has room for it.
+pub fn push_labels<A: Allocator>(
+    text: &mut Vec<u8, A>,
+    frame: &Frame,
+    pieces: &[Piece],
+) -> Result<(), OutOfMemory>
+    requires { All (IsWithin frame.now.length) pieces.now }
+{
+    for piece in pieces {
+        if piece.machine.get() <= frame.machines && has_room(frame, piece) {
+            push_job(text, frame, piece)?;
+        }
+    }
+    Ok(())
+}
+
+fn push_job<A: Allocator>(
+    text: &mut Vec<u8, A>,
+    frame: &Frame,
+    piece: &Piece,
+) -> Result<(), OutOfMemory>
+    requires { IsWithin frame.now.length piece.now }
+{
+    let from = frame.across(piece.start as u64);
+    let to = frame.across(piece.stop as u64);
+    let y = frame.line(piece.machine.get());
+    push_label(text, (from + to) / 2, y, u64::from(piece.job.get()))
+}
+
+// Whether the job's number is less wide than the bar.
+fn has_room(frame: &Frame, piece: &Piece) -> bool
+    requires { IsWithin frame.now.length piece.now }
+{
+    let mut digits = Buffer::new();
+    let wide = digits.format(piece.job.get()).len() as u64 * frame.font() * 13 / 20 + 300;
+    wide <= width(frame, piece)
+}

@@ -1,0 +1,52 @@
+//! The picture of a schedule.
+ghost use Rattle.std.specs.Prelude.{IfOk};
+ghost use Rattle.std.specs.List.{All};
+ghost use Rattle.std.specs.List.Sorted.{IsPermutation};
+ghost use Rattle.tf_picture.specs.Picture.{IsPicture};
+ghost use Rattle.tf_picture.specs.Within.{IsWithin};
+
+use crate::bars::push_bars;
+use crate::frame::Frame;
+use crate::front::front;
+use crate::labels::push_labels;
+use crate::writing::push_part;
+use std::alloc::Allocator;
+use tf_model::memory::OutOfMemory;
+use tf_schedule::piece::Piece;
+use tf_schedule::schedule::Schedule;
+use tf_text::answer::sheet::Sheet;
+
+/// The picture of a sheet and of the schedule of its pieces, as SVG: a row for each of the sheet's
+/// machines, a bar for each piece on one of them, and an axis of time. Pieces on further machines
+/// are not shown, but their stops count in the length.
+pub fn picture<A: Allocator + Copy, B: Allocator, C: Allocator>(
+    alloc: A,
+    sheet: &Sheet<B>,
+    schedule: &Schedule<C>,
+) -> Result<Vec<u8, A>, OutOfMemory>
+    ensures { IfOk result (λ text. IsPermutation sheet.now.answer.pieces schedule.now →
+        IsPicture sheet.now text.items) }
+{
+    let frame = Frame::of(sheet.machines, schedule);
+    let mut text = front(alloc, sheet, &frame)?;
+    push_bars(&mut text, &frame, schedule.pieces())?;
+    let behind = behind(alloc, &frame, schedule.pieces())?;
+    text.extend_from_slice(behind.as_slice())?;
+    Ok(text)
+}
+
+// What stands behind the bars: the numbers in them, and the end.
+fn behind<A: Allocator>(
+    alloc: A,
+    frame: &Frame,
+    pieces: &[Piece],
+) -> Result<Vec<u8, A>, OutOfMemory>
+    requires { All (IsWithin frame.now.length) pieces.now }
+{
+    let mut text = Vec::from_slice(alloc, b"</g>\n<g text-anchor=\"middle\" font-size=\"")?;
+    push_part(&mut text, b"", frame.font())?;
+    text.extend_from_slice(b"\" pointer-events=\"none\">\n")?;
+    push_labels(&mut text, frame, pieces)?;
+    text.extend_from_slice(b"</g>\n</svg>\n")?;
+    Ok(text)
+}
