@@ -39,6 +39,34 @@ fn pieces_may_come_in_any_order(rt: HostRuntime) -> Result<(), Fail> {
 }
 
 #[test]
+fn a_piece_may_lie_between_two_others_of_its_job(rt: HostRuntime) -> Result<(), Fail> {
+    let between = [
+        "value 6",
+        "piece 1 1 0 1",
+        "piece 3 1 1 3",
+        "piece 1 1 3 5",
+        "piece 3 1 5 6",
+        "piece 3 2 0 1",
+        "piece 1 2 1 2",
+        "piece 2 2 2 6",
+        "cert load",
+    ];
+    judges(&rt, &between, "accepted\n")?;
+    // job 1 is on both machines at time 3, and job 3 at time 1
+    let clash = [
+        "value 6",
+        "piece 1 1 0 1",
+        "piece 3 1 1 3",
+        "piece 1 1 3 5",
+        "piece 3 1 5 6",
+        "piece 3 2 1 2",
+        "piece 1 2 3 4",
+        "cert load",
+    ];
+    judges(&rt, &clash, "rejected: JobTwice 1 3\n")
+}
+
+#[test]
 fn a_machine_that_waits_costs_its_time(rt: HostRuntime) -> Result<(), Fail> {
     let late = [
         "value 9",
