@@ -1,4 +1,4 @@
-//! Tests over the runs that take an answer: it is judged, drawn and evaluated.
+//! Tests over the runs that take an answer: it is judged, drawn, pictured and evaluated.
 #![tactic(auto)]
 
 #[cfg(test)]
@@ -7,3 +7,5 @@ mod checked;
 mod drawn;
 #[cfg(test)]
 mod evaluated;
+#[cfg(test)]
+mod pictured;

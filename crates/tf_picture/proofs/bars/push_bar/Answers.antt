@@ -1,5 +1,5 @@
-use Rattle.std.proofs.Common.{◌≡◌, ◌++◌, codes, rules}
-use Rattle.tf_picture.specs.Picture.{place, fill, edge, width, told}
+use Rattle.std.proofs.Common.{◌≡◌, ◌++◌, rules}
+use Rattle.tf_picture.specs.Picture.{fill, edge, width}
 use Rattle.tf_picture.proofs.Texts.{bar_written}
 use Rattle.tf_picture.proofs.bars.push_bar.Goals as goal
 

@@ -1,8 +1,7 @@
-use Rattle.std.proofs.Common.{◌≡◌, ◌++◌, ap, sym, subst, ◌∙◌, arith}
-use Rattle.std.specs.List.{All, flat_map}
+use Rattle.std.proofs.Common.{ap, sym, subst, ◌∙◌, arith}
+use Rattle.std.specs.List.{All}
 use Rattle.tf_schedule.specs.Schedule.{IsPiece}
 use Rattle.tf_schedule.specs.Drawing.{greatest_stop}
-use Rattle.tf_picture.specs.Picture.{bar_if_shown}
 use Rattle.tf_picture.proofs.Room.{all_within}
 use Rattle.tf_picture.proofs.picture.picture.Goals as goal
 

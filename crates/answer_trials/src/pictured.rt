@@ -1,0 +1,198 @@
+//! Pictures of answers.
+use refusing::Refusing;
+use std::alloc::{Allocator, Global};
+use std::test::Fail;
+use tf_engine::fault::RunFault;
+use tf_picture::run_picture::run_picture;
+use tf_schedule::schedule::PieceFault;
+use tf_text::answer::fault::AnswerFault;
+use tf_text::counted::Counted;
+use trials::devices::{Failure, Sink, Source, Way};
+use trials::examples::{WORKED, answer_in};
+use trials::growths::{Ended, refuse_each_growth};
+use trials::runs::{LAYOUTS, ensure};
+
+mod texts;
+
+use texts::{IDLE, NONE, ONE, Pictured};
+
+fn picture_into<A: Allocator + Copy>(
+    alloc: A,
+    answer: &[u8],
+    out: &mut Vec<u8>,
+) -> Result<(), RunFault<A>> {
+    let mut answer = Counted::new(answer);
+    let mut writer = Counted::new(out);
+    run_picture(alloc, &mut answer, &mut writer)
+}
+
+/// The picture of an answer.
+fn picture_of(rt: &HostRuntime, answer: &[u8]) -> Result<Vec<u8>, Fail> {
+    let mut out = Vec::new(rt.alloc());
+    let result = picture_into(rt.alloc(), answer, &mut out);
+    ensure(result == Ok(()), "refused")?;
+    Ok(out)
+}
+
+#[test]
+fn small_schedules_are_pictured_byte_for_byte(rt: HostRuntime) -> Result<(), Fail> {
+    for pictured in [ONE, IDLE, NONE] {
+        let out = picture_of(&rt, pictured.answer)?;
+        ensure(out.as_slice() == pictured.picture, pictured.name)?;
+    }
+    Ok(())
+}
+
+/// Whether the text has the words.
+fn has(text: &[u8], words: &[u8]) -> bool {
+    for at in 0..text.len() {
+        if text[at..].starts_with(words) {
+            return true;
+        }
+    }
+    false
+}
+
+/// In how many lines of a text the words are.
+fn lines_with(text: &[u8], words: &[u8]) -> usize {
+    let mut count: usize = 0;
+    for line in text.split(|byte| *byte == b'\n') {
+        if has(line, words) {
+            count = count.saturating_add(1);
+        }
+    }
+    count
+}
+
+#[test]
+fn each_piece_has_its_bar(rt: HostRuntime) -> Result<(), Fail> {
+    for example in WORKED.iter() {
+        for layout in LAYOUTS {
+            let answer = answer_in(&rt, example, layout)?;
+            let out = picture_of(&rt, &answer)?;
+            let pieces = lines_with(&answer, b"piece ");
+            ensure(lines_with(&out, b"<title>job ") == pieces, example.name)?;
+        }
+    }
+    Ok(())
+}
+
+#[test]
+fn short_pieces_are_seen(rt: HostRuntime) -> Result<(), Fail> {
+    let long = b"answer 1
+problem 1||sumC
+jobs 3
+machines 1
+value 0
+piece 1 1 0 1
+piece 2 1 1 3999999999999999999
+piece 3 1 3999999999999999999 4000000000000000000
+cert pairs
+end
+";
+    let out = picture_of(&rt, long)?;
+    ensure(lines_with(&out, b" width=\"50\" ") == 2, "no least width")?;
+    ensure(
+        lines_with(&out, b" stroke=\"none\"") == 2,
+        "an edge hides the fill",
+    )?;
+    ensure(
+        has(&out, b"<text x=\"59999\" y=\"10968\">2</text>"),
+        "no number",
+    )
+}
+
+#[test]
+fn pieces_on_further_machines_count_in_the_length_alone(rt: HostRuntime) -> Result<(), Fail> {
+    let further = b"answer 1
+problem 1||sumwT
+jobs 1
+machines 1
+value 0
+piece 1 1 0 1
+piece 1 7 0 3
+cert pairs
+end
+";
+    let out = picture_of(&rt, further)?;
+    ensure(
+        lines_with(&out, b"<title>job ") == 1,
+        "another number of bars",
+    )?;
+    ensure(has(&out, b"jobs 1, machines 1, length 3"), "another length")
+}
+
+fn refuses(rt: &HostRuntime, answer: &[u8], fault: RunFault) -> Result<(), Fail> {
+    let mut out = Vec::new(rt.alloc());
+    let result = picture_into(rt.alloc(), answer, &mut out);
+    ensure(result == Err(fault), "another outcome")?;
+    ensure(out.is_empty(), "something was written")
+}
+
+#[test]
+fn answers_at_fault_have_no_picture(rt: HostRuntime) -> Result<(), Fail> {
+    let cut = b"answer 1\nproblem P2|prmp|Cmax\njobs 3\nmachines 2\nvalue 6\n";
+    refuses(&rt, cut, RunFault::Answer(AnswerFault::EndsEarly))?;
+    let empty = b"answer 1
+problem P2|prmp|Cmax
+jobs 3
+machines 2
+value 6
+piece 1 1 2 2
+cert load
+end
+";
+    refuses(&rt, empty, RunFault::Pieces(PieceFault::EmptyPiece(1)))
+}
+
+#[test]
+fn a_writer_that_fails_has_a_prefix(rt: HostRuntime) -> Result<(), Fail> {
+    for call in 1..100u64 {
+        let failure = Failure {
+            call,
+            way: Way::Error,
+            heals: true,
+        };
+        let mut source = Source::new(IDLE.answer);
+        let mut sink = Sink::new(rt.alloc()).by(17).failing(failure);
+        let mut answer = Counted::new(&mut source);
+        let mut writer = Counted::new(&mut sink);
+        let result = run_picture(rt.alloc(), &mut answer, &mut writer);
+        ensure(result == Err(RunFault::Device), "no device fault")?;
+        ensure(sink.calls() == call, "it was called again")?;
+        ensure(
+            sink.taken().len() as u64 == (call - 1) * 17,
+            "another prefix",
+        )?;
+        ensure(IDLE.picture.starts_with(sink.taken()), "no prefix")?;
+    }
+    Ok(())
+}
+
+fn pictures_on(
+    rt: &HostRuntime,
+    heap: &Refusing<Global>,
+    pictured: &Pictured,
+) -> Result<Ended, Fail> {
+    let mut out = Vec::with_capacity(rt.alloc(), 5_000)?;
+    match picture_into(heap, pictured.answer, &mut out) {
+        Ok(()) => {
+            ensure(out.as_slice() == pictured.picture, pictured.name)?;
+            Ok(Ended::Answered)
+        }
+        Err(RunFault::OutOfMemory) => {
+            ensure(out.is_empty(), pictured.name)?;
+            Ok(Ended::OutOfMemory)
+        }
+        Err(_) => Err(Fail::new(pictured.name)),
+    }
+}
+
+#[test]
+fn schedules_are_pictured_whatever_growth_is_refused(rt: HostRuntime) -> Result<(), Fail> {
+    for pictured in [ONE, IDLE, NONE] {
+        let call = |heap: &Refusing<Global>| pictures_on(&rt, heap, &pictured);
+        ensure(refuse_each_growth(&rt, call)? > 3, pictured.name)?;
+    }
+    Ok(())
+}
