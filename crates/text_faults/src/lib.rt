@@ -14,6 +14,8 @@ mod notations;
 #[cfg(test)]
 mod runs;
 #[cfg(test)]
+mod spellings;
+#[cfg(test)]
 mod ties;
 #[cfg(test)]
 mod verdicts;

@@ -1,4 +1,4 @@
-//! Answers, and their pictures by hand.
+//! Answers, and their pictures as another program drew them.
 
 /// An answer and its picture.
 #[derive(Clone, Copy)]
