@@ -3,9 +3,9 @@
 
     python3 bench/bench.py [--runs R] [--jobs N] [CASE..]      in the root folder
 
-It needs the program that `rt run` in crates/threefield leaves in its out/, rustc and /usr/bin/time. Of `solve` and of `check` of each
-program's own answer it prints the least processor time (user and system) of the runs in milliseconds, and the peak memory
-in MB. The two answers are compared. A CASE is a problem in three-field notation, `wt`, `flow`, or one of the worst inputs
+It needs the program that `rt run` in crates/threefield leaves in its out/, rustc and /usr/bin/time. Of `solve` and of
+`check` of each program's own answer it prints the least processor time (user and system) of the runs in milliseconds, and
+the peak memory in MB. The two answers are compared. A CASE is a problem in three-field notation, `wt`, `flow`, or one of the worst inputs
 `steps`, `pieces`, `chain`, `star` and `alike`; without one all are run.
 """
 import argparse
