@@ -6,6 +6,8 @@
 #[cfg(test)]
 mod answers;
 #[cfg(test)]
+mod built_tasks;
+#[cfg(test)]
 mod flow_shops;
 #[cfg(test)]
 mod job_tables;

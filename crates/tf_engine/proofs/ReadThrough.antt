@@ -5,16 +5,18 @@ use Rattle.std.proofs.KnownBytes.{Consumes-whole}
 use Rattle.tf_model.specs.Limit.{most_bytes}
 use Rattle.tf_read.specs.declared.fault.ReadFault.{ReadFault}
 use Rattle.tf_read.specs.declared.fault.ReadFault.TheVariants as reads
-use Rattle.tf_read.specs.Faults.{Fails}
+use Rattle.tf_read.specs.Faults as read
 use Rattle.tf_text.specs.declared.counted.Counted.{Counted}
 use Rattle.tf_text.specs.Counted.{inner_of, pulled_of, has_failed, ConsumesAtMost}
 use Rattle.tf_text.specs.Input.{IsTextOf, is_device}
 use Rattle.tf_text.specs.declared.input.InputFault.{InputFault}
 use Rattle.tf_text.specs.declared.input.InputFault.TheVariants as inputs
 use Rattle.tf_engine.specs.declared.fault.RunFault.TheVariants.{Device, OutOfMemory}
-use Rattle.tf_engine.specs.Faults.{Refused, ByText, is_of_whole}
+use Rattle.tf_model.specs.Outcome.{◌>>=◌}
+use Rattle.tf_engine.specs.declared.fault.RunFault.{RunFault}
+use Rattle.tf_engine.specs.Faults.{Refused, ByText, Stop, Refuses, Fails, Wants, is_of_whole, stop_of}
 use Rattle.tf_engine.specs.Passed.{of_read, of_input}
-use Rattle.tf_engine.specs.Parts.{ReadsTo}
+use Rattle.tf_engine.specs.Parts.{ReadsTo, StopsReading}
 use Rattle.tf_engine.specs.Refusal.{refused_by}
 use Rattle.tf_engine.proofs.Unread.{text_for, long_text_for}
 
@@ -144,7 +146,7 @@ module _ (X A T : Type 0) (says : List ℕ → Result X ReadFault) (remaining : 
   pub reads_fails : (bytes : List ℕ) → length bytes ≤ most_bytes + 1 → Consumes first last bytes
       → IsAtEnd last ⊎ (most_bytes < length bytes) → has_failed new ≡ false
       → ((text : List ℕ) → most_bytes < length text → says text ≡ Err reads.TooLong)
-      → (e : ReadFault) → Fails e (says bytes)
+      → (e : ReadFault) → read.Fails e (says bytes)
       → ReadsTo {A = A} said remaining old new (Err (of_read e))
   reads_fails bytes few given ended ok long reads.OutOfMemory h =
       reads_wanting (inr ok) (bytes, few, given)
@@ -162,3 +164,27 @@ module _ (X A T : Type 0) (says : List ℕ → Result X ReadFault) (remaining : 
   reads_input inputs.TooLong more h long pulled =
       let (text, is, longer_than) = long_text_for first most_bytes (more refl) in
       faulty reads.TooLong text is (long text longer_than) h (λ r. cc) pulled
+
+-- what stops a part of a run stops what goes on from it
+pub reads_on : {X Y A T : Type 0} (f : X → Result Y Refused) (says : List ℕ → Result X Refused)
+    (remaining : T → Option (List ℕ)) (old new : Counted T) (e : RunFault A)
+    → ReadsTo says remaining old new (Err e)
+    → ReadsTo (λ text. says text >>= f) remaining old new (Err e)
+reads_on f says remaining old new e had = record {
+  text = had.text;
+  is_all = had.is_all;
+  given = stopped (stop_of e) had.given;
+  unfailed = tt;
+  unhidden = had.unhidden;
+  wanting = had.wanting;
+  ended = had.ended;
+  pulled = had.pulled;
+  counted = had.counted;
+}
+  where
+    stopped : (stop : Stop)
+        → StopsReading (λ refused. says had.text ≡ Err refused) (has_failed new ≡ true) stop
+        → StopsReading (λ refused. (says had.text >>= f) ≡ Err refused) (has_failed new ≡ true) stop
+    stopped (Refuses refused) h = ap (λ r. r >>= f) h
+    stopped Fails h = h
+    stopped Wants h = h

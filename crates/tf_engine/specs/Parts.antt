@@ -3,6 +3,9 @@ use Rattle.std.specs.Prelude.{◌≡◌, ℕ, ◌+◌, ◌≤◌, ◌⊎◌, tru
 use Rattle.std.specs.Io.KnownBytes.{IsAtEnd}
 use Rattle.tf_model.specs.InstanceData.{InstanceData}
 use Rattle.tf_model.specs.Limit.{most_bytes}
+use Rattle.tf_model.specs.Outcome.{◌>>=◌}
+use Rattle.tf_model.specs.Prepare.{prepared}
+use Rattle.tf_model.specs.SchedulingTask.{SchedulingTask}
 use Rattle.tf_model.specs.declared.problem.Problem.{Problem}
 use Rattle.tf_text.specs.declared.counted.Counted.{Counted}
 use Rattle.tf_text.specs.Counted.{inner_of, pulled_of, has_failed, ConsumesAtMost}
@@ -10,7 +13,7 @@ use Rattle.tf_text.specs.Input.{IsTextOf}
 use Rattle.tf_text.specs.AnswerText.{SheetData}
 use Rattle.tf_text.specs.AnswerReading.{answer_in}
 use Rattle.tf_engine.specs.declared.fault.RunFault.{RunFault}
-use Rattle.tf_engine.specs.Faults.{Refused, ByText, ByAnswer, Stop, Refuses, Fails, Wants, is_refusal, is_of_whole, stop_of}
+use Rattle.tf_engine.specs.Faults.{Refused, ByText, ByTask, ByAnswer, Stop, Refuses, Fails, Wants, is_refusal, is_of_whole, stop_of}
 use Rattle.tf_engine.specs.FormData.{FormData}
 use Rattle.tf_engine.specs.Refusal.{refused_by, instance_in}
 use Rattle.tf_engine.specs.RequestData.{RequestData}
@@ -57,6 +60,14 @@ pub record ReadsTo {X A T : Type 0} (says : List ℕ → Result X Refused)
 -- the instance that a text of this form holds, as a part of a run says it
 abbrev pub instance_said : FormData → List ℕ → Result InstanceData Refused
 instance_said form text = refused_by ByText (instance_in form text)
+
+-- the task of a problem and an instance, in the same way
+abbrev pub prepared_said : Problem → Option ℕ → InstanceData → Result SchedulingTask Refused
+prepared_said problem machines instance = refused_by ByTask (prepared instance problem machines)
+
+-- the task of a problem and the instance that a text of this form holds
+abbrev pub task_said : FormData → Problem → Option ℕ → List ℕ → Result SchedulingTask Refused
+task_said form problem machines text = instance_said form text >>= prepared_said problem machines
 
 -- a sheet that answers the request and the text, or why there is none
 abbrev pub GivesSheet : {A : Type 0} → RequestData → List ℕ → Result SheetData (RunFault A) → Type 0

@@ -2,7 +2,7 @@
 #![tactic(auto)]
 
 pub mod fault;
-mod instance_read;
+mod form_read;
 pub mod request;
 pub mod run_check;
 pub mod run_gantt;

@@ -4,8 +4,8 @@ ghost use Rattle.tf_engine.specs.Refusal.{problem_for, task_in};
 ghost use Rattle.tf_engine.specs.Parts.{GivesProblem, ReadsTo};
 
 use crate::fault::RunFault;
-use crate::instance_read::instance_read;
-use crate::request::Request;
+use crate::form_read::{flow_read, table_task_read, wt_read};
+use crate::request::{Form, Request};
 use std::alloc::Allocator;
 use std::io::Read;
 use tf_model::class::class_of;
@@ -35,7 +35,15 @@ pub fn task_read<A: Allocator + Copy, B: Allocator, R: Read>(
 ) -> Result<Task<A>, RunFault<A>>
     ensures { ReadsTo (task_in request.now problem.now) R.remaining reader.old reader.new result }
 {
-    let instance = instance_read(alloc, &request.form, reader)?;
-    let task = prepare(alloc, &instance, problem, request.machines)?;
-    Ok(task)
+    match &request.form {
+        Form::Table => table_task_read(alloc, problem, request.machines, reader),
+        Form::Wt { jobs, index } => {
+            let instance = wt_read(alloc, *jobs, *index, reader)?;
+            Ok(prepare(alloc, &instance, problem, request.machines)?)
+        }
+        Form::Flow { name, pair } => {
+            let instance = flow_read(alloc, name.as_str().as_bytes(), *pair, reader)?;
+            Ok(prepare(alloc, &instance, problem, request.machines)?)
+        }
+    }
 }

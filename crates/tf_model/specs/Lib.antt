@@ -20,3 +20,5 @@ pub mod CostLaws
 pub mod CountFor
 pub mod Distinct
 pub mod Complete
+pub mod Summed
+pub mod TaskBuilder

@@ -117,6 +117,13 @@ impl<A: Allocator> StepCost<A> {
         }
     }
 
+    // What is known of each cost.
+    pub(crate) fn is_sound(&self)
+        ensures { IsStepCost self.now }
+    {
+        let _ = &self.base;
+    }
+
     /// The same cost, kept elsewhere.
     pub fn copied<B: Allocator>(&self, alloc: B) -> Result<StepCost<B>, AllocError>
         ensures { IfOk result (λ copy. copy ≡ self.now × IsStepCost copy) }

@@ -2,14 +2,15 @@
 ghost use Rattle.std.specs.Prelude.{◌≡◌, ℕ, ◌+◌, ◌<◌, ◌≤◌, ◌^◌, ◌*◌, Ok, Err, Option, None, Some, length, map, take, position, MatchResult, IfOk, IfErr, All};
 ghost use Rattle.std.specs.Bool.{then_some};
 ghost use Rattle.std.specs.Option.{option_map, ForSome};
-ghost use Rattle.std.specs.List.{list_all, sum_by};
+ghost use Rattle.std.specs.List.{list_all};
 ghost use Rattle.tf_model.specs.Whole.{as_time};
 ghost use Rattle.tf_model.specs.StepFaults.{IsStepCost};
 ghost use Rattle.tf_model.specs.InstanceData.{IsInstance, first_with};
 ghost use Rattle.tf_model.specs.SchedulingTask.{SchedulingTask};
 ghost use Rattle.tf_model.specs.ClassTable.{is_shop, is_single, is_weighted, is_released, is_due, is_costed, is_ordered, is_sum};
-ghost use Rattle.tf_model.specs.Prepare.{is_too_many, machines_for, agreed, given, count_for, has_wrong_times, lacking, missing_from, has_zero_time, zero_time, data_of, steps_of, kept_costs, kept_arcs, task_of, work_of, greatest_of, is_too_large, jobs_refusal, prepared, Prepares};
+ghost use Rattle.tf_model.specs.Prepare.{is_too_many, machines_for, agreed, given, count_for, has_wrong_times, lacking, missing_from, has_zero_time, zero_time, data_of, steps_of, kept_costs, kept_arcs, task_of, is_too_large, jobs_refusal, prepared, Prepares};
 ghost use Rattle.tf_model.specs.Complete.{is_complete};
+ghost use Rattle.tf_model.specs.Summed.{HasSummed};
 ghost use Rattle.tf_model.specs.CountFor.{IsCountFor};
 ghost use Rattle.tf_model.specs.declared.prepare.Refusal.TheVariants.{OutOfMemory, TotalTooLarge};
 
@@ -18,7 +19,8 @@ use crate::cost::StepCost;
 use crate::ids::JobId;
 use crate::instance::{Instance, numbered};
 use crate::job::{Job, Times};
-use crate::limit::{LIMIT, MOST_COSTED_JOBS, MOST_JOBS, MOST_MACHINES};
+use crate::job_totals::JobTotals;
+use crate::limit::{MOST_COSTED_JOBS, MOST_JOBS, MOST_MACHINES};
 use crate::problem::Problem;
 use crate::task::{JobRow, Task};
 use std::alloc::{AllocError, AllocFailed, Allocator};
@@ -108,7 +110,7 @@ pub fn prepare<A: Allocator + Copy, B: Allocator>(
 }
 
 // Whether there are more jobs than the class allows.
-fn is_too_many(class: Class, jobs: usize) -> bool
+pub(crate) fn is_too_many(class: Class, jobs: usize) -> bool
     ensures { result ≡ is_too_many class jobs }
 {
     class.is_costed() && jobs > MOST_COSTED_JOBS
@@ -136,7 +138,7 @@ fn count_for(class: Class, m: u32) -> Result<u32, Refusal>
 }
 
 // The number of machines: a single machine ignores all that is given.
-fn machines_for(
+pub(crate) fn machines_for(
     class: Class,
     notation: Option<u32>,
     argument: Option<u32>,
@@ -220,7 +222,7 @@ fn zero_time_at<A: Allocator>(jobs: &[Job<A>]) -> Option<usize>
 }
 
 // Whether a job by itself is no reason to refuse.
-fn is_complete<A: Allocator>(class: Class, job: &Job<A>) -> bool
+pub(crate) fn is_complete<A: Allocator>(class: Class, job: &Job<A>) -> bool
     ensures { result ≡ is_complete class job.now }
 {
     !has_wrong_times(class, job)
@@ -242,7 +244,7 @@ fn as_time(number: i64) -> u64
 }
 
 // What the class uses of a job, and what is neutral for the rest.
-fn row_of<A: Allocator>(class: Class, job: &Job<A>) -> JobRow
+pub(crate) fn row_of<A: Allocator>(class: Class, job: &Job<A>) -> JobRow
     ensures { result ≡ data_of class job.now }
 {
     let (first, second) = match job.times {
@@ -270,58 +272,24 @@ fn row_of<A: Allocator>(class: Class, job: &Job<A>) -> JobRow
     }
 }
 
-// What the jobs come to, by what the class uses of them: their time, their weight and their last
-// release date.
-#[derive(Clone, Copy)]
-struct Totals {
-    work: u128,
-    weight: u128,
-    release: u64,
-}
-
-fn totals_of<A: Allocator>(class: Class, jobs: &[Job<A>]) -> Totals
+fn totals_of<A: Allocator>(class: Class, jobs: &[Job<A>]) -> JobTotals
     requires { length jobs.now ≤ MOST_JOBS }
-    ensures work { result.work ≡ work_of (map (data_of class) jobs.now) }
-    ensures weight { result.weight ≡ sum_by (λ job. job.weight) (map (data_of class) jobs.now) }
-    ensures release { result.release
-        ≡ greatest_of (map (λ job. job.release) (map (data_of class) jobs.now)) }
+    ensures { HasSummed result (map (data_of class) jobs.now) }
 {
-    let mut totals = Totals {
-        work: 0,
-        weight: 0,
-        release: 0,
-    };
+    let mut totals = JobTotals::new();
     for job in jobs {
-        let row = row_of(class, job);
-        totals.work += u128::from(row.first) + u128::from(row.second);
-        totals.weight += u128::from(row.weight);
-        totals.release = totals.release.max(row.release);
+        totals = totals.with(row_of(class, job));
     }
     totals
-}
-
-// Whether a total of the class is beyond the limit.
-fn is_too_large<A: Allocator>(class: Class, jobs: &[Job<A>]) -> bool
-    requires { length jobs.now ≤ MOST_JOBS }
-    ensures { result ≡ is_too_large class (map (data_of class) jobs.now) }
-{
-    const MOST: u128 = LIMIT as u128;
-    let totals = totals_of(class, jobs);
-    if totals.work > MOST || u128::from(totals.release) + totals.work > MOST {
-        return true;
-    }
-    class.is_sum()
-        && totals
-            .weight
-            .checked_mul(totals.work)
-            .is_none_or(|total| total > MOST)
 }
 
 fn total_refusal<A: Allocator>(class: Class, jobs: &[Job<A>]) -> Option<Refusal>
     requires { length jobs.now ≤ MOST_JOBS }
     ensures { result ≡ then_some (is_too_large class (map (data_of class) jobs.now)) TotalTooLarge }
 {
-    is_too_large(class, jobs).then_some(Refusal::TotalTooLarge)
+    totals_of(class, jobs)
+        .is_too_large(class)
+        .then_some(Refusal::TotalTooLarge)
 }
 
 // The first refusal for the jobs' sake. Mostly there is none, which one walk tells.

@@ -30,6 +30,11 @@ abbrev pub with_front : {Y : Type 0} → List Y → Result (List Y) ReadFault
 with_front front (Ok ys) = Ok (front ++ ys)
 with_front front (Err e) = Err e
 
+-- where nothing was read yet
+pub with_nothing : {Y : Type 0} (r : Result (List Y) ReadFault) → with_front [] r ≡ r
+with_nothing (Ok ys) = refl
+with_nothing (Err e) = refl
+
 regroup : {Y : Type 0} (front : List Y) (y : Y) (r : Result (List Y) ReadFault)
     → with_front front (r >>= λ others. Ok (y ∷ others)) ≡ with_front (front ++ y ∷ []) r
 regroup front y (Ok ys) = ap (λ zs. Ok zs) (sym (append_assoc front (y ∷ []) ys))

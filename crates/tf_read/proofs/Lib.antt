@@ -8,6 +8,7 @@ pub mod Firsts
 pub mod RoomKept
 pub mod Judged
 pub mod JobsJudged
+pub mod BodyRead
 pub mod TableRows
 pub mod WtRows
 pub mod Progress

@@ -23,7 +23,7 @@ use tf_words::number::{Number, number_of, plain_of};
 use tf_words::word::{behind_key, first_word, is};
 
 /// The bytes of the shortest line of a job, `job 1 p=1` and a line feed.
-const SHORTEST_LINE: usize = 10;
+pub(crate) const SHORTEST_LINE: usize = 10;
 
 fn machine_count(line: u32, word: &[u8]) -> Result<u32, ReadFault>
     ensures { result ≡ machines_named line (number word.now) }
@@ -74,7 +74,7 @@ fn job_at<A: Allocator + Copy>(alloc: A, k: u32, line: &Line<'_>) -> Result<Job<
 }
 
 /// Job k, whose line comes first, and the lines behind it.
-fn next_job<'a, A: Allocator + Copy>(
+pub(crate) fn next_job<'a, A: Allocator + Copy>(
     alloc: A,
     k: u32,
     lines: &Lines<'a>,
@@ -143,27 +143,32 @@ fn body_of<A: Allocator + Copy>(
     Ok(Instance::of(jobs, arcs, machines))
 }
 
+/// The number of machines that a table gives, and the lines of its jobs and arcs: what stands below
+/// the heading.
 #[tactic(auto, unfolding(crate::specs::JobTable::below_heading))]
-fn below_heading<A: Allocator + Copy>(alloc: A, lines: &Lines<'_>) -> Result<Instance<A>, ReadFault>
-    ensures { Gives (λ i. i) result (below_heading (word_lines_of lines.now)) }
+fn below_heading<'a>(lines: &Lines<'a>) -> Result<(Option<u32>, Lines<'a>), ReadFault>
+    ensures body { MatchResult result
+        (λ x. below_heading (word_lines_of lines.now) ≡ body_of x.0 (word_lines_of x.1))
+        (λ e. below_heading (word_lines_of lines.now) ≡ Err e) }
+    ensures count { IfOk result (λ x. count_fault x.0 ≡ None) }
 {
-    match lines.split_first() {
-        None => body_of(alloc, None, lines),
-        Some((line, after)) => match behind_key(line.bytes, b"machines") {
-            None => body_of(alloc, None, lines),
-            Some(text) => {
-                let machines = machines_at(line.number, text)?;
-                body_of(alloc, Some(machines), &after)
-            }
-        },
-    }
+    let Some((line, after)) = lines.split_first() else {
+        return Ok((None, *lines));
+    };
+    let Some(text) = behind_key(line.bytes, b"machines") else {
+        return Ok((None, *lines));
+    };
+    let machines = machines_at(line.number, text)?;
+    Ok((Some(machines), after))
 }
 
-/// The instance that a job table says, or its first fault: the kept lines from the first to the
-/// last, in each line the words from left to right.
+/// The same of a whole text.
 #[tactic(auto, unfolding(crate::specs::JobTable::job_table, crate::specs::JobTable::table_of, tf_words::specs::Words::kept_from))]
-pub fn read_table<A: Allocator + Copy>(alloc: A, text: &[u8]) -> Result<Instance<A>, ReadFault>
-    ensures { Gives (λ i. i) result (job_table text.now) }
+pub(crate) fn body_in(text: &[u8]) -> Result<(Option<u32>, Lines<'_>), ReadFault>
+    ensures body { MatchResult result
+        (λ x. job_table text.now ≡ body_of x.0 (word_lines_of x.1))
+        (λ e. job_table text.now ≡ Err e) }
+    ensures count { IfOk result (λ x. count_fault x.0 ≡ None) }
 {
     if text.len() > MOST_BYTES {
         return Err(ReadFault::TooLong);
@@ -174,7 +179,16 @@ pub fn read_table<A: Allocator + Copy>(alloc: A, text: &[u8]) -> Result<Instance
             if !is_heading(&heading) {
                 return Err(ReadFault::BadLine(heading.number));
             }
-            below_heading(alloc, &lines)
+            below_heading(&lines)
         }
     }
+}
+
+/// The instance that a job table says, or its first fault: the kept lines from the first to the
+/// last, in each line the words from left to right.
+pub fn read_table<A: Allocator + Copy>(alloc: A, text: &[u8]) -> Result<Instance<A>, ReadFault>
+    ensures { Gives (λ i. i) result (job_table text.now) }
+{
+    let (machines, lines) = body_in(text)?;
+    body_of(alloc, machines, &lines)
 }

@@ -15,6 +15,7 @@ mod numbers;
 mod pairs;
 mod room;
 mod sizes;
+pub mod table_task;
 mod usual;
 pub mod weighted_tardiness;
 mod word_feed;

@@ -5,7 +5,7 @@ use Rattle.tf_engine.specs.FormData.{InWt}
 use Rattle.tf_engine.specs.Parts.{ReadsTo, instance_said}
 use Rattle.tf_engine.proofs.ReadThrough.{reads_wanting, reads_failing, reads_value, reads_fault}
 use Rattle.tf_engine.proofs.Unread.{err_is, too_long}
-use Rattle.tf_engine.proofs.instance_read.wt_read.Goals as goal
+use Rattle.tf_engine.proofs.form_read.wt_read.Goals as goal
 
 pub returns-in_err-wt : goal.returns-in_err-wt
 returns-in_err-wt g c =

@@ -4,7 +4,7 @@ use Rattle.tf_engine.specs.FormData.{InFlow}
 use Rattle.tf_engine.specs.Parts.{ReadsTo, instance_said}
 use Rattle.tf_engine.proofs.ReadThrough.{reads_failing, reads_value, reads_fails}
 use Rattle.tf_engine.proofs.Unread.{err_is, too_long}
-use Rattle.tf_engine.proofs.instance_read.flow_read.Goals as goal
+use Rattle.tf_engine.proofs.form_read.flow_read.Goals as goal
 
 pub returns-in_err-drain : goal.returns-in_err-drain
 returns-in_err-drain g c =

@@ -1,0 +1,59 @@
+//! Tasks that a table gives without an instance on the way.
+use std::process::Abort;
+use std::test::Fail;
+use tf_model::ids::JobId;
+use tf_model::problem::{Env, Goal, Problem};
+use tf_read::table_task::table_task;
+
+const ORDERED: &[u8] = b"table 1\njob 1 p=3 w=2 d=4\njob 2 p=2 d=6\nprec 1 2\n";
+
+fn job_id(rt: &impl Abort, number: u32) -> JobId {
+    JobId::new(number).expect(rt, "a job")
+}
+
+#[test]
+fn a_task_has_what_its_class_uses(rt: HostRuntime) -> Result<(), Fail> {
+    let problem = Problem {
+        prec: true,
+        ..Problem::plain(Env::Single, Goal::Lmax)
+    };
+    let task = table_task(rt.alloc(), &problem, None, ORDERED).ok_or("it is refused")?;
+    let (first, second) = (job_id(&rt, 1), job_id(&rt, 2));
+    assert_eq!(rt; task.len(), 2);
+    assert_eq!(rt; task.machines(), 1);
+    assert_eq!(rt; (task.time(first), task.time(second)), (3, 2));
+    assert_eq!(rt; (task.due(first), task.due(second)), (4, 6));
+    assert_eq!(rt; task.weight(first), 1);
+    assert!(rt; task.arcs() == [(first, second)].as_slice());
+    Ok(())
+}
+
+#[test]
+fn a_task_has_no_arc_that_does_not_count(rt: HostRuntime) -> Result<(), Fail> {
+    let problem = Problem::plain(Env::Single, Goal::Lmax);
+    let task = table_task(rt.alloc(), &problem, None, ORDERED).ok_or("it is refused")?;
+    assert_eq!(rt; task.arcs().len(), 0);
+    Ok(())
+}
+
+#[test]
+fn a_table_that_is_refused_gives_no_task(rt: HostRuntime) -> Result<(), Fail> {
+    let single = Problem::plain(Env::Single, Goal::SumWC);
+    let parallel = Problem::plain(Env::Parallel, Goal::SumC);
+    let late = Problem::plain(Env::Single, Goal::SumWT);
+    let most = b"table 1\njob 1 p=4000000000000000000 w=1\njob 2 p=1 w=1\n";
+    let rows: [(Problem, Option<u32>, &[u8]); 8] = [
+        (single, None, b"table 2\njob 1 p=1 w=1\n"),
+        (single, None, b"table 1\njob 2 p=1 w=1\n"),
+        (single, None, b"table 1\njob 1 p=1\n"),
+        (single, None, b"table 1\njob 1 p=0 w=1\n"),
+        (single, None, b"table 1\njob 1 p=1,1 w=1\n"),
+        (single, None, most),
+        (parallel, Some(2), b"table 1\nmachines 3\njob 1 p=1\n"),
+        (late, None, b"table 1\njob 1 p=1 w=1 d=1\n"),
+    ];
+    for (problem, machines, text) in rows {
+        assert!(rt; table_task(rt.alloc(), &problem, machines, text).is_none());
+    }
+    Ok(())
+}
