@@ -1,13 +1,14 @@
--- The value of a step cost, found by a search among its steps.
-use Rattle.std.proofs.Common.{◌≡◌, ℕ, ℤ, pos, negsuc, zero, suc, ◌<◌, ◌≤ℤ◌, ◌||◌, Bool, true, false, List, [], ◌∷◌, None, Some, cond, int_le, int_lt, length, get_or, refl, sym, ap, ◌∙◌, arith}
+-- The level of a step cost, found by a search among its steps.
+use Rattle.std.proofs.Common.{◌≡◌, ℕ, ℤ, pos, negsuc, zero, suc, ◌<◌, ◌≤ℤ◌, ◌||◌, Bool, true, false, List, [], ◌∷◌, None, Some, cond, int_le, int_lt, length, get_or, refl, ap, subst, ◌∙◌, arith}
 use Rattle.std.specs.List.{fold}
 use Rattle.std.specs.List.Sorted.{IsPartitionedBy, IsPartitionPoint}
 use Rattle.std.proofs.lemmas.Int.{ints}
+use Rattle.std.proofs.lemmas.List.{get_or_default}
 use Rattle.tf_model.specs.InstanceData.{is_negative, is_beyond}
 use Rattle.tf_model.specs.Steps.{Steps, step_value}
 use Rattle.tf_model.specs.StepFaults.{step_fault, rise_fault, IsStepCost}
 use Rattle.tf_model.specs.CostLaws.{none_of_two, no_base_fault, after}
-use Rattle.tf_model.specs.Whole.{as_time}
+use Rattle.tf_model.specs.Level.{IsLevel}
 use Rattle.tf_model.specs.declared.cost.CostFault.TheVariants.{OutOfRange, TimesNotRising, CostFalls}
 
 -- a step without a fault is later than the one before
@@ -99,13 +100,48 @@ last_came c v (step ∷ steps) (suc come) d point h =
     ∙ last_came c step.1 steps come d (point_behind (pos c) step steps (suc come) point)
     (omega (arith, h))
 
-pub base_stays : (s : Steps) (c : ℤ) → pos 0 ≤ℤ c → IsPoint c s.steps 0
-    → s.base ≡ step_value s (as_time c)
-base_stays s (pos c) h point = sym (none_came c s.base s.steps point)
-base_stays s (negsuc c) h point = absurd (omega (arith, ints, h))
+not_yet : (time c e : ℤ) → e ≤ℤ c → int_le time c ≡ false → int_le time e ≡ false
+not_yet time c e le h = grind (arith, ints)
 
-pub last_value : (s : Steps) (c : ℤ) (come : ℕ) (d : ℤ × ℤ) → pos 0 ≤ℤ c
-    → IsPoint c s.steps (suc come) → come < length s.steps
-    → (get_or s.steps come d).1 ≡ step_value s (as_time c)
-last_value s (pos c) come d h point within = sym (last_came c s.base s.steps come d point within)
-last_value s (negsuc c) come d h point within = absurd (omega (arith, ints, h))
+has_come : (time e : ℤ) → time ≤ℤ e → int_le time e ≡ true
+has_come time e le = grind (arith, ints)
+
+-- where no step has come by a time, none has before
+none_before : (steps : List (ℤ × ℤ)) (c e : ℤ) → e ≤ℤ c → IsPoint c steps 0 → IsPoint e steps 0
+none_before steps c e le point = (
+  λ k d from to. absurd (omega (arith, to)),
+  λ k d from to. not_yet (get_or steps k d).0 c e le (point.1 k d from to),
+)
+
+-- since the last step that has come, the same steps have come
+same_come : (s : Steps) (c e : ℤ) (come : ℕ) (d : ℤ × ℤ) → IsStepCost s → come < length s.steps
+    → (get_or s.steps come d).0 ≤ℤ e → e ≤ℤ c → IsPoint c s.steps (suc come)
+    → IsPoint e s.steps (suc come)
+same_come s c e come d sound within since le point = (
+  λ k f from to. cost_parted s e sound k come f (omega (arith, to)) within
+      (has_come (get_or s.steps come f).0 e
+      (subst (λ (step : ℤ × ℤ). step.0 ≤ℤ e) (get_or_default s.steps come d f within) since)),
+  λ k f from to. not_yet (get_or s.steps k f).0 c e le (point.1 k f from to),
+)
+
+-- the base is the level where no step has come
+pub base_level : (s : Steps) (c : ℤ) → pos 0 ≤ℤ c → IsPoint c s.steps 0
+    → IsLevel (step_value s) c (record { value = s.base; since = pos 0 })
+base_level s c h point = record {
+  reached = h;
+  same = λ e from to. none_came e s.base s.steps (none_before s.steps c (pos e) to point);
+}
+
+-- and else the last step that has
+pub last_level : (s : Steps) (c : ℤ) (come : ℕ) (d : ℤ × ℤ) → IsStepCost s
+    → come < length s.steps → IsPoint c s.steps (suc come)
+    → IsLevel (step_value s) c
+    (record { value = (get_or s.steps come d).1; since = (get_or s.steps come d).0 })
+last_level s c come d sound within point = record {
+  reached = came_by (get_or s.steps come d).0 c (point.0 come d (omega arith) (omega arith));
+  same = λ e from to. last_came e s.base s.steps come d
+      (same_come s c (pos e) come d sound within from to point) within;
+}
+  where
+    came_by : (time c : ℤ) → int_le time c ≡ true → time ≤ℤ c
+    came_by time c h = grind (arith, ints)

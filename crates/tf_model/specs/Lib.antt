@@ -2,6 +2,7 @@
 pub mod Limit
 pub mod Whole
 pub mod Steps
+pub mod Level
 pub mod JobFields
 pub mod InstanceData
 pub mod StepFaults

@@ -2,6 +2,7 @@
 ghost use Rattle.std.specs.Prelude.{◌≡◌, ℕ, ℤ, pos, ◌-ℤ◌, ◌<◌, ◌≤◌, ◌<ℤ◌, ◌≤ℤ◌, true, false, length, MatchResult, IsTrue, ◌↔◌, int_le};
 ghost use Rattle.tf_model.specs.Whole.{as_time, IsWithin};
 ghost use Rattle.tf_model.specs.Steps.{step_value};
+ghost use Rattle.tf_model.specs.Level.{IsLevel};
 ghost use Rattle.tf_model.specs.StepFaults.{steps_fault, step_fault, IsStepCost};
 
 use crate::instance::is_beyond;
@@ -10,10 +11,20 @@ use std::alloc::{AllocError, Allocator, Global};
 use std::marker::Model;
 use thiserror::Error;
 
+/// A value that a cost has from a time on.
+#[derive(Clone, Copy, Debug)]
+pub struct Level {
+    /// What completing costs.
+    pub value: i64,
+    /// The time, in time steps.
+    pub since: i64,
+}
+
 /// A cost that depends on the completion time, and does not fall as it grows.
 pub trait Cost {
     ghost use Rattle.std.specs.Prelude.{◌≡◌, ℕ, ℤ, pos, ◌≤◌, ◌≤ℤ◌};
     ghost use Rattle.tf_model.specs.Limit.{limit};
+    ghost use Rattle.tf_model.specs.Level.{IsLevel};
     ghost use Rattle.tf_model.specs.Whole.{as_time};
 
     /// The cost of completing at a time.
@@ -28,6 +39,13 @@ pub trait Cost {
         requires to { c ≤ℤ pos limit }
         ensures value { result ≡ cost_at self.now (as_time c) }
         ensures sound { IsCost self.now };
+
+    /// The cost of completing at time `c`, from 0 to [`LIMIT`], with a time from which on up to `c`
+    /// it is known to be the same.
+    fn level_at(&self, c: i64) -> Level
+        requires from { pos 0 ≤ℤ c }
+        requires to { c ≤ℤ pos limit }
+        ensures { IsLevel (cost_at self.now) c result };
 
     /// What completes later costs no less, up to [`LIMIT`].
     ghost law: { (cost : Self) (c e : ℕ) → IsCost cost → c ≤ e → e ≤ limit →
@@ -54,7 +72,16 @@ impl Cost for Late {
     fn value_at(&self, c: i64) -> i64 {
         c - self.due
     }
+
+    // It is another at each time.
+    fn level_at(&self, c: i64) -> Level {
+        Level {
+            value: self.value_at(c),
+            since: c,
+        }
+    }
 }
+
 /// Why numbers are no step cost.
 #[derive(Clone, Copy, Debug, PartialEq, Eq, Error)]
 pub enum CostFault {
@@ -147,22 +174,37 @@ impl<A: Allocator> Cost for StepCost<A> {
     ghost law = { λ s c e sound before _. step_law s c e sound before };
 
     fn value_at(&self, c: i64) -> i64 {
-        value_of(self.base, &self.steps, c)
+        level_of(self.base, &self.steps, c).value
+    }
+
+    // It is the same since its last step.
+    fn level_at(&self, c: i64) -> Level {
+        level_of(self.base, &self.steps, c)
     }
 }
 
-// The value of the last step whose time has come: they are in order of time.
-fn value_of(base: i64, steps: &[(i64, i64)], c: i64) -> i64
+// The last step whose time has come, or the base: they are in order of time.
+fn level_of(base: i64, steps: &[(i64, i64)], c: i64) -> Level
     requires time { pos 0 ≤ℤ c }
     requires sound { IsStepCost (record { base = base; steps = steps.now }) }
-    ensures { result ≡ step_value (record { base = base; steps = steps.now }) (as_time c) }
+    ensures { IsLevel (step_value (record { base = base; steps = steps.now })) c result }
 {
     let come = steps.partition_point(
         |step: &(i64, i64)| -> bool
             ensures { result ≡ int_le step.now.0 c }
         { step.0 <= c },
     );
-    if come == 0 { base } else { steps[come - 1].1 }
+    if come == 0 {
+        return Level {
+            value: base,
+            since: 0,
+        };
+    }
+    let step = steps[come - 1];
+    Level {
+        value: step.1,
+        since: step.0,
+    }
 }
 
 fn step_fault(time: i64, value: i64, step: &(i64, i64)) -> Option<CostFault>

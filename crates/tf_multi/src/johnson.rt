@@ -25,8 +25,8 @@ use tf_model::ids::JobId;
 use tf_model::job_list::JobList;
 use tf_model::memory::OutOfMemory;
 use tf_model::task::Task;
+use tf_schedule::machine_order::by_machine;
 use tf_schedule::piece_list::PieceList;
-use tf_schedule::schedule::sort_by_machine;
 use tf_schedule::semi_active::{Operation, semi_active};
 
 /// A shortest timetable of a flow shop with two machines (Johnson 1954).
@@ -51,8 +51,8 @@ pub fn johnson<A: Allocator + Copy, B: Allocator>(
 {
     let order = johnson_order(alloc, task)?;
     let operations = operations_in(alloc, task, &order)?;
-    let mut pieces = semi_active(alloc, task.len(), 2, &operations)?;
-    sort_by_machine(&mut pieces);
+    let laid = semi_active(alloc, task.len(), 2, &operations)?;
+    let pieces = by_machine(alloc, laid, 2)?;
     let turn = turning_place(task, &order);
     let split = split_at(alloc, task, &order, turn)?;
     Ok(Answer {

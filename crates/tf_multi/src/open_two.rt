@@ -19,8 +19,8 @@ use tf_check::one_job::OneJob;
 use tf_model::ids::{JobId, MachineId};
 use tf_model::memory::OutOfMemory;
 use tf_model::task::{JobRow, Task};
+use tf_schedule::machine_order::by_machine;
 use tf_schedule::piece_list::PieceList;
-use tf_schedule::schedule::sort_by_machine;
 use tf_schedule::semi_active::{Operation, semi_active};
 
 /// A shortest timetable of an open shop with two machines (Gonzalez and Sahni 1976).
@@ -44,8 +44,8 @@ pub fn open_two<A: Allocator + Copy, B: Allocator>(
 {
     let leader = leader(task);
     let operations = operations_led_by(alloc, task, leader)?;
-    let mut pieces = semi_active(alloc, task.len(), 2, &operations)?;
-    sort_by_machine(&mut pieces);
+    let laid = semi_active(alloc, task.len(), 2, &operations)?;
+    let pieces = by_machine(alloc, laid, 2)?;
     let first = task.work_on(machine_of(true));
     let second = task.work_on(machine_of(false));
     let longest = first_longest(task);

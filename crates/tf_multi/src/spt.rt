@@ -17,8 +17,8 @@ use tf_model::ids::{JobId, MachineId};
 use tf_model::job_list::JobList;
 use tf_model::memory::OutOfMemory;
 use tf_model::task::Task;
+use tf_schedule::machine_order::by_machine;
 use tf_schedule::piece_list::PieceList;
-use tf_schedule::schedule::sort_by_machine;
 use tf_schedule::semi_active::{Operation, semi_active};
 
 /// A timetable of least sum of completions on parallel machines (Conway, Maxwell and Miller 1967).
@@ -39,8 +39,8 @@ pub fn spt<A: Allocator + Copy, B: Allocator>(
     // All jobs weigh the same, so that those of greater weight for their time are the shorter ones.
     let jobs = jobs_by_ratio(alloc, task)?;
     let operations = dealt(alloc, task.machines(), &jobs)?;
-    let mut pieces = semi_active(alloc, task.len(), task.machines() as usize, &operations)?;
-    sort_by_machine(&mut pieces);
+    let laid = semi_active(alloc, task.len(), task.machines() as usize, &operations)?;
+    let pieces = by_machine(alloc, laid, task.machines())?;
     let longest_first = reversed(alloc, &jobs)?;
     let value = ranked_times(task, &longest_first);
     Ok(Answer {

@@ -21,6 +21,7 @@ pub mod Prices
 pub mod Costing
 pub mod Excludes
 pub mod Parts
+pub mod Parting
 pub mod Laying
 pub mod Apart
 pub mod Makespan

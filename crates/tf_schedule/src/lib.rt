@@ -5,6 +5,7 @@ pub mod cost;
 mod extent;
 pub mod fit;
 mod line;
+pub mod machine_order;
 pub mod piece;
 pub mod piece_list;
 pub mod schedule;

@@ -18,3 +18,4 @@ pub mod Found
 pub mod Taking
 pub mod TaskCosts
 pub mod ByDue
+pub mod KeptLevels

@@ -9,14 +9,16 @@ ghost use Rattle.tf_model.specs.Sound.{IsSound};
 ghost use Rattle.tf_single.specs.Backward.{AreChosen, rest_of};
 ghost use Rattle.tf_single.specs.Costs.{AreCosts};
 ghost use Rattle.tf_single.specs.LawlerFault.{HoldsCycle};
+ghost use Rattle.tf_single.specs.Levels.{AreLevels};
 ghost use Rattle.tf_single.specs.Open.{arcs_left, IsOpen};
 ghost use Rattle.tf_single.specs.Progress.{of_job};
 
 use crate::arcs_into::ArcsByEnd;
 use crate::cycle::cycle;
 use crate::lawler_fault::LawlerFault;
+use crate::levels::{cost_by_level, no_levels};
 use std::alloc::Allocator;
-use tf_model::cost::Cost;
+use tf_model::cost::{Cost, Level};
 use tf_model::ids::JobId;
 use tf_model::memory::OutOfMemory;
 use tf_model::task::Task;
@@ -42,12 +44,14 @@ pub(crate) fn last_first<A: Allocator + Copy, B: Allocator, C: Cost>(
         counts,
         free,
     };
+    let mut levels = no_levels(alloc, task)?;
+    let levels = levels.as_mut_slice();
     let mut work = total_work(task);
     for _step in 0..task.len() {
         if open.free.is_empty() {
             return Err(LawlerFault::Cycle(cycle(alloc, task, &open.counts)?));
         }
-        let place = cheapest_place(task, costs, &open.free, work);
+        let place = cheapest_place(task, costs, levels, &open.free, work);
         let job = open.take(task, &arcs, place)?;
         work -= task.time(job);
     }
@@ -121,6 +125,7 @@ pub(crate) fn cost_of<B: Allocator, C: Cost>(
 fn cheapest_place<B: Allocator, C: Cost>(
     task: &Task<B>,
     costs: &[C],
+    levels: &mut [Level],
     free: &[JobId],
     end: u64,
 ) -> usize
@@ -128,15 +133,17 @@ fn cheapest_place<B: Allocator, C: Cost>(
     requires some { 0 < length free.now }
     requires known { All (IsJob task.now) free.now }
     requires end { end ≤ limit }
+    requires levels { AreLevels task.now levels.old end }
     ensures within { result < length free.now }
     ensures cheapest { (k d : ℕ) → k < length free.now
         → price task.now (slice_index free.now result) end
         ≤ℤ price task.now (slice_index free.now k) end }
+    ensures levels { AreLevels task.now levels.new end }
 {
     let mut place = 0;
-    let mut least = cost_of(task, costs, free[0], end);
+    let mut least = cost_by_level(task, costs, levels, free[0], end);
     for k in 1..free.len() {
-        let cost = cost_of(task, costs, free[k], end);
+        let cost = cost_by_level(task, costs, levels, free[k], end);
         if cost < least || (cost == least && free[place] < free[k]) {
             place = k;
             least = cost;

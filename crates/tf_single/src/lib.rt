@@ -9,5 +9,6 @@ mod cycle;
 pub mod edd;
 pub mod lawler;
 pub mod lawler_fault;
+mod levels;
 mod timeline;
 pub mod wspt;

@@ -29,11 +29,11 @@ returns-clause-schedule g c =
     rw c.new.ensures
     (line_schedule _ c.len.ensures.sound c.requires _ c.in_ok-order.ensures.order _
     (rw (
-      c.in_ok-pieces.ensures,
+      c.in_ok-laid.ensures,
       c.deref-2.ensures.value,
       c.in_ok-operations.ensures,
       c.deref.ensures.value,
-    ) at c.sort_by_machine.ensures.kept) c.sort_by_machine.ensures.in_order)
+    ) at c.in_ok-pieces.ensures.kept) c.in_ok-pieces.ensures.in_order)
 
 pub returns-clause-accepted : goal.returns-clause-accepted
 returns-clause-accepted g c =
@@ -41,10 +41,10 @@ returns-clause-accepted g c =
     rw (c.new.ensures, cast_value v c.turning_place-turn.ensures.small)
     (line_accepted _ c.len.ensures.sound c.requires _ c.in_ok-order.ensures.order _
     (rw (
-      c.in_ok-pieces.ensures,
+      c.in_ok-laid.ensures,
       c.deref-2.ensures.value,
       c.in_ok-operations.ensures,
       c.deref.ensures.value,
-    ) at c.sort_by_machine.ensures.kept) v
+    ) at c.in_ok-pieces.ensures.kept) v
     (c.turning_place-turn.ensures.value
     ∙ ap (line_end (time_at c.args.task.now) 0 0) c.deref-3.ensures.value) _ c.in_ok-split.ensures)

@@ -26,10 +26,10 @@ returns-clause-schedule g c =
     (led_schedule _ c.len.ensures.sound c.requires.shop c.requires.any_order _
     c.leader-leader.ensures _
     (rw (
-      c.in_ok-pieces.ensures,
+      c.in_ok-laid.ensures,
       c.deref.ensures.value,
       c.in_ok-operations.ensures,
-    ) at c.sort_by_machine.ensures.kept) c.sort_by_machine.ensures.in_order)
+    ) at c.in_ok-pieces.ensures.kept) c.in_ok-pieces.ensures.in_order)
 
 pub returns-clause-accepted : goal.returns-clause-accepted
 returns-clause-accepted g c =
@@ -71,8 +71,8 @@ returns-clause-accepted g c =
     (led_accepted task c.len.ensures.sound c.requires.shop c.requires.any_order _
     c.leader-leader.ensures _
     (rw (
-      c.in_ok-pieces.ensures,
+      c.in_ok-laid.ensures,
       c.deref.ensures.value,
       c.in_ok-operations.ensures,
-    ) at c.sort_by_machine.ensures.kept) l v
+    ) at c.in_ok-pieces.ensures.kept) l v
     (λ j job. c.first_longest-longest.ensures.longest j job) value _ bounded)

@@ -49,12 +49,12 @@ returns-clause-schedule g c =
     (dealt_schedule _ _ c.len.ensures.sound c.requires.sum c.requires.parallel
     c.in_ok-jobs.ensures.by_ratio _
     (rw (
-      c.in_ok-pieces.ensures,
+      c.in_ok-laid.ensures,
       c.deref-2.ensures.value,
       c.in_ok-operations.ensures,
       c.machines.ensures.value,
       c.deref.ensures.value,
-    ) at c.sort_by_machine.ensures.kept) c.sort_by_machine.ensures.in_order)
+    ) at c.in_ok-pieces.ensures.kept) c.in_ok-pieces.ensures.in_order)
 
 pub returns-clause-accepted : goal.returns-clause-accepted
 returns-clause-accepted g c =
@@ -71,12 +71,12 @@ returns-clause-accepted g c =
     (dealt_accepted _ _ c.len.ensures.sound c.requires.sum c.requires.parallel
     c.in_ok-jobs.ensures.by_ratio _
     (rw (
-      c.in_ok-pieces.ensures,
+      c.in_ok-laid.ensures,
       c.deref-2.ensures.value,
       c.in_ok-operations.ensures,
       c.machines.ensures.value,
       c.deref.ensures.value,
-    ) at c.sort_by_machine.ensures.kept))
+    ) at c.in_ok-pieces.ensures.kept))
 
 pub returns-clause-certificate : goal.returns-clause-certificate
 returns-clause-certificate g c =

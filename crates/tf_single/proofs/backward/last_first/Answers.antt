@@ -4,7 +4,9 @@ use Rattle.std.proofs.lemmas.List.{length-append}
 use Rattle.tf_model.specs.SchedulingTask.{SchedulingTask, time_of}
 use Rattle.tf_model.specs.Cost.{price}
 use Rattle.tf_single.specs.Backward.{rest_of, AreChosen}
+use Rattle.tf_single.specs.Levels.{AreLevels}
 use Rattle.tf_single.specs.Open.{IsOpen}
+use Rattle.tf_single.proofs.KeptLevels.{levels_earlier}
 use Rattle.tf_single.proofs.Taking.{none_chosen, work_at_start, work_within, none_left, stuck, stuck_some, step_chosen, step_work}
 use Rattle.tf_single.proofs.backward.last_first.Goals as goal
 
@@ -15,11 +17,16 @@ loop-step-init g c =
     let now : IsOpen k [] [] c.in_ok-counts.counts.items c.in_ok-free.free.items =
     subst (λ xs. IsOpen k [] [] xs c.in_ok-free.free.items) c.deref.ensures.value
     c.in_ok-free.ensures in
+    let levels : AreLevels k c.as_mut_slice-levels.result.now c.total_work-work.result =
+    subst (λ xs. AreLevels k xs c.total_work-work.result) (sym c.as_mut_slice-levels.ensures.value)
+    (c.in_ok-levels.ensures c.total_work-work.result
+    (omega (arith, c.total_work-work.ensures, c.len.ensures.sound.total))) in
     rw none (record {
       chosen = none_chosen k;
       now = now;
       work = c.total_work-work.ensures
           ∙ work_at_start k;
+      levels = levels;
       count = refl;
     })
 
@@ -125,6 +132,8 @@ loop-step-preserved g c =
       now = c.in_ok-job.ensures.now;
       work = subst (λ xs. c.loop-step.work - c.time.result ≡ sum_by (time_of k) (rest_of k xs))
           (sym new_taken) (omega (arith, less, c.time.ensures.value));
+      levels = levels_earlier k c.cheapest_place-place.new.levels c.loop-step.work
+          (c.loop-step.work - c.time.result) c.cheapest_place-place.ensures.levels (omega arith);
       count = omega
           (arith, ap length new_taken, length-append taken (job ∷ []), c.loop-step.invariant.count);
     }
