@@ -2,3 +2,6 @@ pub mod Written
 pub mod Judged
 pub mod Unevaluated
 pub mod Standing
+pub mod Given
+pub mod SumParts
+pub mod EndsInBound

@@ -18,43 +18,44 @@ use Rattle.tf_engine.specs.Parts.{ReadsTo, GivesSaid, StopsSaying}
 use Rattle.tf_engine.specs.Solvers.{IsNotSolved}
 use Rattle.tf_engine.specs.Checking.{HasReaderFailed}
 use Rattle.tf_engine.proofs.Unread.{text_for, refused_task, meant_by, reading_stops}
+use Rattle.tf_evaluate.specs.declared.evaluation.Detail.{Detail}
 use Rattle.tf_evaluate.specs.RunEvaluating.{SaysEvaluation, IsRefusedEvaluation, IsEvaluationOf}
 
 -- nothing was written where the answer says no sheet
-unsaid : (request : RequestData) (text : List ℕ) (task : SchedulingTask)
+unsaid : (detail : Detail) (request : RequestData) (text : List ℕ) (task : SchedulingTask)
     (instance answer : DeviceUse) (held : Option (List ℕ)) (writer : Bool) (s : Stop)
     → task_for request text ≡ Ok task → answer.failed ≡ is_failure s
     → StopsSaying answer.before s
     → (said : List ℕ) × IsTextOf answer.before said
-    × Leaves (SaysEvaluation request text said) (IsRefusedEvaluation request text said)
+    × Leaves (SaysEvaluation detail request text said) (IsRefusedEvaluation request text said)
     (HasReaderFailed request text instance answer) (unused held writer) s
-unsaid request text task instance answer held writer (Refuses (ByAnswer fault)) meant failed
+unsaid detail request text task instance answer held writer (Refuses (ByAnswer fault)) meant failed
     (said, is, says) =
     (said, is, inl (inr (fault, refl, record { task = task; meant = meant; said = says })))
-unsaid request text task instance answer held writer (Refuses (ByNotation byte)) meant failed
+unsaid detail request text task instance answer held writer (Refuses (ByNotation byte)) meant failed
     said = absurd said
-unsaid request text task instance answer held writer (Refuses (ByText fault)) meant failed said =
+unsaid detail request text task instance answer held writer (Refuses (ByText fault)) meant failed said =
     absurd said
-unsaid request text task instance answer held writer (Refuses (ByTask refusal)) meant failed
+unsaid detail request text task instance answer held writer (Refuses (ByTask refusal)) meant failed
     said = absurd said
-unsaid request text task instance answer held writer (Refuses (ByCycle jobs)) meant failed said =
+unsaid detail request text task instance answer held writer (Refuses (ByCycle jobs)) meant failed said =
     absurd said
-unsaid request text task instance answer held writer (Refuses (ByPieces fault)) meant failed
+unsaid detail request text task instance answer held writer (Refuses (ByPieces fault)) meant failed
     said = absurd said
-unsaid request text task instance answer held writer Fails meant failed said =
+unsaid detail request text task instance answer held writer Fails meant failed said =
     let (text', is) = text_for answer.before in
     (text', is, inl (inr (rw meant refl, failed), Keeps-refl held))
-unsaid request text task instance answer held writer Wants meant failed said =
+unsaid detail request text task instance answer held writer Wants meant failed said =
     let (text', is) = text_for answer.before in (text', is, tt)
 
-module _ (A : Type 0) (request : RequestData) (held : Option (List ℕ)) (writer : Bool) where
+module _ (A : Type 0) (detail : Detail) (request : RequestData) (held : Option (List ℕ)) (writer : Bool) where
   -- what is left of a run that stopped before it read the answer
   early : (instance answer : DeviceUse) (text : List ℕ) (s : Stop) → IsTextOf instance.before text
       → ((said : List ℕ)
-      → Leaves (SaysEvaluation request text said) (IsRefusedEvaluation request text said)
+      → Leaves (SaysEvaluation detail request text said) (IsRefusedEvaluation request text said)
       (HasReaderFailed request text instance answer) (unused held writer) s)
       → (e : RunFault A) → stop_of e ≡ s
-      → IsEvaluationOf request instance answer (unused held writer) (Err e)
+      → IsEvaluationOf detail request instance answer (unused held writer) (Err e)
   early instance answer text s is stops e same =
       let (said, is_answer) = text_for answer.before in
       record {
@@ -62,7 +63,7 @@ module _ (A : Type 0) (request : RequestData) (held : Option (List ℕ)) (writer
         is_all = is;
         answer_text = said;
         is_whole_answer = is_answer;
-        outcome = subst (Leaves (SaysEvaluation request text said)
+        outcome = subst (Leaves (SaysEvaluation detail request text said)
             (IsRefusedEvaluation request text said)
             (HasReaderFailed request text instance answer) (unused held writer)) (sym same)
             (stops said);
@@ -71,7 +72,7 @@ module _ (A : Type 0) (request : RequestData) (held : Option (List ℕ)) (writer
   -- nothing was written where the problem line was refused
   pub evaluation_unread : (instance answer : DeviceUse) (e : RunFault A) (refused : Refused)
       → stop_of e ≡ Refuses refused → problem_for request.problem ≡ Err refused
-      → IsEvaluationOf request instance answer (unused held writer) (Err e)
+      → IsEvaluationOf detail request instance answer (unused held writer) (Err e)
   evaluation_unread instance answer e refused same h =
       let (text, is) = text_for instance.before in
       early instance answer text (Refuses refused) is
@@ -82,10 +83,10 @@ module _ (A : Type 0) (request : RequestData) (held : Option (List ℕ)) (writer
       (answer : DeviceUse) (problem : Problem) (e : RunFault A)
       → problem_for request.problem ≡ Ok problem
       → ReadsTo (task_in request problem) remaining old new (Err e)
-      → IsEvaluationOf request (use_of remaining old new) answer (unused held writer) (Err e)
+      → IsEvaluationOf detail request (use_of remaining old new) answer (unused held writer) (Err e)
   evaluation_untasked T remaining old new answer problem e ok h =
       early (use_of remaining old new) answer h.text (stop_of e) h.is_all
-      (λ said. reading_stops (SaysEvaluation request h.text said)
+      (λ said. reading_stops (SaysEvaluation detail request h.text said)
       (λ refused. task_in request problem h.text ≡ Err refused)
       (IsRefusedEvaluation request h.text said) (has_failed new ≡ true)
       (HasReaderFailed request h.text (use_of remaining old new) answer) held writer
@@ -98,10 +99,10 @@ module _ (A : Type 0) (request : RequestData) (held : Option (List ℕ)) (writer
       (e : RunFault A) → IsTextOf instance.before text
       → task_for request text ≡ Ok task → answer.failed ≡ is_failure (stop_of e)
       → GivesSaid answer.before (Err e)
-      → IsEvaluationOf request instance answer (unused held writer) (Err e)
+      → IsEvaluationOf detail request instance answer (unused held writer) (Err e)
   evaluation_unsaid instance answer text task e is meant failed said =
       let (said_text, is_answer, left) =
-      unsaid request text task instance answer held writer (stop_of e) meant failed said in
+      unsaid detail request text task instance answer held writer (stop_of e) meant failed said in
       record {
         text = text;
         is_all = is;
@@ -114,7 +115,7 @@ module _ (A : Type 0) (request : RequestData) (held : Option (List ℕ)) (writer
   pub evaluation_unsolved : (instance answer : DeviceUse) (text said : List ℕ)
       (task : SchedulingTask) (f : SolveFault A) → IsTextOf instance.before text
       → IsTextOf answer.before said → task_for request text ≡ Ok task → IsNotSolved task f
-      → IsEvaluationOf request instance answer (unused held writer) (Err (of_solve f))
+      → IsEvaluationOf detail request instance answer (unused held writer) (Err (of_solve f))
   evaluation_unsolved instance answer text said task (solves.Cycle jobs) is is_answer meant cycle =
       record {
         text = text;

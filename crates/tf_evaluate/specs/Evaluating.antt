@@ -1,12 +1,12 @@
 -- How an answer stands to a task.
-use Rattle.std.specs.Prelude.{◌≡◌, ◌↔◌, ℤ, ◌<ℤ◌, List, [], map, length, Option, None, Some, Result}
+use Rattle.std.specs.Prelude.{◌≡◌, ◌↔◌, ℤ, ◌<ℤ◌, List, [], map, length, Option, None, Some, Result, Ok}
 use Rattle.tf_model.specs.declared.problem.Problem.{Problem}
 use Rattle.tf_model.specs.SchedulingTask.{SchedulingTask, all_jobs}
 use Rattle.tf_model.specs.Timetable.{Timetable}
 use Rattle.tf_model.specs.Feasible.{Fits as FitsTask}
 use Rattle.tf_model.specs.Cost.{cost, IsBest}
 use Rattle.tf_schedule.specs.declared.piece.Piece.{Piece}
-use Rattle.tf_check.specs.Claim.{AnswerData}
+use Rattle.tf_check.specs.Claim.{AnswerData, Claim}
 use Rattle.tf_check.specs.Bound.{bound_by}
 use Rattle.tf_check.specs.Verdict.{DrawsFitting, HasReason}
 use Rattle.tf_check.specs.declared.fault.BoundFault.{BoundFault}
@@ -18,8 +18,12 @@ use Rattle.tf_evaluate.specs.declared.evaluation.Fit.TheVariants.{Fits, OtherTas
 use Rattle.tf_evaluate.specs.declared.evaluation.JobOutcome.{JobOutcome}
 use Rattle.tf_evaluate.specs.declared.evaluation.Standing.{Standing}
 use Rattle.tf_evaluate.specs.declared.evaluation.Standing.TheVariants.{Best, Beaten, Unfit}
+use Rattle.tf_evaluate.specs.declared.evaluation.Detail.{Detail}
+use Rattle.tf_evaluate.specs.declared.evaluation.Detail.TheVariants.{WithArithmetic}
+use Rattle.tf_evaluate.specs.declared.step.Step.{Step}
 use Rattle.tf_evaluate.specs.EvaluationData.{EvaluationData, standing_of, gap}
 use Rattle.tf_evaluate.specs.Outcomes.{outcome_of}
+use Rattle.tf_evaluate.specs.Arithmetic.{arithmetic, last_result}
 
 -- some timetable fits and costs this, and none that fits costs less
 abbrev pub IsLeastCost : SchedulingTask → ℤ → Type 0
@@ -53,6 +57,21 @@ abbrev pub bound_for : SchedulingTask → AnswerData → Fit → Option (Result 
 bound_for k a OtherTask = None
 bound_for k a _ = Some (bound_by a.certificate k)
 
+-- the bound, where there is one, is the certificate's
+abbrev pub IsBoundOf : SchedulingTask → Claim → Option (Result ℤ BoundFault) → Type 0
+IsBoundOf k claim (Some (Ok bound)) = bound_by claim k ≡ Ok bound
+IsBoundOf k claim _ = Unit {0}
+
+-- the certificate's arithmetic, where it is asked for and there is a bound
+abbrev pub steps_for : Detail → Option (Result ℤ BoundFault) → SchedulingTask → Claim → List Step
+steps_for WithArithmetic (Some (Ok bound)) k claim = arithmetic k claim
+steps_for _ _ k claim = []
+
+-- its last step comes to the bound; where it isn't asked for or there is no bound, there is no step
+abbrev pub EndsInBound : Detail → Option (Result ℤ BoundFault) → List Step → Type 0
+EndsInBound WithArithmetic (Some (Ok bound)) steps = last_result None steps ≡ Some bound
+EndsInBound _ _ steps = steps ≡ []
+
 -- what happens to the jobs from 1 on, where the pieces make a schedule
 abbrev pub outcomes_for : SchedulingTask → List Piece → Fit → List JobOutcome
 outcomes_for k ps OtherTask = []
@@ -64,8 +83,8 @@ abbrev pub HasGap : Fit → ℤ → Type 0
 HasGap (Fits value) best = (gap value best ≡ 0) ↔ (standing_of (Fits value) best ≡ Best)
 HasGap _ best = Unit {0}
 
-pub record IsEvaluation (problem : Problem) (k : SchedulingTask) (sheet : SheetData)
-    (e : EvaluationData) : Type 0 where
+pub record IsEvaluation (detail : Detail) (problem : Problem) (k : SchedulingTask)
+    (sheet : SheetData) (e : EvaluationData) : Type 0 where
   pub problem_is : e.problem ≡ problem
   pub jobs : e.jobs ≡ length k.jobs
   pub machines : e.machines ≡ k.machines
@@ -73,4 +92,5 @@ pub record IsEvaluation (problem : Problem) (k : SchedulingTask) (sheet : SheetD
   pub claimed : e.claimed ≡ sheet.answer.value
   pub best : IsLeastCost k e.best
   pub bound : e.bound ≡ bound_for k sheet.answer e.fit
+  pub steps : e.steps ≡ steps_for detail e.bound k sheet.answer.certificate
   pub outcomes : e.outcomes ≡ outcomes_for k sheet.answer.pieces e.fit

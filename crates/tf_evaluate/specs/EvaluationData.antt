@@ -7,6 +7,7 @@ use Rattle.tf_evaluate.specs.declared.evaluation.Fit.TheVariants.{Fits}
 use Rattle.tf_evaluate.specs.declared.evaluation.Standing.{Standing}
 use Rattle.tf_evaluate.specs.declared.evaluation.Standing.TheVariants.{Best, Beaten, Unfit}
 use Rattle.tf_evaluate.specs.declared.evaluation.JobOutcome.{JobOutcome}
+use Rattle.tf_evaluate.specs.declared.step.Step.{Step}
 
 pub record EvaluationData : Type 0 where
   pub problem : Problem
@@ -16,6 +17,7 @@ pub record EvaluationData : Type 0 where
   pub claimed : ℤ
   pub best : ℤ
   pub bound : Option (Result ℤ BoundFault)
+  pub steps : List Step
   pub outcomes : List JobOutcome
 
 -- how far a cost is from the least one

@@ -9,6 +9,9 @@ use Rattle.tf_engine.specs.VerdictLine.{piece_fault_words, misfit_words, bound_f
 use Rattle.tf_evaluate.specs.declared.evaluation.Fit.{Fit}
 use Rattle.tf_evaluate.specs.declared.evaluation.Fit.TheVariants.{Fits, OtherTask, NoSchedule, Misfit}
 use Rattle.tf_evaluate.specs.declared.evaluation.JobOutcome.{JobOutcome}
+use Rattle.tf_evaluate.specs.declared.step.Terms.{Terms}
+use Rattle.tf_evaluate.specs.declared.step.Terms.TheVariants.{Load, JobTime, ShopTimes, MachineWork, Smith, SetWork, LeastCost, Window, Split, GreatestFactor, Ranks}
+use Rattle.tf_evaluate.specs.declared.step.Step.{Step}
 use Rattle.tf_evaluate.specs.EvaluationData.{EvaluationData, gap}
 
 -- `fits`, or `misfit` and why
@@ -37,6 +40,42 @@ abbrev pub bound_lines : Option (Result ℤ BoundFault) → List (List (List ℕ
 bound_lines None = []
 bound_lines (Some bound) = (codes "bound" ∷ bound_words bound) ∷ []
 
+-- what a step is made of: each number behind what it is
+abbrev pub terms_words : Terms → List (List ℕ)
+terms_words (Load work machines) =
+    codes "total processing time" ∷ decimal work ∷ codes "/" ∷ decimal machines
+    ∷ codes "machines, rounded up" ∷ []
+terms_words (JobTime job time) = codes "processing time of job" ∷ decimal job ∷ []
+terms_words (ShopTimes job first second) =
+    codes "processing time of job" ∷ decimal job ∷ codes "on machine 1" ∷ decimal first
+    ∷ codes "+ on machine 2" ∷ decimal second ∷ []
+terms_words (MachineWork machine work) =
+    codes "total processing time on machine" ∷ decimal machine ∷ []
+terms_words (Smith own waiting) =
+    codes "total weighted processing time" ∷ decimal own
+    ∷ codes "+ total weighted waiting time in Smith's order" ∷ decimal waiting ∷ []
+terms_words (SetWork work) = codes "total processing time of the set" ∷ []
+terms_words (LeastCost completion cost) =
+    codes "least cost at time" ∷ decimal completion
+    ∷ codes "of a job of the set without a successor in it" ∷ []
+terms_words (Window release work due) =
+    codes "least release date" ∷ decimal release ∷ codes "+ total processing time" ∷ decimal work
+    ∷ codes "- greatest due date" ∷ signed_decimal due ∷ []
+terms_words (Split side others delta) =
+    codes "total processing time of the side on machine 1" ∷ decimal side
+    ∷ codes "+ of the others on machine 2" ∷ decimal others ∷ codes "+ delta" ∷ decimal delta ∷ []
+terms_words (GreatestFactor jobs machines) =
+    codes "greatest factor" ∷ decimal jobs ∷ codes "jobs /" ∷ decimal machines
+    ∷ codes "machines, rounded up" ∷ []
+terms_words (Ranks work waiting) =
+    codes "total processing time" ∷ decimal work ∷ codes "+ least total waiting time"
+    ∷ decimal waiting ∷ []
+
+-- a step, and what it comes to
+abbrev pub step_words : Step → List (List ℕ)
+step_words step =
+    codes "step" ∷ (terms_words step.terms ++ codes "=" ∷ signed_decimal step.result ∷ [])
+
 -- a job: its number, its first start, its completion, and what the class counts of it
 abbrev pub outcome_words : JobOutcome → List (List ℕ)
 outcome_words o =
@@ -53,14 +92,15 @@ judgement_lines e =
     ++ (codes "best" ∷ signed_decimal e.best ∷ [])
     ∷ (gap_lines e.fit e.best ++ bound_lines e.bound))
 
--- all lines: a heading, what is asked, the judgement, and the jobs
+-- all lines: a heading, what is asked, the judgement, the certificate's arithmetic, and the jobs
 abbrev pub evaluation_lines : EvaluationData → List (List (List ℕ))
 evaluation_lines e =
     (codes "evaluation" ∷ codes "1" ∷ [])
     ∷ (codes "problem" ∷ canonical e.problem ∷ [])
     ∷ (codes "jobs" ∷ decimal e.jobs ∷ [])
     ∷ (codes "machines" ∷ decimal e.machines ∷ [])
-    ∷ (judgement_lines e ++ (map outcome_words e.outcomes ++ (codes "end" ∷ []) ∷ []))
+    ∷ (judgement_lines e
+    ++ (map step_words e.steps ++ (map outcome_words e.outcomes ++ (codes "end" ∷ []) ∷ [])))
 
 -- the text of an evaluation
 unfoldable pub evaluation_text : EvaluationData → List ℕ

@@ -1,6 +1,7 @@
 -- what a caller has to believe
 pub mod EvaluationData
 pub mod Outcomes
+pub mod Arithmetic
 pub mod Evaluating
 pub mod EvaluationText
 pub mod RunEvaluating

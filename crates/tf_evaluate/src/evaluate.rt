@@ -1,11 +1,14 @@
 //! An answer, evaluated.
 ghost use Rattle.std.specs.Prelude.{◌≡◌, IfOk, IfErr};
+ghost use Rattle.tf_model.specs.Sound.{IsSound};
 ghost use Rattle.tf_engine.specs.Solvers.{IsNotSolved};
-ghost use Rattle.tf_evaluate.specs.Evaluating.{IsEvaluation, IsLeastCost, HasFit, HasStanding, HasGap, IsJudged, bound_for, outcomes_for};
+ghost use Rattle.tf_evaluate.specs.Evaluating.{EndsInBound, IsBoundOf, IsEvaluation, IsLeastCost, HasFit, HasStanding, HasGap, IsJudged, bound_for, outcomes_for, steps_for};
 ghost use Rattle.tf_evaluate.specs.EvaluationData.{standing_of};
 
-use crate::evaluation::{Evaluation, Fit, JobOutcome};
+use crate::arithmetic::arithmetic;
+use crate::evaluation::{Detail, Evaluation, Fit, JobOutcome};
 use crate::outcomes::outcomes;
+use crate::step::Step;
 use std::alloc::Allocator;
 use tf_check::answer::Answer;
 use tf_check::evidence::Evidence;
@@ -27,24 +30,29 @@ pub fn evaluate<A: Allocator + Copy, B: Allocator, C: Allocator>(
     problem: &Problem,
     task: &Task<B>,
     sheet: &Sheet<C>,
+    detail: Detail,
 ) -> Result<Evaluation<A>, SolveFault<A>>
-    ensures evaluation { IfOk result (IsEvaluation problem.now task.now sheet.now) }
+    ensures evaluation { IfOk result (IsEvaluation detail problem.now task.now sheet.now) }
     ensures standing { IfOk result
         (λ e. HasStanding task.now sheet.now (standing_of e.fit e.best) × HasGap e.fit e.best) }
+    ensures arithmetic { IfOk result (λ e. EndsInBound detail e.bound e.steps) }
     ensures refused { IfErr result (IsNotSolved task.now) }
 {
+    let jobs = task.len() as u32;
     let best = least_cost(alloc, task)?;
     let fit = fit_of(alloc, task, sheet)?;
     let bound = bound_of(alloc, task, &sheet.answer, &fit)?;
+    let steps = steps_of(alloc, task, &sheet.answer, &bound, detail)?;
     let outcomes = outcomes_of(alloc, task, sheet, &fit)?;
     Ok(Evaluation {
         problem: *problem,
-        jobs: task.len() as u32,
+        jobs,
         machines: task.machines(),
         fit,
         claimed: sheet.answer.value,
         best,
         bound,
+        steps,
         outcomes,
     })
 }
@@ -109,6 +117,29 @@ fn bound_of<A: Allocator + Copy, B: Allocator, C: Allocator>(
         Ok(bound) => Ok(Some(Ok(bound))),
         Err(BoundFault::OutOfMemory) => Err(OutOfMemory),
         Err(fault) => Ok(Some(Err(fault))),
+    }
+}
+
+// The certificate's arithmetic, where it is asked for and there is a bound.
+fn steps_of<A: Allocator + Copy, B: Allocator, C: Allocator>(
+    alloc: A,
+    task: &Task<B>,
+    answer: &Answer<C>,
+    bound: &Option<Result<i128, BoundFault>>,
+    detail: Detail,
+) -> Result<Vec<Step, A>, OutOfMemory>
+    requires sound { IsSound task.now }
+    requires bound { IsBoundOf task.now answer.now.certificate bound.now }
+    ensures steps { IfOk result
+        (λ v. v.items ≡ steps_for detail bound.now task.now answer.now.certificate) }
+    ensures ends { IfOk result (λ v. EndsInBound detail bound.now v.items) }
+{
+    if let Detail::Summary = detail {
+        return Ok(Vec::new(alloc));
+    }
+    match bound {
+        Some(Ok(bound)) => arithmetic(alloc, task, &answer.certificate, *bound),
+        _ => Ok(Vec::new(alloc)),
     }
 }
 

@@ -1,4 +1,5 @@
 //! What an evaluation says.
+use crate::step::Step;
 use std::alloc::{Allocator, Global};
 use std::marker::Model;
 use tf_check::fault::BoundFault;
@@ -18,6 +19,15 @@ pub enum Fit {
     NoSchedule(PieceFault),
     /// The schedule does not fit.
     Misfit(Misfit),
+}
+
+/// How much is told of an answer.
+#[derive(Clone, Copy, Debug, Drop, PartialEq, Eq)]
+pub enum Detail {
+    /// How good it is, and what happens to each job.
+    Summary,
+    /// The arithmetic of its certificate as well.
+    WithArithmetic,
 }
 
 /// What a schedule comes to.
@@ -59,6 +69,9 @@ pub struct Evaluation<A: Allocator = Global> {
     pub best: i64,
     /// What the certificate bounds, or its first fault; `None` for an answer to another task.
     pub bound: Option<Result<i128, BoundFault>>,
+    /// The certificate's arithmetic, which ends in its bound; none where it isn't asked for or the
+    /// certificate has no bound.
+    pub steps: Vec<Step, A>,
     /// The jobs from 1 on, where the pieces make a schedule and the answer is for the task.
     pub outcomes: Vec<JobOutcome, A>,
 }
@@ -76,6 +89,7 @@ impl<A: Allocator> Model for Evaluation<A> {
       claimed = e.claimed;
       best = e.best;
       bound = e.bound;
+      steps = e.steps.items;
       outcomes = e.outcomes.items;
     } };
 }

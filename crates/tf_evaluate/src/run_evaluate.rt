@@ -8,7 +8,7 @@ ghost use Rattle.tf_engine.specs.Faults.{Refuses, Wants, stop_of, is_failure, is
 ghost use Rattle.tf_evaluate.specs.RunEvaluating.{IsEvaluationOf};
 
 use crate::evaluate::evaluate;
-use crate::evaluation::Standing;
+use crate::evaluation::{Detail, Standing};
 use crate::writing::evaluation_bytes;
 use std::alloc::Allocator;
 use std::io::{Read, Write};
@@ -23,15 +23,17 @@ use tf_text::counted::Counted;
 /// The refusals are those of [`tf_engine::run_check::run_check`] in their order, and after them a
 /// cycle of the arcs, with which no timetable fits. After a refusal nothing was written, unless it
 /// is [`RunFault::Device`], after which a prefix of the evaluation may have been. Any certificate
-/// will do: one that bounds nothing is said to.
+/// will do: one that bounds nothing is said to. Its arithmetic is written where `detail` asks for
+/// it.
 pub fn run_evaluate<A: Allocator + Copy, B: Allocator, R: Read, S: Read, W: Write>(
     alloc: A,
     request: &Request<B>,
+    detail: Detail,
     instance: &mut Counted<R>,
     answer: &mut Counted<S>,
     writer: &mut Counted<W>,
 ) -> Result<Standing, RunFault<A>>
-    ensures outcome { IsEvaluationOf request.now (use_of R.remaining instance.old instance.new)
+    ensures outcome { IsEvaluationOf detail request.now (use_of R.remaining instance.old instance.new)
         (use_of S.remaining answer.old answer.new) (use_of W.contents writer.old writer.new)
         result }
     ensures unfailed { OnOk result
@@ -68,7 +70,7 @@ pub fn run_evaluate<A: Allocator + Copy, B: Allocator, R: Read, S: Read, W: Writ
     let problem = problem_for(request.problem.as_str())?;
     let task = task_read(alloc, request, &problem, instance)?;
     let sheet = sheet_said(alloc, answer)?;
-    let evaluation = evaluate(alloc, &problem, &task, &sheet)?;
+    let evaluation = evaluate(alloc, &problem, &task, &sheet, detail)?;
     let text = evaluation_bytes(alloc, &evaluation)?;
     writer.push_all(text.as_slice())?;
     Ok(evaluation.standing())

@@ -1,13 +1,17 @@
 //! Evaluations, written.
-ghost use Rattle.std.specs.Prelude.{◌≡◌, [], ◌∷◌, ◌++◌, map, IfOk, OnOk};
+ghost use Rattle.std.specs.Prelude.{◌≡◌, [], ◌∷◌, ◌++◌, codes, map, IfOk, OnOk};
+ghost use Rattle.std.specs.Fmt.{decimal};
 ghost use Rattle.std.specs.List.{flat_map, join_with_byte};
 ghost use Rattle.tf_text.specs.AnswerText.{line_text};
-ghost use Rattle.tf_evaluate.specs.EvaluationText.{fit_words, value_lines, gap_lines, bound_words, bound_lines, outcome_words, judgement_lines, evaluation_text};
+ghost use Rattle.tf_evaluate.specs.EvaluationText.{fit_words, value_lines, gap_lines, bound_words, bound_lines, outcome_words, judgement_lines, step_words, terms_words, evaluation_text};
 
 use crate::evaluation::{Evaluation, Fit, JobOutcome};
+use crate::step::{Step, Terms};
+use itoa::Integer;
 use std::alloc::Allocator;
 use tf_check::fault::BoundFault;
 use tf_engine::verdict_line::{push_bound_fault, push_misfit, push_piece_fault};
+use tf_model::ids::JobId;
 use tf_model::memory::OutOfMemory;
 use tf_notation::writing::notation_text;
 use tf_text::answer::writing::{push_number, push_number_line};
@@ -26,6 +30,7 @@ pub fn evaluation_bytes<A: Allocator + Copy, M: Allocator>(
     push_number_line(&mut text, b"jobs", evaluation.jobs)?;
     push_number_line(&mut text, b"machines", evaluation.machines)?;
     push_judgement(&mut text, evaluation)?;
+    push_steps(&mut text, evaluation.steps.as_slice())?;
     push_outcomes(&mut text, evaluation.outcomes.as_slice())?;
     text.extend_from_slice(b"end\n")?;
     Ok(text)
@@ -106,6 +111,158 @@ fn push_bound<A: Allocator>(
         }
         None => Ok(()),
     }
+}
+
+fn push_steps<A: Allocator>(text: &mut Vec<u8, A>, steps: &[Step]) -> Result<(), OutOfMemory>
+    ensures { OnOk result
+        (text.new.items ≡ text.old.items ++ flat_map line_text (map step_words steps.now)) }
+{
+    for step in steps {
+        push_step(text, step)?;
+    }
+    Ok(())
+}
+
+fn push_step<A: Allocator>(text: &mut Vec<u8, A>, step: &Step) -> Result<(), OutOfMemory>
+    ensures { OnOk result (text.new.items ≡ text.old.items ++ line_text (step_words step.now)) }
+{
+    text.extend_from_slice(b"step")?;
+    push_terms(text, &step.terms)?;
+    push_quantity(text, b"=", step.result)?;
+    text.push(b'\n')?;
+    Ok(())
+}
+
+// What a step is made of, each word behind a blank.
+fn push_terms<A: Allocator>(text: &mut Vec<u8, A>, terms: &Terms) -> Result<(), OutOfMemory>
+    ensures { OnOk result (text.new.items
+        ≡ text.old.items ++ flat_map (λ word. 32 ∷ word) (terms_words terms.now)) }
+{
+    match *terms {
+        Terms::Load { work, machines } => {
+            push_quantity(text, b"total processing time", work)?;
+            push_share(text, b"/", machines)?;
+        }
+        Terms::JobTime { job, .. } => push_quantity(text, b"processing time of job", job.get())?,
+        Terms::ShopTimes { job, first, second } => push_shop_times(text, job, first, second)?,
+        Terms::MachineWork { machine, .. } => {
+            push_quantity(text, b"total processing time on machine", machine.get())?;
+        }
+        Terms::Smith { own, waiting } => {
+            push_quantity(text, b"total weighted processing time", own)?;
+            push_quantity(
+                text,
+                b"+ total weighted waiting time in Smith's order",
+                waiting,
+            )?;
+        }
+        Terms::SetWork { .. } => push_phrase(text, b"total processing time of the set")?,
+        Terms::LeastCost { completion, .. } => {
+            push_quantity(text, b"least cost at time", completion)?;
+            push_phrase(text, b"of a job of the set without a successor in it")?;
+        }
+        Terms::Window { release, work, due } => push_window(text, release, work, due)?,
+        Terms::Split {
+            side,
+            others,
+            delta,
+        } => push_split(text, side, others, delta)?,
+        Terms::GreatestFactor { jobs, machines } => {
+            push_quantity(text, b"greatest factor", jobs)?;
+            push_share(text, b"jobs /", machines)?;
+        }
+        Terms::Ranks { work, waiting } => {
+            push_quantity(text, b"total processing time", work)?;
+            push_quantity(text, b"+ least total waiting time", waiting)?;
+        }
+    }
+    Ok(())
+}
+
+fn push_shop_times<A: Allocator>(
+    text: &mut Vec<u8, A>,
+    job: JobId,
+    first: u64,
+    second: u64,
+) -> Result<(), OutOfMemory>
+    ensures { OnOk result (text.new.items ≡ text.old.items
+        ++ flat_map (λ word. 32 ∷ word) (terms_words (Terms.ShopTimes job first second))) }
+{
+    push_quantity(text, b"processing time of job", job.get())?;
+    push_quantity(text, b"on machine 1", first)?;
+    push_quantity(text, b"+ on machine 2", second)?;
+    Ok(())
+}
+
+fn push_window<A: Allocator>(
+    text: &mut Vec<u8, A>,
+    release: u64,
+    work: u64,
+    due: i64,
+) -> Result<(), OutOfMemory>
+    ensures { OnOk result (text.new.items ≡ text.old.items
+        ++ flat_map (λ word. 32 ∷ word) (terms_words (Terms.Window release work due))) }
+{
+    push_quantity(text, b"least release date", release)?;
+    push_quantity(text, b"+ total processing time", work)?;
+    push_quantity(text, b"- greatest due date", due)?;
+    Ok(())
+}
+
+fn push_split<A: Allocator>(
+    text: &mut Vec<u8, A>,
+    side: u64,
+    others: u128,
+    delta: u64,
+) -> Result<(), OutOfMemory>
+    ensures { OnOk result (text.new.items ≡ text.old.items
+        ++ flat_map (λ word. 32 ∷ word) (terms_words (Terms.Split side others delta))) }
+{
+    push_quantity(
+        text,
+        b"total processing time of the side on machine 1",
+        side,
+    )?;
+    push_quantity(text, b"+ of the others on machine 2", others)?;
+    push_quantity(text, b"+ delta", delta)?;
+    Ok(())
+}
+
+// The machines among which what stands before is shared out.
+fn push_share<A: Allocator>(
+    text: &mut Vec<u8, A>,
+    by: &[u8],
+    machines: u32,
+) -> Result<(), OutOfMemory>
+    ensures { OnOk result (text.new.items ≡ text.old.items ++ flat_map (λ word. 32 ∷ word)
+        (by.now ∷ decimal machines ∷ codes "machines, rounded up" ∷ [])) }
+{
+    push_quantity(text, by, machines)?;
+    push_phrase(text, b"machines, rounded up")?;
+    Ok(())
+}
+
+// A number behind what it is.
+fn push_quantity<A: Allocator, I: Integer>(
+    text: &mut Vec<u8, A>,
+    name: &[u8],
+    number: I,
+) -> Result<(), OutOfMemory>
+    ensures { OnOk result (text.new.items ≡ text.old.items
+        ++ flat_map (λ word. 32 ∷ word) (name.now ∷ I.text number ∷ [])) }
+{
+    push_phrase(text, name)?;
+    push_number(text, number)
+}
+
+// Words behind a blank.
+fn push_phrase<A: Allocator>(text: &mut Vec<u8, A>, words: &[u8]) -> Result<(), OutOfMemory>
+    ensures { OnOk result (text.new.items ≡ text.old.items
+        ++ flat_map (λ word. 32 ∷ word) (words.now ∷ [])) }
+{
+    text.push(b' ')?;
+    text.extend_from_slice(words)?;
+    Ok(())
 }
 
 fn push_outcomes<A: Allocator>(

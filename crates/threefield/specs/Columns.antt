@@ -17,7 +17,7 @@ HasWidth Picture = Unit {0}
 abbrev pub IsSized : Asking → Type 0
 IsSized (Solve options layout) = Unit {0}
 IsSized (Check options answer) = Unit {0}
-IsSized (Evaluate options answer) = Unit {0}
+IsSized (Evaluate evaluating) = Unit {0}
 IsSized (Gantt answer drawing explain) = HasWidth drawing
 IsSized (Problems table) = Unit {0}
 

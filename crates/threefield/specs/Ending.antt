@@ -10,6 +10,7 @@ use Rattle.tf_engine.specs.Checking.{IsCheckOf}
 use Rattle.tf_text.specs.AnswerText.{SheetData}
 use Rattle.tf_engine.specs.Drawing.{IsDrawingOf, IsChart}
 use Rattle.tf_picture.specs.Picture.{IsPicture}
+use Rattle.tf_evaluate.specs.declared.evaluation.Detail.{Detail}
 use Rattle.tf_evaluate.specs.declared.evaluation.Standing.{Standing}
 use Rattle.tf_evaluate.specs.RunEvaluating.{IsEvaluationOf}
 use Rattle.threefield.specs.declared.options.Drawing.{Drawing}
@@ -53,10 +54,10 @@ pub record EndsDrawing (drawing : Drawing) (answer writer : DeviceUse) (status :
   pub outcome : IsDrawingOf (drawn_as drawing) answer writer run
   pub ends : status ≡ status_of_run run
 
-pub record EndsEvaluating (request : RequestData) (instance answer writer : DeviceUse) (status : ℕ)
-    : Type 0 where
+pub record EndsEvaluating (detail : Detail) (request : RequestData)
+    (instance answer writer : DeviceUse) (status : ℕ) : Type 0 where
   pub run : Result Standing (RunFault Global)
-  pub outcome : IsEvaluationOf request instance answer writer run
+  pub outcome : IsEvaluationOf detail request instance answer writer run
   pub ends : status ≡ status_of_evaluating run
 
 -- the command ends so over a reader of this text

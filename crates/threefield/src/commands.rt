@@ -43,9 +43,7 @@ pub fn perform<S: Sources, W: Write, E: Write>(
         Work::Check(options, answer) => {
             check_named(alloc, sources, options, answer, writer, errors)
         }
-        Work::Evaluate(options, answer) => {
-            evaluate_named(alloc, sources, options, answer, writer, errors)
-        }
+        Work::Evaluate(evaluating) => evaluate_named(alloc, sources, evaluating, writer, errors),
         Work::Gantt {
             answer,
             drawing,

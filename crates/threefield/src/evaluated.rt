@@ -6,7 +6,7 @@ ghost use Rattle.tf_text.specs.Counted.{use_of};
 
 use crate::commands::tell_idle;
 use crate::explained::{Texts, not_read, tell, whole};
-use crate::options::Options;
+use crate::options::Evaluating;
 use crate::report::{report, say_device, say_memory, status_of_standing};
 use crate::source::Sources;
 use std::alloc::Global;
@@ -17,26 +17,27 @@ use tf_explain::source::Source;
 use tf_text::answer::layout::Layout;
 use tf_text::counted::Counted;
 
-/// Tells how good the answer of that name is.
+/// Tells how good the answer that is named is.
 pub fn evaluate_named<S: Sources, W: Write, E: Write>(
     alloc: Global,
     sources: &S,
-    options: &Options<'_>,
-    answer: &str,
+    evaluating: &Evaluating<'_>,
     writer: &mut Counted<W>,
     errors: &mut Counted<E>,
 ) -> u8 {
-    if options.telling.explain {
-        return evaluate_explained(alloc, sources, options, answer, writer, errors);
+    if evaluating.options.telling.explain {
+        return evaluate_explained(alloc, sources, evaluating, writer, errors);
     }
-    let (Ok(instance), Ok(answer)) = (sources.open(options.input), sources.open(answer)) else {
+    let instance = sources.open(evaluating.options.input);
+    let answer = sources.open(evaluating.answer);
+    let (Ok(instance), Ok(answer)) = (instance, answer) else {
         return say_device(errors);
     };
     let mut instance = Counted::new(instance);
     let mut answer = Counted::new(answer);
     evaluate(
         alloc,
-        options,
+        evaluating,
         &mut instance,
         &mut answer,
         writer,
@@ -49,50 +50,49 @@ pub fn evaluate_named<S: Sources, W: Write, E: Write>(
 fn evaluate_explained<S: Sources, W: Write, E: Write>(
     alloc: Global,
     sources: &S,
-    options: &Options<'_>,
-    answer: &str,
+    evaluating: &Evaluating<'_>,
     writer: &mut Counted<W>,
     errors: &mut Counted<E>,
 ) -> u8 {
-    let instance_text = match whole(alloc, sources, options.input) {
+    let instance_text = match whole(alloc, sources, evaluating.options.input) {
         Ok(text) => text,
-        Err(error) => return not_read(alloc, options.input, &error, errors),
+        Err(error) => return not_read(alloc, evaluating.options.input, &error, errors),
     };
-    let answer_text = match whole(alloc, sources, answer) {
+    let answer_text = match whole(alloc, sources, evaluating.answer) {
         Ok(text) => text,
-        Err(error) => return not_read(alloc, answer, &error, errors),
+        Err(error) => return not_read(alloc, evaluating.answer, &error, errors),
     };
     let texts = Texts {
         instance: Source {
-            name: options.input,
+            name: evaluating.options.input,
             text: instance_text.as_slice(),
         },
         answer: Source {
-            name: answer,
+            name: evaluating.answer,
             text: answer_text.as_slice(),
         },
     };
-    evaluate_texts(alloc, options, texts, writer, errors)
+    evaluate_texts(alloc, evaluating, texts, writer, errors)
 }
 
 /// Evaluates an answer, where both texts are known, and explains a refusal.
 fn evaluate_texts<W: Write, E: Write>(
     alloc: Global,
-    options: &Options<'_>,
+    evaluating: &Evaluating<'_>,
     texts: Texts<'_>,
     writer: &mut Counted<W>,
     errors: &mut Counted<E>,
 ) -> u8
     ensures { OverText texts.entry.instance.text.now (λ reader.
         OverText texts.entry.answer.text.now (λ answer_reader.
-        EndsEvaluating (requested options.now Layout.Two) reader answer_reader
-        (use_of W.contents writer.old writer.new) result)) }
+        EndsEvaluating evaluating.now.detail (requested evaluating.now.options Layout.Two) reader
+        answer_reader (use_of W.contents writer.old writer.new) result)) }
 {
     let mut reader = Counted::new(texts.instance.text);
     let mut answer_reader = Counted::new(texts.answer.text);
     evaluate(
         alloc,
-        options,
+        evaluating,
         &mut reader,
         &mut answer_reader,
         writer,
@@ -104,31 +104,31 @@ fn evaluate_texts<W: Write, E: Write>(
 /// Tells how good an answer is, and the exit status.
 fn evaluate<R: Read, S: Read, W: Write, E: Write>(
     alloc: Global,
-    options: &Options<'_>,
+    evaluating: &Evaluating<'_>,
     instance: &mut Counted<R>,
     answer: &mut Counted<S>,
     writer: &mut Counted<W>,
     errors: &mut Counted<E>,
     explained: Option<Texts<'_>>,
 ) -> u8
-    ensures { EndsEvaluating (requested options.now Layout.Two)
+    ensures { EndsEvaluating evaluating.now.detail (requested evaluating.now.options Layout.Two)
         (use_of R.remaining instance.old instance.new) (use_of S.remaining answer.old answer.new)
         (use_of W.contents writer.old writer.new) result }
 {
-    let Ok(request) = options.request(alloc, Layout::Two) else {
+    let Ok(request) = evaluating.options.request(alloc, Layout::Two) else {
         return say_memory(errors);
     };
-    match run_evaluate(alloc, &request, instance, answer, writer) {
+    match run_evaluate(alloc, &request, evaluating.detail, instance, answer, writer) {
         Ok(standing) => {
             if explained.is_some() {
-                tell_idle(options.telling, errors);
+                tell_idle(evaluating.options.telling, errors);
             }
             status_of_standing(&standing)
         }
         Err(fault) => {
             let status = report(&fault, errors);
             if let Some(Texts { instance, answer }) = explained {
-                tell_idle(options.telling, errors);
+                tell_idle(evaluating.options.telling, errors);
                 tell(
                     explain::refused(alloc, &fault, &request, &instance, Some(&answer)),
                     errors,

@@ -10,6 +10,7 @@ use clap::{Arg, ArgAction, ArgMatches, Command, Error};
 use std::alloc::{AllocError, Global};
 use tf_engine::request::{Form, Request};
 use tf_engine::text::Text;
+use tf_evaluate::evaluation::Detail;
 use tf_model::limit::{MOST_JOBS, MOST_MACHINES};
 use tf_text::answer::layout::Layout;
 use tf_text::chart::MOST_COLUMNS;
@@ -78,6 +79,15 @@ impl Options<'_> {
     }
 }
 
+/// Which answer is evaluated, to what, and how much is told of it.
+#[derive(Drop)]
+pub struct Evaluating<'a> {
+    pub options: Options<'a>,
+    /// The name of the answer.
+    pub answer: &'a str,
+    pub detail: Detail,
+}
+
 /// How the schedule of an answer is drawn.
 #[derive(Clone, Copy, Debug, PartialEq, Eq)]
 pub enum Drawing {
@@ -94,8 +104,8 @@ pub enum Work<'a> {
     Solve(Options<'a>, Layout),
     /// Judge the answer of this name.
     Check(Options<'a>, &'a str),
-    /// Tell how good the answer of this name is.
-    Evaluate(Options<'a>, &'a str),
+    /// Tell how good an answer is.
+    Evaluate(Evaluating<'a>),
     /// Draw the answer of this name.
     Gantt {
         answer: &'a str,
@@ -141,6 +151,7 @@ Exit status: 0 accepted, 1 rejected, 2 refused, 3 want of memory,
 
 const ABOUT_EVALUATE: &str = "\
 Example: threefield evaluate -p \"P2|prmp|Cmax\" examples/table.txt answer.txt
+         threefield evaluate -p \"1||sumC\" --certificate table.txt answer.txt
 
 Exit status: 0 best, 1 does not fit, 2 refused, 3 want of memory,
              4 a file or a device failed, 5 the command line is wrong,
@@ -201,9 +212,14 @@ fn check_command<'a>(alloc: Global) -> Result<Command<'a>, AllocError> {
 }
 
 fn evaluate_command<'a>(alloc: Global) -> Result<Command<'a>, AllocError> {
+    let certificate = Arg::new(alloc, "certificate")
+        .long("certificate")
+        .help("Writes the certificate's arithmetic as well, step by step")
+        .action(ArgAction::SetTrue);
     with_options(alloc, Command::new(alloc, "evaluate"))?
         .about("Tells how good an answer is, job by job, and its gap to the best")
         .after_help(ABOUT_EVALUATE)
+        .arg(certificate)?
         .arg(answer(alloc))
 }
 
@@ -341,7 +357,11 @@ pub fn understand<'a>(command: Command<'a>, words: &'a [String]) -> Asked<'a>
                 return Asked::Unfit("INPUT and ANSWER cannot both be standard input");
             }
             if name == "evaluate" {
-                return Asked::Work(Work::Evaluate(options, answer));
+                return Asked::Work(Work::Evaluate(Evaluating {
+                    options,
+                    answer,
+                    detail: detail_in(given),
+                }));
             }
             Asked::Work(Work::Check(options, answer))
         }
@@ -353,6 +373,15 @@ fn layout_in(given: &ArgMatches<'_>) -> Layout {
     match given.get_str("answer") {
         Some("1") => Layout::One,
         _ => Layout::Two,
+    }
+}
+
+// How much is told of an answer: the certificate's arithmetic where it is asked for.
+fn detail_in(given: &ArgMatches<'_>) -> Detail {
+    if given.get_flag("certificate") {
+        Detail::WithArithmetic
+    } else {
+        Detail::Summary
     }
 }
 

@@ -249,6 +249,45 @@ end
 }
 
 #[test]
+fn evaluating_writes_the_arithmetic_where_it_is_asked_for(rt: HostRuntime) -> Result<(), Fail> {
+    let shown = b"evaluation 1
+problem P2|prmp|Cmax
+jobs 3
+machines 2
+fits
+claimed 6
+value 6
+best 6
+gap 0
+bound 6
+step total processing time 12 / 2 machines, rounded up = 6
+job 1 0 4 4
+job 2 0 6 6
+job 3 2 6 6
+end
+";
+    let plain = [
+        "evaluate",
+        "--certificate",
+        "-p",
+        "P2|prmp|Cmax",
+        "-",
+        "answer",
+    ];
+    writes(&rt, &plain, 0, shown)?;
+    let explained = [
+        "evaluate",
+        "--certificate",
+        "--explain",
+        "-p",
+        "P2|prmp|Cmax",
+        "-",
+        "answer",
+    ];
+    writes(&rt, &explained, 0, shown)
+}
+
+#[test]
 fn machines_are_those_of_the_option(rt: HostRuntime) -> Result<(), Fail> {
     let three = b"answer 2
 problem P|prmp|Cmax

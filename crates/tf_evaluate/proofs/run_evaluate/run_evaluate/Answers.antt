@@ -15,9 +15,9 @@ returns-in_err-problem-clause-outcome g c =
     let line = ap problem_for
     (ap (λ r. r.problem) (sym c.request.view_is) ∙ sym c.as_str.ensures) in
     let (refused, same, is) = c.in_err-problem.ensures in
-    err_is (IsEvaluationOf c.args.request.now _ _ _) c.in_err-problem.field-0.0 _
+    err_is (IsEvaluationOf c.args.detail c.args.request.now _ _ _) c.in_err-problem.field-0.0 _
     c.from_residual.ensures.1
-    (evaluation_unread g.row.A.Denot c.args.request.now _ _ _ _ c.in_err-problem.field-0.0 refused
+    (evaluation_unread g.row.A.Denot c.args.detail c.args.request.now _ _ _ _ c.in_err-problem.field-0.0 refused
     same (line ∙ is))
 
 pub returns-in_err-task-clause-outcome : goal.returns-in_err-task-clause-outcome
@@ -25,9 +25,9 @@ returns-in_err-task-clause-outcome g c =
     let line : problem_for c.args.request.now.problem ≡ Ok c.in_ok-problem.problem =
     ap problem_for (ap (λ r. r.problem) (sym c.request.view_is) ∙ sym c.as_str.ensures)
     ∙ c.in_ok-problem.ensures in
-    err_is (IsEvaluationOf c.args.request.now _ _ _) c.in_err-task.field-0.0 _
+    err_is (IsEvaluationOf c.args.detail c.args.request.now _ _ _) c.in_err-task.field-0.0 _
     c.from_residual-in_err-task.ensures.1
-    (evaluation_untasked g.row.A.Denot c.args.request.now _ _ _ _ _ _ _ c.in_ok-problem.problem
+    (evaluation_untasked g.row.A.Denot c.args.detail c.args.request.now _ _ _ _ _ _ _ c.in_ok-problem.problem
     c.in_err-task.field-0.0 line c.in_err-task.ensures)
 
 pub returns-in_err-task-clause-read_answer : goal.returns-in_err-task-clause-read_answer
@@ -64,9 +64,9 @@ returns-in_err-sheet-clause-outcome g c =
     ap problem_for (ap (λ r. r.problem) (sym c.request.view_is) ∙ sym c.as_str.ensures)
     ∙ c.in_ok-problem.ensures in
     let read = c.in_ok-task.ensures in
-    err_is (IsEvaluationOf c.args.request.now _ _ _) c.in_err-sheet.field-0.0 _
+    err_is (IsEvaluationOf c.args.detail c.args.request.now _ _ _) c.in_err-sheet.field-0.0 _
     c.from_residual-in_err-sheet.ensures.1
-    (evaluation_unsaid g.row.A.Denot c.args.request.now _ _ _ _ read.text _
+    (evaluation_unsaid g.row.A.Denot c.args.detail c.args.request.now _ _ _ _ read.text _
     c.in_err-sheet.field-0.0 read.is_all
     (meant_by c.args.request.now c.in_ok-problem.problem read.text line ∙ read.given)
     c.in_err-sheet.ensures.device c.in_err-sheet.ensures.said)
@@ -78,9 +78,9 @@ returns-in_err-evaluation-clause-outcome g c =
     ∙ c.in_ok-problem.ensures in
     let read = c.in_ok-task.ensures in
     let (said, is_answer, says) = c.in_ok-sheet.ensures.said in
-    err_is (IsEvaluationOf c.args.request.now _ _ _) (of_solve c.in_err-evaluation.field-0.0) _
+    err_is (IsEvaluationOf c.args.detail c.args.request.now _ _ _) (of_solve c.in_err-evaluation.field-0.0) _
     c.from_residual-in_err-evaluation.ensures.1
-    (evaluation_unsolved g.row.A.Denot c.args.request.now _ _ _ _ read.text said _
+    (evaluation_unsolved g.row.A.Denot c.args.detail c.args.request.now _ _ _ _ read.text said _
     c.in_err-evaluation.field-0.0 read.is_all is_answer
     (meant_by c.args.request.now c.in_ok-problem.problem read.text line ∙ read.given)
     c.in_err-evaluation.ensures.refused)

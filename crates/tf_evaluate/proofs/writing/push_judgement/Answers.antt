@@ -17,6 +17,7 @@ returns g c =
       claimed = c.evaluation.inside.claimed;
       best = c.evaluation.inside.best;
       bound = c.evaluation.inside.bound;
+      steps = c.evaluation.inside.steps.items;
       outcomes = c.evaluation.inside.outcomes.items;
     } in
     let fit : c.push_fit.new.text.items ≡ c.args.text.now.items
