@@ -10,14 +10,17 @@ use crate::schedule::sort_by_machine;
 use std::alloc::{AllocError, Allocator};
 use tf_model::memory::OutOfMemory;
 
-// The binary digits of a machine's number less 1: there are at most 1,000 machines.
-const DIGITS: [u32; 10] = [1, 2, 4, 8, 16, 32, 64, 128, 256, 512];
+// The binary digits of a machine's number less 1, where there are few machines: of more, a sort is
+// faster than a walk for each digit.
+const DIGITS: [u32; 3] = [1, 2, 4];
+
+const FEW_MACHINES: u32 = 8;
 
 /// The pieces by machine, and by start on each, where there are so many machines.
 ///
-/// They are parted by one digit of the machine after the other, which keeps the order on each
-/// machine: where the pieces of each machine come by start, no sort is left to do. It takes memory
-/// for the pieces once more. Only want of memory is an error.
+/// Of few machines they are parted by one digit of the machine after the other, which keeps the
+/// order on each machine: where the pieces of each machine come by start, no sort is left to do. It
+/// takes memory for the pieces once more. Only want of memory is an error.
 pub fn by_machine<A: Allocator + Copy>(
     alloc: A,
     pieces: Vec<Piece, A>,
@@ -28,12 +31,17 @@ pub fn by_machine<A: Allocator + Copy>(
 {
     let mut placed = pieces;
     for digit in DIGITS {
-        if digit < machines {
+        if tells_apart(digit, machines) {
             placed = parted(alloc, &placed, digit)?;
         }
     }
     sort_by_machine(&mut placed);
     Ok(placed)
+}
+
+// Whether it pays to part so many machines by the digit.
+fn tells_apart(digit: u32, machines: u32) -> bool {
+    digit < machines && machines <= FEW_MACHINES
 }
 
 // The pieces whose machine lacks the digit, and behind them those whose machine has it.
