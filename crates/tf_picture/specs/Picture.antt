@@ -34,7 +34,7 @@ top machines machine =
 -- one fill after the other, seven characters each
 abbrev pub fills : List ℕ
 fills =
-    codes "#7fb2e5#fff2ae#e58a7b#cdeac0#b08fd8#ffd8a8#5fb8a5#f7cfe3#d9a441#cfe3f7#a3a3a3"
+    codes "#7fb2e5#f2dc7d#e58a7b#cdeac0#b08fd8#ffd8a8#5fb8a5#f7cfe3#d9a441#cfe3f7#a3a3a3"
 
 abbrev pub fill : ℕ → List ℕ
 fill job = take 7 (drop (job % 11 * 7) fills)

@@ -20,7 +20,7 @@ const EDGED: u64 = 300;
 
 // Eleven fills, dark and light in turn; black is legible on each.
 const FILLS: &[u8] =
-    b"#7fb2e5#fff2ae#e58a7b#cdeac0#b08fd8#ffd8a8#5fb8a5#f7cfe3#d9a441#cfe3f7#a3a3a3";
+    b"#7fb2e5#f2dc7d#e58a7b#cdeac0#b08fd8#ffd8a8#5fb8a5#f7cfe3#d9a441#cfe3f7#a3a3a3";
 
 /// Adds a bar for each piece on a machine of the frame.
 pub fn push_bars<A: Allocator>(

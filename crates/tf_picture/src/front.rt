@@ -63,7 +63,7 @@ fn push_sizes<A: Allocator, B: Allocator>(
 
 // A row for each machine, and its number.
 fn push_rows<A: Allocator>(text: &mut Vec<u8, A>, frame: &Frame) -> Result<(), OutOfMemory> {
-    text.extend_from_slice(b"<g fill=\"#f0f0f0\">\n")?;
+    text.extend_from_slice(b"<g fill=\"#fafafa\" stroke=\"#bbbbbb\" stroke-width=\"50\">\n")?;
     for place in 0..frame.machines {
         push_row(text, frame, place + 1)?;
     }

@@ -27,7 +27,7 @@ viewBox=\"0 0 120000 15000\" font-family=\"sans-serif\">
 <rect width=\"100%\" height=\"100%\" fill=\"#ffffff\"/>
 <text x=\"7000\" y=\"3200\" font-size=\"2000\">1||sumC, value 4</text>
 <text x=\"7000\" y=\"5200\" font-size=\"1300\">jobs 1, machines 1, length 4</text>
-<g fill=\"#f0f0f0\">
+<g fill=\"#fafafa\" stroke=\"#bbbbbb\" stroke-width=\"50\">
 <rect x=\"7000\" y=\"8900\" width=\"106000\" height=\"3200\"/>
 </g>
 <g text-anchor=\"end\" font-size=\"1300\">
@@ -55,7 +55,7 @@ viewBox=\"0 0 120000 15000\" font-family=\"sans-serif\">
 <text x=\"113000\" y=\"14000\">4</text>
 </g>
 <g stroke=\"#222222\" stroke-width=\"60\">
-<rect x=\"7000\" y=\"8900\" width=\"106000\" height=\"3200\" fill=\"#fff2ae\"><title>job 1, \
+<rect x=\"7000\" y=\"8900\" width=\"106000\" height=\"3200\" fill=\"#f2dc7d\"><title>job 1, \
 machine 1, 0 to 4</title></rect>
 </g>
 <g text-anchor=\"middle\" font-size=\"1300\" pointer-events=\"none\">
@@ -86,7 +86,7 @@ viewBox=\"0 0 120000 19000\" font-family=\"sans-serif\">
 <rect width=\"100%\" height=\"100%\" fill=\"#ffffff\"/>
 <text x=\"7000\" y=\"3200\" font-size=\"2000\">P2|prmp|Cmax, value 5</text>
 <text x=\"7000\" y=\"5200\" font-size=\"1300\">jobs 12, machines 2, length 5</text>
-<g fill=\"#f0f0f0\">
+<g fill=\"#fafafa\" stroke=\"#bbbbbb\" stroke-width=\"50\">
 <rect x=\"7000\" y=\"8900\" width=\"106000\" height=\"3200\"/>
 <rect x=\"7000\" y=\"12900\" width=\"106000\" height=\"3200\"/>
 </g>
@@ -119,11 +119,11 @@ viewBox=\"0 0 120000 19000\" font-family=\"sans-serif\">
 <text x=\"113000\" y=\"18000\">5</text>
 </g>
 <g stroke=\"#222222\" stroke-width=\"60\">
-<rect x=\"7000\" y=\"8900\" width=\"42400\" height=\"3200\" fill=\"#fff2ae\"><title>job 12, \
+<rect x=\"7000\" y=\"8900\" width=\"42400\" height=\"3200\" fill=\"#f2dc7d\"><title>job 12, \
 machine 1, 0 to 2</title></rect>
 <rect x=\"70600\" y=\"8900\" width=\"42400\" height=\"3200\" fill=\"#cdeac0\"><title>job 3, \
 machine 1, 3 to 5</title></rect>
-<rect x=\"49400\" y=\"12900\" width=\"21200\" height=\"3200\" fill=\"#fff2ae\"><title>job 12, \
+<rect x=\"49400\" y=\"12900\" width=\"21200\" height=\"3200\" fill=\"#f2dc7d\"><title>job 12, \
 machine 2, 2 to 3</title></rect>
 </g>
 <g text-anchor=\"middle\" font-size=\"1300\" pointer-events=\"none\">
@@ -153,7 +153,7 @@ viewBox=\"0 0 120000 19000\" font-family=\"sans-serif\">
 <rect width=\"100%\" height=\"100%\" fill=\"#ffffff\"/>
 <text x=\"7000\" y=\"3200\" font-size=\"2000\">P2||sumC, value 0</text>
 <text x=\"7000\" y=\"5200\" font-size=\"1300\">jobs 1, machines 2, length 0</text>
-<g fill=\"#f0f0f0\">
+<g fill=\"#fafafa\" stroke=\"#bbbbbb\" stroke-width=\"50\">
 <rect x=\"7000\" y=\"8900\" width=\"106000\" height=\"3200\"/>
 <rect x=\"7000\" y=\"12900\" width=\"106000\" height=\"3200\"/>
 </g>
