@@ -2,7 +2,7 @@
 
 /// What a person may have done.
 #[derive(Clone, Copy, Debug, PartialEq, Eq)]
-pub(crate) enum Cause {
+pub enum Cause {
     ByteOrderMark,
     IsAnswer,
     IsFlowShop,
@@ -48,7 +48,7 @@ pub(crate) enum Cause {
 
 /// What the place of a fault allows.
 #[derive(Clone, Copy, Debug, PartialEq, Eq)]
-pub(crate) enum Place {
+pub enum Place {
     Heading,
     Machines,
     Line,
@@ -57,7 +57,8 @@ pub(crate) enum Place {
 }
 
 impl Place {
-    pub(crate) fn allows(self) -> &'static str {
+    /// What may stand there, in a sentence.
+    pub fn allows(self) -> &'static str {
         match self {
             Place::Heading => "The first line of a job table is exactly \"table 1\".",
             Place::Machines => {
@@ -78,21 +79,26 @@ impl Place {
 
 /// What is wrong, and how to mend it.
 #[derive(Clone, Copy, Debug)]
-pub(crate) struct Advice {
-    pub(crate) cause: Cause,
-    pub(crate) place: Place,
-    pub(crate) wrong: &'static str,
-    pub(crate) mend: &'static str,
+pub struct Advice {
+    /// What the person may have done.
+    pub cause: Cause,
+    /// Where it happened.
+    pub place: Place,
+    /// What is wrong, in a sentence.
+    pub wrong: &'static str,
+    /// How to mend it, in a sentence.
+    pub mend: &'static str,
 }
 
 impl Cause {
     /// What the table of advice says of it.
-    pub(crate) fn advice(self) -> Option<&'static Advice> {
+    pub fn advice(self) -> Option<&'static Advice> {
         ADVICE.iter().find(|advice| advice.cause == self)
     }
 }
 
-pub(crate) static ADVICE: [Advice; 41] = [
+/// All advice, in the order of the causes.
+pub static ADVICE: [Advice; 41] = [
     Advice {
         cause: Cause::ByteOrderMark,
         place: Place::Heading,

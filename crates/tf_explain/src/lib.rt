@@ -5,7 +5,7 @@
 //! are solved.
 #![tactic(auto)]
 
-mod advice;
+pub mod advice;
 mod answer;
 mod cycle;
 pub mod explain;
@@ -21,8 +21,6 @@ pub mod solved;
 pub mod source;
 mod table;
 mod tardiness;
-#[cfg(test)]
-mod tests;
 mod text;
 mod unused;
 mod verdict;

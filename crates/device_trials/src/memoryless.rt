@@ -1,7 +1,4 @@
 //! Refusals that come before any growth is asked for, and calls that ask for none.
-use crate::devices::{Sink, Source};
-use crate::examples::parallel::FOURS;
-use crate::runs::{ensure, request_table};
 use refusing::Refusing;
 use std::test::Fail;
 use tf_engine::fault::RunFault;
@@ -15,6 +12,9 @@ use tf_read::flow_shop::FlowReader;
 use tf_read::job_table::read_table;
 use tf_text::counted::Counted;
 use tf_words::feed::Feed;
+use trials::devices::{Sink, Source};
+use trials::examples::parallel::FOURS;
+use trials::runs::{ensure, request_table};
 
 /// Problems that are refused, with the byte of the fault where it is one of the notation.
 const REFUSED: [(&str, Option<usize>); 7] = [

@@ -1,9 +1,4 @@
 //! The three runs on devices that give and take one byte a call, or fail.
-use crate::devices::{Failure, Sink, Source, Way};
-use crate::examples::files::{SECOND_OF_TWO, SHOP, TARDINESS, TWO_OF_THREE};
-use crate::examples::parallel::FOURS;
-use crate::examples::{Example, Given, WORKED, answer_in};
-use crate::runs::{LAYOUTS, ensure, request, request_for};
 use refusing::Refusing;
 use std::test::Fail;
 use tf_engine::fault::RunFault;
@@ -14,6 +9,11 @@ use tf_engine::run_solve::run_solve;
 use tf_read::fault::ReadFault;
 use tf_text::answer::layout::Layout;
 use tf_text::counted::Counted;
+use trials::devices::{Failure, Sink, Source, Way};
+use trials::examples::files::{SECOND_OF_TWO, SHOP, TARDINESS, TWO_OF_THREE};
+use trials::examples::parallel::FOURS;
+use trials::examples::{Example, Given, WORKED, answer_in};
+use trials::runs::{LAYOUTS, ensure, request, request_for};
 
 fn solve(
     rt: &HostRuntime,

@@ -1,7 +1,7 @@
 //! Mistakes in whole tables, and tables that are no task of their problem.
-use super::cases::{As, Mistake};
+use crate::cases::{As, Mistake};
 
-pub(super) static TASK_MISTAKES: [Mistake; 13] = [
+pub(crate) static TASK_MISTAKES: [Mistake; 13] = [
     Mistake {
         problem: "1||hmax",
         form: As::Table,

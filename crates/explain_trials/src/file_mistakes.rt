@@ -1,7 +1,7 @@
 //! Mistakes with the files of OR-Library's layouts.
-use super::cases::{As, Mistake};
+use crate::cases::{As, Mistake};
 
-pub(super) static FILE_MISTAKES: [Mistake; 8] = [
+pub(crate) static FILE_MISTAKES: [Mistake; 8] = [
     Mistake {
         problem: "1||Lmax",
         form: As::Wt(4, 1),

@@ -1,6 +1,4 @@
 //! A mistake, and what is said of it.
-use crate::explain;
-use crate::source::Source;
 use std::alloc::AllocError;
 use std::test::Fail;
 use tf_engine::fault::RunFault;
@@ -8,12 +6,14 @@ use tf_engine::request::{Form, Request};
 use tf_engine::run_check::run_check;
 use tf_engine::run_solve::run_solve;
 use tf_engine::text::Text;
+use tf_explain::explain;
+use tf_explain::source::Source;
 use tf_text::answer::layout::Layout;
 use tf_text::counted::Counted;
 
 /// What a text is read as.
 #[derive(Clone, Copy)]
-pub(super) enum As {
+pub(crate) enum As {
     Table,
     /// With `--machines`.
     Machines(u32),
@@ -27,15 +27,15 @@ pub(super) enum As {
 
 /// A problem and a text, and what is printed.
 #[derive(Clone, Copy)]
-pub(super) struct Mistake {
-    pub(super) problem: &'static str,
-    pub(super) form: As,
-    pub(super) text: &'static str,
-    pub(super) told: &'static str,
+pub(crate) struct Mistake {
+    pub(crate) problem: &'static str,
+    pub(crate) form: As,
+    pub(crate) text: &'static str,
+    pub(crate) told: &'static str,
 }
 
 impl As {
-    pub(super) fn request(self, rt: &HostRuntime, problem: &str) -> Result<Request, AllocError> {
+    pub(crate) fn request(self, rt: &HostRuntime, problem: &str) -> Result<Request, AllocError> {
         let form = match self {
             As::Table | As::Machines(_) => Form::Table,
             As::Wt(jobs, index) => Form::Wt { jobs, index },
@@ -62,7 +62,7 @@ impl As {
 
 impl Mistake {
     /// What is said of the run of a text, whether it is refused or solved.
-    pub(super) fn says(&self, rt: &HostRuntime) -> Result<String, Fail> {
+    pub(crate) fn says(&self, rt: &HostRuntime) -> Result<String, Fail> {
         let request = self.form.request(rt, self.problem)?;
         let instance = Source {
             name: "jobs.txt",
@@ -79,7 +79,7 @@ impl Mistake {
     }
 
     /// What is said of a check of an answer to the text.
-    pub(super) fn says_of(&self, rt: &HostRuntime, answer: &str) -> Result<String, Fail> {
+    pub(crate) fn says_of(&self, rt: &HostRuntime, answer: &str) -> Result<String, Fail> {
         let request = self.form.request(rt, self.problem)?;
         let instance = Source {
             name: "jobs.txt",

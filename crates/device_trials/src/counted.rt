@@ -1,9 +1,9 @@
 //! Readers and writers that remember a failure.
-use crate::devices::{Failure, Sink, Source, Way};
-use crate::runs::ensure;
 use std::test::Fail;
 use tf_text::counted::{Counted, Device};
 use tf_text::input::{InputFault, read_all};
+use trials::devices::{Failure, Sink, Source, Way};
+use trials::runs::ensure;
 
 const TEXT: &[u8] = b"answer 1\nproblem P2|prmp|Cmax\n";
 

@@ -1,11 +1,11 @@
 //! Files that are not read, and an output that fails.
-use super::cases::As;
-use crate::explain;
-use crate::source::Source;
+use crate::cases::As;
 use std::io;
 use std::io::ErrorKind;
 use std::test::Fail;
 use tf_engine::fault::RunFault;
+use tf_explain::explain;
+use tf_explain::source::Source;
 
 #[test]
 fn a_device_is_named_with_its_reason(rt: HostRuntime) -> Result<(), Fail> {

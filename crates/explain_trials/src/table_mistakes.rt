@@ -1,7 +1,7 @@
 //! Mistakes in the lines of job tables.
-use super::cases::{As, Mistake};
+use crate::cases::{As, Mistake};
 
-pub(super) static TABLE_MISTAKES: [Mistake; 17] = [
+pub(crate) static TABLE_MISTAKES: [Mistake; 17] = [
     Mistake {
         problem: "1||sumC",
         form: As::Table,

@@ -1,7 +1,4 @@
 //! Calls on lent arguments: with each of their growths refused, and again with ample memory.
-use crate::examples::{Example, Given, WORKED};
-use crate::growths::{Ended, refuse_each_growth};
-use crate::runs::ensure;
 use refusing::Refusing;
 use std::alloc::{Allocator, Global};
 use std::test::Fail;
@@ -27,6 +24,9 @@ use tf_text::answer::layout::Layout;
 use tf_text::answer::reading::read_answer;
 use tf_text::answer::sheet::Sheet;
 use tf_text::answer::writing::answer_bytes;
+use trials::examples::{Example, Given, WORKED};
+use trials::growths::{Ended, refuse_each_growth};
+use trials::runs::ensure;
 
 /// What an example lends to a call.
 #[derive(Drop)]

@@ -1,9 +1,9 @@
 //! Mistakes in problems and instances.
-use super::cases::Mistake;
-use super::file_mistakes::FILE_MISTAKES;
-use super::notation_mistakes::NOTATION_MISTAKES;
-use super::table_mistakes::TABLE_MISTAKES;
-use super::task_mistakes::TASK_MISTAKES;
+use crate::cases::Mistake;
+use crate::file_mistakes::FILE_MISTAKES;
+use crate::notation_mistakes::NOTATION_MISTAKES;
+use crate::table_mistakes::TABLE_MISTAKES;
+use crate::task_mistakes::TASK_MISTAKES;
 use std::test::Fail;
 
 fn are_explained(rt: &HostRuntime, mistakes: &[Mistake]) -> Result<(), Fail> {

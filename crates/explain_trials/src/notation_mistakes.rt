@@ -1,7 +1,7 @@
 //! Mistakes in problems.
-use super::cases::{As, Mistake};
+use crate::cases::{As, Mistake};
 
-pub(super) static NOTATION_MISTAKES: [Mistake; 9] = [
+pub(crate) static NOTATION_MISTAKES: [Mistake; 9] = [
     Mistake {
         problem: "prpm",
         form: As::Table,

@@ -1,5 +1,5 @@
 //! Mistakes in answers.
-use super::cases::{As, Mistake};
+use crate::cases::{As, Mistake};
 use std::test::Fail;
 
 /// A mistake with the answer that is checked.

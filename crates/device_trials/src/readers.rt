@@ -1,6 +1,4 @@
 //! Readers of OR-Library files, whole and in pieces.
-use crate::examples::files::{SHOP, TARDINESS};
-use crate::runs::ensure;
 use refusing::Refusing;
 use std::alloc::Allocator;
 use std::test::Fail;
@@ -10,6 +8,8 @@ use tf_read::fault::ReadFault;
 use tf_read::flow_shop::{FlowReader, read_flowshop};
 use tf_read::weighted_tardiness::{WtReader, read_wt};
 use tf_words::feed::Feed;
+use trials::examples::files::{SHOP, TARDINESS};
+use trials::runs::ensure;
 
 type Read<A> = Result<Instance<A>, ReadFault>;
 
