@@ -6,7 +6,7 @@ use Rattle.std.specs.Int.{int_max}
 use Rattle.std.proofs.lemmas.Bool.{false≢true, cases_lt, eqb-true}
 use Rattle.std.proofs.lemmas.List.{get_or_default, get_or_past}
 use Rattle.std.proofs.lemmas.List.Elements.{All-head, All-tail}
-use Rattle.tf_model.specs.SchedulingTask.{SchedulingTask, all_jobs, job_data}
+use Rattle.tf_model.specs.SchedulingTask.{SchedulingTask, job_data}
 use Rattle.tf_model.specs.Timetable.{Timetable, Row, cell, completion}
 use Rattle.tf_model.specs.Feasible.{Fits}
 use Rattle.tf_model.specs.Cost.{cost, cost_by, greatest, greatest_price, objective_of, price, Objective, Makespan, Lateness, Dearest, Total}

@@ -1,12 +1,11 @@
 -- The times of a list of jobs by their ranks: how they are added up, and that they stay within the
 -- limit.
-use Rattle.std.proofs.Common.{◌≡◌, ℕ, ◌+◌, ◌*◌, ◌<◌, ◌≤◌, List, [], ◌∷◌, length, get_or, drop, None, Some, true, false, cond, nat_lt, zero, suc, refl, not, ◌&&◌, All, sum_by, sym, ap, ◌∙◌, arith, IsTrue, IsFalse, mul-le-mul_left, mul-le-mul_right}
+use Rattle.std.proofs.Common.{◌≡◌, ℕ, ◌+◌, ◌*◌, ◌≤◌, List, [], ◌∷◌, length, None, Some, true, false, cond, nat_lt, zero, suc, refl, not, ◌&&◌, All, sum_by, ap, ◌∙◌, arith, IsTrue, IsFalse, mul-le-mul_left, mul-le-mul_right}
 use Rattle.std.specs.Int.{div_ceil}
 use Rattle.std.specs.List.{AllPairs}
 use Rattle.std.proofs.lemmas.Bool.{and_parts}
 use Rattle.std.proofs.lemmas.Bool.Decides.{nat_tests}
 use Rattle.std.proofs.lemmas.List.Elements.{All-head}
-use Rattle.std.proofs.lemmas.List.{at_drop_more}
 use Rattle.std.proofs.lemmas.List.Sums.{sum_by-cons}
 use Rattle.tf_model.specs.Bounds.{ranks_value}
 use Rattle.tf_model.specs.ClassTable.{is_sum, is_weighted, is_parallel, may_break}

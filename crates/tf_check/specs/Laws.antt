@@ -1,5 +1,5 @@
 -- A bound that is given is at most the cost of every timetable that fits.
-use Rattle.std.proofs.Common.{◌≡◌, ℕ, suc, ◌+◌, ◌-◌, ◌≤◌, ◌<◌, ◌⊎◌, ℤ, pos, negsuc, ◌-ℤ◌, ◌≤ℤ◌, List, [], ◌∷◌, ◌++◌, map, length, min, Bool, true, false, not, ◌&&◌, ◌||◌, ◌==◌, cond, nat_lt, nat_le, int_le, unsigned_abs, Option, Some, None, Result, Ok, Err, refl, sym, ap, ◌∙◌, subst, inl, inr, ⊎_elim, sum_by, count_by, filter, All, Contains, slice_index_or, find, option_map, arith}
+use Rattle.std.proofs.Common.{◌≡◌, ℕ, suc, ◌+◌, ◌-◌, ◌≤◌, ◌<◌, ◌⊎◌, ℤ, pos, negsuc, ◌≤ℤ◌, List, [], ◌∷◌, ◌++◌, map, length, min, Bool, true, false, not, ◌&&◌, ◌||◌, ◌==◌, cond, nat_lt, nat_le, int_le, unsigned_abs, Option, Some, None, Result, Ok, Err, refl, sym, ap, ◌∙◌, subst, inl, inr, ⊎_elim, sum_by, count_by, filter, All, Contains, slice_index_or, find, option_map, arith}
 use Rattle.std.specs.List.{fold, list_any}
 use Rattle.std.specs.Int.{int_min, int_max}
 use Rattle.std.proofs.lemmas.Bool.{false≢true, and_parts, or_cases, or_left, or_right, not-true, not-false, ltb-true, ltb-false, leb-true, eqb-true, eq-eqb, ne_eqb, cases_Bool, cases_eq}
@@ -28,7 +28,7 @@ use Rattle.tf_check.specs.declared.fault.BoundFault.{BoundFault}
 use Rattle.tf_check.specs.declared.fault.BoundFault.TheVariants.{BadMachine, BadJob, Repeated, Condition, BadDelta}
 use Rattle.tf_check.specs.Claim.{Claim, ByPairs, ByLastOf, ByWindow, BySplit, ByLoad, ByMachine, ByOneJob, ByRanks}
 use Rattle.tf_model.specs.Outcome.{unless}
-use Rattle.tf_check.specs.Bound.{bound_by, other_kind, is_job, job_fault, list_fault, empty_fault, is_free, free_jobs, no_free_fault, least, load_bound, one_job_bound, pairs_bound, last_of_bound, machine_fault, machine_bound, window_bound, least_number, greatest, longer_fault, ranks_fault, ranks_bound, keeps_side, side_fault, reaches_delta, delta_fault, split_bound}
+use Rattle.tf_check.specs.Bound.{bound_by, other_kind, is_job, job_fault, list_fault, empty_fault, is_free, free_jobs, no_free_fault, least, load_bound, one_job_bound, pairs_bound, last_of_bound, machine_fault, machine_bound, window_bound, least_number, greatest, longer_fault, ranks_fault, ranks_bound, window_span, keeps_side, side_fault, reaches_delta, delta_fault, split_bound}
 
 -- what a bound that is given says of the faults before it
 pub unless_ok : (o : Option BoundFault) (r : Result ℤ BoundFault) (b : ℤ) → unless o r ≡ Ok b
@@ -45,6 +45,24 @@ abbrev pub bound_in : Result ℤ BoundFault → ℤ
 bound_in (Ok b) = b
 bound_in (Err fault) = pos 0
 
+-- a value behind faults that are judged one after another
+abbrev pub behind : List (Option BoundFault) → ℤ → Result ℤ BoundFault
+behind [] value = Ok value
+behind (fault ∷ faults) value = unless fault (behind faults value)
+
+abbrev pub AreNone : List (Option BoundFault) → Type 0
+AreNone [] = Unit {0}
+AreNone (fault ∷ faults) = (fault ≡ None) × AreNone faults
+
+-- a bound that is given is the value, and none of the faults before it is there
+pub behind_says : (faults : List (Option BoundFault)) (value b : ℤ) → behind faults value ≡ Ok b
+    → AreNone faults × (value ≡ b)
+behind_says [] value b e = (tt, ap bound_in e)
+behind_says (fault ∷ faults) value b e =
+    let first = unless_ok fault (behind faults value) b e in
+    let others = behind_says faults value b first.1 in
+    ((first.0, others.0), others.1)
+
 -- ---- what the faults that are not there say
 
 is_job_says : (k : SchedulingTask) (j : ℕ) → is_job k j ≡ true → IsJob k j
@@ -57,6 +75,16 @@ job_fault_says k j e = by_test (is_job k j) refl e
   where
     by_test : (t : Bool) → is_job k j ≡ t → cond t None (Some (BadJob j)) ≡ None → IsJob k j
     by_test true e h = is_job_says k j e
+    by_test false e h = cc
+
+-- a machine without a fault is 1 or 2
+machine_fault_says : (machine : ℕ) → machine_fault machine ≡ None → (0 < machine) × (machine ≤ 2)
+machine_fault_says machine e = by_test (nat_lt 0 machine && nat_le machine 2) refl e
+  where
+    by_test : (t : Bool) → (nat_lt 0 machine && nat_le machine 2) ≡ t
+        → cond t None (Some (BadMachine machine)) ≡ None → (0 < machine) × (machine ≤ 2)
+    by_test true e h = let p = and_parts (nat_lt 0 machine) (nat_le machine 2) e in
+        (ltb-true 0 machine p.0, leb-true machine 2 p.1)
     by_test false e h = cc
 
 stands_in_last : (seen : List ℕ) (j c : ℕ) → (j == c) ≡ true → stands_in (seen ++ j ∷ []) c ≡ true
@@ -207,6 +235,91 @@ find_says test (j ∷ jobs) e = by_test (test j) refl e (find_says test jobs)
     by_test true e h rest = cc
     by_test false e h rest = All-cons (λ i. test i ≡ false) j jobs e (rest h)
 
+-- ---- what a bound that is given says, kind by kind
+
+pub load_says : (k : SchedulingTask) (b : ℤ) → load_bound k ≡ Ok b
+    → (takes_load k.class ≡ true) × (pos (load_value k) ≡ b)
+load_says k b is =
+    let says = behind_says (other_kind (takes_load k.class) ∷ []) (pos (load_value k)) b is in
+    (for_class (takes_load k.class) says.0.0, says.1)
+
+pub one_job_says : (k : SchedulingTask) (j : ℕ) (b : ℤ) → one_job_bound k j ≡ Ok b
+    → (takes_one_job k.class ≡ true) × IsJob k j × (pos (time_of k j) ≡ b)
+one_job_says k j b is =
+    let says = behind_says (other_kind (takes_one_job k.class) ∷ job_fault k j ∷ [])
+    (pos (time_of k j)) b is in
+    (for_class (takes_one_job k.class) says.0.0, job_fault_says k j says.0.1.0, says.1)
+
+pub pairs_says : (k : SchedulingTask) (b : ℤ) → pairs_bound k ≡ Ok b
+    → (takes_pairs k.class ≡ true) × (pos (pairs_value k) ≡ b)
+pairs_says k b is =
+    let says = behind_says (other_kind (takes_pairs k.class) ∷ []) (pos (pairs_value k)) b is in
+    (for_class (takes_pairs k.class) says.0.0, says.1)
+
+-- the machine is 1 or 2
+pub machine_says : (k : SchedulingTask) (machine : ℕ) (b : ℤ) → machine_bound k machine ≡ Ok b
+    → (takes_machine k.class ≡ true) × (0 < machine) × (machine ≤ 2)
+    × (pos (sum_by (λ j. time_on k j (machine - 1)) (all_jobs k)) ≡ b)
+machine_says k machine b is =
+    let says = behind_says (other_kind (takes_machine k.class) ∷ machine_fault machine ∷ [])
+    (pos (sum_by (λ j. time_on k j (machine - 1)) (all_jobs k))) b is in
+    let range = machine_fault_says machine says.0.1.0 in
+    (for_class (takes_machine k.class) says.0.0, range.0, range.1, says.1)
+
+pub last_of_says : (k : SchedulingTask) (jobs : List ℕ) (b : ℤ) → last_of_bound k jobs ≡ Ok b
+    → (takes_last_of k.class ≡ true) × (list_fault k [] jobs ≡ None) × (0 < length jobs)
+    × (least (λ j. price k j (sum_by (time_of k) jobs)) (free_jobs k jobs) ≡ b)
+last_of_says k jobs b is =
+    let says = behind_says
+    (other_kind (takes_last_of k.class) ∷ list_fault k [] jobs ∷ empty_fault jobs
+    ∷ no_free_fault (free_jobs k jobs) jobs ∷ [])
+    (least (λ j. price k j (sum_by (time_of k) jobs)) (free_jobs k jobs)) b is in (
+      for_class (takes_last_of k.class) says.0.0,
+      says.0.1.0,
+      empty_fault_says jobs says.0.1.1.0,
+      says.1,
+    )
+
+pub window_says : (k : SchedulingTask) (jobs : List ℕ) (b : ℤ) → window_bound k jobs ≡ Ok b
+    → (takes_window k.class ≡ true) × (list_fault k [] jobs ≡ None) × (0 < length jobs)
+    × (window_span k jobs ≡ b)
+window_says k jobs b is =
+    let says = behind_says
+    (other_kind (takes_window k.class) ∷ list_fault k [] jobs ∷ empty_fault jobs ∷ [])
+    (window_span k jobs) b is in (
+      for_class (takes_window k.class) says.0.0,
+      says.0.1.0,
+      empty_fault_says jobs says.0.1.1.0,
+      says.1,
+    )
+
+pub ranks_says : (k : SchedulingTask) (jobs : List ℕ) (b : ℤ) → ranks_bound k jobs ≡ Ok b
+    → (takes_ranks k.class ≡ true) × (list_fault k [] jobs ≡ None) × (ranks_fault k jobs ≡ None)
+    × (pos (ranks_value k jobs) ≡ b)
+ranks_says k jobs b is =
+    let says = behind_says
+    (other_kind (takes_ranks k.class) ∷ list_fault k [] jobs ∷ empty_fault jobs
+    ∷ ranks_fault k jobs ∷ [])
+    (pos (ranks_value k jobs)) b is in
+    (for_class (takes_ranks k.class) says.0.0, says.0.1.0, says.0.1.1.1.0, says.1)
+
+pub split_says : (k : SchedulingTask) (side : List ℕ) (delta : ℤ) (first : Bool) (b : ℤ)
+    → split_bound k side delta first ≡ Ok b
+    → (takes_split k.class ≡ true) × (list_fault k [] side ≡ None)
+    × (side_fault k side delta first ≡ None) × (delta_fault k side delta first ≡ None)
+    × (pos (split_value k side (unsigned_abs delta)) ≡ b)
+split_says k side delta first b is =
+    let says = behind_says
+    (other_kind (takes_split k.class) ∷ list_fault k [] side ∷ side_fault k side delta first
+    ∷ delta_fault k side delta first ∷ [])
+    (pos (split_value k side (unsigned_abs delta))) b is in (
+      for_class (takes_split k.class) says.0.0,
+      says.0.1.0,
+      says.0.1.1.0,
+      says.0.1.1.1.0,
+      says.1,
+    )
+
 -- ---- the laws
 
 load_class : (c : Class) → takes_load c ≡ true → (objective_of c ≡ Makespan) × (is_shop c ≡ false)
@@ -217,10 +330,9 @@ load_class c e =
 pub load_law : (k : SchedulingTask) (rows : Timetable) (b : ℤ) → IsSound k → load_bound k ≡ Ok b
     → FitsBroken k rows → b ≤ℤ cost k rows
 load_law k rows b sound is fits =
-    let parts = unless_ok (other_kind (takes_load k.class)) (Ok (pos (load_value k))) b is in
-    let class = load_class k.class (for_class (takes_load k.class) parts.0) in
-    subst (λ z. z ≤ℤ cost k rows) (ap bound_in parts.1)
-    (load-le-cost k rows sound fits class.0 class.1)
+    let says = load_says k b is in
+    let class = load_class k.class says.0 in
+    subst (λ z. z ≤ℤ cost k rows) says.1 (load-le-cost k rows sound fits class.0 class.1)
 
 one_job_class : (c : Class) → takes_one_job c ≡ true → objective_of c ≡ Makespan
 one_job_class c e = spanning c (and_parts (is_span c) (not (is_flow c)) e).0
@@ -228,13 +340,9 @@ one_job_class c e = spanning c (and_parts (is_span c) (not (is_flow c)) e).0
 pub one_job_law : (k : SchedulingTask) (j : ℕ) (rows : Timetable) (b : ℤ) → IsSound k
     → one_job_bound k j ≡ Ok b → FitsBroken k rows → b ≤ℤ cost k rows
 one_job_law k j rows b sound is fits =
-    let given : Result ℤ BoundFault = Ok (pos (time_of k j)) in
-    let at_class =
-    unless_ok (other_kind (takes_one_job k.class)) (unless (job_fault k j) given) b is in
-    let at_job = unless_ok (job_fault k j) given b at_class.1 in
-    let class = one_job_class k.class (for_class (takes_one_job k.class) at_class.0) in
-    subst (λ z. z ≤ℤ cost k rows) (ap bound_in at_job.1)
-    (one_job-le-cost k rows fits class j (job_fault_says k j at_job.0))
+    let says = one_job_says k j b is in
+    subst (λ z. z ≤ℤ cost k rows) says.2
+    (one_job-le-cost k rows fits (one_job_class k.class says.0) j says.1)
 
 pairs_class : (c : Class) → takes_pairs c ≡ true → (objective_of c ≡ Total) × (is_single c ≡ true)
 pairs_class c e =
@@ -244,10 +352,9 @@ pairs_class c e =
 pub pairs_law : (k : SchedulingTask) (rows : Timetable) (b : ℤ) → IsSound k → pairs_bound k ≡ Ok b
     → FitsBroken k rows → b ≤ℤ cost k rows
 pairs_law k rows b sound is fits =
-    let parts = unless_ok (other_kind (takes_pairs k.class)) (Ok (pos (pairs_value k))) b is in
-    let class = pairs_class k.class (for_class (takes_pairs k.class) parts.0) in
-    subst (λ z. z ≤ℤ cost k rows) (ap bound_in parts.1)
-    (pairs-le-cost k rows sound fits class.1 class.0)
+    let says = pairs_says k b is in
+    let class = pairs_class k.class says.0 in
+    subst (λ z. z ≤ℤ cost k rows) says.1 (pairs-le-cost k rows sound fits class.1 class.0)
 
 machine_class : (c : Class) → takes_machine c ≡ true
     → (objective_of c ≡ Makespan) × (is_shop c ≡ true)
@@ -255,28 +362,14 @@ machine_class c e =
     let facts = and_parts (is_span c) (is_shop c && not (is_flow c)) e in
     (spanning c facts.0, (and_parts (is_shop c) (not (is_flow c)) facts.1).0)
 
-machine_fault_says : (machine : ℕ) → machine_fault machine ≡ None → machine - 1 < 2
-machine_fault_says machine e = by_test (nat_lt 0 machine && nat_le machine 2) refl e
-  where
-    by_test : (t : Bool) → (nat_lt 0 machine && nat_le machine 2) ≡ t
-        → cond t None (Some (BadMachine machine)) ≡ None → machine - 1 < 2
-    by_test true e h = let p = and_parts (nat_lt 0 machine) (nat_le machine 2) e in
-        omega (arith, leb-true machine 2 p.1)
-    by_test false e h = cc
-
 pub machine_law : (k : SchedulingTask) (machine : ℕ) (rows : Timetable) (b : ℤ) → IsSound k
     → machine_bound k machine ≡ Ok b → FitsBroken k rows → b ≤ℤ cost k rows
 machine_law k machine rows b sound is fits =
-    let given : Result ℤ BoundFault =
-    Ok (pos (sum_by (λ j. time_on k j (machine - 1)) (all_jobs k))) in
-    let at_class =
-    unless_ok (other_kind (takes_machine k.class)) (unless (machine_fault machine) given) b
-    is in
-    let at_machine = unless_ok (machine_fault machine) given b at_class.1 in
-    let class = machine_class k.class (for_class (takes_machine k.class) at_class.0) in
-    subst (λ z. z ≤ℤ cost k rows) (ap bound_in at_machine.1)
+    let says = machine_says k machine b is in
+    let class = machine_class k.class says.0 in
+    subst (λ z. z ≤ℤ cost k rows) says.3
     (machine-le-cost k rows sound fits class.0 class.1 (machine - 1)
-    (machine_fault_says machine at_machine.0))
+    (omega (arith, says.1, says.2)))
 
 last_of_class : (c : Class) → takes_last_of c ≡ true
     → ((o : Objective) × (objective_of c ≡ o)
@@ -309,27 +402,14 @@ pub last_of_law : (k : SchedulingTask) (jobs : List ℕ) (rows : Timetable) (b :
     → last_of_bound k jobs ≡ Ok b → FitsBroken k rows → b ≤ℤ cost k rows
 last_of_law k jobs rows b sound is fits =
     let h : ℕ → ℤ = λ j. price k j (sum_by (time_of k) jobs) in
-    let given : Result ℤ BoundFault = Ok (least h (free_jobs k jobs)) in
-    let at_class =
-    unless_ok (other_kind (takes_last_of k.class))
-    (unless (list_fault k [] jobs)
-    (unless (empty_fault jobs) (unless (no_free_fault (free_jobs k jobs) jobs) given))) b is in
-    let at_list =
-    unless_ok (list_fault k [] jobs)
-    (unless (empty_fault jobs) (unless (no_free_fault (free_jobs k jobs) jobs) given)) b
-    at_class.1 in
-    let at_empty =
-    unless_ok (empty_fault jobs) (unless (no_free_fault (free_jobs k jobs) jobs) given) b
-    at_list.1 in
-    let at_free = unless_ok (no_free_fault (free_jobs k jobs) jobs) given b at_empty.1 in
-    let class = last_of_class k.class (for_class (takes_last_of k.class) at_class.0) in
-    let list = list_fault_says k [] jobs at_list.0 in
+    let says = last_of_says k jobs b is in
+    let class = last_of_class k.class says.0 in
+    let list = list_fault_says k [] jobs says.1 in
     let all = filter_says (λ j. least h (free_jobs k jobs) ≤ℤ h j) (is_free k jobs) jobs
     (least_says h (free_jobs k jobs)) in
-    subst (λ z. z ≤ℤ cost k rows) (ap bound_in at_free.1)
+    subst (λ z. z ≤ℤ cost k rows) says.3
     (last_of-le-cost k rows sound fits class.1 (class.0).0 (class.0).1 ((class.0).2 k rows) jobs
-    (λ c. (list.1 c).1) list.0 (empty_fault_says jobs at_empty.0)
-    (least h (free_jobs k jobs))
+    (λ c. (list.1 c).1) list.0 says.2 (least h (free_jobs k jobs))
     (λ j in' none. All-contains (λ i. is_free k jobs i ≡ true → least h (free_jobs k jobs) ≤ℤ h i)
     jobs j all in' (is_free_says k jobs j none)))
 
@@ -342,21 +422,15 @@ window_class c e =
 pub window_law : (k : SchedulingTask) (jobs : List ℕ) (rows : Timetable) (b : ℤ) → IsSound k
     → window_bound k jobs ≡ Ok b → FitsBroken k rows → b ≤ℤ cost k rows
 window_law k jobs rows b sound is fits =
-    let r : ℕ = least_number (λ j. (job_data k j).release) jobs in
-    let due : ℤ = greatest (λ j. (job_data k j).due) jobs in
-    let given : Result ℤ BoundFault = Ok (pos (r + sum_by (time_of k) jobs) -ℤ due) in
-    let at_class =
-    unless_ok (other_kind (takes_window k.class))
-    (unless (list_fault k [] jobs) (unless (empty_fault jobs) given)) b is in
-    let at_list = unless_ok (list_fault k [] jobs) (unless (empty_fault jobs) given) b at_class.1 in
-    let at_empty = unless_ok (empty_fault jobs) given b at_list.1 in
-    let class = window_class k.class (for_class (takes_window k.class) at_class.0) in
-    let list = list_fault_says k [] jobs at_list.0 in
-    subst (λ z. z ≤ℤ cost k rows) (ap bound_in at_empty.1)
-    (window-le-cost k rows sound fits class.1 class.0 jobs (λ c. (list.1 c).1) list.0
-    (empty_fault_says jobs at_empty.0)
-    r (least_number_says (λ j. (job_data k j).release) jobs) due
-    (greatest_says (λ j. (job_data k j).due) jobs))
+    let releases : ℕ → ℕ = λ j. (job_data k j).release in
+    let dues : ℕ → ℤ = λ j. (job_data k j).due in
+    let says = window_says k jobs b is in
+    let class = window_class k.class says.0 in
+    let list = list_fault_says k [] jobs says.1 in
+    subst (λ z. z ≤ℤ cost k rows) says.3
+    (window-le-cost k rows sound fits class.1 class.0 jobs (λ c. (list.1 c).1) list.0 says.2
+    (least_number releases jobs) (least_number_says releases jobs)
+    (greatest dues jobs) (greatest_says dues jobs))
 
 record OfRanks (c : Class) : Type 0 where
   total : objective_of c ≡ Total
@@ -398,20 +472,11 @@ ranks_fault_says k (j ∷ jobs) e =
 pub ranks_law : (k : SchedulingTask) (jobs : List ℕ) (rows : Timetable) (b : ℤ) → IsSound k
     → ranks_bound k jobs ≡ Ok b → Fits k rows → b ≤ℤ cost k rows
 ranks_law k jobs rows b sound is fits =
-    let given : Result ℤ BoundFault = Ok (pos (ranks_value k jobs)) in
-    let at_class =
-    unless_ok (other_kind (takes_ranks k.class))
-    (unless (list_fault k [] jobs)
-    (unless (empty_fault jobs) (unless (ranks_fault k jobs) given))) b is in
-    let at_list =
-    unless_ok (list_fault k [] jobs)
-    (unless (empty_fault jobs) (unless (ranks_fault k jobs) given)) b at_class.1 in
-    let at_empty = unless_ok (empty_fault jobs) (unless (ranks_fault k jobs) given) b at_list.1 in
-    let at_ranks = unless_ok (ranks_fault k jobs) given b at_empty.1 in
-    let class = ranks_class k.class (for_class (takes_ranks k.class) at_class.0) in
-    let list = list_fault_says k [] jobs at_list.0 in
-    let falling = ranks_fault_says k jobs at_ranks.0 in
-    subst (λ z. z ≤ℤ cost k rows) (ap bound_in at_ranks.1)
+    let says = ranks_says k jobs b is in
+    let class = ranks_class k.class says.0 in
+    let list = list_fault_says k [] jobs says.1 in
+    let falling = ranks_fault_says k jobs says.2 in
+    subst (λ z. z ≤ℤ cost k rows) says.3
     (ranks-le-cost k rows sound fits.broken (fits.unbroken class.whole) class.one_time class.total
     falling.0 jobs (λ c. (list.1 c).1) list.0 falling.1 class.unweighted)
 
@@ -495,25 +560,12 @@ pub split_law : (k : SchedulingTask) (side : List ℕ) (delta : ℤ) (first : Bo
     (b : ℤ)
     → IsSound k → split_bound k side delta first ≡ Ok b → FitsBroken k rows → b ≤ℤ cost k rows
 split_law k side delta first rows b sound is fits =
-    let given : Result ℤ BoundFault = Ok (pos (split_value k side (unsigned_abs delta))) in
-    let at_class =
-    unless_ok (other_kind (takes_split k.class))
-    (unless (list_fault k [] side)
-    (unless (side_fault k side delta first) (unless (delta_fault k side delta first) given))) b
-    is in
-    let at_list =
-    unless_ok (list_fault k [] side)
-    (unless (side_fault k side delta first) (unless (delta_fault k side delta first) given)) b
-    at_class.1 in
-    let at_side =
-    unless_ok (side_fault k side delta first) (unless (delta_fault k side delta first) given) b
-    at_list.1 in
-    let at_delta = unless_ok (delta_fault k side delta first) given b at_side.1 in
-    let class = split_class k.class (for_class (takes_split k.class) at_class.0) in
-    subst (λ z. z ≤ℤ cost k rows) (ap bound_in at_delta.1)
+    let says = split_says k side delta first b is in
+    let class = split_class k.class says.0 in
+    subst (λ z. z ≤ℤ cost k rows) says.4
     (split_from k rows side delta first sound fits class.0 class.1
-    (side_fault_says k side delta first at_side.0)
-    (delta_fault_says k side delta first at_delta.0))
+    (side_fault_says k side delta first says.2)
+    (delta_fault_says k side delta first says.3))
 
 -- ---- any kind
 

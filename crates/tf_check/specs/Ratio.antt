@@ -1,5 +1,5 @@
 -- Jobs with their weights and times, by the ratio of weight to time (Smith 1956).
-use Rattle.std.specs.Prelude.{◌≡◌, ℕ, ◌+◌, ◌*◌, ◌≤◌, ◌==◌, ◌&&◌, ◌||◌, nat_lt, Bool, List, [], ◌∷◌, map}
+use Rattle.std.specs.Prelude.{◌≡◌, ℕ, ◌+◌, ◌*◌, ◌≤◌, List, [], ◌∷◌, map}
 use Rattle.std.specs.List.{All, AllPairs}
 use Rattle.std.specs.List.Sorted.{IsPermutation}
 use Rattle.tf_model.specs.SchedulingTask.{SchedulingTask, all_jobs, job_data, time_of}

@@ -1,10 +1,10 @@
 //! The bound by the last job of a set.
 ghost use Rattle.std.specs.Prelude.{◌≡◌, ◌≤◌, ◌<◌, length, MatchResult, IsFalse};
-ghost use Rattle.std.specs.List.{All, sum_by};
+ghost use Rattle.std.specs.List.{All};
 ghost use Rattle.tf_model.specs.ClassTable.{is_sum};
 ghost use Rattle.tf_model.specs.Cost.{price};
 ghost use Rattle.tf_model.specs.Limit.{limit};
-ghost use Rattle.tf_model.specs.SchedulingTask.{IsJob, time_of};
+ghost use Rattle.tf_model.specs.SchedulingTask.{IsJob};
 ghost use Rattle.tf_check.specs.Bound.{free_jobs, smallest};
 ghost use Rattle.tf_check.specs.Free.{AreMarks, AreFollowed, cheapest, least_with};
 ghost use Rattle.tf_check.specs.declared.fault.BoundFault.TheVariants.{OutOfMemory};
@@ -13,6 +13,7 @@ use crate::evidence::Evidence;
 use crate::fault::BoundFault;
 use crate::jobs::{judge_list, marks_of};
 use crate::kinds::takes_last_of;
+use crate::set_numbers::work_of;
 use std::alloc::{Allocator, Global};
 use tf_model::ids::JobId;
 use tf_model::job_list::JobList;
@@ -79,19 +80,6 @@ fn followed_by<A: Allocator, B: Allocator>(
         }
     }
     Ok(followed)
-}
-
-// The work of the jobs.
-fn work_of<B: Allocator>(task: &Task<B>, jobs: &[JobId]) -> u64
-    requires known { All (IsJob task.now) jobs.now }
-    requires work { sum_by (time_of task.now) jobs.now ≤ limit }
-    ensures { result ≡ sum_by (time_of task.now) jobs.now }
-{
-    let mut work: u64 = 0;
-    for job in jobs {
-        work += task.time(*job);
-    }
-    work
 }
 
 // The least price of a job of the set that has no successor in it, where it completes at `end`.

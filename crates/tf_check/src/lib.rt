@@ -15,6 +15,7 @@ pub mod one_job;
 pub mod pairs;
 pub mod ranks;
 pub mod ratio;
+pub mod set_numbers;
 pub mod split;
 pub mod verdict;
 pub mod weighted_job;

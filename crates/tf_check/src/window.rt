@@ -11,6 +11,7 @@ use crate::evidence::Evidence;
 use crate::fault::BoundFault;
 use crate::jobs::judge_list;
 use crate::kinds::takes_window;
+use crate::set_numbers::{greatest_due, least_release, work_of};
 use std::alloc::{Allocator, Global};
 use tf_model::ids::JobId;
 use tf_model::job_list::JobList;
@@ -59,13 +60,6 @@ fn span<C: Allocator>(task: &Task<C>, jobs: &[JobId]) -> i128
     requires work { sum_by (time_of task.now) jobs.now ≤ limit }
     ensures { result ≡ window_span task.now jobs.now }
 {
-    let mut release = task.release(jobs[0]);
-    let mut due = task.due(jobs[0]);
-    let mut work: u64 = 0;
-    for job in jobs {
-        release = release.min(task.release(*job));
-        due = due.max(task.due(*job));
-        work += task.time(*job);
-    }
-    i128::from(release + work) - i128::from(due)
+    let begun = least_release(task, jobs);
+    i128::from(begun + work_of(task, jobs)) - i128::from(greatest_due(task, jobs))
 }

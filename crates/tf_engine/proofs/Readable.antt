@@ -28,7 +28,7 @@ use Rattle.tf_check.specs.Claim.{Claim, ByPairs, ByLastOf, ByWindow, BySplit, By
 use Rattle.tf_check.specs.Kinds.{takes_one_job, takes_last_of, takes_window, takes_split, takes_machine, takes_ranks}
 use Rattle.tf_check.specs.Bound.{bound_by, other_kind, job_fault, machine_fault, list_fault, side_fault, delta_fault, is_job, reaches_delta}
 use Rattle.tf_check.specs.Accepted.{IsAccepted}
-use Rattle.tf_check.specs.Laws.{unless_ok, list_fault_says, delta_fault_says}
+use Rattle.tf_check.specs.Laws.{list_fault_says, delta_fault_says, last_of_says, window_says, split_says, machine_says, one_job_says, ranks_says}
 use Rattle.tf_check.proofs.JobLists.{jobs_in_task}
 use Rattle.tf_check.proofs.Costs.{cell_within}
 use Rattle.std.specs.Int.RustNames.{FitsSigned}
@@ -113,21 +113,6 @@ pieces_readable k ps rows sound pieces draws fits n d h =
       (omega (arith, ints, range.0.0, range.1), range.0.1),
     )
 
--- a job that has no fault is one of the task
-one_job : (k : SchedulingTask) (j : ℕ) (t : Bool) → is_job k j ≡ t
-    → cond t None (Some (BadJob j)) ≡ None → IsJob k j
-one_job k j true is e = let facts = and_parts (nat_lt 0 j) (nat_le j (length k.jobs)) is in
-    (ltb-true 0 j facts.0, leb-true j (length k.jobs) facts.1)
-one_job k j false is e = cc
-
--- a machine that has no fault is 1 or 2
-machine_count : (machine : ℕ) (t : Bool) → (nat_lt 0 machine && nat_le machine 2) ≡ t
-    → cond t None (Some (BadMachine machine)) ≡ None → IsCount most_machines machine
-machine_count machine true is e =
-    let facts = and_parts (nat_lt 0 machine) (nat_le machine 2) is in
-    (ltb-true 0 machine facts.0, omega (arith, leb-true machine 2 facts.1))
-machine_count machine false is e = cc
-
 -- a delta that some job reaches is within the limit
 delta_within : (k : SchedulingTask) (side : List ℕ) (delta : ℤ) (first : Bool) → IsSound k
     → (int_le (pos 0) delta ≡ true)
@@ -149,30 +134,19 @@ pub claim_readable : (k : SchedulingTask) (layout : Layout) (claim : Claim) (b :
     → bound_by claim k ≡ Ok b → IsReadableClaim layout claim
 claim_readable k layout ByPairs b sound e = tt
 claim_readable k layout (ByLastOf jobs) b sound e =
-    let at_class = unless_ok (other_kind (takes_last_of k.class)) _ b e in
-    jobs_listed k layout jobs sound (unless_ok (list_fault k [] jobs) _ b at_class.1).0
+    jobs_listed k layout jobs sound (last_of_says k jobs b e).1
 claim_readable k layout (ByWindow jobs) b sound e =
-    let at_class = unless_ok (other_kind (takes_window k.class)) _ b e in
-    jobs_listed k layout jobs sound (unless_ok (list_fault k [] jobs) _ b at_class.1).0
+    jobs_listed k layout jobs sound (window_says k jobs b e).1
 claim_readable k layout (BySplit side delta first) b sound e =
-    let at_class = unless_ok (other_kind (takes_split k.class)) _ b e in
-    let at_list = unless_ok (list_fault k [] side) _ b at_class.1 in
-    let at_side = unless_ok (side_fault k side delta first) _ b at_list.1 in
-    let at_delta = unless_ok (delta_fault k side delta first) _ b at_side.1 in (
-      jobs_listed k layout side sound at_list.0,
-      delta_within k side delta first sound (delta_fault_says k side delta first at_delta.0),
+    let says = split_says k side delta first b e in (
+      jobs_listed k layout side sound says.1,
+      delta_within k side delta first sound (delta_fault_says k side delta first says.3),
     )
 claim_readable k layout ByLoad b sound e = tt
 claim_readable k layout (ByMachine machine) b sound e =
-    let at_class = unless_ok (other_kind (takes_machine k.class)) _ b e in
-    machine_count machine (nat_lt 0 machine && nat_le machine 2) refl
-    (unless_ok (machine_fault machine) _ b at_class.1).0
-claim_readable k layout (ByOneJob j) b sound e =
-    let at_class = unless_ok (other_kind (takes_one_job k.class)) _ b e in
-    job_count k j sound (one_job k j (is_job k j) refl (unless_ok (job_fault k j) _ b at_class.1).0)
-claim_readable k layout (ByRanks jobs) b sound e =
-    let at_class = unless_ok (other_kind (takes_ranks k.class)) _ b e in
-    jobs_count k jobs sound (unless_ok (list_fault k [] jobs) _ b at_class.1).0
+    let says = machine_says k machine b e in (says.1, omega (arith, says.2))
+claim_readable k layout (ByOneJob j) b sound e = job_count k j sound (one_job_says k j b e).1
+claim_readable k layout (ByRanks jobs) b sound e = jobs_count k jobs sound (ranks_says k jobs b e).1
 
 -- a notation that is accepted for a request means the problem
 problem_read : (line : List ℕ) (problem : Problem) → problem_for line ≡ Ok problem → IsRead problem

@@ -7,12 +7,11 @@ use Rattle.tf_model.specs.Bounds.{split_value}
 use Rattle.tf_model.specs.ClassTable.{is_shop}
 use Rattle.tf_check.specs.Bound.{bound_by, list_fault}
 use Rattle.tf_check.specs.Claim.{Claim, ByPairs, ByLastOf, ByWindow, BySplit, ByLoad, ByMachine, ByOneJob, ByRanks}
-use Rattle.tf_check.specs.Laws.{list_fault_says}
+use Rattle.tf_check.specs.Laws.{list_fault_says, load_says, pairs_says, machine_says, one_job_says, last_of_says, window_says, ranks_says, split_says}
 use Rattle.tf_evaluate.specs.declared.step.Terms.{Terms}
 use Rattle.tf_evaluate.specs.declared.step.Terms.TheVariants.{ShopTimes, JobTime}
 use Rattle.tf_evaluate.specs.declared.step.Step.{Step}
 use Rattle.tf_evaluate.specs.Arithmetic.{value_of, step_of, first_terms, last_terms, arithmetic, others_work, last_result}
-use Rattle.tf_evaluate.proofs.Given.{load_says, pairs_says, machine_says, one_job_says, last_of_says, window_says, ranks_says, split_says}
 use Rattle.tf_evaluate.proofs.SumParts.{ranks_parts, split_parts}
 
 -- the sides of a split and delta make its value
@@ -32,17 +31,17 @@ job_value false j first second = refl
 pub last_is_bound : (k : SchedulingTask) (claim : Claim) (b : ℤ) → IsSound k
     → bound_by claim k ≡ Ok b → value_of (last_terms k claim) ≡ b
 last_is_bound k ByPairs b sound is = (pairs_says k b is).1
-last_is_bound k (ByLastOf jobs) b sound is = (last_of_says k jobs b is).1
-last_is_bound k (ByWindow jobs) b sound is = (window_says k jobs b is).value
+last_is_bound k (ByLastOf jobs) b sound is = (last_of_says k jobs b is).3
+last_is_bound k (ByWindow jobs) b sound is = (window_says k jobs b is).3
 last_is_bound k (BySplit side delta first) b sound is =
     let says = split_says k side delta first b is in
-    ap pos (split_is k side (unsigned_abs delta) says.0) ∙ says.1
-last_is_bound k ByLoad b sound is = load_says k b is
-last_is_bound k (ByMachine machine) b sound is = machine_says k machine b is
+    ap pos (split_is k side (unsigned_abs delta) says.1) ∙ says.4
+last_is_bound k ByLoad b sound is = (load_says k b is).1
+last_is_bound k (ByMachine machine) b sound is = (machine_says k machine b is).3
 last_is_bound k (ByOneJob j) b sound is =
-    job_value (is_shop k.class) j (time_on k j 0) (time_on k j 1) ∙ (one_job_says k j b is).1
+    job_value (is_shop k.class) j (time_on k j 0) (time_on k j 1) ∙ (one_job_says k j b is).2
 last_is_bound k (ByRanks jobs) b sound is =
-    ap pos (sym (ranks_parts k jobs sound.some_machine)) ∙ (ranks_says k jobs b is).1
+    ap pos (sym (ranks_parts k jobs sound.some_machine)) ∙ (ranks_says k jobs b is).3
 
 -- the first steps, and the last one behind them
 pub steps_pushed : (k : SchedulingTask) (claim : Claim) (before after : List Step) (last : Step)

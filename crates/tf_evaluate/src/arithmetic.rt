@@ -18,6 +18,7 @@ ghost use Rattle.tf_evaluate.specs.declared.step.Terms.TheVariants.{GreatestFact
 use crate::step::{Step, Terms};
 use std::alloc::Allocator;
 use tf_check::certificate::Certificate;
+use tf_check::set_numbers::{greatest_due, least_release, work_of};
 use tf_check::split::Split;
 use tf_model::ids::JobId;
 use tf_model::memory::OutOfMemory;
@@ -80,7 +81,7 @@ fn last_terms<B: Allocator, C: Allocator>(
         Certificate::Window(window) => window_terms(task, window.jobs.as_slice()),
         Certificate::Split(split) => split_terms(task, split, bound),
         Certificate::Load(_) => Terms::Load {
-            work: total_work(task),
+            work: task.total_time(),
             machines: task.machines(),
         },
         Certificate::Machine(load) => Terms::MachineWork {
@@ -209,30 +210,6 @@ fn own_times<B: Allocator>(task: &Task<B>) -> u128
     own
 }
 
-// The processing times of all jobs.
-fn total_work<B: Allocator>(task: &Task<B>) -> u64
-    ensures { result ≡ sum_by (time_of task.now) (all_jobs task.now) }
-{
-    let mut work: u64 = 0;
-    for k in 0..task.len() {
-        work += task.time(JobId::at(k));
-    }
-    work
-}
-
-// The processing times of the jobs.
-fn work_of<B: Allocator>(task: &Task<B>, jobs: &[JobId]) -> u64
-    requires known { All (IsJob task.now) jobs.now }
-    requires work { sum_by (time_of task.now) jobs.now ≤ limit }
-    ensures { result ≡ sum_by (time_of task.now) jobs.now }
-{
-    let mut work: u64 = 0;
-    for job in jobs {
-        work += task.time(*job);
-    }
-    work
-}
-
 // The processing times of the jobs on machine 1.
 fn work_on_first<B: Allocator>(task: &Task<B>, jobs: &[JobId]) -> u64
     requires known { All (IsJob task.now) jobs.now }
@@ -244,32 +221,4 @@ fn work_on_first<B: Allocator>(task: &Task<B>, jobs: &[JobId]) -> u64
         work += task.job(*job).first;
     }
     work
-}
-
-// The least release date of jobs of which there are some.
-fn least_release<B: Allocator>(task: &Task<B>, jobs: &[JobId]) -> u64
-    requires class { IsTrue (is_released task.now.class) }
-    requires known { All (IsJob task.now) jobs.now }
-    requires some { 0 < length jobs.now }
-    ensures { result ≡ least_number (λ j. (job_data task.now j).release) jobs.now }
-{
-    let mut least = task.release(jobs[0]);
-    for job in jobs {
-        least = least.min(task.release(*job));
-    }
-    least
-}
-
-// The greatest due date of jobs of which there are some.
-fn greatest_due<B: Allocator>(task: &Task<B>, jobs: &[JobId]) -> i64
-    requires class { IsTrue (is_due task.now.class) }
-    requires known { All (IsJob task.now) jobs.now }
-    requires some { 0 < length jobs.now }
-    ensures { result ≡ greatest (λ j. (job_data task.now j).due) jobs.now }
-{
-    let mut greatest = task.due(jobs[0]);
-    for job in jobs {
-        greatest = greatest.max(task.due(*job));
-    }
-    greatest
 }

@@ -265,16 +265,24 @@ impl<A: Allocator> Task<A> {
         work
     }
 
-    /// The time of all jobs shared out among the machines, rounded up to whole time steps.
-    pub fn load(&self) -> u64
-        ensures value { result ≡ load_value self.now }
+    /// The time of all jobs together.
+    pub fn total_time(&self) -> u64
+        ensures value { result ≡ sum_by (time_of self.now) (all_jobs self.now) }
         ensures sound { IsSound self.now }
     {
         let mut total: u64 = 0;
         for job in self.jobs() {
             total += job.time();
         }
-        total.div_ceil(u64::from(self.machines))
+        total
+    }
+
+    /// The time of all jobs shared out among the machines, rounded up to whole time steps.
+    pub fn load(&self) -> u64
+        ensures value { result ≡ load_value self.now }
+        ensures sound { IsSound self.now }
+    {
+        self.total_time().div_ceil(u64::from(self.machines))
     }
 
     /// The cost functions, job by job, where the class has them.

@@ -6,7 +6,8 @@ use Rattle.tf_check.specs.Bound.{list_fault, split_bound}
 use Rattle.tf_check.proofs.JobLists.{jobs_in_task}
 use Rattle.tf_evaluate.specs.declared.step.Terms.TheVariants.{Split}
 use Rattle.tf_evaluate.specs.Arithmetic.{others_work}
-use Rattle.tf_evaluate.proofs.Given.{split_says, side_within}
+use Rattle.tf_check.specs.Laws.{split_says}
+use Rattle.tf_evaluate.proofs.Given.{side_within}
 use Rattle.tf_evaluate.proofs.EndsInBound.{split_is}
 use Rattle.tf_evaluate.proofs.arithmetic.split_terms.Goals as goal
 
@@ -16,7 +17,7 @@ work_on_first-side-requires-clause-known g c =
     let s = c.args.split.now in
     let none : list_fault k [] c.as_slice.result.now ≡ None =
     ap (list_fault k []) c.as_slice.ensures
-    ∙ (split_says k s.side s.delta s.first c.args.bound c.requires.given).0 in
+    ∙ (split_says k s.side s.delta s.first c.args.bound c.requires.given).1 in
     jobs_in_task k c.as_slice.result.now none
 
 pub work_on_first-side-requires-clause-work : goal.work_on_first-side-requires-clause-work
@@ -25,7 +26,7 @@ work_on_first-side-requires-clause-work g c =
     let s = c.args.split.now in
     let none : list_fault k [] c.as_slice.result.now ≡ None =
     ap (list_fault k []) c.as_slice.ensures
-    ∙ (split_says k s.side s.delta s.first c.args.bound c.requires.given).0 in
+    ∙ (split_says k s.side s.delta s.first c.args.bound c.requires.given).1 in
     side_within k c.requires.sound c.as_slice.result.now none
 
 -- the size of the bound
@@ -35,8 +36,8 @@ sized : (k : SchedulingTask) (side : List ℕ) (delta : ℤ) (first : Bool) (b b
     ≡ sum_by (λ j. time_on k j 0) side + others_work k side + unsigned_abs delta
 sized k side delta first b bits same given =
     let says = split_says k side delta first b given in
-    ap unsigned_abs same ∙ sym (ap unsigned_abs says.1)
-    ∙ sym (split_is k side (unsigned_abs delta) says.0)
+    ap unsigned_abs same ∙ sym (ap unsigned_abs says.4)
+    ∙ sym (split_is k side (unsigned_abs delta) says.1)
 
 pub overflow_sub-result : goal.overflow_sub-result
 overflow_sub-result g c =

@@ -3,7 +3,7 @@ use Rattle.std.specs.Int.{int_max}
 use Rattle.std.proofs.lemmas.Int.{to_z-of_z}
 use Rattle.tf_model.specs.SchedulingTask.{job_data}
 use Rattle.tf_check.proofs.JobLists.{fold-map_more, greatest_is}
-use Rattle.tf_evaluate.proofs.arithmetic.greatest_due.Goals as goal
+use Rattle.tf_check.proofs.set_numbers.greatest_due.Goals as goal
 
 pub loop-job-preserved : goal.loop-job-preserved
 loop-job-preserved g c =

@@ -1,7 +1,7 @@
 use Rattle.std.proofs.Common.{◌≡◌, map, fold, take, slice_index}
 use Rattle.std.specs.Int.{int_max}
 use Rattle.tf_model.specs.SchedulingTask.{job_data}
-use Rattle.tf_evaluate.proofs.arithmetic.greatest_due.Given as goal
+use Rattle.tf_check.proofs.set_numbers.greatest_due.Given as goal
 
 abbrev pub invariant-loop-job : goal.invariant-loop-job
 invariant-loop-job g l = l.greatest

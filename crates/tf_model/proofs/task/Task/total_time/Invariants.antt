@@ -1,7 +1,7 @@
 use Rattle.std.proofs.Common.{◌≡◌, sum_by}
 use Rattle.std.specs.List.{range_with_len}
 use Rattle.tf_model.specs.SchedulingTask.{time_of}
-use Rattle.tf_model.proofs.task.Task.load.Given as goal
+use Rattle.tf_model.proofs.task.Task.total_time.Given as goal
 
 -- the time of the jobs so far
 abbrev pub invariant-loop-job : goal.invariant-loop-job

@@ -1,7 +1,7 @@
 use Rattle.std.proofs.Common.{◌≡◌, ◌+◌, ◌≤◌, length, ap, arith}
 use Rattle.tf_model.specs.SchedulingTask.{time_of}
 use Rattle.tf_model.proofs.Totals.{item_time, total_more, total_within}
-use Rattle.tf_model.proofs.task.Task.load.Goals as goal
+use Rattle.tf_model.proofs.task.Task.total_time.Goals as goal
 
 pub time-total-requires : goal.time-total-requires
 time-total-requires g c =
