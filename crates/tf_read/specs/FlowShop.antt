@@ -1,5 +1,5 @@
 -- Flow shop texts: the instance of a name that a text holds, or its first fault.
-use Rattle.std.specs.Prelude.{ℕ, ◌+◌, ◌*◌, ◌/◌, ◌%◌, Bool, true, not, ◌&&◌, ◌||◌, List, [], ◌∷◌, length, map, take, Option, Some, None, Result, Ok, Err, ℤ, pos, negsuc, codes, nat_lt, ◌==◌, slice_index_or, if◌then◌else◌}
+use Rattle.std.specs.Prelude.{ℕ, ◌+◌, ◌*◌, ◌/◌, ◌%◌, Bool, true, not, ◌&&◌, ◌||◌, List, [], ◌∷◌, length, map, take, Option, Some, None, Result, Ok, Err, ℤ, pos, negsuc, codes, nat_lt, ◌==◌, if◌then◌else◌}
 use Rattle.std.specs.List.{range_with_len}
 use Rattle.std.specs.Option.{option_map_or}
 use Rattle.std.specs.Str.{bytes_eq}
@@ -15,7 +15,7 @@ use Rattle.tf_words.specs.declared.number.Number.TheVariants.{NotANumber, TooLar
 use Rattle.tf_read.specs.declared.fault.ReadFault.{ReadFault}
 use Rattle.tf_read.specs.declared.fault.ReadFault.TheVariants.{TooLong, BadNumber, EndsEarly, NoInstance, NotAFlowShop, BadPair, BadLine, NoJobs, TooManyJobs}
 use Rattle.tf_model.specs.Outcome.{◌>>=◌}
-use Rattle.tf_read.specs.Faults.{each_from, natural}
+use Rattle.tf_read.specs.Faults.{each_from, natural, number_at}
 
 -- Words count from 0 here, those behind the line of the sizes. Each second word is a time, and the
 -- word before it names the machine, from 0.
@@ -53,10 +53,6 @@ abbrev pub machines_kept : ℕ → Option (ℕ × ℕ) → ℕ
 machines_kept machines None = machines
 machines_kept machines (Some pair) = 2
 
--- the number at a place
-abbrev pub at : List ℤ → ℕ → ℤ
-at numbers i = slice_index_or numbers i (pos 0)
-
 -- the time of a job on a machine stands here, where jobs and machines count from 0
 abbrev pub time_place : ℕ → ℕ → ℕ → ℕ
 time_place machines machine j = 2 * (j * machines + machine) + 1
@@ -72,14 +68,14 @@ job_with machines first second = record {
 }
 
 -- job j on these two machines
-abbrev pub job : ℕ → ℕ → ℕ → List ℤ → ℕ → JobFields
-job machines first second numbers j =
-    job_with machines (at numbers (time_place machines first j))
-    (at numbers (time_place machines second j))
+abbrev pub shop_job : ℕ → ℕ → ℕ → List ℤ → ℕ → JobFields
+shop_job machines first second numbers j =
+    job_with machines (number_at numbers (time_place machines first j))
+    (number_at numbers (time_place machines second j))
 
 abbrev pub shop_jobs : ℕ → ℕ → ℕ → ℕ → List ℤ → List JobFields
 shop_jobs jobs machines first second numbers =
-    map (job machines first second numbers) (range_with_len 0 jobs)
+    map (shop_job machines first second numbers) (range_with_len 0 jobs)
 
 -- the instance, where all its numbers are there
 abbrev pub shop_of : ℕ → ℕ → Option (ℕ × ℕ) → List ℤ → Result InstanceData ReadFault
