@@ -162,11 +162,11 @@ goal_read SumWU end o = refl
 
 abbrev body : ℕ → List Token → Result Problem ℕ
 body end ts = do
-  env ← expect environment end ts
-  divided ← expect (meaning bar) end env.1
-  named ← conditions_at end divided.1
-  goal ← expect (meaning goals) end named.1
-  ended (problem_of env.0 named.0 goal.0) goal.1
+  (env, rest) ← expect environment end ts
+  (_, rest) ← expect (meaning bar) end rest
+  (named, rest) ← conditions_at end rest
+  (goal, rest) ← expect (meaning goals) end rest
+  ended (problem_of env named goal) rest
 
 parts : (end s : ℕ) (env : Env × Option ℕ) (named : Conditions) (goal : Goal)
     (ts us vs : List Token)

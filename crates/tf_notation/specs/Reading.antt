@@ -1,6 +1,6 @@
 -- The problem that a text means. A fault is the offset of the first token that is not expected at
 -- its place, or the length of the text where the text ends too early.
-use Rattle.std.specs.Prelude.{◌≡◌, ℕ, Bool, true, false, List, [], ◌∷◌, length, Option, Some, Result, Ok, Err, codes, if◌then◌else◌}
+use Rattle.std.specs.Prelude.{◌≡◌, ℕ, List, [], ◌∷◌, length, Option, Some, Result, Ok, Err, codes, if◌then◌else◌}
 use Rattle.std.specs.Option.{option_map_or}
 use Rattle.std.specs.Str.{bytes_eq}
 use Rattle.tf_model.specs.Outcome
@@ -23,15 +23,19 @@ unfoldable pub expect : {A : Type 0} → (List ℕ → Option A) → ℕ → Lis
 expect means end [] = Err end
 expect means end (t ∷ ts) = option_map_or (λ x. Ok (x, ts)) (means t.bytes) (Err t.start)
 
--- Conditions with a ',' between each two, and a '|' after the last. At true a condition that was
--- not named is expected, at false a divider.
-unfoldable pub listed : ℕ → Bool → Conditions → List Token → Result (Conditions × List Token) ℕ
-listed end another named [] = Err end
-listed end true named (t ∷ ts) =
-    option_map_or (λ more. listed end false more ts) (adds named t.bytes) (Err t.start)
-listed end false named (t ∷ ts) =
-    option_map_or (λ another. if another then listed end true named ts else Ok (named, ts))
-    (meaning dividers t.bytes) (Err t.start)
+unfoldable mutual
+  -- a condition that was not named before, and what stands behind it
+  pub listed : ℕ → Conditions → List Token → Result (Conditions × List Token) ℕ
+  listed end named [] = Err end
+  listed end named (t ∷ ts) =
+      option_map_or (λ more. behind_condition end more ts) (adds named t.bytes) (Err t.start)
+
+  -- a ',' and more conditions, or the '|' that ends them
+  pub behind_condition : ℕ → Conditions → List Token → Result (Conditions × List Token) ℕ
+  behind_condition end named [] = Err end
+  behind_condition end named (t ∷ ts) =
+      option_map_or (λ another. if another then listed end named ts else Ok (named, ts))
+      (meaning dividers t.bytes) (Err t.start)
 
 -- nothing more
 abbrev pub ended : {A : Type 0} → A → List Token → Result A ℕ
@@ -42,8 +46,8 @@ ended x (t ∷ ts) = Err t.start
 unfoldable pub conditions_at : ℕ → List Token → Result (Conditions × List Token) ℕ
 conditions_at end [] = Err end
 conditions_at end (t ∷ ts) =
-    if bytes_eq t.bytes (codes "|") then Ok (no_conditions, ts) else listed end true no_conditions
-    (t ∷ ts)
+    if bytes_eq t.bytes (codes "|") then Ok (no_conditions, ts)
+    else listed end no_conditions (t ∷ ts)
 
 -- a problem by its three fields
 abbrev pub problem_of : Env × Option ℕ → Conditions → Goal → Problem
@@ -68,11 +72,11 @@ bar = (codes "|", tt) ∷ []
 -- an environment, a '|', conditions up to their '|', an objective, and nothing more
 unfoldable pub notation : List ℕ → Result Problem ℕ
 notation text = do
-  env ← expect environment (length text) (tokens_from 0 text)
-  divided ← expect (meaning bar) (length text) env.1
-  named ← conditions_at (length text) divided.1
-  goal ← expect (meaning goals) (length text) named.1
-  ended (problem_of env.0 named.0 goal.0) goal.1
+  (env, rest) ← expect environment (length text) (tokens_from 0 text)
+  (_, rest) ← expect (meaning bar) (length text) rest
+  (named, rest) ← conditions_at (length text) rest
+  (goal, rest) ← expect (meaning goals) (length text) rest
+  ended (problem_of env named goal) rest
 
 -- a problem that some text means
 abbrev pub IsRead : Problem → Type 0

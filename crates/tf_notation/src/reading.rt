@@ -118,7 +118,7 @@ fn read_divider(text: &[u8], offset: usize) -> Result<(bool, usize), NotationFau
 fn read_listed(text: &[u8], offset: usize) -> Result<(Conditions, usize), NotationFault>
     requires { offset ≤ length text.now }
     ensures read { Gives (λ x. (x.0, tokens_after text.now x.1)) result
-        (listed (length text.now) true no_conditions (tokens_after text.now offset)) }
+        (listed (length text.now) no_conditions (tokens_after text.now offset)) }
     ensures inside { IfOk result (λ x. (offset < x.1) × (x.1 ≤ length text.now)) }
 {
     let mut named = Conditions::none();

@@ -10,9 +10,9 @@ use Rattle.tf_model.specs.Limit.{most_jobs, most_machines}
 use Rattle.tf_read.specs.declared.fault.ReadFault.{ReadFault}
 use Rattle.tf_read.specs.declared.fault.ReadFault.TheVariants.{EndsEarly}
 use Rattle.tf_model.specs.Outcome.{◌>>=◌}
-use Rattle.tf_read.specs.Faults.{each_from}
-use Rattle.tf_read.specs.FlowShop.{shop_number, machines_kept, at, time_place, job_with, job, shop_jobs, shop_of, pairs_of}
-use Rattle.tf_read.specs.Pairs.{Pairs, first, second, count, wanted, missing, AreKept, kept_job, kept_jobs, Holds, HasRead, IsTime, AreTimes}
+use Rattle.tf_read.specs.Faults.{each_from, number_at}
+use Rattle.tf_read.specs.FlowShop.{shop_number, machines_kept, time_place, job_with, shop_job, shop_jobs, shop_of, pairs_of}
+use Rattle.tf_read.specs.Pairs.{Pairs, first, second, count, shop_wanted, shop_missing, AreKept, kept_job, kept_jobs, HoldsShop, HasReadShop, IsTime, AreTimes}
 use Rattle.tf_read.proofs.Judged.{judged as is_instance}
 use Rattle.tf_read.proofs.OneInstance.{none_at}
 use Rattle.tf_read.proofs.FlowWords.{count_below, count_all}
@@ -27,7 +27,7 @@ goes_on n m pair seen r h = ap (λ x. x >>= λ numbers. shop_of n m pair numbers
 missing_at : (fault : Option ReadFault) (p : Pairs) (pair : Option (ℕ × ℕ)) (seen : List Word)
     (e : ReadFault)
     → p.machine < p.machines
-    → Holds fault p (each_from (shop_number p.machines) 0 (take (wanted p) seen))
+    → HoldsShop fault p (each_from (shop_number p.machines) 0 (take (shop_wanted p) seen))
     → option_or fault (cond (ltb p.job p.jobs) (Some EndsEarly) None) ≡ Some e
     → pairs_of p.jobs p.machines pair seen ≡ Err e
 missing_at (Some d) p pair seen e within h m = goes_on p.jobs p.machines pair seen (Err d) h
@@ -35,7 +35,7 @@ missing_at (Some d) p pair seen e within h m = goes_on p.jobs p.machines pair se
 missing_at None p pair seen e within h m = elim (cases_Bool (ltb p.job p.jobs)) [
   | inl early ↦
       let same : EndsEarly ≡ e = let d : Some EndsEarly ≡ Some e = rw early at m in cc in
-      let lt : count p < wanted p = count_below p (ltb-true p.job p.jobs early) within in
+      let lt : count p < shop_wanted p = count_below p (ltb-true p.job p.jobs early) within in
       let cut : ltb (length h.0) (2 * p.jobs * p.machines) ≡ true =
       lt-ltb _ _ (omega (arith, lt, h.2)) in
       goes_on p.jobs p.machines pair seen (Ok h.0) h.1 ∙ rw cut (ap (λ x. Err x) same)
@@ -43,7 +43,7 @@ missing_at None p pair seen e within h m = elim (cases_Bool (ltb p.job p.jobs)) 
 ]
 
 pub missing_is : (p : Pairs) (seen : List Word) (e : ReadFault) → p.machine < p.machines
-    → HasRead p seen → missing p ≡ Some e → pairs_of p.jobs p.machines p.pair seen ≡ Err e
+    → HasReadShop p seen → shop_missing p ≡ Some e → pairs_of p.jobs p.machines p.pair seen ≡ Err e
 missing_is p seen e within h m = missing_at p.fault p p.pair seen e within h m
 
 -- nothing is missing
@@ -56,14 +56,15 @@ none_missing None p m = elim (cases_Bool (ltb p.job p.jobs)) [
   | inr over ↦ (refl, ltb-false p.job p.jobs over)
 ]
 
-pub all_over : (p : Pairs) → missing p ≡ None → p.jobs ≤ p.job
+pub all_over : (p : Pairs) → shop_missing p ≡ None → p.jobs ≤ p.job
 all_over p m = (none_missing p.fault p m).1
 
-holds : (p : Pairs) (seen : List Word) → missing p ≡ None → HasRead p seen
-    → Holds None p (each_from (shop_number p.machines) 0 (take (wanted p) seen))
+holds : (p : Pairs) (seen : List Word) → shop_missing p ≡ None → HasReadShop p seen
+    → HoldsShop None p (each_from (shop_number p.machines) 0 (take (shop_wanted p) seen))
 holds p seen m h =
-    subst (λ (o : Option ReadFault). Holds o p
-    (each_from (shop_number p.machines) 0 (take (wanted p) seen))) (none_missing p.fault p m).0 h
+    subst (λ (o : Option ReadFault). HoldsShop o p
+    (each_from (shop_number p.machines) 0 (take (shop_wanted p) seen)))
+    (none_missing p.fault p m).0 h
 
 -- behind the last job no time is left over
 pub whole_length : (n jobs job machine first : ℕ) → n ≡ job + cond (ltb first machine) 1 0
@@ -88,16 +89,17 @@ same_jobs : (p : Pairs) (all : List ℤ) → AreKept p (first p) p.firsts all
     → shop_jobs p.jobs p.machines (first p) (second p) all
     ≡ kept_jobs p.jobs p.machines p.firsts p.seconds
 same_jobs p all ones twos firsts seconds =
-    same_made (job p.machines (first p) (second p) all) (kept_job p.machines p.firsts p.seconds) 0
+    same_made (shop_job p.machines (first p) (second p) all)
+    (kept_job p.machines p.firsts p.seconds) 0
     p.jobs
     (λ j le lt.
-    ap (λ (z : ℤ). job_with p.machines z (at all (time_place p.machines (second p) j)))
+    ap (λ (z : ℤ). job_with p.machines z (number_at all (time_place p.machines (second p) j)))
     (sym (ones.each j (omega (arith, lt, firsts))).1)
-    ∙ ap (λ (z : ℤ). job_with p.machines (at p.firsts j) z)
+    ∙ ap (λ (z : ℤ). job_with p.machines (number_at p.firsts j) z)
     (sym (twos.each j (omega (arith, lt, seconds))).1))
 
 pub whole_is : (p : Pairs) (seen : List Word) → p.job ≤ p.jobs → (p.jobs ≤ p.job → p.machine ≡ 0)
-    → (p.jobs ≤ p.job → p.is_named ≡ false) → HasRead p seen → missing p ≡ None
+    → (p.jobs ≤ p.job → p.is_named ≡ false) → HasReadShop p seen → shop_missing p ≡ None
     → pairs_of p.jobs p.machines p.pair seen
     ≡ Ok (record {
       jobs = kept_jobs p.jobs p.machines p.firsts p.seconds;
@@ -107,7 +109,7 @@ pub whole_is : (p : Pairs) (seen : List Word) → p.job ≤ p.jobs → (p.jobs �
 whole_is p seen few machine named h m =
     let le = all_over p m in
     let w = holds p seen m h in
-    let all : count p ≡ wanted p = count_all p (omega arith) (machine le) (named le) in
+    let all : count p ≡ shop_wanted p = count_all p (omega arith) (machine le) (named le) in
     let long : ltb (length w.0) (2 * p.jobs * p.machines) ≡ false =
     le-ltb _ _ (omega (arith, all, w.2)) in
     let firsts : length p.firsts ≡ p.jobs =
@@ -124,8 +126,8 @@ none_there = record { each = λ j. (refl, refl) }
 pub no_times : (times : List ℤ) → times ≡ [] → AreTimes times
 no_times times none = subst AreTimes (sym none) none_there
 
-each_time : (times : List ℤ) (z : ℤ) → ((j : ℕ) → IsTime (at times j)) → IsTime z → (j : ℕ)
-    → IsTime (at (times ++ z ∷ []) j)
+each_time : (times : List ℤ) (z : ℤ) → ((j : ℕ) → IsTime (number_at times j)) → IsTime z → (j : ℕ)
+    → IsTime (number_at (times ++ z ∷ []) j)
 each_time [] z all here zero = here
 each_time [] z all here (suc j) = (refl, refl)
 each_time (y ∷ ys) z all here zero = all 0
@@ -139,7 +141,8 @@ pub times_more : (times new : List ℤ) (z : ℤ) → AreTimes times → IsTime 
 times_more times new z all here more = subst AreTimes (sym more) (more_there times z all here)
 
 -- a job's times
-job_ok : (m : ℕ) (firsts seconds : List ℤ) (j : ℕ) → IsTime (at firsts j) → IsTime (at seconds j)
+job_ok : (m : ℕ) (firsts seconds : List ℤ) (j : ℕ) → IsTime (number_at firsts j)
+    → IsTime (number_at seconds j)
     → (has_negative (kept_job m firsts seconds j) ≡ false)
     × (has_beyond (kept_job m firsts seconds j) ≡ false)
 job_ok m firsts seconds j a b = elim (cases_Bool (eqb m 1)) [

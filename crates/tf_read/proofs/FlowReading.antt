@@ -18,7 +18,7 @@ use Rattle.tf_read.specs.PresentLine.{AreOfLine}
 use Rattle.tf_read.specs.Heading.{HeadingShown}
 use Rattle.tf_read.specs.Sizes.{SizesShown, judged_sizes}
 use Rattle.tf_read.specs.declared.word_feed.WordFeed.{WordFeed}
-use Rattle.tf_read.specs.Pairs.{Pairs, Reads}
+use Rattle.tf_read.specs.Pairs.{Pairs, ReadsShop}
 use Rattle.tf_read.specs.Said.{Says}
 use Rattle.tf_read.specs.WordFeed.{HasFed}
 use Rattle.tf_read.specs.FlowStage.{WantsHeading, WantsSizes, ReadsPairs, HasEnded}
@@ -39,7 +39,7 @@ unfolding flow_shop
 within name pair text short = let e : ltb most_bytes (length text) ≡ false = le-ltb _ _ short in
     rw e refl
 
--- a byte more of the shop_of line
+-- a byte more of the present line
 of_line : (bytes : List ℕ) (b : ℕ) → AreOfLine bytes → (b ≡ 10 → ⊥) → AreOfLine (bytes ++ b ∷ [])
 of_line bytes b all other = let no' : eqb b 10 ≡ false = ne_eqb b 10 other in
     list_all-append (λ c. not (eqb c 10)) bytes (b ∷ []) ∙ rw (all, no') refl
@@ -233,8 +233,8 @@ no_pairs jobs machines pair some machines_some =
 -- more of the pairs
 pub pairs_more : (name : List ℕ) (pair : Option (ℕ × ℕ)) (old new : WordFeed Pairs)
     (fed piece : List ℕ)
-    → ((first : ℕ) (says : Says) (behind : List ℕ) → HasFed Reads first says old behind
-    → HasFed Reads first says new (behind ++ piece))
+    → ((first : ℕ) (says : Says) (behind : List ℕ) → HasFed ReadsShop first says old behind
+    → HasFed ReadsShop first says new (behind ++ piece))
     → ReadsPairs name pair old fed → ReadsPairs name pair new (fed ++ piece)
 pairs_more name pair old new fed piece push (first, says, behind, h, same) = (
   first,

@@ -10,10 +10,10 @@ use Rattle.tf_words.specs.Number.{number}
 use Rattle.tf_words.specs.declared.number.Number.{Number}
 use Rattle.tf_read.specs.declared.fault.ReadFault.{ReadFault}
 use Rattle.tf_model.specs.Outcome.{◌>>=◌}
-use Rattle.tf_read.specs.Faults.{each_from, natural}
+use Rattle.tf_read.specs.Faults.{each_from, natural, number_at}
 use Rattle.tf_words.specs.Scan.{IsOf}
-use Rattle.tf_read.specs.FlowShop.{is_time, machine_at, machine_is, shop_number_read, shop_number, at, time_place, first_kept, second_kept, pairs_of}
-use Rattle.tf_read.specs.Pairs.{Pairs, first, second, count, wanted, AreKept, Holds, HasRead, after_name, with_time, after_time, is_last}
+use Rattle.tf_read.specs.FlowShop.{is_time, machine_at, machine_is, shop_number_read, shop_number, time_place, first_kept, second_kept, pairs_of}
+use Rattle.tf_read.specs.Pairs.{Pairs, first, second, count, shop_wanted, AreKept, HoldsShop, HasReadShop, after_name, with_time, after_time, is_last}
 use Rattle.tf_read.specs.Said.{Says}
 use Rattle.tf_read.proofs.Progress.{stays_fault, stays_with, pushed_with, all_of}
 
@@ -51,24 +51,25 @@ one_at_most : (named : Bool) → cond named 1 0 ≤ 1
 one_at_most true = omega arith
 one_at_most false = omega arith
 
-pub count_below : (p : Pairs) → p.job < p.jobs → p.machine < p.machines → count p < wanted p
+pub count_below : (p : Pairs) → p.job < p.jobs → p.machine < p.machines → count p < shop_wanted p
 count_below p lt within =
     below p.job p.jobs p.machines p.machine (cond p.is_named 1 0) lt within (one_at_most p.is_named)
 
 pub count_all : (p : Pairs) → p.job ≡ p.jobs → p.machine ≡ 0 → p.is_named ≡ false
-    → count p ≡ wanted p
+    → count p ≡ shop_wanted p
 count_all p jobs machine named = rw (jobs, machine, named) (omega arith)
 
 -- nothing more is wanted
 stays : (fault : Option ReadFault) (p : Pairs) (seen : List Word) (word : Word)
-    → (is_some fault || leb p.jobs p.job) ≡ true → (p.jobs ≤ p.job → wanted p ≤ count p)
-    → Holds fault p (each_from (shop_number p.machines) 0 (take (wanted p) seen))
-    → Holds fault p (each_from (shop_number p.machines) 0 (take (wanted p) (seen ++ word ∷ [])))
+    → (is_some fault || leb p.jobs p.job) ≡ true → (p.jobs ≤ p.job → shop_wanted p ≤ count p)
+    → HoldsShop fault p (each_from (shop_number p.machines) 0 (take (shop_wanted p) seen))
+    → HoldsShop fault p (each_from (shop_number p.machines) 0
+    (take (shop_wanted p) (seen ++ word ∷ [])))
 stays (Some e) p seen word over all h =
-    stays_fault (shop_number p.machines) (wanted p) seen word e h
+    stays_fault (shop_number p.machines) (shop_wanted p) seen word e h
 stays None p seen word over all h = (
   h.0,
-  stays_with (shop_number p.machines) (wanted p) (count p) seen word h.0
+  stays_with (shop_number p.machines) (shop_wanted p) (count p) seen word h.0
       (all (leb-true p.jobs p.job over)) h.2 h.1,
   h.2,
   h.3,
@@ -77,25 +78,26 @@ stays None p seen word over all h = (
 
 pub unchanged : (p : Pairs) (seen : List Word) (word : Word)
     → (is_some p.fault || leb p.jobs p.job) ≡ true → p.job ≤ p.jobs
-    → (p.jobs ≤ p.job → p.machine ≡ 0) → (p.jobs ≤ p.job → p.is_named ≡ false) → HasRead p seen
-    → HasRead p (seen ++ word ∷ [])
+    → (p.jobs ≤ p.job → p.machine ≡ 0) → (p.jobs ≤ p.job → p.is_named ≡ false) → HasReadShop p seen
+    → HasReadShop p (seen ++ word ∷ [])
 unchanged p seen word over few machine named h =
     stays p.fault p seen word over
-    (λ le. let e : count p ≡ wanted p = count_all p (omega arith) (machine le) (named le) in
+    (λ le. let e : count p ≡ shop_wanted p = count_all p (omega arith) (machine le) (named le) in
     omega (arith, e)) h
 
 -- numbers with one more
-at_before : (xs : List ℤ) (z : ℤ) (k : ℕ) → k < length xs → at (xs ++ z ∷ []) k ≡ at xs k
+at_before : (xs : List ℤ) (z : ℤ) (k : ℕ) → k < length xs
+    → number_at (xs ++ z ∷ []) k ≡ number_at xs k
 at_before xs z k lt = get_or_append_left xs (z ∷ []) (pos 0) k lt
 
-at_last : (xs : List ℤ) (z : ℤ) → at (xs ++ z ∷ []) (length xs) ≡ z
+at_last : (xs : List ℤ) (z : ℤ) → number_at (xs ++ z ∷ []) (length xs) ≡ z
 at_last xs z = get_or-append_seam xs z [] (pos 0)
 
 -- the times that were kept stand where they stood, with a number more
 abbrev Stand : ℕ → ℕ → List ℤ → List ℤ → Type 0
 Stand machines machine times all = (j : ℕ) → j < length times
     → (time_place machines machine j < length all)
-    × (at times j ≡ at all (time_place machines machine j))
+    × (number_at times j ≡ number_at all (time_place machines machine j))
 
 stand_still : (m k : ℕ) (times all : List ℤ) (z : ℤ) → Stand m k times all
     → Stand m k times (all ++ z ∷ [])
@@ -115,8 +117,8 @@ stand_more m k times all z here each = λ j lt. elim (cases_lt j (length times))
       let same : j ≡ length times = omega (arith, behind, lt, length-append times (z ∷ [])) in
       let place : time_place m k j ≡ length all = ap (time_place m k) same ∙ here in (
         omega (arith, place, length-append all (z ∷ [])),
-        ap (at (times ++ z ∷ [])) same ∙ at_last times z ∙ sym (at_last all z)
-            ∙ ap (at (all ++ z ∷ [])) (sym place),
+        ap (number_at (times ++ z ∷ [])) same ∙ at_last times z ∙ sym (at_last all z)
+            ∙ ap (number_at (all ++ z ∷ [])) (sym place),
       )
 ]
 
@@ -211,11 +213,12 @@ read_more : (p : Pairs) (seen : List Word) (word : Word) (all : List ℤ) (line 
     (named : Bool) (r : Result ℤ ReadFault)
     → (false || leb p.jobs p.job) ≡ false → p.is_named ≡ named → p.machine < p.machines
     → IsOf word line read → cond named (natural line read) (machine_is p.machine line read) ≡ r
-    → count p ≡ length all → each_from (shop_number p.machines) 0 (take (wanted p) seen) ≡ Ok all
-    → each_from (shop_number p.machines) 0 (take (wanted p) (seen ++ word ∷ []))
+    → count p ≡ length all → each_from (shop_number p.machines) 0 (take (shop_wanted p) seen)
+    ≡ Ok all
+    → each_from (shop_number p.machines) 0 (take (shop_wanted p) (seen ++ word ∷ []))
     ≡ (r >>= λ z. Ok (all ++ z ∷ []))
 read_more p seen word all line read named r more e within of h c g =
-    pushed_with (shop_number p.machines) (wanted p) (count p) seen word all
+    pushed_with (shop_number p.machines) (shop_wanted p) (count p) seen word all
     (count_below p (leb-false p.jobs p.job more) within) c g
     ∙ ap (λ x. x >>= λ z. Ok (all ++ z ∷ [])) (judged_is p line read word named r e within of h)
 
@@ -229,16 +232,16 @@ named_at : (fault : Option ReadFault) (p : Pairs) (seen : List Word) (word : Wor
     (read : Number) (r : Result ℤ ReadFault)
     → p.fault ≡ fault → (is_some fault || leb p.jobs p.job) ≡ false → p.is_named ≡ false
     → p.machine < p.machines → IsOf word line read → machine_is p.machine line read ≡ r
-    → Holds fault p (each_from (shop_number p.machines) 0 (take (wanted p) seen))
-    → HasRead (after_name p r) (seen ++ word ∷ [])
+    → HoldsShop fault p (each_from (shop_number p.machines) 0 (take (shop_wanted p) seen))
+    → HasReadShop (after_name p r) (seen ++ word ∷ [])
 named_at (Some d) p seen word line read r f more now within of h g = absurd (let e : ⊥ = cc in e)
 named_at None p seen word line read (Err e) f more now within of h g =
     read_more p seen word g.0 line read false (Err e) more now within of h g.2 g.1
 named_at None p seen word line read (Ok z) f more now within of h g =
     let c : 2 * (p.job * p.machines + p.machine) + 0 ≡ length g.0 =
     counted_as p false (length g.0) now g.2 in
-    subst (λ (o : Option ReadFault). Holds o (record p { is_named = true })
-    (each_from (shop_number p.machines) 0 (take (wanted p) (seen ++ word ∷ [])))) (sym f) (
+    subst (λ (o : Option ReadFault). HoldsShop o (record p { is_named = true })
+    (each_from (shop_number p.machines) 0 (take (shop_wanted p) (seen ++ word ∷ [])))) (sym f) (
       g.0 ++ z ∷ [],
       read_more p seen word g.0 line read false (Ok z) more now within of h g.2 g.1,
       omega (arith, c, length-append g.0 (z ∷ [])),
@@ -248,8 +251,8 @@ named_at None p seen word line read (Ok z) f more now within of h g =
 
 pub named : (p : Pairs) (seen : List Word) (word : Word) (line : ℕ) (read : Number)
     → (is_some p.fault || leb p.jobs p.job) ≡ false → p.is_named ≡ false → p.machine < p.machines
-    → IsOf word line read → HasRead p seen
-    → HasRead (after_name p (machine_is p.machine line read)) (seen ++ word ∷ [])
+    → IsOf word line read → HasReadShop p seen
+    → HasReadShop (after_name p (machine_is p.machine line read)) (seen ++ word ∷ [])
 named p seen word line read more now within of g =
     named_at p.fault p seen word line read (machine_is p.machine line read) refl more now within of
     refl g
@@ -269,16 +272,16 @@ timed_at : (fault : Option ReadFault) (p : Pairs) (seen : List Word) (word : Wor
     (read : Number) (r : Result ℤ ReadFault)
     → p.fault ≡ fault → (is_some fault || leb p.jobs p.job) ≡ false → p.is_named ≡ true
     → p.machine < p.machines → IsOf word line read → natural line read ≡ r
-    → Holds fault p (each_from (shop_number p.machines) 0 (take (wanted p) seen))
-    → HasRead (after_time p r) (seen ++ word ∷ [])
+    → HoldsShop fault p (each_from (shop_number p.machines) 0 (take (shop_wanted p) seen))
+    → HasReadShop (after_time p r) (seen ++ word ∷ [])
 timed_at (Some d) p seen word line read r f more now within of h g = absurd (let e : ⊥ = cc in e)
 timed_at None p seen word line read (Err e) f more now within of h g =
     read_more p seen word g.0 line read true (Err e) more now within of h g.2 g.1
 timed_at None p seen word line read (Ok z) f more now within of h g =
     let c : 2 * (p.job * p.machines + p.machine) + 1 ≡ length g.0 =
     counted_as p true (length g.0) now g.2 in
-    subst (λ (o : Option ReadFault). Holds o (after_time p (Ok z))
-    (each_from (shop_number p.machines) 0 (take (wanted p) (seen ++ word ∷ [])))) (sym f) (
+    subst (λ (o : Option ReadFault). HoldsShop o (after_time p (Ok z))
+    (each_from (shop_number p.machines) 0 (take (shop_wanted p) (seen ++ word ∷ [])))) (sym f) (
       g.0 ++ z ∷ [],
       read_more p seen word g.0 line read true (Ok z) more now within of h g.2 g.1,
       count_next p (length g.0) c ∙ sym (length-append g.0 (z ∷ [])),
@@ -288,8 +291,8 @@ timed_at None p seen word line read (Ok z) f more now within of h g =
 
 pub timed : (p : Pairs) (seen : List Word) (word : Word) (line : ℕ) (read : Number)
     → (is_some p.fault || leb p.jobs p.job) ≡ false → p.is_named ≡ true → p.machine < p.machines
-    → IsOf word line read → HasRead p seen
-    → HasRead (after_time p (natural line read)) (seen ++ word ∷ [])
+    → IsOf word line read → HasReadShop p seen
+    → HasReadShop (after_time p (natural line read)) (seen ++ word ∷ [])
 timed p seen word line read more now within of g =
     timed_at p.fault p seen word line read (natural line read) refl more now within of refl g
 
@@ -316,7 +319,7 @@ none_kept p machine there job none =
 
 pub none_read : (jobs machines : ℕ) (pair : Option (ℕ × ℕ)) → first_kept pair < machines
     → second_kept machines pair < machines
-    → HasRead (record {
+    → HasReadShop (record {
       jobs = jobs;
       machines = machines;
       pair = pair;

@@ -14,9 +14,9 @@ use Rattle.tf_model.specs.Limit.{most_jobs}
 use Rattle.tf_read.specs.declared.fault.ReadFault.{ReadFault}
 use Rattle.tf_read.specs.declared.fault.ReadFault.TheVariants.{NoInstance, EndsEarly}
 use Rattle.tf_model.specs.Outcome.{◌>>=◌}
-use Rattle.tf_read.specs.Faults.{each_from}
-use Rattle.tf_read.specs.WeightedTardiness.{tardiness_number_read, tardiness_number, at, job, tardiness_jobs, tardiness_of, instance_of}
-use Rattle.tf_read.specs.Numbers.{Progress, skipped, wanted, missing, with_number, Holds, HasRead, AreInRange}
+use Rattle.tf_read.specs.Faults.{each_from, number_at}
+use Rattle.tf_read.specs.WeightedTardiness.{tardiness_number_read, tardiness_number, tardiness_job, tardiness_jobs, tardiness_of, instance_of}
+use Rattle.tf_read.specs.Numbers.{Progress, skipped, tardiness_wanted, tardiness_missing, with_number, HoldsTardiness, HasReadTardiness, AreInRange}
 use Rattle.tf_words.specs.Scan.{IsInRange}
 use Rattle.tf_read.proofs.Judged.{in_range, or_false, natural_within, integer_within, past_end, judged as is_instance}
 
@@ -42,43 +42,45 @@ judge_end n k count all e c h = elim (cases_Bool (leb (length all) (3 * n * (k -
 ]
 
 missing_at : (fault : Option ReadFault) (p : Progress) (seen : List Word) (e : ReadFault)
-    → Holds fault p (each_from (tardiness_number p.jobs) 0 (take (wanted p) seen))
+    → HoldsTardiness fault p (each_from (tardiness_number p.jobs) 0
+    (take (tardiness_wanted p) seen))
     → option_or fault
     (cond (leb p.count (skipped p)) (Some NoInstance)
-    (cond (ltb p.count (wanted p)) (Some EndsEarly) None)) ≡ Some e
+    (cond (ltb p.count (tardiness_wanted p)) (Some EndsEarly) None)) ≡ Some e
     → instance_of p.jobs p.index seen ≡ Err e
 missing_at (Some d) p seen e h m = goes_on p.jobs p.index seen (Err d) h
     ∙ (let same : d ≡ e = cc in ap (λ x. Err x) same)
 missing_at None p seen e h m = goes_on p.jobs p.index seen (Ok h.0) h.1
     ∙ judge_end p.jobs p.index p.count h.0 e h.2 m
 
-pub missing_is : (p : Progress) (seen : List Word) (e : ReadFault) → HasRead p seen
-    → missing p ≡ Some e → instance_of p.jobs p.index seen ≡ Err e
+pub missing_is : (p : Progress) (seen : List Word) (e : ReadFault) → HasReadTardiness p seen
+    → tardiness_missing p ≡ Some e → instance_of p.jobs p.index seen ≡ Err e
 missing_is p seen e h m = missing_at p.fault p seen e h m
 
 -- the numbers of a text that are all there
 record IsWhole (p : Progress) (seen : List Word) : Type 0 where
   all : List ℤ
-  read : each_from (tardiness_number p.jobs) 0 (take (wanted p) seen) ≡ Ok all
+  read : each_from (tardiness_number p.jobs) 0 (take (tardiness_wanted p) seen) ≡ Ok all
   count : p.count ≡ length all
   numbers : p.numbers ≡ drop (skipped p) all
   begun : skipped p < length all
-  ended : wanted p ≤ length all
+  ended : tardiness_wanted p ≤ length all
 
 whole_at : (fault : Option ReadFault) (p : Progress) (seen : List Word)
-    → Holds fault p (each_from (tardiness_number p.jobs) 0 (take (wanted p) seen))
+    → HoldsTardiness fault p (each_from (tardiness_number p.jobs) 0
+    (take (tardiness_wanted p) seen))
     → option_or fault
     (cond (leb p.count (skipped p)) (Some NoInstance)
-    (cond (ltb p.count (wanted p)) (Some EndsEarly) None)) ≡ None
+    (cond (ltb p.count (tardiness_wanted p)) (Some EndsEarly) None)) ≡ None
     → IsWhole p seen
 whole_at (Some d) p seen h m = absurd (let f : ⊥ = cc in f)
 whole_at None p seen h m = elim (cases_Bool (leb p.count (skipped p))) [
   | inl early ↦ absurd (let d : Some NoInstance ≡ None = rw early at m in let f : ⊥ = cc in f)
-  | inr late ↦ elim (cases_Bool (ltb p.count (wanted p))) [
+  | inr late ↦ elim (cases_Bool (ltb p.count (tardiness_wanted p))) [
     | inl cut ↦ absurd (let d : Some EndsEarly ≡ None = rw (late, cut) at m in let f : ⊥ = cc in f)
     | inr all ↦
         let begun : skipped p < p.count = leb-false p.count (skipped p) late in
-        let ended : wanted p ≤ p.count = ltb-false p.count (wanted p) all in
+        let ended : tardiness_wanted p ≤ p.count = ltb-false p.count (tardiness_wanted p) all in
         record {
           all = h.0;
           read = h.1;
@@ -90,10 +92,12 @@ whole_at None p seen h m = elim (cases_Bool (leb p.count (skipped p))) [
   ]
 ]
 
-at_own : (numbers : List ℤ) (start i : ℕ) → at (drop start numbers) i ≡ at numbers (start + i)
+at_own : (numbers : List ℤ) (start i : ℕ)
+    → number_at (drop start numbers) i ≡ number_at numbers (start + i)
 at_own numbers start i = get_or-drop start numbers i (pos 0)
 
-pub whole_is : (p : Progress) (seen : List Word) → HasRead p seen → missing p ≡ None
+pub whole_is : (p : Progress) (seen : List Word) → HasReadTardiness p seen
+    → tardiness_missing p ≡ None
     → instance_of p.jobs p.index seen
     ≡ Ok (record { jobs = tardiness_jobs p.jobs p.numbers; arcs = []; machines = None })
 whole_is p seen h m =
@@ -144,8 +148,8 @@ pub no_numbers : (n : ℕ) (numbers : List ℤ) → numbers ≡ [] → AreInRang
 no_numbers n numbers none = subst (AreInRange n) (sym none) (none_there n)
 
 at_end : (P : ℤ → Type 0) (numbers : List ℤ) (z : ℤ) (i : ℕ)
-    → (i < length numbers → P (at numbers i)) → (i ≡ length numbers → P z) → P (pos 0)
-    → P (at (numbers ++ z ∷ []) i)
+    → (i < length numbers → P (number_at numbers i)) → (i ≡ length numbers → P z) → P (pos 0)
+    → P (number_at (numbers ++ z ∷ []) i)
 at_end P [] z zero before here after = here refl
 at_end P [] z (suc i) before here after = after
 at_end P (y ∷ ys) z zero before here after = before (omega arith)
@@ -162,7 +166,7 @@ numbers_more n numbers z all beyond negative = record {
 }
 
 kept_at : (p : Progress) (line : ℕ) (number : Number) (z : ℤ) → IsInRange number
-    → p.count < wanted p → wanted p ≡ skipped p + 3 * p.jobs
+    → p.count < tardiness_wanted p → tardiness_wanted p ≡ skipped p + 3 * p.jobs
     → length p.numbers ≡ p.count - skipped p
     → AreInRange p.jobs p.numbers → tardiness_number_read p.jobs p.count line number ≡ Ok z
     → AreInRange p.jobs (with_number p z).numbers
@@ -179,7 +183,7 @@ kept_at p line number z range more own tally all h = elim (cases_Bool (leb (skip
 ]
 
 pub number_kept : (p : Progress) (line : ℕ) (number : Number) (r : Result ℤ ReadFault)
-    → IsInRange number → p.count < wanted p → wanted p ≡ skipped p + 3 * p.jobs
+    → IsInRange number → p.count < tardiness_wanted p → tardiness_wanted p ≡ skipped p + 3 * p.jobs
     → length p.numbers ≡ p.count - skipped p
     → AreInRange p.jobs p.numbers → tardiness_number_read p.jobs p.count line number ≡ r
     → IfOk r (λ z. AreInRange p.jobs (with_number p z).numbers)
@@ -221,7 +225,8 @@ block n zero lt = absurd (omega arith)
 block n (suc k) lt = let e : suc k - 1 ≡ k = omega arith in rw e (mul-suc (3 * n) k)
 
 job_ok : (n : ℕ) (numbers : List ℤ) → AreInRange n numbers → (j : ℕ) → j < n
-    → (has_negative (job n numbers j) ≡ false) × (has_beyond (job n numbers j) ≡ false)
+    → (has_negative (tardiness_job n numbers j) ≡ false)
+    × (has_beyond (tardiness_job n numbers j) ≡ false)
 job_ok n numbers all j lt = (
   or_false _ _ (or_false _ _ (all.natural j (omega arith)) (all.natural (n + j) (omega arith)))
       refl,
@@ -234,14 +239,16 @@ pub whole_judged : (n : ℕ) (numbers : List ℤ) → 0 < n → n ≤ most_jobs 
     → IsInstance (record { jobs = tardiness_jobs n numbers; arcs = []; machines = None })
 whole_judged n numbers some few all =
     let count : length (tardiness_jobs n numbers) ≡ n =
-    length-map-range_with_len (job n numbers) 0 n in
+    length-map-range_with_len (tardiness_job n numbers) 0 n in
     is_instance (record { jobs = tardiness_jobs n numbers; arcs = []; machines = None }) (record {
       some = omega (arith, count);
       few = omega (arith, count);
       machines = refl;
       arcs = omega arith;
-      negative = none_at has_negative (job n numbers) n (λ j lt. (job_ok n numbers all j lt).0);
-      beyond = none_at has_beyond (job n numbers) n (λ j lt. (job_ok n numbers all j lt).1);
+      negative = none_at has_negative (tardiness_job n numbers) n
+          (λ j lt. (job_ok n numbers all j lt).0);
+      beyond = none_at has_beyond (tardiness_job n numbers) n
+          (λ j lt. (job_ok n numbers all j lt).1);
       bad_arc = refl;
     })
 
@@ -249,16 +256,16 @@ whole_judged n numbers some few all =
 none_missing : (fault : Option ReadFault) (p : Progress)
     → option_or fault
     (cond (leb p.count (skipped p)) (Some NoInstance)
-    (cond (ltb p.count (wanted p)) (Some EndsEarly) None)) ≡ None
-    → wanted p ≤ p.count
+    (cond (ltb p.count (tardiness_wanted p)) (Some EndsEarly) None)) ≡ None
+    → tardiness_wanted p ≤ p.count
 none_missing (Some d) p m = absurd (let f : ⊥ = cc in f)
 none_missing None p m = elim (cases_Bool (leb p.count (skipped p))) [
   | inl early ↦ absurd (let d : Some NoInstance ≡ None = rw early at m in let f : ⊥ = cc in f)
-  | inr late ↦ elim (cases_Bool (ltb p.count (wanted p))) [
+  | inr late ↦ elim (cases_Bool (ltb p.count (tardiness_wanted p))) [
     | inl cut ↦ absurd (let d : Some EndsEarly ≡ None = rw (late, cut) at m in let f : ⊥ = cc in f)
     | inr whole ↦ ltb-false _ _ whole
   ]
 ]
 
-pub all_read : (p : Progress) → missing p ≡ None → wanted p ≤ p.count
+pub all_read : (p : Progress) → tardiness_missing p ≡ None → tardiness_wanted p ≤ p.count
 all_read p m = none_missing p.fault p m

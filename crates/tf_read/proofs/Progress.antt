@@ -11,7 +11,7 @@ use Rattle.tf_model.specs.Outcome.{◌>>=◌}
 use Rattle.tf_read.specs.Faults.{each_from}
 use Rattle.tf_words.specs.Scan.{IsOf}
 use Rattle.tf_read.specs.WeightedTardiness.{tardiness_number_read, tardiness_number}
-use Rattle.tf_read.specs.Numbers.{Progress, skipped, wanted, Holds, HasRead}
+use Rattle.tf_read.specs.Numbers.{Progress, skipped, tardiness_wanted, HoldsTardiness, HasReadTardiness}
 use Rattle.tf_read.proofs.Judged.{each_cons, each_none}
 
 behind_first : {Y : Type 0} (first : Y) (r : Result (List Y) ReadFault) (s : Result Y ReadFault)
@@ -108,29 +108,34 @@ stays_with read m c xs x all le count h =
     ap (each_from read 0) (full m xs x long) ∙ h
 
 stays : (fault : Option ReadFault) (p : Progress) (seen : List Word) (word : Word)
-    → (is_some fault || leb (wanted p) p.count) ≡ true
-    → Holds fault p (each_from (tardiness_number p.jobs) 0 (take (wanted p) seen))
-    → Holds fault p (each_from (tardiness_number p.jobs) 0 (take (wanted p) (seen ++ word ∷ [])))
-stays (Some e) p seen word over h = stays_fault (tardiness_number p.jobs) (wanted p) seen word e h
+    → (is_some fault || leb (tardiness_wanted p) p.count) ≡ true
+    → HoldsTardiness fault p (each_from (tardiness_number p.jobs) 0
+    (take (tardiness_wanted p) seen))
+    → HoldsTardiness fault p (each_from (tardiness_number p.jobs) 0
+    (take (tardiness_wanted p) (seen ++ word ∷ [])))
+stays (Some e) p seen word over h =
+    stays_fault (tardiness_number p.jobs) (tardiness_wanted p) seen word e h
 stays None p seen word over h = (
   h.0,
-  stays_with (tardiness_number p.jobs) (wanted p) p.count seen word h.0
-      (leb-true (wanted p) p.count over) h.2 h.1,
+  stays_with (tardiness_number p.jobs) (tardiness_wanted p) p.count seen word h.0
+      (leb-true (tardiness_wanted p) p.count over) h.2 h.1,
   h.2,
   h.3,
 )
 
 pub unchanged : (p : Progress) (seen : List Word) (word : Word)
-    → (is_some p.fault || leb (wanted p) p.count) ≡ true → HasRead p seen
-    → HasRead p (seen ++ word ∷ [])
+    → (is_some p.fault || leb (tardiness_wanted p) p.count) ≡ true → HasReadTardiness p seen
+    → HasReadTardiness p (seen ++ word ∷ [])
 unchanged p seen word over h = stays p.fault p seen word over h
 
-pushed : (p : Progress) (seen : List Word) (word : Word) (all : List ℤ) → p.count < wanted p
-    → p.count ≡ length all → each_from (tardiness_number p.jobs) 0 (take (wanted p) seen) ≡ Ok all
-    → each_from (tardiness_number p.jobs) 0 (take (wanted p) (seen ++ word ∷ []))
+pushed : (p : Progress) (seen : List Word) (word : Word) (all : List ℤ)
+    → p.count < tardiness_wanted p
+    → p.count ≡ length all → each_from (tardiness_number p.jobs) 0 (take (tardiness_wanted p) seen)
+    ≡ Ok all
+    → each_from (tardiness_number p.jobs) 0 (take (tardiness_wanted p) (seen ++ word ∷ []))
     ≡ (tardiness_number p.jobs p.count word >>= λ z. Ok (all ++ z ∷ []))
 pushed p seen word all lt count h =
-    pushed_with (tardiness_number p.jobs) (wanted p) p.count seen word all lt count h
+    pushed_with (tardiness_number p.jobs) (tardiness_wanted p) p.count seen word all lt count h
 
 -- the word's number by its line and its value
 read_as : (n i line : ℕ) (read : Number) (word : Word) (r : Result ℤ ReadFault)
@@ -141,21 +146,22 @@ read_as n i line read word r of h =
 
 fails_at : (fault : Option ReadFault) (p : Progress) (seen : List Word) (word : Word) (line : ℕ)
     (read : Number) (e : ReadFault)
-    → (is_some fault || leb (wanted p) p.count) ≡ false → IsOf word line read
+    → (is_some fault || leb (tardiness_wanted p) p.count) ≡ false → IsOf word line read
     → tardiness_number_read p.jobs p.count line read ≡ Err e
-    → Holds fault p (each_from (tardiness_number p.jobs) 0 (take (wanted p) seen))
-    → each_from (tardiness_number p.jobs) 0 (take (wanted p) (seen ++ word ∷ [])) ≡ Err e
+    → HoldsTardiness fault p (each_from (tardiness_number p.jobs) 0
+    (take (tardiness_wanted p) seen))
+    → each_from (tardiness_number p.jobs) 0 (take (tardiness_wanted p) (seen ++ word ∷ [])) ≡ Err e
 fails_at (Some d) p seen word line read e more of h g = cc
 fails_at None p seen word line read e more of h g =
-    pushed p seen word g.0 (leb-false (wanted p) p.count more) g.2 g.1
+    pushed p seen word g.0 (leb-false (tardiness_wanted p) p.count more) g.2 g.1
     ∙ ap (λ r. r >>= λ z. Ok (g.0 ++ z ∷ []))
     (read_as p.jobs p.count line read word (Err e) of h)
 
 pub fails : (p : Progress) (seen : List Word) (word : Word) (line : ℕ) (read : Number)
     (e : ReadFault)
-    → (is_some p.fault || leb (wanted p) p.count) ≡ false → IsOf word line read
-    → tardiness_number_read p.jobs p.count line read ≡ Err e → HasRead p seen
-    → HasRead (record p { fault = Some e }) (seen ++ word ∷ [])
+    → (is_some p.fault || leb (tardiness_wanted p) p.count) ≡ false → IsOf word line read
+    → tardiness_number_read p.jobs p.count line read ≡ Err e → HasReadTardiness p seen
+    → HasReadTardiness (record p { fault = Some e }) (seen ++ word ∷ [])
 fails p seen word line read e more of h g = fails_at p.fault p seen word line read e more of h g
 
 -- the numbers of the instance with one more
@@ -172,28 +178,29 @@ kept skipped count numbers all z c n = elim (cases_Bool (leb skipped count)) [
 
 keeps_at : (fault : Option ReadFault) (p : Progress) (seen : List Word) (word : Word) (line : ℕ)
     (read : Number) (z : ℤ)
-    → (is_some fault || leb (wanted p) p.count) ≡ false → IsOf word line read
+    → (is_some fault || leb (tardiness_wanted p) p.count) ≡ false → IsOf word line read
     → tardiness_number_read p.jobs p.count line read ≡ Ok z
-    → Holds fault p (each_from (tardiness_number p.jobs) 0 (take (wanted p) seen))
-    → Holds fault
+    → HoldsTardiness fault p (each_from (tardiness_number p.jobs) 0
+    (take (tardiness_wanted p) seen))
+    → HoldsTardiness fault
     (record p {
       count = p.count + 1;
       numbers = cond (leb (skipped p) p.count) (p.numbers ++ z ∷ []) p.numbers;
     })
-    (each_from (tardiness_number p.jobs) 0 (take (wanted p) (seen ++ word ∷ [])))
+    (each_from (tardiness_number p.jobs) 0 (take (tardiness_wanted p) (seen ++ word ∷ [])))
 keeps_at (Some d) p seen word line read z more of h g = absurd (let f : ⊥ = cc in f)
 keeps_at None p seen word line read z more of h g = (
   g.0 ++ z ∷ [],
-  pushed p seen word g.0 (leb-false (wanted p) p.count more) g.2 g.1
+  pushed p seen word g.0 (leb-false (tardiness_wanted p) p.count more) g.2 g.1
       ∙ ap (λ r. r >>= λ y. Ok (g.0 ++ y ∷ [])) (read_as p.jobs p.count line read word (Ok z) of h),
   omega (arith, g.2, length-append g.0 (z ∷ [])),
   kept (skipped p) p.count p.numbers g.0 z g.2 g.3,
 )
 
 pub keeps : (p : Progress) (seen : List Word) (word : Word) (line : ℕ) (read : Number) (z : ℤ)
-    → (is_some p.fault || leb (wanted p) p.count) ≡ false → IsOf word line read
-    → tardiness_number_read p.jobs p.count line read ≡ Ok z → HasRead p seen
-    → HasRead (record
+    → (is_some p.fault || leb (tardiness_wanted p) p.count) ≡ false → IsOf word line read
+    → tardiness_number_read p.jobs p.count line read ≡ Ok z → HasReadTardiness p seen
+    → HasReadTardiness (record
     p {
       count = p.count + 1;
       numbers = cond (leb (skipped p) p.count) (p.numbers ++ z ∷ []) p.numbers;
@@ -203,7 +210,8 @@ keeps p seen word line read z more of h g = keeps_at p.fault p seen word line re
 
 -- before the first word
 pub none_read : (jobs index : ℕ)
-    → HasRead (record { jobs = jobs; index = index; count = 0; numbers = []; fault = None }) []
+    → HasReadTardiness
+    (record { jobs = jobs; index = index; count = 0; numbers = []; fault = None }) []
 unfolding each_from
 none_read jobs index = (
   [],

@@ -1,5 +1,5 @@
 -- Reading with the first fault that is met.
-use Rattle.std.specs.Prelude.{ℕ, ◌+◌, List, [], ◌∷◌, Option, None, Some, Result, Ok, Err, ℤ, pos, negsuc}
+use Rattle.std.specs.Prelude.{ℕ, ◌+◌, List, [], ◌∷◌, Option, None, Some, Result, Ok, Err, ℤ, pos, negsuc, slice_index_or}
 use Rattle.tf_model.specs.Outcome
 use Rattle.tf_model.specs.Outcome.{◌>>=◌}
 use Rattle.tf_words.specs.declared.number.Number.{Number}
@@ -39,3 +39,7 @@ abbrev pub integer : ℕ → Number → Result ℤ ReadFault
 integer line NotANumber = Err (BadNumber line)
 integer line TooLarge = Err (NumberTooLarge line)
 integer line (Value z) = Ok z
+
+-- of the numbers that were read the one at a place, from 0
+abbrev pub number_at : List ℤ → ℕ → ℤ
+number_at numbers i = slice_index_or numbers i (pos 0)

@@ -1,6 +1,7 @@
 -- Flow shop texts: the instance of a name that a text holds, or its first fault.
-use Rattle.std.specs.Prelude.{ℕ, ◌+◌, ◌*◌, ◌/◌, ◌%◌, Bool, true, not, ◌&&◌, ◌||◌, List, [], ◌∷◌, length, map, take, Option, Some, None, Result, Ok, Err, ℤ, pos, negsuc, codes, nat_lt, ◌==◌, slice_index_or, if◌then◌else◌}
+use Rattle.std.specs.Prelude.{ℕ, ◌+◌, ◌*◌, ◌/◌, ◌%◌, Bool, true, not, ◌&&◌, ◌||◌, List, [], ◌∷◌, length, map, take, Option, Some, None, Result, Ok, Err, ℤ, pos, negsuc, codes, nat_lt, ◌==◌, if◌then◌else◌}
 use Rattle.std.specs.List.{range_with_len}
+use Rattle.std.specs.Option.{option_map_or}
 use Rattle.std.specs.Str.{bytes_eq}
 use Rattle.std.specs.Cmp.Lexicographic.{pointwise}
 use Rattle.tf_words.specs.Number.{number, limit, is_numeral}
@@ -14,7 +15,7 @@ use Rattle.tf_words.specs.declared.number.Number.TheVariants.{NotANumber, TooLar
 use Rattle.tf_read.specs.declared.fault.ReadFault.{ReadFault}
 use Rattle.tf_read.specs.declared.fault.ReadFault.TheVariants.{TooLong, BadNumber, EndsEarly, NoInstance, NotAFlowShop, BadPair, BadLine, NoJobs, TooManyJobs}
 use Rattle.tf_model.specs.Outcome.{◌>>=◌}
-use Rattle.tf_read.specs.Faults.{each_from, natural}
+use Rattle.tf_read.specs.Faults.{each_from, natural, number_at}
 
 -- Words count from 0 here, those behind the line of the sizes. Each second word is a time, and the
 -- word before it names the machine, from 0.
@@ -52,10 +53,6 @@ abbrev pub machines_kept : ℕ → Option (ℕ × ℕ) → ℕ
 machines_kept machines None = machines
 machines_kept machines (Some pair) = 2
 
--- the number at a place
-abbrev pub at : List ℤ → ℕ → ℤ
-at numbers i = slice_index_or numbers i (pos 0)
-
 -- the time of a job on a machine stands here, where jobs and machines count from 0
 abbrev pub time_place : ℕ → ℕ → ℕ → ℕ
 time_place machines machine j = 2 * (j * machines + machine) + 1
@@ -71,14 +68,14 @@ job_with machines first second = record {
 }
 
 -- job j on these two machines
-abbrev pub job : ℕ → ℕ → ℕ → List ℤ → ℕ → JobFields
-job machines first second numbers j =
-    job_with machines (at numbers (time_place machines first j))
-    (at numbers (time_place machines second j))
+abbrev pub shop_job : ℕ → ℕ → ℕ → List ℤ → ℕ → JobFields
+shop_job machines first second numbers j =
+    job_with machines (number_at numbers (time_place machines first j))
+    (number_at numbers (time_place machines second j))
 
 abbrev pub shop_jobs : ℕ → ℕ → ℕ → ℕ → List ℤ → List JobFields
 shop_jobs jobs machines first second numbers =
-    map (job machines first second numbers) (range_with_len 0 jobs)
+    map (shop_job machines first second numbers) (range_with_len 0 jobs)
 
 -- the instance, where all its numbers are there
 abbrev pub shop_of : ℕ → ℕ → Option (ℕ × ℕ) → List ℤ → Result InstanceData ReadFault
@@ -126,29 +123,35 @@ sizes_in (a ∷ b ∷ []) =
     if is_numeral a && is_numeral b then Some (size (number a), size (number b)) else None
 sizes_in (a ∷ b ∷ c ∷ more) = None
 
--- from the first line of sizes on, of lines of which the first has this number
-abbrev pub at_sizes : Option (ℕ × ℕ) → ℕ → Option (ℕ × ℕ) → List (List ℕ)
-    → Result InstanceData ReadFault → Result InstanceData ReadFault
-at_sizes pair line None more later = later
-at_sizes pair line (Some sizes) more later =
-    sized pair line sizes.0 sizes.1 (words_from (line + 1) more)
+-- The first line in whose words something is found: its number, where the first of all lines has
+-- number `n`, what is found, and the lines below; or the fault, where there is no such line.
+unfoldable pub first_line : {A : Type 0} → ReadFault → (List (List ℕ) → Option A) → ℕ
+    → List (List ℕ) → Result (ℕ × A × List (List ℕ)) ReadFault
+first_line fault find n [] = Err fault
+first_line fault find n (line ∷ below) =
+    option_map_or (λ found. Ok (n, found, below)) (find (words line))
+    (first_line fault find (n + 1) below)
 
+-- from the first line of sizes on
 unfoldable pub from_sizes : Option (ℕ × ℕ) → ℕ → List (List ℕ) → Result InstanceData ReadFault
-from_sizes pair n [] = Err EndsEarly
-from_sizes pair n (line ∷ more) =
-    at_sizes pair n (sizes_in (words line)) more (from_sizes pair (n + 1) more)
+from_sizes pair n all = do
+  (line, (jobs, machines), below) ← first_line EndsEarly sizes_in n all
+  sized pair line jobs machines (words_from (line + 1) below)
 
 -- exactly `instance` and the name
 abbrev pub is_name_line : List ℕ → List (List ℕ) → Bool
 is_name_line name words = pointwise bytes_eq words (codes "instance" ∷ name ∷ [])
 
+-- the name that is wanted, if this is its line
+abbrev pub name_in : List ℕ → List (List ℕ) → Option (List ℕ)
+name_in name words = if is_name_line name words then Some name else None
+
 -- from the first heading of the name on
 unfoldable pub from_heading : List ℕ → Option (ℕ × ℕ) → ℕ → List (List ℕ)
     → Result InstanceData ReadFault
-from_heading name pair n [] = Err NoInstance
-from_heading name pair n (line ∷ more) =
-    if is_name_line name (words line) then from_sizes pair (n + 1) more
-    else from_heading name pair (n + 1) more
+from_heading name pair n all = do
+  (line, _, below) ← first_line NoInstance (name_in name) n all
+  from_sizes pair (line + 1) below
 
 unfoldable pub flow_shop : List ℕ → Option (ℕ × ℕ) → List ℕ → Result InstanceData ReadFault
 flow_shop name pair text =

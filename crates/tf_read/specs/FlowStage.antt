@@ -9,7 +9,7 @@ use Rattle.tf_read.specs.declared.flow_stage.Stage.TheVariants.{Heading, Sizes, 
 use Rattle.tf_read.specs.Faults.{Fails}
 use Rattle.tf_read.specs.declared.word_feed.WordFeed.{WordFeed}
 use Rattle.tf_read.specs.FlowShop.{from_sizes, from_heading}
-use Rattle.tf_read.specs.Pairs.{Pairs as PairsSoFar, Reads}
+use Rattle.tf_read.specs.Pairs.{Pairs as PairsSoFar, ReadsShop}
 use Rattle.tf_read.specs.Said.{Says}
 use Rattle.tf_read.specs.WordFeed.{HasFed}
 use Rattle.tf_read.specs.PresentLine.{AreOfLine}
@@ -38,7 +38,7 @@ WantsSizes name pair line shown fed = (bytes : List ℕ) × AreOfLine bytes × S
 -- the sizes are over, and `behind` was fed since
 abbrev pub ReadsPairs : List ℕ → Option (ℕ × ℕ) → WordFeed PairsSoFar → List ℕ → Type 0
 ReadsPairs name pair words fed = (first : ℕ) × (says : Says) × (behind : List ℕ)
-    × HasFed Reads first says words behind
+    × HasFed ReadsShop first says words behind
     × ((more : List ℕ)
     → from_heading name pair 1 (lines (fed ++ more))
     ≡ says (words_from first (lines (behind ++ more))))
@@ -48,11 +48,11 @@ abbrev pub HasEnded : List ℕ → Option (ℕ × ℕ) → ReadFault → List �
 HasEnded name pair fault fed = (more : List ℕ)
     → Fails fault (from_heading name pair 1 (lines (fed ++ more)))
 
-abbrev pub HasTaken : {A : Type 0} → List ℕ → Option (ℕ × ℕ) → Stage A → List ℕ → Type 0
-HasTaken name pair (Heading line shown) fed = WantsHeading name pair line shown fed
-HasTaken name pair (Sizes line shown) fed = WantsSizes name pair line shown fed
-HasTaken name pair (Pairs words) fed = ReadsPairs name pair words fed
-HasTaken name pair (Ended fault) fed = HasEnded name pair fault fed
+abbrev pub HasTakenShop : {A : Type 0} → List ℕ → Option (ℕ × ℕ) → Stage A → List ℕ → Type 0
+HasTakenShop name pair (Heading line shown) fed = WantsHeading name pair line shown fed
+HasTakenShop name pair (Sizes line shown) fed = WantsSizes name pair line shown fed
+HasTakenShop name pair (Pairs words) fed = ReadsPairs name pair words fed
+HasTakenShop name pair (Ended fault) fed = HasEnded name pair fault fed
 
 -- the present line, where its number still matters
 abbrev pub line_of : {A : Type 0} → Stage A → ℕ

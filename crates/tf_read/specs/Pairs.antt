@@ -7,9 +7,9 @@ use Rattle.tf_model.specs.JobFields.{JobFields}
 use Rattle.tf_model.specs.InstanceData.{is_negative, is_beyond}
 use Rattle.tf_read.specs.declared.fault.ReadFault.{ReadFault}
 use Rattle.tf_read.specs.declared.fault.ReadFault.TheVariants.{EndsEarly}
-use Rattle.tf_read.specs.Faults.{each_from}
+use Rattle.tf_read.specs.Faults.{each_from, number_at}
 use Rattle.tf_read.specs.Said.{Says}
-use Rattle.tf_read.specs.FlowShop.{at, time_place, first_kept, second_kept, job_with, shop_number, pairs_of}
+use Rattle.tf_read.specs.FlowShop.{time_place, first_kept, second_kept, job_with, shop_number, pairs_of}
 
 -- how far the reading of so many jobs on so many machines is, of which the times on this pair are
 -- kept
@@ -31,38 +31,39 @@ first p = first_kept p.pair
 abbrev pub second : Pairs → ℕ
 second p = second_kept p.machines p.pair
 
--- the words that were shop_number, and those that are wanted
+-- the words that were read, and those that are wanted
 abbrev pub count : Pairs → ℕ
 count p = 2 * (p.job * p.machines + p.machine) + (if p.is_named then 1 else 0)
 
-abbrev pub wanted : Pairs → ℕ
-wanted p = 2 * p.jobs * p.machines
+abbrev pub shop_wanted : Pairs → ℕ
+shop_wanted p = 2 * p.jobs * p.machines
 
 -- of these numbers the times on a machine were kept, of each job that has come so far
 pub record AreKept (p : Pairs) (machine : ℕ) (times all : List ℤ) : Type 0 where
   pub there : machine < p.machines
   pub tally : length times ≡ p.job + (if nat_lt machine p.machine then 1 else 0)
   pub each : (j : ℕ) → j < length times → (time_place p.machines machine j < length all)
-      × (at times j ≡ at all (time_place p.machines machine j))
+      × (number_at times j ≡ number_at all (time_place p.machines machine j))
 
 -- the jobs of the times that were kept
 abbrev pub kept_job : ℕ → List ℤ → List ℤ → ℕ → JobFields
-kept_job machines firsts seconds j = job_with machines (at firsts j) (at seconds j)
+kept_job machines firsts seconds j = job_with machines (number_at firsts j) (number_at seconds j)
 
 abbrev pub kept_jobs : ℕ → ℕ → List ℤ → List ℤ → List JobFields
 kept_jobs jobs machines firsts seconds =
     map (kept_job machines firsts seconds) (range_with_len 0 jobs)
 
-abbrev pub Holds : Option ReadFault → Pairs → Result (List ℤ) ReadFault → Type 0
-Holds None p read = (all : List ℤ) × (read ≡ Ok all) × (count p ≡ length all)
+abbrev pub HoldsShop : Option ReadFault → Pairs → Result (List ℤ) ReadFault → Type 0
+HoldsShop None p read = (all : List ℤ) × (read ≡ Ok all) × (count p ≡ length all)
     × AreKept p (first p) p.firsts all × AreKept p (second p) p.seconds all
-Holds (Some fault) p read = read ≡ Err fault
+HoldsShop (Some fault) p read = read ≡ Err fault
 
 -- these are the words that were read
-abbrev pub HasRead : Pairs → List Word → Type 0
-HasRead p seen = Holds p.fault p (each_from (shop_number p.machines) 0 (take (wanted p) seen))
+abbrev pub HasReadShop : Pairs → List Word → Type 0
+HasReadShop p seen =
+    HoldsShop p.fault p (each_from (shop_number p.machines) 0 (take (shop_wanted p) seen))
 
--- with the name of a machine more, as it is shop_number
+-- with the name of a machine more, as it was read
 abbrev pub after_name : Pairs → Result ℤ ReadFault → Pairs
 after_name p (Ok z) = record p { is_named = true }
 after_name p (Err e) = record p { fault = Some e }
@@ -74,7 +75,7 @@ with_time wanted machine times z = if machine == wanted then times ++ z ∷ [] e
 abbrev pub is_last : Pairs → Bool
 is_last p = p.machine + 1 == p.machines
 
--- with a time more, as it is shop_number
+-- with a time more, as it was read
 abbrev pub after_time : Pairs → Result ℤ ReadFault → Pairs
 after_time p (Err e) = record p { fault = Some e }
 after_time p (Ok z) = record p {
@@ -86,17 +87,17 @@ after_time p (Ok z) = record p {
 }
 
 -- the fault that was met, or what is missing at the end
-abbrev pub missing : Pairs → Option ReadFault
-missing p = option_or p.fault (if nat_lt p.job p.jobs then Some EndsEarly else None)
+abbrev pub shop_missing : Pairs → Option ReadFault
+shop_missing p = option_or p.fault (if nat_lt p.job p.jobs then Some EndsEarly else None)
 
 -- these are the words that were read, where it is wanted what they say of these jobs
-abbrev pub Reads : Pairs → Says → List Word → Type 0
-Reads p says seen = ((words : List Word) → says words ≡ pairs_of p.jobs p.machines p.pair words)
-    × HasRead p seen
+abbrev pub ReadsShop : Pairs → Says → List Word → Type 0
+ReadsShop p says seen = ((words : List Word) → says words ≡ pairs_of p.jobs p.machines p.pair words)
+    × HasReadShop p seen
 
 -- no time is negative or beyond the limit
 abbrev pub IsTime : ℤ → Type 0
 IsTime z = (is_negative z ≡ false) × (is_beyond z ≡ false)
 
 pub record AreTimes (times : List ℤ) : Type 0 where
-  pub each : (j : ℕ) → IsTime (at times j)
+  pub each : (j : ℕ) → IsTime (number_at times j)

@@ -1,6 +1,6 @@
 -- Weighted tardiness texts, after OR-Library's: the k-th instance of n jobs that a text holds, or
 -- its first fault.
-use Rattle.std.specs.Prelude.{ℕ, ◌+◌, ◌-◌, ◌*◌, ◌%◌, List, [], length, map, take, drop, Option, Some, None, Result, Ok, Err, ℤ, pos, nat_lt, nat_le, ◌==◌, slice_index_or, if◌then◌else◌}
+use Rattle.std.specs.Prelude.{ℕ, ◌+◌, ◌-◌, ◌*◌, ◌%◌, List, [], length, map, take, drop, Option, Some, None, Result, Ok, Err, ℤ, nat_lt, nat_le, ◌==◌, if◌then◌else◌}
 use Rattle.std.specs.List.{range_with_len}
 use Rattle.tf_words.specs.Number.{number}
 use Rattle.tf_words.specs.Words.{Word, placed_words}
@@ -12,7 +12,7 @@ use Rattle.tf_words.specs.declared.number.Number.{Number}
 use Rattle.tf_read.specs.declared.fault.ReadFault.{ReadFault}
 use Rattle.tf_read.specs.declared.fault.ReadFault.TheVariants.{TooLong, EndsEarly, NoInstance, NoJobs, TooManyJobs}
 use Rattle.tf_model.specs.Outcome.{◌>>=◌, unless}
-use Rattle.tf_read.specs.Faults.{each_from, natural, integer}
+use Rattle.tf_read.specs.Faults.{each_from, natural, integer, number_at}
 
 -- Of each 3n words the first 2n are times and weights, and the last n are due dates, which may be
 -- negative. Words count from 0 here.
@@ -23,23 +23,19 @@ tardiness_number_read n i line read =
 abbrev pub tardiness_number : ℕ → ℕ → Word → Result ℤ ReadFault
 tardiness_number n i word = tardiness_number_read n i word.line (number word.bytes)
 
--- the number at a place
-abbrev pub at : List ℤ → ℕ → ℤ
-at numbers i = slice_index_or numbers i (pos 0)
-
 -- job j, from 0, where the n weights stand behind the n times, and the n due dates behind these
-abbrev pub job : ℕ → List ℤ → ℕ → JobFields
-job n numbers j =
+abbrev pub tardiness_job : ℕ → List ℤ → ℕ → JobFields
+tardiness_job n numbers j =
     record {
-      times = One (at numbers j);
-      weight = Some (at numbers (n + j));
-      due = Some (at numbers (2 * n + j));
+      times = One (number_at numbers j);
+      weight = Some (number_at numbers (n + j));
+      due = Some (number_at numbers (2 * n + j));
       release = None;
       cost = None;
     }
 
 abbrev pub tardiness_jobs : ℕ → List ℤ → List JobFields
-tardiness_jobs n numbers = map (job n numbers) (range_with_len 0 n)
+tardiness_jobs n numbers = map (tardiness_job n numbers) (range_with_len 0 n)
 
 -- instance k, of which these are the numbers up to its last
 abbrev pub tardiness_of : ℕ → ℕ → List ℤ → Result InstanceData ReadFault
@@ -53,7 +49,7 @@ tardiness_of n k numbers =
           None;
     })
 
--- the words up to the last one of instance k are tardiness_number, as far as there are some
+-- the words up to the last one of instance k are read, as far as there are some
 unfoldable pub instance_of : ℕ → ℕ → List Word → Result InstanceData ReadFault
 instance_of n k words =
     each_from (tardiness_number n) 0 (take (3 * n * k) words)

@@ -4,18 +4,19 @@ use Rattle.tf_model.specs.Limit.{most_bytes}
 use Rattle.tf_read.specs.declared.weighted_tardiness.WtReader.{WtReader}
 use Rattle.tf_read.specs.Said.{TextSays}
 use Rattle.tf_read.specs.WeightedTardiness.{weighted_tardiness}
-use Rattle.tf_read.specs.WtReading.{HasTaken}
+use Rattle.tf_read.specs.WtReading.{HasTakenTardiness}
 
 -- It is wanted what `says` says of a text, and `fed` was fed of it. A caller needs to know no more of
 -- this than that `new` gives it, `feed` keeps it, and `finish` uses it up.
-pub record HasFed {A : Type 0} (reader : WtReader A) (says : TextSays) (fed : List ℕ) : Type 0 where
+pub record HasFedTardiness {A : Type 0} (reader : WtReader A) (says : TextSays)
+    (fed : List ℕ) : Type 0 where
   pub jobs : ℕ
   pub index : ℕ
   pub wanted : (text : List ℕ) → says text ≡ weighted_tardiness jobs index text
   pub length_is : reader.length.bytes ≡ min (length fed) (most_bytes + 1)
-  pub taken : length fed ≤ most_bytes → HasTaken jobs index reader.reading fed
+  pub taken : length fed ≤ most_bytes → HasTakenTardiness jobs index reader.reading fed
 
 -- whatever is wanted and was fed before, the piece was fed since
-abbrev pub Takes : {A : Type 0} → WtReader A → List ℕ → WtReader A → Type 0
-Takes old piece new = (says : TextSays) (fed : List ℕ) → HasFed old says fed
-    → HasFed new says (fed ++ piece)
+abbrev pub TakesTardiness : {A : Type 0} → WtReader A → List ℕ → WtReader A → Type 0
+TakesTardiness old piece new = (says : TextSays) (fed : List ℕ) → HasFedTardiness old says fed
+    → HasFedTardiness new says (fed ++ piece)

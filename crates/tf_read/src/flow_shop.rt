@@ -30,12 +30,12 @@ impl<'a, A: Allocator + Copy> FlowReader<'a, A> {
     ghost use Rattle.std.specs.Prelude.{◌≡◌, ◌<◌, List, [], ℕ, Err, length};
     ghost use Rattle.tf_model.specs.Limit.{most_bytes};
     ghost use Rattle.tf_read.specs.Said.{TextSays};
-    ghost use Rattle.tf_read.specs.FlowReader.{HasFed};
+    ghost use Rattle.tf_read.specs.FlowReader.{HasFedShop};
 
     /// The reader of the instance of this name, and of this pair of machines, if there is one. It
     /// takes no memory.
     pub fn new(alloc: A, name: &'a [u8], pair: Option<(u32, u32)>) -> Self
-        ensures { HasFed result (flow_shop name.now pair) [] }
+        ensures { HasFedShop result (flow_shop name.now pair) [] }
     {
         FlowReader {
             alloc,
@@ -48,10 +48,10 @@ impl<'a, A: Allocator + Copy> FlowReader<'a, A> {
     /// The instance that the text says, or its first fault, where no more is fed. It takes no
     /// memory; a growth that was refused as the text was fed is [`ReadFault::OutOfMemory`].
     pub fn finish(self) -> Result<Instance<A>, ReadFault>
-        ensures given { (says : TextSays) (fed : List ℕ) → HasFed self.entry says fed →
+        ensures given { (says : TextSays) (fed : List ℕ) → HasFedShop self.entry says fed →
             Gives (λ i. i) result (says fed) }
         // A text that is too long comes before a growth that was refused.
-        ensures too_long { (says : TextSays) (fed : List ℕ) → HasFed self.entry says fed →
+        ensures too_long { (says : TextSays) (fed : List ℕ) → HasFedShop self.entry says fed →
             most_bytes < length fed → result ≡ Err ReadFault.TooLong }
     {
         if self.length.is_too_long() {
@@ -64,9 +64,9 @@ impl<'a, A: Allocator + Copy> FlowReader<'a, A> {
 impl<A: Allocator + Copy> Feed for FlowReader<'_, A> {
     ghost use Rattle.std.proofs.Common.{subst, sym, append_assoc};
     ghost use Rattle.std.proofs.lemmas.List.{append-nil};
-    ghost use Rattle.tf_read.specs.FlowReader.{HasFed, Takes};
+    ghost use Rattle.tf_read.specs.FlowReader.{HasFedShop, TakesShop};
 
-    ghost Takes = { Takes };
+    ghost Takes = { TakesShop };
 
     fn feed(&mut self, piece: &[u8]) {
         self.length.grow(piece.len());
@@ -75,10 +75,11 @@ impl<A: Allocator + Copy> Feed for FlowReader<'_, A> {
         }
     }
 
-    ghost took_nothing = { λ x says fed h. subst (HasFed x says) (sym (append-nil fed)) h };
+    ghost took_nothing = { λ x says fed h. subst (HasFedShop x says) (sym (append-nil fed)) h };
 
     ghost took_both = { λ x y z front back first second says fed h.
-        subst (HasFed z says) (append_assoc fed front back) (second says _ (first says fed h)) };
+        subst (HasFedShop z says) (append_assoc fed front back)
+        (second says _ (first says fed h)) };
 }
 
 /// The instance of this name in a text, or the first fault, as a [`FlowReader`] reads it.

@@ -6,7 +6,7 @@ ghost use Rattle.tf_read.specs.PresentLine.{AreOfLine};
 ghost use Rattle.tf_read.specs.Heading.{HeadingShown};
 ghost use Rattle.tf_read.specs.Sizes.{SizesShown};
 ghost use Rattle.tf_read.specs.FlowShop.{sized, from_sizes, from_heading};
-ghost use Rattle.tf_read.specs.FlowStage.{line_of, WantsHeading, WantsSizes, HasTaken};
+ghost use Rattle.tf_read.specs.FlowStage.{line_of, WantsHeading, WantsSizes, HasTakenShop};
 
 use crate::fault::ReadFault;
 use crate::heading::HeadingLine;
@@ -35,7 +35,8 @@ fn below_heading<A: Allocator>(line: u32, shown: HeadingLine, name: &[u8]) -> St
     requires { line + 1 < 2 ^ 32 }
     ensures later { line_of result ≤ line + 1 }
     ensures taken { (pair : Option (ℕ × ℕ)) (fed : List ℕ) →
-        WantsHeading name.now pair line shown fed → HasTaken name.now pair result (fed ++ 10 ∷ []) }
+        WantsHeading name.now pair line shown fed →
+        HasTakenShop name.now pair result (fed ++ 10 ∷ []) }
 {
     if shown.is_heading(name) {
         Stage::Sizes(line + 1, SizesLine::new())
@@ -57,7 +58,7 @@ fn below_found<A: Allocator + Copy>(
         ((more : List ℕ) →
         from_heading name pair 1 (lines (fed ++ more))
         ≡ sized pair line sizes.0 sizes.1 (words_from (line + 1) (lines more))) →
-        HasTaken name pair result fed }
+        HasTakenShop name pair result fed }
 {
     match judged_sizes(pair, line, sizes) {
         Err(fault) => Stage::Ended(fault),
@@ -80,7 +81,7 @@ fn below_sizes<A: Allocator + Copy>(
     requires { line + 1 < 2 ^ 32 }
     ensures later { line_of result ≤ line + 1 }
     ensures taken { (name : List ℕ) (fed : List ℕ) → WantsSizes name pair line shown fed →
-        HasTaken name pair result (fed ++ 10 ∷ []) }
+        HasTakenShop name pair result (fed ++ 10 ∷ []) }
 {
     match shown.sizes() {
         None => Stage::Sizes(line + 1, SizesLine::new()),
@@ -128,7 +129,7 @@ pub(crate) struct Wanted<'a> {
 impl<A: Allocator + Copy> Stage<A> {
     /// Before the first byte.
     pub(crate) fn new() -> Self
-        ensures taken { (name : List ℕ) (pair : Option (ℕ × ℕ)) → HasTaken name pair result [] }
+        ensures taken { (name : List ℕ) (pair : Option (ℕ × ℕ)) → HasTakenShop name pair result [] }
         ensures line { line_of result ≡ 1 }
     {
         Stage::Heading(1, HeadingLine::new())
@@ -138,8 +139,9 @@ impl<A: Allocator + Copy> Stage<A> {
     fn push(&mut self, alloc: A, wanted: &Wanted<'_>, byte: u8)
         requires { line_of self.old + 1 < 2 ^ 32 }
         ensures later { line_of self.new ≤ line_of self.old + 1 }
-        ensures taken { (fed : List ℕ) → HasTaken wanted.now.name.now wanted.now.pair self.old fed →
-            HasTaken wanted.now.name.now wanted.now.pair self.new (fed ++ byte ∷ []) }
+        ensures taken { (fed : List ℕ) →
+            HasTakenShop wanted.now.name.now wanted.now.pair self.old fed →
+            HasTakenShop wanted.now.name.now wanted.now.pair self.new (fed ++ byte ∷ []) }
     {
         match self {
             Stage::Heading(line, shown) => {
@@ -166,8 +168,8 @@ impl<A: Allocator + Copy> Stage<A> {
     fn idle(&self, piece: &[u8]) -> usize
         ensures within { result ≤ length piece.now }
         ensures taken { (name : List ℕ) (pair : Option (ℕ × ℕ)) (fed : List ℕ) →
-            HasTaken name pair self.now fed →
-            HasTaken name pair self.now (fed ++ take result piece.now) }
+            HasTakenShop name pair self.now fed →
+            HasTakenShop name pair self.now (fed ++ take result piece.now) }
     {
         match self {
             Stage::Heading(_, shown) => match shown {
@@ -187,8 +189,9 @@ impl<A: Allocator + Copy> Stage<A> {
     pub(crate) fn feed(&mut self, alloc: A, wanted: &Wanted<'_>, piece: &[u8])
         requires { line_of self.old + length piece.now < 2 ^ 32 }
         ensures later { line_of self.new ≤ line_of self.old + length piece.now }
-        ensures taken { (fed : List ℕ) → HasTaken wanted.now.name.now wanted.now.pair self.old fed →
-            HasTaken wanted.now.name.now wanted.now.pair self.new (fed ++ piece.now) }
+        ensures taken { (fed : List ℕ) →
+            HasTakenShop wanted.now.name.now wanted.now.pair self.old fed →
+            HasTakenShop wanted.now.name.now wanted.now.pair self.new (fed ++ piece.now) }
     {
         let mut k = 0;
         while k < piece.len() {
@@ -207,7 +210,7 @@ impl<A: Allocator + Copy> Stage<A> {
 
     /// The instance, where the text ends here, or the first fault. It takes no memory.
     pub(crate) fn ended(self, alloc: A, wanted: &Wanted<'_>) -> Result<Instance<A>, ReadFault>
-        ensures { (fed : List ℕ) → HasTaken wanted.now.name.now wanted.now.pair self fed →
+        ensures { (fed : List ℕ) → HasTakenShop wanted.now.name.now wanted.now.pair self fed →
             Gives (λ i. i) result (from_heading wanted.now.name.now wanted.now.pair 1 (lines fed)) }
     {
         match self {

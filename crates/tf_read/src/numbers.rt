@@ -4,8 +4,8 @@ ghost use Rattle.tf_words.specs.Words.{Word};
 ghost use Rattle.tf_model.specs.Limit.{most_jobs};
 ghost use Rattle.tf_read.specs.Said.{Says};
 ghost use Rattle.tf_words.specs.Scan.{IsInRange};
-ghost use Rattle.tf_read.specs.Numbers.{skipped, wanted, missing, with_number, AreInRange, Reads};
-ghost use Rattle.tf_read.specs.WeightedTardiness.{tardiness_number_read, job, instance_of};
+ghost use Rattle.tf_read.specs.Numbers.{skipped, tardiness_wanted, tardiness_missing, with_number, AreInRange, ReadsTardiness};
+ghost use Rattle.tf_read.specs.WeightedTardiness.{tardiness_number_read, tardiness_job, instance_of};
 
 use crate::fault::ReadFault;
 use crate::number::{integer_of, natural_of};
@@ -78,7 +78,7 @@ impl<A: Allocator> Numbers<A> {
         requires few { jobs ≤ most_jobs }
         requires from_one { 0 < index }
         requires near { index < 2 ^ 32 }
-        ensures { IfOk result (λ p. Reads p (instance_of jobs index) []) }
+        ensures { IfOk result (λ p. ReadsTardiness p (instance_of jobs index) []) }
     {
         let numbers = Vec::with_capacity(alloc, 3 * jobs as usize)?;
         let room = Vec::with_capacity(alloc, jobs as usize)?;
@@ -98,13 +98,14 @@ impl<A: Allocator> Numbers<A> {
 
     /// Whether nothing more is wanted.
     fn is_over(&self) -> bool
-        ensures { result ≡ (is_some self.now.fault || nat_le (wanted self.now) self.now.count) }
+        ensures { result
+            ≡ (is_some self.now.fault || nat_le (tardiness_wanted self.now) self.now.count) }
     {
         self.fault.is_some() || self.count >= self.wanted
     }
 
     fn number(&self, line: u32, number: Number) -> Result<i64, ReadFault>
-        requires wanted { self.now.count < wanted self.now }
+        requires wanted { self.now.count < tardiness_wanted self.now }
         requires in_range { IsInRange number }
         ensures value { result ≡ tardiness_number_read self.now.jobs self.now.count line number }
         ensures in_range { IfOk result
@@ -119,7 +120,7 @@ impl<A: Allocator> Numbers<A> {
 
     #[tactic(auto, using(crate::proofs::OneInstance::place_behind))]
     fn keep(&mut self, value: i64)
-        requires wanted { self.old.count < wanted self.old }
+        requires wanted { self.old.count < tardiness_wanted self.old }
         requires in_range { AreInRange self.old.jobs (with_number self.old value).numbers }
         ensures { self.new ≡ with_number self.old value }
     {
@@ -134,7 +135,7 @@ impl<A: Allocator> Numbers<A> {
 
     /// The fault that was met, or what is missing at the end.
     fn missing(&self) -> Option<ReadFault>
-        ensures { result ≡ missing self.now }
+        ensures { result ≡ tardiness_missing self.now }
     {
         if self.fault.is_some() {
             return self.fault;
@@ -150,7 +151,8 @@ impl<A: Allocator> Numbers<A> {
 
     /// The instance that the words of a text say. It takes no memory.
     pub(crate) fn instance(self, alloc: A) -> Result<Instance<A>, ReadFault>
-        ensures { (says : Says) (seen : List Word) → Reads self says seen → result ≡ says seen }
+        ensures { (says : Says) (seen : List Word) → ReadsTardiness self says seen →
+            result ≡ says seen }
     {
         match self.missing() {
             Some(fault) => Err(fault),
@@ -170,9 +172,9 @@ impl<A: Allocator> Numbers<A> {
 }
 
 impl<A: Allocator> Judge for Numbers<A> {
-    ghost use Rattle.tf_read.specs.Numbers.{Reads};
+    ghost use Rattle.tf_read.specs.Numbers.{ReadsTardiness};
 
-    ghost HasRead = { Reads };
+    ghost HasRead = { ReadsTardiness };
 
     fn judge(&mut self, line: u32, number: Number) {
         if self.is_over() {
@@ -188,7 +190,7 @@ impl<A: Allocator> Judge for Numbers<A> {
 fn job<A: Allocator>(jobs: usize, numbers: &[i64], j: usize) -> Job<A>
     requires all { length numbers.now ≡ 3 * jobs }
     requires there { j < jobs }
-    ensures { result ≡ job jobs numbers.now j }
+    ensures { result ≡ tardiness_job jobs numbers.now j }
 {
     Job {
         times: Times::One(numbers[j]),

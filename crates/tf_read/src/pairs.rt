@@ -6,7 +6,7 @@ ghost use Rattle.tf_read.specs.Faults.{natural};
 ghost use Rattle.tf_read.specs.Said.{Says};
 ghost use Rattle.tf_words.specs.Scan.{IsInRange};
 ghost use Rattle.tf_read.specs.FlowShop.{are_machines, machine_is, first_kept, second_kept, machines_kept, pairs_of};
-ghost use Rattle.tf_read.specs.Pairs.{Reads, IsTime, AreTimes, after_name, after_time, kept_job, missing};
+ghost use Rattle.tf_read.specs.Pairs.{ReadsShop, IsTime, AreTimes, after_name, after_time, kept_job, shop_missing};
 
 use crate::fault::ReadFault;
 use crate::number::natural_of;
@@ -151,7 +151,7 @@ impl<A: Allocator> Pairs<A> {
         requires machines_some { 0 < machines }
         requires machines_few { machines ≤ most_machines }
         requires pair { IsTrue (are_machines machines pair) }
-        ensures { IfOk result (λ p. Reads p (pairs_of jobs machines pair) []) }
+        ensures { IfOk result (λ p. ReadsShop p (pairs_of jobs machines pair) []) }
     {
         let (first, second) = kept(machines, pair);
         let firsts = Vec::with_capacity(alloc, jobs)?;
@@ -230,7 +230,7 @@ impl<A: Allocator> Pairs<A> {
 
     /// The fault that was met, or what is missing at the end.
     fn missing(&self) -> Option<ReadFault>
-        ensures value { result ≡ missing self.now }
+        ensures value { result ≡ shop_missing self.now }
         ensures within { self.now.machine < self.now.machines }
         ensures over { self.now.jobs ≤ self.now.job → self.now.machine ≡ 0 }
         ensures over_named { self.now.jobs ≤ self.now.job → self.now.is_named ≡ false }
@@ -247,7 +247,7 @@ impl<A: Allocator> Pairs<A> {
 
     /// The instance that the words of a text say. It takes no memory.
     pub(crate) fn instance(self, alloc: A) -> Result<Instance<A>, ReadFault>
-        ensures { (says : Says) (seen : List Word) → Reads self says seen → result ≡ says seen }
+        ensures { (says : Says) (seen : List Word) → ReadsShop self says seen → result ≡ says seen }
     {
         match self.missing() {
             Some(fault) => Err(fault),
@@ -272,9 +272,9 @@ impl<A: Allocator> Pairs<A> {
 }
 
 impl<A: Allocator> Judge for Pairs<A> {
-    ghost use Rattle.tf_read.specs.Pairs.{Reads};
+    ghost use Rattle.tf_read.specs.Pairs.{ReadsShop};
 
-    ghost HasRead = { Reads };
+    ghost HasRead = { ReadsShop };
 
     fn judge(&mut self, line: u32, number: Number) {
         if self.is_over() {

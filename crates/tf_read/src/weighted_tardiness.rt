@@ -3,7 +3,7 @@
 ghost use Rattle.std.specs.Prelude.{◌≡◌, ◌+◌, ◌≤◌, List, [], ℕ, IfOk};
 ghost use Rattle.tf_read.specs.Faults.{Gives};
 ghost use Rattle.tf_read.specs.WeightedTardiness.{request_fault, weighted_tardiness};
-ghost use Rattle.tf_read.specs.WtReading.{line_in, HasTaken};
+ghost use Rattle.tf_read.specs.WtReading.{line_in, HasTakenTardiness};
 
 use crate::fault::ReadFault;
 use crate::length::Length;
@@ -46,12 +46,12 @@ fn refusal(jobs: u32, index: u32) -> Option<ReadFault>
 impl<A: Allocator + Copy> WtReader<A> {
     ghost use Rattle.std.specs.Prelude.{◌≡◌, List, [], ℕ, true, is_some, IfOk, IsOk};
     ghost use Rattle.tf_read.specs.Said.{TextSays};
-    ghost use Rattle.tf_read.specs.WtReader.{HasFed};
+    ghost use Rattle.tf_read.specs.WtReader.{HasFedTardiness};
 
     /// The reader of the instance of this index, from 1, where each has so many jobs. It makes all
     /// room that is needed, and none where no text has such an instance.
     pub fn new(alloc: A, jobs: u32, index: u32) -> Result<Self, OutOfMemory>
-        ensures given { IfOk result (λ r. HasFed r (weighted_tardiness jobs index) []) }
+        ensures given { IfOk result (λ r. HasFedTardiness r (weighted_tardiness jobs index) []) }
         ensures no_room { is_some (request_fault jobs index) ≡ true → IsOk result }
     {
         match refusal(jobs, index) {
@@ -66,7 +66,8 @@ impl<A: Allocator + Copy> WtReader<A> {
     // Before the first byte.
     fn before(alloc: A, reading: Result<WordFeed<Numbers<A>>, ReadFault>) -> Self
         requires { line_in reading ≤ 1 }
-        ensures { (n k : ℕ) → HasTaken n k reading [] → HasFed result (weighted_tardiness n k) [] }
+        ensures { (n k : ℕ) → HasTakenTardiness n k reading [] →
+            HasFedTardiness result (weighted_tardiness n k) [] }
     {
         WtReader {
             alloc,
@@ -78,7 +79,8 @@ impl<A: Allocator + Copy> WtReader<A> {
     /// The instance that the text says, or its first fault, where no more is fed. It takes no
     /// memory.
     pub fn finish(self) -> Result<Instance<A>, ReadFault>
-        ensures { (says : TextSays) (fed : List ℕ) → HasFed self says fed → result ≡ says fed }
+        ensures { (says : TextSays) (fed : List ℕ) → HasFedTardiness self says fed →
+            result ≡ says fed }
     {
         let WtReader {
             alloc,
@@ -98,9 +100,9 @@ impl<A: Allocator + Copy> WtReader<A> {
 impl<A: Allocator + Copy> Feed for WtReader<A> {
     ghost use Rattle.std.proofs.Common.{subst, sym, append_assoc};
     ghost use Rattle.std.proofs.lemmas.List.{append-nil};
-    ghost use Rattle.tf_read.specs.WtReader.{HasFed, Takes};
+    ghost use Rattle.tf_read.specs.WtReader.{HasFedTardiness, TakesTardiness};
 
-    ghost Takes = { Takes };
+    ghost Takes = { TakesTardiness };
 
     fn feed(&mut self, piece: &[u8]) {
         self.length.grow(piece.len());
@@ -112,10 +114,12 @@ impl<A: Allocator + Copy> Feed for WtReader<A> {
         }
     }
 
-    ghost took_nothing = { λ x says fed h. subst (HasFed x says) (sym (append-nil fed)) h };
+    ghost took_nothing = { λ x says fed h.
+        subst (HasFedTardiness x says) (sym (append-nil fed)) h };
 
     ghost took_both = { λ x y z front back first second says fed h.
-        subst (HasFed z says) (append_assoc fed front back) (second says _ (first says fed h)) };
+        subst (HasFedTardiness z says) (append_assoc fed front back)
+        (second says _ (first says fed h)) };
 }
 
 /// The instance of this index, from 1, where each has `jobs` jobs, or the first fault, as a

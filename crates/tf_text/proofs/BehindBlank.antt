@@ -11,7 +11,7 @@ use Rattle.tf_notation.specs.Spelling.{meaning, environment, goals, dividers, no
 use Rattle.tf_notation.specs.Tokens.{Token, tokens_from, is_gap, is_word_byte, begins_word, lengthen}
 use Rattle.tf_model.proofs.Outcomes.{bind_ok}
 use Rattle.tf_model.specs.Outcome.{◌>>=◌}
-use Rattle.tf_notation.specs.Reading.{notation, expect, listed, conditions_at, ended, problem_of, bar}
+use Rattle.tf_notation.specs.Reading.{notation, expect, listed, behind_condition, conditions_at, ended, problem_of, bar}
 
 -- the same bytes, wherever they stand
 abbrev Same : List Token → List Token → Type 0
@@ -75,47 +75,52 @@ expect_agrees means m n (t ∷ ts) (u ∷ us) rest x same h =
     (sym (ap (λ b. found (means b) ts t.start) bytes) ∙ h)
 
 listed_named : (o : Option Conditions) (ts us rest : List Token) (m n s e : ℕ) (x : Conditions)
-    → ((more : Conditions) → listed m false more ts ≡ Ok (x, rest)
-    → Agrees x rest (listed n false more us))
-    → option_map_or (λ more. listed m false more ts) o (Err s) ≡ Ok (x, rest)
-    → Agrees x rest (option_map_or (λ more. listed n false more us) o (Err e))
+    → ((more : Conditions) → behind_condition m more ts ≡ Ok (x, rest)
+    → Agrees x rest (behind_condition n more us))
+    → option_map_or (λ more. behind_condition m more ts) o (Err s) ≡ Ok (x, rest)
+    → Agrees x rest (option_map_or (λ more. behind_condition n more us) o (Err e))
 listed_named None ts us rest m n s e x step h = absurd cc
 listed_named (Some more) ts us rest m n s e x step h = step more h
 
 listed_divided : (o : Option Bool) (named : Conditions) (ts us rest : List Token) (m n s e : ℕ)
     (x : Conditions)
-    → Same ts us → (listed m true named ts ≡ Ok (x, rest) → Agrees x rest (listed n true named us))
-    → option_map_or (λ another. cond another (listed m true named ts) (Ok (named, ts))) o (Err s)
+    → Same ts us → (listed m named ts ≡ Ok (x, rest) → Agrees x rest (listed n named us))
+    → option_map_or (λ another. cond another (listed m named ts) (Ok (named, ts))) o (Err s)
     ≡ Ok (x, rest)
     → Agrees x rest
-    (option_map_or (λ another. cond another (listed n true named us) (Ok (named, us))) o
-    (Err e))
+    (option_map_or (λ another. cond another (listed n named us) (Ok (named, us))) o (Err e))
 listed_divided None named ts us rest m n s e x same step h = absurd cc
 listed_divided (Some true) named ts us rest m n s e x same step h = step h
 listed_divided (Some false) named ts us rest m n s e x same step h =
     agreed named x ts us rest same h
 
-listed_agrees : (m n : ℕ) (divided : Bool) (named : Conditions) (ts us rest : List Token)
-    (x : Conditions)
-    → Same ts us → listed m divided named ts ≡ Ok (x, rest)
-    → Agrees x rest (listed n divided named us)
-unfolding listed
-listed_agrees m n divided named [] us rest x same h = absurd cc
-listed_agrees m n divided named (t ∷ ts) [] rest x same h = absurd cc
-listed_agrees m n true named (t ∷ ts) (u ∷ us) rest x same h =
-    let bytes : t.bytes ≡ u.bytes = cc in
-    let tails : Same ts us = cc in
-    listed_named (adds named u.bytes) ts us rest m n t.start u.start x
-    (λ more g. listed_agrees m n false more ts us rest x tails g)
-    (sym (ap (λ b. option_map_or (λ more. listed m false more ts) (adds named b) (Err t.start))
-    bytes) ∙ h)
-listed_agrees m n false named (t ∷ ts) (u ∷ us) rest x same h =
-    let bytes : t.bytes ≡ u.bytes = cc in
-    let tails : Same ts us = cc in
-    listed_divided (meaning dividers u.bytes) named ts us rest m n t.start u.start x tails
-    (λ g. listed_agrees m n true named ts us rest x tails g)
-    (sym (ap (λ b. option_map_or (λ another. cond another (listed m true named ts) (Ok (named, ts)))
-    (meaning dividers b) (Err t.start)) bytes) ∙ h)
+mutual
+  unfolding listed
+
+  listed_agrees : (m n : ℕ) (named : Conditions) (ts us rest : List Token) (x : Conditions)
+      → Same ts us → listed m named ts ≡ Ok (x, rest) → Agrees x rest (listed n named us)
+  listed_agrees m n named [] us rest x same h = absurd cc
+  listed_agrees m n named (t ∷ ts) [] rest x same h = absurd cc
+  listed_agrees m n named (t ∷ ts) (u ∷ us) rest x same h =
+      let bytes : t.bytes ≡ u.bytes = cc in
+      let tails : Same ts us = cc in
+      listed_named (adds named u.bytes) ts us rest m n t.start u.start x
+      (λ more g. behind_agrees m n more ts us rest x tails g)
+      (sym (ap (λ b. option_map_or (λ more. behind_condition m more ts) (adds named b)
+      (Err t.start)) bytes) ∙ h)
+
+  behind_agrees : (m n : ℕ) (named : Conditions) (ts us rest : List Token) (x : Conditions)
+      → Same ts us → behind_condition m named ts ≡ Ok (x, rest)
+      → Agrees x rest (behind_condition n named us)
+  behind_agrees m n named [] us rest x same h = absurd cc
+  behind_agrees m n named (t ∷ ts) [] rest x same h = absurd cc
+  behind_agrees m n named (t ∷ ts) (u ∷ us) rest x same h =
+      let bytes : t.bytes ≡ u.bytes = cc in
+      let tails : Same ts us = cc in
+      listed_divided (meaning dividers u.bytes) named ts us rest m n t.start u.start x tails
+      (λ g. listed_agrees m n named ts us rest x tails g)
+      (sym (ap (λ b. option_map_or (λ another. cond another (listed m named ts) (Ok (named, ts)))
+      (meaning dividers b) (Err t.start)) bytes) ∙ h)
 
 conditions_agree : (m n : ℕ) (ts us rest : List Token) (x : Conditions) → Same ts us
     → conditions_at m ts ≡ Ok (x, rest) → Agrees x rest (conditions_at n us)
@@ -126,18 +131,18 @@ conditions_agree m n (t ∷ ts) (u ∷ us) rest x same h =
     let bytes : t.bytes ≡ u.bytes = cc in
     let tails : Same ts us = cc in
     let here : cond (bytes_eq u.bytes (codes "|")) (Ok (no_conditions, ts))
-    (listed m true no_conditions (t ∷ ts)) ≡ Ok (x, rest) =
+    (listed m no_conditions (t ∷ ts)) ≡ Ok (x, rest) =
     sym (ap (λ b. cond (bytes_eq b (codes "|")) (Ok (no_conditions, ts))
-    (listed m true no_conditions (t ∷ ts))) bytes) ∙ h in
+    (listed m no_conditions (t ∷ ts))) bytes) ∙ h in
     conditions_by (bytes_eq u.bytes (codes "|")) t u ts us rest m n x same tails here
   where
     conditions_by : (b : Bool) (t u : Token) (ts us rest : List Token) (m n : ℕ) (x : Conditions)
         → Same (t ∷ ts) (u ∷ us) → Same ts us
-        → cond b (Ok (no_conditions, ts)) (listed m true no_conditions (t ∷ ts)) ≡ Ok (x, rest)
-        → Agrees x rest (cond b (Ok (no_conditions, us)) (listed n true no_conditions (u ∷ us)))
+        → cond b (Ok (no_conditions, ts)) (listed m no_conditions (t ∷ ts)) ≡ Ok (x, rest)
+        → Agrees x rest (cond b (Ok (no_conditions, us)) (listed n no_conditions (u ∷ us)))
     conditions_by true t u ts us rest m n x same tails h = agreed no_conditions x ts us rest tails h
     conditions_by false t u ts us rest m n x same tails h =
-        listed_agrees m n true no_conditions (t ∷ ts) (u ∷ us) rest x same h
+        listed_agrees m n no_conditions (t ∷ ts) (u ∷ us) rest x same h
 
 ended_agrees : (x y : Problem) (ts us : List Token) → Same ts us → ended x ts ≡ Ok y
     → ended x us ≡ Ok y
@@ -151,15 +156,15 @@ one_blank text = refl
 
 abbrev after_bar : ℕ → Env × Option ℕ → List Token → Result Problem ℕ
 after_bar end env ts = do
-  named ← conditions_at end ts
-  goal ← expect (meaning goals) end named.1
-  ended (problem_of env named.0 goal.0) goal.1
+  (named, rest) ← conditions_at end ts
+  (goal, rest) ← expect (meaning goals) end rest
+  ended (problem_of env named goal) rest
 
 abbrev body : ℕ → List Token → Result Problem ℕ
 body end ts = do
-  env ← expect environment end ts
-  divided ← expect (meaning bar) end env.1
-  after_bar end env.0 divided.1
+  (env, rest) ← expect environment end ts
+  (_, rest) ← expect (meaning bar) end rest
+  after_bar end env rest
 
 body_agrees : (m n : ℕ) (ts us : List Token) (p : Problem) → Same ts us → body m ts ≡ Ok p
     → body n us ≡ Ok p

@@ -3,7 +3,7 @@ use Rattle.std.proofs.Common.{◌≡◌, ℕ, zero, suc, ◌+◌, ◌-◌, ◌^�
 use Rattle.std.specs.List.{list_all, flat_map, range_with_len, position_or_len, AllByRecursion}
 use Rattle.std.specs.Fmt.{decimal}
 use Rattle.std.specs.Str.Parse.{AllDigits}
-use Rattle.std.proofs.lemmas.Bool.{cases_Bool, and_from, ne_eqb, eqb-true, ltb-true, lt-ltb, le-ltb}
+use Rattle.std.proofs.lemmas.Bool.{cases_Bool, and_from, ne_eqb, eq-eqb, eqb-true, ltb-true, lt-ltb, le-ltb}
 use Rattle.std.proofs.lemmas.List.{append-nil, length-append}
 use Rattle.std.proofs.Math.Bool.{or-true}
 use Rattle.std.proofs.Math.Seq.{take-append_seam, drop-append-add}
@@ -16,7 +16,7 @@ use Rattle.tf_text.specs.declared.answer.layout.Layout.{Layout}
 use Rattle.tf_text.specs.declared.answer.layout.Layout.TheVariants.{One, Two}
 use Rattle.tf_text.specs.declared.answer.run.Run.{Run}
 use Rattle.tf_words.specs.Ranged.{is_number}
-use Rattle.tf_text.specs.JobWords.{alone, run_jobs, runs_after, runs, range_word, run_words, job_words}
+use Rattle.tf_text.specs.JobWords.{alone, run_jobs, before, runs, range_word, run_words, job_words}
 use Rattle.tf_text.specs.AnswerReading.{most_job, range_ends, is_item, count_in, run_in, jobs_from}
 use Rattle.tf_text.specs.Readable.{IsCount, AreJobs}
 use Rattle.tf_text.proofs.Numerals.{decimal_numeral, word-decimal, numeral-decimal, count-decimal}
@@ -38,6 +38,29 @@ longer_run first last job le next =
     let top : first + (last + 1 - first) ≡ job = omega arith in
     ap (range_with_len first) many ∙ range_push first (last + 1 - first)
     ∙ ap (λ j. range_with_len first (last + 1 - first) ++ j ∷ []) top
+
+-- a run that goes on with the next job, before others
+join_before : (first last job : ℕ) (more : List Run) → job ≡ last + 1
+    → before (record { first = first; last = last }) (before (alone job) more)
+    ≡ before (record { first = first; last = job }) more
+join_before first last job [] next =
+    let same : eqb job (last + 1) ≡ true = eq-eqb job (last + 1) next in
+    rw same refl
+join_before first last job (run ∷ more) next =
+    let same : eqb job (last + 1) ≡ true = eq-eqb job (last + 1) next in
+    elim (cases_Bool (eqb run.first (job + 1))) [
+      | inl e ↦ rw (e, same) refl
+      | inr e ↦ rw (e, same) refl
+    ]
+
+-- a run that doesn't go on, before others
+part_before : (run : Run) (job : ℕ) (more : List Run) → eqb job (run.last + 1) ≡ false
+    → before run (before (alone job) more) ≡ run ∷ before (alone job) more
+part_before run job [] other = rw other refl
+part_before run job (next ∷ more) other = elim (cases_Bool (eqb next.first (job + 1))) [
+  | inl e ↦ rw (e, other) refl
+  | inr e ↦ rw (e, other) refl
+]
 
 -- its jobs are jobs that a text may name
 range_are_jobs : (a n : ℕ) → 1 ≤ a → a + n ≤ most_job + 1 → AreJobs (range_with_len a n)
@@ -148,20 +171,20 @@ run_read line run more low order high = elim (cases_Bool (ltb (run.first + 1) ru
 -- the runs of a list are read as the list
 runs_read : (line : ℕ) (run : Run) (jobs : List ℕ) → 1 ≤ run.first → run.first ≤ run.last
     → run.last ≤ most_job → AreJobs jobs
-    → jobs_from line (flat_map run_words (runs_after run jobs)) ≡ Ok (run_jobs run ++ jobs)
-unfolding runs_after jobs_from
+    → jobs_from line (flat_map run_words (before run (runs jobs))) ≡ Ok (run_jobs run ++ jobs)
+unfolding runs jobs_from
 runs_read line run [] low order high are = run_read line run [] low order high
 runs_read line run (job ∷ jobs) low order high are = elim (cases_Bool (eqb job (run.last + 1))) [
   | inl e ↦ (
       let next : job ≡ run.last + 1 = eqb-true job (run.last + 1) e in
-      rw e
+      rw (join_before run.first run.last job (runs jobs) next)
       (runs_read line (record { first = run.first; last = job }) jobs low (omega arith) are.0.1
       are.1
       ∙ ap (λ js. Ok (js ++ jobs)) (longer_run run.first run.last job order next)
       ∙ ap (λ js. Ok js) (append_assoc (run_jobs run) (job ∷ []) jobs))
       )
-  | inr e ↦ rw e
-      (run_read line run (flat_map run_words (runs_after (alone job) jobs)) low order high
+  | inr e ↦ rw (part_before run job (runs jobs) e)
+      (run_read line run (flat_map run_words (before (alone job) (runs jobs))) low order high
       ∙ ap (with_jobs (run_jobs run))
       (runs_read line (alone job) jobs are.0.0 (omega arith) are.0.1 are.1
       ∙ ap (λ js. Ok (js ++ jobs)) (alone_jobs job)))
@@ -238,18 +261,19 @@ run_items run low order high = elim (cases_Bool (ltb (run.first + 1) run.last)) 
 ]
 
 runs_items : (run : Run) (jobs : List ℕ) → 1 ≤ run.first → run.first ≤ run.last
-    → run.last ≤ most_job → AreJobs jobs → AreItems Two (flat_map run_words (runs_after run jobs))
-unfolding runs_after
+    → run.last ≤ most_job → AreJobs jobs
+    → AreItems Two (flat_map run_words (before run (runs jobs)))
+unfolding runs
 runs_items run [] low order high are =
     append_items Two (run_words run) [] (run_items run low order high) tt
 runs_items run (job ∷ jobs) low order high are = elim (cases_Bool (eqb job (run.last + 1))) [
   | inl e ↦ (
       let next : job ≡ run.last + 1 = eqb-true job (run.last + 1) e in
-      rw e (runs_items (record { first = run.first; last = job }) jobs low (omega arith) are.0.1
-      are.1)
+      rw (join_before run.first run.last job (runs jobs) next)
+      (runs_items (record { first = run.first; last = job }) jobs low (omega arith) are.0.1 are.1)
       )
-  | inr e ↦ rw e
-      (append_items Two (run_words run) (flat_map run_words (runs_after (alone job) jobs))
+  | inr e ↦ rw (part_before run job (runs jobs) e)
+      (append_items Two (run_words run) (flat_map run_words (before (alone job) (runs jobs)))
       (run_items run low order high)
       (runs_items (alone job) jobs are.0.0 (omega arith) are.0.1 are.1))
 ]

@@ -13,7 +13,7 @@ use Rattle.tf_notation.specs.Reading.{notation, expect, listed, conditions_at}
 use Rattle.tf_check.specs.Claim.{BySplit, ByLoad}
 use Rattle.tf_text.specs.AnswerText.{SheetData, line_text, claim_words, answer_text}
 use Rattle.tf_text.specs.declared.answer.layout.Layout.TheVariants.{One, Two}
-use Rattle.tf_text.specs.JobWords.{runs_after, runs, job_words}
+use Rattle.tf_text.specs.JobWords.{runs, job_words}
 use Rattle.tf_words.specs.Digits.{numeral}
 use Rattle.tf_text.specs.AnswerReading.{value_in, range_ends, run_in, jobs_from, jobs_listed, jobs_in, heading_at, exactly, problem_in, problem_at, word_behind, count_at, value_at, piece_in, pieces_at, split_in, claim_in, certificate_in, certificate_at, answer_at, sheet_of, answer_in}
 use Rattle.tf_text.specs.declared.answer.fault.AnswerFault.TheVariants.{BadLine, NumberTooLarge, BadNotation, EndsEarly}
@@ -62,19 +62,19 @@ split_of_none = refl
 split_in_ranges : line_text
     (codes "cert" ∷ claim_words Two (BySplit (1 ∷ 3 ∷ 4 ∷ 5 ∷ []) (pos 5) false))
     ≡ codes "cert split second 5 1 3-5" ++ 10 ∷ []
-unfolding digits runs runs_after
+unfolding digits runs
 split_in_ranges = refl
 
 range_first : job_words Two (3 ∷ 4 ∷ 5 ∷ 1 ∷ []) ≡ codes "3-5" ∷ codes "1" ∷ []
-unfolding digits runs runs_after
+unfolding digits runs
 range_first = refl
 
 falling : job_words Two (5 ∷ 4 ∷ 3 ∷ []) ≡ codes "5" ∷ codes "4" ∷ codes "3" ∷ []
-unfolding digits runs runs_after
+unfolding digits runs
 falling = refl
 
 two_alone : job_words Two (1 ∷ 2 ∷ []) ≡ codes "1" ∷ codes "2" ∷ []
-unfolding digits runs runs_after
+unfolding digits runs
 two_alone = refl
 
 -- ---- reading

@@ -83,7 +83,7 @@ numerals first last = if is_numeral first && is_numeral last then Some (first, l
 
 abbrev pub ends_of : Option (List ℕ × List ℕ) → Option (List ℕ × List ℕ)
 ends_of None = None
-ends_of (Some parts) = numerals parts.0 parts.1
+ends_of (Some (first, last)) = numerals first last
 
 -- the two numbers of a range: digits, one '-', digits
 unfoldable pub range_ends : List ℕ → Option (List ℕ × List ℕ)
@@ -104,9 +104,9 @@ abbrev pub run_of : ℕ → List ℕ → Option (List ℕ × List ℕ) → Resul
 run_of line word None = do
   job ← count_in line most_job word
   Ok (alone job)
-run_of line word (Some ends) = do
-  first ← count_in line most_job ends.0
-  last ← count_in line most_job ends.1
+run_of line word (Some (left, right)) = do
+  first ← count_in line most_job left
+  last ← count_in line most_job right
   ordered line first last
 
 -- a word as a run of jobs
@@ -161,7 +161,9 @@ passed wanted line more =
 
 -- the line of exactly these words, and those behind it
 unfoldable pub exactly : List (List ℕ) → List KeptLine → Result (List KeptLine) AnswerFault
-exactly wanted all = next all >>= λ line. passed wanted line.0 line.1
+exactly wanted all = do
+  (line, more) ← next all
+  passed wanted line more
 
 -- the version that a heading names
 abbrev pub version_in : List (List ℕ) → Option Layout
@@ -178,7 +180,9 @@ behind_heading (Some layout) line more = Ok (layout, more)
 
 -- the heading, and those behind it
 unfoldable pub heading_at : List KeptLine → Result (Layout × List KeptLine) AnswerFault
-heading_at all = next all >>= λ line. behind_heading (version_in (words line.0.bytes)) line.0 line.1
+heading_at all = do
+  (line, more) ← next all
+  behind_heading (version_in (words line.bytes)) line more
 
 -- where no notation is, the byte of its fault plays no part
 abbrev pub meant : Result Problem ℕ → Result Problem AnswerFault
@@ -207,25 +211,25 @@ word_behind key line =
 -- the line `problem`, and those behind it
 unfoldable pub problem_at : List KeptLine → Result (Problem × List KeptLine) AnswerFault
 problem_at all = do
-  line ← next all
-  problem ← problem_in line.0
-  Ok (problem, line.1)
+  (line, more) ← next all
+  problem ← problem_in line
+  Ok (problem, more)
 
 -- a line of a key and a number from 1 to `most`, and those behind it
 unfoldable pub count_at : List ℕ → ℕ → List KeptLine → Result (ℕ × List KeptLine) AnswerFault
 count_at key most all = do
-  line ← next all
-  word ← word_behind key line.0
-  count ← count_in line.0.number most word
-  Ok (count, line.1)
+  (line, more) ← next all
+  word ← word_behind key line
+  count ← count_in line.number most word
+  Ok (count, more)
 
 -- the line `value`, and those behind it
 unfoldable pub value_at : List KeptLine → Result (ℤ × List KeptLine) AnswerFault
 value_at all = do
-  line ← next all
-  word ← word_behind (codes "value") line.0
-  value ← value_in line.0.number word
-  Ok (value, line.1)
+  (line, more) ← next all
+  word ← word_behind (codes "value") line
+  value ← value_in line.number word
+  Ok (value, more)
 
 -- ---- the pieces
 
@@ -241,12 +245,12 @@ four _ = None
 -- the form before the numbers, and these from left to right
 abbrev pub piece_of : ℕ → Option Four → Result Piece AnswerFault
 piece_of line None = Err (BadLine line)
-piece_of line (Some w) =
-    if is_number w.0 && is_number w.1 && is_number w.2 && is_number w.3 then (do
-      job ← count_in line most_job w.0
-      machine ← count_in line most_machine w.1
-      start ← time_in line w.2
-      stop ← time_in line w.3
+piece_of line (Some (a, b, c, d)) =
+    if is_number a && is_number b && is_number c && is_number d then (do
+      job ← count_in line most_job a
+      machine ← count_in line most_machine b
+      start ← time_in line c
+      stop ← time_in line d
       Ok (record { job = job; machine = machine; start = start; stop = stop }))
     else Err (BadLine line)
 
@@ -260,8 +264,8 @@ pieces_at [] = Ok ([], [])
 pieces_at (line ∷ more) =
     if first_is (codes "piece") (words line.bytes) then (do
       piece ← piece_in line.number (drop 1 (words line.bytes))
-      others ← pieces_at more
-      Ok (piece ∷ others.0, others.1))
+      (pieces, rest) ← pieces_at more
+      Ok (piece ∷ pieces, rest))
     else Ok ([], line ∷ more)
 
 -- ---- the certificate
@@ -325,9 +329,9 @@ certificate_in layout line words =
 -- the line `cert`, and those behind it
 unfoldable pub certificate_at : Layout → List KeptLine → Result (Claim × List KeptLine) AnswerFault
 certificate_at layout all = do
-  line ← next all
-  claim ← certificate_in layout line.0.number (words line.0.bytes)
-  Ok (claim, line.1)
+  (line, more) ← next all
+  claim ← certificate_in layout line.number (words line.bytes)
+  Ok (claim, more)
 
 -- ---- the whole text
 
@@ -339,22 +343,22 @@ finished (line ∷ more) = Err (BadLine line.number)
 -- the value, the pieces, the certificate and the end
 unfoldable pub answer_at : Layout → List KeptLine → Result AnswerData AnswerFault
 answer_at layout all = do
-  value ← value_at all
-  pieces ← pieces_at value.1
-  certificate ← certificate_at layout pieces.1
-  rest ← exactly (codes "end" ∷ []) certificate.1
-  done ← finished rest
-  Ok (record { pieces = pieces.0; value = value.0; certificate = certificate.0 })
+  (value, rest) ← value_at all
+  (pieces, rest) ← pieces_at rest
+  (certificate, rest) ← certificate_at layout rest
+  rest ← exactly (codes "end" ∷ []) rest
+  _ ← finished rest
+  Ok (record { pieces = pieces; value = value; certificate = certificate })
 
 -- all kept lines in their order
 unfoldable pub sheet_of : List KeptLine → Result SheetData AnswerFault
 sheet_of all = do
-  heading ← heading_at all
-  problem ← problem_at heading.1
-  jobs ← count_at (codes "jobs") most_job problem.1
-  machines ← count_at (codes "machines") most_machine jobs.1
-  answer ← answer_at heading.0 machines.1
-  Ok (record { problem = problem.0; jobs = jobs.0; machines = machines.0; answer = answer })
+  (layout, rest) ← heading_at all
+  (problem, rest) ← problem_at rest
+  (jobs, rest) ← count_at (codes "jobs") most_job rest
+  (machines, rest) ← count_at (codes "machines") most_machine rest
+  answer ← answer_at layout rest
+  Ok (record { problem = problem; jobs = jobs; machines = machines; answer = answer })
 
 -- a text that is not too long, by its kept lines
 unfoldable pub answer_in : List ℕ → Result SheetData AnswerFault

@@ -15,17 +15,17 @@ alone job = record { first = job; last = job }
 abbrev pub run_jobs : Run → List ℕ
 run_jobs run = range_with_len run.first (run.last + 1 - run.first)
 
--- the runs from this one on, which the next job may continue
-unfoldable pub runs_after : Run → List ℕ → List Run
-runs_after run [] = run ∷ []
-runs_after run (job ∷ jobs) =
-    if job == run.last + 1 then runs_after (record { first = run.first; last = job }) jobs
-    else run ∷ runs_after (alone job) jobs
+-- a run before others, joined to the first of these where that begins with the next job
+abbrev pub before : Run → List Run → List Run
+before run [] = run ∷ []
+before run (next ∷ more) =
+    if next.first == run.last + 1 then record { first = run.first; last = next.last } ∷ more
+    else run ∷ next ∷ more
 
 -- the longest runs of a list, from left to right
 unfoldable pub runs : List ℕ → List Run
 runs [] = []
-runs (job ∷ jobs) = runs_after (alone job) jobs
+runs (job ∷ jobs) = before (alone job) (runs jobs)
 
 -- a first job, one '-', and a last job
 abbrev pub range_word : Run → List ℕ

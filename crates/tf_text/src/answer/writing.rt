@@ -79,7 +79,7 @@ fn push_numbers<A: Allocator>(text: &mut Vec<u8, A>, jobs: &[JobId]) -> Result<(
 }
 
 // The longest run that a list begins with, and the jobs behind it.
-#[tactic(auto, unfolding(crate::specs::JobWords::runs, crate::specs::JobWords::runs_after))]
+#[tactic(auto, unfolding(crate::specs::JobWords::runs))]
 fn first_run(jobs: &[JobId]) -> Option<(Run, &[JobId])>
     ensures runs { MatchOption result (runs jobs.now ≡ [])
         (λ x. runs jobs.now ≡ x.0 ∷ runs x.1.now) }

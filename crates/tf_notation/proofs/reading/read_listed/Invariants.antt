@@ -1,4 +1,4 @@
-use Rattle.std.proofs.Common.{◌≡◌, ◌≤◌, ◌-◌, length, true}
+use Rattle.std.proofs.Common.{◌≡◌, ◌≤◌, ◌-◌, length}
 use Rattle.tf_notation.specs.Reading.{listed}
 use Rattle.tf_notation.specs.Spelling.{no_conditions}
 use Rattle.tf_notation.specs.Tokens.{tokens_after}
@@ -8,8 +8,8 @@ abbrev pub invariant-loop-more : goal.invariant-loop-more
 invariant-loop-more l = record {
   from : l.fn.offset ≤ l.at;
   inside : l.at ≤ length l.text;
-  same : listed (length l.text) true l.named (tokens_after l.text l.at)
-      ≡ listed (length l.text) true no_conditions (tokens_after l.text l.fn.offset);
+  same : listed (length l.text) l.named (tokens_after l.text l.at)
+      ≡ listed (length l.text) no_conditions (tokens_after l.text l.fn.offset);
 }
 
 abbrev pub decreases-loop-more : goal.decreases-loop-more

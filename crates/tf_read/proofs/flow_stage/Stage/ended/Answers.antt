@@ -1,7 +1,7 @@
 use Rattle.std.proofs.Common.{sym, subst, ◌∙◌}
 use Rattle.tf_words.specs.Words.{lines, words_from}
 use Rattle.tf_read.specs.declared.flow_stage.Stage.{Stage}
-use Rattle.tf_read.specs.FlowStage.{HasTaken}
+use Rattle.tf_read.specs.FlowStage.{HasTakenShop}
 use Rattle.tf_read.proofs.Each.{fault_of, gives_exactly}
 use Rattle.tf_read.proofs.FlowReading.{heading_outcome, sizes_outcome, pairs_outcome, ended_outcome}
 use Rattle.tf_read.proofs.flow_stage.Stage.ended.Goals as goal
@@ -9,7 +9,7 @@ use Rattle.tf_read.proofs.flow_stage.Stage.ended.Goals as goal
 pub returns-in-Heading : goal.returns-in-Heading
 returns-in-Heading g c = λ fed h.
     let taken = subst
-    (λ (s : Stage g.row.A.Denot). HasTaken c.args.wanted.now.name.now c.args.wanted.now.pair s
+    (λ (s : Stage g.row.A.Denot). HasTakenShop c.args.wanted.now.name.now c.args.wanted.now.pair s
     fed) c.in-Heading.is h in
     fault_of c.without_sizes.result _
     (heading_outcome c.args.wanted.now.name.now c.args.wanted.now.pair c.in-Heading.field-0
@@ -19,7 +19,7 @@ returns-in-Heading g c = λ fed h.
 pub returns-in-Sizes : goal.returns-in-Sizes
 returns-in-Sizes g c = λ fed h.
     let taken = subst
-    (λ (s : Stage g.row.A.Denot). HasTaken c.args.wanted.now.name.now c.args.wanted.now.pair s
+    (λ (s : Stage g.row.A.Denot). HasTakenShop c.args.wanted.now.name.now c.args.wanted.now.pair s
     fed) c.in-Sizes.is h in
     fault_of c.without_pairs.result _
     (sizes_outcome c.args.wanted.now.name.now c.args.wanted.now.pair c.in-Sizes.line
@@ -28,7 +28,7 @@ returns-in-Sizes g c = λ fed h.
 pub returns-in-Pairs : goal.returns-in-Pairs
 returns-in-Pairs g c = λ fed h.
     let taken = subst
-    (λ (s : Stage g.row.A.Denot). HasTaken c.args.wanted.now.name.now c.args.wanted.now.pair s
+    (λ (s : Stage g.row.A.Denot). HasTakenShop c.args.wanted.now.name.now c.args.wanted.now.pair s
     fed) c.in-Pairs.is h in
     let (first, says, behind, read, same) = taken in
     gives_exactly _ _
@@ -40,5 +40,5 @@ returns-in-Pairs g c = λ fed h.
 pub returns-in-Ended : goal.returns-in-Ended
 returns-in-Ended g c = λ fed h.
     ended_outcome c.args.wanted.now.name.now c.args.wanted.now.pair c.in-Ended.fault fed
-    (subst (λ (s : Stage g.row.A.Denot). HasTaken c.args.wanted.now.name.now
+    (subst (λ (s : Stage g.row.A.Denot). HasTakenShop c.args.wanted.now.name.now
     c.args.wanted.now.pair s fed) c.in-Ended.is h)

@@ -1,13 +1,13 @@
 use Rattle.std.proofs.Common.{ℕ, List, ◌+◌, ◌++◌, take, ap, ◌∙◌, subst, arith}
 use Rattle.tf_read.specs.declared.flow_stage.Stage.{Stage}
-use Rattle.tf_read.specs.FlowStage.{ReadsPairs, HasTaken}
+use Rattle.tf_read.specs.FlowStage.{ReadsPairs, HasTakenShop}
 use Rattle.tf_words.proofs.Pieces.{byte_more, both_parts, all_taken, part_more}
 use Rattle.tf_read.proofs.FlowReading.{pairs_more}
 use Rattle.tf_read.proofs.flow_stage.Stage.feed.Goals as goal
 
 pub loop-k-preserved-then-k-piece : goal.loop-k-preserved-then-k-piece
 loop-k-preserved-then-k-piece g c =
-    let takes = HasTaken c.args.wanted.now.name.now c.args.wanted.now.pair in
+    let takes = HasTakenShop c.args.wanted.now.name.now c.args.wanted.now.pair in
     let k = c.loop-k.k + c.idle-k.result in
     record {
       taken = λ fed h.
@@ -25,7 +25,7 @@ loop-k-preserved-then-k-piece g c =
 
 pub returns-clause-taken : goal.returns-clause-taken
 returns-clause-taken g c = λ fed h.
-    subst (HasTaken c.args.wanted.now.name.now c.args.wanted.now.pair c.loop-k.self)
+    subst (HasTakenShop c.args.wanted.now.name.now c.args.wanted.now.pair c.loop-k.self)
     (all_taken fed c.args.piece.now c.loop-k.k c.loop-k-test.false)
     (c.loop-k.invariant.taken fed h)
 
@@ -35,7 +35,7 @@ returns-in-Pairs-clause-taken g c = λ fed h.
     let pair = c.args.wanted.now.pair in
     let front : List ℕ = fed ++ take c.loop-k.k c.args.piece.now in
     let held : ReadsPairs name pair c.in-Pairs.words front =
-    subst (λ (s : Stage g.row.A.Denot). HasTaken name pair s front) c.in-Pairs.is
+    subst (λ (s : Stage g.row.A.Denot). HasTakenShop name pair s front) c.in-Pairs.is
     (c.loop-k.invariant.taken fed h) in
     subst (ReadsPairs name pair c.feed.new.self)
     (ap (λ (bs : List ℕ). front ++ bs) c.split_at.ensures.back

@@ -1,6 +1,6 @@
 use Rattle.std.proofs.Common.{◌≡◌, ◌≤◌, ◌*◌, length, rules, refl, sym, ap, ◌∙◌, arith}
-use Rattle.tf_read.specs.WeightedTardiness.{job}
-use Rattle.tf_read.specs.Numbers.{Progress, wanted}
+use Rattle.tf_read.specs.WeightedTardiness.{tardiness_job}
+use Rattle.tf_read.specs.Numbers.{Progress, tardiness_wanted}
 use Rattle.tf_read.proofs.OneInstance.{all_read, missing_is, whole_is, whole_judged}
 use Rattle.tf_read.proofs.numbers.Numbers.instance.Goals as goal
 
@@ -11,10 +11,10 @@ returns-in-Some g c = λ says seen h.
 pub filled-jobs-requires-clause-callable : goal.filled-jobs-requires-clause-callable
 filled-jobs-requires-clause-callable g c =
     let kept = c.self.invariant in
-    let all : wanted c.args.self ≤ c.args.self.count =
+    let all : tardiness_wanted c.args.self ≤ c.args.self.count =
     all_read c.args.self (sym c.missing.ensures ∙ c.in-None.is) in
-    let wanted_is : 3 * c.self.inside.jobs * c.self.inside.index ≡ wanted c.args.self =
-    ap wanted c.self.view_is in
+    let wanted_is : 3 * c.self.inside.jobs * c.self.inside.index ≡ tardiness_wanted c.args.self =
+    ap tardiness_wanted c.self.view_is in
     let count_is : c.self.inside.count ≡ c.args.self.count =
     ap (λ (p : Progress). p.count) c.self.view_is in
     let numbers : length c.as_slice-numbers.result.now ≡ 3 * c.self.inside.jobs =
@@ -33,7 +33,8 @@ filled-jobs-requires-clause-callable g c =
 
 pub of-requires : goal.of-requires
 of-requires g c =
-    let made = c.filled-jobs.ensures (job c.self.inside.jobs c.as_slice-numbers.result.now)
+    let made = c.filled-jobs.ensures
+    (tardiness_job c.self.inside.jobs c.as_slice-numbers.result.now)
     (λ k x lt p. search rules) in
     rw (made, c.new.ensures.items, c.as_slice-numbers.ensures.value)
     (whole_judged c.self.inside.jobs c.self.inside.numbers.items c.self.invariant.some
@@ -41,7 +42,8 @@ of-requires g c =
 
 pub returns-in-None : goal.returns-in-None
 returns-in-None g c = λ says seen h.
-    let made = c.filled-jobs.ensures (job c.self.inside.jobs c.as_slice-numbers.result.now)
+    let made = c.filled-jobs.ensures
+    (tardiness_job c.self.inside.jobs c.as_slice-numbers.result.now)
     (λ k x lt p. search rules) in
     rw (c.of.ensures, made, c.new.ensures.items, c.as_slice-numbers.ensures.value)
     (sym (h.0 seen ∙ whole_is c.args.self seen h.1 (sym c.missing.ensures ∙ c.in-None.is)

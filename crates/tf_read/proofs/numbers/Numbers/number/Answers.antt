@@ -1,6 +1,6 @@
 use Rattle.std.proofs.Common.{◌≡◌, ◌+◌, ◌-◌, ◌*◌, ◌%◌, ltb, true, false, length, sym, arith}
 use Rattle.std.proofs.lemmas.Bool.{lt-ltb, le-ltb}
-use Rattle.tf_read.specs.Numbers.{skipped, wanted, AreInRange}
+use Rattle.tf_read.specs.Numbers.{skipped, tardiness_wanted, AreInRange}
 use Rattle.tf_read.proofs.OneInstance.{number_kept}
 use Rattle.tf_read.proofs.numbers.Numbers.number.Goals as goal
 
@@ -8,7 +8,7 @@ pub returns-then-self-clause-in_range : goal.returns-then-self-clause-in_range
 returns-then-self-clause-in_range g c =
     let p = c.args.self.now in
     let kept = c.self.invariant in
-    let own : wanted p ≡ skipped p + 3 * p.jobs =
+    let own : tardiness_wanted p ≡ skipped p + 3 * p.jobs =
     rw (← c.self.view_is) (omega (arith, kept.own, kept.before, kept.up_to)) in
     let tally : length p.numbers ≡ p.count - skipped p =
     rw (← c.self.view_is) (omega (arith, kept.tally, kept.before, c.self.inside.numbers.ok.0)) in
@@ -22,7 +22,7 @@ pub returns-else-self-clause-in_range : goal.returns-else-self-clause-in_range
 returns-else-self-clause-in_range g c =
     let p = c.args.self.now in
     let kept = c.self.invariant in
-    let own : wanted p ≡ skipped p + 3 * p.jobs =
+    let own : tardiness_wanted p ≡ skipped p + 3 * p.jobs =
     rw (← c.self.view_is) (omega (arith, kept.own, kept.before, kept.up_to)) in
     let tally : length p.numbers ≡ p.count - skipped p =
     rw (← c.self.view_is) (omega (arith, kept.tally, kept.before, c.self.inside.numbers.ok.0)) in

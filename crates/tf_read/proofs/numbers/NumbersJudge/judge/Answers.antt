@@ -1,5 +1,5 @@
 use Rattle.std.proofs.Common.{◌≡◌, ◌++◌, ◌∷◌, [], Some, subst, sym, ◌∙◌, rules, to_z, of_z, w64}
-use Rattle.tf_read.specs.Numbers.{Progress, Reads}
+use Rattle.tf_read.specs.Numbers.{Progress, ReadsTardiness}
 use Rattle.tf_read.proofs.Progress.{unchanged, fails, keeps}
 use Rattle.tf_read.proofs.numbers.NumbersJudge.judge.Goals as goal
 
@@ -10,7 +10,8 @@ returns-then-is_over g c =
 
 pub returns-in-Err : goal.returns-in-Err
 returns-in-Err g c = λ says seen word of h.
-    subst (λ (p : Progress). Reads (record p { fault = Some c.in-Err.fault }) says (seen ++ word ∷ []))
+    subst (λ (p : Progress). ReadsTardiness (record p { fault = Some c.in-Err.fault }) says
+    (seen ++ word ∷ []))
     (sym c.self.view_is) (
       h.0,
       fails _ seen word _ _ _ (sym c.is_over.ensures ∙ c.if-is_over.false) of

@@ -2,7 +2,7 @@ use Rattle.std.proofs.Common.{◌≤◌, length, sym, ◌∙◌, arith, subst}
 use Rattle.std.proofs.lemmas.Bool.{ltb-true, ltb-false}
 use Rattle.tf_words.specs.Words.{lines, words_from}
 use Rattle.tf_model.specs.Limit.{most_bytes}
-use Rattle.tf_read.specs.WtReading.{HasTaken}
+use Rattle.tf_read.specs.WtReading.{HasTakenTardiness}
 use Rattle.tf_read.proofs.Wt.{too_long, refused, by_words}
 use Rattle.tf_read.proofs.weighted_tardiness.WtReader.finish.Goals as goal
 
@@ -17,12 +17,12 @@ returns-in-Err g c = λ says fed h.
     let few : length fed ≤ most_bytes = omega (arith, short, h.length_is) in
     sym (h.wanted fed
     ∙ refused h.jobs h.index fed c.in-Err.fault few
-    (subst (λ r. HasTaken h.jobs h.index r fed) c.in-Err.is (h.taken few)))
+    (subst (λ r. HasTakenTardiness h.jobs h.index r fed) c.in-Err.is (h.taken few)))
 
 pub returns-in-Ok : goal.returns-in-Ok
 returns-in-Ok g c = λ says fed h.
     let short = ltb-false _ _ (sym c.is_too_long.ensures ∙ c.if-is_too_long.false) in
     let few : length fed ≤ most_bytes = omega (arith, short, h.length_is) in
-    let taken = subst (λ r. HasTaken h.jobs h.index r fed) c.in-Ok.is (h.taken few) in
+    let taken = subst (λ r. HasTakenTardiness h.jobs h.index r fed) c.in-Ok.is (h.taken few) in
     c.instance.ensures _ (words_from 1 (lines fed)) (c.ended.ensures 1 _ fed taken.1)
     ∙ sym (h.wanted fed ∙ by_words h.jobs h.index fed few taken.0)
