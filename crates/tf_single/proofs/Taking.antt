@@ -1,18 +1,20 @@
 -- Jobs that are taken one after another: the start, a step, the end, and where no job is free.
-use Rattle.std.proofs.Common.{◌≡◌, ℕ, suc, ◌+◌, ◌<◌, ◌≤◌, ◌≤ℤ◌, Bool, true, false, not, ◌&&◌, ◌==◌, cond, List, [], ◌∷◌, ◌++◌, length, slice_index, refl, sym, ap, ◌∙◌, subst, arith, ◌⊎◌, inl, inr, sum_by, count_by, Contains}
+use Rattle.std.proofs.Common.{◌≡◌, ℕ, suc, ◌+◌, ◌-◌, ◌<◌, ◌≤◌, ◌≤ℤ◌, Bool, true, false, not, ◌&&◌, ◌==◌, cond, List, [], ◌∷◌, ◌++◌, length, refl, sym, ap, ◌∙◌, subst, arith, ◌⊎◌, inl, inr, sum_by, count_by, Contains}
 use Rattle.std.proofs.lemmas.Bool.{and_parts, eqb-true, not-true, cases_Bool}
-use Rattle.std.proofs.lemmas.List.{get_or_default}
 use Rattle.std.proofs.lemmas.List.Elements.{All-contains}
 use Rattle.std.proofs.lemmas.List.FromFn.{length-range_with_len}
 use Rattle.std.proofs.lemmas.List.Sums.{sum_by-cons}
+use Rattle.std.proofs.lemmas.List.Sorted.{Contains-permutation, IsPermutation-sym}
+use Rattle.std.specs.List.Sorted.{IsPermutation}
 use Rattle.tf_model.specs.SchedulingTask.{SchedulingTask, IsJob, all_jobs, time_of}
 use Rattle.tf_model.specs.Sound.{IsSound}
 use Rattle.tf_model.specs.Bounds.{stands_in}
 use Rattle.tf_model.specs.Cost.{price}
+use Rattle.tf_model.specs.Limit.{limit}
 use Rattle.tf_single.specs.Backward.{rest_of, AreChosen}
-use Rattle.tf_single.specs.Open.{IsOpen}
+use Rattle.tf_single.specs.Open.{IsOpen, AreTaken}
 use Rattle.tf_single.specs.Progress.{of_job}
-use Rattle.tf_single.proofs.Open.{free_says, left_count, none_free, open_choice, chosen_more, work_less}
+use Rattle.tf_single.proofs.Open.{free_says, left_count, none_free, open_choice, open_taken, chosen_more, work_less}
 use Rattle.tf_single.proofs.Rest.{in_rest, rest_jobs, rest_sum, stands_from}
 
 ones : (xs : List ℕ) → sum_by (λ j. 1) xs ≡ length xs
@@ -131,26 +133,41 @@ module _ (k : SchedulingTask) (sound : IsSound k) (taken counts free : List ℕ)
       let some = some_left k taken chosen few in
       (some.0, some.1, left_counts none some.0 some.1 some.2)
 
+module _ (k : SchedulingTask) (sound : IsSound k) (taken counts free : List ℕ) (work : ℕ)
+    (at : AreTaken k taken counts free work) where
+  pub taken_within : work ≤ limit
+  taken_within = omega (arith, at.left, work_within k taken at.chosen, sound.total)
+
   -- the cheapest free job is taken
-  module _ (work place j : ℕ) (chosen : AreChosen k taken)
-      (is_work : work ≡ sum_by (time_of k) (rest_of k taken)) (lt : place < length free)
-      (is : j ≡ slice_index free place)
-      (cheapest : (n d : ℕ) → n < length free
-      → price k (slice_index free place) work ≤ℤ price k (slice_index free n) work) where
-    at_place : Contains free j
-    at_place = (place, lt, get_or_default free place j 0 lt ∙ sym is)
+  module _ (j : ℕ) (others : List ℕ) (moved : IsPermutation free (j ∷ others)) where
+    here : Contains free j
+    here = Contains-permutation (j ∷ others) free j
+        (IsPermutation-sym free (j ∷ others) moved) (0, omega arith, refl)
 
-    pub step_chosen : AreChosen k (taken ++ j ∷ [])
-    step_chosen =
-        let says = free_says k sound taken counts free now j at_place in
-        chosen_more k taken j chosen says.0 says.1
-        (open_choice k sound taken counts free now j work at_place is_work
-        (λ i at.
-        subst (λ z. price k z work ≤ℤ price k i work) (sym is)
-        (subst (λ z. price k (slice_index free place) work ≤ℤ price k z work)
-        (get_or_default free at.0 0 i at.1 ∙ at.2) (cheapest at.0 0 at.1))))
+    pub step_job : IsJob k j
+    step_job = (free_says k sound taken counts free at.now j here).0
 
-    pub step_work : sum_by (time_of k) (rest_of k (taken ++ j ∷ [])) + time_of k j ≡ work
-    step_work =
-        let says = free_says k sound taken counts free now j at_place in
-        work_less k taken j chosen says.0 says.1 ∙ sym is_work
+    left : stands_in taken j ≡ false
+    left = (free_says k sound taken counts free at.now j here).1
+
+    step_work : sum_by (time_of k) (rest_of k (taken ++ j ∷ [])) + time_of k j ≡ work
+    step_work = work_less k taken j at.chosen step_job left ∙ sym at.left
+
+    pub step_time : time_of k j ≤ work
+    step_time = omega (arith, step_work)
+
+    pub step_open : (pending : List ℕ)
+        → ((i : ℕ) → count_by (λ b. b == i) pending
+        ≡ count_by (λ arc. (arc.1 == j) && (arc.0 == i)) k.arcs)
+        → IsOpen k (taken ++ j ∷ []) pending counts others
+    step_open = open_taken k sound taken counts free at.now j here others moved
+
+    pub step_taken : ((i : ℕ) → Contains free i → price k j work ≤ℤ price k i work)
+        → (fewer more : List ℕ) → IsOpen k (taken ++ j ∷ []) [] fewer more
+        → AreTaken k (taken ++ j ∷ []) fewer more (work - time_of k j)
+    step_taken cheapest fewer more now = record {
+      chosen = chosen_more k taken j at.chosen step_job left
+          (open_choice k sound taken counts free at.now j work here at.left cheapest);
+      now = now;
+      left = omega (arith, step_work);
+    }

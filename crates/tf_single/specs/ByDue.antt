@@ -1,12 +1,12 @@
 -- Free jobs by their due dates.
-use Rattle.std.specs.Prelude.{◌≡◌, ℕ, List, map}
+use Rattle.std.specs.Prelude.{◌≡◌, ℕ, List, map, IsTrue}
 use Rattle.std.specs.List.{All}
 use Rattle.std.specs.BinaryHeap.{IsHeap}
 use Rattle.std.specs.Ordering.{nat_cmp, int_cmp, ordering_then}
 use Rattle.std.specs.declared.cmp.Ordering.{Ordering}
+use Rattle.tf_model.specs.ClassTable.{is_due}
 use Rattle.tf_model.specs.SchedulingTask.{SchedulingTask, job_data}
 use Rattle.tf_single.specs.declared.by_due.DueJob.{DueJob}
-use Rattle.tf_single.specs.Open.{IsOpen}
 
 -- the jobs of the entries
 abbrev pub jobs_due : List DueJob → List ℕ
@@ -20,13 +20,8 @@ due_cmp a b = ordering_then (int_cmp a.due b.due) (nat_cmp a.job b.job)
 abbrev pub HasDue : SchedulingTask → DueJob → Type 0
 HasDue k e = e.due ≡ (job_data k e.job).due
 
--- a heap of jobs and their due dates
+-- a heap of jobs and their due dates, where the class has them
 pub record AreDue (k : SchedulingTask) (entries : List DueJob) : Type 0 where
+  pub class : IsTrue (is_due k.class)
   pub dues : All (HasDue k) entries
   pub heap : IsHeap due_cmp entries
-
--- the free jobs are those of the heap
-pub record IsOpenByDue (k : SchedulingTask) (taken pending counts : List ℕ)
-    (free : List DueJob) : Type 0 where
-  pub jobs : IsOpen k taken pending counts (jobs_due free)
-  pub due : AreDue k free

@@ -1,9 +1,10 @@
 -- How many arcs lead from each job to jobs that are left, and which of those that are left have
 -- none.
-use Rattle.std.specs.Prelude.{◌≡◌, ℕ, ◌+◌, ◌==◌, ◌&&◌, not, true, if◌then◌else◌, List, length}
-use Rattle.std.specs.List.{All, count_by}
-use Rattle.tf_model.specs.SchedulingTask.{SchedulingTask, IsJob}
+use Rattle.std.specs.Prelude.{◌≡◌, ℕ, ◌+◌, ◌==◌, ◌&&◌, not, true, if◌then◌else◌, List, [], length}
+use Rattle.std.specs.List.{All, count_by, sum_by}
+use Rattle.tf_model.specs.SchedulingTask.{SchedulingTask, IsJob, time_of}
 use Rattle.tf_model.specs.Bounds.{stands_in}
+use Rattle.tf_single.specs.Backward.{AreChosen, rest_of}
 use Rattle.tf_single.specs.Progress.{of_job}
 
 -- how many arcs lead from job j to jobs that are not taken
@@ -22,3 +23,10 @@ pub record IsOpen (k : SchedulingTask) (taken pending counts free : List ℕ) : 
   pub frees : (j : ℕ) → IsJob k j
       → count_by (λ i. i == j) free
       ≡ (if stands_in taken j then 0 else (if of_job counts j == 0 then 1 else 0))
+
+-- the jobs were chosen one after another, and of those that are left these are free, and this is
+-- the work
+pub record AreTaken (k : SchedulingTask) (taken counts free : List ℕ) (work : ℕ) : Type 0 where
+  pub chosen : AreChosen k taken
+  pub now : IsOpen k taken [] counts free
+  pub left : work ≡ sum_by (time_of k) (rest_of k taken)

@@ -15,7 +15,8 @@ ghost use Rattle.tf_single.specs.Costs.{AreCosts};
 ghost use Rattle.tf_single.specs.LawlerFault.{HoldsCycle};
 
 use crate::backward::{cost_of, last_first, total_work};
-use crate::by_due::latest_due_first;
+use crate::by_cost::ByCost;
+use crate::by_due::ByDue;
 use crate::costs::late_costs;
 use crate::lawler_fault::LawlerFault;
 use std::alloc::Allocator;
@@ -50,7 +51,7 @@ pub fn lawler<A: Allocator + Copy, B: Allocator, C: Cost>(
     ensures accepted { IfOk result (IsAccepted task.now) }
     ensures cycle { IfErr result (HoldsCycle task.now) }
 {
-    let order = last_first(alloc, task, costs)?;
+    let order = last_first(alloc, task, ByCost::new(alloc, task, costs)?)?;
     Ok(answer_of(alloc, task, costs, &order)?)
 }
 
@@ -70,8 +71,8 @@ pub fn lawler_by_due<A: Allocator + Copy, B: Allocator>(
     ensures accepted { IfOk result (IsAccepted task.now) }
     ensures cycle { IfErr result (HoldsCycle task.now) }
 {
+    let order = last_first(alloc, task, ByDue::new(alloc, task)?)?;
     let costs = late_costs(alloc, task)?;
-    let order = latest_due_first(alloc, task)?;
     Ok(answer_of(alloc, task, costs.as_slice(), &order)?)
 }
 

@@ -3,10 +3,12 @@
 
 mod arcs_into;
 mod backward;
+mod by_cost;
 mod by_due;
 pub mod costs;
 mod cycle;
 pub mod edd;
+mod free_jobs;
 pub mod lawler;
 pub mod lawler_fault;
 mod levels;

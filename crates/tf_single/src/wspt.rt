@@ -35,8 +35,9 @@ pub fn wspt<A: Allocator + Copy, B: Allocator>(
 {
     let jobs = jobs_by_ratio(alloc, task)?;
     let operations = in_sequence(alloc, &jobs)?;
-    let pieces = semi_active(alloc, task.len(), 1, &operations)?;
     let value = weighted_completions(&jobs);
+    drop(jobs);
+    let pieces = semi_active(alloc, task.len(), 1, &operations)?;
     Ok(Answer {
         pieces: PieceList::new(pieces),
         value: value as i64,

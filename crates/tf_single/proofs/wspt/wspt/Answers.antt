@@ -7,7 +7,7 @@ use Rattle.tf_single.proofs.wspt.wspt.Goals as goal
 pub semi_active-requires-clause-known : goal.semi_active-requires-clause-known
 semi_active-requires-clause-known g c =
     rw (
-      c.deref-2.ensures.value,
+      c.deref-3.ensures.value,
       c.in_ok-operations.ensures,
       c.deref.ensures.value,
       c.len.ensures.value,
@@ -17,7 +17,7 @@ semi_active-requires-clause-known g c =
 
 pub semi_active-requires-clause-total : goal.semi_active-requires-clause-total
 semi_active-requires-clause-total g c =
-    rw (c.deref-2.ensures.value, c.in_ok-operations.ensures, c.deref.ensures.value)
+    rw (c.deref-3.ensures.value, c.in_ok-operations.ensures, c.deref.ensures.value)
     (sequence_total _ _ c.len.ensures.sound c.requires.sum c.requires.single
     c.in_ok-jobs.ensures.by_ratio)
 
@@ -26,7 +26,7 @@ returns-clause-schedule g c =
     rw (
       c.new.ensures,
       c.in_ok-pieces.ensures,
-      c.deref-2.ensures.value,
+      c.deref-3.ensures.value,
       c.in_ok-operations.ensures,
       c.deref.ensures.value,
     )
@@ -38,13 +38,13 @@ returns-clause-accepted g c =
     rw (
       c.new.ensures,
       c.in_ok-pieces.ensures,
-      c.deref-2.ensures.value,
+      c.deref-3.ensures.value,
       c.in_ok-operations.ensures,
       c.deref.ensures.value,
       to_z_pos w64 c.weighted_completions-value.result
           (omega (arith, c.weighted_completions-value.ensures.small)),
       c.weighted_completions-value.ensures.value,
-      c.deref-3.ensures.value,
+      c.deref-2.ensures.value,
     )
     (sequence_accepted _ _ c.len.ensures.sound c.requires.sum c.requires.single
     c.in_ok-jobs.ensures.by_ratio)

@@ -1,11 +1,12 @@
 use Rattle.std.proofs.Common.{◌≡◌, ◌+◌, ◌-◌, ◌<◌, ℕ, List, [], ◌∷◌, ◌++◌, length, get_or, set, map, drop, sym, ap, ◌∙◌, subst, arith}
 use Rattle.std.proofs.lemmas.List.{drop_more, get_or_default}
+use Rattle.std.proofs.lemmas.List.Sorted.{IsPermutation-trans, IsPermutation-to_front}
 use Rattle.tf_model.specs.SchedulingTask.{SchedulingTask, IsJob}
 use Rattle.tf_single.specs.Open.{IsOpen}
 use Rattle.tf_single.specs.Progress.{of_job}
-use Rattle.tf_single.proofs.Open.{open_freed, open_held}
+use Rattle.tf_single.proofs.Open.{open_freed, open_held, open_moved}
 use Rattle.tf_single.proofs.backward.Open.release.Goals as goal
-use Rattle.tf_single.proofs.backward.Open.release.Goals.{then-left-eq0+in_ok-push, else-left-eq0}
+use Rattle.tf_single.proofs.backward.Open.release.Goals.{then-left-eq0+in_ok-add, else-left-eq0}
 
 pub loop-arc-preserved : goal.loop-arc-preserved
 loop-arc-preserved g c =
@@ -16,7 +17,7 @@ loop-arc-preserved g c =
     let b : ℕ = arc.1 in
     let taken : List ℕ = c.loop-arc.self.taken.items in
     let counts : List ℕ = c.loop-arc.self.counts.items in
-    let free : List ℕ = c.loop-arc.self.free.items in
+    let free : List ℕ = g.F.FreeJobs.jobs_of c.loop-arc.self.free in
     let lt : i < length arcs = c.loop-arc-test.true in
     let job : IsJob k b =
     subst (λ (a : ℕ × ℕ). IsJob k a.1) (sym c.arc-item.is) (c.requires.arcs i arc lt) in
@@ -34,14 +35,28 @@ loop-arc-preserved g c =
     let left : ℕ = c.index.result.now - 1 in
     let less : left ≡ of_job counts b - 1 = ap (λ n. n - 1) at in
     elim c.if-left-eq0.branch [
-      | then-left-eq0+in_ok-push w ↦
-          let freed : IsOpen k taken pending (set counts (b - 1) left) (free ++ b ∷ []) =
-          open_freed k taken pending counts free b job now left less w.if-left-eq0.true in
-          rw (w.self-is, w.in_ok-push.ensures.items, c.get.ensures.value)
-          (record { taken = c.loop-arc.invariant.taken; now = freed })
+      | then-left-eq0+in_ok-add w ↦
+          let others : List ℕ = g.F.FreeJobs.jobs_of w.add.new.self in
+          let freed : IsOpen k taken pending (set counts (b - 1) left) others =
+          open_moved k taken pending (set counts (b - 1) left) (free ++ b ∷ []) others
+          (open_freed k taken pending counts free b job now left less w.if-left-eq0.true)
+          (IsPermutation-trans (free ++ b ∷ []) (b ∷ free) others (IsPermutation-to_front free b)
+          w.in_ok-add.ensures.jobs) in
+          rw (w.self-is, c.get.ensures.value)
+          (record {
+            taken = c.loop-arc.invariant.taken;
+            work = c.loop-arc.invariant.work;
+            now = freed;
+            kept = w.in_ok-add.ensures.kept c.loop-arc.self.work c.loop-arc.invariant.kept;
+          })
       | else-left-eq0 w ↦
           let held : IsOpen k taken pending (set counts (b - 1) left) free =
           open_held k taken pending counts free b job now left less w.if-left-eq0.false in
           rw (w.self-is, c.get.ensures.value)
-          (record { taken = c.loop-arc.invariant.taken; now = held })
+          (record {
+            taken = c.loop-arc.invariant.taken;
+            work = c.loop-arc.invariant.work;
+            now = held;
+            kept = c.loop-arc.invariant.kept;
+          })
     ]

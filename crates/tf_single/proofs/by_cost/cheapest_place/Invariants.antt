@@ -1,7 +1,7 @@
 use Rattle.std.proofs.Common.{◌≡◌, ℕ, ◌<◌, ◌≤ℤ◌, slice_index, length}
 use Rattle.tf_model.specs.Cost.{price}
 use Rattle.tf_single.specs.Levels.{AreLevels}
-use Rattle.tf_single.proofs.backward.cheapest_place.Given as goal
+use Rattle.tf_single.proofs.by_cost.cheapest_place.Given as goal
 
 abbrev pub invariant-loop-k : goal.invariant-loop-k
 invariant-loop-k g l = record {
