@@ -1,9 +1,8 @@
 //! Jobs that are taken one after another, each to go last of those that are left.
 ghost use Rattle.std.specs.Prelude.{◌≡◌, ℕ, ◌≤◌, [], length, IfOk, MatchResult};
-ghost use Rattle.std.specs.List.{sum_by};
 ghost use Rattle.tf_model.specs.Cost.{price};
 ghost use Rattle.tf_model.specs.Limit.{limit};
-ghost use Rattle.tf_model.specs.SchedulingTask.{IsJob, all_jobs, time_of};
+ghost use Rattle.tf_model.specs.SchedulingTask.{IsJob};
 ghost use Rattle.tf_model.specs.Sound.{IsSound};
 ghost use Rattle.tf_single.specs.Backward.{AreChosen, rest_of};
 ghost use Rattle.tf_single.specs.Costs.{AreCosts};
@@ -44,17 +43,6 @@ pub(crate) fn last_first<A: Allocator + Copy, B: Allocator, F: FreeJobs + Drop>(
         open.take(task, &arcs)?;
     }
     Ok(open.taken)
-}
-
-// The work of all jobs.
-pub(crate) fn total_work<B: Allocator>(task: &Task<B>) -> u64
-    ensures { result ≡ sum_by (time_of task.now) (all_jobs task.now) }
-{
-    let mut work: u64 = 0;
-    for k in 0..task.len() {
-        work += task.time(JobId::at(k));
-    }
-    work
 }
 
 // For each job, how many arcs lead from it.
@@ -131,7 +119,7 @@ impl<F: FreeJobs + Drop, A: Allocator + Copy> Open<F, A> {
             taken,
             counts,
             free,
-            work: total_work(task),
+            work: task.total_time(),
         })
     }
 

@@ -14,7 +14,7 @@ ghost use Rattle.tf_single.specs.Backward.{AreChosen, backward, rest_of, price_b
 ghost use Rattle.tf_single.specs.Costs.{AreCosts};
 ghost use Rattle.tf_single.specs.LawlerFault.{HoldsCycle};
 
-use crate::backward::{cost_of, last_first, total_work};
+use crate::backward::{cost_of, last_first};
 use crate::by_cost::ByCost;
 use crate::by_due::ByDue;
 use crate::costs::late_costs;
@@ -147,7 +147,7 @@ fn dearest_step<B: Allocator, C: Cost>(task: &Task<B>, costs: &[C], order: &[Job
     ensures dearest { (n : ℕ) → n < length order.now
         → price_behind task.now (drop n order.now) (slice_index order.now n) ≤ℤ result.value }
 {
-    let mut work = total_work(task);
+    let mut work = task.total_time();
     let mut place = 0;
     let mut value = cost_of(task, costs, order[0], work);
     for k in 0..order.len() {

@@ -79,5 +79,5 @@ returns-clause-now g c =
     (record {
       chosen = none_chosen k;
       now = start;
-      left = c.total_work.ensures ∙ work_at_start k;
+      left = c.total_time.ensures.value ∙ work_at_start k;
     })
