@@ -11,7 +11,7 @@ use tf_text::answer::fault::AnswerFault;
 use tf_text::answer::layout::Layout;
 use tf_text::answer::reading::read_answer;
 use tf_text::answer::sheet::Sheet;
-use tf_text::answer::writing::{answer_bytes, write_answer};
+use tf_text::answer::writing::write_answer;
 use tf_text::counted::Counted;
 
 // Three jobs of time 4 on two parallel machines, with preemption, below the heading.
@@ -178,12 +178,7 @@ fn is_written(alloc: Global, line: &str, wanted: &str) -> Result<(), Fail> {
     let text = with_certificate(alloc, "answer 2", line)?;
     let wanted = with_certificate(alloc, "answer 2", wanted)?;
     let sheet = read_answer(alloc, text.as_slice())?;
-    let written = answer_bytes(alloc, &sheet, Layout::Two)?;
-    if written.as_slice() == wanted.as_slice() {
-        Ok(())
-    } else {
-        Err(Fail::new("another text"))
-    }
+    writes(alloc, &sheet, Layout::Two, &wanted)
 }
 
 #[test]

@@ -23,7 +23,8 @@ use tf_schedule::schedule::Schedule;
 use tf_text::answer::layout::Layout;
 use tf_text::answer::reading::read_answer;
 use tf_text::answer::sheet::Sheet;
-use tf_text::answer::writing::answer_bytes;
+use tf_text::answer::writing::write_answer;
+use tf_text::counted::Counted;
 use trials::examples::{Example, Given, WORKED};
 use trials::growths::{Ended, refuse_each_growth};
 use trials::runs::ensure;
@@ -62,6 +63,15 @@ fn lend(rt: &HostRuntime, example: &'static Example) -> Result<Lent, Fail> {
     })
 }
 
+fn written<A: Allocator>(rt: &HostRuntime, sheet: &Sheet<A>) -> Result<Vec<u8>, Fail> {
+    let mut text = Vec::new(rt.alloc());
+    let mut writer = Counted::new(&mut text);
+    let result = write_answer(rt.alloc(), &mut writer, sheet, Layout::One);
+    drop(writer);
+    result?;
+    Ok(text)
+}
+
 impl Lent {
     /// The answer is that of the example.
     fn is_answer<A: Allocator, B: Allocator>(
@@ -76,8 +86,10 @@ impl Lent {
             machines: task.machines(),
             answer,
         };
-        let text = answer_bytes(rt.alloc(), &sheet, Layout::One)?;
-        ensure(text.as_slice() == self.example.answer, self.example.name)?;
+        ensure(
+            written(rt, &sheet)?.as_slice() == self.example.answer,
+            self.example.name,
+        )?;
         Ok(Ended::Answered)
     }
 

@@ -52,6 +52,7 @@ pub fn johnson<A: Allocator + Copy, B: Allocator>(
     let order = johnson_order(alloc, task)?;
     let operations = operations_in(alloc, task, &order)?;
     let laid = semi_active(alloc, task.len(), 2, &operations)?;
+    drop(operations);
     let pieces = by_machine(alloc, laid, 2)?;
     let turn = turning_place(task, &order);
     let split = split_at(alloc, task, &order, turn)?;

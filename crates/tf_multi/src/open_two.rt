@@ -45,6 +45,7 @@ pub fn open_two<A: Allocator + Copy, B: Allocator>(
     let leader = leader(task);
     let operations = operations_led_by(alloc, task, leader)?;
     let laid = semi_active(alloc, task.len(), 2, &operations)?;
+    drop(operations);
     let pieces = by_machine(alloc, laid, 2)?;
     let first = task.work_on(machine_of(true));
     let second = task.work_on(machine_of(false));

@@ -39,9 +39,11 @@ pub fn spt<A: Allocator + Copy, B: Allocator>(
     // All jobs weigh the same, so that those of greater weight for their time are the shorter ones.
     let jobs = jobs_by_ratio(alloc, task)?;
     let operations = dealt(alloc, task.machines(), &jobs)?;
-    let laid = semi_active(alloc, task.len(), task.machines() as usize, &operations)?;
-    let pieces = by_machine(alloc, laid, task.machines())?;
     let longest_first = reversed(alloc, &jobs)?;
+    drop(jobs);
+    let laid = semi_active(alloc, task.len(), task.machines() as usize, &operations)?;
+    drop(operations);
+    let pieces = by_machine(alloc, laid, task.machines())?;
     let value = ranked_times(task, &longest_first);
     Ok(Answer {
         pieces: PieceList::new(pieces),

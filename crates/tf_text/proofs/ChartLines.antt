@@ -1,14 +1,13 @@
 -- The chart as it is written, column by column and line by line.
-use Rattle.std.proofs.Common.{◌≡◌, ℕ, zero, ◌+◌, ◌-◌, ◌<◌, Result, Ok, Err, OnErr, List, [], ◌∷◌, ◌++◌, length, map, take, Option, append_assoc, append-nil, add-one, suc, sym, ap, subst, ◌∙◌, arith}
+use Rattle.std.proofs.Common.{◌≡◌, ℕ, zero, ◌+◌, ◌-◌, ◌<◌, List, [], ◌∷◌, ◌++◌, map, Option, append_assoc, append-nil, add-one, suc, sym, ap, subst, ◌∙◌, arith}
 use Rattle.std.specs.List.{range_with_len, flat_map}
 use Rattle.std.specs.Io.KnownBytes.{Appends}
 use Rattle.std.proofs.KnownBytes.{Appends-trans}
-use Rattle.std.proofs.Math.Seq.{take-append-add}
-use Rattle.std.proofs.lemmas.List.{take-append-le, length-append}
 use Rattle.tf_model.proofs.Ranges.{range_push}
 use Rattle.std.proofs.lemmas.List.FromFn.{map-range_with_len_more}
 use Rattle.std.proofs.lemmas.Grind.{flat_map-append}
 use Rattle.tf_text.specs.Counted.{AppendsPrefix}
+use Rattle.tf_text.proofs.Prefix.{prefix_then}
 
 -- one column more
 pub cells_more : (f : ℕ → ℕ) (items old new : List ℕ) (c sign : ℕ)
@@ -28,27 +27,6 @@ lines_more f k =
     ∙ flat_map-append f (range_with_len 1 k) ((1 + k) ∷ [])
     ∙ ap (λ xs. flat_map f (range_with_len 1 k) ++ xs)
     (append-nil (f (1 + k)) ∙ ap f (omega arith))
-
--- what was written, and a prefix of what comes next, is a prefix of the whole
-prefix_then : (a b c : Option (List ℕ)) (front next rest : List ℕ) → Appends a b front
-    → AppendsPrefix b c next → AppendsPrefix a c (front ++ (next ++ rest))
-prefix_then a b c front next rest written (n, within, more) = (
-  length front + n,
-  omega (arith, within, length-append front (next ++ rest), length-append next rest),
-  subst (Appends a c)
-      (sym (take-append-add front (next ++ rest) n
-      ∙ ap (λ xs. front ++ xs) (take-append-le n next rest within)))
-      (Appends-trans a b c front (take n next) written more),
-)
-
--- the same of what comes first
-pub prefix_first : (a c : Option (List ℕ)) (next rest : List ℕ) → AppendsPrefix a c next
-    → AppendsPrefix a c (next ++ rest)
-prefix_first a c next rest (n, within, more) = (
-  n,
-  omega (arith, within, length-append next rest),
-  subst (Appends a c) (sym (take-append-le n next rest within)) more,
-)
 
 -- a range in two parts
 range_split : (a m d : ℕ)
@@ -97,8 +75,3 @@ written_lines f a b c head k written more =
     (append_assoc head (flat_map f (range_with_len 1 k)) (f (k + 1))
     ∙ ap (λ xs. head ++ xs) (sym (lines_more f k)))
     (Appends-trans a b c (head ++ flat_map f (range_with_len 1 k)) (f (k + 1)) written more)
-
--- what holds holds where an error is answered
-pub on_err : {X E : Type 0} {P : Type 0} (r : Result X E) → P → OnErr r P
-on_err (Ok x) p = tt
-on_err (Err e) p = p

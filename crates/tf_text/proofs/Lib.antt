@@ -8,5 +8,7 @@ pub mod BehindBlank
 pub mod NotationWord
 pub mod JobRuns
 pub mod AnswerAgain
+pub mod Prefix
+pub mod Blocks
 pub mod ChartLines
 pub mod ChartOrder

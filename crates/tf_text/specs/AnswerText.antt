@@ -1,5 +1,5 @@
 -- The text of an answer.
-use Rattle.std.specs.Prelude.{ℕ, Bool, List, [], ◌∷◌, ◌++◌, map, codes, if◌then◌else◌}
+use Rattle.std.specs.Prelude.{ℕ, Bool, List, [], ◌∷◌, ◌++◌, map, take, codes, if◌then◌else◌}
 use Rattle.std.specs.List.{flat_map, join_with_byte}
 use Rattle.std.specs.Fmt.{decimal, signed_decimal}
 use Rattle.tf_model.specs.declared.problem.Problem.{Problem}
@@ -39,14 +39,15 @@ claim_words layout (ByMachine machine) = codes "machine" ∷ decimal machine ∷
 claim_words layout (ByOneJob job) = codes "job" ∷ decimal job ∷ []
 claim_words layout (ByRanks jobs) = codes "ranks" ∷ job_words One jobs
 
--- the lines of an answer, each by its words: its value, its pieces in their order, its certificate
+-- the lines behind the pieces, each by its words
+abbrev pub back_lines : Layout → Claim → List (List (List ℕ))
+back_lines layout claim = (codes "cert" ∷ claim_words layout claim) ∷ (codes "end" ∷ []) ∷ []
+
+-- the lines of an answer: its value, its pieces in their order, its certificate
 abbrev pub result_lines : Layout → AnswerData → List (List (List ℕ))
 result_lines layout a =
     (codes "value" ∷ signed_decimal a.value ∷ [])
-    ∷ (map piece_words a.pieces
-    ++ (codes "cert" ∷ claim_words layout a.certificate)
-    ∷ (codes "end" ∷ [])
-    ∷ [])
+    ∷ (map piece_words a.pieces ++ back_lines layout a.certificate)
 
 -- the number of a version
 abbrev pub version : Layout → List ℕ
@@ -62,9 +63,17 @@ answer_lines layout s =
     ∷ (codes "machines" ∷ decimal s.machines ∷ [])
     ∷ result_lines layout s.answer
 
+-- the lines before the pieces
+abbrev pub front_lines : Layout → SheetData → List (List (List ℕ))
+front_lines layout s = take 5 (answer_lines layout s)
+
 -- a line: its words with a blank between each two, and a line feed
 abbrev pub line_text : List (List ℕ) → List ℕ
 line_text words = join_with_byte 32 words ++ 10 ∷ []
+
+-- the lines of pieces, in their order
+abbrev pub pieces_text : List Piece → List ℕ
+pieces_text pieces = flat_map line_text (map piece_words pieces)
 
 -- the text of a sheet
 unfoldable pub answer_text : Layout → SheetData → List ℕ

@@ -1,4 +1,5 @@
 //! Answers as texts.
+mod block;
 pub mod fault;
 pub mod layout;
 mod line;

@@ -7,25 +7,23 @@ ghost use Rattle.std.specs.Io.KnownBytes.{Appends};
 ghost use Rattle.tf_check.specs.Certificate.{claim_of};
 ghost use Rattle.tf_text.specs.Counted.{inner_of, has_failed, AppendsPrefix};
 ghost use Rattle.tf_text.specs.JobWords.{runs, run_words, job_words};
-ghost use Rattle.tf_text.specs.AnswerText.{version, piece_words, side_word, claim_words, result_lines, line_text, answer_text};
+ghost use Rattle.tf_text.specs.AnswerText.{version, side_word, claim_words, front_lines, back_lines, line_text, answer_text};
 ghost use Rattle.tf_text.specs.AnswerReading.{answer_in};
 ghost use Rattle.tf_text.specs.Readable.{IsReadable};
 ghost use Rattle.tf_text.specs.declared.answer.writing.WriteFault.TheVariants.{Device as DeviceFault, OutOfMemory as MemoryFault};
 
+use crate::answer::block::write_around;
 use crate::answer::layout::Layout;
-use crate::answer::line::{ROOM, write_piece};
 use crate::answer::run::Run;
 use crate::answer::sheet::Sheet;
 use crate::counted::{Counted, Device};
 use itoa::{Buffer, Integer};
 use std::alloc::Allocator;
 use std::io::Write;
-use tf_check::answer::Answer;
 use tf_check::certificate::Certificate;
 use tf_model::ids::JobId;
 use tf_model::memory::OutOfMemory;
 use tf_notation::writing::notation_text;
-use tf_schedule::piece::Piece;
 use thiserror::Error;
 
 /// Why an answer was not written in full.
@@ -159,41 +157,6 @@ pub fn push_number_line<A: Allocator, I: Integer>(
     Ok(())
 }
 
-// The line of a piece whose times may be negative.
-fn push_signed_piece<A: Allocator>(text: &mut Vec<u8, A>, piece: &Piece) -> Result<(), OutOfMemory>
-    ensures { OnOk result (text.new.items ≡ text.old.items ++ line_text (piece_words piece.now)) }
-{
-    text.extend_from_slice(b"piece")?;
-    push_number(text, piece.job.get())?;
-    push_number(text, piece.machine.get())?;
-    push_number(text, piece.start)?;
-    push_number(text, piece.stop)?;
-    text.push(b'\n')?;
-    Ok(())
-}
-
-fn push_piece<A: Allocator>(text: &mut Vec<u8, A>, piece: &Piece) -> Result<(), OutOfMemory>
-    ensures { OnOk result (text.new.items ≡ text.old.items ++ line_text (piece_words piece.now)) }
-{
-    if piece.start < 0 || piece.stop < 0 {
-        return push_signed_piece(text, piece);
-    }
-    let mut line = [0; ROOM];
-    let from = write_piece(piece, &mut line);
-    text.extend_from_slice(&line[from..])?;
-    Ok(())
-}
-
-fn push_pieces<A: Allocator>(text: &mut Vec<u8, A>, pieces: &[Piece]) -> Result<(), OutOfMemory>
-    ensures { OnOk result (text.new.items
-        ≡ text.old.items ++ flat_map line_text (map piece_words pieces.now)) }
-{
-    for piece in pieces {
-        push_piece(text, piece)?;
-    }
-    Ok(())
-}
-
 fn side_word(first: bool) -> &'static [u8]
     ensures { result.now ≡ side_word first }
 {
@@ -241,22 +204,6 @@ fn push_claim<A: Allocator, M: Allocator>(
     Ok(())
 }
 
-fn push_answer<A: Allocator, M: Allocator>(
-    text: &mut Vec<u8, A>,
-    layout: Layout,
-    answer: &Answer<M>,
-) -> Result<(), OutOfMemory>
-    ensures { OnOk result (text.new.items
-        ≡ text.old.items ++ flat_map line_text (result_lines layout answer.now)) }
-{
-    push_number_line(text, b"value", answer.value)?;
-    push_pieces(text, answer.pieces.as_slice())?;
-    text.extend_from_slice(b"cert ")?;
-    push_claim(text, layout, &answer.certificate)?;
-    text.extend_from_slice(b"\nend\n")?;
-    Ok(())
-}
-
 // The first line, and the first word of the second with a blank.
 fn heading(layout: Layout) -> &'static [u8]
     ensures { result.now
@@ -268,16 +215,14 @@ fn heading(layout: Layout) -> &'static [u8]
     }
 }
 
-/// The text of a sheet in a version, by lines and words, each line ended by a line feed.
-pub fn answer_bytes<A: Allocator + Copy, M: Allocator>(
+// The lines before the pieces.
+fn front_text<A: Allocator + Copy, M: Allocator>(
     alloc: A,
     sheet: &Sheet<M>,
     layout: Layout,
 ) -> Result<Vec<u8, A>, OutOfMemory>
-    ensures text { IfOk result (λ text. text.items ≡ answer_text layout sheet.now) }
-    // The text is read as the sheet.
-    ensures round_trip { IfOk result (λ text. IsReadable layout sheet.now →
-        length text.items ≤ most_bytes → answer_in text.items ≡ Ok sheet.now) }
+    ensures { IfOk result (λ text.
+        text.items ≡ flat_map line_text (front_lines layout sheet.now)) }
 {
     let notation = notation_text(alloc, &sheet.problem)?;
     let mut text = Vec::from_slice(alloc, heading(layout))?;
@@ -285,7 +230,22 @@ pub fn answer_bytes<A: Allocator + Copy, M: Allocator>(
     text.push(b'\n')?;
     push_number_line(&mut text, b"jobs", sheet.jobs)?;
     push_number_line(&mut text, b"machines", sheet.machines)?;
-    push_answer(&mut text, layout, &sheet.answer)?;
+    push_number_line(&mut text, b"value", sheet.answer.value)?;
+    Ok(text)
+}
+
+// The lines behind the pieces.
+fn back_text<A: Allocator, M: Allocator>(
+    alloc: A,
+    certificate: &Certificate<M>,
+    layout: Layout,
+) -> Result<Vec<u8, A>, OutOfMemory>
+    ensures { IfOk result (λ text.
+        text.items ≡ flat_map line_text (back_lines layout (claim_of certificate.now))) }
+{
+    let mut text = Vec::from_slice(alloc, b"cert ")?;
+    push_claim(&mut text, layout, certificate)?;
+    text.extend_from_slice(b"\nend\n")?;
     Ok(text)
 }
 
@@ -313,7 +273,8 @@ pub fn write_answer<A: Allocator + Copy, M: Allocator, W: Write>(
         length (answer_text layout sheet.now) ≤ most_bytes →
         answer_in (answer_text layout sheet.now) ≡ Ok sheet.now) }
 {
-    let text = answer_bytes(alloc, sheet, layout)?;
-    writer.push_all(&text)?;
+    let front = front_text(alloc, sheet, layout)?;
+    let back = back_text(alloc, &sheet.answer.certificate, layout)?;
+    write_around(writer, &front, sheet.answer.pieces.as_slice(), &back)?;
     Ok(())
 }

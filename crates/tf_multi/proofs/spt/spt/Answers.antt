@@ -10,7 +10,7 @@ use Rattle.tf_multi.proofs.spt.spt.Goals as goal
 pub semi_active-requires-clause-known : goal.semi_active-requires-clause-known
 semi_active-requires-clause-known g c =
     rw (
-      c.deref-2.ensures.value,
+      c.deref-3.ensures.value,
       c.in_ok-operations.ensures,
       c.machines.ensures.value,
       c.deref.ensures.value,
@@ -23,7 +23,7 @@ semi_active-requires-clause-known g c =
 pub semi_active-requires-clause-total : goal.semi_active-requires-clause-total
 semi_active-requires-clause-total g c =
     rw (
-      c.deref-2.ensures.value,
+      c.deref-3.ensures.value,
       c.in_ok-operations.ensures,
       c.machines.ensures.value,
       c.deref.ensures.value,
@@ -33,13 +33,13 @@ semi_active-requires-clause-total g c =
 
 pub ranked_times-value-requires-clause-known : goal.ranked_times-value-requires-clause-known
 ranked_times-value-requires-clause-known g c =
-    rw (c.deref-4.ensures.value, c.in_ok-longest_first.ensures, c.deref-3.ensures.value)
+    rw (c.deref-4.ensures.value, c.in_ok-longest_first.ensures, c.deref-2.ensures.value)
     (ranks_known _ _ c.len.ensures.sound c.requires.sum c.requires.parallel
     c.in_ok-jobs.ensures.by_ratio)
 
 pub ranked_times-value-requires-clause-value : goal.ranked_times-value-requires-clause-value
 ranked_times-value-requires-clause-value g c =
-    rw (c.deref-4.ensures.value, c.in_ok-longest_first.ensures, c.deref-3.ensures.value)
+    rw (c.deref-4.ensures.value, c.in_ok-longest_first.ensures, c.deref-2.ensures.value)
     (ranks_limit _ _ c.len.ensures.sound c.requires.sum c.requires.parallel
     c.in_ok-jobs.ensures.by_ratio)
 
@@ -50,7 +50,7 @@ returns-clause-schedule g c =
     c.in_ok-jobs.ensures.by_ratio _
     (rw (
       c.in_ok-laid.ensures,
-      c.deref-2.ensures.value,
+      c.deref-3.ensures.value,
       c.in_ok-operations.ensures,
       c.machines.ensures.value,
       c.deref.ensures.value,
@@ -66,13 +66,13 @@ returns-clause-accepted g c =
       c.ranked_times-value.ensures.value,
       c.deref-4.ensures.value,
       c.in_ok-longest_first.ensures,
-      c.deref-3.ensures.value,
+      c.deref-2.ensures.value,
     )
     (dealt_accepted _ _ c.len.ensures.sound c.requires.sum c.requires.parallel
     c.in_ok-jobs.ensures.by_ratio _
     (rw (
       c.in_ok-laid.ensures,
-      c.deref-2.ensures.value,
+      c.deref-3.ensures.value,
       c.in_ok-operations.ensures,
       c.machines.ensures.value,
       c.deref.ensures.value,
@@ -84,5 +84,5 @@ returns-clause-certificate g c =
       jobs = c.in_ok-jobs.jobs.items;
       by_ratio = c.in_ok-jobs.ensures.by_ratio;
       is = ap ByRanks (c.new-2.ensures ∙ c.in_ok-longest_first.ensures
-          ∙ ap (λ (ys : List WeightedJob). reverse (jobs_of ys)) c.deref-3.ensures.value);
+          ∙ ap (λ (ys : List WeightedJob). reverse (jobs_of ys)) c.deref-2.ensures.value);
     }

@@ -4,7 +4,8 @@ use Rattle.std.specs.Io.KnownBytes.{Appends}
 use Rattle.tf_schedule.specs.declared.piece.Piece.{Piece}
 use Rattle.tf_text.specs.Counted.{inner_of, AppendsPrefix}
 use Rattle.tf_text.specs.Chart.{machine_line, length_line, chart_text}
-use Rattle.tf_text.proofs.ChartLines.{prefix_first, prefix_of_lines, written_lines, on_err}
+use Rattle.tf_text.proofs.ChartLines.{prefix_of_lines, written_lines}
+use Rattle.tf_text.proofs.Prefix.{prefix_first, on_err}
 use Rattle.tf_text.proofs.chart.write_gantt.Goals as goal
 
 pub returns-in_err-push_all-clause-prefix : goal.returns-in_err-push_all-clause-prefix
