@@ -1,5 +1,5 @@
 -- From a schedule to the answer whose pieces it sorts.
-use Rattle.std.proofs.Common.{ℕ, ◌<◌, ◌≡◌, ◌-◌, Option, Some, None, slice_get, IsSomeAnd, refl, subst, ℤ, ◌≤ℤ◌, List, Ok, sym, ap, ◌∙◌, arith, All}
+use Rattle.std.proofs.Common.{◌<◌, ◌≡◌, ◌-◌, Option, Some, None, slice_get, IsSomeAnd, refl, subst, ℤ, ◌≤ℤ◌, List, Ok, sym, ap, ◌∙◌, arith, All}
 use Rattle.std.specs.List.Sorted.{IsPermutation}
 use Rattle.std.proofs.lemmas.List.Sorted.{All-permutation, IsPermutation-sym}
 use Rattle.tf_model.specs.SchedulingTask.{SchedulingTask}
@@ -10,12 +10,12 @@ use Rattle.tf_schedule.specs.declared.piece.Piece.{Piece}
 use Rattle.tf_schedule.specs.Piece.{as_time, machine_of, IsInRange, IsNotEmpty}
 use Rattle.tf_schedule.specs.Schedule.{IsSchedule, IsPiece, NoneTwice, HasFirstFault}
 use Rattle.std.proofs.lemmas.Int.{ints}
-use Rattle.std.proofs.lemmas.Option.{get_or_from_slice_get, slice_get_within}
 use Rattle.tf_check.specs.Laws.{bound_in}
 use Rattle.tf_schedule.specs.declared.schedule.PieceFault.{PieceFault}
 use Rattle.tf_schedule.specs.declared.schedule.PieceFault.TheVariants.{OutOfRange, EmptyPiece, MachineTwice}
 use Rattle.tf_schedule.specs.Drawing.{Draws, drawing, IsOnMachine}
 use Rattle.tf_schedule.proofs.Scan.{claims_permutation}
+use Rattle.tf_schedule.proofs.Transport.{element}
 use Rattle.tf_schedule.proofs.Permuted.{drawing_permutation, draws_drawing, drawing_only}
 use Rattle.tf_check.specs.Claim.{AnswerData}
 use Rattle.tf_check.specs.Bound.{bound_by}
@@ -76,12 +76,6 @@ cost_is k a rows h accepted =
     ap (cost k)
     (drawing_only k.machines a.pieces rows h.draws
     ∙ sym (drawing_only k.machines a.pieces accepted.rows accepted.draws)) ∙ accepted.value
-
--- what holds of each element holds of the one at n
-element : {X : Type 0} (P : X → Type 0) (xs : List X) (n : ℕ) (x : X) → All P xs
-    → slice_get xs n ≡ Some x → P x
-element P xs n x all here =
-    subst P (get_or_from_slice_get xs n x x here) (all n x (slice_get_within xs n x here))
 
 none_here : {X : Type 0} (Q P : X → Type 0) (o : Option X) → ((x : X) → o ≡ Some x → P x)
     → IsSomeAnd o Q → ((x : X) → P x → Q x → ⊥) → ⊥

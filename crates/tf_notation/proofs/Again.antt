@@ -11,6 +11,7 @@ use Rattle.std.proofs.lemmas.Bool.{lt-ltb, le-leb, ne_eqb, and_from, and_parts, 
 use Rattle.std.proofs.lemmas.Str.Parse.{digit_from_value}
 use Rattle.std.proofs.lemmas.Fmt.{decimal_is_IsNumeral, first_decimal}
 use Rattle.tf_words.specs.Number.{plain, is_numeral}
+use Rattle.tf_words.proofs.DigitsRead.{digits_only}
 use Rattle.tf_model.specs.declared.problem.Env.{Env}
 use Rattle.tf_model.specs.declared.problem.Env.TheVariants.{Single, Parallel, Uniform, Unrelated, Flow, OpenShop, JobShop}
 use Rattle.tf_model.specs.declared.problem.Goal.{Goal}
@@ -32,12 +33,6 @@ IsCounted Single (Some n) = ⊥
 IsCounted env (Some n) = (0 < n) × (n ≤ 1000)
 
 -- ---- digits
-
-digits_only : (ds : List ℕ) → AllDigits 10 ds → list_all is_ascii_digit ds ≡ true
-digits_only [] h = refl
-digits_only (d ∷ ds) h =
-    let r = digit_from_value d h.0 in
-    and_from _ _ (and_from _ _ (le-leb 48 d r.0) (le-leb d 57 r.1)) (digits_only ds h.1)
 
 digit_letter : (d : ℕ) → 48 ≤ d → d ≤ 57 → is_word_byte d ≡ true
 digit_letter d low high =

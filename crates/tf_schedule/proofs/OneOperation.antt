@@ -54,7 +54,8 @@ weighted_ends w front [] = 0
 weighted_ends w front (o ∷ os) =
     w o.job * (front o.machine + o.time) + weighted_ends w (front_after front o.machine o.time) os
 
-job_stop_is : (ps : List Piece) (j : ℕ) → job_stop ps j ≡ last_stop ps j
+-- a job is free again when it is last over
+pub job_stop_is : (ps : List Piece) (j : ℕ) → job_stop ps j ≡ last_stop ps j
 job_stop_is [] j = refl
 job_stop_is (p ∷ ps) j = ap (λ n. cond (eqb p.job j) (max (stop_of p) n) n) (job_stop_is ps j)
 

@@ -16,6 +16,7 @@ module _ (n : ℕ) (P Q : ℕ → Type 0) (to : (j : ℕ) → 1 ≤ j → j ≤ 
     smaller = λ h low less. to h low (omega (arith, first.job.1)) (first.smaller h low less);
   }
 
+-- what holds of each element holds of the one at a place
 pub element : {X : Type 0} (R : X → Type 0) (xs : List X) (i : ℕ) (x : X) → All R xs
     → slice_get xs i ≡ Some x → R x
 element R [] i x all e = absurd (cc)

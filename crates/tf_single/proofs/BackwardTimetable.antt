@@ -1,6 +1,6 @@
 -- Jobs that are chosen from the back: their timetable fits, and the set of the dearest step bounds
 -- its cost.
-use Rattle.std.proofs.Common.{◌≡◌, ◌≢◌, ℕ, zero, suc, ◌≤◌, ◌<◌, ℤ, ◌≤ℤ◌, Bool, true, false, not, ◌&&◌, ◌||◌, ◌==◌, cond, eqb, List, [], ◌∷◌, ◌++◌, length, get_or, slice_index, take, drop, max, refl, sym, ap, ◌∙◌, subst, arith, ◌⊎◌, inl, inr, sum_by, All, Contains, IsTrue, IsFalse}
+use Rattle.std.proofs.Common.{◌≡◌, ◌≢◌, ℕ, zero, suc, ◌≤◌, ◌<◌, ℤ, ◌≤ℤ◌, Bool, true, false, not, ◌&&◌, ◌||◌, ◌==◌, cond, eqb, List, [], ◌∷◌, ◌++◌, length, get_or, slice_index, take, drop, refl, sym, ap, ◌∙◌, subst, arith, ◌⊎◌, inl, inr, sum_by, All, Contains, IsTrue, IsFalse}
 use Rattle.std.specs.List.{AllPairs}
 use Rattle.std.proofs.lemmas.Bool.{false≢true, and_from, eq-eqb, eqb-true, cases_Bool, not-false}
 use Rattle.std.proofs.lemmas.Bool.Decides.{nat_tests}
@@ -22,13 +22,13 @@ use Rattle.tf_schedule.specs.declared.piece.Piece.{Piece}
 use Rattle.tf_schedule.specs.declared.semi_active.Operation.{Operation}
 use Rattle.tf_schedule.specs.Piece.{job_of}
 use Rattle.tf_schedule.specs.Schedule.{IsSchedule}
-use Rattle.tf_schedule.specs.Drawing.{drawing, stop_of, greatest_stop}
-use Rattle.tf_schedule.specs.Amounts.{last_stop}
+use Rattle.tf_schedule.specs.Drawing.{drawing, greatest_stop}
 use Rattle.tf_schedule.specs.SemiActive.{laid, with_operation, start_after, job_stop, IsOperation}
 use Rattle.tf_schedule.proofs.Apart.{starts_apart}
 use Rattle.tf_schedule.proofs.Drawing.{completion-drawing}
 use Rattle.tf_schedule.proofs.LaidFits.{IsListed, is_laid, laid_sound, laid_none_twice, laid_on_machines, laid_fits_plain}
 use Rattle.tf_schedule.proofs.Laying.{Keeps, stop_fold, line_stop-other, line_stop-le-greatest}
+use Rattle.tf_schedule.proofs.OneOperation.{job_stop_is}
 use Rattle.tf_schedule.proofs.Parts.{AllPairs-append}
 use Rattle.tf_schedule.proofs.Prices.{other_cost}
 use Rattle.tf_schedule.proofs.Times.{sound_times}
@@ -83,10 +83,6 @@ keeps_backward k (j ∷ order) pairs =
     (pairs zero (suc a) d (omega arith) (omega arith)) (All-nil _)))
 
 -- ---- when the jobs stop
-
-job_stop_is : (ps : List Piece) (j : ℕ) → job_stop ps j ≡ last_stop ps j
-job_stop_is [] j = refl
-job_stop_is (p ∷ ps) j = ap (λ n. cond (eqb p.job j) (max (stop_of p) n) n) (job_stop_is ps j)
 
 laid_more : (k : SchedulingTask) (j : ℕ) (order : List ℕ)
     → laid (backward k (j ∷ order)) ≡ with_operation (laid (backward k order)) (operation_of k j)

@@ -1,10 +1,9 @@
 -- Numbers that are written are read as they were.
 use Rattle.std.proofs.Common.{◌≡◌, ℕ, suc, ℤ, pos, negsuc, ◌^◌, ◌<◌, ◌≤◌, ◌≤ℤ◌, true, false, not, eqb, List, [], ◌∷◌, get_or, Some, Ok, w64, refl, ap, ◌∙◌, arith}
 use Rattle.std.specs.List.{list_all}
-use Rattle.std.specs.Char.{is_ascii_digit}
 use Rattle.std.specs.Fmt.{decimal, signed_decimal}
 use Rattle.std.specs.Str.Parse.{AllDigits, digits_value}
-use Rattle.std.proofs.lemmas.Bool.{lt-ltb, le-leb, ne_eqb, and_from}
+use Rattle.std.proofs.lemmas.Bool.{lt-ltb, ne_eqb, and_from}
 use Rattle.std.proofs.lemmas.Int.{ints}
 use Rattle.std.proofs.lemmas.Str.Parse.{digit_from_value}
 use Rattle.std.proofs.lemmas.Fmt.{decimal_is_IsNumeral}
@@ -14,17 +13,12 @@ use Rattle.tf_model.specs.Whole.{IsWithin}
 use Rattle.tf_words.specs.Words.{is_white}
 use Rattle.tf_words.specs.Ranged.{judged, placed}
 use Rattle.tf_words.specs.declared.ranged.Ranged.TheVariants.{Within}
+use Rattle.tf_words.proofs.DigitsRead.{digits_only}
 use Rattle.tf_text.specs.AnswerReading.{counted, count_in, signed_within, time_in, value_in}
 use Rattle.tf_text.specs.Readable.{IsCount}
 use Rattle.tf_text.proofs.WordLines.{IsWord}
 
 -- ---- digits
-
-digits_only : (ds : List ℕ) → AllDigits 10 ds → list_all is_ascii_digit ds ≡ true
-digits_only [] h = refl
-digits_only (d ∷ ds) h =
-    let r = digit_from_value d h.0 in
-    and_from _ _ (and_from _ _ (le-leb 48 d r.0) (le-leb d 57 r.1)) (digits_only ds h.1)
 
 digit_dark : (d : ℕ) → 48 ≤ d → not (is_white d) ≡ true
 digit_dark d low =

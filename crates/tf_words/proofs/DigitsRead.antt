@@ -3,8 +3,9 @@ use Rattle.std.proofs.Common.{◌≡◌, [], ◌∷◌, ℕ, ◌+◌, ◌-◌, �
 use Rattle.std.specs.List.{list_all}
 use Rattle.std.specs.Char.{is_ascii_digit, digit_value}
 use Rattle.std.specs.Str.Parse.{AllDigits, digits_value}
-use Rattle.std.proofs.lemmas.Bool.{and_parts, leb-true, le-ltb, lt-ltb}
+use Rattle.std.proofs.lemmas.Bool.{and_from, and_parts, le-leb, leb-true, le-ltb, lt-ltb}
 use Rattle.std.proofs.lemmas.List.Recursion.{and_at}
+use Rattle.std.proofs.lemmas.Str.Parse.{digit_from_value}
 use Rattle.std.proofs.lemmas.Int.Digits.{digits_value_more, digits_value-lt}
 use Rattle.std.proofs.Math.Nat.{pow-le-pow_right}
 
@@ -38,6 +39,13 @@ all_digits (d ∷ ds) h =
     let both = and_parts _ _ h in
     let digit = digit_is d both.0 in
     (omega (arith, digit.0, digit.1, digit.2), all_digits ds both.1)
+
+-- digits as the library calls them, and back
+pub digits_only : (ds : List ℕ) → AllDigits 10 ds → list_all is_ascii_digit ds ≡ true
+digits_only [] h = refl
+digits_only (d ∷ ds) h =
+    let r = digit_from_value d h.0 in
+    and_from _ _ (and_from _ _ (le-leb 48 d r.0) (le-leb d 57 r.1)) (digits_only ds h.1)
 
 -- the value of no more than so many digits with which a text begins
 pub few_digits : (text : List ℕ) (at k : ℕ) → list_all is_ascii_digit (take at text) ≡ true → at ≤ k
