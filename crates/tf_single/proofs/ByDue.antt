@@ -1,24 +1,31 @@
 -- Of jobs with due dates the one that is due last is the cheapest.
-use Rattle.std.proofs.Common.{◌≡◌, ℕ, ◌<◌, ℤ, pos, ◌-ℤ◌, ◌≤ℤ◌, false, List, ◌∷◌, length, get_or, sym, ap, ◌∙◌, subst, arith, Contains, IsTrue}
-use Rattle.std.specs.List.Sorted.{IsPermutation}
-use Rattle.std.specs.BinaryHeap.{IsHeap, PopsGreatest}
+use Rattle.std.proofs.Common.{◌≡◌, ℕ, ◌+◌, ◌-◌, ◌<◌, ◌≤◌, ℤ, pos, ◌-ℤ◌, ◌≤ℤ◌, Bool, true, false, List, [], ◌∷◌, ◌++◌, length, get_or, Option, Some, option_to_list, refl, sym, ap, ◌∙◌, subst, arith, Contains, IsTrue}
+use Rattle.std.specs.Cmp.{IsStrictWeakOrder}
+use Rattle.std.specs.List.{All}
+use Rattle.std.specs.List.Sorted.{IsPermutation, IsSorted}
+use Rattle.std.specs.BinaryHeap.{IsHeap, IsUpperBound}
 use Rattle.std.specs.Ordering.{nat_cmp, int_cmp, ordering_then, is_lt}
-use Rattle.std.proofs.lemmas.Int.{ints}
+use Rattle.std.proofs.lemmas.Bool.{false≢true}
 use Rattle.std.proofs.lemmas.Bool.Decides.{nat_tests}
-use Rattle.std.proofs.lemmas.List.{get_or-map, length-map}
-use Rattle.std.proofs.lemmas.List.Elements.{All-tail, All-cons, All-from_recursion}
-use Rattle.std.proofs.lemmas.List.Sorted.{All-permutation}
+use Rattle.std.proofs.lemmas.Cmp.{then_total, on_total, nat_cmp_total, int_cmp_total}
+use Rattle.std.proofs.lemmas.Int.{ints}
+use Rattle.std.proofs.lemmas.List.{get_or-map, length-map, length_push, length-append, get_or_at, get_or_default, get_or_append_left, append_assoc}
+use Rattle.std.proofs.lemmas.List.Elements.{All-append, All-tail, All-cons, All-from_recursion}
+use Rattle.std.proofs.lemmas.List.Sorted.{All-permutation, IsPermutation-map, IsPermutation-sym, IsPermutation-trans, IsPermutation-middle, IsPermutation-append_left, IsPermutation-append_right, length_permutation, ranks_by, sorted_far}
 use Rattle.tf_model.specs.ClassTable.{is_due}
 use Rattle.tf_model.specs.Cost.{price}
 use Rattle.tf_model.specs.SchedulingTask.{SchedulingTask, job_data}
 use Rattle.tf_schedule.proofs.Prices.{due_price}
-use Rattle.tf_single.specs.ByDue.{jobs_due, due_cmp, HasDue, AreDue}
+use Rattle.tf_single.specs.ByDue.{jobs_due, due_cmp, HasDue, IsLatest, AreDue}
 use Rattle.tf_single.specs.declared.by_due.DueJob.{DueJob}
 
 -- ---- prices
 
 due_ge : (a b : ℤ) (m n : ℕ) → is_lt (ordering_then (int_cmp a b) (nat_cmp m n)) ≡ false → b ≤ℤ a
 due_ge a b m n h = grind (arith, nat_tests, ints)
+
+due_le : (a b : ℤ) (m n : ℕ) → is_lt (ordering_then (int_cmp a b) (nat_cmp m n)) ≡ true → a ≤ℤ b
+due_le a b m n h = grind (arith, nat_tests, ints)
 
 less_left : (e a b : ℤ) → b ≤ℤ a → (e -ℤ a) ≤ℤ (e -ℤ b)
 less_left e a b le = omega (arith, ints)
@@ -31,45 +38,217 @@ later_cheaper k i j end due le =
     (subst (λ z. (pos end -ℤ (job_data k j).due) ≤ℤ z) (due_price k i end due)
     (less_left (pos end) (job_data k j).due (job_data k i).due le))
 
+-- ---- where an entry stands
+
+-- behind the first ones
+pub pushed_first : (first later : List DueJob) (e : DueJob)
+    → IsPermutation (e ∷ (first ++ later)) ((first ++ e ∷ []) ++ later)
+pushed_first first later e =
+    subst (IsPermutation (e ∷ (first ++ later))) (sym (append_assoc first (e ∷ []) later))
+    (IsPermutation-sym (first ++ e ∷ later) (e ∷ (first ++ later))
+    (IsPermutation-middle first e later))
+
+-- among those that followed
+pub pushed_later : (first later more : List DueJob) (e : DueJob) → IsPermutation (e ∷ later) more
+    → IsPermutation (e ∷ (first ++ later)) (first ++ more)
+pushed_later first later more e moved =
+    IsPermutation-trans (e ∷ (first ++ later)) (first ++ e ∷ later) (first ++ more)
+    (IsPermutation-sym (first ++ e ∷ later) (e ∷ (first ++ later))
+    (IsPermutation-middle first e later))
+    (IsPermutation-append_right first (e ∷ later) more moved)
+
 -- ---- entries
 
--- an entry more
-pub due_pushed : (k : SchedulingTask) (free more : List DueJob) (e : DueJob) → AreDue k free
-    → HasDue k e → IsPermutation (e ∷ free) more → (IsHeap due_cmp free → IsHeap due_cmp more)
-    → AreDue k more
-due_pushed k free more e due its moved keeps = record {
+due_order : IsStrictWeakOrder (λ a b. is_lt (due_cmp a b))
+due_order =
+    ranks_by
+    (then_total (on_total (λ (e : DueJob). e.due) int_cmp_total)
+    (on_total (λ (e : DueJob). e.job) nat_cmp_total))
+    (λ (e : DueJob). e)
+
+-- the last of a list in order is due last
+pub last_latest : (xs : List DueJob) → IsSorted due_cmp xs → 0 < length xs → (d : DueJob)
+    → IsLatest xs (get_or xs (length xs - 1) d)
+last_latest xs rising some d i e h =
+    let x : DueJob = get_or xs (length xs - 1) d in
+    subst (λ (y : DueJob). y.due ≤ℤ x.due) (get_or_default xs i d e h)
+    (due_ge x.due (get_or xs i d).due x.job (get_or xs i d).job
+    (sorted_far (λ a b. is_lt (due_cmp a b)) due_order xs rising i (length xs - 1) d (omega arith)
+    (omega arith)))
+
+-- as the greatest of a heap is
+pub top_latest : (xs : List DueJob) (x : DueJob) → IsUpperBound due_cmp x xs → IsLatest xs x
+top_latest xs x bound i e h =
+    due_ge x.due (get_or xs i e).due x.job (get_or xs i e).job
+    (All-from_recursion (λ y. is_lt (due_cmp x y) ≡ false) xs bound i e h)
+
+-- and so is what is due no earlier
+pub IsLatest-trans : (xs : List DueJob) (x y : DueJob) → IsLatest xs x → x.due ≤ℤ y.due
+    → IsLatest xs y
+IsLatest-trans xs x y latest le i e h = omega (arith, ints, latest i e h, le)
+
+-- no entry is due later than the last one
+last_ahead : (first later : List DueJob) (d : DueJob) → IsSorted due_cmp first → 0 < length first
+    → IsLatest later (get_or first (length first - 1) d)
+    → IsLatest (first ++ later) (get_or first (length first - 1) d)
+last_ahead first later d rising some latest =
+    All-append (λ e. e.due ≤ℤ (get_or first (length first - 1) d).due) first later
+    (last_latest first rising some d) latest
+
+-- where none followed
+pub alone_ahead : (first later : List DueJob) (d : DueJob) → IsSorted due_cmp first
+    → 0 < length first → length later ≤ 0
+    → IsLatest (first ++ later) (get_or first (length first - 1) d)
+alone_ahead first later d rising some none =
+    last_ahead first later d rising some (λ i e h. absurd (omega (arith, h, none)))
+
+-- where the greatest of those that followed is less
+pub first_ahead : (first later : List DueJob) (x y d : DueJob) → IsSorted due_cmp first
+    → 0 < length first → x ≡ get_or first (length first - 1) x → IsUpperBound due_cmp y later
+    → is_lt (due_cmp y x) ≡ true
+    → IsLatest (first ++ later) (get_or first (length first - 1) d)
+first_ahead first later x y d rising some last bound less =
+    last_ahead first later d rising some
+    (subst (IsLatest later) (last ∙ get_or_default first (length first - 1) x d (omega arith))
+    (IsLatest-trans later y x (top_latest later y bound) (due_le y.due x.due y.job x.job less)))
+
+-- where it is not
+pub later_ahead : (first later : List DueJob) (x y d : DueJob) → IsSorted due_cmp first
+    → 0 < length first → x ≡ get_or first (length first - 1) x → IsUpperBound due_cmp y later
+    → 0 < length later → y ≡ get_or later 0 y → is_lt (due_cmp y x) ≡ false
+    → IsLatest (first ++ later) (get_or later 0 d)
+later_ahead first later x y d rising held last bound some top less =
+    subst (IsLatest (first ++ later)) (top ∙ get_or_default later 0 y d some)
+    (All-append (λ e. e.due ≤ℤ y.due) first later
+    (IsLatest-trans first x y
+    (subst (IsLatest first) (sym last) (last_latest first rising held x))
+    (due_ge y.due x.due y.job x.job less))
+    (top_latest later y bound))
+
+-- where none is first
+pub none_ahead : (first later : List DueJob) (y d : DueJob) → length first ≤ 0
+    → IsUpperBound due_cmp y later → 0 < length later → y ≡ get_or later 0 y
+    → IsLatest (first ++ later) (get_or later 0 d)
+none_ahead first later y d none bound some top =
+    subst (IsLatest (first ++ later)) (top ∙ get_or_default later 0 y d some)
+    (All-append (λ e. e.due ≤ℤ y.due) first later (λ i e h. absurd (omega (arith, h, none)))
+    (top_latest later y bound))
+
+-- an entry more, behind the first ones
+pub first_pushed : (k : SchedulingTask) (begun : Bool) (first later : List DueJob) (e : DueJob)
+    → begun ≡ false → AreDue k begun first later → HasDue k e
+    → AreDue k begun (first ++ e ∷ []) later
+first_pushed k begun first later e same due its = record {
   class = due.class;
-  dues = All-permutation (HasDue k) (e ∷ free) more moved (All-cons (HasDue k) e free its due.dues);
+  dues = All-permutation (HasDue k) (e ∷ (first ++ later)) ((first ++ e ∷ []) ++ later)
+      (pushed_first first later e) (All-cons (HasDue k) e (first ++ later) its due.dues);
+  rising = λ yes. absurd (false≢true (sym same ∙ yes));
+  heap = due.heap;
+}
+
+-- or in the heap
+pub later_pushed : (k : SchedulingTask) (begun : Bool) (first later more : List DueJob) (e : DueJob)
+    → AreDue k begun first later → HasDue k e → IsPermutation (e ∷ later) more
+    → (IsHeap due_cmp later → IsHeap due_cmp more) → AreDue k begun first more
+later_pushed k begun first later more e due its moved keeps = record {
+  class = due.class;
+  dues = All-permutation (HasDue k) (e ∷ (first ++ later)) (first ++ more)
+      (pushed_later first later more e moved) (All-cons (HasDue k) e (first ++ later) its due.dues);
+  rising = due.rising;
   heap = keeps due.heap;
 }
 
 -- ---- the entry that is due last is taken
-module _ (k : SchedulingTask) (free : List DueJob) (due : AreDue k free) (x : DueJob)
-    (more : List DueJob) (moved : IsPermutation free (x ∷ more))
-    (pops : PopsGreatest due_cmp free x more) where
-  own_due : HasDue k x
-  own_due = All-permutation (HasDue k) free (x ∷ more) moved due.dues 0 x (omega arith)
 
-  latest : (i : ℕ) → Contains (jobs_due free) i → (job_data k i).due ≤ℤ (job_data k x.job).due
-  latest i at =
-      let lt : at.0 < length free = omega (arith, at.1, length-map free (λ (e : DueJob). e.job)) in
-      let e : DueJob = get_or free at.0 x in
-      let its : e.job ≡ i = sym (get_or-map (λ (d : DueJob). d.job) free at.0 x i lt) ∙ at.2 in
-      let le : e.due ≤ℤ x.due =
-      due_ge x.due e.due x.job e.job
-      (All-from_recursion (λ y. is_lt (due_cmp x y) ≡ false) free (pops due.heap).1 at.0 x
-      lt) in
-      let is : e.due ≡ (job_data k i).due = due.dues at.0 x lt
-      ∙ ap (λ j. (job_data k j).due) its in
-      subst (λ z. z ≤ℤ (job_data k x.job).due) is (subst (λ z. e.due ≤ℤ z) own_due le)
+-- some job is left
+pub some_left : (first later sorted now : List DueJob) → 0 < length (jobs_due (first ++ later))
+    → IsPermutation first sorted → now ≡ later → 0 < length (sorted ++ now)
+some_left first later sorted now some sorts same =
+    omega (
+      arith,
+      some,
+      length-map (first ++ later) (λ (e : DueJob). e.job),
+      length-append first later,
+      length-append sorted now,
+      length_permutation first sorted sorts,
+      ap length same,
+    )
 
-  -- it is the cheapest at each time
-  pub due_cheapest : (end i : ℕ) → Contains (jobs_due free) i → price k x.job end ≤ℤ price k i end
-  due_cheapest end i at = later_cheaper k i x.job end due.class (latest i at)
+-- the first of a list in order are in order
+pub sorted_front : (xs : List DueJob) (x : DueJob) → IsSorted due_cmp (xs ++ x ∷ []) → IsSorted due_cmp xs
+sorted_front xs x rising i d low h =
+    subst (λ (e : DueJob). is_lt (due_cmp e (get_or xs i d)) ≡ false)
+    (get_or_append_left xs (x ∷ []) d (i + 1) h)
+    (subst (λ (e : DueJob). is_lt (due_cmp (get_or (xs ++ x ∷ []) (i + 1) d) e) ≡ false)
+    (get_or_append_left xs (x ∷ []) d i (omega arith))
+    (rising i d low (omega (arith, length_push xs x))))
 
-  pub due_popped : AreDue k more
-  due_popped = record {
-    class = due.class;
-    dues = All-tail (HasDue k) x more (All-permutation (HasDue k) free (x ∷ more) moved due.dues);
-    heap = (pops due.heap).0;
-  }
+-- the last of a list is what a pop gives
+pub popped_last : (xs front : List DueJob) (o : Option DueJob) (x : DueJob)
+    → xs ≡ front ++ option_to_list o → o ≡ Some x → xs ≡ front ++ x ∷ []
+popped_last xs front o x is some = is ∙ ap (λ p. front ++ option_to_list p) some
+
+pub last_of : (xs front : List DueJob) (x : DueJob) → xs ≡ front ++ x ∷ []
+    → get_or xs (length xs - 1) x ≡ x
+last_of xs front x is =
+    let at : length xs - 1 ≡ length front = omega (arith, ap length is, length_push front x) in
+    ap (λ i. get_or xs i x) at ∙ ap (λ ys. get_or ys (length front) x) is
+    ∙ get_or_at front x [] x (length front) refl
+
+module _ (k : SchedulingTask) (begun : Bool) (first later sorted : List DueJob)
+    (due : AreDue k begun first later) (sorts : IsPermutation first sorted) where
+  abbrev pub entries : List DueJob
+  entries = first ++ later
+
+  -- x is taken, and the others are left
+  module _ (x : DueJob) (others : List DueJob) (moved : IsPermutation (sorted ++ later) (x ∷ others))
+      (latest : IsLatest (sorted ++ later) x) where
+    all_moved : IsPermutation entries (x ∷ others)
+    all_moved = IsPermutation-trans entries (sorted ++ later) (x ∷ others)
+        (IsPermutation-append_left later first sorted sorts) moved
+
+    all_latest : IsLatest entries x
+    all_latest = All-permutation (λ e. e.due ≤ℤ x.due) (sorted ++ later) entries
+        (IsPermutation-sym entries (sorted ++ later)
+        (IsPermutation-append_left later first sorted sorts)) latest
+
+    own_due : HasDue k x
+    own_due = All-permutation (HasDue k) entries (x ∷ others) all_moved due.dues 0 x (omega arith)
+
+    pub jobs_moved : IsPermutation (jobs_due entries) (x.job ∷ jobs_due others)
+    jobs_moved = IsPermutation-map (λ (e : DueJob). e.job) entries (x ∷ others) all_moved
+
+    -- it is the cheapest at each time
+    pub latest_cheapest : (end i : ℕ) → Contains (jobs_due entries) i
+        → price k x.job end ≤ℤ price k i end
+    latest_cheapest end i at =
+        let lt : at.0 < length entries =
+        omega (arith, at.1, length-map entries (λ (e : DueJob). e.job)) in
+        let e : DueJob = get_or entries at.0 x in
+        let its : e.job ≡ i = sym (get_or-map (λ (d : DueJob). d.job) entries at.0 x i lt)
+        ∙ at.2 in
+        let is : e.due ≡ (job_data k i).due = due.dues at.0 x lt
+        ∙ ap (λ j. (job_data k j).due) its in
+        later_cheaper k i x.job end due.class
+        (subst (λ z. z ≤ℤ (job_data k x.job).due) is
+        (subst (λ z. e.due ≤ℤ z) own_due (all_latest at.0 x lt)))
+
+    pub others_due : All (HasDue k) others
+    others_due = All-tail (HasDue k) x others
+        (All-permutation (HasDue k) entries (x ∷ others) all_moved due.dues)
+
+  -- the last of the first is taken
+  pub first_taken : (x : DueJob) (front : List DueJob) → sorted ≡ front ++ x ∷ []
+      → IsPermutation (sorted ++ later) (x ∷ (front ++ later))
+  first_taken x front is =
+      subst (λ (es : List DueJob). IsPermutation (es ++ later) (x ∷ (front ++ later))) (sym is)
+      (IsPermutation-sym (x ∷ (front ++ later)) ((front ++ x ∷ []) ++ later)
+      (pushed_first front later x))
+
+  -- the greatest of those that followed is taken
+  pub later_taken : (x : DueJob) (more : List DueJob) → IsPermutation later (x ∷ more)
+      → IsPermutation (sorted ++ later) (x ∷ (sorted ++ more))
+  later_taken x more moved =
+      IsPermutation-trans (sorted ++ later) (sorted ++ x ∷ more) (x ∷ (sorted ++ more))
+      (IsPermutation-append_right sorted later (x ∷ more) moved)
+      (IsPermutation-middle sorted x more)

@@ -1,6 +1,7 @@
 -- Free jobs by their due dates.
-use Rattle.std.specs.Prelude.{◌≡◌, ℕ, List, map, IsTrue}
+use Rattle.std.specs.Prelude.{◌≡◌, ℕ, ◌<◌, ◌-◌, ◌≤ℤ◌, Bool, true, List, ◌++◌, length, map, slice_index_or, IsTrue}
 use Rattle.std.specs.List.{All}
+use Rattle.std.specs.List.Sorted.{IsSorted}
 use Rattle.std.specs.BinaryHeap.{IsHeap}
 use Rattle.std.specs.Ordering.{nat_cmp, int_cmp, ordering_then}
 use Rattle.std.specs.declared.cmp.Ordering.{Ordering}
@@ -20,8 +21,18 @@ due_cmp a b = ordering_then (int_cmp a.due b.due) (nat_cmp a.job b.job)
 abbrev pub HasDue : SchedulingTask → DueJob → Type 0
 HasDue k e = e.due ≡ (job_data k e.job).due
 
--- a heap of jobs and their due dates, where the class has them
-pub record AreDue (k : SchedulingTask) (entries : List DueJob) : Type 0 where
+-- none of the entries is due later
+abbrev pub IsLatest : List DueJob → DueJob → Type 0
+IsLatest entries x = All (λ e. e.due ≤ℤ x.due) entries
+
+-- the jobs that were free from the beginning on are in order as soon as one was taken
+abbrev pub IsRising : Bool → List DueJob → Type 0
+IsRising begun first = begun ≡ true → IsSorted due_cmp first
+
+-- jobs and their due dates, where the class has them: those that were free from the beginning on,
+-- and a heap of those that followed
+pub record AreDue (k : SchedulingTask) (begun : Bool) (first later : List DueJob) : Type 0 where
   pub class : IsTrue (is_due k.class)
-  pub dues : All (HasDue k) entries
-  pub heap : IsHeap due_cmp entries
+  pub dues : All (HasDue k) (first ++ later)
+  pub rising : IsRising begun first
+  pub heap : IsHeap due_cmp later

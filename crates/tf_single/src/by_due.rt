@@ -1,8 +1,11 @@
 //! Free jobs by their due dates.
-ghost use Rattle.std.specs.Prelude.{◌≡◌, ℕ, [], IsTrue, IfOk};
-ghost use Rattle.std.specs.BinaryHeap.{heap_items};
+ghost use Rattle.std.specs.Prelude.{◌≡◌, ◌<◌, ◌-◌, ◌++◌, [], length, slice_index_or};
+ghost use Rattle.std.specs.Prelude.{true, false, IsTrue, IfOk};
+ghost use Rattle.std.specs.BinaryHeap.{heap_items, IsHeap};
+ghost use Rattle.std.specs.List.Sorted.{IsPermutation, IsSorted};
 ghost use Rattle.tf_model.specs.ClassTable.{is_due};
-ghost use Rattle.tf_single.specs.ByDue.{AreDue, jobs_due};
+ghost use Rattle.tf_single.specs.ByDue.{AreDue, IsRising, IsLatest, due_cmp, jobs_due};
+ghost use Rattle.tf_single.specs.declared.by_due.DueJob.{DueJob};
 
 use crate::free_jobs::FreeJobs;
 use std::alloc::Allocator;
@@ -19,13 +22,18 @@ struct DueJob {
 }
 
 /// Free jobs by their due dates: what is due last is the least late, whatever the work.
+///
+/// Those that are free before any is taken are sorted once; a heap takes those that follow.
 #[derive(Drop)]
 pub(crate) struct ByDue<A: Allocator> {
-    due: BinaryHeap<DueJob, A>,
+    // In rising order once the first job is taken.
+    first: Vec<DueJob, A>,
+    later: BinaryHeap<DueJob, A>,
+    has_begun: bool,
 }
 
-impl<A: Allocator> ByDue<A> {
-    ghost use Rattle.std.specs.Prelude.{◌≡◌, ℕ, [], IsTrue, IfOk};
+impl<A: Allocator + Copy> ByDue<A> {
+    ghost use Rattle.std.specs.Prelude.{◌≡◌, ◌++◌, [], IsTrue, IfOk};
     ghost use Rattle.std.specs.BinaryHeap.{heap_items};
     ghost use Rattle.tf_model.specs.ClassTable.{is_due};
     ghost use Rattle.tf_single.specs.ByDue.{AreDue, jobs_due};
@@ -33,36 +41,95 @@ impl<A: Allocator> ByDue<A> {
     /// No job is free.
     pub(crate) fn new<B: Allocator>(alloc: A, task: &Task<B>) -> Result<Self, OutOfMemory>
         requires { IsTrue (is_due task.now.class) }
-        ensures none { IfOk result (λ free. jobs_due (heap_items free.due) ≡ []) }
-        ensures kept { IfOk result (λ free. AreDue task.now (heap_items free.due)) }
+        ensures none { IfOk result (λ free.
+            jobs_due (free.first.items ++ heap_items free.later) ≡ []) }
+        ensures kept { IfOk result (λ free.
+            AreDue task.now free.has_begun free.first.items (heap_items free.later)) }
     {
         Ok(ByDue {
-            due: BinaryHeap::with_capacity(alloc, task.len())?,
+            first: Vec::with_capacity(alloc, task.len())?,
+            later: BinaryHeap::with_capacity(alloc, task.len())?,
+            has_begun: false,
         })
     }
 }
 
+impl<A: Allocator> ByDue<A> {
+    ghost use Rattle.std.specs.Prelude.{◌≡◌, ◌<◌, ◌-◌, ◌++◌, length, slice_index_or, true, false};
+    ghost use Rattle.std.specs.BinaryHeap.{heap_items, IsHeap};
+    ghost use Rattle.std.specs.List.Sorted.{IsPermutation, IsSorted};
+    ghost use Rattle.tf_single.specs.ByDue.{IsRising, IsLatest, due_cmp};
+    ghost use Rattle.tf_single.specs.declared.by_due.DueJob.{DueJob};
+
+    // From now on the jobs that become free follow.
+    fn begin(&mut self)
+        requires { IsRising self.old.has_begun self.old.first.items }
+        ensures begun { self.new.has_begun ≡ true }
+        ensures first { IsPermutation self.old.first.items self.new.first.items }
+        ensures rising { IsSorted due_cmp self.new.first.items }
+        ensures later { self.new.later ≡ self.old.later }
+    {
+        if !self.has_begun {
+            self.first.sort_unstable();
+            self.has_begun = true;
+        }
+    }
+
+    // Whether the last of the first jobs goes before the greatest of those that followed.
+    fn is_first_ahead(&self) -> bool
+        requires rising { IsSorted due_cmp self.now.first.items }
+        requires heap { IsHeap due_cmp (heap_items self.now.later) }
+        ensures first { result ≡ true → (0 < length self.now.first.items)
+            × ((d : DueJob) → IsLatest (self.now.first.items ++ heap_items self.now.later)
+            (slice_index_or self.now.first.items (length self.now.first.items - 1) d)) }
+        ensures later { result ≡ false
+            → 0 < length (self.now.first.items ++ heap_items self.now.later)
+            → (0 < length (heap_items self.now.later))
+            × ((d : DueJob) → IsLatest (self.now.first.items ++ heap_items self.now.later)
+            (slice_index_or (heap_items self.now.later) 0 d)) }
+    {
+        let Some(later) = self.later.peek() else {
+            return !self.first.is_empty();
+        };
+        let Some(first) = self.first.last() else {
+            return false;
+        };
+        later.cmp(first).is_lt()
+    }
+}
+
 impl<A: Allocator> FreeJobs for ByDue<A> {
+    ghost use Rattle.std.specs.Prelude.{◌++◌};
     ghost use Rattle.std.specs.BinaryHeap.{heap_items};
     ghost use Rattle.tf_single.specs.ByDue.{AreDue, jobs_due};
 
-    ghost jobs_of = { λ free. jobs_due (heap_items free.due) };
+    ghost jobs_of = { λ free. jobs_due (free.first.items ++ heap_items free.later) };
 
-    ghost IsKept = { λ free k _. AreDue k (heap_items free.due) };
+    ghost IsKept = { λ free k _.
+        AreDue k free.has_begun free.first.items (heap_items free.later) };
 
     fn is_empty(&self) -> bool {
-        self.due.is_empty()
+        self.first.is_empty() && self.later.is_empty()
     }
 
     fn add<B: Allocator>(&mut self, task: &Task<B>, job: JobId) -> Result<(), OutOfMemory> {
-        self.due.push(DueJob {
+        let entry = DueJob {
             due: task.due(job),
             job,
-        })?;
+        };
+        if self.has_begun {
+            self.later.push(entry)?;
+        } else {
+            self.first.push(entry)?;
+        }
         Ok(())
     }
 
     fn take_last<B: Allocator>(&mut self, _: &Task<B>, _: u64) -> JobId {
-        self.due.pop().unwrap().job
+        self.begin();
+        if self.is_first_ahead() {
+            return self.first.pop().unwrap().job;
+        }
+        self.later.pop().unwrap().job
     }
 }

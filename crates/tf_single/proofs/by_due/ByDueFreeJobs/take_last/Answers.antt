@@ -1,27 +1,97 @@
-use Rattle.std.proofs.Common.{List, ◌∷◌, subst}
-use Rattle.std.specs.BinaryHeap.{heap_items, PopsGreatest}
-use Rattle.std.specs.List.Sorted.{IsPermutation}
+use Rattle.std.proofs.Common.{◌≡◌, ◌<◌, ◌∙◌, List, [], ◌∷◌, ◌++◌, length, get_or, sym, ap, subst, arith}
+use Rattle.std.specs.BinaryHeap.{heap_items, IsHeap, PopsGreatest}
+use Rattle.std.specs.List.Sorted.{IsPermutation, IsSorted}
 use Rattle.std.specs.Option.{IfSome}
-use Rattle.std.proofs.lemmas.List.Sorted.{IsPermutation-map}
-use Rattle.tf_single.specs.ByDue.{due_cmp}
+use Rattle.tf_model.specs.SchedulingTask.{SchedulingTask}
+use Rattle.tf_single.specs.ByDue.{due_cmp, IsLatest}
 use Rattle.tf_single.specs.declared.by_due.DueJob.{DueJob}
-use Rattle.tf_single.proofs.ByDue.{due_cheapest, due_popped}
+use Rattle.tf_single.proofs.ByDue.{first_taken, later_taken, jobs_moved, latest_cheapest, others_due, sorted_front, last_of, popped_last, some_left}
 use Rattle.tf_single.proofs.by_due.ByDueFreeJobs.take_last.Goals as goal
+
+pub returns-then-is_first_ahead : goal.returns-then-is_first_ahead
+returns-then-is_first_ahead g c =
+    let k : SchedulingTask = c.args.arg2.now in
+    let first : List DueJob = c.args.self.now.first.items in
+    let later : List DueJob = heap_items c.args.self.now.later in
+    let sorted : List DueJob = c.begin.new.self.first.items in
+    let front : List DueJob = c.pop.new.self.items in
+    let x : DueJob = c.unwrap.result in
+    let is : sorted ≡ front ++ x ∷ [] =
+    popped_last sorted front c.pop.result x c.pop.ensures.items c.unwrap.ensures in
+    let latest : IsLatest (sorted ++ later) x =
+    subst (λ es. IsLatest (sorted ++ es) x) (ap heap_items c.begin.ensures.later)
+    (subst (IsLatest (sorted ++ heap_items c.begin.new.self.later)) (last_of sorted front x is)
+    ((c.is_first_ahead.ensures.first c.if-is_first_ahead.true).1 x)) in
+    let moved : IsPermutation (sorted ++ later) (x ∷ (front ++ later)) =
+    first_taken k c.args.self.now.has_begun first later sorted c.requires.kept
+    c.begin.ensures.first x front is in
+    rw (ap heap_items c.begin.ensures.later) (record {
+      jobs = jobs_moved k c.args.self.now.has_begun first later sorted c.requires.kept
+          c.begin.ensures.first x (front ++ later) moved latest;
+      cheapest = latest_cheapest k c.args.self.now.has_begun first later sorted c.requires.kept
+          c.begin.ensures.first x (front ++ later) moved latest c.args.arg3;
+      kept = λ end le. record {
+        class = c.requires.kept.class;
+        dues = others_due k c.args.self.now.has_begun first later sorted c.requires.kept
+            c.begin.ensures.first x (front ++ later) moved latest;
+        rising = λ yes. sorted_front front x (subst (IsSorted due_cmp) is c.begin.ensures.rising);
+        heap = c.requires.kept.heap;
+      };
+    })
+
+-- some job is left
+pub unwrap-requires-2 : goal.unwrap-requires-2
+unwrap-requires-2 g c =
+    let first : List DueJob = c.args.self.now.first.items in
+    let later : List DueJob = heap_items c.args.self.now.later in
+    let sorted : List DueJob = c.begin.new.self.first.items in
+    let later_now : List DueJob = heap_items c.begin.new.self.later in
+    let held : 0 < length (sorted ++ later_now) =
+    some_left first later sorted later_now c.requires.some c.begin.ensures.first
+    (ap heap_items c.begin.ensures.later) in
+    let some : 0 < length later_now =
+    (c.is_first_ahead.ensures.later c.if-is_first_ahead.false held).0 in
+    c.pop-2.ensures.variant.1 (omega (arith, some, c.begin.new.self.later.data.ok.0))
 
 pub returns : goal.returns
 returns g c =
-    let k = c.args.arg2.now in
-    let x : DueJob = c.unwrap.result in
-    let free : List DueJob = heap_items c.args.self.now.due in
-    let more : List DueJob = heap_items c.pop.new.self in
-    let moved : IsPermutation free (x ∷ more) =
-    subst (λ r. IfSome r (λ y. IsPermutation free (y ∷ more))) c.unwrap.ensures
-    c.pop.ensures.permutation in
-    let pops : PopsGreatest due_cmp free x more =
-    subst (λ r. IfSome r (λ y. PopsGreatest due_cmp free y more)) c.unwrap.ensures
-    c.pop.ensures.heap_order in
+    let k : SchedulingTask = c.args.arg2.now in
+    let first : List DueJob = c.args.self.now.first.items in
+    let later : List DueJob = heap_items c.args.self.now.later in
+    let sorted : List DueJob = c.begin.new.self.first.items in
+    let later_now : List DueJob = heap_items c.begin.new.self.later in
+    let more : List DueJob = heap_items c.pop-2.new.self in
+    let x : DueJob = c.unwrap-2.result in
+    let same : later_now ≡ later = ap heap_items c.begin.ensures.later in
+    let popped : IsPermutation later (x ∷ more) =
+    subst (λ es. IsPermutation es (x ∷ more)) same
+    (subst (λ r. IfSome r (λ y. IsPermutation later_now (y ∷ more))) c.unwrap-2.ensures
+    c.pop-2.ensures.permutation) in
+    let pops : PopsGreatest due_cmp later_now x more =
+    subst (λ r. IfSome r (λ y. PopsGreatest due_cmp later_now y more)) c.unwrap-2.ensures
+    c.pop-2.ensures.heap_order in
+    let top : x ≡ get_or later_now 0 x =
+    subst (λ r. IfSome r (λ y. y ≡ get_or later_now 0 y)) c.unwrap-2.ensures c.pop-2.ensures.top in
+    let held : 0 < length (sorted ++ later_now) =
+    some_left first later sorted later_now c.requires.some c.begin.ensures.first
+    (ap heap_items c.begin.ensures.later) in
+    let latest : IsLatest (sorted ++ later) x =
+    subst (λ es. IsLatest (sorted ++ es) x) same
+    (subst (IsLatest (sorted ++ later_now)) (sym top)
+    ((c.is_first_ahead.ensures.later c.if-is_first_ahead.false held).1 x)) in
+    let moved : IsPermutation (sorted ++ later) (x ∷ (sorted ++ more)) =
+    later_taken k c.args.self.now.has_begun first later sorted c.requires.kept
+    c.begin.ensures.first x more popped in
     record {
-      jobs = IsPermutation-map (λ (d : DueJob). d.job) free (x ∷ more) moved;
-      cheapest = due_cheapest k free c.requires.kept x more moved pops c.args.arg3;
-      kept = λ end le. due_popped k free c.requires.kept x more moved pops;
+      jobs = jobs_moved k c.args.self.now.has_begun first later sorted c.requires.kept
+          c.begin.ensures.first x (sorted ++ more) moved latest;
+      cheapest = latest_cheapest k c.args.self.now.has_begun first later sorted c.requires.kept
+          c.begin.ensures.first x (sorted ++ more) moved latest c.args.arg3;
+      kept = λ end le. record {
+        class = c.requires.kept.class;
+        dues = others_due k c.args.self.now.has_begun first later sorted c.requires.kept
+            c.begin.ensures.first x (sorted ++ more) moved latest;
+        rising = λ yes. c.begin.ensures.rising;
+        heap = (pops (subst (IsHeap due_cmp) (sym same) c.requires.kept.heap)).0;
+      };
     }
