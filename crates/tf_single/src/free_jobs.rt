@@ -6,8 +6,8 @@ use tf_model::task::Task;
 
 /// Jobs of those that are left of which each may go last, so that the cheapest for last is at hand.
 pub(crate) trait FreeJobs {
-    ghost use Rattle.std.specs.Prelude.{◌≡◌, ℕ, ◌<◌, ◌≤◌, ◌≤ℤ◌, true, false, List, [], ◌∷◌, length};
-    ghost use Rattle.std.specs.Prelude.{IfOk};
+    ghost use Rattle.std.specs.Prelude.{◌≡◌, ℕ, ◌<◌, ◌≤◌, ◌≤ℤ◌, true, false};
+    ghost use Rattle.std.specs.Prelude.{List, [], ◌∷◌, length, IfOk};
     ghost use Rattle.std.specs.List.{All, Contains};
     ghost use Rattle.std.specs.List.Sorted.{IsPermutation};
     ghost use Rattle.tf_model.specs.Cost.{price};
@@ -29,7 +29,8 @@ pub(crate) trait FreeJobs {
     fn add<B: Allocator>(&mut self, task: &Task<B>, job: JobId) -> Result<(), OutOfMemory>
         requires job { IsJob task.now job }
         requires kept { (work : ℕ) × IsKept self.old task.now work }
-        ensures jobs { IfOk result (λ _. IsPermutation (job ∷ jobs_of self.old) (jobs_of self.new)) }
+        ensures jobs { IfOk result (λ _.
+            IsPermutation (job ∷ jobs_of self.old) (jobs_of self.new)) }
         ensures kept { IfOk result (λ _. (work : ℕ) →
             IsKept self.old task.now work → IsKept self.new task.now work) };
 
