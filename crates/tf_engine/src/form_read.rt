@@ -6,11 +6,11 @@ ghost use Rattle.tf_engine.specs.Parts.{ReadsTo, instance_said, task_said};
 use crate::fault::RunFault;
 use std::alloc::Allocator;
 use std::io::Read;
-use tf_model::instance::Instance;
 use tf_model::prepare::prepare;
 use tf_model::problem::Problem;
 use tf_model::task::Task;
 use tf_read::flow_shop::FlowReader;
+use tf_read::instance_numbers::InstanceNumbers;
 use tf_read::job_table::read_table;
 use tf_read::table_task::table_task;
 use tf_read::weighted_tardiness::WtReader;
@@ -36,30 +36,32 @@ pub(crate) fn table_task_read<A: Allocator + Copy, R: Read>(
     Ok(prepare(alloc, &instance, problem, machines)?)
 }
 
-/// The instance of this number of a weighted tardiness file that the reader's text is.
+/// The numbers of the instance of this number of a weighted tardiness file that the reader's text
+/// is.
 pub(crate) fn wt_read<A: Allocator + Copy, R: Read>(
     alloc: A,
     jobs: u32,
     index: u32,
     reader: &mut Counted<R>,
-) -> Result<Instance<A>, RunFault<A>>
+) -> Result<InstanceNumbers<A>, RunFault<A>>
     ensures { ReadsTo (instance_said (InWt jobs index)) R.remaining reader.old reader.new result }
 {
     let mut wt = WtReader::new(alloc, jobs, index)?;
     drain(reader, &mut wt)?;
-    Ok(wt.finish()?)
+    Ok(wt.into_numbers()?)
 }
 
-/// The instance of this name of a flow shop file that the reader's text is, for a pair of machines.
+/// The numbers of the instance of this name of a flow shop file that the reader's text is, for a
+/// pair of machines.
 pub(crate) fn flow_read<A: Allocator + Copy, R: Read>(
     alloc: A,
     name: &[u8],
     pair: Option<(u32, u32)>,
     reader: &mut Counted<R>,
-) -> Result<Instance<A>, RunFault<A>>
+) -> Result<InstanceNumbers<A>, RunFault<A>>
     ensures { ReadsTo (instance_said (InFlow name.now pair)) R.remaining reader.old reader.new result }
 {
     let mut flow = FlowReader::new(alloc, name, pair);
     drain(reader, &mut flow)?;
-    Ok(flow.finish()?)
+    Ok(flow.into_numbers()?)
 }

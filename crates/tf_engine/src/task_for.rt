@@ -9,7 +9,7 @@ use crate::request::{Form, Request};
 use std::alloc::Allocator;
 use std::io::Read;
 use tf_model::class::class_of;
-use tf_model::prepare::{Refusal, prepare};
+use tf_model::prepare::Refusal;
 use tf_model::problem::Problem;
 use tf_model::task::Task;
 use tf_notation::reading::read;
@@ -38,12 +38,12 @@ pub fn task_read<A: Allocator + Copy, B: Allocator, R: Read>(
     match &request.form {
         Form::Table => table_task_read(alloc, problem, request.machines, reader),
         Form::Wt { jobs, index } => {
-            let instance = wt_read(alloc, *jobs, *index, reader)?;
-            Ok(prepare(alloc, &instance, problem, request.machines)?)
+            let numbers = wt_read(alloc, *jobs, *index, reader)?;
+            Ok(numbers.into_task(alloc, problem, request.machines)?)
         }
         Form::Flow { name, pair } => {
-            let instance = flow_read(alloc, name.as_str().as_bytes(), *pair, reader)?;
-            Ok(prepare(alloc, &instance, problem, request.machines)?)
+            let numbers = flow_read(alloc, name.as_str().as_bytes(), *pair, reader)?;
+            Ok(numbers.into_task(alloc, problem, request.machines)?)
         }
     }
 }

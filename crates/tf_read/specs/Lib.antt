@@ -15,6 +15,7 @@ pub mod Numbers
 pub mod WtReading
 pub mod WtReader
 pub mod Pairs
+pub mod InstanceNumbers
 pub mod PresentLine
 pub mod Heading
 pub mod Sizes

@@ -6,6 +6,7 @@ ghost use Rattle.tf_read.specs.FlowStage.{line_of};
 
 use crate::fault::ReadFault;
 use crate::flow_stage::{Stage, Wanted};
+use crate::instance_numbers::InstanceNumbers;
 use crate::length::Length;
 use std::alloc::{Allocator, Global};
 use tf_model::instance::Instance;
@@ -45,9 +46,10 @@ impl<'a, A: Allocator + Copy> FlowReader<'a, A> {
         }
     }
 
-    /// The instance that the text says, or its first fault, where no more is fed. It takes no
-    /// memory; a growth that was refused as the text was fed is [`ReadFault::OutOfMemory`].
-    pub fn finish(self) -> Result<Instance<A>, ReadFault>
+    /// The numbers of the instance that the text says, or its first fault, where no more is fed.
+    /// It takes no memory; a growth that was refused as the text was fed is
+    /// [`ReadFault::OutOfMemory`].
+    pub fn into_numbers(self) -> Result<InstanceNumbers<A>, ReadFault>
         ensures given { (says : TextSays) (fed : List ℕ) → HasFedShop self.entry says fed →
             Gives (λ i. i) result (says fed) }
         // A text that is too long comes before a growth that was refused.
@@ -57,7 +59,22 @@ impl<'a, A: Allocator + Copy> FlowReader<'a, A> {
         if self.length.is_too_long() {
             return Err(ReadFault::TooLong);
         }
-        self.stage.ended(self.alloc, &self.wanted)
+        self.stage.ended(&self.wanted)
+    }
+
+    /// The instance that the text says, or its first fault, as [`FlowReader::into_numbers`] gives
+    /// their numbers. It takes no memory.
+    pub fn finish(self) -> Result<Instance<A>, ReadFault>
+        ensures given { (says : TextSays) (fed : List ℕ) → HasFedShop self.entry says fed →
+            Gives (λ i. i) result (says fed) }
+        ensures too_long { (says : TextSays) (fed : List ℕ) → HasFedShop self.entry says fed →
+            most_bytes < length fed → result ≡ Err ReadFault.TooLong }
+    {
+        let alloc = self.alloc;
+        match self.into_numbers() {
+            Err(fault) => Err(fault),
+            Ok(numbers) => Ok(numbers.into_instance(alloc)),
+        }
     }
 }
 

@@ -10,11 +10,11 @@ ghost use Rattle.tf_read.specs.FlowStage.{line_of, WantsHeading, WantsSizes, Has
 
 use crate::fault::ReadFault;
 use crate::heading::HeadingLine;
+use crate::instance_numbers::InstanceNumbers;
 use crate::pairs::Pairs;
 use crate::sizes::{SizesLine, judged_sizes};
 use crate::word_feed::WordFeed;
 use std::alloc::Allocator;
-use tf_model::instance::Instance;
 use tf_words::line::line_len;
 
 /// Where the reading of a text stands.
@@ -208,15 +208,16 @@ impl<A: Allocator + Copy> Stage<A> {
         }
     }
 
-    /// The instance, where the text ends here, or the first fault. It takes no memory.
-    pub(crate) fn ended(self, alloc: A, wanted: &Wanted<'_>) -> Result<Instance<A>, ReadFault>
+    /// The numbers of the instance, where the text ends here, or the first fault. It takes no
+    /// memory.
+    pub(crate) fn ended(self, wanted: &Wanted<'_>) -> Result<InstanceNumbers<A>, ReadFault>
         ensures { (fed : List ℕ) → HasTakenShop wanted.now.name.now wanted.now.pair self fed →
             Gives (λ i. i) result (from_heading wanted.now.name.now wanted.now.pair 1 (lines fed)) }
     {
         match self {
             Stage::Heading(_, shown) => Err(without_sizes(wanted.name, shown)),
             Stage::Sizes(line, shown) => Err(without_pairs(wanted.pair, line, shown)),
-            Stage::Pairs(words) => words.ended().instance(alloc),
+            Stage::Pairs(words) => words.ended().whole(),
             Stage::Ended(fault) => Err(fault),
         }
     }

@@ -8,6 +8,7 @@ mod field;
 pub mod flow_shop;
 mod flow_stage;
 mod heading;
+pub mod instance_numbers;
 pub mod job_table;
 mod length;
 mod number;

@@ -5,16 +5,15 @@ ghost use Rattle.tf_model.specs.Limit.{most_jobs};
 ghost use Rattle.tf_read.specs.Said.{Says};
 ghost use Rattle.tf_words.specs.Scan.{IsInRange};
 ghost use Rattle.tf_read.specs.Numbers.{skipped, tardiness_wanted, tardiness_missing, with_number, AreInRange, ReadsTardiness};
-ghost use Rattle.tf_read.specs.WeightedTardiness.{tardiness_number_read, tardiness_job, instance_of};
+ghost use Rattle.tf_read.specs.WeightedTardiness.{tardiness_number_read, instance_of};
 
 use crate::fault::ReadFault;
+use crate::instance_numbers::{Columns, InstanceNumbers};
 use crate::number::{integer_of, natural_of};
-use crate::room::filled;
 use crate::word_feed::Judge;
 use std::alloc::{AllocError, Allocator};
 use std::marker::Model;
-use tf_model::instance::Instance;
-use tf_model::job::{Job, Times};
+use tf_model::job::Job;
 use tf_words::number::Number;
 
 /// The numbers of an instance so far, and the first fault among those up to its last one.
@@ -149,8 +148,8 @@ impl<A: Allocator> Numbers<A> {
         None
     }
 
-    /// The instance that the words of a text say. It takes no memory.
-    pub(crate) fn instance(self, alloc: A) -> Result<Instance<A>, ReadFault>
+    /// The numbers of the instance that the words of a text say. It takes no memory.
+    pub(crate) fn whole(self) -> Result<InstanceNumbers<A>, ReadFault>
         ensures { (says : Says) (seen : List Word) → ReadsTardiness self says seen →
             result ≡ says seen }
     {
@@ -163,9 +162,8 @@ impl<A: Allocator> Numbers<A> {
                     room,
                     ..
                 } = self;
-                let (count, numbers) = (jobs as usize, numbers.as_slice());
-                let jobs = filled(room, count, |j| job(count, numbers, j));
-                Ok(Instance::of(jobs, Vec::new(alloc), None))
+                let columns = Columns::Tardiness(numbers);
+                Ok(InstanceNumbers::of(columns, jobs as usize, None, room))
             }
         }
     }
@@ -184,19 +182,5 @@ impl<A: Allocator> Judge for Numbers<A> {
             Err(fault) => self.fault = Some(fault),
             Ok(value) => self.keep(value),
         }
-    }
-}
-
-fn job<A: Allocator>(jobs: usize, numbers: &[i64], j: usize) -> Job<A>
-    requires all { length numbers.now ≡ 3 * jobs }
-    requires there { j < jobs }
-    ensures { result ≡ tardiness_job jobs numbers.now j }
-{
-    Job {
-        times: Times::One(numbers[j]),
-        weight: Some(numbers[jobs + j]),
-        due: Some(numbers[2 * jobs + j]),
-        release: None,
-        cost: None,
     }
 }

@@ -6,16 +6,15 @@ ghost use Rattle.tf_read.specs.Faults.{natural};
 ghost use Rattle.tf_read.specs.Said.{Says};
 ghost use Rattle.tf_words.specs.Scan.{IsInRange};
 ghost use Rattle.tf_read.specs.FlowShop.{are_machines, machine_is, first_kept, second_kept, machines_kept, pairs_of};
-ghost use Rattle.tf_read.specs.Pairs.{ReadsShop, IsTime, AreTimes, after_name, after_time, kept_job, shop_missing};
+ghost use Rattle.tf_read.specs.Pairs.{ReadsShop, IsTime, AreTimes, after_name, after_time, shop_missing};
 
 use crate::fault::ReadFault;
+use crate::instance_numbers::{Columns, InstanceNumbers};
 use crate::number::natural_of;
-use crate::room::filled;
 use crate::word_feed::Judge;
 use std::alloc::{AllocError, Allocator};
 use std::marker::Model;
-use tf_model::instance::Instance;
-use tf_model::job::{Job, Times};
+use tf_model::job::Job;
 use tf_words::number::Number;
 
 /// The times of the jobs on two machines so far, and the first fault among the words up to the last
@@ -245,8 +244,8 @@ impl<A: Allocator> Pairs<A> {
         None
     }
 
-    /// The instance that the words of a text say. It takes no memory.
-    pub(crate) fn instance(self, alloc: A) -> Result<Instance<A>, ReadFault>
+    /// The numbers of the instance that the words of a text say. It takes no memory.
+    pub(crate) fn whole(self) -> Result<InstanceNumbers<A>, ReadFault>
         ensures { (says : Says) (seen : List Word) → ReadsShop self says seen → result ≡ says seen }
     {
         match self.missing() {
@@ -261,11 +260,9 @@ impl<A: Allocator> Pairs<A> {
                     room,
                     ..
                 } = self;
-                let firsts = firsts.as_slice();
-                let seconds = seconds.as_slice();
-                let jobs = filled(room, jobs, |j| job(machines, firsts, seconds, j));
+                let columns = Columns::Shop(machines, firsts, seconds);
                 let count = machine_count(machines, pair);
-                Ok(Instance::of(jobs, Vec::new(alloc), Some(count)))
+                Ok(InstanceNumbers::of(columns, jobs, Some(count), room))
             }
         }
     }
@@ -285,24 +282,6 @@ impl<A: Allocator> Judge for Pairs<A> {
         } else {
             self.name(line, number);
         }
-    }
-}
-
-fn job<A: Allocator>(machines: u32, firsts: &[i64], seconds: &[i64], j: usize) -> Job<A>
-    requires first { j < length firsts.now }
-    requires second { j < length seconds.now }
-    ensures { result ≡ kept_job machines firsts.now seconds.now j }
-{
-    Job {
-        times: if machines == 1 {
-            Times::One(firsts[j])
-        } else {
-            Times::Two(firsts[j], seconds[j])
-        },
-        weight: None,
-        due: None,
-        release: None,
-        cost: None,
     }
 }
 

@@ -6,6 +6,7 @@ ghost use Rattle.tf_read.specs.WeightedTardiness.{request_fault, weighted_tardin
 ghost use Rattle.tf_read.specs.WtReading.{line_in, HasTakenTardiness};
 
 use crate::fault::ReadFault;
+use crate::instance_numbers::InstanceNumbers;
 use crate::length::Length;
 use crate::numbers::Numbers;
 use crate::word_feed::WordFeed;
@@ -76,23 +77,36 @@ impl<A: Allocator + Copy> WtReader<A> {
         }
     }
 
-    /// The instance that the text says, or its first fault, where no more is fed. It takes no
-    /// memory.
-    pub fn finish(self) -> Result<Instance<A>, ReadFault>
+    /// The numbers of the instance that the text says, or its first fault, where no more is fed.
+    /// It takes no memory.
+    pub fn into_numbers(self) -> Result<InstanceNumbers<A>, ReadFault>
         ensures { (says : TextSays) (fed : List ℕ) → HasFedTardiness self says fed →
             result ≡ says fed }
     {
         let WtReader {
-            alloc,
             length,
             reading,
+            ..
         } = self;
         if length.is_too_long() {
             return Err(ReadFault::TooLong);
         }
         match reading {
             Err(fault) => Err(fault),
-            Ok(words) => words.ended().instance(alloc),
+            Ok(words) => words.ended().whole(),
+        }
+    }
+
+    /// The instance that the text says, or its first fault, where no more is fed. It takes no
+    /// memory.
+    pub fn finish(self) -> Result<Instance<A>, ReadFault>
+        ensures { (says : TextSays) (fed : List ℕ) → HasFedTardiness self says fed →
+            result ≡ says fed }
+    {
+        let alloc = self.alloc;
+        match self.into_numbers() {
+            Err(fault) => Err(fault),
+            Ok(numbers) => Ok(numbers.into_instance(alloc)),
         }
     }
 }

@@ -15,17 +15,17 @@ returns-in_err-drain g c =
     c.in_err-drain.ensures.device
     (c.drain.ensures.taken.bytes, c.drain.ensures.taken.at_most, c.drain.ensures.taken.given))
 
-pub returns-in_err-finish : goal.returns-in_err-finish
-returns-in_err-finish g c =
+pub returns-in_err-into_numbers : goal.returns-in_err-into_numbers
+returns-in_err-into_numbers g c =
     let drained = c.in_ok-drain.ensures.taken in
     err_is (ReadsTo (instance_said (InFlow c.args.name.now c.args.pair)) _ _ _) _ _
-    c.from_residual-in_err-finish.ensures.1
+    c.from_residual-in_err-into_numbers.ensures.1
     (reads_fails _ g.row.A.Denot _ (flow_shop c.args.name.now c.args.pair) _ _ _
     c.drain.ensures.counted drained.bytes
     drained.at_most drained.given drained.ended
     c.in_ok-drain.ensures.unfailed (too_long (InFlow c.args.name.now c.args.pair))
-    c.in_err-finish.field-0.0
-    (c.in_err-finish.ensures.given _ drained.bytes (drained.taken _ [] c.new-flow.ensures)))
+    c.in_err-into_numbers.field-0.0
+    (c.in_err-into_numbers.ensures.given _ drained.bytes (drained.taken _ [] c.new-flow.ensures)))
 
 pub returns : goal.returns
 returns g c =
@@ -34,5 +34,5 @@ returns g c =
     c.drain.ensures.counted drained.bytes
     drained.at_most drained.given drained.ended
     c.in_ok-drain.ensures.unfailed (too_long (InFlow c.args.name.now c.args.pair))
-    c.in_ok-finish.field-0
-    (c.in_ok-finish.ensures.given _ drained.bytes (drained.taken _ [] c.new-flow.ensures))
+    c.in_ok-into_numbers.field-0
+    (c.in_ok-into_numbers.ensures.given _ drained.bytes (drained.taken _ [] c.new-flow.ensures))

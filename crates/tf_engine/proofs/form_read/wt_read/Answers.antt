@@ -23,17 +23,17 @@ returns-in_err-drain g c =
     c.in_err-drain.ensures.device
     (c.drain.ensures.taken.bytes, c.drain.ensures.taken.at_most, c.drain.ensures.taken.given))
 
-pub returns-in_err-finish : goal.returns-in_err-finish
-returns-in_err-finish g c =
+pub returns-in_err-into_numbers : goal.returns-in_err-into_numbers
+returns-in_err-into_numbers g c =
     let drained = c.in_ok-drain.ensures.taken in
     err_is (ReadsTo (instance_said (InWt c.args.jobs c.args.index)) _ _ _) _ _
-    c.from_residual-in_err-finish.ensures.1
+    c.from_residual-in_err-into_numbers.ensures.1
     (reads_fault _ g.row.A.Denot _ (weighted_tardiness c.args.jobs c.args.index) _ _ _
     c.drain.ensures.counted drained.bytes
     drained.at_most drained.given drained.ended
     c.in_ok-drain.ensures.unfailed (too_long (InWt c.args.jobs c.args.index))
-    c.in_err-finish.field-0.0
-    (sym (c.in_err-finish.ensures _ drained.bytes (drained.taken _ [] c.in_ok-wt.ensures.given))))
+    c.in_err-into_numbers.field-0.0
+    (sym (c.in_err-into_numbers.ensures _ drained.bytes (drained.taken _ [] c.in_ok-wt.ensures.given))))
 
 pub returns : goal.returns
 returns g c =
@@ -41,5 +41,5 @@ returns g c =
     reads_value _ g.row.A.Denot _ (weighted_tardiness c.args.jobs c.args.index) _ _ _
     c.drain.ensures.counted drained.bytes
     drained.at_most drained.given drained.ended
-    c.in_ok-drain.ensures.unfailed (too_long (InWt c.args.jobs c.args.index)) c.in_ok-finish.field-0
-    (sym (c.in_ok-finish.ensures _ drained.bytes (drained.taken _ [] c.in_ok-wt.ensures.given)))
+    c.in_ok-drain.ensures.unfailed (too_long (InWt c.args.jobs c.args.index)) c.in_ok-into_numbers.field-0
+    (sym (c.in_ok-into_numbers.ensures _ drained.bytes (drained.taken _ [] c.in_ok-wt.ensures.given)))

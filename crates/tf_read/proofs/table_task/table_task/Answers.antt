@@ -1,4 +1,4 @@
-use Rattle.std.proofs.Common.{[], Ok, refl, sym, ◌≡◌}
+use Rattle.std.proofs.Common.{[], Ok, refl, ◌≡◌}
 use Rattle.tf_model.specs.InstanceData.{InstanceData}
 use Rattle.tf_model.specs.Prepare.{prepared}
 use Rattle.tf_read.proofs.BodyRead.{body_read, of_said}

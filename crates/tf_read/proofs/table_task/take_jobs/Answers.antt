@@ -1,4 +1,4 @@
-use Rattle.std.proofs.Common.{◌≡◌, ◌+◌, [], ◌∷◌, ◌++◌, length-append, refl, sym, ◌∙◌, arith}
+use Rattle.std.proofs.Common.{◌+◌, [], ◌∷◌, ◌++◌, length-append, refl, sym, ◌∙◌, arith}
 use Rattle.tf_words.specs.Lines.{word_lines_of}
 use Rattle.tf_model.proofs.TaskBuilder.{takes_none, takes_next}
 use Rattle.tf_read.specs.JobTable.{is_arc, job_line}

@@ -32,7 +32,7 @@ returns-in-Pairs g c = λ fed h.
     fed) c.in-Pairs.is h in
     let (first, says, behind, read, same) = taken in
     gives_exactly _ _
-    (c.instance.ensures says (words_from first (lines behind))
+    (c.whole.ensures says (words_from first (lines behind))
     (c.ended.ensures first says behind read)
     ∙ sym (pairs_outcome c.args.wanted.now.name.now c.args.wanted.now.pair c.in-Pairs.words fed
     taken))
