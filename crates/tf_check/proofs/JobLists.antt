@@ -2,7 +2,7 @@
 use Rattle.std.proofs.Common.{IsTrue, ◌&&◌, refl, map, fold, min, sum_by, All, ℤ, slice_index, Ok, ◌≡◌, ⊎_elim, ℕ, ◌+◌, ◌-◌, ◌≤◌, ◌<◌, Bool, true, false, not, ◌||◌, ◌==◌, cond, nat_lt, nat_le, List, [], ◌∷◌, ◌++◌, length, get_or, take, drop, set, Some, None, sym, ap, ◌∙◌, arith}
 use Rattle.std.proofs.lemmas.Bool.{and_from, and_parts, lt-ltb, le-leb, and_right, cases_eq, eq-eqb, ne_eqb}
 use Rattle.std.proofs.lemmas.Bool.Decides.{nat_tests}
-use Rattle.std.proofs.lemmas.List.{drop_more, take_more, map_more, length-set, get_or-set_same, get_or-set_other}
+use Rattle.std.proofs.lemmas.List.{drop_all, drop_more, take_more, map_more, length-set, get_or-set_same, get_or-set_other}
 use Rattle.std.proofs.lemmas.List.Sums.{fold_push}
 use Rattle.std.specs.Int.{int_max}
 use Rattle.tf_model.specs.Limit.{limit}
@@ -127,6 +127,12 @@ module _ (k : SchedulingTask) (xs : List ℕ) (i x : ℕ) (lt : i < length xs) (
 
 pub jobs_in_task : (k : SchedulingTask) (xs : List ℕ) → list_fault k [] xs ≡ None → All (IsJob k) xs
 jobs_in_task k xs none = (list_fault_says k [] xs none).0
+
+-- and when all has been judged
+pub judged_in_task : (k : SchedulingTask) (xs : List ℕ) (i : ℕ) → length xs ≤ i → IsJudged k xs i
+    → All (IsJob k) xs
+judged_in_task k xs i end judged =
+    jobs_in_task k xs (judged ∙ ap (list_fault k (take i xs)) (drop_all i xs end))
 
 -- the times of distinct jobs are within the total
 pub times_within : (k : SchedulingTask) → IsSound k → (xs : List ℕ) → list_fault k [] xs ≡ None

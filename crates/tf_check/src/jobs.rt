@@ -1,5 +1,5 @@
 //! Lists of jobs in certificates.
-ghost use Rattle.std.specs.Prelude.{◌≡◌, ◌⊎◌, [], None, Some, MatchResult};
+ghost use Rattle.std.specs.Prelude.{◌≡◌, ◌⊎◌, [], None, Some, IfOk, MatchResult};
 ghost use Rattle.std.specs.List.{All};
 ghost use Rattle.tf_model.specs.SchedulingTask.{IsJob};
 ghost use Rattle.tf_check.specs.Bound.{list_fault};
@@ -11,15 +11,17 @@ use std::alloc::Allocator;
 use tf_model::ids::JobId;
 use tf_model::task::Task;
 
-// The first job, from left to right, that the task does not have or that stood before, is the
-// fault.
+// Job by job of the task, whether it stands in the list. The first job, from left to right, that
+// the task does not have or that stood before, is the fault.
 pub(crate) fn judge_list<A: Allocator, B: Allocator>(
     alloc: A,
     task: &Task<B>,
     jobs: &[JobId],
-) -> Result<(), BoundFault>
-    ensures { MatchResult result (λ _. list_fault task.now [] jobs.now ≡ None)
+) -> Result<Vec<bool, A>, BoundFault>
+    ensures judged { MatchResult result (λ _. list_fault task.now [] jobs.now ≡ None)
         (λ fault. (fault ≡ OutOfMemory) ⊎ (list_fault task.now [] jobs.now ≡ Some fault)) }
+    ensures known { IfOk result (λ _. All (IsJob task.now) jobs.now) }
+    ensures marks { IfOk result (λ marks. AreMarks task.now marks.items jobs.now) }
 {
     let Ok(mut seen) = vec![in alloc; false; task.len()] else {
         return Err(BoundFault::OutOfMemory);
@@ -34,25 +36,5 @@ pub(crate) fn judge_list<A: Allocator, B: Allocator>(
         }
         seen[place] = true;
     }
-    Ok(())
-}
-
-// Job by job of the task, whether it stands in the list.
-pub(crate) fn marks_of<A: Allocator, B: Allocator>(
-    alloc: A,
-    task: &Task<B>,
-    jobs: &[JobId],
-) -> Result<Vec<bool, A>, BoundFault>
-    requires { All (IsJob task.now) jobs.now }
-    ensures { MatchResult result
-        (λ marks. AreMarks task.now marks.items jobs.now)
-        (λ fault. fault ≡ OutOfMemory) }
-{
-    let Ok(mut marks) = vec![in alloc; false; task.len()] else {
-        return Err(BoundFault::OutOfMemory);
-    };
-    for job in jobs {
-        marks[job.get() as usize - 1] = true;
-    }
-    Ok(marks)
+    Ok(seen)
 }

@@ -11,7 +11,7 @@ ghost use Rattle.tf_check.specs.declared.fault.BoundFault.TheVariants.{OutOfMemo
 
 use crate::evidence::Evidence;
 use crate::fault::BoundFault;
-use crate::jobs::{judge_list, marks_of};
+use crate::jobs::judge_list;
 use crate::kinds::takes_last_of;
 use crate::set_numbers::work_of;
 use std::alloc::{Allocator, Global};
@@ -36,7 +36,7 @@ impl<A: Allocator> Evidence for LastOf<A> {
 
     ghost law = { λ c k rows b sound is fits. last_of_law k c.jobs rows b sound is fits.broken };
 
-    /// It takes memory for three marks for each job of the task.
+    /// It takes memory for two marks for each job of the task.
     fn bound<B: Allocator + Copy, C: Allocator>(
         &self,
         alloc: B,
@@ -46,11 +46,10 @@ impl<A: Allocator> Evidence for LastOf<A> {
             return Err(BoundFault::OtherKind);
         }
         let jobs = self.jobs.as_slice();
-        judge_list(alloc, task, jobs)?;
+        let set = judge_list(alloc, task, jobs)?;
         if jobs.is_empty() {
             return Err(BoundFault::EmptySet);
         }
-        let set = marks_of(alloc, task, jobs)?;
         let followed = followed_by(alloc, task, jobs, &set)?;
         match cheapest_free(task, jobs, &followed, work_of(task, jobs)) {
             Some(value) => Ok(value),

@@ -9,7 +9,7 @@ ghost use Rattle.tf_check.specs.Free.{AreMarks};
 
 use crate::evidence::Evidence;
 use crate::fault::BoundFault;
-use crate::jobs::{judge_list, marks_of};
+use crate::jobs::judge_list;
 use crate::kinds::takes_split;
 use std::alloc::{Allocator, Global};
 use tf_model::ids::JobId;
@@ -38,7 +38,7 @@ impl<A: Allocator> Evidence for Split<A> {
     ghost law = { λ c k rows b sound is fits.
         split_law k c.side c.delta c.first rows b sound is fits.broken };
 
-    /// It takes memory for two marks for each job of the task.
+    /// It takes memory for a mark for each job of the task.
     fn bound<B: Allocator + Copy, C: Allocator>(
         &self,
         alloc: B,
@@ -48,8 +48,7 @@ impl<A: Allocator> Evidence for Split<A> {
             return Err(BoundFault::OtherKind);
         }
         let side = self.side.as_slice();
-        judge_list(alloc, task, side)?;
-        let marks = marks_of(alloc, task, side)?;
+        let marks = judge_list(alloc, task, side)?;
         if let Some(job) = self.first_off(task, &marks) {
             return Err(BoundFault::Condition(job));
         }

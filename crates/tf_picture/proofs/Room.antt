@@ -7,10 +7,10 @@ use Rattle.tf_schedule.specs.Piece.{as_time}
 use Rattle.tf_schedule.specs.Schedule.{IsPiece}
 use Rattle.tf_schedule.specs.Drawing.{greatest_stop}
 use Rattle.tf_schedule.proofs.Times.{sound_times}
-use Rattle.tf_picture.specs.Within.{IsWithin}
+use Rattle.tf_picture.specs.Within.{LiesWithin}
 
 -- a piece that stops by then is within
-within : (n : ℕ) (p : Piece) → IsPiece p → as_time p.stop ≤ n → IsWithin n p
+within : (n : ℕ) (p : Piece) → IsPiece p → as_time p.stop ≤ n → LiesWithin n p
 within n p sound stops = record {
   sound = sound;
   starts = omega (arith, sound_times p sound, stops);
@@ -19,9 +19,9 @@ within n p sound stops = record {
 
 -- all pieces are within the greatest stop
 pub all_within : (n : ℕ) (ps : List Piece) → All IsPiece ps → greatest_stop ps ≤ n
-    → All (IsWithin n) ps
+    → All (LiesWithin n) ps
 all_within n [] sound most = λ k d h. absurd (omega (arith, h))
 all_within n (p ∷ ps) sound most =
-    All-cons (IsWithin n) p ps
+    All-cons (LiesWithin n) p ps
     (within n p (All-head IsPiece p ps sound) (omega (arith, most)))
     (all_within n ps (All-tail IsPiece p ps sound) (omega (arith, most)))

@@ -5,7 +5,7 @@ use Rattle.tf_schedule.specs.Piece.{as_time}
 use Rattle.tf_schedule.specs.Schedule.{IsPiece}
 
 -- the piece starts and stops within so many time steps
-pub record IsWithin (length : ℕ) (p : Piece) : Type 0 where
+pub record LiesWithin (length : ℕ) (p : Piece) : Type 0 where
   pub sound : IsPiece p
   pub starts : as_time p.start ≤ length
   pub stops : as_time p.stop ≤ length

@@ -3,7 +3,7 @@ ghost use Rattle.std.specs.Prelude.{◌≡◌, ◌++◌, ◌≤◌, OnOk};
 ghost use Rattle.std.specs.List.{All, flat_map};
 ghost use Rattle.tf_schedule.specs.Schedule.{IsPiece};
 ghost use Rattle.tf_picture.specs.Picture.{fill, edge, told, place, bar, bar_if_shown, width};
-ghost use Rattle.tf_picture.specs.Within.{IsWithin};
+ghost use Rattle.tf_picture.specs.Within.{LiesWithin};
 
 use crate::frame::Frame;
 use crate::writing::push_part;
@@ -28,7 +28,7 @@ pub fn push_bars<A: Allocator>(
     frame: &Frame,
     pieces: &[Piece],
 ) -> Result<(), OutOfMemory>
-    requires { All (IsWithin frame.now.length) pieces.now }
+    requires { All (LiesWithin frame.now.length) pieces.now }
     ensures { OnOk result (text.new.items ≡ text.old.items
         ++ flat_map (bar_if_shown frame.now.machines frame.now.length) pieces.now) }
 {
@@ -43,7 +43,7 @@ fn push_if_shown<A: Allocator>(
     frame: &Frame,
     piece: &Piece,
 ) -> Result<(), OutOfMemory>
-    requires { IsWithin frame.now.length piece.now }
+    requires { LiesWithin frame.now.length piece.now }
     ensures { OnOk result (text.new.items ≡ text.old.items
         ++ bar_if_shown frame.now.machines frame.now.length piece.now) }
 {
@@ -58,7 +58,7 @@ fn push_bar<A: Allocator>(
     frame: &Frame,
     piece: &Piece,
 ) -> Result<(), OutOfMemory>
-    requires { IsWithin frame.now.length piece.now }
+    requires { LiesWithin frame.now.length piece.now }
     ensures { OnOk result (text.new.items
         ≡ text.old.items ++ bar frame.now.machines frame.now.length piece.now) }
 {
@@ -77,7 +77,7 @@ fn push_place<A: Allocator>(
     frame: &Frame,
     piece: &Piece,
 ) -> Result<(), OutOfMemory>
-    requires { IsWithin frame.now.length piece.now }
+    requires { LiesWithin frame.now.length piece.now }
     ensures { OnOk result (text.new.items
         ≡ text.old.items ++ place frame.now.machines frame.now.length piece.now) }
 {
@@ -89,7 +89,7 @@ fn push_place<A: Allocator>(
 
 /// How wide the bar of a piece is, to scale.
 pub fn width(frame: &Frame, piece: &Piece) -> u64
-    requires { IsWithin frame.now.length piece.now }
+    requires { LiesWithin frame.now.length piece.now }
     ensures value { result ≡ width frame.now.length piece.now }
 {
     let start = frame.across(piece.start as u64);

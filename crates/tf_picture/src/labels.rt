@@ -1,7 +1,7 @@
 //! The numbers in the bars.
 ghost use Rattle.std.specs.Prelude.{◌≤◌, OnOk};
 ghost use Rattle.std.specs.List.{All};
-ghost use Rattle.tf_picture.specs.Within.{IsWithin};
+ghost use Rattle.tf_picture.specs.Within.{LiesWithin};
 
 use crate::bars::width;
 use crate::frame::Frame;
@@ -17,7 +17,7 @@ pub fn push_labels<A: Allocator>(
     frame: &Frame,
     pieces: &[Piece],
 ) -> Result<(), OutOfMemory>
-    requires { All (IsWithin frame.now.length) pieces.now }
+    requires { All (LiesWithin frame.now.length) pieces.now }
 {
     for piece in pieces {
         if piece.machine.get() <= frame.machines && has_room(frame, piece) {
@@ -32,7 +32,7 @@ fn push_job<A: Allocator>(
     frame: &Frame,
     piece: &Piece,
 ) -> Result<(), OutOfMemory>
-    requires { IsWithin frame.now.length piece.now }
+    requires { LiesWithin frame.now.length piece.now }
 {
     let from = frame.across(piece.start as u64);
     let to = frame.across(piece.stop as u64);
@@ -42,7 +42,7 @@ fn push_job<A: Allocator>(
 
 // Whether the job's number is less wide than the bar.
 fn has_room(frame: &Frame, piece: &Piece) -> bool
-    requires { IsWithin frame.now.length piece.now }
+    requires { LiesWithin frame.now.length piece.now }
 {
     let mut digits = Buffer::new();
     let wide = digits.format(piece.job.get()).len() as u64 * frame.font() * 13 / 20 + 300;

@@ -3,7 +3,7 @@ ghost use Rattle.std.specs.Prelude.{IfOk};
 ghost use Rattle.std.specs.List.{All};
 ghost use Rattle.std.specs.List.Sorted.{IsPermutation};
 ghost use Rattle.tf_picture.specs.Picture.{IsPicture};
-ghost use Rattle.tf_picture.specs.Within.{IsWithin};
+ghost use Rattle.tf_picture.specs.Within.{LiesWithin};
 
 use crate::bars::push_bars;
 use crate::frame::Frame;
@@ -41,7 +41,7 @@ fn behind<A: Allocator>(
     frame: &Frame,
     pieces: &[Piece],
 ) -> Result<Vec<u8, A>, OutOfMemory>
-    requires { All (IsWithin frame.now.length) pieces.now }
+    requires { All (LiesWithin frame.now.length) pieces.now }
 {
     let mut text = Vec::from_slice(alloc, b"</g>\n<g text-anchor=\"middle\" font-size=\"")?;
     push_part(&mut text, b"", frame.font())?;

@@ -1,20 +1,15 @@
 //! `threefield` solves machine scheduling problems named in three-field notation.
 #![tactic(auto)]
 
-mod commands;
-mod evaluated;
-mod explained;
-mod options;
-mod report;
-mod source;
+mod files;
 
-use commands::perform;
-use options::{Asked, command, understand};
-use report::{say_device, say_memory, say_usage};
-use source::Files;
+use files::Files;
 use std::alloc::AllocError;
 use std::io;
 use std::process::ExitCode;
+use tf_command::commands::perform;
+use tf_command::options::{Asked, command, understand};
+use tf_command::report::{say_device, say_memory, say_usage};
 use tf_text::counted::Counted;
 
 fn main(rt: HostRuntime) -> ExitCode {

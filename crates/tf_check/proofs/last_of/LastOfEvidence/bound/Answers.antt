@@ -7,25 +7,13 @@ use Rattle.tf_model.specs.SchedulingTask.{SchedulingTask}
 use Rattle.tf_check.specs.Bound.{last_of_bound}
 use Rattle.tf_check.specs.Kinds.{takes_last_of}
 use Rattle.tf_check.proofs.Followed.{last_of_given}
-use Rattle.tf_check.proofs.JobLists.{jobs_in_task, times_within}
+use Rattle.tf_check.proofs.JobLists.{times_within}
 use Rattle.tf_check.proofs.last_of.LastOfEvidence.bound.Goals as goal
-
-pub marks_of-requires : goal.marks_of-requires
-marks_of-requires g c =
-    jobs_in_task c.args.task.now c.as_slice-jobs.result.now c.in_ok-judge_list.ensures
-
-pub work_of-requires-clause-known : goal.work_of-requires-clause-known
-work_of-requires-clause-known g c =
-    jobs_in_task c.args.task.now c.as_slice-jobs.result.now c.in_ok-judge_list.ensures
 
 pub work_of-requires-clause-work : goal.work_of-requires-clause-work
 work_of-requires-clause-work g c =
     times_within c.args.task.now c.class.ensures.sound c.as_slice-jobs.result.now
-    c.in_ok-judge_list.ensures
-
-pub cheapest_free-requires-clause-known : goal.cheapest_free-requires-clause-known
-cheapest_free-requires-clause-known g c =
-    jobs_in_task c.args.task.now c.as_slice-jobs.result.now c.in_ok-judge_list.ensures
+    c.in_ok-set.ensures.judged
 
 pub cheapest_free-requires-clause-end : goal.cheapest_free-requires-clause-end
 cheapest_free-requires-clause-end g c =
@@ -33,7 +21,7 @@ cheapest_free-requires-clause-end g c =
       arith,
       c.work_of.ensures,
       times_within c.args.task.now c.class.ensures.sound c.as_slice-jobs.result.now
-          c.in_ok-judge_list.ensures,
+          c.in_ok-set.ensures.judged,
     )
 
 pub returns-in-Some : goal.returns-in-Some
@@ -45,7 +33,7 @@ returns-in-Some g c =
     let some : 0 < length jobs = grind (arith, nat_tests) in
     let small : SFits w128 c.in-Some.value = search rules in
     let given : last_of_bound k jobs ≡ Ok c.in-Some.value =
-    last_of_given k jobs c.work_of.result c.in-Some.value class c.in_ok-judge_list.ensures some
+    last_of_given k jobs c.work_of.result c.in-Some.value class c.in_ok-set.ensures.judged some
     c.work_of.ensures (sym c.cheapest_free.ensures ∙ c.in-Some.is) in
     inl (ap Ok (to_z-of_z w128 c.in-Some.value small) ∙ sym given
     ∙ ap (last_of_bound k) c.as_slice-jobs.ensures)

@@ -1,17 +1,8 @@
 use Rattle.std.proofs.Common.{◌≡◌, true, sym, ap, subst, ◌∙◌, IsTrue}
 use Rattle.tf_model.specs.ClassTable.{is_sum}
 use Rattle.tf_check.specs.Kinds.{takes_ranks}
-use Rattle.tf_check.proofs.JobLists.{jobs_in_task}
 use Rattle.tf_check.proofs.RankedTimes.{ranks_within_listed, ranks_unweighted}
 use Rattle.tf_check.proofs.ranks.RanksEvidence.bound.Goals as goal
-
-pub first_longer-requires-clause-known : goal.first_longer-requires-clause-known
-first_longer-requires-clause-known g c =
-    jobs_in_task c.args.task.now c.as_slice-jobs.result.now c.in_ok-judge_list.ensures
-
-pub ranked_times-requires-clause-known : goal.ranked_times-requires-clause-known
-ranked_times-requires-clause-known g c =
-    jobs_in_task c.args.task.now c.as_slice-jobs.result.now c.in_ok-judge_list.ensures
 
 pub ranked_times-requires-clause-value : goal.ranked_times-requires-clause-value
 ranked_times-requires-clause-value g c =
@@ -23,4 +14,4 @@ ranked_times-requires-clause-value g c =
     subst (λ e. IsTrue (is_sum e)) c.class.ensures.class
     (c.takes_ranks.ensures.sum c.if-not-takes_ranks.false) in
     ranks_within_listed k c.class.ensures.sound sum
-    (ranks_unweighted k.class class) c.as_slice-jobs.result.now c.in_ok-judge_list.ensures
+    (ranks_unweighted k.class class) c.as_slice-jobs.result.now c.in_ok-judge_list.ensures.judged

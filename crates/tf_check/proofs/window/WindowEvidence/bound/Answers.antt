@@ -1,6 +1,6 @@
 use Rattle.std.proofs.Common.{◌≡◌, true, sym, ap, ◌∙◌}
 use Rattle.tf_check.specs.Kinds.{takes_window}
-use Rattle.tf_check.proofs.JobLists.{jobs_in_task, times_within, window_facts}
+use Rattle.tf_check.proofs.JobLists.{times_within, window_facts}
 use Rattle.tf_check.proofs.window.WindowEvidence.bound.Goals as goal
 
 pub span-requires-clause-due : goal.span-requires-clause-due
@@ -17,11 +17,7 @@ span-requires-clause-released g c =
     ∙ c.if-not-takes_window.false in
     (window_facts c.args.task.now.class is).1
 
-pub span-requires-clause-known : goal.span-requires-clause-known
-span-requires-clause-known g c =
-    jobs_in_task c.args.task.now c.as_slice-jobs.result.now c.in_ok-judge_list.ensures
-
 pub span-requires-clause-work : goal.span-requires-clause-work
 span-requires-clause-work g c =
     times_within c.args.task.now c.class.ensures.sound c.as_slice-jobs.result.now
-    c.in_ok-judge_list.ensures
+    c.in_ok-judge_list.ensures.judged

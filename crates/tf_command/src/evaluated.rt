@@ -1,6 +1,6 @@
 //! The command that tells how good an answer is.
-ghost use Rattle.threefield.specs.Asking.{requested};
-ghost use Rattle.threefield.specs.Ending.{EndsEvaluating, OverText};
+ghost use Rattle.tf_command.specs.Asking.{requested};
+ghost use Rattle.tf_command.specs.Ending.{EndsEvaluating, OverText};
 ghost use Rattle.std.specs.Prelude.{◌≡◌};
 ghost use Rattle.tf_text.specs.Counted.{use_of};
 

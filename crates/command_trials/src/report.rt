@@ -1,6 +1,7 @@
-use super::report;
+//! Faults, and the line and the exit status that each gets.
 use std::alloc::AllocError;
 use std::test::Fail;
+use tf_command::report::report;
 use tf_engine::fault::RunFault;
 use tf_model::ids::{JobId, MachineId};
 use tf_model::job_list::JobList;

@@ -2,7 +2,7 @@ use Rattle.std.proofs.Common.{Err}
 use Rattle.tf_text.specs.Counted.{inner_of}
 use Rattle.tf_engine.specs.declared.fault.RunFault.TheVariants.{OutOfMemory}
 use Rattle.tf_engine.proofs.Unread.{text_for}
-use Rattle.threefield.proofs.commands.check.Goals as goal
+use Rattle.tf_command.proofs.commands.check.Goals as goal
 
 pub returns-in_default : goal.returns-in_default
 returns-in_default g c =

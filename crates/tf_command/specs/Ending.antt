@@ -13,9 +13,9 @@ use Rattle.tf_picture.specs.Picture.{IsPicture}
 use Rattle.tf_evaluate.specs.declared.evaluation.Detail.{Detail}
 use Rattle.tf_evaluate.specs.declared.evaluation.Standing.{Standing}
 use Rattle.tf_evaluate.specs.RunEvaluating.{IsEvaluationOf}
-use Rattle.threefield.specs.declared.options.Drawing.{Drawing}
-use Rattle.threefield.specs.declared.options.Drawing.TheVariants.{Chart, Picture}
-use Rattle.threefield.specs.Statuses.{status_of, status_of_check, status_of_standing}
+use Rattle.tf_command.specs.declared.options.Drawing.{Drawing}
+use Rattle.tf_command.specs.declared.options.Drawing.TheVariants.{Chart, Picture}
+use Rattle.tf_command.specs.Statuses.{status_of, status_of_check, status_of_standing}
 
 -- after a run: 0 where it gave an answer, and otherwise the status of its fault
 abbrev pub status_of_run : {A : Type 0} → Result (Unit {0}) (RunFault A) → ℕ

@@ -1,11 +1,11 @@
 //! Whole command lines over texts in place of files: the status, what is written, and what is said.
-use super::perform;
-use crate::options::{Asked, command, understand};
-use crate::source::Sources;
 use std::alloc::AllocError;
 use std::io;
 use std::io::ErrorKind;
 use std::test::Fail;
+use tf_command::commands::perform;
+use tf_command::options::{Asked, command, understand};
+use tf_command::source::Sources;
 use tf_text::counted::Counted;
 
 /// Texts by their names.

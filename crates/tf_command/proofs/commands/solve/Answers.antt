@@ -2,20 +2,13 @@ use Rattle.std.proofs.Common.{Err}
 use Rattle.tf_text.specs.Counted.{inner_of}
 use Rattle.tf_engine.specs.declared.fault.RunFault.TheVariants.{OutOfMemory}
 use Rattle.tf_engine.proofs.Unread.{text_for}
-use Rattle.threefield.proofs.evaluated.evaluate.Goals as goal
+use Rattle.tf_command.proofs.commands.solve.Goals as goal
 
 pub returns-in_default : goal.returns-in_default
 returns-in_default g c =
     let (text, is) = text_for (g.R.Read.remaining (inner_of c.args.instance.now)) in
-    let (said, is_said) = text_for (g.S.Read.remaining (inner_of c.args.answer.now)) in
     record {
       run = Err OutOfMemory;
-      outcome = record {
-        text = text;
-        is_all = is;
-        answer_text = said;
-        is_whole_answer = is_said;
-        outcome = tt;
-      };
+      outcome = record { text = text; is_all = is; outcome = tt };
       ends = c.say_memory.ensures;
     }

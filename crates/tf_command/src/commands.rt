@@ -1,7 +1,7 @@
 //! The commands, over whatever gives and takes bytes.
-ghost use Rattle.threefield.specs.Asking.{requested};
-ghost use Rattle.threefield.specs.Columns.{HasWidth, IsSized};
-ghost use Rattle.threefield.specs.Ending.{EndsSolving, EndsChecking, EndsDrawing, OverText};
+ghost use Rattle.tf_command.specs.Asking.{requested};
+ghost use Rattle.tf_command.specs.Columns.{HasWidth, IsSized};
+ghost use Rattle.tf_command.specs.Ending.{EndsSolving, EndsChecking, EndsDrawing, OverText};
 ghost use Rattle.std.specs.Prelude.{◌≡◌};
 ghost use Rattle.tf_text.specs.Counted.{use_of};
 
@@ -410,11 +410,8 @@ fn gantt<R: Read, W: Write, E: Write>(
 }
 
 // What is to be said of the options.
-pub fn tell_idle<E: Write>(telling: Telling, errors: &mut Counted<E>) {
+pub(crate) fn tell_idle<E: Write>(telling: Telling, errors: &mut Counted<E>) {
     if let Some(text) = telling.idle {
         let _ = errors.push_all(text.as_bytes());
     }
 }
-
-#[cfg(test)]
-mod tests;

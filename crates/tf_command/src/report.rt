@@ -1,6 +1,6 @@
 //! What the program says of a run that gave no answer.
 ghost use Rattle.std.specs.Prelude.{◌≡◌};
-ghost use Rattle.threefield.specs.Statuses.{status_of, status_of_check, status_of_standing};
+ghost use Rattle.tf_command.specs.Statuses.{status_of, status_of_check, status_of_standing};
 
 use std::alloc::Allocator;
 use std::io::Write;
@@ -228,6 +228,3 @@ fn say_number<W: Write>(writer: &mut Counted<W>, number: u64) {
 fn say<W: Write>(writer: &mut Counted<W>, text: &str) {
     let _ = writer.push_all(text.as_bytes());
 }
-
-#[cfg(test)]
-mod tests;

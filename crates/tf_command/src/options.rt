@@ -1,9 +1,9 @@
 //! The command line.
 ghost use Rattle.std.specs.Prelude.{◌≡◌, ◌≤◌, IfOk, IfErr};
 ghost use Rattle.tf_engine.specs.FormData.{form_of};
-ghost use Rattle.threefield.specs.Asking.{form_asked, requested};
-ghost use Rattle.threefield.specs.Columns.{HasColumns};
-ghost use Rattle.threefield.specs.OptionNumber.{numeral_in};
+ghost use Rattle.tf_command.specs.Asking.{form_asked, requested};
+ghost use Rattle.tf_command.specs.Columns.{HasColumns};
+ghost use Rattle.tf_command.specs.OptionNumber.{numeral_in};
 
 use clap::error::ErrorKind;
 use clap::{Arg, ArgAction, ArgMatches, Command, Error};
@@ -531,6 +531,3 @@ fn refused<'a>(error: Error) -> Asked<'a>
         Asked::Help(error)
     }
 }
-
-#[cfg(test)]
-mod tests;

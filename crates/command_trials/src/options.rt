@@ -1,6 +1,7 @@
-use super::{Asked, Drawing, FormOption, Work, command, understand};
+//! Words of a command line, and what they ask for.
 use std::alloc::AllocError;
 use std::test::Fail;
+use tf_command::options::{Asked, Drawing, FormOption, Work, command, understand};
 use tf_text::answer::layout::Layout;
 
 fn ensure(is_so: bool, otherwise: &'static str) -> Result<(), Fail> {

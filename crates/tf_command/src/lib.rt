@@ -1,0 +1,10 @@
+//! The commands of `threefield`, over whatever gives and takes bytes: what a command line asks for,
+//! what is done, what is said of it, and the exit status.
+#![tactic(auto)]
+
+pub mod commands;
+mod evaluated;
+mod explained;
+pub mod options;
+pub mod report;
+pub mod source;
