@@ -63,20 +63,20 @@ pub fn solve<A: Allocator + Copy, B: Allocator>(
     ensures best { IfOk result (IsBestAnswer task.now) }
     ensures refused { IfErr result (IsNotSolved task.now) }
 {
-    answer_of(alloc, task, task.class())
+    // Each reader of a task says that it is sound, as the bounds ask.
+    let _class = task.class();
+    answer_of(alloc, task)
 }
 
 // The answer of the class's solver.
 fn answer_of<A: Allocator + Copy, B: Allocator>(
     alloc: A,
     task: &Task<B>,
-    class: Class,
 ) -> Result<Answer<A>, SolveFault<A>>
-    requires { class ≡ task.now.class }
     ensures accepted { IfOk result (IsAccepted task.now) }
     ensures refused { IfErr result (IsNotSolved task.now) }
 {
-    match class {
+    match task.class() {
         Class::WeightedSum | Class::PlainSum | Class::PrmpWeightedSum | Class::PrmpPlainSum => Ok(
             wspt(alloc, task)?,
         ),

@@ -12,5 +12,5 @@ if_ok_more P Q more (Err e) h = h
 pub returns-clause-best : goal.returns-clause-best
 returns-clause-best g c =
     if_ok_more (IsAccepted c.args.task.now) (IsBestAnswer c.args.task.now)
-    (λ a. accepted-best c.args.task.now a c.class.ensures.sound) c.answer_of.result
+    (λ a. accepted-best c.args.task.now a c.class-class.ensures.sound) c.answer_of.result
     c.answer_of.ensures.accepted
