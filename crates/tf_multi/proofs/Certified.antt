@@ -1,7 +1,7 @@
 -- Johnson's rule: the split at the turning place reaches the end of the line, and so the answer is
 -- accepted.
-use Rattle.std.proofs.Common.{IsTrue, ◌≡◌, ◌≢◌, ℕ, ◌+◌, ◌<◌, ◌≤◌, pos, true, false, Ok, List, length, get_or, take, drop, refl, sym, ap, subst, ◌∙◌, arith}
-use Rattle.std.specs.List.{All, AllPairs, sum_by}
+use Rattle.std.proofs.Common.{IsTrue, ◌≡◌, ◌≢◌, ℕ, ◌+◌, ◌<◌, ◌≤◌, pos, true, false, Ok, List, [], length, get_or, take, drop, refl, sym, ap, ◌∙◌, arith}
+use Rattle.std.specs.List.{AllPairs, sum_by}
 use Rattle.std.specs.List.Sorted.{IsPermutation}
 use Rattle.std.proofs.lemmas.Int.{ints}
 use Rattle.std.proofs.lemmas.List.{take-append-drop}
@@ -12,20 +12,23 @@ use Rattle.tf_model.specs.Limit.{limit}
 use Rattle.tf_model.specs.SchedulingTask.{SchedulingTask, all_jobs}
 use Rattle.tf_model.specs.Sound.{IsSound}
 use Rattle.tf_model.proofs.Classes.{flow_is_shop, shop_by_makespan}
-use Rattle.tf_schedule.specs.declared.piece.Piece.{Piece}
 use Rattle.tf_schedule.specs.declared.semi_active.Operation.{Operation}
 use Rattle.tf_schedule.specs.Drawing.{drawing, greatest_stop}
-use Rattle.tf_schedule.specs.Schedule.{ComesBefore, IsSchedule}
-use Rattle.tf_schedule.specs.SemiActive.{laid, IsOperation}
-use Rattle.tf_schedule.proofs.LaidFits.{IsListed, laid_cost, sorted_schedule}
+use Rattle.tf_schedule.specs.Schedule.{IsSchedule}
+use Rattle.tf_schedule.specs.SemiActive.{laid}
+use Rattle.tf_schedule.proofs.LaidFits.{IsListed, laid_cost}
+use Rattle.tf_schedule.proofs.Counting.{sum_by-map}
+use Rattle.tf_schedule.proofs.Laying.{stop_fold}
+use Rattle.tf_model.proofs.Sums.{sum_by-plus}
+use Rattle.std.proofs.lemmas.List.Sorted.{IsPermutation-refl, sum_by-IsPermutation}
 use Rattle.tf_check.specs.Accepted.{IsAccepted}
 use Rattle.tf_check.specs.Bound.{bound_by, split_bound}
 use Rattle.tf_check.specs.Claim.{Claim}
 use Rattle.tf_check.proofs.Given.{flow_takes_split}
 use Rattle.tf_check.proofs.LaidAccepted.{laid_accepted}
 use Rattle.tf_multi.specs.FlowShop.{MayPrecede, line_end}
-use Rattle.tf_multi.specs.TwoMachines.{time_at, routed}
-use Rattle.tf_multi.proofs.FlowShop.{Rises, flow_listed, flow_fits, flow_stop}
+use Rattle.tf_multi.specs.TwoMachines.{time_at, operation_of, on_machine, in_line}
+use Rattle.tf_multi.proofs.FlowShop.{ByMachine, flow_listed, flow_fits, flow_stop, flow_schedule}
 use Rattle.tf_multi.proofs.Numbers.{apart_in_order}
 use Rattle.tf_multi.proofs.Splitting.{split_first, split_second}
 use Rattle.tf_multi.proofs.Turning.{firsts, seconds}
@@ -96,33 +99,41 @@ module _ (task : SchedulingTask) (sound : IsSound task) (flow : IsTrue (is_flow 
   apart = apart_in_order task order whole
 
   abbrev os : List Operation
-  os = routed (time_at task) 1 2 order
+  os = in_line (time_at task) order
 
-  listed : IsListed Rises task os
+  listed : IsListed ByMachine task os
   listed = flow_listed task sound flow order whole apart
 
-  two : task.machines ≡ 2
-  two = sound.shop (flow_is_shop task.class flow)
+  -- the work on each machine is within the limit with what stands on the other
+  pub line_total : firsts (time_at task) order + seconds (time_at task) order ≤ limit
+  line_total = omega (
+    arith,
+    sum_by-plus (λ j. time_at task j 1) (λ j. time_at task j 2) order,
+    sum_by-IsPermutation (λ j. time_at task j 1 + time_at task j 2) (all_jobs task) order whole,
+    sound.total,
+  )
 
-  pub line_known : All (IsOperation (length task.jobs) 2) os
-  line_known = subst (λ m. All (IsOperation (length task.jobs) m) os) two listed.known
+  pub second_within : greatest_stop (laid (on_machine (time_at task) 1 order))
+      + seconds (time_at task) order ≤ limit
+  second_within = omega (
+    arith,
+    stop_fold (on_machine (time_at task) 1 order) [],
+    sum_by-map (λ o. o.time) (λ j. operation_of (time_at task) j 1) order,
+    line_total,
+  )
 
-  pub line_total : sum_by (λ o. o.time) os ≤ limit
-  line_total = listed.total
+  pub line_schedule : IsSchedule (laid os)
+  line_schedule = flow_schedule task sound flow order whole apart
 
-  module _ (qs : List Piece) (same : IsPermutation (laid os) qs) where
-    pub line_schedule : AllPairs ComesBefore qs → IsSchedule qs
-    line_schedule = sorted_schedule Rises task os sound listed qs same
-
-    -- a certificate that shows the end of the line
-    pub line_accepted : (v : ℕ) → v ≡ line_end (time_at task) 0 0 order → (claim : Claim)
-        → bound_by claim task ≡ Ok (pos v)
-        → IsAccepted task (record { pieces = qs; value = pos v; certificate = claim })
-    line_accepted v is claim bounded =
-        let stop = flow_stop task sound flow order whole apart in
-        let price : cost task (drawing task.machines (laid os)) ≡ pos (greatest_stop (laid os)) =
-        laid_cost Rises task os sound listed
-        (shop_by_makespan task.class (flow_is_shop task.class flow)) in
-        laid_accepted Rises task os sound listed qs same
-        (flow_fits task sound flow order whole apart) (pos v) claim bounded
-        (omega (arith, ints, price, stop, is))
+  -- a certificate that shows the end of the line
+  pub line_accepted : (v : ℕ) → v ≡ line_end (time_at task) 0 0 order → (claim : Claim)
+      → bound_by claim task ≡ Ok (pos v)
+      → IsAccepted task (record { pieces = laid os; value = pos v; certificate = claim })
+  line_accepted v is claim bounded =
+      let stop = flow_stop task sound flow order whole apart in
+      let price : cost task (drawing task.machines (laid os)) ≡ pos (greatest_stop (laid os)) =
+      laid_cost ByMachine task os sound listed
+      (shop_by_makespan task.class (flow_is_shop task.class flow)) in
+      laid_accepted ByMachine task os sound listed (laid os) (IsPermutation-refl (laid os))
+      (flow_fits task sound flow order whole apart) (pos v) claim bounded
+      (omega (arith, ints, price, stop, is))

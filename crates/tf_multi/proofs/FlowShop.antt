@@ -1,14 +1,15 @@
--- Jobs of a flow shop that are laid in an order, each on machine 1 and then on machine 2: the
+-- Jobs of a flow shop that are laid in an order, all on machine 1 and then all on machine 2: the
 -- timetable fits the task, and stops when the line of the jobs ends.
 use Rattle.std.proofs.Common.{IsTrue, ◌≡◌, ◌≢◌, ◌⊎◌, ℕ, zero, suc, ◌+◌, ◌<◌, ◌≤◌, cond, ◌&&◌, eqb, max, List, [], ◌∷◌, length, get_or, refl, sym, ap, ◌∙◌, arith, inl, inr}
 use Rattle.std.specs.List.{All, AllPairs, sum_by, fold}
 use Rattle.std.specs.List.Sorted.{IsPermutation}
 use Rattle.std.proofs.lemmas.Bool.{cases_eq, cases_lt}
 use Rattle.std.proofs.lemmas.Bool.Decides.{nat_tests}
-use Rattle.std.proofs.lemmas.List.Elements.{All-cons}
+use Rattle.std.proofs.lemmas.List.{get_or-map}
+use Rattle.std.proofs.lemmas.List.Elements.{All-map, All-head, All-tail, All-append}
 use Rattle.std.proofs.lemmas.List.Kept.{AllPairs-cons}
 use Rattle.std.proofs.lemmas.List.Sorted.{sum_by-IsPermutation, All-permutation}
-use Rattle.std.proofs.lemmas.List.Sums.{sum_by-cons}
+use Rattle.std.proofs.lemmas.List.Sums.{sum_by-cons, sum_by-append, fold-append}
 use Rattle.tf_model.specs.Limit.{limit}
 use Rattle.tf_model.proofs.Classes.{flow_is_shop}
 use Rattle.tf_model.specs.Feasible.{Fits}
@@ -17,19 +18,19 @@ use Rattle.tf_model.specs.ClassTable.{is_shop, is_flow}
 use Rattle.tf_model.specs.Sound.{IsSound}
 use Rattle.tf_model.proofs.Costs.{All-all_jobs}
 use Rattle.tf_schedule.specs.declared.piece.Piece.{Piece}
-use Rattle.tf_schedule.specs.Piece.{machine_of}
+use Rattle.tf_schedule.specs.Piece.{machine_of, job_of}
 use Rattle.tf_schedule.specs.Drawing.{drawing, greatest_stop}
-use Rattle.tf_schedule.proofs.Counting.{sum_by-same, sum_single_in}
+use Rattle.tf_schedule.proofs.Counting.{sum_by-same, sum_by-map, sum_single_in}
+use Rattle.tf_schedule.specs.Schedule.{IsSchedule}
+use Rattle.tf_model.proofs.Sums.{sum_by-plus}
 use Rattle.tf_schedule.proofs.Drawing.{greatest_stop_le}
 use Rattle.tf_schedule.specs.declared.semi_active.Operation.{Operation}
-use Rattle.tf_schedule.specs.SemiActive.{machine_stop, with_operation, laid, IsOperation}
+use Rattle.tf_schedule.specs.SemiActive.{machine_stop, job_stop, start_after, with_operation, laid, IsOperation}
 use Rattle.tf_multi.specs.FlowShop.{line_end}
-use Rattle.tf_multi.specs.TwoMachines.{time_at, operation_of, routed}
-use Rattle.tf_schedule.proofs.Laying.{Keeps, stop-le-line_stop}
-use Rattle.tf_multi.proofs.Fronts.{with_job, job_step, IsWaiting, still_waiting}
-use Rattle.tf_schedule.proofs.Parts.{AllPairs-head, AllPairs-tail}
-use Rattle.tf_multi.proofs.Routes.{All-routed, sum_routed}
-use Rattle.tf_schedule.proofs.LaidFits.{IsListed, is_laid, laid_fits_shop}
+use Rattle.tf_multi.specs.TwoMachines.{time_at, operation_of, on_machine, in_line}
+use Rattle.tf_schedule.proofs.Laying.{Keeps, stop-le-line_stop, line_stop-own, line_stop-other}
+use Rattle.tf_schedule.proofs.Parts.{AllPairs-head, AllPairs-tail, AllPairs-append}
+use Rattle.tf_schedule.proofs.LaidFits.{IsListed, is_laid, laid_fits_shop, laid_schedule}
 
 two_machines : ¬ (◌≡◌ {A = ℕ} 1 2)
 two_machines same = absurd (omega arith)
@@ -44,56 +45,151 @@ line_end-ge f e g (j ∷ js) le =
       sum_by-cons (λ i. f i 1) j js,
     )
 
--- what the machines do in line
-record IsLine (f : ℕ → ℕ → ℕ) (e g : ℕ) (js : List ℕ) (qs : List Piece) : Type 0 where
-  first : machine_stop qs 1 ≡ e + sum_by (λ j. f j 1) js
-  second : machine_stop qs 2 ≤ line_end f e g js
+-- ---- when the machines are free
 
-line_run : (f : ℕ → ℕ → ℕ) (js : List ℕ) (ps : List Piece) (e g : ℕ)
-    → IsWaiting f 1 2 two_machines ps js → machine_stop ps 1 ≡ e → machine_stop ps 2 ≤ g
-    → IsLine f e g js (fold with_operation ps (routed f 1 2 js))
-line_run f [] ps e g waiting at_first at_second = record { first = omega arith; second = at_second }
-line_run f (j ∷ js) ps e g waiting at_first at_second =
-    let step = job_step f 1 2 two_machines ps j (waiting.free zero j (omega arith)) in
-    let rest = line_run f js (with_job f 1 2 two_machines ps j) (e + f j 1)
-    (max (e + f j 1) g + f j 2)
-    (still_waiting f 1 2 two_machines ps (with_job f 1 2 two_machines ps j) j js step waiting)
-    (omega (arith, step.first)) (omega (arith, step.second_to)) in
-    record {
-      first = omega (arith, rest.first, sum_by-cons (λ i. f i 1) j js);
-      second =
-          rest.second;
-    }
+module _ (f : ℕ → ℕ → ℕ) where
+  -- the jobs are over by the ends of their times on machine 1, one after another from e on
+  abbrev IsReady : ℕ → List Piece → List ℕ → Type 0
+  IsReady e ps [] = Unit
+  IsReady e ps (j ∷ js) = (job_stop ps j ≤ e + f j 1) × IsReady (e + f j 1) ps js
 
--- no machine works past the end of the line
-pub line_stops : (f : ℕ → ℕ → ℕ) (js : List ℕ) → AllPairs (λ i j. i ≢ j) js
-    → (machine_stop (laid (routed f 1 2 js)) 1 ≤ line_end f 0 0 js) ×
-    (machine_stop (laid (routed f 1 2 js)) 2 ≤ line_end f 0 0 js)
-line_stops f js apart =
-    let line = line_run f js [] 0 0 (record { free = λ n d h. refl; apart = apart }) refl
-    (omega arith) in
-    (omega (arith, line.first, line_end-ge f 0 0 js (omega arith)), line.second)
+  ready-same : (e : ℕ) (ps qs : List Piece) (js : List ℕ)
+      → All (λ j. job_stop qs j ≡ job_stop ps j) js → IsReady e ps js → IsReady e qs js
+  ready-same e ps qs [] same ready = tt
+  ready-same e ps qs (j ∷ js) same ready = (
+    omega (arith, All-head (λ i. job_stop qs i ≡ job_stop ps i) j js same, ready.0),
+    ready-same (e + f j 1) ps qs js (All-tail (λ i. job_stop qs i ≡ job_stop ps i) j js same)
+        ready.1,
+  )
+
+  -- what jobs on machine 1 leave
+  record IsFirstRun (e : ℕ) (ps qs : List Piece) (js : List ℕ) : Type 0 where
+    first : machine_stop qs 1 ≡ e + sum_by (λ j. f j 1) js
+    second : machine_stop qs 2 ≡ machine_stop ps 2
+    ready : IsReady e qs js
+    others : (k : ℕ) → All (λ j. j ≢ k) js → job_stop qs k ≡ job_stop ps k
+
+  first_run : (js : List ℕ) (ps : List Piece) (e : ℕ) → All (λ j. job_stop ps j ≡ 0) js
+      → AllPairs (λ i j. i ≢ j) js → machine_stop ps 1 ≡ e
+      → IsFirstRun e ps (fold with_operation ps (on_machine f 1 js)) js
+  first_run [] ps e free apart at =
+      record { first = omega arith; second = refl; ready = tt; others = λ k other. refl }
+  first_run (j ∷ js) ps e free apart at =
+      let s = start_after ps (operation_of f j 1) in
+      let qs = with_operation ps (operation_of f j 1) in
+      let own = line_stop-own machine_of ps j 1 s (f j 1) 1 refl (omega arith) in
+      let own_job = line_stop-own job_of ps j 1 s (f j 1) j refl (omega arith) in
+      let here : job_stop ps j ≡ 0 = free zero j (omega arith) in
+      let differ = AllPairs-head (λ a b. a ≢ b) j js apart in
+      let rest = first_run js qs (e + f j 1)
+      (λ n d h. line_stop-other job_of ps j 1 s (f j 1) (get_or js n d) (differ n d h)
+      ∙ free (suc n) d (omega arith)) (AllPairs-tail (λ a b. a ≢ b) j js apart)
+      (omega (arith, own.0, own.1, at, here)) in
+      record {
+        first = omega (arith, rest.first, sum_by-cons (λ i. f i 1) j js);
+        second = rest.second ∙ line_stop-other machine_of ps j 1 s (f j 1) 2 two_machines;
+        ready = (
+          omega (
+            arith,
+            rest.others j (λ n d h e. differ n d h (sym e)),
+            own_job.1,
+            at,
+            here,
+          ),
+          rest.ready,
+        );
+        others = λ k other. rest.others k (All-tail (λ i. i ≢ k) j js other)
+            ∙ line_stop-other job_of ps j 1 s (f j 1) k (All-head (λ i. i ≢ k) j js other);
+      }
+
+  -- and then on machine 2
+  second_run : (js : List ℕ) (ps : List Piece) (e g : ℕ) → IsReady e ps js
+      → AllPairs (λ i j. i ≢ j) js → machine_stop ps 2 ≤ g
+      → (machine_stop (fold with_operation ps (on_machine f 2 js)) 1 ≡ machine_stop ps 1) ×
+      (machine_stop (fold with_operation ps (on_machine f 2 js)) 2 ≤ line_end f e g js)
+  second_run [] ps e g ready apart at = (refl, omega arith)
+  second_run (j ∷ js) ps e g ready apart at =
+      let s = start_after ps (operation_of f j 2) in
+      let qs = with_operation ps (operation_of f j 2) in
+      let own = line_stop-own machine_of ps j 2 s (f j 2) 2 refl (omega arith) in
+      let differ = AllPairs-head (λ a b. a ≢ b) j js apart in
+      let rest = second_run js qs (e + f j 1) (max (e + f j 1) g + f j 2)
+      (ready-same (e + f j 1) ps qs js
+      (λ n d h. line_stop-other job_of ps j 2 s (f j 2) (get_or js n d) (differ n d h)) ready.1)
+      (AllPairs-tail (λ a b. a ≢ b) j js apart) (omega (arith, own.1, ready.0, at)) in
+      (rest.0 ∙ line_stop-other machine_of ps j 2 s (f j 2) 1 (λ e. two_machines (sym e)), rest.1)
+
+  -- no machine works past the end of the line
+  line_stops : (js : List ℕ) → AllPairs (λ i j. i ≢ j) js
+      → (machine_stop (laid (in_line f js)) 1 ≤ line_end f 0 0 js) ×
+      (machine_stop (laid (in_line f js)) 2 ≤ line_end f 0 0 js)
+  line_stops js apart =
+      let one = first_run js [] 0 (λ n d h. refl) apart refl in
+      let two = second_run js (laid (on_machine f 1 js)) 0 0 one.ready apart
+      (omega (arith, one.second)) in
+      let whole = fold-append with_operation [] (on_machine f 1 js) (on_machine f 2 js) in (
+        omega (
+          arith,
+          ap (λ ps. machine_stop ps 1) whole,
+          two.0,
+          one.first,
+          line_end-ge f 0 0 js (omega arith),
+        ),
+        omega (arith, ap (λ ps. machine_stop ps 2) whole, two.1),
+      )
 
 -- ---- the order of the operations
 
--- of one job, machine 1 comes first
-abbrev pub Rises : ℕ → ℕ → ℕ → ℕ → Type 0
-Rises j i k h = j ≡ k → i < h
+-- by machine, and of one job machine 1 comes first
+abbrev pub ByMachine : ℕ → ℕ → ℕ → ℕ → Type 0
+ByMachine j i k h = (i ≤ h) × (j ≡ k → i < h)
 
-rises_routed : (f : ℕ → ℕ → ℕ) (js : List ℕ) → AllPairs (λ i j. i ≢ j) js
-    → AllPairs (Keeps Rises) (routed f 1 2 js)
-rises_routed f [] apart = λ i j d lt within. absurd (omega arith)
-rises_routed f (j ∷ js) apart =
-    let other = AllPairs-head (λ a b. a ≢ b) j js apart in
-    AllPairs-cons (Keeps Rises) (operation_of f j 1) (operation_of f j 2 ∷ routed f 1 2 js)
-    (All-cons (Keeps Rises (operation_of f j 1)) (operation_of f j 2) (routed f 1 2 js)
-    (λ e. omega arith)
-    (All-routed f 1 2 (Keeps Rises (operation_of f j 1)) js
-    (λ n d h. (λ e. absurd (other n d h e), λ e. absurd (other n d h e)))))
-    (AllPairs-cons (Keeps Rises) (operation_of f j 2) (routed f 1 2 js)
-    (All-routed f 1 2 (Keeps Rises (operation_of f j 2)) js
-    (λ n d h. (λ e. absurd (other n d h e), λ e. absurd (other n d h e))))
-    (rises_routed f js (AllPairs-tail (λ a b. a ≢ b) j js apart)))
+module _ (f : ℕ → ℕ → ℕ) where
+  -- the next operation on a machine
+  pub next_on : (i : ℕ) (js : List ℕ) (k job : ℕ) → k < length js → job ≡ get_or js k job
+      → operation_of f job i ≡ get_or (on_machine f i js) k (operation_of f job i)
+  next_on i js k job h is =
+      ap (λ j. operation_of f j i) is
+      ∙ sym (get_or-map (λ j. operation_of f j i) js k job (operation_of f job i) h)
+
+  -- what holds of both operations of each job
+  All-in_line : (P : Operation → Type 0) (js : List ℕ)
+      → All (λ j. P (operation_of f j 1) × P (operation_of f j 2)) js → All P (in_line f js)
+  All-in_line P js all =
+      All-append P (on_machine f 1 js) (on_machine f 2 js)
+      (All-map P (λ j. operation_of f j 1) js (λ n d h. (all n d h).0))
+      (All-map P (λ j. operation_of f j 2) js (λ n d h. (all n d h).1))
+
+  keeps_on : (i : ℕ) (js : List ℕ) → AllPairs (λ i j. i ≢ j) js
+      → AllPairs (Keeps ByMachine) (on_machine f i js)
+  keeps_on i [] apart = λ a b d lt within. absurd (omega arith)
+  keeps_on i (j ∷ js) apart =
+      let other = AllPairs-head (λ a b. a ≢ b) j js apart in
+      AllPairs-cons (Keeps ByMachine) (operation_of f j i) (on_machine f i js)
+      (All-map (Keeps ByMachine (operation_of f j i)) (λ k. operation_of f k i) js
+      (λ n d h. (omega arith, λ same. absurd (other n d h same))))
+      (keeps_on i js (AllPairs-tail (λ a b. a ≢ b) j js apart))
+
+  keeps_in_line : (js : List ℕ) → AllPairs (λ i j. i ≢ j) js
+      → AllPairs (Keeps ByMachine) (in_line f js)
+  keeps_in_line js apart =
+      AllPairs-append (Keeps ByMachine) (on_machine f 1 js) (on_machine f 2 js)
+      (keeps_on 1 js apart) (keeps_on 2 js apart)
+      (All-map (λ o. All (Keeps ByMachine o) (on_machine f 2 js)) (λ j. operation_of f j 1) js
+      (λ n d h. All-map (Keeps ByMachine (operation_of f (get_or js n d) 1))
+      (λ j. operation_of f j 2) js
+      (λ m c k. (omega arith, λ same. omega arith))))
+
+  -- a sum over the operations is one over the jobs
+  sum_in_line : (g : Operation → ℕ) (js : List ℕ)
+      → sum_by g (in_line f js) ≡ sum_by (λ j. g (operation_of f j 1) + g (operation_of f j 2)) js
+  sum_in_line g js = omega (
+    arith,
+    sum_by-append g (on_machine f 1 js) (on_machine f 2 js),
+    sum_by-map g (λ j. operation_of f j 1) js,
+    sum_by-map g (λ j. operation_of f j 2) js,
+    sum_by-plus (λ j. g (operation_of f j 1)) (λ j. g (operation_of f j 2)) js,
+  )
 
 -- what the operations of job i give to job j on machine 1 and on machine 2
 flow_term : (i j h p q t : ℕ) → (h ≡ 1 → i ≡ j → p ≡ t) → (h ≡ 2 → i ≡ j → q ≡ t)
@@ -112,7 +208,7 @@ module _ (task : SchedulingTask) (sound : IsSound task) (flow : IsTrue (is_flow 
     (order : List ℕ) (whole : IsPermutation (all_jobs task) order)
     (apart : AllPairs (λ i j. i ≢ j) order) where
   abbrev os : List Operation
-  os = routed (time_at task) 1 2 order
+  os = in_line (time_at task) order
 
   shop : IsTrue (is_shop task.class)
   shop = flow_is_shop task.class flow
@@ -121,7 +217,7 @@ module _ (task : SchedulingTask) (sound : IsSound task) (flow : IsTrue (is_flow 
   two = sound.shop shop
 
   pub flow_known : All (IsOperation (length task.jobs) task.machines) os
-  flow_known = All-routed (time_at task) 1 2 (IsOperation (length task.jobs) task.machines) order
+  flow_known = All-in_line (time_at task) (IsOperation (length task.jobs) task.machines) order
       (λ k d h.
       let job = All-permutation (IsJob task) (all_jobs task) order whole
       (All-all_jobs task (IsJob task) (λ j at. at)) k d h in (
@@ -129,13 +225,13 @@ module _ (task : SchedulingTask) (sound : IsSound task) (flow : IsTrue (is_flow 
         record { job = job; machine = (omega arith, omega (arith, two)) },
       ))
 
-  pub flow_keeps : AllPairs (Keeps Rises) os
-  flow_keeps = rises_routed (time_at task) order apart
+  pub flow_keeps : AllPairs (Keeps ByMachine) os
+  flow_keeps = keeps_in_line (time_at task) order apart
 
   pub flow_total : sum_by (λ o. o.time) os ≤ limit
   flow_total = omega (
     arith,
-    sum_routed (time_at task) 1 2 (λ o. o.time) order,
+    sum_in_line (time_at task) (λ o. o.time) order,
     sum_by-IsPermutation (λ j. time_at task j 1 + time_at task j 2) (all_jobs task) order whole,
     sound.total,
   )
@@ -143,7 +239,7 @@ module _ (task : SchedulingTask) (sound : IsSound task) (flow : IsTrue (is_flow 
   flow_work : (j i : ℕ) → IsJob task j → (i ≡ 1) ⊎ (i ≡ 2)
       → sum_by (λ o. cond (eqb o.job j && eqb o.machine i) o.time 0) os ≡ time_at task j i
   flow_work j i job on =
-      sum_routed (time_at task) 1 2 (λ o. cond (eqb o.job j && eqb o.machine i) o.time 0) order
+      sum_in_line (time_at task) (λ o. cond (eqb o.job j && eqb o.machine i) o.time 0) order
       ∙ sum_by-same (λ h. cond (eqb h j && eqb 1 i) (time_at task h 1) 0 + cond (eqb h j && eqb 2 i)
       (time_at task h 2) 0) (λ h. cond (eqb j h) (time_at task j i) 0)
       (λ h. flow_term h j i (time_at task h 1) (time_at task h 2) (time_at task j i)
@@ -158,9 +254,9 @@ module _ (task : SchedulingTask) (sound : IsSound task) (flow : IsTrue (is_flow 
   flow_times j (suc zero) job lt = flow_work j 2 job (inr refl)
   flow_times j (suc (suc i)) job lt = absurd (omega arith)
 
-  pub flow_listed : IsListed Rises task os
+  pub flow_listed : IsListed ByMachine task os
   flow_listed = record {
-    never = λ j i rises. omega (arith, rises refl);
+    never = λ j i before. omega (arith, before.1 refl);
     known = flow_known;
     keeps =
         flow_keeps;
@@ -168,12 +264,12 @@ module _ (task : SchedulingTask) (sound : IsSound task) (flow : IsTrue (is_flow 
   }
 
   pub flow_fits : Fits task (drawing task.machines (laid os))
-  flow_fits = laid_fits_shop Rises task os sound flow_listed shop flow_times
-      (λ _ j a b rises. rises refl)
+  flow_fits = laid_fits_shop ByMachine task os sound flow_listed shop flow_times
+      (λ _ j a b before. before.1 refl)
 
   pub flow_stop : greatest_stop (laid os) ≤ line_end (time_at task) 0 0 order
   flow_stop =
-      let laid_is = is_laid Rises task os sound flow_listed in
+      let laid_is = is_laid ByMachine task os sound flow_listed in
       let stops = line_stops (time_at task) order apart in
       greatest_stop_le (laid os) (line_end (time_at task) 0 0 order) (λ k d h.
       let p = laid_is.placed k d h in
@@ -190,3 +286,7 @@ module _ (task : SchedulingTask) (sound : IsSound task) (flow : IsTrue (is_flow 
           stops.1,
         )
       ])
+
+  pub flow_schedule : IsSchedule (laid os)
+  flow_schedule = laid_schedule ByMachine task os sound flow_listed (λ a b d lt within.
+      ((is_laid ByMachine task os sound flow_listed).apart a b d lt within).kept.0)

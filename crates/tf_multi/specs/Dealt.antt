@@ -1,7 +1,6 @@
 -- Jobs dealt round the machines.
-use Rattle.std.specs.Prelude.{◌≡◌, ℕ, ◌+◌, ◌%◌, List, [], ◌∷◌, reverse}
+use Rattle.std.specs.Prelude.{◌≡◌, List, reverse}
 use Rattle.tf_model.specs.SchedulingTask.{SchedulingTask}
-use Rattle.tf_schedule.specs.declared.semi_active.Operation.{Operation}
 use Rattle.tf_check.specs.declared.weighted_job.WeightedJob.{WeightedJob}
 use Rattle.tf_check.specs.Claim.{Claim, ByRanks}
 use Rattle.tf_check.specs.Ratio.{AreByRatio, jobs_of}

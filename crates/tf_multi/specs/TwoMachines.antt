@@ -1,5 +1,5 @@
 -- Shops with two machines, which count from 1: the operations of a job.
-use Rattle.std.specs.Prelude.{ℕ, ◌-◌, Bool, List, [], ◌∷◌, if◌then◌else◌}
+use Rattle.std.specs.Prelude.{ℕ, ◌-◌, Bool, List, [], ◌∷◌, ◌++◌, map, if◌then◌else◌}
 use Rattle.tf_model.specs.SchedulingTask.{SchedulingTask, time_on}
 use Rattle.tf_schedule.specs.declared.semi_active.Operation.{Operation}
 
@@ -22,3 +22,11 @@ operation_of f j i = record { job = j; machine = i; time = f j i }
 abbrev pub routed : (ℕ → ℕ → ℕ) → ℕ → ℕ → List ℕ → List Operation
 routed f x y [] = []
 routed f x y (j ∷ js) = operation_of f j x ∷ operation_of f j y ∷ routed f x y js
+
+-- the jobs one after another on machine i
+abbrev pub on_machine : (ℕ → ℕ → ℕ) → ℕ → List ℕ → List Operation
+on_machine f i js = map (λ j. operation_of f j i) js
+
+-- all jobs on machine 1, and then all of them on machine 2
+abbrev pub in_line : (ℕ → ℕ → ℕ) → List ℕ → List Operation
+in_line f js = on_machine f 1 js ++ on_machine f 2 js

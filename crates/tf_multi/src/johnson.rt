@@ -1,15 +1,18 @@
 //! Flow shops with two machines.
 ghost use Rattle.std.specs.Prelude.{◌≡◌, ◌+◌, ◌<◌, ◌≤◌, length, take, pos, Ok, IfOk, IsTrue};
-ghost use Rattle.std.specs.List.{All, AllPairs, sum_by};
+ghost use Rattle.std.specs.List.{All, AllPairs, fold, sum_by};
 ghost use Rattle.std.specs.List.Sorted.{IsPermutation};
 ghost use Rattle.tf_model.specs.ClassTable.{is_flow};
 ghost use Rattle.tf_model.specs.Limit.{limit};
 ghost use Rattle.tf_model.specs.SchedulingTask.{IsJob, all_jobs};
+ghost use Rattle.tf_model.specs.Sound.{IsSound};
+ghost use Rattle.tf_schedule.specs.Drawing.{greatest_stop};
 ghost use Rattle.tf_schedule.specs.Schedule.{IsSchedule};
+ghost use Rattle.tf_schedule.specs.SemiActive.{laid, with_operation};
 ghost use Rattle.tf_check.specs.Accepted.{IsAccepted};
 ghost use Rattle.tf_check.specs.Bound.{split_bound};
 ghost use Rattle.tf_multi.specs.FlowShop.{MayPrecede};
-ghost use Rattle.tf_multi.specs.TwoMachines.{time_at, routed};
+ghost use Rattle.tf_multi.specs.TwoMachines.{time_at, on_machine, in_line};
 
 mod order;
 mod turning;
@@ -21,13 +24,13 @@ use std::alloc::Allocator;
 use tf_check::answer::Answer;
 use tf_check::certificate::Certificate;
 use tf_check::split::Split;
-use tf_model::ids::JobId;
+use tf_model::ids::{JobId, MachineId};
 use tf_model::job_list::JobList;
 use tf_model::memory::OutOfMemory;
 use tf_model::task::Task;
-use tf_schedule::machine_order::by_machine;
+use tf_schedule::piece::Piece;
 use tf_schedule::piece_list::PieceList;
-use tf_schedule::semi_active::{Operation, semi_active};
+use tf_schedule::semi_active::SemiActive;
 
 /// A shortest timetable of a flow shop with two machines (Johnson 1954).
 ///
@@ -50,10 +53,7 @@ pub fn johnson<A: Allocator + Copy, B: Allocator>(
     ensures accepted { IfOk result (IsAccepted task.now) }
 {
     let order = johnson_order(alloc, task)?;
-    let operations = operations_in(alloc, task, &order)?;
-    let laid = semi_active(alloc, task.len(), 2, &operations)?;
-    drop(operations);
-    let pieces = by_machine(alloc, laid, 2)?;
+    let pieces = laid_in_line(alloc, task, &order)?;
     let turn = turning_place(task, &order);
     let split = split_at(alloc, task, &order, turn)?;
     Ok(Answer {
@@ -63,22 +63,46 @@ pub fn johnson<A: Allocator + Copy, B: Allocator>(
     })
 }
 
-// The operations of the jobs in this order, each on machine 1 and then on machine 2.
-fn operations_in<A: Allocator, B: Allocator>(
+// The pieces of the jobs in this order, of all of them on machine 1 and then on machine 2.
+fn laid_in_line<A: Allocator + Copy, B: Allocator>(
     alloc: A,
     task: &Task<B>,
     order: &[JobId],
-) -> Result<Vec<Operation, A>, OutOfMemory>
-    requires { All (IsJob task.now) order.now }
-    ensures { IfOk result (λ operations.
-        operations.items ≡ routed (time_at task.now) 1 2 order.now) }
+) -> Result<Vec<Piece, A>, OutOfMemory>
+    requires flow { IsTrue (is_flow task.now.class) }
+    requires order { IsPermutation (all_jobs task.now) order.now }
+    ensures laid { IfOk result (λ pieces.
+        pieces.items ≡ laid (in_line (time_at task.now) order.now)) }
+    ensures sound { IfOk result (λ _. IsSound task.now) }
 {
-    let mut operations = Vec::with_capacity(alloc, 2 * task.len())?;
+    let mut timetable = SemiActive::new(alloc, 2 * task.len(), task.len(), 2)?;
+    lay_on(&mut timetable, task, order, machine_of(true))?;
+    lay_on(&mut timetable, task, order, machine_of(false))?;
+    Ok(timetable.into_pieces())
+}
+
+// Lays the jobs on a machine, one after another.
+fn lay_on<A: Allocator + Copy, B: Allocator>(
+    timetable: &mut SemiActive<A>,
+    task: &Task<B>,
+    order: &[JobId],
+    machine: MachineId,
+) -> Result<(), OutOfMemory>
+    requires jobs { All (IsJob task.now) order.now }
+    requires all { length task.now.jobs ≤ timetable.old.jobs }
+    requires machine { (0 < machine) × (machine ≤ timetable.old.machines) }
+    requires within { greatest_stop timetable.old.pieces
+        + sum_by (λ j. time_at task.now j machine) order.now ≤ limit }
+    ensures pieces { IfOk result (λ _. timetable.new.pieces
+        ≡ fold with_operation timetable.old.pieces
+        (on_machine (time_at task.now) machine order.now)) }
+    ensures jobs { timetable.new.jobs ≡ timetable.old.jobs }
+    ensures machines { timetable.new.machines ≡ timetable.old.machines }
+{
     for job in order {
-        operations.push(operation(task, *job, machine_of(true)))?;
-        operations.push(operation(task, *job, machine_of(false)))?;
+        timetable.lay(operation(task, *job, machine))?;
     }
-    Ok(operations)
+    Ok(())
 }
 
 // The split at the place of a turn, whose bound is when the line of the jobs ends.

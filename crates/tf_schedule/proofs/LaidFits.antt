@@ -23,7 +23,7 @@ use Rattle.tf_schedule.proofs.Times.{sound_times, time_le_back}
 use Rattle.tf_schedule.specs.declared.semi_active.Operation.{Operation}
 use Rattle.tf_schedule.specs.SemiActive.{laid, IsOperation}
 use Rattle.tf_schedule.proofs.Laying.{IsLaid, Keeps, laid_apart, stop_fold, work_on_fold, work_fold}
-use Rattle.tf_schedule.proofs.Apart.{apart_none_twice, apart_jobs_once, apart_no_gap, apart_one_machine, apart_in_flow, apart_in_order}
+use Rattle.tf_schedule.proofs.Apart.{apart_none_twice, apart_jobs_once, apart_no_gap, apart_one_machine, apart_in_flow, apart_in_order, starts_apart}
 use Rattle.tf_schedule.proofs.Makespan.{cost-makespan}
 
 stop-le-greatest : (ps : List Piece) (k : ℕ) (d : Piece) → k < length ps
@@ -162,6 +162,24 @@ module _ (S : ℕ → ℕ → ℕ → ℕ → Type 0) (task : SchedulingTask) (o
       ∙ ap pos (makespan-drawing task.machines (length task.jobs) ps laid_none_twice
       laid_on_machines (λ k d h. sound_times (get_or ps k d) (laid_sound k d h))
       (λ k d h. (is_laid.placed k d h).job))
+
+  -- ---- operations that come by machine: their pieces make a schedule as they are laid
+  pub laid_schedule : AllPairs (λ p q. p.machine ≤ q.machine) ps → IsSchedule ps
+  laid_schedule by_machine = record {
+    sound = laid_sound;
+    none_twice = laid_none_twice;
+    in_order = λ a b d lt within. (
+      by_machine a b d lt within,
+      starts_apart S (get_or ps a d) (get_or ps b d) (laid_sound a d (omega arith))
+          (laid_sound b d within) (is_laid.apart a b d lt within),
+    );
+  }
+
+  pub one_machine_schedule : task.machines ≡ 1 → IsSchedule ps
+  one_machine_schedule one = laid_schedule (λ a b d lt within.
+      let first = laid_on_machines a d (omega arith) in
+      let second = laid_on_machines b d within in
+      omega (arith, first.1, second.0, one))
 
   -- ---- the pieces in another order
   module _ (qs : List Piece) (same : IsPermutation ps qs) where

@@ -1,11 +1,11 @@
 -- What the pieces of operations are that come one after another, whatever their order.
 use Rattle.std.proofs.Common.{◌≡◌, ◌≢◌, ℕ, zero, suc, ◌+◌, ◌-◌, ◌<◌, ◌≤◌, pos, ◌≤ℤ◌, ◌<ℤ◌, max, Bool, true, false, cond, ◌&&◌, eqb, List, [], ◌∷◌, ◌++◌, length, get_or, set, take, refl, sym, ap, subst, ◌∙◌, arith, inl, inr}
 use Rattle.std.specs.List.{All, AllPairs, sum_by, fold}
-use Rattle.std.proofs.lemmas.List.{append-nil, get_or-set_other, length-set}
+use Rattle.std.proofs.lemmas.List.{append-nil, get_or_default, get_or-set_other, length-set, take_more}
 use Rattle.std.proofs.lemmas.Grind.{get_or-set_at}
 use Rattle.std.proofs.lemmas.List.Elements.{All-push, All-tail, All-head}
 use Rattle.std.proofs.lemmas.List.Quantifiers.{all_pairs_push}
-use Rattle.std.proofs.lemmas.List.Sums.{sum_by-cons, sum_by_push, sum_by_more, sum_by-take-le}
+use Rattle.std.proofs.lemmas.List.Sums.{fold-append, sum_by-cons, sum_by_push, sum_by_more, sum_by-take-le}
 use Rattle.std.proofs.lemmas.Int.{ints}
 use Rattle.std.proofs.lemmas.Bool.{cases_eq}
 use Rattle.std.proofs.lemmas.Bool.Decides.{nat_tests}
@@ -268,17 +268,24 @@ stop_read line ps stops n k has same low high =
     let back : k - 1 + 1 ≡ n = omega arith in
     has (k - 1) (omega arith) ∙ ap (line_stop line ps) back
 
-pub start_is : (ps : List Piece) (frees readies : List ℕ) (o : Operation) (i j s : ℕ)
+-- where a and b are read from the lists
+pub start_is : (ps : List Piece) (frees readies : List ℕ) (o : Operation) (i j a b s : ℕ)
     → HasStopsBy machine_of ps frees → HasStopsBy job_of ps readies
     → IsOperation (length readies) (length frees) o → i ≡ o.machine → j ≡ o.job
-    → s ≡ max (get_or frees (i - 1) 0) (get_or readies (j - 1) 0) → s ≡ start_after ps o
-start_is ps frees readies o i j s machines jobs known is_machine is_job is =
+    → a ≡ get_or frees (i - 1) a → b ≡ get_or readies (j - 1) b → s ≡ max a b
+    → s ≡ start_after ps o
+start_is ps frees readies o i j a b s machines jobs known is_machine is_job is_a is_b is =
+    let machine = known.machine in
+    let job = known.job in
     omega (
       arith,
       is,
-      stop_read machine_of ps frees o.machine i machines is_machine known.machine.0
-          known.machine.1,
-      stop_read job_of ps readies o.job j jobs is_job known.job.0 known.job.1,
+      is_a,
+      is_b,
+      get_or_default frees (i - 1) a 0 (omega arith),
+      get_or_default readies (j - 1) b 0 (omega arith),
+      stop_read machine_of ps frees o.machine i machines is_machine machine.0 machine.1,
+      stop_read job_of ps readies o.job j jobs is_job job.0 job.1,
     )
 
 taken_step : (b : Bool) (g s x more : ℕ) → b ≡ true → more ≡ cond b (max g x) g → g ≤ s → x ≡ s
@@ -306,13 +313,23 @@ stops_more line ps stops p n k s has on same low high le stop h inside = elim (c
       (grind (arith, nat_tests)) (line_stop_push line ps p (h + 1)))
 ]
 
--- where the next operation stops
-pub laid_within : (os : List Operation) (i : ℕ) (d : Operation) → i < length os
-    → greatest_stop (laid (take i os)) + (get_or os i d).time ≤ sum_by (λ o. o.time) os
-laid_within os i d h =
+-- with the next operation
+pub fold_more : (os : List Operation) (ps : List Piece) (i : ℕ) (o : Operation) → i < length os
+    → o ≡ get_or os i o
+    → fold with_operation ps (take (i + 1) os)
+    ≡ with_operation (fold with_operation ps (take i os)) o
+fold_more os ps i o h is =
+    ap (fold with_operation ps) (take_more os i o h ∙ ap (λ z. take i os ++ z ∷ []) (sym is))
+    ∙ fold-append with_operation ps (take i os) (o ∷ [])
+
+-- where it stops
+pub fold_within : (os : List Operation) (ps : List Piece) (i : ℕ) (d : Operation) → i < length os
+    → greatest_stop (fold with_operation ps (take i os)) + (get_or os i d).time
+    ≤ greatest_stop ps + sum_by (λ o. o.time) os
+fold_within os ps i d h =
     omega (
       arith,
-      stop_fold (take i os) [],
+      stop_fold (take i os) ps,
       sum_by_more (λ o. o.time) os i d h,
       sum_by-take-le (λ (o : Operation). o.time) os (i + 1),
     )

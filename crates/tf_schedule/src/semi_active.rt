@@ -2,13 +2,11 @@
 ghost use Rattle.std.specs.Prelude.{◌≡◌, ℕ, ◌+◌, ◌<◌, ◌≤◌, length, max, IfOk};
 ghost use Rattle.std.specs.List.{All, sum_by};
 ghost use Rattle.tf_model.specs.Limit.{limit};
-ghost use Rattle.tf_schedule.specs.Piece.{machine_of, job_of};
-ghost use Rattle.tf_schedule.specs.Drawing.{greatest_stop};
-ghost use Rattle.tf_schedule.specs.SemiActive.{laid, with_operation, IsOperation};
-ghost use Rattle.tf_schedule.specs.Stops.{HasStopsBy};
+ghost use Rattle.tf_schedule.specs.SemiActive.{laid, IsOperation};
 
 use crate::piece::Piece;
 use std::alloc::Allocator;
+use std::marker::Model;
 use tf_model::ids::{JobId, MachineId};
 use tf_model::memory::OutOfMemory;
 
@@ -23,8 +21,89 @@ pub struct Operation {
 
 /// The pieces of operations that come one after another, each as soon as its machine and its job
 /// are free of those before it (a semi-active schedule, Pinedo, chapter 2), for jobs and machines
-/// up to the given numbers. An operation of time 0 has no piece and holds up none. Only want of
-/// memory is an error.
+/// up to the given numbers. An operation of time 0 has no piece and holds up none.
+#[derive(Drop)]
+pub struct SemiActive<A: Allocator> {
+    pieces: Vec<Piece, A>,
+    // The times from which the machines and the jobs are free.
+    machines_free: Vec<u64, A>,
+    jobs_free: Vec<u64, A>,
+}
+
+impl<A: Allocator> Model for SemiActive<A> {
+    ghost use Rattle.std.specs.Prelude.{length};
+    ghost use Rattle.tf_schedule.specs.Piece.{machine_of, job_of};
+    ghost use Rattle.tf_schedule.specs.SemiActive.{SemiActiveData};
+    ghost use Rattle.tf_schedule.specs.Stops.{HasStopsBy};
+
+    ghost Value = { SemiActiveData };
+
+    ghost view = { λ s. record {
+      pieces = s.pieces.items;
+      jobs = length s.jobs_free.items;
+      machines = length s.machines_free.items;
+    } };
+
+    ghost invariant = { λ s. record {
+      machines_free : HasStopsBy machine_of s.pieces.items s.machines_free.items;
+      jobs_free : HasStopsBy job_of s.pieces.items s.jobs_free.items;
+    } };
+}
+
+impl<A: Allocator + Copy> SemiActive<A> {
+    ghost use Rattle.std.specs.Prelude.{◌≡◌, [], ◌+◌, ◌≤◌, IfOk};
+    ghost use Rattle.tf_model.specs.Limit.{limit};
+    ghost use Rattle.tf_schedule.specs.Drawing.{greatest_stop};
+    ghost use Rattle.tf_schedule.specs.SemiActive.{with_operation, IsOperation};
+
+    /// No piece yet, with room for so many operations. Only want of memory is an error.
+    pub fn new(
+        alloc: A,
+        operations: usize,
+        jobs: usize,
+        machines: usize,
+    ) -> Result<Self, OutOfMemory>
+        ensures { IfOk result (λ s. s ≡ record { pieces = []; jobs = jobs; machines = machines }) }
+    {
+        Ok(SemiActive {
+            pieces: Vec::with_capacity(alloc, operations)?,
+            machines_free: vec![in alloc; 0u64; machines]?,
+            jobs_free: vec![in alloc; 0u64; jobs]?,
+        })
+    }
+
+    /// Lays one more operation behind those that are there. Only want of memory is an error.
+    pub fn lay(&mut self, operation: Operation) -> Result<(), OutOfMemory>
+        requires known { IsOperation self.old.jobs self.old.machines operation }
+        requires within { greatest_stop self.old.pieces + operation.time ≤ limit }
+        ensures pieces { IfOk result (λ _.
+            self.new.pieces ≡ with_operation self.old.pieces operation) }
+        ensures jobs { self.new.jobs ≡ self.old.jobs }
+        ensures machines { self.new.machines ≡ self.old.machines }
+    {
+        if operation.time == 0 {
+            return Ok(());
+        }
+        let machine = operation.machine.get() as usize - 1;
+        let job = operation.job.get() as usize - 1;
+        let start = self.machines_free[machine].max(self.jobs_free[job]);
+        let stop = start + operation.time;
+        let piece = Piece::of(operation.job, operation.machine, start, stop);
+        self.pieces.push(piece)?;
+        self.machines_free[machine] = stop;
+        self.jobs_free[job] = stop;
+        Ok(())
+    }
+
+    /// The pieces, in the order in which they were laid.
+    pub fn into_pieces(self) -> Vec<Piece, A>
+        ensures { result.items ≡ self.pieces }
+    {
+        self.pieces
+    }
+}
+
+/// The pieces of these operations in their order. Only want of memory is an error.
 pub fn semi_active<A: Allocator + Copy>(
     alloc: A,
     jobs: usize,
@@ -35,40 +114,9 @@ pub fn semi_active<A: Allocator + Copy>(
     requires total { sum_by (λ o. o.time) operations.now ≤ limit }
     ensures { IfOk result (λ pieces. pieces.items ≡ laid operations.now) }
 {
-    let mut pieces = Vec::with_capacity(alloc, operations.len())?;
-    let mut machines_free = vec![in alloc; 0u64; machines]?;
-    let mut jobs_free = vec![in alloc; 0u64; jobs]?;
+    let mut timetable = SemiActive::new(alloc, operations.len(), jobs, machines)?;
     for operation in operations {
-        place(&mut pieces, &mut machines_free, &mut jobs_free, *operation)?;
+        timetable.lay(*operation)?;
     }
-    Ok(pieces)
-}
-
-// One more operation, behind the pieces that are there.
-fn place<A: Allocator>(
-    pieces: &mut Vec<Piece, A>,
-    machines_free: &mut [u64],
-    jobs_free: &mut [u64],
-    operation: Operation,
-) -> Result<(), OutOfMemory>
-    requires known { IsOperation (length jobs_free.old) (length machines_free.old) operation }
-    requires machines { HasStopsBy machine_of pieces.old.items machines_free.old }
-    requires jobs { HasStopsBy job_of pieces.old.items jobs_free.old }
-    requires within { greatest_stop pieces.old.items + operation.time ≤ limit }
-    ensures pieces { IfOk result (λ _.
-        pieces.new.items ≡ with_operation pieces.old.items operation) }
-    ensures machines { IfOk result (λ _. HasStopsBy machine_of pieces.new.items machines_free.new) }
-    ensures jobs { IfOk result (λ _. HasStopsBy job_of pieces.new.items jobs_free.new) }
-{
-    if operation.time == 0 {
-        return Ok(());
-    }
-    let machine = operation.machine.get() as usize - 1;
-    let job = operation.job.get() as usize - 1;
-    let start = machines_free[machine].max(jobs_free[job]);
-    let stop = start + operation.time;
-    pieces.push(Piece::of(operation.job, operation.machine, start, stop))?;
-    machines_free[machine] = stop;
-    jobs_free[job] = stop;
-    Ok(())
+    Ok(timetable.into_pieces())
 }

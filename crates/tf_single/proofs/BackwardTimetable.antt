@@ -24,9 +24,8 @@ use Rattle.tf_schedule.specs.Piece.{job_of}
 use Rattle.tf_schedule.specs.Schedule.{IsSchedule}
 use Rattle.tf_schedule.specs.Drawing.{drawing, greatest_stop}
 use Rattle.tf_schedule.specs.SemiActive.{laid, with_operation, start_after, job_stop, IsOperation}
-use Rattle.tf_schedule.proofs.Apart.{starts_apart}
 use Rattle.tf_schedule.proofs.Drawing.{completion-drawing}
-use Rattle.tf_schedule.proofs.LaidFits.{IsListed, is_laid, laid_sound, laid_none_twice, laid_on_machines, laid_fits_plain}
+use Rattle.tf_schedule.proofs.LaidFits.{IsListed, laid_sound, laid_none_twice, laid_on_machines, laid_fits_plain, one_machine_schedule}
 use Rattle.tf_schedule.proofs.Laying.{Keeps, stop_fold, line_stop-other, line_stop-le-greatest}
 use Rattle.tf_schedule.proofs.OneOperation.{job_stop_is}
 use Rattle.tf_schedule.proofs.Parts.{AllPairs-append}
@@ -248,26 +247,7 @@ module _ (k : SchedulingTask) (order : List ℕ) (chosen : AreChosen k order) wh
     -- the pieces come in order of time
     pub chosen_schedule : IsSchedule (laid (backward k order))
     chosen_schedule =
-        let S = RunsBefore k in
-        let ps : List Piece = laid (backward k order) in
-        let laying = is_laid S k (backward k order) sound listed in
-        let whole = laid_sound S k (backward k order) sound listed in
-        record {
-          sound = whole;
-          none_twice = laid_none_twice S k (backward k order) sound listed;
-          in_order = λ a b d lt within.
-              let p : Piece = get_or ps a d in
-              let q : Piece = get_or ps b d in
-              let on = laid_on_machines S k (backward k order) sound listed in
-              let first = on a d (omega arith) in
-              let second = on b d within in
-              let same : p.machine ≡ q.machine =
-              omega (arith, first.0, first.1, second.0, second.1, one_machine) in (
-                omega (arith, same),
-                λ _. starts_apart S p q (whole a d (omega arith)) (whole b d within)
-                    (laying.apart a b d lt within) same,
-              );
-        }
+        one_machine_schedule (RunsBefore k) k (backward k order) sound listed one_machine
 
     -- the work of those that are left at a place is that of the jobs from the place on
     pub work_left : (i : ℕ)

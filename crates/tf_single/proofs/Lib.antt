@@ -18,4 +18,4 @@ pub mod Found
 pub mod Taking
 pub mod TaskCosts
 pub mod ByDue
-pub mod KeptLevels
+pub mod Cheapest

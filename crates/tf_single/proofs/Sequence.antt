@@ -1,7 +1,7 @@
 -- The jobs in their order by ratio, one after another on machine 1: the timetable fits, it costs at
 -- most the bound by pairs, and its
 -- pieces come in order of time.
-use Rattle.std.proofs.Common.{◌≡◌, ℕ, ◌+◌, ◌*◌, ◌<◌, ◌≤◌, ◌≤ℤ◌, pos, List, [], ◌∷◌, length, get_or, map, Ok, refl, sym, ap, subst, ◌∙◌, arith, IsTrue}
+use Rattle.std.proofs.Common.{◌≡◌, ℕ, ◌+◌, ◌*◌, ◌<◌, ◌≤◌, ◌≤ℤ◌, pos, List, [], ◌∷◌, length, map, Ok, refl, sym, ap, subst, ◌∙◌, arith, IsTrue}
 use Rattle.std.specs.List.{All, sum_by}
 use Rattle.std.specs.List.Sorted.{IsPermutation}
 use Rattle.std.proofs.lemmas.List.Elements.{All-head, All-tail, All-map}
@@ -16,8 +16,7 @@ use Rattle.tf_schedule.specs.declared.semi_active.Operation.{Operation}
 use Rattle.tf_schedule.specs.Drawing.{drawing}
 use Rattle.tf_schedule.specs.Schedule.{IsSchedule}
 use Rattle.tf_schedule.specs.SemiActive.{laid, IsOperation}
-use Rattle.tf_schedule.proofs.Apart.{starts_apart}
-use Rattle.tf_schedule.proofs.LaidFits.{is_laid, laid_sound, laid_none_twice, laid_on_machines}
+use Rattle.tf_schedule.proofs.LaidFits.{one_machine_schedule}
 use Rattle.tf_schedule.proofs.OneOperation.{jobs_of, IsOneEach, OtherJob, front_after, weighted_ends, one_listed, one_fits, one_cost}
 use Rattle.tf_check.specs.declared.weighted_job.WeightedJob.{WeightedJob}
 use Rattle.tf_check.specs.Accepted.{IsAccepted}
@@ -73,25 +72,8 @@ module _ (k : SchedulingTask) (xs : List WeightedJob) (sound : IsSound k)
       (one_cost k os sound sequence_each (total k.class sum)))
 
   pub sequence_schedule : IsSchedule (laid os)
-  sequence_schedule =
-      let listed = one_listed k os sound sequence_each in
-      let on_one = laid_on_machines OtherJob k os sound listed in
-      record {
-        sound = laid_sound OtherJob k os sound listed;
-        none_twice = laid_none_twice OtherJob k os sound listed;
-        in_order = λ a b d lt within.
-            let p = get_or (laid os) a d in
-            let q = get_or (laid os) b d in
-            let p_on = on_one a d (omega arith) in
-            let q_on = on_one b d within in (
-              omega (arith, p_on.1, q_on.0, sound.single single),
-              λ same.
-                  starts_apart OtherJob p q
-                  (laid_sound OtherJob k os sound listed a d (omega arith))
-                  (laid_sound OtherJob k os sound listed b d within)
-                  ((is_laid OtherJob k os sound listed).apart a b d lt within) same,
-            );
-      }
+  sequence_schedule = one_machine_schedule OtherJob k os sound
+      (one_listed k os sound sequence_each) (sound.single single)
 
   -- what the builder asks
   pub sequence_known : All (IsOperation (length k.jobs) 1) os

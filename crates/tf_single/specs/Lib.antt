@@ -4,7 +4,7 @@ pub mod LawlerFault
 pub mod Costs
 -- within the crate
 pub mod Backward
-pub mod Levels
+pub mod CostedJob
 pub mod Progress
 pub mod Agenda
 pub mod Ends

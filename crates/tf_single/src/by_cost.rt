@@ -4,13 +4,13 @@ ghost use Rattle.std.specs.List.{All};
 ghost use Rattle.tf_model.specs.Cost.{price};
 ghost use Rattle.tf_model.specs.Limit.{limit};
 ghost use Rattle.tf_model.specs.SchedulingTask.{IsJob};
+ghost use Rattle.tf_single.specs.CostedJob.{HasLevel, jobs_of};
 ghost use Rattle.tf_single.specs.Costs.{AreCosts};
-ghost use Rattle.tf_single.specs.Levels.{AreLevels};
 
+use crate::costed_job::CostedJob;
 use crate::free_jobs::FreeJobs;
-use crate::levels::{cost_by_level, no_levels};
 use std::alloc::Allocator;
-use tf_model::cost::{Cost, Level};
+use tf_model::cost::Cost;
 use tf_model::ids::JobId;
 use tf_model::memory::OutOfMemory;
 use tf_model::task::Task;
@@ -19,15 +19,12 @@ use tf_model::task::Task;
 #[derive(Drop)]
 pub(crate) struct ByCost<'a, C: Cost, A: Allocator> {
     costs: &'a [C],
-    levels: Vec<Level, A>,
-    free: Vec<JobId, A>,
+    free: Vec<CostedJob, A>,
 }
 
 impl<'a, C: Cost, A: Allocator + Copy> ByCost<'a, C, A> {
-    ghost use Rattle.std.specs.Prelude.{◌≡◌, ℕ, ◌≤◌, [], IfOk};
-    ghost use Rattle.tf_model.specs.Limit.{limit};
+    ghost use Rattle.std.specs.Prelude.{◌≡◌, [], IfOk};
     ghost use Rattle.tf_single.specs.Costs.{AreCosts};
-    ghost use Rattle.tf_single.specs.Levels.{AreLevels};
 
     /// No job is free.
     pub(crate) fn new<B: Allocator>(
@@ -37,41 +34,38 @@ impl<'a, C: Cost, A: Allocator + Copy> ByCost<'a, C, A> {
     ) -> Result<Self, OutOfMemory>
         requires { AreCosts C.cost_at task.now costs.now }
         ensures none { IfOk result (λ free. free.free.items ≡ []) }
-        ensures kept { IfOk result (λ free. (work : ℕ) → work ≤ limit →
-            AreCosts C.cost_at task.now free.costs.now
-            × AreLevels task.now free.levels.items work) }
+        ensures costs { IfOk result (λ free. AreCosts C.cost_at task.now free.costs.now) }
     {
         Ok(ByCost {
             costs,
-            levels: no_levels(alloc, task)?,
             free: Vec::with_capacity(alloc, task.len())?,
         })
     }
 }
 
 impl<C: Cost, A: Allocator> FreeJobs for ByCost<'_, C, A> {
+    ghost use Rattle.std.specs.List.{All};
+    ghost use Rattle.tf_single.specs.CostedJob.{HasLevel, jobs_of};
     ghost use Rattle.tf_single.specs.Costs.{AreCosts};
-    ghost use Rattle.tf_single.specs.Levels.{AreLevels};
 
-    ghost jobs_of = { λ free. free.free.items };
+    ghost jobs_of = { λ free. jobs_of free.free.items };
 
     ghost IsKept = { λ free k work.
-        AreCosts C.cost_at k free.costs.now × AreLevels k free.levels.items work };
+        AreCosts C.cost_at k free.costs.now × All (HasLevel k work) free.free.items };
 
     fn is_empty(&self) -> bool {
         self.free.is_empty()
     }
 
     fn add<B: Allocator>(&mut self, _: &Task<B>, job: JobId) -> Result<(), OutOfMemory> {
-        self.free.push(job)?;
+        self.free.push(CostedJob::new(job))?;
         Ok(())
     }
 
     fn take_last<B: Allocator>(&mut self, task: &Task<B>, work: u64) -> JobId {
         let costs = self.costs;
-        let levels = self.levels.as_mut_slice();
-        let place = cheapest_place(task, costs, levels, &self.free, work);
-        self.free.swap_remove(place)
+        let place = cheapest_place(task, costs, self.free.as_mut_slice(), work);
+        self.free.swap_remove(place).job
     }
 }
 
@@ -80,27 +74,33 @@ impl<C: Cost, A: Allocator> FreeJobs for ByCost<'_, C, A> {
 fn cheapest_place<B: Allocator, C: Cost>(
     task: &Task<B>,
     costs: &[C],
-    levels: &mut [Level],
-    free: &[JobId],
+    free: &mut [CostedJob],
     end: u64,
 ) -> usize
     requires costs { AreCosts C.cost_at task.now costs.now }
-    requires some { 0 < length free.now }
-    requires known { All (IsJob task.now) free.now }
+    requires some { 0 < length free.old }
+    requires known { All (IsJob task.now) (jobs_of free.old) }
     requires end { end ≤ limit }
-    requires levels { AreLevels task.now levels.old end }
-    ensures within { result < length free.now }
-    ensures cheapest { (k d : ℕ) → k < length free.now
-        → price task.now (slice_index free.now result) end
-        ≤ℤ price task.now (slice_index free.now k) end }
-    ensures levels { AreLevels task.now levels.new end }
+    requires levels { All (HasLevel task.now end) free.old }
+    ensures within { result < length free.new }
+    ensures cheapest { (k : ℕ) → k < length free.new
+        → price task.now (slice_index (jobs_of free.new) result) end
+        ≤ℤ price task.now (slice_index (jobs_of free.new) k) end }
+    ensures jobs { jobs_of free.new ≡ jobs_of free.old }
+    ensures levels { All (HasLevel task.now end) free.new }
 {
     let mut place = 0;
-    let mut least = cost_by_level(task, costs, levels, free[0], end);
+    let mut last = free[0].job;
+    let mut least = free[0].cost_at(task, costs, end);
     for k in 1..free.len() {
-        let cost = cost_by_level(task, costs, levels, free[k], end);
-        if cost < least || (cost == least && free[place] < free[k]) {
+        let cost = free[k].cost_at(task, costs, end);
+        if cost > least {
+            continue;
+        }
+        let job = free[k].job;
+        if cost < least || last < job {
             place = k;
+            last = job;
             least = cost;
         }
     }

@@ -1,17 +1,17 @@
-use Rattle.std.proofs.Common.{ap, arith}
+use Rattle.std.proofs.Common.{[], ap, arith}
 use Rattle.tf_schedule.specs.Drawing.{greatest_stop}
 use Rattle.tf_schedule.specs.declared.semi_active.Operation.{Operation}
-use Rattle.tf_schedule.proofs.Laying.{laid_within}
+use Rattle.tf_schedule.proofs.Laying.{fold_within}
 use Rattle.tf_schedule.proofs.semi_active.semi_active.Goals as goal
 
-pub place-requires-clause-within : goal.place-requires-clause-within
-place-requires-clause-within g c =
+pub lay-requires-clause-within : goal.lay-requires-clause-within
+lay-requires-clause-within g c =
     let os = c.args.operations.now in
     let item = c.operation-item.result in
     let time = ap (λ (o : Operation). o.time) c.operation-item.is in
     omega (
       arith,
-      laid_within os c.loop-operation.operation-index item c.loop-operation-test.true,
+      fold_within os [] c.loop-operation.operation-index item c.loop-operation-test.true,
       ap greatest_stop c.loop-operation.invariant.pieces,
       time,
       c.requires.total,

@@ -1,46 +1,71 @@
-use Rattle.std.proofs.Common.{◌≡◌, ℕ, ◌≤ℤ◌, ◌<◌, ◌++◌, ◌∷◌, List, length, slice_index, take, drop, sym, ap, ◌∙◌, subst, arith}
+use Rattle.std.proofs.Common.{◌≡◌, ℕ, ◌≤ℤ◌, ◌<◌, ◌++◌, ◌∷◌, List, length, slice_index, slice_index_or, take, drop, refl, sym, ap, ◌∙◌, subst, arith}
+use Rattle.std.specs.List.{swap_remove}
 use Rattle.std.specs.List.Sorted.{IsPermutation}
 use Rattle.std.proofs.Math.Seq.{take-append_seam}
-use Rattle.std.proofs.lemmas.List.{get_or_default}
-use Rattle.std.proofs.lemmas.List.Sorted.{IsPermutation-swap_remove}
+use Rattle.std.proofs.lemmas.List.{get_or_default, length-map}
+use Rattle.std.proofs.lemmas.List.Elements.{All-tail}
+use Rattle.std.proofs.lemmas.List.Sorted.{All-permutation, IsPermutation-map, IsPermutation-swap_remove}
 use Rattle.tf_model.specs.Cost.{price}
-use Rattle.tf_model.specs.SchedulingTask.{SchedulingTask}
-use Rattle.tf_model.specs.declared.cost.Level.{Level}
-use Rattle.tf_single.specs.Levels.{AreLevels}
-use Rattle.tf_single.proofs.KeptLevels.{levels_earlier}
+use Rattle.tf_single.specs.declared.costed_job.CostedJob.{CostedJob}
+use Rattle.tf_single.specs.CostedJob.{HasLevel, jobs_of}
+use Rattle.tf_single.proofs.Cheapest.{job_read}
 use Rattle.tf_single.proofs.by_cost.ByCostFreeJobs.take_last.Goals as goal
 
 pub returns : goal.returns
 returns g c =
-    let k : SchedulingTask = c.args.task.now in
+    let k = c.args.task.now in
     let work : ℕ = c.args.work in
-    let free : List ℕ = c.args.self.now.free.items in
     let place : ℕ = c.cheapest_place-place.result in
-    let job : ℕ = c.swap_remove.result in
-    let within : place < length free =
-    subst (λ xs. place < length xs) c.deref.ensures.value c.cheapest_place-place.ensures.within in
-    let found : job ≡ slice_index free place =
-    c.swap_remove.ensures.value ∙ get_or_default free place job 0 within in
-    let cheapest =
-    subst (λ xs. (n d : ℕ) → n < length xs
-    → price k (slice_index xs place) work ≤ℤ price k (slice_index xs n) work)
-    c.deref.ensures.value c.cheapest_place-place.ensures.cheapest in
-    let levels : List Level = c.cheapest_place-place.new.levels in
-    let kept : AreLevels k levels work = c.cheapest_place-place.ensures.levels in
-    let others : List Level = drop (length levels) c.args.self.now.levels.items in
-    let whole : take c.args.self.now.levels.len (levels ++ others) ≡ levels =
-    ap (λ n. take n (levels ++ others))
-    (omega (arith, kept.len, c.requires.kept.1.len, c.args.self.now.levels.ok.0))
-    ∙ take-append_seam levels others in
+    let found : CostedJob = c.swap_remove.result in
+    let before : List CostedJob = c.args.self.now.free.items in
+    let free : List CostedJob = c.cheapest_place-place.new.free in
+    let others : List CostedJob = drop (length free) before in
+    let lent : ◌≡◌ {A = List CostedJob} c.as_mut_slice.result.now before =
+    c.as_mut_slice.ensures.value in
+    let jobs : jobs_of free ≡ jobs_of before =
+    c.cheapest_place-place.ensures.jobs ∙ ap jobs_of lent in
+    let whole : take c.args.self.now.free.len (free ++ others) ≡ free =
+    ap (λ n. take n (free ++ others))
+    (omega (
+      arith,
+      ap length jobs,
+      length-map free (λ x. x.job),
+      length-map before (λ x. x.job),
+      c.args.self.now.free.ok.0,
+    ))
+    ∙ take-append_seam free others in
+    let within : place < length free = c.cheapest_place-place.ensures.within in
+    let value =
+    subst (λ xs. found ≡ slice_index_or xs place found) whole c.swap_remove.ensures.value in
+    let rest : List CostedJob = c.swap_remove.new.self.items in
+    let removed =
+    subst (λ xs. rest ≡ swap_remove xs place found) whole c.swap_remove.ensures.items in
+    let moved : IsPermutation free (found ∷ rest) =
+    subst (λ xs. IsPermutation free (found ∷ xs)) (sym removed)
+    (IsPermutation-swap_remove free place found within value) in
+    let at_place : found.job ≡ slice_index (jobs_of free) place =
+    ap (λ x. x.job) value ∙ job_read free (jobs_of free) place found refl within in
     record {
-      jobs = subst (λ xs. IsPermutation free (job ∷ xs)) (sym c.swap_remove.ensures.items)
-          (IsPermutation-swap_remove free place job within c.swap_remove.ensures.value);
+      jobs = subst (λ js. IsPermutation js (found.job ∷ jobs_of rest)) jobs
+          (IsPermutation-map (λ x. x.job) free (found ∷ rest) moved);
       cheapest = λ j at.
-          subst (λ z. price k z work ≤ℤ price k j work) (sym found)
-          (subst (λ z. price k (slice_index free place) work ≤ℤ price k z work)
-          (get_or_default free at.0 0 j at.1 ∙ at.2) (cheapest at.0 0 at.1));
+          let here : slice_index (jobs_of free) at.0 ≡ j =
+          ap (λ js. slice_index js at.0) jobs ∙ get_or_default (jobs_of before) at.0 0 j at.1
+          ∙ at.2 in
+          let inside : at.0 < length free = omega (
+            arith,
+            at.1,
+            ap length jobs,
+            length-map free (λ x. x.job),
+          ) in
+          subst (λ z. price k z work ≤ℤ price k j work) (sym at_place)
+          (subst (λ z. price k (slice_index (jobs_of free) place) work ≤ℤ price k z work) here
+          (c.cheapest_place-place.ensures.cheapest at.0 inside));
       kept = λ end le. (
         c.requires.kept.0,
-        subst (λ xs. AreLevels k xs end) (sym whole) (levels_earlier k levels work end kept le),
+        λ n d h e from to small.
+            All-tail (HasLevel k work) found rest
+            (All-permutation (HasLevel k work) free (found ∷ rest) moved
+            c.cheapest_place-place.ensures.levels) n d h e from (omega (arith, to, le)) small,
       );
     }

@@ -1,11 +1,9 @@
-use Rattle.std.proofs.Common.{◌∙◌, ◌∷◌, [], ◌++◌, ap, subst, sym, rules}
+use Rattle.std.proofs.Common.{◌∙◌, ◌∷◌, [], ◌++◌, rules}
 use Rattle.std.proofs.lemmas.Int.{to_z-of_z}
 use Rattle.std.proofs.lemmas.List.Sorted.{IsPermutation-map}
-use Rattle.std.specs.List.Sorted.{IsPermutation}
 use mir.Syntax.{w64}
 use mir.Val.{to_z, of_z}
 use Rattle.std.specs.BinaryHeap.{heap_items}
-use Rattle.tf_single.specs.ByDue.{AreDue, jobs_due}
 use Rattle.tf_single.specs.declared.by_due.DueJob.{DueJob}
 use Rattle.tf_single.proofs.ByDue.{pushed_first, pushed_later, first_pushed, later_pushed}
 use Rattle.tf_single.proofs.by_due.ByDueFreeJobs.add.Goals as goal

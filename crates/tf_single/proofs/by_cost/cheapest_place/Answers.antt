@@ -1,0 +1,84 @@
+use Rattle.std.proofs.Common.{◌≡◌, ◌<◌, length, refl, sym, ap, subst, ◌∙◌, arith, rules}
+use Rattle.std.proofs.lemmas.Int.{ints, to_z-of_z}
+use Rattle.std.proofs.lemmas.List.{length-map}
+use Rattle.std.proofs.lemmas.List.Elements.{All-set}
+use mir.Syntax.{w64}
+use mir.Val.{SFits, to_z, of_z}
+use Rattle.tf_model.specs.Cost.{price}
+use Rattle.tf_model.specs.SchedulingTask.{IsJob}
+use Rattle.tf_single.specs.CostedJob.{HasLevel, jobs_of}
+use Rattle.tf_single.proofs.Cheapest.{cheapest_kept, cheapest_taken, job_read, jobs_kept}
+use Rattle.tf_single.proofs.by_cost.cheapest_place.Goals.{then-cost-least-2, else-cost-least-2+else-lt}
+use Rattle.tf_single.proofs.by_cost.cheapest_place.Goals as goal
+
+pub cost_at-cost-requires-clause-job : goal.cost_at-cost-requires-clause-job
+cost_at-cost-requires-clause-job g c =
+    let free = c.loop-k.free in
+    let k = c.loop-k.k in
+    let all = c.args.free.now in
+    let inside : k < length free = omega (arith, c.loop-k-test.true, c.loop-k.auto.free) in
+    let jobs : jobs_of free ≡ jobs_of all =
+    c.loop-k.invariant.jobs
+    ∙ jobs_kept all (jobs_of all) 0 c.cost_at-least.new.self c.index-free-0-2.result refl
+    c.cost_at-least.ensures.job in
+    let len : length free ≡ length (jobs_of all) =
+    sym (length-map free (λ x. x.job)) ∙ ap length jobs in
+    subst (IsJob c.args.task.now)
+    (sym (job_read free (jobs_of all) k c.index-free-k.result jobs inside))
+    (c.requires.known k 0 (omega (arith, inside, len)))
+
+pub loop-k-preserved-then-cost-least : goal.loop-k-preserved-then-cost-least
+loop-k-preserved-then-cost-least g c =
+    let free = c.loop-k.free in
+    let k = c.loop-k.k in
+    let task = c.args.task.now in
+    let inside : k < length free = omega (arith, c.loop-k-test.true, c.loop-k.auto.free) in
+    let small : SFits w64 c.cost_at-cost.result = search rules in
+    let cost : to_z w64 (of_z w64 c.cost_at-cost.result) ≡ c.cost_at-cost.result =
+    to_z-of_z w64 c.cost_at-cost.result small in
+    let is =
+    c.cost_at-cost.ensures.value
+    ∙ ap (λ j. price task j c.args.end)
+    (job_read free _ k c.index-free-k.result c.loop-k.invariant.jobs inside) in
+    record {
+      jobs = jobs_kept free _ k c.cost_at-cost.new.self c.index-free-k.result
+          c.loop-k.invariant.jobs c.cost_at-cost.ensures.job;
+      levels = All-set (HasLevel task c.args.end) free k c.cost_at-cost.new.self
+          c.cost_at-cost.ensures.level c.loop-k.invariant.levels;
+      cheapest = cheapest_kept task _ c.args.end k c.loop-k.place _ c.cost_at-cost.result
+          c.loop-k.invariant.cheapest is (omega (arith, ints, cost, c.if-cost-least.true));
+    }
+
+pub loop-k-preserved : goal.loop-k-preserved
+loop-k-preserved g c =
+    let free = c.loop-k.free in
+    let k = c.loop-k.k in
+    let task = c.args.task.now in
+    let inside : k < length free = omega (arith, c.loop-k-test.true, c.loop-k.auto.free) in
+    let small : SFits w64 c.cost_at-cost.result = search rules in
+    let cost : to_z w64 (of_z w64 c.cost_at-cost.result) ≡ c.cost_at-cost.result =
+    to_z-of_z w64 c.cost_at-cost.result small in
+    let is =
+    c.cost_at-cost.ensures.value
+    ∙ ap (λ j. price task j c.args.end)
+    (job_read free _ k c.index-free-k.result c.loop-k.invariant.jobs inside) in
+    record {
+      jobs = jobs_kept free _ k c.cost_at-cost.new.self c.index-free-k.result
+          c.loop-k.invariant.jobs c.cost_at-cost.ensures.job;
+      levels = All-set (HasLevel task c.args.end) free k c.cost_at-cost.new.self
+          c.cost_at-cost.ensures.level c.loop-k.invariant.levels;
+      cheapest = elim c.if-cost-least-2.branch [
+        | then-cost-least-2 w ↦ rw (w.place-is, w.least-is, cost)
+            (cheapest_taken task _ c.args.end k c.loop-k.place _ c.cost_at-cost.result
+            c.loop-k.invariant.cheapest
+            (omega (
+              arith,
+              inside,
+              length-map free (λ x. x.job),
+              ap length c.loop-k.invariant.jobs,
+            )) is (omega (arith, ints, cost, c.if-cost-least.false)))
+        | else-cost-least-2+else-lt w ↦ rw (w.place-is, w.least-is)
+            (cheapest_kept task _ c.args.end k c.loop-k.place _ c.cost_at-cost.result
+            c.loop-k.invariant.cheapest is (omega (arith, ints, cost, w.if-cost-least-2.false)))
+      ];
+    }
