@@ -107,6 +107,37 @@ impl Scan {
         piece.len()
     }
 
+    /// Of digits and a blank behind them, with which a piece begins where no word has begun: how
+    /// many bytes these are, and the number.
+    fn numeral(&self, piece: &[u8]) -> Option<(usize, Number)>
+        ensures within { IfSome result (λ w. (0 < w.0) × (w.0 ≤ length piece.now)) }
+        ensures range { IfSome result (λ w. IsInRange w.1) }
+        ensures fed { IfSome result (λ w. (first : ℕ) (fed : List ℕ) (seen : List Word) →
+            IsAt first fed seen self.now.line self.now.shown →
+            (word : Word) × IsOf word self.now.line w.1
+            × IsAt first (fed ++ take w.0 piece.now) (seen ++ word ∷ []) self.now.line
+            self.now.shown) }
+    {
+        let SoFar::Empty = self.shown else {
+            return None;
+        };
+        if piece.is_empty() || !piece[0].is_ascii_digit() {
+            return None;
+        }
+        let mut size = with_digit(0, piece[0]);
+        for k in 1..piece.len() {
+            let byte = piece[k];
+            if !byte.is_ascii_digit() {
+                if byte != b' ' {
+                    return None;
+                }
+                return Some((k + 1, number_shown(SoFar::Digits(false, size))));
+            }
+            size = with_digit(size, byte);
+        }
+        None
+    }
+
     /// With the bytes of a piece up to the first that ends a word, or with all of them: how many
     /// these are, and the word.
     pub fn advance(&mut self, piece: &[u8]) -> (usize, Option<(u32, Number)>)
@@ -123,6 +154,9 @@ impl Scan {
             IsAt first (fed ++ take result.0 piece.now) (seen ++ word ∷ []) self.new.line
             self.new.shown) }
     {
+        if let Some((taken, number)) = self.numeral(piece) {
+            return (taken, Some((self.line, number)));
+        }
         let mut scan = *self;
         let mut k = 0;
         while k < piece.len() {
