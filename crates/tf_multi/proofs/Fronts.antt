@@ -21,17 +21,17 @@ module _ (f : ℕ → ℕ → ℕ) (x y : ℕ) (two : x ≢ y) where
   abbrev pub on_second : ℕ → ℕ
   on_second j = f j y
 
-  abbrev pub with_job : List Piece → ℕ → List Piece
+  abbrev with_job : List Piece → ℕ → List Piece
   with_job ps j = with_operation (with_operation ps (operation_of f j x)) (operation_of f j y)
 
   -- what a job that has not run does to the two machines, and that it changes no other job
-  pub record IsStep (ps qs : List Piece) (j : ℕ) : Type 0 where
+  record IsStep (ps qs : List Piece) (j : ℕ) : Type 0 where
     pub first : machine_stop qs x ≡ machine_stop ps x + f j x
     pub second_from : machine_stop ps y + f j y ≤ machine_stop qs y
     pub second_to : machine_stop qs y ≤ max (machine_stop ps y) (machine_stop ps x + f j x) + f j y
     pub others : (k : ℕ) → j ≢ k → job_stop qs k ≡ job_stop ps k
 
-  pub job_step : (ps : List Piece) (j : ℕ) → job_stop ps j ≡ 0 → IsStep ps (with_job ps j) j
+  job_step : (ps : List Piece) (j : ℕ) → job_stop ps j ≡ 0 → IsStep ps (with_job ps j) j
   job_step ps j free =
       let s = start_after ps (operation_of f j x) in
       let qs = with_operation ps (operation_of f j x) in
@@ -52,11 +52,11 @@ module _ (f : ℕ → ℕ → ℕ) (x y : ℕ) (two : x ≢ y) where
       }
 
   -- none of the jobs has run, and none is there twice
-  pub record IsWaiting (ps : List Piece) (js : List ℕ) : Type 0 where
+  record IsWaiting (ps : List Piece) (js : List ℕ) : Type 0 where
     pub free : All (λ j. job_stop ps j ≡ 0) js
     pub apart : AllPairs (λ i j. i ≢ j) js
 
-  pub still_waiting : (ps qs : List Piece) (j : ℕ) (js : List ℕ) → IsStep ps qs j
+  still_waiting : (ps qs : List Piece) (j : ℕ) (js : List ℕ) → IsStep ps qs j
       → IsWaiting ps (j ∷ js) → IsWaiting qs js
   still_waiting ps qs j js step waiting = record {
     free = λ k d h. step.others (get_or js k d)

@@ -1,8 +1,8 @@
 -- Operations of jobs that visit two machines one after another, between the two operations of
 -- another job.
-use Rattle.std.proofs.Common.{◌<◌, length, get_or, take, ◌≡◌, ◌≢◌, ℕ, suc, ◌+◌, Bool, true, false, not, cond, List, [], ◌∷◌, ◌++◌, filter, refl, sym, ap, ◌∙◌, arith, append_assoc}
+use Rattle.std.proofs.Common.{◌≡◌, ◌≢◌, ℕ, suc, ◌+◌, Bool, true, false, not, cond, List, [], ◌∷◌, ◌++◌, filter, refl, sym, ap, ◌∙◌, arith, append_assoc}
 use Rattle.std.specs.List.{All, AllPairs, sum_by, range_with_len}
-use Rattle.std.proofs.lemmas.List.{append-nil, take_more}
+use Rattle.std.proofs.lemmas.List.{append-nil}
 use Rattle.std.proofs.lemmas.List.Elements.{All-cons, All-nil, All-tail, All-head, All-push, filter-append}
 use Rattle.std.proofs.lemmas.List.Kept.{AllPairs-cons}
 use Rattle.std.proofs.lemmas.List.Quantifiers.{all_pairs_push}
@@ -32,16 +32,6 @@ module _ (f : ℕ → ℕ → ℕ) (x y : ℕ) where
   routed-append [] js = refl
   routed-append (j ∷ is) js = ap (λ os. operation_of f j x ∷ operation_of f j y ∷ os)
       (routed-append is js)
-
-  -- with the operations of one more job
-  pub routed_more : (order : List ℕ) (i job : ℕ) → i < length order → job ≡ get_or order i job
-      → (routed f x y (take i order) ++ operation_of f job x ∷ []) ++ operation_of f job y ∷ []
-      ≡ routed f x y (take (i + 1) order)
-  routed_more order i job h is =
-      append_assoc (routed f x y (take i order)) (operation_of f job x ∷ [])
-      (operation_of f job y ∷ [])
-      ∙ sym (ap (routed f x y) (take_more order i job h ∙ ap (λ z. take i order ++ z ∷ []) (sym is))
-      ∙ routed-append (take i order) (job ∷ []))
 
   pub All-routed : (P : Operation → Type 0) (js : List ℕ) → All (OfBoth P) js
       → All P (routed f x y js)

@@ -5,7 +5,7 @@ ghost use Rattle.tf_model.specs.Limit.{limit};
 ghost use Rattle.tf_schedule.specs.SemiActive.{laid, IsOperation};
 
 use crate::piece::Piece;
-use std::alloc::Allocator;
+use std::alloc::{Allocator, Global};
 use std::marker::Model;
 use tf_model::ids::{JobId, MachineId};
 use tf_model::memory::OutOfMemory;
@@ -23,7 +23,7 @@ pub struct Operation {
 /// are free of those before it (a semi-active schedule, Pinedo, chapter 2), for jobs and machines
 /// up to the given numbers. An operation of time 0 has no piece and holds up none.
 #[derive(Drop)]
-pub struct SemiActive<A: Allocator> {
+pub struct SemiActive<A: Allocator = Global> {
     pieces: Vec<Piece, A>,
     // The times from which the machines and the jobs are free.
     machines_free: Vec<u64, A>,
