@@ -1,5 +1,5 @@
 //! The order by the ratio of weight to time.
-ghost use Rattle.std.specs.Prelude.{◌≡◌, ℕ, ◌*◌, ◌≤◌, IfOk, IsTrue};
+ghost use Rattle.std.specs.Prelude.{◌≡◌, ℕ, ◌*◌, ◌<◌, ◌≤◌, IfOk, IsTrue};
 ghost use Rattle.std.specs.List.{sum_by};
 ghost use Rattle.std.specs.Ordering.{is_lt};
 ghost use Rattle.tf_model.specs.ClassTable.{is_sum};
@@ -52,13 +52,25 @@ fn weighted_jobs<A: Allocator, B: Allocator>(
     Ok(jobs)
 }
 
-// Ratios compare as products of the one job's weight and the other's time.
+// Ratios compare as products of the one job's weight and the other's time, and those of the same
+// weight as the times alone.
 fn by_ratio(first: &WeightedJob, second: &WeightedJob) -> Ordering
     ensures { is_lt result ≡ goes_before first.now second.now }
 {
+    let by_number = first.job.cmp(&second.job);
+    if weigh_the_same(first, second) {
+        return first.time.cmp(&second.time).then(by_number);
+    }
     let ahead = product(first.weight, second.time);
     let behind = product(second.weight, first.time);
-    behind.cmp(&ahead).then(first.job.cmp(&second.job))
+    behind.cmp(&ahead).then(by_number)
+}
+
+// Whether both have the same weight, which is not 0.
+fn weigh_the_same(first: &WeightedJob, second: &WeightedJob) -> bool
+    ensures { IsTrue result → (first.now.weight ≡ second.now.weight) × (0 < first.now.weight) }
+{
+    first.weight == second.weight && first.weight > 0
 }
 
 fn product(weight: u64, time: u64) -> u128
