@@ -1,10 +1,10 @@
 -- Lists that are parted by a test, one element after the other.
-use Rattle.std.proofs.Common.{◌≡◌, ℕ, ◌+◌, ◌<◌, Bool, true, false, not, cond, List, [], ◌∷◌, ◌++◌, length, get_or, take, filter, refl, sym, ap, subst, ◌∙◌}
+use Rattle.std.proofs.Common.{◌≡◌, ℕ, ◌+◌, ◌<◌, Bool, true, false, cond, List, [], ◌∷◌, ◌++◌, length, get_or, take, filter, refl, sym, ap, subst, ◌∙◌}
 use Rattle.std.proofs.lemmas.List.{append_assoc, append-nil}
 use Rattle.std.proofs.lemmas.List.Elements.{filter_more}
 use Rattle.std.proofs.lemmas.List.Sorted.{IsPermutation-filter_both}
 use Rattle.std.specs.List.Sorted.{IsPermutation}
-use Rattle.tf_schedule.specs.Digits.{has_digit, is_in_part}
+use Rattle.tf_schedule.specs.MachinePart.{is_in_part}
 use Rattle.tf_schedule.specs.declared.piece.Piece.{Piece}
 
 module _ {X : Type 0} (p : X → Bool) (old now xs : List X) (i : ℕ) (x : X)
@@ -27,16 +27,11 @@ module _ {X : Type 0} (p : X → Bool) (old now xs : List X) (i : ℕ) (x : X)
   part_skips is =
       so_far ∙ ap (λ ys. old ++ ys) (sym (append-nil (filter p (take i xs))) ∙ sym (more false is))
 
-not_not : (b : Bool) → b ≡ not (not b)
-not_not true = refl
-not_not false = refl
-
 -- both parts are all pieces
-pub parts_permute : (digit : ℕ) (pieces part both : List Piece)
-    → part ≡ [] ++ filter (is_in_part digit false) pieces
-    → both ≡ part ++ filter (is_in_part digit true) pieces → IsPermutation pieces both
-parts_permute digit pieces part both first second =
+pub parts_permute : (pieces first both : List Piece)
+    → first ≡ [] ++ filter (is_in_part true) pieces
+    → both ≡ first ++ filter (is_in_part false) pieces → IsPermutation pieces both
+parts_permute pieces first both on_first others =
     subst (IsPermutation pieces)
-    (sym (second ∙ ap (λ xs. xs ++ filter (is_in_part digit true) pieces) first))
-    (IsPermutation-filter_both (is_in_part digit false) (is_in_part digit true)
-    (λ p. not_not (has_digit digit p)) pieces)
+    (sym (others ∙ ap (λ xs. xs ++ filter (is_in_part false) pieces) on_first))
+    (IsPermutation-filter_both (is_in_part true) (is_in_part false) (λ p. refl) pieces)

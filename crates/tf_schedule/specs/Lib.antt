@@ -13,5 +13,5 @@ pub mod Spans
 pub mod Stops
 pub mod Smallest
 pub mod Line
-pub mod Digits
+pub mod MachinePart
 pub mod Extent
