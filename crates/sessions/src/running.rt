@@ -1,0 +1,62 @@
+//! A command line, run over texts.
+use crate::texts::Texts;
+use std::alloc::{AllocError, Global};
+use tf_command::commands::perform;
+use tf_command::options::{Asked, command, understand};
+use tf_command::report::{say_memory, say_usage};
+use tf_text::counted::Counted;
+
+/// What a command line gives: its status, and the bytes on standard output and standard error.
+#[derive(Drop)]
+pub struct Ended {
+    pub status: u8,
+    pub written: Vec<u8>,
+    pub said: Vec<u8>,
+}
+
+/// Runs the command line of these words behind the program's name, as the program does.
+pub fn run(alloc: Global, line: &str, texts: Texts<'_>) -> Result<Ended, AllocError> {
+    let words = words_of(alloc, line)?;
+    let mut written = Vec::new(alloc);
+    let mut said = Vec::new(alloc);
+    let mut writer = Counted::new(&mut written);
+    let mut errors = Counted::new(&mut said);
+    let status = match understand(command(alloc)?, words.as_slice()) {
+        Asked::Work(work) => perform(alloc, &texts, &work, &mut writer, &mut errors),
+        Asked::Help(text) => {
+            let _ = writer.push_all(text.to_string(alloc)?.as_bytes());
+            0
+        }
+        Asked::Misused(text) => {
+            let _ = errors.push_all(text.to_string(alloc)?.as_bytes());
+            5
+        }
+        Asked::Unfit(text) => say_usage(&mut errors, text),
+        Asked::NoMemory => say_memory(&mut errors),
+    };
+    drop(writer);
+    drop(errors);
+    Ok(Ended {
+        status,
+        written,
+        said,
+    })
+}
+
+/// The program's name and the words of a line: parted by blanks, or between double quotes.
+fn words_of(alloc: Global, line: &str) -> Result<Vec<String>, AllocError> {
+    let mut words = Vec::new(alloc);
+    words.push(String::from_str(alloc, "threefield")?)?;
+    let mut is_quoted = false;
+    for part in line.split('"') {
+        if is_quoted {
+            words.push(String::from_str(alloc, part)?)?;
+        } else {
+            for word in part.split_whitespace() {
+                words.push(String::from_str(alloc, word)?)?;
+            }
+        }
+        is_quoted = !is_quoted;
+    }
+    Ok(words)
+}
