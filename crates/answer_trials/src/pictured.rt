@@ -4,8 +4,6 @@ use std::alloc::{Allocator, Global};
 use std::test::Fail;
 use tf_engine::fault::RunFault;
 use tf_picture::run_picture::run_picture;
-use tf_schedule::schedule::PieceFault;
-use tf_text::answer::fault::AnswerFault;
 use tf_text::counted::Counted;
 use trials::devices::{Failure, Sink, Source, Way};
 use trials::examples::{WORKED, answer_in};
@@ -32,15 +30,6 @@ fn picture_of(rt: &HostRuntime, answer: &[u8]) -> Result<Vec<u8>, Fail> {
     let result = picture_into(rt.alloc(), answer, &mut out);
     ensure(result == Ok(()), "refused")?;
     Ok(out)
-}
-
-#[test]
-fn small_schedules_are_pictured_byte_for_byte(rt: HostRuntime) -> Result<(), Fail> {
-    for pictured in [ONE, IDLE, NONE] {
-        let out = picture_of(&rt, pictured.answer)?;
-        ensure(out.as_slice() == pictured.picture, pictured.name)?;
-    }
-    Ok(())
 }
 
 /// Whether the text has the words.
@@ -120,29 +109,6 @@ end
         "another number of bars",
     )?;
     ensure(has(&out, b"jobs 1, machines 1, length 3"), "another length")
-}
-
-fn refuses(rt: &HostRuntime, answer: &[u8], fault: RunFault) -> Result<(), Fail> {
-    let mut out = Vec::new(rt.alloc());
-    let result = picture_into(rt.alloc(), answer, &mut out);
-    ensure(result == Err(fault), "another outcome")?;
-    ensure(out.is_empty(), "something was written")
-}
-
-#[test]
-fn answers_at_fault_have_no_picture(rt: HostRuntime) -> Result<(), Fail> {
-    let cut = b"answer 1\nproblem P2|prmp|Cmax\njobs 3\nmachines 2\nvalue 6\n";
-    refuses(&rt, cut, RunFault::Answer(AnswerFault::EndsEarly))?;
-    let empty = b"answer 1
-problem P2|prmp|Cmax
-jobs 3
-machines 2
-value 6
-piece 1 1 2 2
-cert load
-end
-";
-    refuses(&rt, empty, RunFault::Pieces(PieceFault::EmptyPiece(1)))
 }
 
 #[test]

@@ -14,12 +14,6 @@ mod job_tables;
 #[cfg(test)]
 mod notations;
 #[cfg(test)]
-mod runs;
-#[cfg(test)]
 mod spellings;
-#[cfg(test)]
-mod ties;
-#[cfg(test)]
-mod verdicts;
 #[cfg(test)]
 mod weighted_tardiness;
