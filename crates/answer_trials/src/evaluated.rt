@@ -1,6 +1,6 @@
 //! Answers, evaluated: with each growth refused, and on a writer that fails.
 use refusing::Refusing;
-use std::alloc::{AllocError, Global};
+use std::alloc::{AllocError, Allocator, Global};
 use std::test::Fail;
 use tf_engine::fault::RunFault;
 use tf_engine::request::Request;
@@ -15,7 +15,29 @@ use trials::examples::shops::{FLOW, FLOW_ZEROS, OPEN};
 use trials::examples::sums::{NO_WEIGHT, RATIOS, SHORTEST};
 use trials::examples::{Example, WORKED, answer_in, with_line};
 use trials::growths::{Ended, refuse_each_growth};
-use trials::runs::{LAYOUTS, ensure, evaluate_into, request_for, request_table};
+use trials::runs::{LAYOUTS, ensure, request_for, request_table};
+
+/// Evaluates an answer text.
+fn evaluate_into<A: Allocator + Copy>(
+    alloc: A,
+    request: &Request,
+    detail: Detail,
+    instance: &[u8],
+    answer: &[u8],
+    out: &mut Vec<u8>,
+) -> Result<Standing, RunFault<A>> {
+    let mut instance = Counted::new(instance);
+    let mut answer = Counted::new(answer);
+    let mut writer = Counted::new(out);
+    run_evaluate(
+        alloc,
+        request,
+        detail,
+        &mut instance,
+        &mut answer,
+        &mut writer,
+    )
+}
 
 /// An example whose answer has other lines, counted from 1. What is evaluated of each stands, typed
 /// by hand, among the sessions.

@@ -11,8 +11,6 @@ use tf_engine::run_check::{Checked, run_check};
 use tf_engine::run_gantt::run_gantt;
 use tf_engine::run_solve::run_solve;
 use tf_engine::text::Text;
-use tf_evaluate::evaluation::{Detail, Standing};
-use tf_evaluate::run_evaluate::run_evaluate;
 use tf_text::answer::layout::Layout;
 use tf_text::counted::Counted;
 
@@ -90,28 +88,6 @@ pub fn check_into<A: Allocator + Copy>(
     let mut answer = Counted::new(answer);
     let mut writer = Counted::new(out);
     run_check(alloc, request, &mut instance, &mut answer, &mut writer)
-}
-
-/// Evaluates an answer text.
-pub fn evaluate_into<A: Allocator + Copy>(
-    alloc: A,
-    request: &Request,
-    detail: Detail,
-    instance: &[u8],
-    answer: &[u8],
-    out: &mut Vec<u8>,
-) -> Result<Standing, RunFault<A>> {
-    let mut instance = Counted::new(instance);
-    let mut answer = Counted::new(answer);
-    let mut writer = Counted::new(out);
-    run_evaluate(
-        alloc,
-        request,
-        detail,
-        &mut instance,
-        &mut answer,
-        &mut writer,
-    )
 }
 
 /// Draws an answer text.
