@@ -46,7 +46,8 @@ pub fn open_two<A: Allocator + Copy, B: Allocator>(
     let operations = operations_led_by(alloc, task, leader)?;
     let laid = semi_active(alloc, task.len(), 2, &operations)?;
     drop(operations);
-    let pieces = by_machine(alloc, laid, 2)?;
+    let pieces = by_machine(alloc, &laid)?;
+    drop(laid);
     let first = task.work_on(machine_of(true));
     let second = task.work_on(machine_of(false));
     let longest = first_longest(task);

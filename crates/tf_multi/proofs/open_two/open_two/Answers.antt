@@ -26,6 +26,7 @@ returns-clause-schedule g c =
     (led_schedule _ c.len.ensures.sound c.requires.shop c.requires.any_order _
     c.leader-leader.ensures _
     (rw (
+      c.deref-2.ensures.value,
       c.in_ok-laid.ensures,
       c.deref.ensures.value,
       c.in_ok-operations.ensures,
@@ -71,6 +72,7 @@ returns-clause-accepted g c =
     (led_accepted task c.len.ensures.sound c.requires.shop c.requires.any_order _
     c.leader-leader.ensures _
     (rw (
+      c.deref-2.ensures.value,
       c.in_ok-laid.ensures,
       c.deref.ensures.value,
       c.in_ok-operations.ensures,
