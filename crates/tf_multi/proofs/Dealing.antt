@@ -1,176 +1,167 @@
--- Jobs dealt round the machines: each counts as often as its rank from the end says.
-use Rattle.std.proofs.Common.{◌≡◌, ℕ, zero, suc, ◌+◌, ◌-◌, ◌*◌, ◌/◌, ◌%◌, ◌<◌, ◌≤◌, inl, inr, Bool, true, false, cond, eqb, List, [], ◌∷◌, ◌++◌, length, reverse, refl, sym, ap, ◌∙◌, arith, mul-le-mul_right, div-add-mod', mod-lt}
-use Rattle.std.specs.List.{All, sum_by, count_by, enumerate_from}
+-- Jobs dealt to machines in turn: all are dealt, and each counts as often as its rank from the end
+-- says.
+use Rattle.std.proofs.Common.{◌≡◌, ℕ, zero, suc, ◌+◌, ◌-◌, ◌*◌, ◌<◌, ◌≤◌, inl, inr, cond, eqb, List, [], ◌∷◌, ◌++◌, length, map, reverse, refl, sym, ap, subst, ◌∙◌, arith, mul-le-mul_right}
+use Rattle.std.specs.List.{All, sum, sum_by, enumerate_from}
+use Rattle.std.specs.List.Sorted.{IsPermutation}
 use Rattle.std.specs.Int.{div_ceil}
 use Rattle.std.proofs.lemmas.Grind.{div_ceil_times}
 use Rattle.std.proofs.lemmas.Bool.{cases_lt}
 use Rattle.std.proofs.lemmas.Bool.Decides.{nat_tests}
-use Rattle.std.proofs.lemmas.List.{length-reverse, reverse-append, length-map}
+use Rattle.std.proofs.lemmas.List.{append-nil, append_assoc, length-reverse, reverse-append, length-map}
 use Rattle.std.proofs.lemmas.List.Elements.{All-head, All-tail}
-use Rattle.std.proofs.lemmas.List.Sums.{sum_by-cons, sum_by_push}
+use Rattle.std.proofs.lemmas.List.Sorted.{IsPermutation-refl, IsPermutation-cons, IsPermutation-trans, IsPermutation-append_comm, sum_by-IsPermutation}
+use Rattle.std.proofs.lemmas.List.Sums.{sum_by-cons, sum_by-append, sum_by_push}
 use Rattle.tf_model.specs.Bounds.{ranks_value}
-use Rattle.tf_model.specs.SchedulingTask.{SchedulingTask, job_data, time_of}
-use Rattle.tf_model.proofs.Sums.{sum_by-plus, sum_by-zero_terms}
+use Rattle.tf_model.specs.SchedulingTask.{SchedulingTask, time_of}
+use Rattle.tf_model.proofs.Loads.{div_ceil_least}
 use Rattle.tf_schedule.specs.declared.semi_active.Operation.{Operation}
 use Rattle.tf_schedule.proofs.OneOperation.{front_after, weighted_ends}
 use Rattle.tf_check.specs.declared.weighted_job.WeightedJob.{WeightedJob}
 use Rattle.tf_check.specs.Ratio.{IsOfTask, jobs_of}
-use Rattle.tf_multi.specs.Dealing.{dealt_from}
+use Rattle.tf_multi.specs.Dealing.{turns, run_on, share, dealt}
 
--- ---- each job counts once for itself and once for each later job on its machine
+-- ---- all are dealt
 
-as_one : Bool → ℕ
-as_one t = cond t 1 0
+module _ {X : Type 0} (m : ℕ) where
+  -- what the first c machines get, one machine after another
+  abbrev pub all_turns : ℕ → List X → List X
+  all_turns zero xs = []
+  all_turns (suc c) xs = all_turns c xs ++ turns m c xs
 
--- how many of the operations are on machine i
-abbrev on : ℕ → List Operation → ℕ
-on i os = count_by (λ o. eqb i o.machine) os
+  all_turns-nil : (c : ℕ) → all_turns c [] ≡ []
+  all_turns-nil zero = refl
+  all_turns-nil (suc c) = append-nil (all_turns c []) ∙ all_turns-nil c
 
-abbrev waits : List Operation → ℕ
-waits [] = 0
-waits (o ∷ os) = o.time + o.time * on o.machine os + waits os
+  -- behind a job each machine is where the one before it was
+  all_turns-cons : (c : ℕ) (x : X) (xs : List X)
+      → all_turns (suc c) (x ∷ xs) ≡ x ∷ (turns m (m - 1) xs ++ all_turns c xs)
+  all_turns-cons zero x xs = ap (λ ys. x ∷ ys) (sym (append-nil (turns m (m - 1) xs)))
+  all_turns-cons (suc c) x xs =
+      ap (λ ys. ys ++ turns m c xs) (all_turns-cons c x xs)
+      ∙ ap (λ ys. x ∷ ys) (append_assoc (turns m (m - 1) xs) (all_turns c xs) (turns m c xs))
 
-on-cons : (i : ℕ) (o : Operation) (os : List Operation)
-    → on i (o ∷ os) ≡ cond (eqb i o.machine) 1 0 + on i os
-on-cons i o os = sum_by-cons (λ u. cond (eqb i u.machine) 1 0) o os
+  -- m machines get all
+  all_turned : (n : ℕ) → m ≡ suc n → (xs : List X) → IsPermutation xs (all_turns (suc n) xs)
+  all_turned n e [] =
+      subst (IsPermutation []) (sym (all_turns-nil (suc n))) (IsPermutation-refl [])
+  all_turned n e (x ∷ xs) =
+      let others : List X = all_turns n xs in
+      let rest : List X = turns m (m - 1) xs in
+      let last : n ≡ m - 1 = omega (arith, e) in
+      subst (IsPermutation (x ∷ xs)) (sym (all_turns-cons n x xs))
+      (IsPermutation-cons x xs (rest ++ others)
+      (IsPermutation-trans xs (others ++ rest) (rest ++ others)
+      (subst (λ d. IsPermutation xs (others ++ turns m d xs)) last (all_turned n e xs))
+      (IsPermutation-append_comm others rest)))
 
-held : (i n : ℕ) (os : List Operation) → sum_by (λ o. cond (eqb i o.machine) n 0) os ≡ n * on i os
-held i n [] = omega arith
-held i n (o ∷ os) =
-    omega (
-      arith,
-      sum_by-cons (λ u. cond (eqb i u.machine) n 0) o os,
-      held i n os,
-      ap (λ c. n * c) (on-cons i o os),
-      by_test (eqb i o.machine),
-    )
-  where
-    by_test : (b : Bool) → cond b n 0 ≡ n * cond b 1 0
-    by_test true = omega arith
-    by_test false = omega arith
+pub turned_all : {X : Type 0} (m : ℕ) → 0 < m → (xs : List X) → IsPermutation xs (all_turns m m xs)
+turned_all m some xs =
+    let e : m ≡ suc (m - 1) = omega arith in
+    subst (λ c. IsPermutation xs (all_turns m c xs)) (sym e) (all_turned m (m - 1) e xs)
 
--- where all jobs weigh 1, behind the fronts
-ends-waits : (w front : ℕ → ℕ) (os : List Operation) → All (λ o. w o.job ≡ 1) os
-    → weighted_ends w front os ≡ sum_by (λ o. front o.machine) os + waits os
-ends-waits w front [] ones = refl
-ends-waits w front (o ∷ os) ones =
-    let one : w o.job * (front o.machine + o.time) ≡ 1 * (front o.machine + o.time) =
-    ap (λ n. n * (front o.machine + o.time)) (All-head (λ u. w u.job ≡ 1) o os ones) in
-    let rest = ends-waits w (front_after front o.machine o.time) os
-    (All-tail (λ u. w u.job ≡ 1) o os ones) in
-    omega (
-      arith,
-      one,
-      rest,
-      sum_by-plus (λ u. front u.machine) (λ u. cond (eqb o.machine u.machine) o.time 0) os,
-      held o.machine o.time os,
-      sum_by-cons (λ u. front u.machine) o os,
-    )
+-- ---- when they end
 
--- ---- how many of the next jobs go to a machine
+-- each time as often as its rank from the end says
+abbrev pub by_rank : ℕ → List WeightedJob → List ℕ
+by_rank m [] = []
+by_rank m (x ∷ xs) = div_ceil (length xs + 1) m * x.time ∷ by_rank m xs
 
--- no multiple of m lies strictly between two that follow each other
-same_quotient : (m a b x y : ℕ) → a * m + x ≡ b * m + y → x < m → y < m → a ≡ b
-same_quotient m a b x y e small small' = elim (cases_lt a b) [
-  | inl less ↦ let more : suc a * m ≤ b * m = mul-le-mul_right m less in absurd (omega arith)
-  | inr le ↦ elim (cases_lt b a) [
-    | inl more ↦ let less : suc b * m ≤ a * m = mul-le-mul_right m more in absurd (omega arith)
-    | inr ge ↦ omega arith
-  ]
-]
+module _ (m : ℕ) (some : 0 < m) where
+  -- of n jobs, behind d others, (n + m - 1 - d) / m
+  turn_count : (d : ℕ) (xs : List WeightedJob) → d < m
+      → (length (turns m d xs) * m + d ≤ length xs + (m - 1))
+      × (length xs + (m - 1) < length (turns m d xs) * m + m + d)
+  turn_count d [] away = (omega arith, omega arith)
+  turn_count zero (x ∷ xs) away =
+      let rest = turn_count (m - 1) xs (omega arith) in
+      (omega (arith, rest.0), omega (arith, rest.1))
+  turn_count (suc d) (x ∷ xs) away =
+      let rest = turn_count d xs (omega arith) in
+      (omega (arith, rest.0), omega (arith, rest.1))
 
-module _ (m r : ℕ) (some : 0 < m) (small : r < m) where
-  turn_here : (i b : ℕ) → i ≡ b * m + r → ◌≡◌ {A = ℕ} (cond (eqb (r + 1) (i % m + 1)) 1 0) 1
-  turn_here i b e =
-      let whole : i / m * m + i % m ≡ i = div-add-mod' i m in
-      let rest : i % m < m = mod-lt i some in
-      let same : i / m ≡ b = same_quotient m (i / m) b (i % m) r (omega arith) rest small in
-      let product : i / m * m ≡ b * m = ap (λ q. q * m) same in
-      let left : i % m ≡ r = omega arith in
-      grind (arith, nat_tests)
-
-  turn_away : (i b d : ℕ) → i + suc d ≡ b * m + r → suc d < m
-      → ◌≡◌ {A = ℕ} (cond (eqb (r + 1) (i % m + 1)) 1 0) 0
-  turn_away i b d e away =
-      let whole : i / m * m + i % m ≡ i = div-add-mod' i m in
-      let differs : ¬ (r + 1 ≡ i % m + 1) = λ at. between (i / m) b (omega arith) in
-      grind (arith, nat_tests)
-    where
-      between : (a c : ℕ) → a * m + suc d ≡ c * m → ⊥
-      between a c e' = elim (cases_lt a c) [
-        | inl less ↦ let more : suc a * m ≤ c * m = mul-le-mul_right m less in omega arith
-        | inr le ↦ let less : c * m ≤ a * m = mul-le-mul_right m le in omega arith
+  -- the job itself and the later ones on its machine
+  rank_of_first : (xs : List WeightedJob)
+      → 1 + length (turns m (m - 1) xs) ≡ div_ceil (length xs + 1) m
+  rank_of_first xs =
+      let n : ℕ = length (turns m (m - 1) xs) in
+      let c : ℕ = div_ceil (length xs + 1) m in
+      let around = turn_count (m - 1) xs (omega arith) in
+      let low : length xs + 1 ≤ c * m = (div_ceil_times (length xs + 1) m some).0 in
+      let most : c ≤ 1 + n =
+      div_ceil_least (length xs + 1) m (1 + n) some (omega (arith, around.1)) in
+      elim (cases_lt n c) [
+        | inl more ↦ omega arith
+        | inr le ↦ let less : c * m ≤ n * m = mul-le-mul_right m le in
+            absurd (omega (arith, around.0))
       ]
 
-  -- the next turn of the machine comes after d others: of n jobs it gets (n + m - 1 - d) / m
-  turns : (d i b : ℕ) (xs : List WeightedJob) → i + d ≡ b * m + r → d < m
-      → (on (r + 1) (dealt_from m i xs) * m + d ≤ length xs + (m - 1))
-      × (length xs + (m - 1) < on (r + 1) (dealt_from m i xs) * m + m + d)
-  turns d i b [] e away = (omega arith, omega arith)
-  turns zero i b (x ∷ xs) e away =
-      let os : List Operation = dealt_from m (i + 1) xs in
-      let n : ℕ = on (r + 1) os in
-      let rest = turns (m - 1) (i + 1) (b + 1) xs (omega arith) (omega arith) in
-      let here : on (r + 1) (dealt_from m i (x ∷ xs)) ≡ 1 + n =
-      omega (
-        arith,
-        on-cons (r + 1) (record { job = x.job; machine = i % m + 1; time = x.time })
-            os,
-        turn_here i b (omega arith),
-      ) in
-      let product : on (r + 1) (dealt_from m i (x ∷ xs)) * m ≡ (1 + n) * m = ap (λ q. q * m) here in
-      (omega (arith, product, rest.0), omega (arith, product, rest.1))
-  turns (suc d) i b (x ∷ xs) e away =
-      let os : List Operation = dealt_from m (i + 1) xs in
-      let n : ℕ = on (r + 1) os in
-      let rest = turns d (i + 1) b xs (omega arith) (omega arith) in
-      let here : on (r + 1) (dealt_from m i (x ∷ xs)) ≡ n =
-      omega (
-        arith,
-        on-cons (r + 1) (record { job = x.job; machine = i % m + 1; time = x.time })
-            os,
-        turn_away i b d e away,
-      ) in
-      let product : on (r + 1) (dealt_from m i (x ∷ xs)) * m ≡ n * m = ap (λ q. q * m) here in
-      (omega (arith, product, rest.0), omega (arith, product, rest.1))
+  -- what a job adds, with l jobs behind it, where its machine is free from f
+  first_adds : (c f l t rest : ℕ) → 1 + l ≡ c
+      → f + t + (l * (f + t) + rest) ≡ f + l * f + (c * t + rest)
+  first_adds c f l t rest e = omega (arith, ap (λ n. n * t) e)
 
--- the job itself and the later ones on its machine
-rank_of_first : (m i : ℕ) (xs : List WeightedJob) → 0 < m
-    → 1 + on (i % m + 1) (dealt_from m (i + 1) xs) ≡ div_ceil (length xs + 1) m
-rank_of_first m i xs some =
-    let r : ℕ = i % m in
-    let n : ℕ = on (r + 1) (dealt_from m (i + 1) xs) in
-    let whole : i / m * m + r ≡ i = div-add-mod' i m in
-    let around = turns m r some (mod-lt i some) (m - 1) (i + 1) (i / m + 1) xs (omega arith)
-    (omega arith) in
-    let bounds = div_ceil_times (length xs + 1) m some in
-    let c : ℕ = div_ceil (length xs + 1) m in
-    let low : length xs + 1 ≤ c * m = bounds.0 in
-    let high : c * m < length xs + 1 + m = bounds.1 in
-    elim (cases_lt (1 + n) c) [
-      | inl less ↦ let more : suc (1 + n) * m ≤ c * m = mul-le-mul_right m less in
-          absurd (omega (arith, around.0, around.1))
-      | inr le ↦ elim (cases_lt c (1 + n)) [
-        | inl more ↦ let less : suc c * m ≤ (1 + n) * m = mul-le-mul_right m more in
-            absurd (omega (arith, around.0, around.1))
-        | inr ge ↦ omega arith
-      ]
-    ]
+  module _ (w : ℕ → ℕ) where
+    -- the machines behind machine i are free
+    abbrev IsFreeBehind : ℕ → (ℕ → ℕ) → Type 0
+    IsFreeBehind i front = (h : ℕ) → i < h → front h ≡ 0
 
--- ---- the value
+    -- the jobs of machine i, where all jobs weigh 1
+    ends_turns : (i v : ℕ) (os : List Operation)
+        → ((front : ℕ → ℕ) → IsFreeBehind i front → weighted_ends w front os ≡ v)
+        → (d : ℕ) (xs : List WeightedJob) → d < m → All (λ x. w x.job ≡ 1) xs
+        → (front : ℕ → ℕ) → IsFreeBehind i front
+        → weighted_ends w front (map (run_on i) (turns m d xs) ++ os)
+        ≡ length (turns m d xs) * front i + (sum (turns m d (by_rank m xs)) + v)
+    ends_turns i v os behind d [] away ones front free = omega (arith, behind front free)
+    ends_turns i v os behind zero (x ∷ xs) away ones front free =
+        let later : List WeightedJob = turns m (m - 1) xs in
+        let one : w x.job * (front i + x.time) ≡ 1 * (front i + x.time) =
+        ap (λ n. n * (front i + x.time)) (All-head (λ y. w y.job ≡ 1) x xs ones) in
+        let here : front_after front i x.time i ≡ front i + x.time = grind (arith, nat_tests) in
+        let product : length later * front_after front i x.time i
+        ≡ length later * (front i + x.time) = ap (λ f. length later * f) here in
+        let rest = ends_turns i v os behind (m - 1) xs (omega arith)
+        (All-tail (λ y. w y.job ≡ 1) x xs ones) (front_after front i x.time)
+        (λ h lt. omega (arith, free h lt, other h x.time lt)) in
+        omega (
+          arith,
+          one,
+          rest,
+          product,
+          first_adds (div_ceil (length xs + 1) m) (front i) (length later) x.time
+              (sum (turns m (m - 1) (by_rank m xs)) + v) (rank_of_first xs),
+          sum_by-cons (λ y. y) (div_ceil (length xs + 1) m * x.time)
+              (turns m (m - 1) (by_rank m xs)),
+        )
+      where
+        other : (h t : ℕ) → i < h → ◌≡◌ {A = ℕ} (cond (eqb i h) t 0) 0
+        other h t lt = grind (arith, nat_tests)
+    ends_turns i v os behind (suc d) (x ∷ xs) away ones front free =
+        ends_turns i v os behind d xs (omega arith) (All-tail (λ y. w y.job ≡ 1) x xs ones) front
+        free
 
--- each time by its rank from the end
-abbrev by_rank : ℕ → List WeightedJob → ℕ
-by_rank m [] = 0
-by_rank m (x ∷ xs) = div_ceil (length xs + 1) m * x.time + by_rank m xs
-
-waits-dealt : (m i : ℕ) (xs : List WeightedJob) → 0 < m → waits (dealt_from m i xs) ≡ by_rank m xs
-waits-dealt m i [] some = refl
-waits-dealt m i (x ∷ xs) some =
-    let rank : (1 + on (i % m + 1) (dealt_from m (i + 1) xs)) * x.time
-    ≡ div_ceil (length xs + 1) m * x.time =
-    ap (λ c. c * x.time) (rank_of_first m i xs some) in
-    omega (arith, rank, waits-dealt m (i + 1) xs some)
+    -- the jobs of the first c machines, before operations on the others
+    ends_all : (c v : ℕ) (os : List Operation) (xs : List WeightedJob) → c ≤ m
+        → All (λ x. w x.job ≡ 1) xs
+        → ((front : ℕ → ℕ) → IsFreeBehind c front → weighted_ends w front os ≡ v)
+        → weighted_ends w (λ _. 0) (dealt m c xs ++ os) ≡ sum (all_turns m c (by_rank m xs)) + v
+    ends_all zero v os xs le ones behind = omega (arith, behind (λ _. 0) (λ h lt. refl))
+    ends_all (suc c) v os xs le ones behind =
+        let terms : List ℕ = turns m c (by_rank m xs) in
+        omega (
+          arith,
+          ap (weighted_ends w (λ _. 0)) (append_assoc (dealt m c xs) (share m c xs) os),
+          ends_all c (sum terms + v) (share m c xs ++ os) xs (omega arith) ones (λ front free.
+              let none : length (turns m c xs) * front (suc c) ≡ length (turns m c xs) * 0 =
+              ap (λ f. length (turns m c xs) * f) (free (suc c) (omega arith)) in
+              omega (
+                arith,
+                none,
+                ends_turns (suc c) v os behind c xs (omega arith) ones front
+                    (λ h lt. free h (omega arith)),
+              )),
+          sum_by-append (λ y. y) (all_turns m c (by_rank m xs)) terms,
+        )
 
 enumerate_push : (n : ℕ) (xs : List ℕ) (y : ℕ)
     → enumerate_from n (xs ++ y ∷ []) ≡ enumerate_from n xs ++ (n + length xs, y) ∷ []
@@ -182,7 +173,7 @@ enumerate_push n (x ∷ xs) y =
 
 -- that is the value of the ranks of the jobs from the last to the first
 by_rank-reversed : (k : SchedulingTask) (xs : List WeightedJob) → All (IsOfTask k) xs
-    → ranks_value k (reverse (jobs_of xs)) ≡ by_rank k.machines xs
+    → ranks_value k (reverse (jobs_of xs)) ≡ sum (by_rank k.machines xs)
 by_rank-reversed k [] told = refl
 by_rank-reversed k (x ∷ xs) told =
     let js : List ℕ = jobs_of xs in
@@ -198,18 +189,26 @@ by_rank-reversed k (x ∷ xs) told =
     ap (λ t. div_ceil (length xs + 1) k.machines * t)
     (sym (All-head (IsOfTask k) x xs told).time) in
     ap (sum_by f) listed ∙ sum_by_push f (enumerate_from 1 (reverse js)) (length xs + 1, x.job)
-    ∙ omega (arith, by_rank-reversed k xs (All-tail (IsOfTask k) x xs told), own)
+    ∙ omega (
+      arith,
+      by_rank-reversed k xs (All-tail (IsOfTask k) x xs told),
+      own,
+      sum_by-cons (λ y. y) (div_ceil (length xs + 1) k.machines * x.time)
+          (by_rank k.machines xs),
+    )
 
 -- where all jobs weigh 1, the ends of the jobs as they are dealt add up to that value
 pub ends-dealt : (k : SchedulingTask) (xs : List WeightedJob) → 0 < k.machines → All (IsOfTask k) xs
-    → ((i : ℕ) → All (λ o. (job_data k o.job).weight ≡ 1) (dealt_from k.machines i xs))
-    → weighted_ends (λ j. (job_data k j).weight) (λ _. 0) (dealt_from k.machines 0 xs)
+    → (w : ℕ → ℕ) → All (λ x. w x.job ≡ 1) xs
+    → weighted_ends w (λ _. 0) (dealt k.machines k.machines xs)
     ≡ ranks_value k (reverse (jobs_of xs))
-ends-dealt k xs some told ones =
+ends-dealt k xs some told w ones =
+    let m : ℕ = k.machines in
     omega (
       arith,
-      ends-waits (λ j. (job_data k j).weight) (λ _. 0) (dealt_from k.machines 0 xs) (ones 0),
-      sum_by-zero_terms (dealt_from k.machines 0 xs),
-      waits-dealt k.machines 0 xs some,
+      ap (weighted_ends w (λ _. 0)) (append-nil (dealt m m xs)),
+      ends_all m some w m 0 [] xs (omega arith) ones (λ front free. refl),
+      sum_by-IsPermutation (λ y. y) (by_rank m xs) (all_turns m m (by_rank m xs))
+          (turned_all m some (by_rank m xs)),
       by_rank-reversed k xs told,
     )

@@ -1,12 +1,15 @@
 -- The jobs by time, dealt round the machines: the timetable fits, and costs at most the bound by
 -- the ranks of the reverse order.
-use Rattle.std.proofs.Common.{◌≡◌, ℕ, ◌+◌, ◌-◌, ◌*◌, ◌%◌, ◌<◌, ◌≤◌, ◌≤ℤ◌, pos, cond, eqb, List, [], ◌∷◌, length, get_or, reverse, Ok, refl, sym, ap, subst, arith, IsTrue, mod-lt}
-use Rattle.std.specs.List.{All, AllPairs, sum_by}
+use Rattle.std.proofs.Common.{◌≡◌, ℕ, zero, suc, ◌+◌, ◌-◌, ◌*◌, ◌<◌, ◌≤◌, ◌≤ℤ◌, pos, cond, eqb, List, [], ◌∷◌, ◌++◌, length, get_or, drop, map, reverse, Ok, refl, sym, ap, subst, ◌∙◌, arith, inl, inr, IsTrue}
+use Rattle.std.specs.List.{All, AllPairs, fold, sum_by}
 use Rattle.std.specs.List.Sorted.{IsPermutation}
-use Rattle.std.proofs.lemmas.List.{get_or-reverse, get_or-map, length-reverse, length-map}
-use Rattle.std.proofs.lemmas.List.Elements.{All-cons, All-head, All-tail, All-nil}
+use Rattle.std.proofs.lemmas.Bool.{cases_eq}
+use Rattle.std.proofs.lemmas.List.{get_or-reverse, get_or-map, length-reverse, length-map, map-append, drop-drop, drop_more, drop_all}
+use Rattle.std.proofs.lemmas.Simd.{map-map}
+use Rattle.std.proofs.lemmas.List.Elements.{All-append, All-cons, All-head, All-map, All-tail, All-nil}
 use Rattle.std.proofs.lemmas.List.FromFn.{length-range_with_len}
-use Rattle.std.proofs.lemmas.List.Sorted.{All-permutation, sum_by-IsPermutation, IsPermutation-reverse, IsPermutation-trans, length_permutation}
+use Rattle.std.proofs.lemmas.List.Sorted.{All-permutation, sum_by-IsPermutation, IsPermutation-map, IsPermutation-refl, IsPermutation-reverse, IsPermutation-trans, length_permutation}
+use Rattle.std.proofs.lemmas.List.Sums.{sum_by-cons, sum_by-append, fold-append}
 use Rattle.tf_model.specs.Bounds.{ranks_value}
 use Rattle.tf_model.specs.ClassTable.{is_sum, is_parallel}
 use Rattle.tf_model.specs.Cost.{cost}
@@ -20,10 +23,12 @@ use Rattle.tf_model.proofs.Loads.{IsDistinct-all_jobs}
 use Rattle.tf_model.proofs.Work.{IsDistinct}
 use Rattle.tf_schedule.specs.declared.piece.Piece.{Piece}
 use Rattle.tf_schedule.specs.declared.semi_active.Operation.{Operation}
-use Rattle.tf_schedule.specs.Drawing.{drawing}
-use Rattle.tf_schedule.specs.Schedule.{IsSchedule, ComesBefore}
-use Rattle.tf_schedule.specs.SemiActive.{laid, IsOperation}
-use Rattle.tf_schedule.proofs.LaidFits.{sorted_schedule}
+use Rattle.tf_schedule.specs.Drawing.{drawing, greatest_stop}
+use Rattle.tf_schedule.specs.Schedule.{IsSchedule}
+use Rattle.tf_schedule.specs.SemiActive.{laid, with_operation}
+use Rattle.tf_schedule.proofs.Laying.{stop_fold}
+use Rattle.tf_schedule.proofs.LaidFits.{IsListed, is_laid, laid_schedule}
+use Rattle.tf_schedule.proofs.Parts.{AllPairs-append}
 use Rattle.tf_schedule.proofs.OneOperation.{jobs_of as jobs_of_operations, IsOneEach, OtherJob, one_listed, one_fits, one_cost}
 use Rattle.tf_check.specs.declared.weighted_job.WeightedJob.{WeightedJob}
 use Rattle.tf_check.specs.Accepted.{IsAccepted}
@@ -35,28 +40,128 @@ use Rattle.tf_check.proofs.LaidAccepted.{laid_accepted}
 use Rattle.tf_check.proofs.NoFault.{no_list_fault}
 use Rattle.tf_check.proofs.RankedTimes.{ranks_within, ranks_fault_none}
 use Rattle.tf_check.proofs.RatioOrder.{jobs_falling}
-use Rattle.tf_multi.specs.Dealing.{dealt_from}
-use Rattle.tf_multi.proofs.Dealing.{ends-dealt}
+use Rattle.tf_multi.specs.Dealing.{turns, run_on, share, dealt}
+use Rattle.tf_multi.proofs.Dealing.{all_turns, turned_all, ends-dealt}
 
 -- ---- the operations
 
-jobs_of_dealt : (m i : ℕ) (xs : List WeightedJob)
-    → jobs_of_operations (dealt_from m i xs) ≡ jobs_of xs
-jobs_of_dealt m i [] = refl
-jobs_of_dealt m i (x ∷ xs) = ap (λ js. x.job ∷ js) (jobs_of_dealt m (i + 1) xs)
+jobs_of_dealt : (m c : ℕ) (xs : List WeightedJob)
+    → jobs_of_operations (dealt m c xs) ≡ jobs_of (all_turns m c xs)
+jobs_of_dealt m zero xs = refl
+jobs_of_dealt m (suc c) xs =
+    map-append (λ o. o.job) (dealt m c xs) (share m c xs)
+    ∙ ap (λ js. js ++ jobs_of_operations (share m c xs)) (jobs_of_dealt m c xs)
+    ∙ ap (λ js. jobs_of (all_turns m c xs) ++ js)
+    (map-map (λ o. o.job) (run_on (suc c)) (turns m c xs))
+    ∙ sym (map-append (λ x. x.job) (all_turns m c xs) (turns m c xs))
 
--- what holds of each job on each machine holds of each operation
-All-dealt : (P : Operation → Type 0) (m : ℕ) → 0 < m → (i : ℕ) (xs : List WeightedJob)
-    → All (λ x. (h : ℕ) → (0 < h) × (h ≤ m)
-    → P (record { job = x.job; machine = h; time = x.time })) xs → All P (dealt_from m i xs)
-All-dealt P m some i [] all = All-nil P
-All-dealt P m some i (x ∷ xs) all =
-    let Q : WeightedJob → Type 0 = λ y. (h : ℕ) → (0 < h) × (h ≤ m)
-    → P (record { job = y.job; machine = h; time = y.time }) in
-    All-cons P (record { job = x.job; machine = i % m + 1; time = x.time })
-    (dealt_from m (i + 1) xs)
-    (All-head Q x xs all (i % m + 1) (omega arith, omega (arith, mod-lt i some)))
-    (All-dealt P m some (i + 1) xs (All-tail Q x xs all))
+All-turns : (P : WeightedJob → Type 0) (m d : ℕ) (xs : List WeightedJob) → All P xs
+    → All P (turns m d xs)
+All-turns P m d [] all = all
+All-turns P m zero (x ∷ xs) all =
+    All-cons P x (turns m (m - 1) xs) (All-head P x xs all)
+    (All-turns P m (m - 1) xs (All-tail P x xs all))
+All-turns P m (suc d) (x ∷ xs) all = All-turns P m d xs (All-tail P x xs all)
+
+-- what holds of each job on each of the machines holds of each operation
+All-dealt : (P : Operation → Type 0) (m c : ℕ) (xs : List WeightedJob)
+    → All (λ x. (h : ℕ) → (0 < h) × (h ≤ c) → P (run_on h x)) xs → All P (dealt m c xs)
+All-dealt P m zero xs all = All-nil P
+All-dealt P m (suc c) xs all =
+    All-append P (dealt m c xs) (share m c xs)
+    (All-dealt P m c xs (λ a d h i on. all a d h i (on.0, omega (arith, on.1))))
+    (All-map P (run_on (suc c)) (turns m c xs)
+    (All-turns (λ x. P (run_on (suc c) x)) m c xs
+    (λ a d h. all a d h (suc c) (omega arith, omega arith))))
+
+-- the operations come by machine
+machines_rise : (m c : ℕ) (xs : List WeightedJob)
+    → AllPairs (λ o u. o.machine ≤ u.machine) (dealt m c xs)
+machines_rise m zero xs = λ a b d lt within. absurd (omega arith)
+machines_rise m (suc c) xs =
+    let on : All (λ o. o.machine ≡ suc c) (share m c xs) =
+    All-map (λ o. o.machine ≡ suc c) (run_on (suc c)) (turns m c xs) (λ a d h. refl) in
+    let before : All (λ o. o.machine ≤ c) (dealt m c xs) =
+    All-dealt (λ o. o.machine ≤ c) m c xs (λ a d h i at. at.1) in
+    AllPairs-append (λ o u. o.machine ≤ u.machine) (dealt m c xs) (share m c xs)
+    (machines_rise m c xs)
+    (λ a b d lt within. omega (arith, on a d (omega arith), on b d within))
+    (λ a d h b e k. omega (arith, before a d h, on b e k))
+
+-- ---- one machine after another
+
+-- with the jobs of the next machine
+pub laid_more : (m c : ℕ) (xs : List WeightedJob) (ps qs : List Piece) → ps ≡ laid (dealt m c xs)
+    → qs ≡ fold with_operation ps (share m c xs) → qs ≡ laid (dealt m (c + 1) xs)
+laid_more m c xs ps qs before more =
+    let e : suc c ≡ c + 1 = omega arith in
+    more ∙ ap (λ rs. fold with_operation rs (share m c xs)) before
+    ∙ sym (fold-append with_operation [] (dealt m c xs) (share m c xs))
+    ∙ ap (λ n. laid (dealt m n xs)) e
+
+-- the next machine's time is within that of all
+pub share_within : (m c n : ℕ) (xs : List WeightedJob) → c < n
+    → greatest_stop (laid (dealt m c xs)) + sum_by (λ o. o.time) (share m c xs)
+    ≤ sum_by (λ o. o.time) (dealt m n xs)
+share_within m c zero xs lt = absurd (omega arith)
+share_within m c (suc n) xs lt = elim (cases_eq c n) [
+  | inl same ↦ omega (
+    arith,
+    stop_fold (dealt m c xs) [],
+    sum_by-append (λ o. o.time) (dealt m c xs) (share m c xs),
+    ap (λ b. sum_by (λ o. o.time) (dealt m (suc b) xs)) same,
+  )
+  | inr differ ↦ omega (
+    arith,
+    share_within m c n xs (omega arith),
+    sum_by-append (λ o. o.time) (dealt m n xs) (share m n xs),
+  )
+]
+
+pub turns-drop : (m d : ℕ) (xs : List WeightedJob) → turns m 0 (drop d xs) ≡ turns m d xs
+turns-drop m zero xs = refl
+turns-drop m (suc d) [] = refl
+turns-drop m (suc d) (x ∷ xs) = turns-drop m d xs
+
+-- the operations that are left come to the wanted pieces, within the limit
+pub record IsLeft (wanted ps : List Piece) (os : List Operation) : Type 0 where
+  pub pieces : fold with_operation ps os ≡ wanted
+  pub within : greatest_stop ps + sum_by (λ o. o.time) os ≤ limit
+
+module _ (m i : ℕ) (xs : List WeightedJob) where
+  -- a machine's jobs from a place on
+  abbrev pub left : ℕ → List Operation
+  left p = map (run_on (suc i)) (turns m 0 (drop p xs))
+
+  pub left_none : (p : ℕ) → length xs ≤ p → left p ≡ []
+  left_none p none = ap (λ ys. map (run_on (suc i)) (turns m 0 ys)) (drop_all p xs none)
+
+  -- with the job at the place
+  pub left_next : {wanted ps qs : List Piece} {p h : ℕ} {x : WeightedJob} → 0 < m → p < length xs
+      → x ≡ get_or xs p x → h ≡ i + 1 → qs ≡ with_operation ps (run_on h x)
+      → IsLeft wanted ps (left p) → IsLeft wanted qs (left (p + m))
+  left_next {ps = ps} {qs = qs} {p = p} {h = h} {x = x} some here is on laid_one before =
+      let e : p + 1 + (m - 1) ≡ p + m = omega arith in
+      let e' : suc i ≡ h = omega (arith, on) in
+      let next : left p ≡ run_on h x ∷ left (p + m) =
+      ap (λ ys. map (run_on (suc i)) (turns m 0 ys))
+      (drop_more xs p x here ∙ ap (λ y. y ∷ drop (p + 1) xs) (sym is))
+      ∙ ap (λ ys. run_on (suc i) x ∷ map (run_on (suc i)) ys)
+      (sym (turns-drop m (m - 1) (drop (p + 1) xs))
+      ∙ ap (turns m 0) (drop-drop (m - 1) (p + 1) xs ∙ ap (λ n. drop n xs) e))
+      ∙ ap (λ n. run_on n x ∷ left (p + m)) e' in
+      record {
+        pieces = ap (λ rs. fold with_operation rs (left (p + m))) laid_one
+            ∙ ap (fold with_operation ps) (sym next) ∙ before.pieces;
+        within = omega (
+          arith,
+          before.within,
+          ap greatest_stop laid_one,
+          stop_fold (run_on h x ∷ []) ps,
+          ap (sum_by (λ o. o.time)) next,
+          sum_by-cons (λ o. o.time) (run_on h x) (left (p + m)),
+        );
+      }
 
 -- ---- the reverse order
 
@@ -73,7 +178,7 @@ module _ (k : SchedulingTask) (xs : List WeightedJob) (sound : IsSound k)
     (sum : IsTrue (is_sum k.class)) (parallel : IsTrue (is_parallel k.class))
     (by_ratio : AreByRatio k xs) where
   abbrev os : List Operation
-  os = dealt_from k.machines 0 xs
+  os = dealt k.machines k.machines xs
 
   abbrev pub longest_first : List ℕ
   longest_first = reverse (jobs_of xs)
@@ -85,7 +190,7 @@ module _ (k : SchedulingTask) (xs : List WeightedJob) (sound : IsSound k)
   jobs_known = All-permutation (IsJob k) (all_jobs k) (jobs_of xs) by_ratio.jobs.all
       (All-all_jobs k (IsJob k) (λ j h. h))
 
-  job_known : All (λ x. IsJob k x.job) xs
+  pub job_known : All (λ x. IsJob k x.job) xs
   job_known a d h =
       subst (IsJob k) (get_or-map (λ x. x.job) xs a d d.job h)
       (jobs_known a d.job (omega (arith, length-map xs (λ x. x.job))))
@@ -143,20 +248,35 @@ module _ (k : SchedulingTask) (xs : List WeightedJob) (sound : IsSound k)
 
   dealt_each : IsOneEach k os
   dealt_each = record {
-    jobs = subst (IsPermutation (all_jobs k))
-        (sym (jobs_of_dealt k.machines 0 xs)) by_ratio.jobs.all;
-    times = All-dealt (λ o. o.time ≡ time_of k o.job) k.machines sound.some_machine 0 xs
+    jobs = subst (IsPermutation (all_jobs k)) (sym (jobs_of_dealt k.machines k.machines xs))
+        (IsPermutation-trans (all_jobs k) (jobs_of xs) _ by_ratio.jobs.all
+        (IsPermutation-map (λ x. x.job) xs _ (turned_all k.machines sound.some_machine xs)));
+    times = All-dealt (λ o. o.time ≡ time_of k o.job) k.machines k.machines xs
         (λ a d h i on. (by_ratio.jobs.told a d h).time);
-    machines = All-dealt (λ o. (0 < o.machine) × (o.machine ≤ k.machines)) k.machines
-        sound.some_machine 0 xs (λ a d h i on. on);
+    machines = All-dealt (λ o. (0 < o.machine) × (o.machine ≤ k.machines)) k.machines k.machines xs
+        (λ a d h i on. on);
   }
 
-  -- what the builder asks
-  pub dealt_known : All (IsOperation (length k.jobs) k.machines) os
-  dealt_known = (one_listed k os sound dealt_each).known
+  -- of other jobs, and by machine
+  abbrev InTurn : ℕ → ℕ → ℕ → ℕ → Type 0
+  InTurn j i u h = OtherJob j i u h × (i ≤ h)
 
+  listed : IsListed InTurn k os
+  listed =
+      let one = one_listed k os sound dealt_each in
+      record {
+        never = λ j i both. both.0 refl;
+        known = one.known;
+        keeps = λ a b d lt within. (
+          one.keeps a b d lt within,
+          machines_rise k.machines k.machines xs a b d lt within,
+        );
+        total = one.total;
+      }
+
+  -- what the builder asks
   pub dealt_total : sum_by (λ o. o.time) os ≤ limit
-  dealt_total = (one_listed k os sound dealt_each).total
+  dealt_total = listed.total
 
   dealt_fits : Fits k (drawing k.machines (laid os))
   dealt_fits = one_fits k os sound dealt_each (sum_plain k.class sum) (sum_unreleased k.class sum)
@@ -165,25 +285,23 @@ module _ (k : SchedulingTask) (xs : List WeightedJob) (sound : IsSound k)
   dealt_cost : cost k (drawing k.machines (laid os)) ≤ℤ pos (ranks_value k longest_first)
   dealt_cost =
       subst (λ n. cost k (drawing k.machines (laid os)) ≤ℤ pos n)
-      (ends-dealt k xs sound.some_machine by_ratio.jobs.told
-      (λ i. All-dealt (λ o. (job_data k o.job).weight ≡ 1) k.machines sound.some_machine i xs
-      (λ a d h machine on. one_weight (get_or xs a d).job (job_known a d h))))
+      (ends-dealt k xs sound.some_machine by_ratio.jobs.told (λ j. (job_data k j).weight)
+      (λ a d h. one_weight (get_or xs a d).job (job_known a d h)))
       (one_cost k os sound dealt_each (total k.class sum))
 
-  -- ---- the pieces by machine and start
+  -- ---- the answer
 
-  module _ (qs : List Piece) (sorted : IsPermutation (laid os) qs) where
-    pub dealt_schedule : AllPairs ComesBefore qs → IsSchedule qs
-    dealt_schedule =
-        sorted_schedule OtherJob k os sound (one_listed k os sound dealt_each) qs sorted
+  pub dealt_schedule : IsSchedule (laid os)
+  dealt_schedule = laid_schedule InTurn k os sound listed
+      (λ a b d lt within. ((is_laid InTurn k os sound listed).apart a b d lt within).kept.1)
 
-    pub dealt_accepted : IsAccepted k
-        (record {
-          pieces = qs;
-          value = pos (ranks_value k longest_first);
-          certificate =
-              ByRanks longest_first;
-        })
-    dealt_accepted =
-        laid_accepted OtherJob k os sound (one_listed k os sound dealt_each) qs sorted dealt_fits
-        (pos (ranks_value k longest_first)) (ByRanks longest_first) ranks_bounded dealt_cost
+  pub dealt_accepted : IsAccepted k
+      (record {
+        pieces = laid os;
+        value = pos (ranks_value k longest_first);
+        certificate =
+            ByRanks longest_first;
+      })
+  dealt_accepted =
+      laid_accepted InTurn k os sound listed (laid os) (IsPermutation-refl (laid os)) dealt_fits
+      (pos (ranks_value k longest_first)) (ByRanks longest_first) ranks_bounded dealt_cost

@@ -1,10 +1,23 @@
--- The operations of jobs that are dealt round the machines.
-use Rattle.std.specs.Prelude.{List, [], ℕ, ◌%◌, ◌+◌, ◌∷◌}
+-- Jobs that are dealt to machines in turn.
+use Rattle.std.specs.Prelude.{List, [], ℕ, zero, suc, ◌-◌, ◌∷◌, ◌++◌, map}
 use Rattle.tf_check.specs.declared.weighted_job.WeightedJob.{WeightedJob}
 use Rattle.tf_schedule.specs.declared.semi_active.Operation.{Operation}
 
--- the jobs go to the m machines in turn, the first to machine i mod m, counted from 0
-abbrev pub dealt_from : ℕ → ℕ → List WeightedJob → List Operation
-dealt_from m i [] = []
-dealt_from m i (x ∷ xs) =
-    record { job = x.job; machine = i % m + 1; time = x.time } ∷ dealt_from m (i + 1) xs
+-- what one of m machines gets in turn, where d others come first
+abbrev pub turns : {X : Type 0} → ℕ → ℕ → List X → List X
+turns m d [] = []
+turns m zero (x ∷ xs) = x ∷ turns m (m - 1) xs
+turns m (suc d) (x ∷ xs) = turns m d xs
+
+-- the job on machine i
+abbrev pub run_on : ℕ → WeightedJob → Operation
+run_on i x = record { job = x.job; machine = i; time = x.time }
+
+-- the jobs of one of m machines, where i others come first
+abbrev pub share : ℕ → ℕ → List WeightedJob → List Operation
+share m i xs = map (run_on (suc i)) (turns m i xs)
+
+-- the jobs of the first c of m machines, one machine after another
+abbrev pub dealt : ℕ → ℕ → List WeightedJob → List Operation
+dealt m zero xs = []
+dealt m (suc c) xs = dealt m c xs ++ share m c xs

@@ -1,11 +1,16 @@
 //! Parallel machines with a sum of completions.
-ghost use Rattle.std.specs.Prelude.{◌≡◌, ◌<◌, reverse, IfOk, IsTrue};
+ghost use Rattle.std.specs.Prelude.{◌≡◌, ◌+◌, ◌<◌, ◌≤◌, reverse, IfOk, IsTrue};
+ghost use Rattle.std.specs.List.{All, fold, sum_by};
 ghost use Rattle.tf_model.specs.ClassTable.{is_parallel, is_sum};
+ghost use Rattle.tf_model.specs.Limit.{limit};
+ghost use Rattle.tf_model.specs.Sound.{IsSound};
+ghost use Rattle.tf_schedule.specs.Drawing.{greatest_stop};
 ghost use Rattle.tf_schedule.specs.Schedule.{IsSchedule};
+ghost use Rattle.tf_schedule.specs.SemiActive.{laid, with_operation};
 ghost use Rattle.tf_check.specs.Accepted.{IsAccepted};
-ghost use Rattle.tf_check.specs.Ratio.{jobs_of};
+ghost use Rattle.tf_check.specs.Ratio.{AreByRatio, jobs_of};
 ghost use Rattle.tf_multi.specs.Dealt.{IsReverseRanks};
-ghost use Rattle.tf_multi.specs.Dealing.{dealt_from};
+ghost use Rattle.tf_multi.specs.Dealing.{share, dealt};
 
 use std::alloc::Allocator;
 use tf_check::answer::Answer;
@@ -17,9 +22,9 @@ use tf_model::ids::{JobId, MachineId};
 use tf_model::job_list::JobList;
 use tf_model::memory::OutOfMemory;
 use tf_model::task::Task;
-use tf_schedule::machine_order::by_machine;
+use tf_schedule::piece::Piece;
 use tf_schedule::piece_list::PieceList;
-use tf_schedule::semi_active::{Operation, semi_active};
+use tf_schedule::semi_active::{Operation, SemiActive};
 
 /// A timetable of least sum of completions on parallel machines (Conway, Maxwell and Miller 1967).
 ///
@@ -38,12 +43,9 @@ pub fn spt<A: Allocator + Copy, B: Allocator>(
 {
     // All jobs weigh the same, so that those of greater weight for their time are the shorter ones.
     let jobs = jobs_by_ratio(alloc, task)?;
-    let operations = dealt(alloc, task.machines(), &jobs)?;
+    let pieces = dealt(alloc, task, &jobs)?;
     let longest_first = reversed(alloc, &jobs)?;
     drop(jobs);
-    let laid = semi_active(alloc, task.len(), task.machines() as usize, &operations)?;
-    drop(operations);
-    let pieces = by_machine(alloc, laid, task.machines())?;
     let value = ranked_times(task, &longest_first);
     Ok(Answer {
         pieces: PieceList::new(pieces),
@@ -54,25 +56,53 @@ pub fn spt<A: Allocator + Copy, B: Allocator>(
     })
 }
 
-// The jobs in turn on machine 1, machine 2 and so on, and behind the last on machine 1 again.
-fn dealt<A: Allocator>(
+// The pieces of the jobs that machine 1 gets in turn, then of those of machine 2, and so on.
+fn dealt<A: Allocator + Copy, B: Allocator>(
     alloc: A,
-    machines: u32,
+    task: &Task<B>,
     jobs: &[WeightedJob],
-) -> Result<Vec<Operation, A>, OutOfMemory>
-    requires { 0 < machines }
-    ensures { IfOk result (λ operations. operations.items ≡ dealt_from machines 0 jobs.now) }
+) -> Result<Vec<Piece, A>, OutOfMemory>
+    requires sum { IsTrue (is_sum task.now.class) }
+    requires parallel { IsTrue (is_parallel task.now.class) }
+    requires by_ratio { AreByRatio task.now jobs.now }
+    ensures laid { IfOk result (λ pieces.
+        pieces.items ≡ laid (dealt task.now.machines task.now.machines jobs.now)) }
+    ensures sound { IfOk result (λ _. IsSound task.now) }
 {
-    let mut operations = Vec::with_capacity(alloc, jobs.len())?;
-    for (place, job) in jobs.iter().enumerate() {
-        let turn = (place % machines as usize) as u32;
-        operations.push(Operation {
+    let machines = task.machines();
+    let mut timetable = SemiActive::new(alloc, jobs.len(), task.len(), machines as usize)?;
+    for machine in 0..machines {
+        lay_turns(&mut timetable, jobs, machine, machines)?;
+    }
+    Ok(timetable.into_pieces())
+}
+
+// Lays the jobs of a machine, counted from 0: one job from each round of the machines.
+fn lay_turns<A: Allocator + Copy>(
+    timetable: &mut SemiActive<A>,
+    jobs: &[WeightedJob],
+    machine: u32,
+    machines: u32,
+) -> Result<(), OutOfMemory>
+    requires jobs { All (λ x. (0 < x.job) × (x.job ≤ timetable.old.jobs)) jobs.now }
+    requires machine { (machine < machines) × (machines ≤ timetable.old.machines) }
+    requires within { greatest_stop timetable.old.pieces
+        + sum_by (λ o. o.time) (share machines machine jobs.now) ≤ limit }
+    ensures pieces { IfOk result (λ _. timetable.new.pieces
+        ≡ fold with_operation timetable.old.pieces (share machines machine jobs.now)) }
+    ensures jobs { timetable.new.jobs ≡ timetable.old.jobs }
+    ensures machines { timetable.new.machines ≡ timetable.old.machines }
+{
+    let id = MachineId::new(machine + 1).unwrap();
+    for place in (machine as usize..jobs.len()).step_by(machines as usize) {
+        let job = jobs[place];
+        timetable.lay(Operation {
             job: job.job,
-            machine: MachineId::new(turn + 1).unwrap(),
+            machine: id,
             time: job.time,
         })?;
     }
-    Ok(operations)
+    Ok(())
 }
 
 // The jobs from the last to the first.

@@ -1,9 +1,12 @@
-use Rattle.std.proofs.Common.{◌≡◌, ◌++◌, drop}
-use Rattle.tf_multi.specs.Dealing.{dealt_from}
+use Rattle.std.proofs.Common.{◌≡◌, length}
+use Rattle.tf_schedule.specs.SemiActive.{laid}
+use Rattle.tf_multi.specs.Dealing.{dealt}
 use Rattle.tf_multi.proofs.spt.dealt.Given as goal
 
--- the jobs that are left are dealt behind those so far
-abbrev pub invariant-loop-place : goal.invariant-loop-place
-invariant-loop-place g l =
-    l.operations.items ++ dealt_from l.machines l.place (drop l.place l.jobs)
-    ≡ dealt_from l.machines 0 l.jobs
+-- the machines so far have their jobs
+abbrev pub invariant-loop-machine : goal.invariant-loop-machine
+invariant-loop-machine g l = record {
+  pieces : l.timetable.pieces ≡ laid (dealt l.machines l.machine l.jobs);
+  jobs : l.timetable.jobs ≡ length l.task.jobs;
+  machines : l.timetable.machines ≡ l.machines;
+}

@@ -4,79 +4,43 @@ use mir.Syntax.{w64}
 use Rattle.tf_check.specs.declared.weighted_job.WeightedJob.{WeightedJob}
 use Rattle.tf_check.specs.Claim.{ByRanks}
 use Rattle.tf_check.specs.Ratio.{jobs_of}
-use Rattle.tf_multi.proofs.DealtRound.{dealt_known, dealt_total, ranks_known, ranks_limit, dealt_schedule, dealt_accepted}
+use Rattle.tf_multi.proofs.DealtRound.{ranks_known, ranks_limit, dealt_schedule, dealt_accepted}
 use Rattle.tf_multi.proofs.spt.spt.Goals as goal
-
-pub semi_active-requires-clause-known : goal.semi_active-requires-clause-known
-semi_active-requires-clause-known g c =
-    rw (
-      c.deref-3.ensures.value,
-      c.in_ok-operations.ensures,
-      c.machines.ensures.value,
-      c.deref.ensures.value,
-      c.len.ensures.value,
-      c.machines-2.ensures.value,
-    )
-    (dealt_known _ _ c.len.ensures.sound c.requires.sum c.requires.parallel
-    c.in_ok-jobs.ensures.by_ratio)
-
-pub semi_active-requires-clause-total : goal.semi_active-requires-clause-total
-semi_active-requires-clause-total g c =
-    rw (
-      c.deref-3.ensures.value,
-      c.in_ok-operations.ensures,
-      c.machines.ensures.value,
-      c.deref.ensures.value,
-    )
-    (dealt_total _ _ c.len.ensures.sound c.requires.sum c.requires.parallel
-    c.in_ok-jobs.ensures.by_ratio)
 
 pub ranked_times-value-requires-clause-known : goal.ranked_times-value-requires-clause-known
 ranked_times-value-requires-clause-known g c =
-    rw (c.deref-4.ensures.value, c.in_ok-longest_first.ensures, c.deref-2.ensures.value)
-    (ranks_known _ _ c.len.ensures.sound c.requires.sum c.requires.parallel
+    rw (c.deref-3.ensures.value, c.in_ok-longest_first.ensures, c.deref-2.ensures.value)
+    (ranks_known _ _ c.in_ok-pieces.ensures.sound c.requires.sum c.requires.parallel
     c.in_ok-jobs.ensures.by_ratio)
 
 pub ranked_times-value-requires-clause-value : goal.ranked_times-value-requires-clause-value
 ranked_times-value-requires-clause-value g c =
-    rw (c.deref-4.ensures.value, c.in_ok-longest_first.ensures, c.deref-2.ensures.value)
-    (ranks_limit _ _ c.len.ensures.sound c.requires.sum c.requires.parallel
+    rw (c.deref-3.ensures.value, c.in_ok-longest_first.ensures, c.deref-2.ensures.value)
+    (ranks_limit _ _ c.in_ok-pieces.ensures.sound c.requires.sum c.requires.parallel
     c.in_ok-jobs.ensures.by_ratio)
 
 pub returns-clause-schedule : goal.returns-clause-schedule
 returns-clause-schedule g c =
-    rw c.new.ensures
-    (dealt_schedule _ _ c.len.ensures.sound c.requires.sum c.requires.parallel
-    c.in_ok-jobs.ensures.by_ratio _
-    (rw (
-      c.in_ok-laid.ensures,
-      c.deref-3.ensures.value,
-      c.in_ok-operations.ensures,
-      c.machines.ensures.value,
-      c.deref.ensures.value,
-    ) at c.in_ok-pieces.ensures.kept) c.in_ok-pieces.ensures.in_order)
+    rw (c.new.ensures, c.in_ok-pieces.ensures.laid, c.deref.ensures.value)
+    (dealt_schedule _ _ c.in_ok-pieces.ensures.sound c.requires.sum c.requires.parallel
+    c.in_ok-jobs.ensures.by_ratio)
 
 pub returns-clause-accepted : goal.returns-clause-accepted
 returns-clause-accepted g c =
     rw (
       c.new.ensures,
+      c.in_ok-pieces.ensures.laid,
+      c.deref.ensures.value,
       c.new-2.ensures,
       to_z_pos w64 c.ranked_times-value.result
           (omega (arith, c.ranked_times-value.ensures.small)),
       c.ranked_times-value.ensures.value,
-      c.deref-4.ensures.value,
+      c.deref-3.ensures.value,
       c.in_ok-longest_first.ensures,
       c.deref-2.ensures.value,
     )
-    (dealt_accepted _ _ c.len.ensures.sound c.requires.sum c.requires.parallel
-    c.in_ok-jobs.ensures.by_ratio _
-    (rw (
-      c.in_ok-laid.ensures,
-      c.deref-3.ensures.value,
-      c.in_ok-operations.ensures,
-      c.machines.ensures.value,
-      c.deref.ensures.value,
-    ) at c.in_ok-pieces.ensures.kept))
+    (dealt_accepted _ _ c.in_ok-pieces.ensures.sound c.requires.sum c.requires.parallel
+    c.in_ok-jobs.ensures.by_ratio)
 
 pub returns-clause-certificate : goal.returns-clause-certificate
 returns-clause-certificate g c =
