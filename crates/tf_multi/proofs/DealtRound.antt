@@ -4,11 +4,11 @@ use Rattle.std.proofs.Common.{◌≡◌, ℕ, zero, suc, ◌+◌, ◌-◌, ◌*�
 use Rattle.std.specs.List.{All, AllPairs, fold, sum_by}
 use Rattle.std.specs.List.Sorted.{IsPermutation}
 use Rattle.std.proofs.lemmas.Bool.{cases_eq}
-use Rattle.std.proofs.lemmas.List.{get_or-reverse, get_or-map, length-reverse, length-map, map-append, drop-drop, drop_more, drop_all}
+use Rattle.std.proofs.lemmas.List.{get_or-reverse, length-reverse, map-append, map-id, drop-drop, drop_more, drop_all}
 use Rattle.std.proofs.lemmas.Simd.{map-map}
 use Rattle.std.proofs.lemmas.List.Elements.{All-append, All-cons, All-head, All-map, All-tail, All-nil}
 use Rattle.std.proofs.lemmas.List.FromFn.{length-range_with_len}
-use Rattle.std.proofs.lemmas.List.Sorted.{All-permutation, sum_by-IsPermutation, IsPermutation-map, IsPermutation-refl, IsPermutation-reverse, IsPermutation-trans, length_permutation}
+use Rattle.std.proofs.lemmas.List.Sorted.{All-permutation, sum_by-IsPermutation, IsPermutation-refl, IsPermutation-reverse, IsPermutation-trans, length_permutation}
 use Rattle.std.proofs.lemmas.List.Sums.{sum_by-cons, sum_by-append, fold-append}
 use Rattle.tf_model.specs.Bounds.{ranks_value}
 use Rattle.tf_model.specs.ClassTable.{is_sum, is_parallel}
@@ -45,111 +45,117 @@ use Rattle.tf_multi.proofs.Dealing.{all_turns, turned_all, ends-dealt}
 
 -- ---- the operations
 
-jobs_of_dealt : (m c : ℕ) (xs : List WeightedJob)
-    → jobs_of_operations (dealt m c xs) ≡ jobs_of (all_turns m c xs)
-jobs_of_dealt m zero xs = refl
-jobs_of_dealt m (suc c) xs =
-    map-append (λ o. o.job) (dealt m c xs) (share m c xs)
-    ∙ ap (λ js. js ++ jobs_of_operations (share m c xs)) (jobs_of_dealt m c xs)
-    ∙ ap (λ js. jobs_of (all_turns m c xs) ++ js)
-    (map-map (λ o. o.job) (run_on (suc c)) (turns m c xs))
-    ∙ sym (map-append (λ x. x.job) (all_turns m c xs) (turns m c xs))
-
-All-turns : (P : WeightedJob → Type 0) (m d : ℕ) (xs : List WeightedJob) → All P xs
-    → All P (turns m d xs)
+-- what holds of each job holds of those of a machine
+All-turns : (P : ℕ → Type 0) (m d : ℕ) (js : List ℕ) → All P js → All P (turns m d js)
 All-turns P m d [] all = all
-All-turns P m zero (x ∷ xs) all =
-    All-cons P x (turns m (m - 1) xs) (All-head P x xs all)
-    (All-turns P m (m - 1) xs (All-tail P x xs all))
-All-turns P m (suc d) (x ∷ xs) all = All-turns P m d xs (All-tail P x xs all)
+All-turns P m zero (j ∷ js) all =
+    All-cons P j (turns m (m - 1) js) (All-head P j js all)
+    (All-turns P m (m - 1) js (All-tail P j js all))
+All-turns P m (suc d) (j ∷ js) all = All-turns P m d js (All-tail P j js all)
 
--- what holds of each job on each of the machines holds of each operation
-All-dealt : (P : Operation → Type 0) (m c : ℕ) (xs : List WeightedJob)
-    → All (λ x. (h : ℕ) → (0 < h) × (h ≤ c) → P (run_on h x)) xs → All P (dealt m c xs)
-All-dealt P m zero xs all = All-nil P
-All-dealt P m (suc c) xs all =
-    All-append P (dealt m c xs) (share m c xs)
-    (All-dealt P m c xs (λ a d h i on. all a d h i (on.0, omega (arith, on.1))))
-    (All-map P (run_on (suc c)) (turns m c xs)
-    (All-turns (λ x. P (run_on (suc c) x)) m c xs
-    (λ a d h. all a d h (suc c) (omega arith, omega arith))))
+module _ (f : ℕ → ℕ) (m : ℕ) where
+  -- the jobs of the operations are what the machines get
+  jobs_of_dealt : (c : ℕ) (js : List ℕ) → jobs_of_operations (dealt f m c js) ≡ all_turns m c js
+  jobs_of_dealt zero js = refl
+  jobs_of_dealt (suc c) js =
+      map-append (λ o. o.job) (dealt f m c js) (share f m c js)
+      ∙ ap (λ is. is ++ jobs_of_operations (share f m c js)) (jobs_of_dealt c js)
+      ∙ ap (λ is. all_turns m c js ++ is)
+      (map-map (λ o. o.job) (run_on f (suc c)) (turns m c js) ∙ map-id (turns m c js))
 
--- the operations come by machine
-machines_rise : (m c : ℕ) (xs : List WeightedJob)
-    → AllPairs (λ o u. o.machine ≤ u.machine) (dealt m c xs)
-machines_rise m zero xs = λ a b d lt within. absurd (omega arith)
-machines_rise m (suc c) xs =
-    let on : All (λ o. o.machine ≡ suc c) (share m c xs) =
-    All-map (λ o. o.machine ≡ suc c) (run_on (suc c)) (turns m c xs) (λ a d h. refl) in
-    let before : All (λ o. o.machine ≤ c) (dealt m c xs) =
-    All-dealt (λ o. o.machine ≤ c) m c xs (λ a d h i at. at.1) in
-    AllPairs-append (λ o u. o.machine ≤ u.machine) (dealt m c xs) (share m c xs)
-    (machines_rise m c xs)
-    (λ a b d lt within. omega (arith, on a d (omega arith), on b d within))
-    (λ a d h b e k. omega (arith, before a d h, on b e k))
+  -- what holds of each job on each of the machines holds of each operation
+  All-dealt : (P : Operation → Type 0) (c : ℕ) (js : List ℕ)
+      → All (λ j. (h : ℕ) → (0 < h) × (h ≤ c) → P (run_on f h j)) js → All P (dealt f m c js)
+  All-dealt P zero js all = All-nil P
+  All-dealt P (suc c) js all =
+      All-append P (dealt f m c js) (share f m c js)
+      (All-dealt P c js (λ a d h i on. all a d h i (on.0, omega (arith, on.1))))
+      (All-map P (run_on f (suc c)) (turns m c js)
+      (All-turns (λ j. P (run_on f (suc c) j)) m c js
+      (λ a d h. all a d h (suc c) (omega arith, omega arith))))
 
--- ---- one machine after another
+  -- the operations come by machine
+  machines_rise : (c : ℕ) (js : List ℕ)
+      → AllPairs (λ o u. o.machine ≤ u.machine) (dealt f m c js)
+  machines_rise zero js = λ a b d lt within. absurd (omega arith)
+  machines_rise (suc c) js =
+      let on : All (λ o. o.machine ≡ suc c) (share f m c js) =
+      All-map (λ o. o.machine ≡ suc c) (run_on f (suc c)) (turns m c js) (λ a d h. refl) in
+      let before : All (λ o. o.machine ≤ c) (dealt f m c js) =
+      All-dealt (λ o. o.machine ≤ c) c js (λ a d h i at. at.1) in
+      AllPairs-append (λ o u. o.machine ≤ u.machine) (dealt f m c js) (share f m c js)
+      (machines_rise c js)
+      (λ a b d lt within. omega (arith, on a d (omega arith), on b d within))
+      (λ a d h b e k. omega (arith, before a d h, on b e k))
 
--- with the jobs of the next machine
-pub laid_more : (m c : ℕ) (xs : List WeightedJob) (ps qs : List Piece) → ps ≡ laid (dealt m c xs)
-    → qs ≡ fold with_operation ps (share m c xs) → qs ≡ laid (dealt m (c + 1) xs)
-laid_more m c xs ps qs before more =
-    let e : suc c ≡ c + 1 = omega arith in
-    more ∙ ap (λ rs. fold with_operation rs (share m c xs)) before
-    ∙ sym (fold-append with_operation [] (dealt m c xs) (share m c xs))
-    ∙ ap (λ n. laid (dealt m n xs)) e
+  -- ---- one machine after another
 
--- the next machine's time is within that of all
-pub share_within : (m c n : ℕ) (xs : List WeightedJob) → c < n
-    → greatest_stop (laid (dealt m c xs)) + sum_by (λ o. o.time) (share m c xs)
-    ≤ sum_by (λ o. o.time) (dealt m n xs)
-share_within m c zero xs lt = absurd (omega arith)
-share_within m c (suc n) xs lt = elim (cases_eq c n) [
-  | inl same ↦ omega (
-    arith,
-    stop_fold (dealt m c xs) [],
-    sum_by-append (λ o. o.time) (dealt m c xs) (share m c xs),
-    ap (λ b. sum_by (λ o. o.time) (dealt m (suc b) xs)) same,
-  )
-  | inr differ ↦ omega (
-    arith,
-    share_within m c n xs (omega arith),
-    sum_by-append (λ o. o.time) (dealt m n xs) (share m n xs),
-  )
-]
+  -- with the jobs of the next machine
+  pub laid_more : (c : ℕ) (js : List ℕ) (ps qs : List Piece) → ps ≡ laid (dealt f m c js)
+      → qs ≡ fold with_operation ps (share f m c js) → qs ≡ laid (dealt f m (c + 1) js)
+  laid_more c js ps qs before more =
+      let e : suc c ≡ c + 1 = omega arith in
+      more ∙ ap (λ rs. fold with_operation rs (share f m c js)) before
+      ∙ sym (fold-append with_operation [] (dealt f m c js) (share f m c js))
+      ∙ ap (λ n. laid (dealt f m n js)) e
 
-pub turns-drop : (m d : ℕ) (xs : List WeightedJob) → turns m 0 (drop d xs) ≡ turns m d xs
-turns-drop m zero xs = refl
+  -- the next machine's time is within that of all
+  pub share_within : (c n : ℕ) (js : List ℕ) → c < n
+      → greatest_stop (laid (dealt f m c js)) + sum_by (λ o. o.time) (share f m c js)
+      ≤ sum_by (λ o. o.time) (dealt f m n js)
+  share_within c zero js lt = absurd (omega arith)
+  share_within c (suc n) js lt = elim (cases_eq c n) [
+    | inl same ↦ omega (
+      arith,
+      stop_fold (dealt f m c js) [],
+      sum_by-append (λ o. o.time) (dealt f m c js) (share f m c js),
+      ap (λ b. sum_by (λ o. o.time) (dealt f m (suc b) js)) same,
+    )
+    | inr differ ↦ omega (
+      arith,
+      share_within c n js (omega arith),
+      sum_by-append (λ o. o.time) (dealt f m n js) (share f m n js),
+    )
+  ]
+
+-- to let d others come first is to leave out the first d jobs
+pub turns-drop : (m d : ℕ) (js : List ℕ) → turns m 0 (drop d js) ≡ turns m d js
+turns-drop m zero js = refl
 turns-drop m (suc d) [] = refl
-turns-drop m (suc d) (x ∷ xs) = turns-drop m d xs
+turns-drop m (suc d) (j ∷ js) = turns-drop m d js
 
 -- the operations that are left come to the wanted pieces, within the limit
 pub record IsLeft (wanted ps : List Piece) (os : List Operation) : Type 0 where
   pub pieces : fold with_operation ps os ≡ wanted
   pub within : greatest_stop ps + sum_by (λ o. o.time) os ≤ limit
 
-module _ (m i : ℕ) (xs : List WeightedJob) where
+module _ (f : ℕ → ℕ) (m i : ℕ) (js : List ℕ) where
   -- a machine's jobs from a place on
   abbrev pub left : ℕ → List Operation
-  left p = map (run_on (suc i)) (turns m 0 (drop p xs))
+  left p = map (run_on f (suc i)) (turns m 0 (drop p js))
 
-  pub left_none : (p : ℕ) → length xs ≤ p → left p ≡ []
-  left_none p none = ap (λ ys. map (run_on (suc i)) (turns m 0 ys)) (drop_all p xs none)
+  -- behind the last job none is left
+  pub left_none : (p : ℕ) → length js ≤ p → left p ≡ []
+  left_none p none = ap (λ hs. map (run_on f (suc i)) (turns m 0 hs)) (drop_all p js none)
 
   -- with the job at the place
-  pub left_next : {wanted ps qs : List Piece} {p h : ℕ} {x : WeightedJob} → 0 < m → p < length xs
-      → x ≡ get_or xs p x → h ≡ i + 1 → qs ≡ with_operation ps (run_on h x)
+  pub left_next : {wanted ps qs : List Piece} {p h j t : ℕ} → 0 < m → p < length js
+      → j ≡ get_or js p j → h ≡ i + 1 → t ≡ f j
+      → qs ≡ with_operation ps (record { job = j; machine = h; time = t })
       → IsLeft wanted ps (left p) → IsLeft wanted qs (left (p + m))
-  left_next {ps = ps} {qs = qs} {p = p} {h = h} {x = x} some here is on laid_one before =
+  left_next {ps = ps} {qs = qs} {p = p} {h = h} {j = j} {t = t} some here is on time laid_one
+      before =
+      let o : Operation = record { job = j; machine = h; time = t } in
       let e : p + 1 + (m - 1) ≡ p + m = omega arith in
       let e' : suc i ≡ h = omega (arith, on) in
-      let next : left p ≡ run_on h x ∷ left (p + m) =
-      ap (λ ys. map (run_on (suc i)) (turns m 0 ys))
-      (drop_more xs p x here ∙ ap (λ y. y ∷ drop (p + 1) xs) (sym is))
-      ∙ ap (λ ys. run_on (suc i) x ∷ map (run_on (suc i)) ys)
-      (sym (turns-drop m (m - 1) (drop (p + 1) xs))
-      ∙ ap (turns m 0) (drop-drop (m - 1) (p + 1) xs ∙ ap (λ n. drop n xs) e))
-      ∙ ap (λ n. run_on n x ∷ left (p + m)) e' in
+      let next : left p ≡ o ∷ left (p + m) =
+      ap (λ hs. map (run_on f (suc i)) (turns m 0 hs))
+      (drop_more js p j here ∙ ap (λ h. h ∷ drop (p + 1) js) (sym is))
+      ∙ ap (λ hs. run_on f (suc i) j ∷ map (run_on f (suc i)) hs)
+      (sym (turns-drop m (m - 1) (drop (p + 1) js))
+      ∙ ap (turns m 0) (drop-drop (m - 1) (p + 1) js ∙ ap (λ n. drop n js) e))
+      ∙ ap (λ n. run_on f n j ∷ left (p + m)) e'
+      ∙ ap (λ n. record { job = j; machine = h; time = n } ∷ left (p + m)) (sym time) in
       record {
         pieces = ap (λ rs. fold with_operation rs (left (p + m))) laid_one
             ∙ ap (fold with_operation ps) (sym next) ∙ before.pieces;
@@ -157,14 +163,65 @@ module _ (m i : ℕ) (xs : List WeightedJob) where
           arith,
           before.within,
           ap greatest_stop laid_one,
-          stop_fold (run_on h x ∷ []) ps,
+          stop_fold (o ∷ []) ps,
           ap (sum_by (λ o. o.time)) next,
-          sum_by-cons (λ o. o.time) (run_on h x) (left (p + m)),
+          sum_by-cons (λ o. o.time) o (left (p + m)),
         );
       }
 
+-- ---- the timetable
+
+-- of other jobs, and by machine
+abbrev InTurn : ℕ → ℕ → ℕ → ℕ → Type 0
+InTurn j i u h = OtherJob j i u h × (i ≤ h)
+
+abbrev operations_of : SchedulingTask → List ℕ → List Operation
+operations_of k js = dealt (time_of k) k.machines k.machines js
+
+module _ (k : SchedulingTask) (js : List ℕ) (sound : IsSound k)
+    (whole : IsPermutation (all_jobs k) js) where
+  abbrev os : List Operation
+  os = operations_of k js
+
+  pub jobs_known : All (IsJob k) js
+  jobs_known = All-permutation (IsJob k) (all_jobs k) js whole
+      (All-all_jobs k (IsJob k) (λ j h. h))
+
+  dealt_each : IsOneEach k os
+  dealt_each = record {
+    jobs = subst (IsPermutation (all_jobs k))
+        (sym (jobs_of_dealt (time_of k) k.machines k.machines js))
+        (IsPermutation-trans (all_jobs k) js _ whole (turned_all k.machines sound.some_machine js));
+    times = All-dealt (time_of k) k.machines (λ o. o.time ≡ time_of k o.job) k.machines js
+        (λ a d h i on. refl);
+    machines = All-dealt (time_of k) k.machines (λ o. (0 < o.machine) × (o.machine ≤ k.machines))
+        k.machines js (λ a d h i on. on);
+  }
+
+  listed : IsListed InTurn k os
+  listed =
+      let one = one_listed k os sound dealt_each in
+      record {
+        never = λ j i both. both.0 refl;
+        known = one.known;
+        keeps = λ a b d lt within. (
+          one.keeps a b d lt within,
+          machines_rise (time_of k) k.machines k.machines js a b d lt within,
+        );
+        total = one.total;
+      }
+
+  -- what the builder asks
+  pub dealt_total : sum_by (λ o. o.time) os ≤ limit
+  dealt_total = listed.total
+
+  pub dealt_schedule : IsSchedule (laid os)
+  dealt_schedule = laid_schedule InTurn k os sound listed
+      (λ a b d lt within. ((is_laid InTurn k os sound listed).apart a b d lt within).kept.1)
+
 -- ---- the reverse order
 
+-- what holds of each job and the later ones holds the other way of the reverse
 AllPairs-reverse : (R : ℕ → ℕ → Type 0) (xs : List ℕ) → AllPairs R xs
     → AllPairs (λ i j. R j i) (reverse xs)
 AllPairs-reverse R xs pairs i j d lt within =
@@ -177,27 +234,21 @@ AllPairs-reverse R xs pairs i j d lt within =
 module _ (k : SchedulingTask) (xs : List WeightedJob) (sound : IsSound k)
     (sum : IsTrue (is_sum k.class)) (parallel : IsTrue (is_parallel k.class))
     (by_ratio : AreByRatio k xs) where
-  abbrev os : List Operation
-  os = dealt k.machines k.machines xs
+  abbrev js : List ℕ
+  js = jobs_of xs
 
   abbrev pub longest_first : List ℕ
-  longest_first = reverse (jobs_of xs)
+  longest_first = reverse js
 
   one_weight : (j : ℕ) → IsJob k j → (job_data k j).weight ≡ 1
   one_weight = sound.unit_weights (parallel_unweighted k.class parallel)
 
-  jobs_known : All (IsJob k) (jobs_of xs)
-  jobs_known = All-permutation (IsJob k) (all_jobs k) (jobs_of xs) by_ratio.jobs.all
-      (All-all_jobs k (IsJob k) (λ j h. h))
-
-  pub job_known : All (λ x. IsJob k x.job) xs
-  job_known a d h =
-      subst (IsJob k) (get_or-map (λ x. x.job) xs a d d.job h)
-      (jobs_known a d.job (omega (arith, length-map xs (λ x. x.job))))
+  known : All (IsJob k) js
+  known = jobs_known k js sound by_ratio.jobs.all
 
   moved : IsPermutation (all_jobs k) longest_first
-  moved = IsPermutation-trans (all_jobs k) (jobs_of xs) longest_first by_ratio.jobs.all
-      (IsPermutation-reverse (jobs_of xs))
+  moved = IsPermutation-trans (all_jobs k) js longest_first by_ratio.jobs.all
+      (IsPermutation-reverse js)
 
   pub ranks_known : All (IsJob k) longest_first
   ranks_known = All-permutation (IsJob k) (all_jobs k) longest_first moved
@@ -217,15 +268,15 @@ module _ (k : SchedulingTask) (xs : List WeightedJob) (sound : IsSound k)
       (parallel_unweighted k.class parallel) longest_first ranks_distinct ranks_known
 
   -- no job is longer than a later one, as all weigh 1
-  rising : AllPairs (λ i j. time_of k i ≤ time_of k j) (jobs_of xs)
+  rising : AllPairs (λ i j. time_of k i ≤ time_of k j) js
   rising a b d lt within =
-      let i : ℕ = get_or (jobs_of xs) a d in
-      let j : ℕ = get_or (jobs_of xs) b d in
+      let i : ℕ = get_or js a d in
+      let j : ℕ = get_or js b d in
       let falling = jobs_falling k xs by_ratio.jobs.told by_ratio.falling a b d lt within in
       let left : (job_data k j).weight * time_of k i ≡ 1 * time_of k i =
-      ap (λ w. w * time_of k i) (one_weight j (jobs_known b d within)) in
+      ap (λ w. w * time_of k i) (one_weight j (known b d within)) in
       let right : (job_data k i).weight * time_of k j ≡ 1 * time_of k j =
-      ap (λ w. w * time_of k j) (one_weight i (jobs_known a d (omega arith))) in
+      ap (λ w. w * time_of k j) (one_weight i (known a d (omega arith))) in
       omega (arith, falling, left, right)
 
   ranks_bounded : ranks_bound k longest_first ≡ Ok (pos (ranks_value k longest_first))
@@ -242,66 +293,32 @@ module _ (k : SchedulingTask) (xs : List WeightedJob) (sound : IsSound k)
       ranks_given k longest_first (sum_takes_ranks k.class sum parallel)
       (no_list_fault k longest_first ranks_known ranks_distinct) some
       (ranks_fault_none k longest_first
-      (AllPairs-reverse (λ i j. time_of k i ≤ time_of k j) (jobs_of xs) rising))
-
-  -- ---- the timetable
-
-  dealt_each : IsOneEach k os
-  dealt_each = record {
-    jobs = subst (IsPermutation (all_jobs k)) (sym (jobs_of_dealt k.machines k.machines xs))
-        (IsPermutation-trans (all_jobs k) (jobs_of xs) _ by_ratio.jobs.all
-        (IsPermutation-map (λ x. x.job) xs _ (turned_all k.machines sound.some_machine xs)));
-    times = All-dealt (λ o. o.time ≡ time_of k o.job) k.machines k.machines xs
-        (λ a d h i on. (by_ratio.jobs.told a d h).time);
-    machines = All-dealt (λ o. (0 < o.machine) × (o.machine ≤ k.machines)) k.machines k.machines xs
-        (λ a d h i on. on);
-  }
-
-  -- of other jobs, and by machine
-  abbrev InTurn : ℕ → ℕ → ℕ → ℕ → Type 0
-  InTurn j i u h = OtherJob j i u h × (i ≤ h)
-
-  listed : IsListed InTurn k os
-  listed =
-      let one = one_listed k os sound dealt_each in
-      record {
-        never = λ j i both. both.0 refl;
-        known = one.known;
-        keeps = λ a b d lt within. (
-          one.keeps a b d lt within,
-          machines_rise k.machines k.machines xs a b d lt within,
-        );
-        total = one.total;
-      }
-
-  -- what the builder asks
-  pub dealt_total : sum_by (λ o. o.time) os ≤ limit
-  dealt_total = listed.total
-
-  dealt_fits : Fits k (drawing k.machines (laid os))
-  dealt_fits = one_fits k os sound dealt_each (sum_plain k.class sum) (sum_unreleased k.class sum)
-      (sum_unordered k.class sum)
-
-  dealt_cost : cost k (drawing k.machines (laid os)) ≤ℤ pos (ranks_value k longest_first)
-  dealt_cost =
-      subst (λ n. cost k (drawing k.machines (laid os)) ≤ℤ pos n)
-      (ends-dealt k xs sound.some_machine by_ratio.jobs.told (λ j. (job_data k j).weight)
-      (λ a d h. one_weight (get_or xs a d).job (job_known a d h)))
-      (one_cost k os sound dealt_each (total k.class sum))
+      (AllPairs-reverse (λ i j. time_of k i ≤ time_of k j) js rising))
 
   -- ---- the answer
 
-  pub dealt_schedule : IsSchedule (laid os)
-  dealt_schedule = laid_schedule InTurn k os sound listed
-      (λ a b d lt within. ((is_laid InTurn k os sound listed).apart a b d lt within).kept.1)
+  abbrev dealt_jobs : List Operation
+  dealt_jobs = operations_of k js
+
+  dealt_fits : Fits k (drawing k.machines (laid dealt_jobs))
+  dealt_fits = one_fits k dealt_jobs sound (dealt_each k js sound by_ratio.jobs.all)
+      (sum_plain k.class sum) (sum_unreleased k.class sum) (sum_unordered k.class sum)
+
+  dealt_cost : cost k (drawing k.machines (laid dealt_jobs)) ≤ℤ pos (ranks_value k longest_first)
+  dealt_cost =
+      subst (λ n. cost k (drawing k.machines (laid dealt_jobs)) ≤ℤ pos n)
+      (ends-dealt k js sound.some_machine (λ j. (job_data k j).weight)
+      (λ a d h. one_weight (get_or js a d) (known a d h)))
+      (one_cost k dealt_jobs sound (dealt_each k js sound by_ratio.jobs.all) (total k.class sum))
 
   pub dealt_accepted : IsAccepted k
       (record {
-        pieces = laid os;
+        pieces = laid dealt_jobs;
         value = pos (ranks_value k longest_first);
         certificate =
             ByRanks longest_first;
       })
   dealt_accepted =
-      laid_accepted InTurn k os sound listed (laid os) (IsPermutation-refl (laid os)) dealt_fits
+      laid_accepted InTurn k dealt_jobs sound (listed k js sound by_ratio.jobs.all)
+      (laid dealt_jobs) (IsPermutation-refl (laid dealt_jobs)) dealt_fits
       (pos (ranks_value k longest_first)) (ByRanks longest_first) ranks_bounded dealt_cost

@@ -1,6 +1,5 @@
--- Jobs that are dealt to machines in turn.
+-- Jobs that are dealt to machines in turn. f gives the times of the jobs.
 use Rattle.std.specs.Prelude.{List, [], ℕ, zero, suc, ◌-◌, ◌∷◌, ◌++◌, map}
-use Rattle.tf_check.specs.declared.weighted_job.WeightedJob.{WeightedJob}
 use Rattle.tf_schedule.specs.declared.semi_active.Operation.{Operation}
 
 -- what one of m machines gets in turn, where d others come first
@@ -9,15 +8,15 @@ turns m d [] = []
 turns m zero (x ∷ xs) = x ∷ turns m (m - 1) xs
 turns m (suc d) (x ∷ xs) = turns m d xs
 
--- the job on machine i
-abbrev pub run_on : ℕ → WeightedJob → Operation
-run_on i x = record { job = x.job; machine = i; time = x.time }
+-- job j on machine i
+abbrev pub run_on : (ℕ → ℕ) → ℕ → ℕ → Operation
+run_on f i j = record { job = j; machine = i; time = f j }
 
 -- the jobs of one of m machines, where i others come first
-abbrev pub share : ℕ → ℕ → List WeightedJob → List Operation
-share m i xs = map (run_on (suc i)) (turns m i xs)
+abbrev pub share : (ℕ → ℕ) → ℕ → ℕ → List ℕ → List Operation
+share f m i js = map (run_on f (suc i)) (turns m i js)
 
 -- the jobs of the first c of m machines, one machine after another
-abbrev pub dealt : ℕ → ℕ → List WeightedJob → List Operation
-dealt m zero xs = []
-dealt m (suc c) xs = dealt m c xs ++ share m c xs
+abbrev pub dealt : (ℕ → ℕ) → ℕ → ℕ → List ℕ → List Operation
+dealt f m zero js = []
+dealt f m (suc c) js = dealt f m c js ++ share f m c js

@@ -1,14 +1,16 @@
 //! Parallel machines with a sum of completions.
-ghost use Rattle.std.specs.Prelude.{◌≡◌, ◌+◌, ◌<◌, ◌≤◌, reverse, IfOk, IsTrue};
+ghost use Rattle.std.specs.Prelude.{◌≡◌, ◌+◌, ◌<◌, ◌≤◌, length, reverse, IfOk, IsTrue};
 ghost use Rattle.std.specs.List.{All, fold, sum_by};
+ghost use Rattle.std.specs.List.Sorted.{IsPermutation};
 ghost use Rattle.tf_model.specs.ClassTable.{is_parallel, is_sum};
 ghost use Rattle.tf_model.specs.Limit.{limit};
+ghost use Rattle.tf_model.specs.SchedulingTask.{IsJob, all_jobs, time_of};
 ghost use Rattle.tf_model.specs.Sound.{IsSound};
 ghost use Rattle.tf_schedule.specs.Drawing.{greatest_stop};
 ghost use Rattle.tf_schedule.specs.Schedule.{IsSchedule};
 ghost use Rattle.tf_schedule.specs.SemiActive.{laid, with_operation};
 ghost use Rattle.tf_check.specs.Accepted.{IsAccepted};
-ghost use Rattle.tf_check.specs.Ratio.{AreByRatio, jobs_of};
+ghost use Rattle.tf_check.specs.Ratio.{jobs_of};
 ghost use Rattle.tf_multi.specs.Dealt.{IsReverseRanks};
 ghost use Rattle.tf_multi.specs.Dealing.{share, dealt};
 
@@ -43,9 +45,10 @@ pub fn spt<A: Allocator + Copy, B: Allocator>(
 {
     // All jobs weigh the same, so that those of greater weight for their time are the shorter ones.
     let jobs = jobs_by_ratio(alloc, task)?;
-    let pieces = dealt(alloc, task, &jobs)?;
-    let longest_first = reversed(alloc, &jobs)?;
+    let order = numbers(alloc, &jobs)?;
     drop(jobs);
+    let pieces = dealt(alloc, task, &order)?;
+    let longest_first = reversed(order);
     let value = ranked_times(task, &longest_first);
     Ok(Answer {
         pieces: PieceList::new(pieces),
@@ -56,63 +59,69 @@ pub fn spt<A: Allocator + Copy, B: Allocator>(
     })
 }
 
+// The numbers of the jobs: their times are in the task too, so no more has to be kept.
+fn numbers<A: Allocator>(alloc: A, jobs: &[WeightedJob]) -> Result<Vec<JobId, A>, OutOfMemory>
+    ensures { IfOk result (λ numbers. numbers.items ≡ jobs_of jobs.now) }
+{
+    let numbers: Vec<JobId, A> = jobs.iter().map(|job| job.job).collect(alloc)?;
+    Ok(numbers)
+}
+
 // The pieces of the jobs that machine 1 gets in turn, then of those of machine 2, and so on.
 fn dealt<A: Allocator + Copy, B: Allocator>(
     alloc: A,
     task: &Task<B>,
-    jobs: &[WeightedJob],
+    order: &[JobId],
 ) -> Result<Vec<Piece, A>, OutOfMemory>
-    requires sum { IsTrue (is_sum task.now.class) }
-    requires parallel { IsTrue (is_parallel task.now.class) }
-    requires by_ratio { AreByRatio task.now jobs.now }
-    ensures laid { IfOk result (λ pieces.
-        pieces.items ≡ laid (dealt task.now.machines task.now.machines jobs.now)) }
+    requires { IsPermutation (all_jobs task.now) order.now }
+    ensures laid { IfOk result (λ pieces. pieces.items
+        ≡ laid (dealt (time_of task.now) task.now.machines task.now.machines order.now)) }
     ensures sound { IfOk result (λ _. IsSound task.now) }
 {
     let machines = task.machines();
-    let mut timetable = SemiActive::new(alloc, jobs.len(), task.len(), machines as usize)?;
+    let mut timetable = SemiActive::new(alloc, task.len(), task.len(), machines as usize)?;
     for machine in 0..machines {
-        lay_turns(&mut timetable, jobs, machine, machines)?;
+        lay_turns(&mut timetable, task, order, machine)?;
     }
     Ok(timetable.into_pieces())
 }
 
 // Lays the jobs of a machine, counted from 0: one job from each round of the machines.
-fn lay_turns<A: Allocator + Copy>(
+fn lay_turns<A: Allocator + Copy, B: Allocator>(
     timetable: &mut SemiActive<A>,
-    jobs: &[WeightedJob],
+    task: &Task<B>,
+    order: &[JobId],
     machine: u32,
-    machines: u32,
 ) -> Result<(), OutOfMemory>
-    requires jobs { All (λ x. (0 < x.job) × (x.job ≤ timetable.old.jobs)) jobs.now }
-    requires machine { (machine < machines) × (machines ≤ timetable.old.machines) }
-    requires within { greatest_stop timetable.old.pieces
-        + sum_by (λ o. o.time) (share machines machine jobs.now) ≤ limit }
+    requires order { All (IsJob task.now) order.now }
+    requires all { length task.now.jobs ≤ timetable.old.jobs }
+    requires machine { machine < task.now.machines }
+    requires machines { task.now.machines ≤ timetable.old.machines }
+    requires within { greatest_stop timetable.old.pieces + sum_by (λ o. o.time)
+        (share (time_of task.now) task.now.machines machine order.now) ≤ limit }
     ensures pieces { IfOk result (λ _. timetable.new.pieces
-        ≡ fold with_operation timetable.old.pieces (share machines machine jobs.now)) }
+        ≡ fold with_operation timetable.old.pieces
+        (share (time_of task.now) task.now.machines machine order.now)) }
     ensures jobs { timetable.new.jobs ≡ timetable.old.jobs }
     ensures machines { timetable.new.machines ≡ timetable.old.machines }
 {
+    let machines = task.machines();
     let id = MachineId::new(machine + 1).unwrap();
-    for place in (machine as usize..jobs.len()).step_by(machines as usize) {
-        let job = jobs[place];
+    for place in (machine as usize..order.len()).step_by(machines as usize) {
+        let job = order[place];
         timetable.lay(Operation {
-            job: job.job,
+            job,
             machine: id,
-            time: job.time,
+            time: task.time(job),
         })?;
     }
     Ok(())
 }
 
 // The jobs from the last to the first.
-fn reversed<A: Allocator>(alloc: A, jobs: &[WeightedJob]) -> Result<Vec<JobId, A>, OutOfMemory>
-    ensures { IfOk result (λ list. list.items ≡ reverse (jobs_of jobs.now)) }
+fn reversed<A: Allocator>(mut jobs: Vec<JobId, A>) -> Vec<JobId, A>
+    ensures { result.items ≡ reverse jobs.items }
 {
-    let mut list = Vec::with_capacity(alloc, jobs.len())?;
-    for job in jobs {
-        list.push(job.job)?;
-    }
-    list.as_mut_slice().reverse();
-    Ok(list)
+    jobs.as_mut_slice().reverse();
+    jobs
 }

@@ -1,5 +1,6 @@
 use Rattle.std.proofs.Common.{◌≡◌}
 use Rattle.std.specs.List.{fold}
+use Rattle.tf_model.specs.SchedulingTask.{time_of}
 use Rattle.tf_schedule.specs.SemiActive.{with_operation}
 use Rattle.tf_multi.specs.Dealing.{share}
 use Rattle.tf_multi.proofs.DealtRound.{IsLeft, left}
@@ -9,8 +10,9 @@ use Rattle.tf_multi.proofs.spt.lay_turns.Given as goal
 abbrev pub invariant-loop-place : goal.invariant-loop-place
 invariant-loop-place g l = record {
   left : IsLeft
-      (fold with_operation l.initial.timetable.pieces (share l.machines l.machine l.jobs))
-      l.timetable.pieces (left l.machines l.machine l.jobs l.place);
+      (fold with_operation l.initial.timetable.pieces
+      (share (time_of l.task) l.task.machines l.machine l.order))
+      l.timetable.pieces (left (time_of l.task) l.task.machines l.machine l.order l.place);
   jobs : l.timetable.jobs ≡ l.initial.timetable.jobs;
   machines : l.timetable.machines ≡ l.initial.timetable.machines;
 }
