@@ -5,7 +5,7 @@ ghost use Rattle.std.specs.Ordering.{is_lt};
 ghost use Rattle.tf_model.specs.ClassTable.{is_sum};
 ghost use Rattle.tf_model.specs.Limit.{limit};
 ghost use Rattle.tf_model.specs.Sound.{IsSound};
-ghost use Rattle.tf_check.specs.Ratio.{AreOfTask, AreByRatio, completions_from};
+ghost use Rattle.tf_check.specs.Ratio.{AreOfTask, AreByRatio, completions_from, jobs_of};
 ghost use Rattle.tf_check.specs.GoesBefore.{goes_before};
 
 use crate::weighted_job::WeightedJob;
@@ -25,6 +25,7 @@ pub fn jobs_by_ratio<A: Allocator, B: Allocator>(
     ensures by_ratio { IfOk result (λ jobs. AreByRatio task.now jobs.items) }
     ensures work { IfOk result (λ jobs. sum_by (λ x. x.time) jobs.items ≤ limit) }
     ensures value { IfOk result (λ jobs. completions_from 0 jobs.items ≤ limit) }
+    ensures sound { IsSound task.now }
 {
     let mut jobs = weighted_jobs(alloc, task)?;
     jobs.sort_unstable_by(|first, second| by_ratio(first, second));
@@ -77,6 +78,14 @@ fn product(weight: u64, time: u64) -> u128
     ensures { result ≡ weight * time }
 {
     u128::from(weight) * u128::from(time)
+}
+
+/// The numbers of the jobs. Only want of memory is an error.
+pub fn numbers<A: Allocator>(alloc: A, jobs: &[WeightedJob]) -> Result<Vec<JobId, A>, OutOfMemory>
+    ensures { IfOk result (λ numbers. numbers.items ≡ jobs_of jobs.now) }
+{
+    let numbers: Vec<JobId, A> = jobs.iter().map(|job| job.job).collect(alloc)?;
+    Ok(numbers)
 }
 
 /// The weighted sum of the completions of jobs that run one after another from time 0 on.

@@ -78,6 +78,16 @@ impl MachineId {
         Some(MachineId { number })
     }
 
+    /// The machine at a place, counted from 0.
+    pub fn at(place: usize) -> Self
+        requires { place + 1 < 2 ^ 32 }
+        ensures { result ≡ place + 1 }
+    {
+        MachineId {
+            number: place as u32 + 1,
+        }
+    }
+
     /// Its number.
     pub fn get(self) -> u32
         ensures value { result ≡ self }

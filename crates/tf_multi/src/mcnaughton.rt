@@ -84,7 +84,7 @@ fn fill<A: Allocator + Copy, B: Allocator>(
 {
     let mut pieces = Vec::with_capacity(alloc, task.len() + task.machines() as usize)?;
     let mut front = Front {
-        machine: MachineId::new(1).unwrap(),
+        machine: MachineId::at(0),
         at: 0,
     };
     for k in 0..task.len() {

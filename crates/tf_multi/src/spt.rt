@@ -1,5 +1,5 @@
 //! Parallel machines with a sum of completions.
-ghost use Rattle.std.specs.Prelude.{◌≡◌, ◌+◌, ◌<◌, ◌≤◌, length, reverse, IfOk, IsTrue};
+ghost use Rattle.std.specs.Prelude.{◌≡◌, ◌+◌, ◌<◌, ◌≤◌, length, IfOk, IsTrue};
 ghost use Rattle.std.specs.List.{All, fold, sum_by};
 ghost use Rattle.std.specs.List.Sorted.{IsPermutation};
 ghost use Rattle.tf_model.specs.ClassTable.{is_parallel, is_sum};
@@ -10,7 +10,6 @@ ghost use Rattle.tf_schedule.specs.Drawing.{greatest_stop};
 ghost use Rattle.tf_schedule.specs.Schedule.{IsSchedule};
 ghost use Rattle.tf_schedule.specs.SemiActive.{laid, with_operation};
 ghost use Rattle.tf_check.specs.Accepted.{IsAccepted};
-ghost use Rattle.tf_check.specs.Ratio.{jobs_of};
 ghost use Rattle.tf_multi.specs.Dealt.{IsReverseRanks};
 ghost use Rattle.tf_multi.specs.Dealing.{share, dealt};
 
@@ -18,8 +17,7 @@ use std::alloc::Allocator;
 use tf_check::answer::Answer;
 use tf_check::certificate::Certificate;
 use tf_check::ranks::{Ranks, ranked_times};
-use tf_check::ratio::jobs_by_ratio;
-use tf_check::weighted_job::WeightedJob;
+use tf_check::ratio::{jobs_by_ratio, numbers};
 use tf_model::ids::{JobId, MachineId};
 use tf_model::job_list::JobList;
 use tf_model::memory::OutOfMemory;
@@ -27,6 +25,7 @@ use tf_model::task::Task;
 use tf_schedule::piece::Piece;
 use tf_schedule::piece_list::PieceList;
 use tf_schedule::semi_active::{Operation, SemiActive};
+use tf_schedule::sequence::reversed;
 
 /// A timetable of least sum of completions on parallel machines (Conway, Maxwell and Miller 1967).
 ///
@@ -45,6 +44,7 @@ pub fn spt<A: Allocator + Copy, B: Allocator>(
 {
     // All jobs weigh the same, so that those of greater weight for their time are the shorter ones.
     let jobs = jobs_by_ratio(alloc, task)?;
+    // Their times are in the task too, so no more than their numbers has to be kept.
     let order = numbers(alloc, &jobs)?;
     drop(jobs);
     let pieces = dealt(alloc, task, &order)?;
@@ -57,14 +57,6 @@ pub fn spt<A: Allocator + Copy, B: Allocator>(
             jobs: JobList::new(longest_first),
         }),
     })
-}
-
-// The numbers of the jobs: their times are in the task too, so no more has to be kept.
-fn numbers<A: Allocator>(alloc: A, jobs: &[WeightedJob]) -> Result<Vec<JobId, A>, OutOfMemory>
-    ensures { IfOk result (λ numbers. numbers.items ≡ jobs_of jobs.now) }
-{
-    let numbers: Vec<JobId, A> = jobs.iter().map(|job| job.job).collect(alloc)?;
-    Ok(numbers)
 }
 
 // The pieces of the jobs that machine 1 gets in turn, then of those of machine 2, and so on.
@@ -106,7 +98,7 @@ fn lay_turns<A: Allocator + Copy, B: Allocator>(
     ensures machines { timetable.new.machines ≡ timetable.old.machines }
 {
     let machines = task.machines();
-    let id = MachineId::new(machine + 1).unwrap();
+    let id = MachineId::at(machine as usize);
     for place in (machine as usize..order.len()).step_by(machines as usize) {
         let job = order[place];
         timetable.lay(Operation {
@@ -116,12 +108,4 @@ fn lay_turns<A: Allocator + Copy, B: Allocator>(
         })?;
     }
     Ok(())
-}
-
-// The jobs from the last to the first.
-fn reversed<A: Allocator>(mut jobs: Vec<JobId, A>) -> Vec<JobId, A>
-    ensures { result.items ≡ reverse jobs.items }
-{
-    jobs.as_mut_slice().reverse();
-    jobs
 }

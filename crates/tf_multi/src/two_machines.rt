@@ -12,11 +12,7 @@ use tf_schedule::semi_active::Operation;
 pub(crate) fn machine_of(first: bool) -> MachineId
     ensures { result ≡ first_machine first }
 {
-    if first {
-        MachineId::new(1).unwrap()
-    } else {
-        MachineId::new(2).unwrap()
-    }
+    MachineId::at(if first { 0 } else { 1 })
 }
 
 // The operation of a job on a machine.

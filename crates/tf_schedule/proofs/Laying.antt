@@ -202,7 +202,7 @@ work_fold os ps a = tested_fold (λ q. eqb q.job a) (λ j i. eqb j a) (λ j i s 
 
 -- ---- when it ends
 
-stop_stretch : (ps : List Piece) (j i s t : ℕ)
+pub stop_stretch : (ps : List Piece) (j i s t : ℕ)
     → greatest_stop (ps ++ stretch j i s t) ≤ max (greatest_stop ps) (s + t)
 stop_stretch ps j i s zero = omega (arith, ap greatest_stop (append-nil ps))
 stop_stretch ps j i s (suc t) = omega (arith, greatest_stop_push ps (piece_of j i s (s + suc t)))

@@ -23,6 +23,7 @@ pub mod Excludes
 pub mod Parts
 pub mod Parting
 pub mod Laying
+pub mod InSequence
 pub mod Apart
 pub mod Makespan
 pub mod LaidFits

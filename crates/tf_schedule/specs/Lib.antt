@@ -3,6 +3,7 @@ pub mod Piece
 pub mod Schedule
 pub mod Drawing
 pub mod SemiActive
+pub mod Sequence
 pub mod Misfit
 pub mod Cost
 -- for the proofs of this crate and of those above it

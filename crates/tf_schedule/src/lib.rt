@@ -10,4 +10,5 @@ pub mod piece;
 pub mod piece_list;
 pub mod schedule;
 pub mod semi_active;
+pub mod sequence;
 pub mod span;

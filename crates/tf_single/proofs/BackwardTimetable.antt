@@ -1,10 +1,10 @@
 -- Jobs that are chosen from the back: their timetable fits, and the set of the dearest step bounds
 -- its cost.
-use Rattle.std.proofs.Common.{◌≡◌, ◌≢◌, ℕ, zero, suc, ◌≤◌, ◌<◌, ℤ, ◌≤ℤ◌, Bool, true, false, not, ◌&&◌, ◌||◌, ◌==◌, cond, eqb, List, [], ◌∷◌, ◌++◌, length, get_or, slice_index, take, drop, refl, sym, ap, ◌∙◌, subst, arith, ◌⊎◌, inl, inr, sum_by, All, Contains, IsTrue, IsFalse}
+use Rattle.std.proofs.Common.{◌≡◌, ◌≢◌, ℕ, zero, suc, ◌≤◌, ◌<◌, ℤ, ◌≤ℤ◌, Bool, true, false, not, ◌&&◌, ◌||◌, ◌==◌, cond, eqb, List, [], ◌∷◌, ◌++◌, length, get_or, slice_index, take, drop, reverse, refl, sym, ap, ◌∙◌, subst, arith, ◌⊎◌, inl, inr, sum_by, All, Contains, IsTrue, IsFalse}
 use Rattle.std.specs.List.{AllPairs}
 use Rattle.std.proofs.lemmas.Bool.{false≢true, and_from, eq-eqb, eqb-true, cases_Bool, not-false}
 use Rattle.std.proofs.lemmas.Bool.Decides.{nat_tests}
-use Rattle.std.proofs.lemmas.List.{get_or_default, length-take, get_or-take}
+use Rattle.std.proofs.lemmas.List.{get_or_default, length-take, get_or-take, map-append, reverse-append}
 use Rattle.std.proofs.lemmas.List.Elements.{All-head, All-tail, All-cons, All-nil, All-take, All-contains}
 use Rattle.std.proofs.lemmas.List.Sums.{sum_by-cons, sum_by_push, sum_by-take-drop, AllPass-from_list_all, fold-append}
 use Rattle.tf_model.specs.ClassTable.{is_single, is_released, is_sum}
@@ -24,6 +24,7 @@ use Rattle.tf_schedule.specs.Piece.{job_of}
 use Rattle.tf_schedule.specs.Schedule.{IsSchedule}
 use Rattle.tf_schedule.specs.Drawing.{drawing, greatest_stop}
 use Rattle.tf_schedule.specs.SemiActive.{laid, with_operation, start_after, job_stop, IsOperation}
+use Rattle.tf_schedule.specs.Sequence.{operation_of, in_sequence}
 use Rattle.tf_schedule.proofs.Drawing.{completion-drawing}
 use Rattle.tf_schedule.proofs.LaidFits.{IsListed, laid_sound, laid_none_twice, laid_on_machines, laid_fits_plain, one_machine_schedule}
 use Rattle.tf_schedule.proofs.Laying.{Keeps, stop_fold, line_stop-other, line_stop-le-greatest}
@@ -32,7 +33,7 @@ use Rattle.tf_schedule.proofs.Parts.{AllPairs-append}
 use Rattle.tf_schedule.proofs.Prices.{other_cost}
 use Rattle.tf_schedule.proofs.Times.{sound_times}
 use Rattle.tf_check.specs.Bound.{is_free}
-use Rattle.tf_single.specs.Backward.{rest_of, price_behind, AreChosen, operation_of, backward}
+use Rattle.tf_single.specs.Backward.{rest_of, price_behind, AreChosen}
 use Rattle.tf_single.proofs.Rest.{distinct_take, stands_from, stands_says, in_rest, sum_own, distinct_tail, distinct_head, rest_sum}
 
 -- job x runs before job y, which is another one and precedes it by no arc
@@ -40,6 +41,20 @@ abbrev pub RunsBefore : SchedulingTask → ℕ → ℕ → ℕ → ℕ → Type 
 RunsBefore k x i y h = (x ≢ y) × (Contains k.arcs (y, x) → ⊥)
 
 -- ---- operations from the back
+
+-- the operations of jobs that were taken the last first
+abbrev pub backward : SchedulingTask → List ℕ → List Operation
+backward k [] = []
+backward k (j ∷ taken) = backward k taken ++ operation_of k j ∷ []
+
+-- they are those of the jobs in the order of time
+pub backward_turned : (k : SchedulingTask) (order : List ℕ)
+    → in_sequence k (reverse order) ≡ backward k order
+backward_turned k [] = refl
+backward_turned k (j ∷ order) =
+    ap (in_sequence k) (reverse-append (j ∷ []) order)
+    ∙ map-append (operation_of k) (reverse order) (j ∷ [])
+    ∙ ap (λ os. os ++ operation_of k j ∷ []) (backward_turned k order)
 
 sum_backward : (k : SchedulingTask) (f : Operation → ℕ) (order : List ℕ)
     → sum_by f (backward k order) ≡ sum_by (λ j. f (operation_of k j)) order

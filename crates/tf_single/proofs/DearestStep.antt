@@ -1,26 +1,26 @@
 -- The set of the dearest step bounds the cost by what the step costs.
-use Rattle.std.proofs.Common.{◌≡◌, ℕ, ◌<◌, ◌≤◌, ℤ, ◌≤ℤ◌, not, ◌&&◌, List, [], ◌∷◌, length, slice_index, get_or, ⊎_elim, map, take, drop, None, Ok, refl, sym, ap, ◌∙◌, subst, arith, sum_by, All, Contains, IsTrue, IsFalse}
+use Rattle.std.proofs.Common.{◌≡◌, ℕ, ◌<◌, ◌≤◌, ℤ, ◌≤ℤ◌, not, ◌&&◌, List, [], ◌∷◌, length, slice_index, get_or, ⊎_elim, map, take, drop, reverse, None, Ok, refl, sym, ap, ◌∙◌, subst, arith, sum_by, All, Contains, IsTrue, IsFalse}
 use Rattle.std.proofs.lemmas.Bool.{and_parts, not-true, false≢true}
 use Rattle.std.proofs.lemmas.Int.{ints, fold-int_min_bounds, fold-int_min_reached}
 use Rattle.std.proofs.lemmas.List.Elements.{Contains-get_or}
 use Rattle.std.proofs.lemmas.List.{get_or-map, length-map}
-use Rattle.std.proofs.lemmas.List.Sorted.{IsPermutation-refl}
+use Rattle.std.proofs.lemmas.List.Sorted.{All-permutation, IsPermutation-refl, IsPermutation-reverse, sum_by-IsPermutation}
 use Rattle.tf_model.specs.ClassTable.{is_single, is_released, is_sum}
 use Rattle.tf_model.specs.Cost.{price}
 use Rattle.tf_model.specs.Outcome.{unless}
 use Rattle.tf_model.specs.Limit.{limit}
-use Rattle.tf_model.specs.SchedulingTask.{SchedulingTask, all_jobs, time_of}
+use Rattle.tf_model.specs.SchedulingTask.{SchedulingTask, IsJob, all_jobs, time_of}
 use Rattle.tf_model.specs.Sound.{IsSound}
 use Rattle.tf_model.specs.declared.class.Class.{Class}
 use Rattle.tf_schedule.specs.Schedule.{IsSchedule}
-use Rattle.tf_schedule.specs.SemiActive.{laid, IsOperation}
+use Rattle.tf_schedule.specs.SemiActive.{laid}
 use Rattle.tf_check.specs.Accepted.{IsAccepted}
 use Rattle.tf_check.specs.Bound.{bound_by, other_kind, list_fault, empty_fault, no_free_fault, free_jobs, is_free, least}
 use Rattle.tf_check.specs.Claim.{ByLastOf}
 use Rattle.tf_check.specs.Kinds.{takes_last_of}
 use Rattle.tf_check.proofs.LaidAccepted.{laid_accepted}
-use Rattle.tf_single.specs.Backward.{rest_of, price_behind, IsLastChoice, AreChosen, backward}
-use Rattle.tf_single.proofs.BackwardTimetable.{RunsBefore, listed, order_sum, chosen_schedule, chosen_fits, chosen_cost, work_left}
+use Rattle.tf_single.specs.Backward.{rest_of, price_behind, IsLastChoice, AreChosen}
+use Rattle.tf_single.proofs.BackwardTimetable.{RunsBefore, backward, listed, order_sum, chosen_schedule, chosen_fits, chosen_cost, work_left}
 use Rattle.tf_single.proofs.Rest.{rest_jobs, rest_distinct, in_filter, from_filter}
 use Rattle.tf_single.proofs.Taking.{left_length}
 use Rattle.tf_single.proofs.Window.{list_fault_none}
@@ -153,14 +153,16 @@ module _ (k : SchedulingTask) (order : List ℕ) (sound : IsSound k)
   pub whole_some : 0 < length order
   whole_some = omega (arith, left_length k order chosen, ap length all, sound.some_job)
 
-  pub whole_operations : (n : ℕ) → n ≡ length k.jobs → All (IsOperation n 1) (backward k order)
-  whole_operations n is =
-      let known = (listed k order chosen sound facts.single facts.unreleased all).known in
-      subst (λ m. All (IsOperation n m) (backward k order)) (sound.single facts.single)
-      (subst (λ m. All (IsOperation m k.machines) (backward k order)) (sym is) known)
+  pub whole_known : All (IsJob k) (reverse order)
+  whole_known = All-permutation (IsJob k) order (reverse order) (IsPermutation-reverse order)
+      chosen.jobs
 
-  pub whole_total : sum_by (λ o. o.time) (backward k order) ≤ limit
-  whole_total = (listed k order chosen sound facts.single facts.unreleased all).total
+  pub whole_reversed : sum_by (time_of k) (reverse order) ≤ limit
+  whole_reversed = omega (
+    arith,
+    sum_by-IsPermutation (time_of k) order (reverse order) (IsPermutation-reverse order),
+    whole_within,
+  )
 
   pub whole_schedule : IsSchedule (laid (backward k order))
   whole_schedule = chosen_schedule k order chosen sound facts.single facts.unreleased all

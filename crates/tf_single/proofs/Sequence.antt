@@ -5,17 +5,19 @@ use Rattle.std.proofs.Common.{◌≡◌, ℕ, ◌+◌, ◌*◌, ◌<◌, ◌≤�
 use Rattle.std.specs.List.{All, sum_by}
 use Rattle.std.specs.List.Sorted.{IsPermutation}
 use Rattle.std.proofs.lemmas.List.Elements.{All-head, All-tail, All-map}
-use Rattle.std.proofs.lemmas.List.Sorted.{IsPermutation-refl}
+use Rattle.std.proofs.lemmas.List.Sorted.{All-permutation, IsPermutation-refl, sum_by-IsPermutation}
 use Rattle.tf_model.specs.ClassTable.{is_sum, is_single}
 use Rattle.tf_model.specs.Cost.{cost}
 use Rattle.tf_model.specs.Limit.{limit}
-use Rattle.tf_model.specs.SchedulingTask.{SchedulingTask, all_jobs, job_data, time_of}
+use Rattle.tf_model.specs.SchedulingTask.{SchedulingTask, IsJob, all_jobs, job_data, time_of}
 use Rattle.tf_model.specs.Sound.{IsSound}
 use Rattle.tf_model.proofs.Classes.{total, sum_plain, sum_unreleased, sum_unordered}
+use Rattle.tf_model.proofs.Costs.{All-all_jobs}
 use Rattle.tf_schedule.specs.declared.semi_active.Operation.{Operation}
 use Rattle.tf_schedule.specs.Drawing.{drawing}
 use Rattle.tf_schedule.specs.Schedule.{IsSchedule}
-use Rattle.tf_schedule.specs.SemiActive.{laid, IsOperation}
+use Rattle.tf_schedule.specs.SemiActive.{laid}
+use Rattle.tf_schedule.specs.Sequence.{operation_of, in_sequence}
 use Rattle.tf_schedule.proofs.LaidFits.{one_machine_schedule}
 use Rattle.tf_schedule.proofs.OneOperation.{jobs_of, IsOneEach, OtherJob, front_after, weighted_ends, one_listed, one_fits, one_cost}
 use Rattle.tf_check.specs.declared.weighted_job.WeightedJob.{WeightedJob}
@@ -26,36 +28,40 @@ use Rattle.tf_check.specs.Ratio.{IsOfTask, AreByRatio, completions_from}
 use Rattle.tf_check.proofs.LaidAccepted.{laid_accepted}
 use Rattle.tf_check.proofs.Given.{sum_takes_pairs, pairs_given}
 use Rattle.tf_check.proofs.RatioOrder.{completions-by_ratio}
-use Rattle.tf_single.specs.Sequence.{on_machine_one, in_sequence}
 
 module _ (k : SchedulingTask) (xs : List WeightedJob) (sound : IsSound k)
     (sum : IsTrue (is_sum k.class)) (single : IsTrue (is_single k.class))
     (by_ratio : AreByRatio k xs) where
-  abbrev os : List Operation
-  os = in_sequence xs
+  -- the jobs in their order
+  abbrev order : List ℕ
+  order = map (λ x. x.job) xs
 
-  same_jobs : (ys : List WeightedJob) → jobs_of (in_sequence ys) ≡ map (λ y. y.job) ys
+  abbrev os : List Operation
+  os = in_sequence k order
+
+  same_jobs : (js : List ℕ) → jobs_of (in_sequence k js) ≡ js
   same_jobs [] = refl
-  same_jobs (y ∷ ys) = ap (λ js. y.job ∷ js) (same_jobs ys)
+  same_jobs (j ∷ js) = ap (λ is. j ∷ is) (same_jobs js)
 
   pub sequence_each : IsOneEach k os
   sequence_each = record {
-    jobs = subst (IsPermutation (all_jobs k)) (sym (same_jobs xs)) by_ratio.jobs.all;
-    times = All-map (λ o. o.time ≡ time_of k o.job) on_machine_one xs
-        (λ a d h. (by_ratio.jobs.told a d h).time);
-    machines = All-map (λ o. (0 < o.machine) × (o.machine ≤ k.machines)) on_machine_one xs
+    jobs = subst (IsPermutation (all_jobs k)) (sym (same_jobs order)) by_ratio.jobs.all;
+    times = All-map (λ o. o.time ≡ time_of k o.job) (operation_of k) order (λ a d h. refl);
+    machines = All-map (λ o. (0 < o.machine) × (o.machine ≤ k.machines)) (operation_of k) order
         (λ a d h. (omega arith, omega (arith, sound.some_machine)));
   }
 
   -- each job ends when all before it and itself are done
   ends_are : (ys : List WeightedJob) (front : ℕ → ℕ) → All (IsOfTask k) ys
-      → weighted_ends (λ j. (job_data k j).weight) front (in_sequence ys)
+      → weighted_ends (λ j. (job_data k j).weight) front (in_sequence k (map (λ y. y.job) ys))
       ≡ completions_from (front 1) ys
   ends_are [] front told = refl
   ends_are (y ∷ ys) front told =
-      let rest = ends_are ys (front_after front 1 y.time) (All-tail (IsOfTask k) y ys told) in
-      let own = ap (λ n. n * (front 1 + y.time)) (All-head (IsOfTask k) y ys told).weight in
-      omega (arith, rest, own)
+      let here = All-head (IsOfTask k) y ys told in
+      let time : ℕ = time_of k y.job in
+      let rest = ends_are ys (front_after front 1 time) (All-tail (IsOfTask k) y ys told) in
+      let own = ap (λ n. n * (front 1 + time)) here.weight in
+      rw here.time (omega (arith, rest, own))
 
   pub sequence_accepted : IsAccepted k
       (record { pieces = laid os; value = pos (completions_from 0 xs); certificate = ByPairs })
@@ -76,14 +82,13 @@ module _ (k : SchedulingTask) (xs : List WeightedJob) (sound : IsSound k)
       (one_listed k os sound sequence_each) (sound.single single)
 
   -- what the builder asks
-  pub sequence_known : All (IsOperation (length k.jobs) 1) os
-  sequence_known a d h =
-      let o = (one_listed k os sound sequence_each).known a d h in
-      record {
-        job = o.job;
-        machine =
-            (o.machine.0, omega (arith, o.machine.1, sound.single single));
-      }
+  pub sequence_known : All (IsJob k) order
+  sequence_known = All-permutation (IsJob k) (all_jobs k) order by_ratio.jobs.all
+      (All-all_jobs k (IsJob k) (λ j h. h))
 
-  pub sequence_total : sum_by (λ o. o.time) os ≤ limit
-  sequence_total = (one_listed k os sound sequence_each).total
+  pub sequence_total : sum_by (time_of k) order ≤ limit
+  sequence_total = omega (
+    arith,
+    sum_by-IsPermutation (time_of k) (all_jobs k) order by_ratio.jobs.all,
+    sound.total,
+  )

@@ -1,11 +1,10 @@
 -- Orders that are built from the back, the last job first (Lawler 1973).
-use Rattle.std.specs.Prelude.{◌≡◌, ℕ, ◌<◌, ℤ, ◌≤ℤ◌, not, true, List, [], ◌∷◌, ◌++◌, length, take, slice_index, filter}
+use Rattle.std.specs.Prelude.{◌≡◌, ℕ, ◌<◌, ℤ, ◌≤ℤ◌, not, true, List, length, take, slice_index, filter}
 use Rattle.std.specs.List.{All, Contains, sum_by}
 use Rattle.tf_model.specs.SchedulingTask.{SchedulingTask, IsJob, all_jobs, time_of}
 use Rattle.tf_model.specs.Bounds.{stands_in}
 use Rattle.tf_model.specs.Cost.{price}
 use Rattle.tf_model.specs.Distinct.{IsDistinct}
-use Rattle.tf_schedule.specs.declared.semi_active.Operation.{Operation}
 use Rattle.tf_check.specs.Bound.{is_free}
 
 -- the jobs that are left when those of the list are taken, in rising order
@@ -29,11 +28,3 @@ pub record AreChosen (k : SchedulingTask) (taken : List ℕ) : Type 0 where
   pub distinct : IsDistinct taken
   pub choice : (i : ℕ) → i < length taken
       → IsLastChoice k (rest_of k (take i taken)) (slice_index taken i)
-
--- the operations of jobs that were taken the last first, on machine 1
-abbrev pub operation_of : SchedulingTask → ℕ → Operation
-operation_of k j = record { job = j; machine = 1; time = time_of k j }
-
-abbrev pub backward : SchedulingTask → List ℕ → List Operation
-backward k [] = []
-backward k (j ∷ taken) = backward k taken ++ operation_of k j ∷ []

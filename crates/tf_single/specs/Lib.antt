@@ -8,7 +8,6 @@ pub mod CostedJob
 pub mod Progress
 pub mod Agenda
 pub mod Ends
-pub mod Sequence
 pub mod Open
 pub mod ByDue
 pub mod ArcsInto

@@ -10,7 +10,7 @@ ghost use Rattle.tf_schedule.specs.Schedule.{IsSchedule};
 ghost use Rattle.tf_check.specs.Accepted.{IsAccepted};
 ghost use Rattle.tf_check.specs.Free.{AreMarks};
 ghost use Rattle.tf_check.specs.Kinds.{takes_last_of};
-ghost use Rattle.tf_single.specs.Backward.{AreChosen, backward, rest_of, price_behind};
+ghost use Rattle.tf_single.specs.Backward.{AreChosen, rest_of, price_behind};
 ghost use Rattle.tf_single.specs.Costs.{AreCosts};
 ghost use Rattle.tf_single.specs.LawlerFault.{HoldsCycle};
 
@@ -24,12 +24,12 @@ use tf_check::answer::Answer;
 use tf_check::certificate::Certificate;
 use tf_check::last_of::LastOf;
 use tf_model::cost::Cost;
-use tf_model::ids::{JobId, MachineId};
+use tf_model::ids::JobId;
 use tf_model::job_list::JobList;
 use tf_model::memory::OutOfMemory;
 use tf_model::task::Task;
 use tf_schedule::piece_list::PieceList;
-use tf_schedule::semi_active::{Operation, semi_active};
+use tf_schedule::sequence::{in_sequence, reversed};
 
 /// A timetable on one machine whose dearest job costs least, where costs do not fall with time and
 /// arcs are kept (Lawler 1973); or a cycle of arcs.
@@ -52,7 +52,7 @@ pub fn lawler<A: Allocator + Copy, B: Allocator, C: Cost>(
     ensures cycle { IfErr result (HoldsCycle task.now) }
 {
     let order = last_first(alloc, task, ByCost::new(alloc, task, costs)?)?;
-    Ok(answer_of(alloc, task, costs, &order)?)
+    Ok(answer_of(alloc, task, costs, order)?)
 }
 
 /// A timetable on one machine whose latest job is least late, where arcs are kept (Lawler 1973); or
@@ -73,7 +73,7 @@ pub fn lawler_by_due<A: Allocator + Copy, B: Allocator>(
 {
     let order = last_first(alloc, task, ByDue::new(alloc, task)?)?;
     let costs = late_costs(alloc, task)?;
-    Ok(answer_of(alloc, task, costs.as_slice(), &order)?)
+    Ok(answer_of(alloc, task, costs.as_slice(), order)?)
 }
 
 // The timetable of jobs that were chosen the last first, with the set of those that were left at
@@ -82,20 +82,20 @@ fn answer_of<A: Allocator + Copy, B: Allocator, C: Cost>(
     alloc: A,
     task: &Task<B>,
     costs: &[C],
-    order: &[JobId],
+    order: Vec<JobId, A>,
 ) -> Result<Answer<A>, OutOfMemory>
     requires class { IsTrue (takes_last_of task.now.class) }
     requires costs { AreCosts C.cost_at task.now costs.now }
     requires sound { IsSound task.now }
-    requires chosen { AreChosen task.now order.now }
-    requires all { rest_of task.now order.now ≡ [] }
+    requires chosen { AreChosen task.now order.items }
+    requires all { rest_of task.now order.items ≡ [] }
     ensures schedule { IfOk result (λ a. IsSchedule a.pieces) }
     ensures accepted { IfOk result (IsAccepted task.now) }
 {
-    let operations = operations_of(alloc, task, order)?;
-    let pieces = semi_active(alloc, task.len(), 1, &operations)?;
-    let step = dearest_step(task, costs, order);
+    let step = dearest_step(task, costs, &order);
     let jobs = left_jobs(alloc, task, &order[..step.place])?;
+    let sequence = reversed(order);
+    let pieces = in_sequence(alloc, task, &sequence)?;
     Ok(Answer {
         pieces: PieceList::new(pieces),
         value: step.value,
@@ -103,27 +103,6 @@ fn answer_of<A: Allocator + Copy, B: Allocator, C: Cost>(
             jobs: JobList::new(jobs),
         }),
     })
-}
-
-// The operations of jobs that come the last first.
-fn operations_of<A: Allocator, B: Allocator>(
-    alloc: A,
-    task: &Task<B>,
-    order: &[JobId],
-) -> Result<Vec<Operation, A>, OutOfMemory>
-    requires { All (IsJob task.now) order.now }
-    ensures { IfOk result (λ v. v.items ≡ backward task.now order.now) }
-{
-    let mut operations = Vec::with_capacity(alloc, order.len())?;
-    for k in 0..order.len() {
-        let job = order[order.len() - 1 - k];
-        operations.push(Operation {
-            job,
-            machine: MachineId::new(1).unwrap(),
-            time: task.time(job),
-        })?;
-    }
-    Ok(operations)
 }
 
 // A step at which a job is taken, and what it costs.

@@ -167,7 +167,7 @@ fn run_on<A: Allocator>(
     }
     pieces.push(Piece {
         job,
-        machine: MachineId::new(1).unwrap(),
+        machine: MachineId::at(0),
         start: start as i64,
         stop: stop as i64,
     })?;

@@ -4,19 +4,16 @@ ghost use Rattle.tf_model.specs.ClassTable.{is_single, is_sum};
 ghost use Rattle.tf_schedule.specs.Schedule.{IsSchedule};
 ghost use Rattle.tf_check.specs.Accepted.{IsAccepted};
 ghost use Rattle.tf_check.specs.Claim.{ByPairs};
-ghost use Rattle.tf_single.specs.Sequence.{in_sequence};
 
 use std::alloc::Allocator;
 use tf_check::answer::Answer;
 use tf_check::certificate::Certificate;
 use tf_check::pairs::Pairs;
-use tf_check::ratio::{jobs_by_ratio, weighted_completions};
-use tf_check::weighted_job::WeightedJob;
-use tf_model::ids::MachineId;
+use tf_check::ratio::{jobs_by_ratio, numbers, weighted_completions};
 use tf_model::memory::OutOfMemory;
 use tf_model::task::Task;
 use tf_schedule::piece_list::PieceList;
-use tf_schedule::semi_active::{Operation, semi_active};
+use tf_schedule::sequence::in_sequence;
 
 /// A timetable of least weighted sum of completions on one machine (Smith 1956).
 ///
@@ -34,31 +31,14 @@ pub fn wspt<A: Allocator + Copy, B: Allocator>(
     ensures certificate { IfOk result (λ a. a.certificate ≡ ByPairs) }
 {
     let jobs = jobs_by_ratio(alloc, task)?;
-    let operations = in_sequence(alloc, &jobs)?;
     let value = weighted_completions(&jobs);
+    // Their times are in the task too, so no more than their numbers has to be kept.
+    let order = numbers(alloc, &jobs)?;
     drop(jobs);
-    let pieces = semi_active(alloc, task.len(), 1, &operations)?;
+    let pieces = in_sequence(alloc, task, &order)?;
     Ok(Answer {
         pieces: PieceList::new(pieces),
         value: value as i64,
         certificate: Certificate::Pairs(Pairs),
     })
-}
-
-fn in_sequence<A: Allocator>(
-    alloc: A,
-    jobs: &[WeightedJob],
-) -> Result<Vec<Operation, A>, OutOfMemory>
-    ensures { IfOk result (λ operations. operations.items ≡ in_sequence jobs.now) }
-{
-    let machine = MachineId::new(1).unwrap();
-    let mut operations = Vec::with_capacity(alloc, jobs.len())?;
-    for job in jobs {
-        operations.push(Operation {
-            job: job.job,
-            machine,
-            time: job.time,
-        })?;
-    }
-    Ok(operations)
 }
