@@ -40,24 +40,6 @@ test_no u v i j h = (grind (arith, nat_tests), λ e. grind (arith, nat_tests))
 no_test : (u v i j : ℕ) → v ≤ u → (u ≡ v → j ≤ i) → test u v i j ≡ false
 no_test u v i j le tie = grind (arith, nat_tests)
 
--- the same factor, not 0, changes no test of two numbers
-same_factor : (w a b i j : ℕ) → 0 < w → test (w * a) (w * b) i j ≡ test a b i j
-same_factor w a b i j some = elim (cases_lt a b) [
-  | inl less ↦ let up : suc a * w ≤ b * w = mul-le-mul_right w less in grind (arith, nat_tests)
-  | inr le ↦ elim (cases_lt b a) [
-    | inl more ↦ let up : suc b * w ≤ a * w = mul-le-mul_right w more in grind (arith, nat_tests)
-    | inr ge ↦ let same : a ≡ b = omega arith in
-        subst (λ n. test (w * a) (w * n) i j ≡ test a n i j) same (grind (arith, nat_tests))
-  ]
-]
-
--- of two jobs that weigh the same, the shorter goes before, and by number in a tie
-pub before_by_time : (x y : WeightedJob) → x.weight ≡ y.weight → 0 < x.weight
-    → goes_before x y ≡ test x.time y.time x.job y.job
-before_by_time x y same some =
-    subst (λ w. test (w * x.time) (x.weight * y.time) x.job y.job ≡ test x.time y.time x.job y.job)
-    same (same_factor x.weight x.time y.time x.job y.job some)
-
 -- a/p is at most b/q, and that at most c/r
 ratios : (a p b q c r : ℕ) → 1 ≤ q → a * q ≤ b * p → b * r ≤ c * q → a * r ≤ c * p
 ratios a p b q c r some le le' = elim (cases_lt (c * p) (a * r)) [

@@ -2,6 +2,7 @@
 pub mod Claim
 pub mod Certificate
 pub mod Ratio
+pub mod KeyedJob
 pub mod Kinds
 pub mod Bound
 pub mod Accepted
@@ -9,5 +10,7 @@ pub mod Verdict
 -- within the crate
 pub mod Laws
 pub mod GoesBefore
+pub mod ByTime
+pub mod Ranked
 pub mod Free
 pub mod Sides

@@ -18,9 +18,6 @@ pub record IsNow (k : SchedulingTask) (jobs : List ℕ) (ps : List Piece) (now :
   pub last : greatest_stop ps ≡ now
   pub work : now ≡ sum_by (time_of k) jobs
 
-pub now_first : (k : SchedulingTask) → IsNow k [] [] 0
-now_first k = record { pieces = refl; machine = refl; last = refl; work = refl }
-
 -- one job more
 pub now_next : (k : SchedulingTask) (jobs : List ℕ) (j : ℕ) (ps more : List Piece) (now : ℕ)
     → IsNow k jobs ps now → more ≡ ps ++ stretch j 1 now (time_of k j)

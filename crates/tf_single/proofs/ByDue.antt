@@ -16,8 +16,9 @@ use Rattle.tf_model.specs.ClassTable.{is_due}
 use Rattle.tf_model.specs.Cost.{price}
 use Rattle.tf_model.specs.SchedulingTask.{SchedulingTask, job_data}
 use Rattle.tf_schedule.proofs.Prices.{due_price}
-use Rattle.tf_single.specs.ByDue.{jobs_due, due_cmp, HasDue, IsLatest, AreDue}
-use Rattle.tf_single.specs.declared.by_due.DueJob.{DueJob}
+use Rattle.tf_single.specs.ByDue.{jobs_due, HasDue, IsLatest, AreDue}
+use Rattle.tf_check.specs.KeyedJob.{key_cmp}
+use Rattle.tf_check.specs.declared.keyed_job.KeyedJob.{KeyedJob}
 
 -- ---- prices
 
@@ -41,7 +42,7 @@ later_cheaper k i j end due le =
 -- ---- where an entry stands
 
 -- behind the first ones
-pub pushed_first : (first later : List DueJob) (e : DueJob)
+pub pushed_first : (first later : List KeyedJob) (e : KeyedJob)
     → IsPermutation (e ∷ (first ++ later)) ((first ++ e ∷ []) ++ later)
 pushed_first first later e =
     subst (IsPermutation (e ∷ (first ++ later))) (sym (append_assoc first (e ∷ []) later))
@@ -49,7 +50,7 @@ pushed_first first later e =
     (IsPermutation-middle first e later))
 
 -- among those that followed
-pub pushed_later : (first later more : List DueJob) (e : DueJob) → IsPermutation (e ∷ later) more
+pub pushed_later : (first later more : List KeyedJob) (e : KeyedJob) → IsPermutation (e ∷ later) more
     → IsPermutation (e ∷ (first ++ later)) (first ++ more)
 pushed_later first later more e moved =
     IsPermutation-trans (e ∷ (first ++ later)) (first ++ e ∷ later) (first ++ more)
@@ -59,83 +60,83 @@ pushed_later first later more e moved =
 
 -- ---- entries
 
-due_order : IsStrictWeakOrder (λ a b. is_lt (due_cmp a b))
+due_order : IsStrictWeakOrder (λ a b. is_lt (key_cmp a b))
 due_order =
     ranks_by
-    (then_total (on_total (λ (e : DueJob). e.due) int_cmp_total)
-    (on_total (λ (e : DueJob). e.job) nat_cmp_total))
-    (λ (e : DueJob). e)
+    (then_total (on_total (λ (e : KeyedJob). e.key) int_cmp_total)
+    (on_total (λ (e : KeyedJob). e.job) nat_cmp_total))
+    (λ (e : KeyedJob). e)
 
 -- the last of a list in order is due last
-pub last_latest : (xs : List DueJob) → IsSorted due_cmp xs → 0 < length xs → (d : DueJob)
+pub last_latest : (xs : List KeyedJob) → IsSorted key_cmp xs → 0 < length xs → (d : KeyedJob)
     → IsLatest xs (get_or xs (length xs - 1) d)
 last_latest xs rising some d i e h =
-    let x : DueJob = get_or xs (length xs - 1) d in
-    subst (λ (y : DueJob). y.due ≤ℤ x.due) (get_or_default xs i d e h)
-    (due_ge x.due (get_or xs i d).due x.job (get_or xs i d).job
-    (sorted_far (λ a b. is_lt (due_cmp a b)) due_order xs rising i (length xs - 1) d (omega arith)
+    let x : KeyedJob = get_or xs (length xs - 1) d in
+    subst (λ (y : KeyedJob). y.key ≤ℤ x.key) (get_or_default xs i d e h)
+    (due_ge x.key (get_or xs i d).key x.job (get_or xs i d).job
+    (sorted_far (λ a b. is_lt (key_cmp a b)) due_order xs rising i (length xs - 1) d (omega arith)
     (omega arith)))
 
 -- as the greatest of a heap is
-pub top_latest : (xs : List DueJob) (x : DueJob) → IsUpperBound due_cmp x xs → IsLatest xs x
+pub top_latest : (xs : List KeyedJob) (x : KeyedJob) → IsUpperBound key_cmp x xs → IsLatest xs x
 top_latest xs x bound i e h =
-    due_ge x.due (get_or xs i e).due x.job (get_or xs i e).job
-    (All-from_recursion (λ y. is_lt (due_cmp x y) ≡ false) xs bound i e h)
+    due_ge x.key (get_or xs i e).key x.job (get_or xs i e).job
+    (All-from_recursion (λ y. is_lt (key_cmp x y) ≡ false) xs bound i e h)
 
 -- and so is what is due no earlier
-pub IsLatest-trans : (xs : List DueJob) (x y : DueJob) → IsLatest xs x → x.due ≤ℤ y.due
+pub IsLatest-trans : (xs : List KeyedJob) (x y : KeyedJob) → IsLatest xs x → x.key ≤ℤ y.key
     → IsLatest xs y
 IsLatest-trans xs x y latest le i e h = omega (arith, ints, latest i e h, le)
 
 -- no entry is due later than the last one
-last_ahead : (first later : List DueJob) (d : DueJob) → IsSorted due_cmp first → 0 < length first
+last_ahead : (first later : List KeyedJob) (d : KeyedJob) → IsSorted key_cmp first → 0 < length first
     → IsLatest later (get_or first (length first - 1) d)
     → IsLatest (first ++ later) (get_or first (length first - 1) d)
 last_ahead first later d rising some latest =
-    All-append (λ e. e.due ≤ℤ (get_or first (length first - 1) d).due) first later
+    All-append (λ e. e.key ≤ℤ (get_or first (length first - 1) d).key) first later
     (last_latest first rising some d) latest
 
 -- where none followed
-pub alone_ahead : (first later : List DueJob) (d : DueJob) → IsSorted due_cmp first
+pub alone_ahead : (first later : List KeyedJob) (d : KeyedJob) → IsSorted key_cmp first
     → 0 < length first → length later ≤ 0
     → IsLatest (first ++ later) (get_or first (length first - 1) d)
 alone_ahead first later d rising some none =
     last_ahead first later d rising some (λ i e h. absurd (omega (arith, h, none)))
 
 -- where the greatest of those that followed is less
-pub first_ahead : (first later : List DueJob) (x y d : DueJob) → IsSorted due_cmp first
-    → 0 < length first → x ≡ get_or first (length first - 1) x → IsUpperBound due_cmp y later
-    → is_lt (due_cmp y x) ≡ true
+pub first_ahead : (first later : List KeyedJob) (x y d : KeyedJob) → IsSorted key_cmp first
+    → 0 < length first → x ≡ get_or first (length first - 1) x → IsUpperBound key_cmp y later
+    → is_lt (key_cmp y x) ≡ true
     → IsLatest (first ++ later) (get_or first (length first - 1) d)
 first_ahead first later x y d rising some last bound less =
     last_ahead first later d rising some
     (subst (IsLatest later) (last ∙ get_or_default first (length first - 1) x d (omega arith))
-    (IsLatest-trans later y x (top_latest later y bound) (due_le y.due x.due y.job x.job less)))
+    (IsLatest-trans later y x (top_latest later y bound) (due_le y.key x.key y.job x.job less)))
 
 -- where it is not
-pub later_ahead : (first later : List DueJob) (x y d : DueJob) → IsSorted due_cmp first
-    → 0 < length first → x ≡ get_or first (length first - 1) x → IsUpperBound due_cmp y later
-    → 0 < length later → y ≡ get_or later 0 y → is_lt (due_cmp y x) ≡ false
+pub later_ahead : (first later : List KeyedJob) (x y d : KeyedJob) → IsSorted key_cmp first
+    → 0 < length first → x ≡ get_or first (length first - 1) x → IsUpperBound key_cmp y later
+    → 0 < length later → y ≡ get_or later 0 y → is_lt (key_cmp y x) ≡ false
     → IsLatest (first ++ later) (get_or later 0 d)
 later_ahead first later x y d rising held last bound some top less =
     subst (IsLatest (first ++ later)) (top ∙ get_or_default later 0 y d some)
-    (All-append (λ e. e.due ≤ℤ y.due) first later
+    (All-append (λ e. e.key ≤ℤ y.key) first later
     (IsLatest-trans first x y
     (subst (IsLatest first) (sym last) (last_latest first rising held x))
-    (due_ge y.due x.due y.job x.job less))
+    (due_ge y.key x.key y.job x.job less))
     (top_latest later y bound))
 
 -- where none is first
-pub none_ahead : (first later : List DueJob) (y d : DueJob) → length first ≤ 0
-    → IsUpperBound due_cmp y later → 0 < length later → y ≡ get_or later 0 y
+pub none_ahead : (first later : List KeyedJob) (y d : KeyedJob) → length first ≤ 0
+    → IsUpperBound key_cmp y later → 0 < length later → y ≡ get_or later 0 y
     → IsLatest (first ++ later) (get_or later 0 d)
 none_ahead first later y d none bound some top =
     subst (IsLatest (first ++ later)) (top ∙ get_or_default later 0 y d some)
-    (All-append (λ e. e.due ≤ℤ y.due) first later (λ i e h. absurd (omega (arith, h, none)))
+    (All-append (λ e. e.key ≤ℤ y.key) first later (λ i e h. absurd (omega (arith, h, none)))
     (top_latest later y bound))
 
 -- an entry more, behind the first ones
-pub first_pushed : (k : SchedulingTask) (begun : Bool) (first later : List DueJob) (e : DueJob)
+pub first_pushed : (k : SchedulingTask) (begun : Bool) (first later : List KeyedJob) (e : KeyedJob)
     → begun ≡ false → AreDue k begun first later → HasDue k e
     → AreDue k begun (first ++ e ∷ []) later
 first_pushed k begun first later e same due its = record {
@@ -147,9 +148,9 @@ first_pushed k begun first later e same due its = record {
 }
 
 -- or in the heap
-pub later_pushed : (k : SchedulingTask) (begun : Bool) (first later more : List DueJob) (e : DueJob)
+pub later_pushed : (k : SchedulingTask) (begun : Bool) (first later more : List KeyedJob) (e : KeyedJob)
     → AreDue k begun first later → HasDue k e → IsPermutation (e ∷ later) more
-    → (IsHeap due_cmp later → IsHeap due_cmp more) → AreDue k begun first more
+    → (IsHeap key_cmp later → IsHeap key_cmp more) → AreDue k begun first more
 later_pushed k begun first later more e due its moved keeps = record {
   class = due.class;
   dues = All-permutation (HasDue k) (e ∷ (first ++ later)) (first ++ more)
@@ -161,13 +162,13 @@ later_pushed k begun first later more e due its moved keeps = record {
 -- ---- the entry that is due last is taken
 
 -- some job is left
-pub some_left : (first later sorted now : List DueJob) → 0 < length (jobs_due (first ++ later))
+pub some_left : (first later sorted now : List KeyedJob) → 0 < length (jobs_due (first ++ later))
     → IsPermutation first sorted → now ≡ later → 0 < length (sorted ++ now)
 some_left first later sorted now some sorts same =
     omega (
       arith,
       some,
-      length-map (first ++ later) (λ (e : DueJob). e.job),
+      length-map (first ++ later) (λ (e : KeyedJob). e.job),
       length-append first later,
       length-append sorted now,
       length_permutation first sorted sorts,
@@ -175,40 +176,40 @@ some_left first later sorted now some sorts same =
     )
 
 -- the first of a list in order are in order
-pub sorted_front : (xs : List DueJob) (x : DueJob) → IsSorted due_cmp (xs ++ x ∷ []) → IsSorted due_cmp xs
+pub sorted_front : (xs : List KeyedJob) (x : KeyedJob) → IsSorted key_cmp (xs ++ x ∷ []) → IsSorted key_cmp xs
 sorted_front xs x rising i d low h =
-    subst (λ (e : DueJob). is_lt (due_cmp e (get_or xs i d)) ≡ false)
+    subst (λ (e : KeyedJob). is_lt (key_cmp e (get_or xs i d)) ≡ false)
     (get_or_append_left xs (x ∷ []) d (i + 1) h)
-    (subst (λ (e : DueJob). is_lt (due_cmp (get_or (xs ++ x ∷ []) (i + 1) d) e) ≡ false)
+    (subst (λ (e : KeyedJob). is_lt (key_cmp (get_or (xs ++ x ∷ []) (i + 1) d) e) ≡ false)
     (get_or_append_left xs (x ∷ []) d i (omega arith))
     (rising i d low (omega (arith, length_push xs x))))
 
 -- the last of a list is what a pop gives
-pub popped_last : (xs front : List DueJob) (o : Option DueJob) (x : DueJob)
+pub popped_last : (xs front : List KeyedJob) (o : Option KeyedJob) (x : KeyedJob)
     → xs ≡ front ++ option_to_list o → o ≡ Some x → xs ≡ front ++ x ∷ []
 popped_last xs front o x is some = is ∙ ap (λ p. front ++ option_to_list p) some
 
-pub last_of : (xs front : List DueJob) (x : DueJob) → xs ≡ front ++ x ∷ []
+pub last_of : (xs front : List KeyedJob) (x : KeyedJob) → xs ≡ front ++ x ∷ []
     → get_or xs (length xs - 1) x ≡ x
 last_of xs front x is =
     let at : length xs - 1 ≡ length front = omega (arith, ap length is, length_push front x) in
     ap (λ i. get_or xs i x) at ∙ ap (λ ys. get_or ys (length front) x) is
     ∙ get_or_at front x [] x (length front) refl
 
-module _ (k : SchedulingTask) (begun : Bool) (first later sorted : List DueJob)
+module _ (k : SchedulingTask) (begun : Bool) (first later sorted : List KeyedJob)
     (due : AreDue k begun first later) (sorts : IsPermutation first sorted) where
-  abbrev pub entries : List DueJob
+  abbrev pub entries : List KeyedJob
   entries = first ++ later
 
   -- x is taken, and the others are left
-  module _ (x : DueJob) (others : List DueJob) (moved : IsPermutation (sorted ++ later) (x ∷ others))
+  module _ (x : KeyedJob) (others : List KeyedJob) (moved : IsPermutation (sorted ++ later) (x ∷ others))
       (latest : IsLatest (sorted ++ later) x) where
     all_moved : IsPermutation entries (x ∷ others)
     all_moved = IsPermutation-trans entries (sorted ++ later) (x ∷ others)
         (IsPermutation-append_left later first sorted sorts) moved
 
     all_latest : IsLatest entries x
-    all_latest = All-permutation (λ e. e.due ≤ℤ x.due) (sorted ++ later) entries
+    all_latest = All-permutation (λ e. e.key ≤ℤ x.key) (sorted ++ later) entries
         (IsPermutation-sym entries (sorted ++ later)
         (IsPermutation-append_left later first sorted sorts)) latest
 
@@ -216,37 +217,37 @@ module _ (k : SchedulingTask) (begun : Bool) (first later sorted : List DueJob)
     own_due = All-permutation (HasDue k) entries (x ∷ others) all_moved due.dues 0 x (omega arith)
 
     pub jobs_moved : IsPermutation (jobs_due entries) (x.job ∷ jobs_due others)
-    jobs_moved = IsPermutation-map (λ (e : DueJob). e.job) entries (x ∷ others) all_moved
+    jobs_moved = IsPermutation-map (λ (e : KeyedJob). e.job) entries (x ∷ others) all_moved
 
     -- it is the cheapest at each time
     pub latest_cheapest : (end i : ℕ) → Contains (jobs_due entries) i
         → price k x.job end ≤ℤ price k i end
     latest_cheapest end i at =
         let lt : at.0 < length entries =
-        omega (arith, at.1, length-map entries (λ (e : DueJob). e.job)) in
-        let e : DueJob = get_or entries at.0 x in
-        let its : e.job ≡ i = sym (get_or-map (λ (d : DueJob). d.job) entries at.0 x i lt)
+        omega (arith, at.1, length-map entries (λ (e : KeyedJob). e.job)) in
+        let e : KeyedJob = get_or entries at.0 x in
+        let its : e.job ≡ i = sym (get_or-map (λ (d : KeyedJob). d.job) entries at.0 x i lt)
         ∙ at.2 in
-        let is : e.due ≡ (job_data k i).due = due.dues at.0 x lt
+        let is : e.key ≡ (job_data k i).due = due.dues at.0 x lt
         ∙ ap (λ j. (job_data k j).due) its in
         later_cheaper k i x.job end due.class
         (subst (λ z. z ≤ℤ (job_data k x.job).due) is
-        (subst (λ z. e.due ≤ℤ z) own_due (all_latest at.0 x lt)))
+        (subst (λ z. e.key ≤ℤ z) own_due (all_latest at.0 x lt)))
 
     pub others_due : All (HasDue k) others
     others_due = All-tail (HasDue k) x others
         (All-permutation (HasDue k) entries (x ∷ others) all_moved due.dues)
 
   -- the last of the first is taken
-  pub first_taken : (x : DueJob) (front : List DueJob) → sorted ≡ front ++ x ∷ []
+  pub first_taken : (x : KeyedJob) (front : List KeyedJob) → sorted ≡ front ++ x ∷ []
       → IsPermutation (sorted ++ later) (x ∷ (front ++ later))
   first_taken x front is =
-      subst (λ (es : List DueJob). IsPermutation (es ++ later) (x ∷ (front ++ later))) (sym is)
+      subst (λ (es : List KeyedJob). IsPermutation (es ++ later) (x ∷ (front ++ later))) (sym is)
       (IsPermutation-sym (x ∷ (front ++ later)) ((front ++ x ∷ []) ++ later)
       (pushed_first front later x))
 
   -- the greatest of those that followed is taken
-  pub later_taken : (x : DueJob) (more : List DueJob) → IsPermutation later (x ∷ more)
+  pub later_taken : (x : KeyedJob) (more : List KeyedJob) → IsPermutation later (x ∷ more)
       → IsPermutation (sorted ++ later) (x ∷ (sorted ++ more))
   later_taken x more moved =
       IsPermutation-trans (sorted ++ later) (sorted ++ x ∷ more) (x ∷ (sorted ++ more))

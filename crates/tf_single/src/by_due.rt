@@ -4,31 +4,27 @@ ghost use Rattle.std.specs.Prelude.{true, false, IsTrue, IfOk};
 ghost use Rattle.std.specs.BinaryHeap.{heap_items, IsHeap};
 ghost use Rattle.std.specs.List.Sorted.{IsPermutation, IsSorted};
 ghost use Rattle.tf_model.specs.ClassTable.{is_due};
-ghost use Rattle.tf_single.specs.ByDue.{AreDue, IsRising, IsLatest, due_cmp, jobs_due};
-ghost use Rattle.tf_single.specs.declared.by_due.DueJob.{DueJob};
+ghost use Rattle.tf_single.specs.ByDue.{AreDue, IsRising, IsLatest, jobs_due};
+ghost use Rattle.tf_check.specs.KeyedJob.{key_cmp};
+ghost use Rattle.tf_check.specs.declared.keyed_job.KeyedJob.{KeyedJob};
 
 use crate::free_jobs::FreeJobs;
 use std::alloc::Allocator;
 use std::collections::BinaryHeap;
+use tf_check::keyed_job::{KeyedJob, sort_jobs};
 use tf_model::ids::JobId;
 use tf_model::memory::OutOfMemory;
 use tf_model::task::Task;
 
-// A job and its due date. The greater is due later, or as late and of greater number.
-#[derive(Clone, Copy, Drop, PartialEq, Eq, PartialOrd, Ord)]
-struct DueJob {
-    due: i64,
-    job: JobId,
-}
-
-/// Free jobs by their due dates: what is due last is the least late, whatever the work.
+/// Free jobs by their due dates, which are their keys: what is due last is the least late, whatever the work.
 ///
 /// Those that are free before any is taken are sorted once; a heap takes those that follow.
 #[derive(Drop)]
 pub(crate) struct ByDue<A: Allocator> {
+    alloc: A,
     // In rising order once the first job is taken.
-    first: Vec<DueJob, A>,
-    later: BinaryHeap<DueJob, A>,
+    first: Vec<KeyedJob, A>,
+    later: BinaryHeap<KeyedJob, A>,
     has_begun: bool,
 }
 
@@ -47,6 +43,7 @@ impl<A: Allocator + Copy> ByDue<A> {
             AreDue task.now free.has_begun free.first.items (heap_items free.later)) }
     {
         Ok(ByDue {
+            alloc,
             first: Vec::with_capacity(alloc, task.len())?,
             later: BinaryHeap::with_capacity(alloc, task.len())?,
             has_begun: false,
@@ -54,38 +51,39 @@ impl<A: Allocator + Copy> ByDue<A> {
     }
 }
 
-impl<A: Allocator> ByDue<A> {
+impl<A: Allocator + Copy> ByDue<A> {
     ghost use Rattle.std.specs.Prelude.{◌≡◌, ◌<◌, ◌-◌, ◌++◌, length, slice_index_or, true, false};
     ghost use Rattle.std.specs.BinaryHeap.{heap_items, IsHeap};
     ghost use Rattle.std.specs.List.Sorted.{IsPermutation, IsSorted};
-    ghost use Rattle.tf_single.specs.ByDue.{IsRising, IsLatest, due_cmp};
-    ghost use Rattle.tf_single.specs.declared.by_due.DueJob.{DueJob};
+    ghost use Rattle.tf_single.specs.ByDue.{IsRising, IsLatest};
+    ghost use Rattle.tf_check.specs.KeyedJob.{key_cmp};
+    ghost use Rattle.tf_check.specs.declared.keyed_job.KeyedJob.{KeyedJob};
 
     // From now on the jobs that become free follow.
     fn begin(&mut self)
         requires { IsRising self.old.has_begun self.old.first.items }
         ensures begun { self.new.has_begun ≡ true }
         ensures first { IsPermutation self.old.first.items self.new.first.items }
-        ensures rising { IsSorted due_cmp self.new.first.items }
+        ensures rising { IsSorted key_cmp self.new.first.items }
         ensures later { self.new.later ≡ self.old.later }
     {
         if !self.has_begun {
-            self.first.sort_unstable();
+            sort_jobs(self.alloc, &mut self.first);
             self.has_begun = true;
         }
     }
 
     // Whether the last of the first jobs goes before the greatest of those that followed.
     fn is_first_ahead(&self) -> bool
-        requires rising { IsSorted due_cmp self.now.first.items }
-        requires heap { IsHeap due_cmp (heap_items self.now.later) }
+        requires rising { IsSorted key_cmp self.now.first.items }
+        requires heap { IsHeap key_cmp (heap_items self.now.later) }
         ensures first { result ≡ true → (0 < length self.now.first.items)
-            × ((d : DueJob) → IsLatest (self.now.first.items ++ heap_items self.now.later)
+            × ((d : KeyedJob) → IsLatest (self.now.first.items ++ heap_items self.now.later)
             (slice_index_or self.now.first.items (length self.now.first.items - 1) d)) }
         ensures later { result ≡ false
             → 0 < length (self.now.first.items ++ heap_items self.now.later)
             → (0 < length (heap_items self.now.later))
-            × ((d : DueJob) → IsLatest (self.now.first.items ++ heap_items self.now.later)
+            × ((d : KeyedJob) → IsLatest (self.now.first.items ++ heap_items self.now.later)
             (slice_index_or (heap_items self.now.later) 0 d)) }
     {
         let Some(later) = self.later.peek() else {
@@ -98,7 +96,7 @@ impl<A: Allocator> ByDue<A> {
     }
 }
 
-impl<A: Allocator> FreeJobs for ByDue<A> {
+impl<A: Allocator + Copy> FreeJobs for ByDue<A> {
     ghost use Rattle.std.specs.Prelude.{◌++◌};
     ghost use Rattle.std.specs.BinaryHeap.{heap_items};
     ghost use Rattle.tf_single.specs.ByDue.{AreDue, jobs_due};
@@ -113,8 +111,8 @@ impl<A: Allocator> FreeJobs for ByDue<A> {
     }
 
     fn add<B: Allocator>(&mut self, task: &Task<B>, job: JobId) -> Result<(), OutOfMemory> {
-        let entry = DueJob {
-            due: task.due(job),
+        let entry = KeyedJob {
+            key: task.due(job),
             job,
         };
         if self.has_begun {

@@ -3,19 +3,20 @@ use Rattle.std.specs.BinaryHeap.{heap_items, IsHeap, PopsGreatest}
 use Rattle.std.specs.List.Sorted.{IsPermutation, IsSorted}
 use Rattle.std.specs.Option.{IfSome}
 use Rattle.tf_model.specs.SchedulingTask.{SchedulingTask}
-use Rattle.tf_single.specs.ByDue.{due_cmp, IsLatest}
-use Rattle.tf_single.specs.declared.by_due.DueJob.{DueJob}
+use Rattle.tf_single.specs.ByDue.{IsLatest}
+use Rattle.tf_check.specs.KeyedJob.{key_cmp}
+use Rattle.tf_check.specs.declared.keyed_job.KeyedJob.{KeyedJob}
 use Rattle.tf_single.proofs.ByDue.{first_taken, later_taken, jobs_moved, latest_cheapest, others_due, sorted_front, last_of, popped_last, some_left}
 use Rattle.tf_single.proofs.by_due.ByDueFreeJobs.take_last.Goals as goal
 
 pub returns-then-is_first_ahead : goal.returns-then-is_first_ahead
 returns-then-is_first_ahead g c =
     let k : SchedulingTask = c.args.arg2.now in
-    let first : List DueJob = c.args.self.now.first.items in
-    let later : List DueJob = heap_items c.args.self.now.later in
-    let sorted : List DueJob = c.begin.new.self.first.items in
-    let front : List DueJob = c.pop.new.self.items in
-    let x : DueJob = c.unwrap.result in
+    let first : List KeyedJob = c.args.self.now.first.items in
+    let later : List KeyedJob = heap_items c.args.self.now.later in
+    let sorted : List KeyedJob = c.begin.new.self.first.items in
+    let front : List KeyedJob = c.pop.new.self.items in
+    let x : KeyedJob = c.unwrap.result in
     let is : sorted ≡ front ++ x ∷ [] =
     popped_last sorted front c.pop.result x c.pop.ensures.items c.unwrap.ensures in
     let latest : IsLatest (sorted ++ later) x =
@@ -34,7 +35,7 @@ returns-then-is_first_ahead g c =
         class = c.requires.kept.class;
         dues = others_due k c.args.self.now.has_begun first later sorted c.requires.kept
             c.begin.ensures.first x (front ++ later) moved latest;
-        rising = λ yes. sorted_front front x (subst (IsSorted due_cmp) is c.begin.ensures.rising);
+        rising = λ yes. sorted_front front x (subst (IsSorted key_cmp) is c.begin.ensures.rising);
         heap = c.requires.kept.heap;
       };
     })
@@ -42,10 +43,10 @@ returns-then-is_first_ahead g c =
 -- some job is left
 pub unwrap-requires-2 : goal.unwrap-requires-2
 unwrap-requires-2 g c =
-    let first : List DueJob = c.args.self.now.first.items in
-    let later : List DueJob = heap_items c.args.self.now.later in
-    let sorted : List DueJob = c.begin.new.self.first.items in
-    let later_now : List DueJob = heap_items c.begin.new.self.later in
+    let first : List KeyedJob = c.args.self.now.first.items in
+    let later : List KeyedJob = heap_items c.args.self.now.later in
+    let sorted : List KeyedJob = c.begin.new.self.first.items in
+    let later_now : List KeyedJob = heap_items c.begin.new.self.later in
     let held : 0 < length (sorted ++ later_now) =
     some_left first later sorted later_now c.requires.some c.begin.ensures.first
     (ap heap_items c.begin.ensures.later) in
@@ -56,19 +57,19 @@ unwrap-requires-2 g c =
 pub returns : goal.returns
 returns g c =
     let k : SchedulingTask = c.args.arg2.now in
-    let first : List DueJob = c.args.self.now.first.items in
-    let later : List DueJob = heap_items c.args.self.now.later in
-    let sorted : List DueJob = c.begin.new.self.first.items in
-    let later_now : List DueJob = heap_items c.begin.new.self.later in
-    let more : List DueJob = heap_items c.pop-2.new.self in
-    let x : DueJob = c.unwrap-2.result in
+    let first : List KeyedJob = c.args.self.now.first.items in
+    let later : List KeyedJob = heap_items c.args.self.now.later in
+    let sorted : List KeyedJob = c.begin.new.self.first.items in
+    let later_now : List KeyedJob = heap_items c.begin.new.self.later in
+    let more : List KeyedJob = heap_items c.pop-2.new.self in
+    let x : KeyedJob = c.unwrap-2.result in
     let same : later_now ≡ later = ap heap_items c.begin.ensures.later in
     let popped : IsPermutation later (x ∷ more) =
     subst (λ es. IsPermutation es (x ∷ more)) same
     (subst (λ r. IfSome r (λ y. IsPermutation later_now (y ∷ more))) c.unwrap-2.ensures
     c.pop-2.ensures.permutation) in
-    let pops : PopsGreatest due_cmp later_now x more =
-    subst (λ r. IfSome r (λ y. PopsGreatest due_cmp later_now y more)) c.unwrap-2.ensures
+    let pops : PopsGreatest key_cmp later_now x more =
+    subst (λ r. IfSome r (λ y. PopsGreatest key_cmp later_now y more)) c.unwrap-2.ensures
     c.pop-2.ensures.heap_order in
     let top : x ≡ get_or later_now 0 x =
     subst (λ r. IfSome r (λ y. y ≡ get_or later_now 0 y)) c.unwrap-2.ensures c.pop-2.ensures.top in
@@ -92,6 +93,6 @@ returns g c =
         dues = others_due k c.args.self.now.has_begun first later sorted c.requires.kept
             c.begin.ensures.first x (sorted ++ more) moved latest;
         rising = λ yes. c.begin.ensures.rising;
-        heap = (pops (subst (IsHeap due_cmp) (sym same) c.requires.kept.heap)).0;
+        heap = (pops (subst (IsHeap key_cmp) (sym same) c.requires.kept.heap)).0;
       };
     }
