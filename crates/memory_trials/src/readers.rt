@@ -5,7 +5,7 @@ use std::test::Fail;
 use tf_model::instance::Instance;
 use tf_model::job::{Job, Times};
 use tf_read::fault::ReadFault;
-use tf_read::flow_shop::{FlowReader, read_flowshop};
+use tf_read::flow_shop::FlowReader;
 use tf_read::weighted_tardiness::{WtReader, read_wt};
 use tf_words::feed::Feed;
 use trials::examples::files::{SHOP, TARDINESS};
@@ -57,24 +57,11 @@ const SECOND: [Fields; 3] = [
     (Times::One(3), Some(3), Some(8)),
 ];
 
-/// The demo on its first and last machine, and on its first two.
+/// The demo on its first and last machine.
 const FIRST_AND_LAST: [Fields; 2] = [
     (Times::Two(4, 1), None, None),
     (Times::Two(2, 5), None, None),
 ];
-
-const FIRST_TWO: [Fields; 2] = [
-    (Times::Two(4, 9), None, None),
-    (Times::Two(2, 9), None, None),
-];
-
-#[test]
-fn a_flow_shop_file_has_the_times_on_two_of_its_machines(rt: HostRuntime) -> Result<(), Fail> {
-    let pair = read_flowshop(rt.alloc(), SHOP, b"demo", Some((0, 2)));
-    is_instance(&pair, Some(2), &FIRST_AND_LAST)?;
-    let whole = read_flowshop(rt.alloc(), SHOP, b"demo", None);
-    is_instance(&whole, Some(3), &FIRST_TWO)
-}
 
 /// Numbers of jobs and indices for which the file has no instance.
 const ABSENT: [(u32, u32, ReadFault); 5] = [
