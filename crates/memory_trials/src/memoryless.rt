@@ -35,12 +35,7 @@ const REFUSED: [(&str, Option<usize>); 11] = [
 const GRANTED: [u64; 2] = [0, 1_000_000_000];
 
 /// Both runs refuse the problem, read nothing, write nothing, and ask for no growth.
-fn refuses(
-    rt: &HostRuntime,
-    problem: &str,
-    byte: Option<usize>,
-    granted: u64,
-) -> Result<(), Fail> {
+fn refuses(rt: &HostRuntime, problem: &str, byte: Option<usize>, granted: u64) -> Result<(), Fail> {
     let request = request_table(rt, problem)?;
     let mut instance = Source::new(FOURS.instance);
     let mut answer = Source::new(FOURS.answer);
