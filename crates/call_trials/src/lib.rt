@@ -1,12 +1,11 @@
-//! Tests over single public calls: the model, schedules, answer texts, and what no command line asks
-//! of a solver and of a certificate.
+//! Tests over single public calls: the model, schedules, a certificate, answer texts.
 #![tactic(auto)]
 
 #[cfg(test)]
 mod answer_texts;
 #[cfg(test)]
+mod certificates;
+#[cfg(test)]
 mod model;
 #[cfg(test)]
 mod pieces;
-#[cfg(test)]
-mod tasks;
