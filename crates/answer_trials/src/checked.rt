@@ -5,7 +5,6 @@ use std::alloc::AllocError;
 use std::test::Fail;
 use tf_engine::fault::RunFault;
 use tf_engine::run_check::{Checked, run_check};
-use tf_notation::reading::NotationFault;
 use tf_read::fault::ReadFault;
 use tf_text::counted::Counted;
 use trials::devices::{Failure, Source, Way};
@@ -23,32 +22,6 @@ fn check_texts(
     let mut out = Vec::new(rt.alloc());
     let result = check_into(rt.alloc(), &request, table, answer, &mut out);
     Ok((result, out))
-}
-
-#[test]
-fn nothing_is_read_before_the_problem(rt: HostRuntime) -> Result<(), Fail> {
-    let request = request_table(&rt, "1||sumX")?;
-    let mut out = Vec::new(rt.alloc());
-    let mut source = Source::new(FOURS.instance);
-    let mut other = Source::new(FOURS.instance);
-    let mut instance = Counted::new(&mut source);
-    let mut answer = Counted::new(&mut other);
-    let mut writer = Counted::new(&mut out);
-    let result = run_check(
-        rt.alloc(),
-        &request,
-        &mut instance,
-        &mut answer,
-        &mut writer,
-    );
-    assert!(rt; result == Err(RunFault::Notation(NotationFault { byte: 3 })));
-    drop(instance);
-    drop(answer);
-    drop(writer);
-    assert_eq!(rt; source.calls(), 0);
-    assert_eq!(rt; other.calls(), 0);
-    assert!(rt; out.is_empty());
-    Ok(())
 }
 
 #[test]

@@ -5,8 +5,7 @@ use tf_model::cost::{Cost, CostFault, StepCost};
 use tf_model::ids::{JobId, MachineId};
 use tf_model::instance::{Instance, InstanceFault};
 use tf_model::job::{Job, Times};
-use tf_model::limit::LIMIT;
-use tf_model::prepare::{Field, Refusal, prepare};
+use tf_model::prepare::{Refusal, prepare};
 use tf_model::problem::{Env, Goal, Problem};
 
 fn job_id(rt: &impl Abort, number: u32) -> JobId {
@@ -77,114 +76,21 @@ fn an_instance_has_its_first_fault(rt: HostRuntime) -> Result<(), Fail> {
     Ok(())
 }
 
-fn problem(env: Env, count: Option<u32>, goal: Goal, prmp: bool) -> Problem {
-    Problem {
-        env,
-        count,
-        release: false,
-        prec: false,
-        prmp,
-        prmu: false,
-        nwt: false,
-        block: false,
-        rcrc: false,
-        goal,
-    }
-}
-
-/// What is refused of these jobs without arcs, with these numbers of machines of the caller and of
-/// the instance.
-fn refusal(
-    rt: &HostRuntime,
-    problem: &Problem,
-    argument: Option<u32>,
-    machines: Option<u32>,
-    jobs: Vec<Job>,
-) -> Result<Option<Refusal>, Fail> {
-    let instance = Instance::new(jobs, Vec::new(rt.alloc()), machines)
-        .ok()
-        .ok_or("a fault")?;
-    Ok(prepare(rt.alloc(), &instance, problem, argument).err())
-}
-
 #[test]
-fn a_job_has_its_refusal(rt: HostRuntime) -> Result<(), Fail> {
-    let makespan = problem(Env::Parallel, None, Goal::Cmax, true);
-    let pair = problem(Env::Parallel, Some(2), Goal::Cmax, true);
-    let flow = problem(Env::Flow, None, Goal::Cmax, false);
-    let weights = problem(Env::Single, None, Goal::SumWC, false);
-    let plain = problem(Env::Single, None, Goal::SumC, false);
-    let first = job_id(&rt, 1);
-    let rows = [
-        (makespan, None, None, 1, Refusal::MachinesMissing),
-        (pair, None, Some(3), 1, Refusal::MachinesDisagree),
-        (makespan, Some(0), None, 1, Refusal::MachineCount(0)),
-        (flow, Some(3), None, 3, Refusal::MachineCount(3)),
-        (flow, Some(2), None, 3, Refusal::WrongTimes(first)),
-        (
-            weights,
-            None,
-            None,
-            3,
-            Refusal::MissingField(first, Field::Weight),
-        ),
-        (plain, None, None, 0, Refusal::ZeroTime(first)),
-    ];
-    for (problem, argument, machines, time, wanted) in rows {
-        let jobs = vec![in rt.alloc(); timed(Times::One(time))]?;
-        assert_eq!(rt;
-            refusal(&rt, &problem, argument, machines, jobs)?,
-            Some(wanted)
-        );
-    }
-    Ok(())
-}
-
-#[test]
-fn totals_stay_within_the_limit(rt: HostRuntime) -> Result<(), Fail> {
-    let weights = problem(Env::Single, None, Goal::SumWC, false);
-    let jobs = vec![in rt.alloc(); weighted(LIMIT, 1)]?;
-    assert_eq!(rt; refusal(&rt, &weights, None, None, jobs)?, None);
-    let jobs = vec![in rt.alloc(); weighted(LIMIT, 2)]?;
-    assert_eq!(rt;
-        refusal(&rt, &weights, None, None, jobs)?,
-        Some(Refusal::TotalTooLarge)
-    );
-    let makespan = problem(Env::Parallel, Some(1000), Goal::Cmax, true);
-    let jobs = vec![in rt.alloc();
-        timed(Times::One(2_000_000_000_000_000_000)),
-        timed(Times::One(2_000_000_000_000_000_001)),
-    ]?;
-    assert_eq!(rt;
-        refusal(&rt, &makespan, None, None, jobs)?,
-        Some(Refusal::TotalTooLarge)
-    );
-    Ok(())
-}
-
-#[test]
-fn each_refusal_before_the_next(rt: HostRuntime) -> Result<(), Fail> {
-    let weights = problem(Env::Single, None, Goal::SumWC, false);
-    let jobs = vec![in rt.alloc(); timed(Times::One(1)), timed(Times::Two(1, 1))]?;
-    let wanted = Refusal::WrongTimes(job_id(&rt, 2));
-    assert_eq!(rt; refusal(&rt, &weights, None, None, jobs)?, Some(wanted));
-
-    let jobs = vec![in rt.alloc(); weighted(0, 1), timed(Times::One(1))]?;
-    let wanted = Refusal::MissingField(job_id(&rt, 2), Field::Weight);
-    assert_eq!(rt; refusal(&rt, &weights, None, None, jobs)?, Some(wanted));
-
-    let jobs = vec![in rt.alloc(); weighted(LIMIT, 2), weighted(0, 1)]?;
-    let wanted = Refusal::ZeroTime(job_id(&rt, 2));
-    assert_eq!(rt; refusal(&rt, &weights, None, None, jobs)?, Some(wanted));
-    Ok(())
-}
-
-#[test]
-fn jobs_and_machines_count_from_1(rt: HostRuntime) {
+fn jobs_and_machines_count_from_1(rt: HostRuntime) -> Result<(), Fail> {
     assert!(rt; JobId::new(0).is_none());
     assert!(rt; MachineId::new(0).is_none());
     assert_eq!(rt; JobId::new(1).map(JobId::get), Some(1));
     assert_eq!(rt; MachineId::new(1_000).map(MachineId::get), Some(1_000));
+    let problem = Problem {
+        prmp: true,
+        ..Problem::plain(Env::Parallel, Goal::Cmax)
+    };
+    let jobs = vec![in rt.alloc(); timed(Times::One(1))]?;
+    let instance = Instance::new(jobs, Vec::new(rt.alloc()), None)?;
+    let refused = prepare(rt.alloc(), &instance, &problem, Some(0)).err();
+    assert_eq!(rt; refused, Some(Refusal::MachineCount(0)));
+    Ok(())
 }
 
 /// Problems without conditions, and the class of each.

@@ -1,8 +1,14 @@
+//! Schedules of pieces.
 use std::process::Abort;
 use std::test::Fail;
 use tf_model::ids::{JobId, MachineId};
+use tf_model::instance::Instance;
+use tf_model::job::{Job, Times};
+use tf_model::prepare::prepare;
+use tf_model::problem::{Env, Goal, Problem};
+use tf_schedule::cost::cost;
 use tf_schedule::piece::Piece;
-use tf_schedule::schedule::{PieceFault, Schedule};
+use tf_schedule::schedule::Schedule;
 
 fn piece(rt: &impl Abort, job: u32, machine: u32, start: i64, stop: i64) -> Piece {
     Piece {
@@ -11,25 +17,6 @@ fn piece(rt: &impl Abort, job: u32, machine: u32, start: i64, stop: i64) -> Piec
         start,
         stop,
     }
-}
-
-fn fault(pieces: Vec<Piece>) -> Option<PieceFault> {
-    Schedule::new(pieces).err()
-}
-
-#[test]
-fn pieces_have_their_first_fault(rt: HostRuntime) -> Result<(), Fail> {
-    let first_machine = MachineId::new(1).expect(&rt, "a machine");
-    let pieces = vec![in rt.alloc(); piece(&rt, 1, 1, 0, 4), piece(&rt, 2, 1, 3, 5)]?;
-    assert_eq!(rt;
-        fault(pieces),
-        Some(PieceFault::MachineTwice(first_machine, 3))
-    );
-    let pieces = vec![in rt.alloc(); piece(&rt, 1, 1, 2, 2)]?;
-    assert_eq!(rt; fault(pieces), Some(PieceFault::EmptyPiece(1)));
-    let pieces = vec![in rt.alloc(); piece(&rt, 1, 1, -1, 4), piece(&rt, 2, 1, 4, 6)]?;
-    assert_eq!(rt; fault(pieces), Some(PieceFault::OutOfRange(1)));
-    Ok(())
 }
 
 #[test]
@@ -50,5 +37,29 @@ fn pieces_may_touch(rt: HostRuntime) -> Result<(), Fail> {
         *job = schedule.cell(machine, t as i64 - 1).map_or(0, JobId::get);
     }
     assert_eq!(rt; jobs, [0, 2, 2, 3, 3, 3, 3, 0]);
+    Ok(())
+}
+
+#[test]
+fn a_job_that_the_task_does_not_have_costs_nothing(rt: HostRuntime) -> Result<(), Fail> {
+    let mut jobs = Vec::new(rt.alloc());
+    for _ in 0..3 {
+        jobs.push(Job {
+            times: Times::One(4),
+            weight: None,
+            due: None,
+            release: None,
+            cost: None,
+        })?;
+    }
+    let instance = Instance::new(jobs, Vec::new(rt.alloc()), None)?;
+    let problem = Problem {
+        prmp: true,
+        ..Problem::plain(Env::Parallel, Goal::Cmax)
+    };
+    let task = prepare(rt.alloc(), &instance, &problem, Some(2))?;
+    let pieces = vec![in rt.alloc(); piece(&rt, 4, 1, 0, 4)]?;
+    let stranger = Schedule::new(pieces).ok().ok_or("a fault")?;
+    assert_eq!(rt; cost(&task, &stranger), 0);
     Ok(())
 }

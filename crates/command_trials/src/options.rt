@@ -1,7 +1,7 @@
 //! Words of a command line, and what they ask for.
 use std::alloc::AllocError;
 use std::test::Fail;
-use tf_command::options::{Asked, Drawing, FormOption, Work, command, understand};
+use tf_command::options::{Asked, Drawing, FormOption, Options, Work, command, understand};
 use tf_text::answer::layout::Layout;
 
 fn ensure(is_so: bool, otherwise: &'static str) -> Result<(), Fail> {
@@ -13,323 +13,204 @@ fn ensure(is_so: bool, otherwise: &'static str) -> Result<(), Fail> {
 }
 
 /// The words of a command line, the program's name before them.
-fn words(rt: &HostRuntime, line: &[&str]) -> Result<Vec<String>, AllocError> {
+fn words(rt: &HostRuntime, line: &str) -> Result<Vec<String>, AllocError> {
     let mut words = Vec::with_capacity(rt.alloc(), 16)?;
     words.push(String::from_str(rt.alloc(), "threefield")?)?;
-    for word in line {
+    for word in line.split_whitespace() {
         words.push(String::from_str(rt.alloc(), word)?)?;
     }
     Ok(words)
 }
 
-/// A value of an option is not what it takes.
-fn is_unfit(rt: &HostRuntime, line: &[&str]) -> Result<(), Fail> {
-    let words = words(rt, line)?;
-    let asked = understand(command(rt.alloc())?, words.as_slice());
-    ensure(matches!(asked, Asked::Unfit(_)), "not unfit")
+/// Command lines in which a value of an option is not what it takes.
+const UNFIT: [&str; 17] = [
+    "solve --problem=P||sumC --machines=0 -",
+    "solve --problem=P||sumC --machines=1001 -",
+    "solve --problem=P||sumC --machines=+5 -",
+    "solve --problem=P||sumC --machines= -",
+    "solve --problem=1||Lmax --format=wt -",
+    "solve --problem=1||Lmax --format=wt --jobs=0 -",
+    "solve --problem=1||Lmax --format=wt --jobs=100001 -",
+    "solve --problem=1||Lmax --format=wt --jobs=1 --index=0 -",
+    "solve --problem=F||Cmax --format=flow -",
+    "solve --problem=F||Cmax --format=flow --name=demo --pair=1 -",
+    "solve --problem=F||Cmax --format=flow --name=demo --pair=0,1001 -",
+    "solve --problem=F||Cmax --format=flow --name=demo --pair=0,1,2 -",
+    "solve --problem=F||Cmax --format=flow --name=demo --pair -1,2 -",
+    "check --problem P||sumC - -",
+    "gantt --columns=0 file",
+    "gantt --columns=1001 file",
+    "gantt -c -1 file",
+];
+
+/// Command lines that are none.
+const MISUSED: [&str; 11] = [
+    "",
+    "solve file",
+    "solve --problem P||sumC",
+    "solve --problem P||sumC --format Table file",
+    "solve --problem P||sumC --unknown file",
+    "solve --problem P||sumC --problem P||sumC file",
+    "solve --answer=3 --problem=P||sumC file",
+    "check --problem P||sumC -",
+    "check --answer=1 --problem=P||sumC file -",
+    "gantt --answer=1 file",
+    "gantt --svg --columns=40 file",
+];
+
+const HELP: [&str; 5] = ["--help", "help", "help solve", "--version", "solve --help"];
+
+/// How a command line that asks for no work is answered.
+#[derive(Clone, Copy, PartialEq, Eq)]
+enum Answered {
+    Unfit,
+    Misused,
+    Help,
+    Otherwise,
 }
 
-fn is_misused(rt: &HostRuntime, line: &[&str]) -> Result<(), Fail> {
-    let words = words(rt, line)?;
-    let asked = understand(command(rt.alloc())?, words.as_slice());
-    ensure(matches!(asked, Asked::Misused(_)), "not misused")
+fn are_answered(rt: &HostRuntime, lines: &[&'static str], wanted: Answered) -> Result<(), Fail> {
+    for line in lines {
+        let words = words(rt, line)?;
+        let answered = match understand(command(rt.alloc())?, words.as_slice()) {
+            Asked::Unfit(_) => Answered::Unfit,
+            Asked::Misused(_) => Answered::Misused,
+            Asked::Help(_) => Answered::Help,
+            _ => Answered::Otherwise,
+        };
+        ensure(answered == wanted, line)?;
+    }
+    Ok(())
 }
 
-fn is_help(rt: &HostRuntime, line: &[&str]) -> Result<(), Fail> {
-    let words = words(rt, line)?;
-    let asked = understand(command(rt.alloc())?, words.as_slice());
-    ensure(matches!(asked, Asked::Help(_)), "no help")
+#[test]
+fn a_line_is_unfit_or_misused_or_asks_for_help(rt: HostRuntime) -> Result<(), Fail> {
+    are_answered(&rt, &UNFIT, Answered::Unfit)?;
+    are_answered(&rt, &MISUSED, Answered::Misused)?;
+    are_answered(&rt, &HELP, Answered::Help)
 }
 
-fn solves_table(rt: &HostRuntime, line: &[&str], machines: Option<u32>) -> Result<(), Fail> {
-    let words = words(rt, line)?;
-    match understand(command(rt.alloc())?, words.as_slice()) {
-        Asked::Work(Work::Solve(options, _)) => {
-            ensure(matches!(options.form, FormOption::Table), "no table")?;
-            ensure(options.machines == machines, "other machines")?;
-            ensure(options.problem == "P||sumC", "another problem")?;
-            ensure(options.input == "file", "another input")
+/// What a command line asks to solve: the form of the instance, and the version of the answer.
+#[derive(Clone, Copy)]
+enum Solved {
+    /// A table, under this problem and with this number of machines.
+    Table(&'static str, Option<u32>),
+    Tardiness(u32, u32),
+    /// The flow shop of this name.
+    FlowShop(&'static str, Option<(u32, u32)>),
+    Version(Layout),
+}
+
+/// Command lines that ask to solve. The options of other forms than the one that is asked for are
+/// not looked at.
+const SOLVED: [(&str, Solved); 11] = [
+    (
+        "solve --problem P||sumC file",
+        Solved::Table("P||sumC", None),
+    ),
+    (
+        "solve --machines 003 --problem=P||sumC file",
+        Solved::Table("P||sumC", Some(3)),
+    ),
+    (
+        "solve file --machines=1000 --problem P||sumC",
+        Solved::Table("P||sumC", Some(1000)),
+    ),
+    (
+        "solve --problem P||sumC --jobs x --pair 1 file",
+        Solved::Table("P||sumC", None),
+    ),
+    (
+        "solve --problem 1||Lmax --format wt --jobs 40 -",
+        Solved::Tardiness(40, 1),
+    ),
+    (
+        "solve --problem=1||Lmax --format=wt --jobs=100000 --index=4294967295 -",
+        Solved::Tardiness(100_000, 4_294_967_295),
+    ),
+    (
+        "solve --problem F||Cmax --format flow --name demo -",
+        Solved::FlowShop("demo", None),
+    ),
+    (
+        "solve --problem=F||Cmax --format=flow --name=demo --pair=0,1000 -",
+        Solved::FlowShop("demo", Some((0, 1000))),
+    ),
+    ("solve --problem P||sumC file", Solved::Version(Layout::Two)),
+    (
+        "solve --answer 1 --problem=P||sumC file",
+        Solved::Version(Layout::One),
+    ),
+    (
+        "solve --answer=2 --problem=P||sumC file",
+        Solved::Version(Layout::Two),
+    ),
+];
+
+/// Whether this is what is asked for.
+fn is_asked(wanted: Solved, options: &Options<'_>, layout: Layout) -> bool {
+    match (wanted, options.form) {
+        (Solved::Table(problem, machines), FormOption::Table) => {
+            options.machines == machines && options.problem == problem && options.input == "file"
         }
-        _ => Err(Fail::new("no solve")),
+        (Solved::Tardiness(first, second), FormOption::Wt { jobs, index }) => {
+            (jobs, index) == (first, second)
+        }
+        (Solved::FlowShop(demo, two), FormOption::Flow { name, pair }) => {
+            name == demo && pair == two
+        }
+        (Solved::Version(version), _) => layout == version,
+        _ => false,
     }
 }
 
-fn solves_wt(rt: &HostRuntime, line: &[&str], wanted: (u32, u32)) -> Result<(), Fail> {
-    let words = words(rt, line)?;
-    match understand(command(rt.alloc())?, words.as_slice()) {
-        Asked::Work(Work::Solve(options, _)) => match options.form {
-            FormOption::Wt { jobs, index } => ensure((jobs, index) == wanted, "other numbers"),
-            _ => Err(Fail::new("no weighted tardiness file")),
-        },
-        _ => Err(Fail::new("no solve")),
+#[test]
+fn a_line_asks_to_solve_an_instance(rt: HostRuntime) -> Result<(), Fail> {
+    for (line, wanted) in SOLVED {
+        let words = words(&rt, line)?;
+        match understand(command(rt.alloc())?, words.as_slice()) {
+            Asked::Work(Work::Solve(options, layout)) => {
+                ensure(is_asked(wanted, &options, layout), line)?;
+            }
+            _ => return Err(Fail::new(line)),
+        }
     }
+    Ok(())
 }
 
-fn solves_flow(rt: &HostRuntime, line: &[&str], wanted: Option<(u32, u32)>) -> Result<(), Fail> {
-    let words = words(rt, line)?;
-    match understand(command(rt.alloc())?, words.as_slice()) {
-        Asked::Work(Work::Solve(options, _)) => match options.form {
-            FormOption::Flow { name, pair } => ensure(name == "demo" && pair == wanted, "another"),
-            _ => Err(Fail::new("no flow shop file")),
-        },
-        _ => Err(Fail::new("no solve")),
-    }
-}
-
-const SOLVE: [&str; 4] = ["solve", "--problem", "P||sumC", "file"];
+/// Command lines that ask for a drawing.
+const DRAWN: [(&str, Drawing); 5] = [
+    ("gantt file", Drawing::Chart { columns: 72 }),
+    ("gantt --columns 1 file", Drawing::Chart { columns: 1 }),
+    (
+        "gantt --columns=1000 file",
+        Drawing::Chart { columns: 1_000 },
+    ),
+    ("gantt -c 40 file", Drawing::Chart { columns: 40 }),
+    ("gantt --svg file", Drawing::Picture),
+];
 
 #[test]
-fn a_table(rt: HostRuntime) -> Result<(), Fail> {
-    solves_table(&rt, &SOLVE, None)?;
-    let three = ["solve", "--machines", "003", "--problem=P||sumC", "file"];
-    solves_table(&rt, &three, Some(3))?;
-    let most = ["solve", "file", "--machines=1000", "--problem", "P||sumC"];
-    solves_table(&rt, &most, Some(1000))?;
-    // the options of other forms are not looked at
-    let others = [
-        "solve",
-        "--problem",
-        "P||sumC",
-        "--jobs",
-        "x",
-        "--pair",
-        "1",
-        "file",
-    ];
-    solves_table(&rt, &others, None)
-}
-
-#[test]
-fn a_weighted_tardiness_file(rt: HostRuntime) -> Result<(), Fail> {
-    let first = [
-        "solve",
-        "--problem",
-        "1||Lmax",
-        "--format",
-        "wt",
-        "--jobs",
-        "40",
-        "-",
-    ];
-    solves_wt(&rt, &first, (40, 1))?;
-    let last = [
-        "solve",
-        "--problem=1||Lmax",
-        "--format=wt",
-        "--jobs=100000",
-        "--index=4294967295",
-        "-",
-    ];
-    solves_wt(&rt, &last, (100_000, 4_294_967_295))
-}
-
-#[test]
-fn a_flow_shop_file(rt: HostRuntime) -> Result<(), Fail> {
-    let all = [
-        "solve",
-        "--problem",
-        "F||Cmax",
-        "--format",
-        "flow",
-        "--name",
-        "demo",
-        "-",
-    ];
-    solves_flow(&rt, &all, None)?;
-    let two = [
-        "solve",
-        "--problem=F||Cmax",
-        "--format=flow",
-        "--name=demo",
-        "--pair=0,1000",
-        "-",
-    ];
-    solves_flow(&rt, &two, Some((0, 1000)))
-}
-
-#[test]
-fn values_out_of_range(rt: HostRuntime) -> Result<(), Fail> {
-    is_unfit(&rt, &["solve", "--problem=P||sumC", "--machines=0", "-"])?;
-    is_unfit(&rt, &["solve", "--problem=P||sumC", "--machines=1001", "-"])?;
-    is_unfit(&rt, &["solve", "--problem=P||sumC", "--machines=+5", "-"])?;
-    is_unfit(&rt, &["solve", "--problem=P||sumC", "--machines=", "-"])?;
-    is_unfit(&rt, &["solve", "--problem=1||Lmax", "--format=wt", "-"])?;
-    is_unfit(
-        &rt,
-        &["solve", "--problem=1||Lmax", "--format=wt", "--jobs=0", "-"],
-    )?;
-    is_unfit(
-        &rt,
-        &[
-            "solve",
-            "--problem=1||Lmax",
-            "--format=wt",
-            "--jobs=100001",
-            "-",
-        ],
-    )?;
-    is_unfit(
-        &rt,
-        &[
-            "solve",
-            "--problem=1||Lmax",
-            "--format=wt",
-            "--jobs=1",
-            "--index=0",
-            "-",
-        ],
-    )
-}
-
-#[test]
-fn pairs_that_are_none(rt: HostRuntime) -> Result<(), Fail> {
-    is_unfit(&rt, &["solve", "--problem=F||Cmax", "--format=flow", "-"])?;
-    let front = [
-        "solve",
-        "--problem=F||Cmax",
-        "--format=flow",
-        "--name=demo",
-        "--pair=1",
-        "-",
-    ];
-    is_unfit(&rt, &front)?;
-    let large = [
-        "solve",
-        "--problem=F||Cmax",
-        "--format=flow",
-        "--name=demo",
-        "--pair=0,1001",
-        "-",
-    ];
-    is_unfit(&rt, &large)?;
-    let three = [
-        "solve",
-        "--problem=F||Cmax",
-        "--format=flow",
-        "--name=demo",
-        "--pair=0,1,2",
-        "-",
-    ];
-    is_unfit(&rt, &three)?;
-    let negative = [
-        "solve",
-        "--problem=F||Cmax",
-        "--format=flow",
-        "--name=demo",
-        "--pair",
-        "-1,2",
-        "-",
-    ];
-    is_unfit(&rt, &negative)
-}
-
-#[test]
-fn an_answer_to_check(rt: HostRuntime) -> Result<(), Fail> {
-    let words = words(&rt, &["check", "--problem", "P||sumC", "-", "answer"])?;
-    match understand(command(rt.alloc())?, words.as_slice()) {
+fn a_line_asks_to_check_or_to_draw_an_answer(rt: HostRuntime) -> Result<(), Fail> {
+    let check = words(&rt, "check --problem P||sumC - answer")?;
+    match understand(command(rt.alloc())?, check.as_slice()) {
         Asked::Work(Work::Check(options, answer)) => {
             ensure(options.input == "-" && answer == "answer", "other files")?;
         }
         _ => return Err(Fail::new("no check")),
     }
-    is_unfit(&rt, &["check", "--problem", "P||sumC", "-", "-"])?;
-    is_misused(&rt, &["check", "--problem", "P||sumC", "-"])
-}
-
-fn solves_in(rt: &HostRuntime, line: &[&str], wanted: Layout) -> Result<(), Fail> {
-    let words = words(rt, line)?;
-    match understand(command(rt.alloc())?, words.as_slice()) {
-        Asked::Work(Work::Solve(_, layout)) => ensure(layout == wanted, "another version"),
-        _ => Err(Fail::new("no solve")),
+    for (line, wanted) in DRAWN {
+        let words = words(&rt, line)?;
+        match understand(command(rt.alloc())?, words.as_slice()) {
+            Asked::Work(
+                Work::Gantt {
+                    answer,
+                    drawing,
+                    ..
+                },
+            ) => { ensure(answer == "file" && drawing == wanted, line)? }
+            _ => return Err(Fail::new(line)),
+        }
     }
-}
-
-#[test]
-fn versions_of_answers(rt: HostRuntime) -> Result<(), Fail> {
-    solves_in(&rt, &SOLVE, Layout::Two)?;
-    let one = ["solve", "--answer", "1", "--problem=P||sumC", "file"];
-    solves_in(&rt, &one, Layout::One)?;
-    let two = ["solve", "--answer=2", "--problem=P||sumC", "file"];
-    solves_in(&rt, &two, Layout::Two)?;
-    is_misused(&rt, &["solve", "--answer=3", "--problem=P||sumC", "file"])?;
-    is_misused(
-        &rt,
-        &["check", "--answer=1", "--problem=P||sumC", "file", "-"],
-    )?;
-    is_misused(&rt, &["gantt", "--answer=1", "file"])
-}
-
-#[test]
-fn lines_that_are_misused(rt: HostRuntime) -> Result<(), Fail> {
-    is_misused(&rt, &[])?;
-    is_misused(&rt, &["solve", "file"])?;
-    is_misused(&rt, &["solve", "--problem", "P||sumC"])?;
-    is_misused(
-        &rt,
-        &["solve", "--problem", "P||sumC", "--format", "Table", "file"],
-    )?;
-    is_misused(&rt, &["solve", "--problem", "P||sumC", "--unknown", "file"])?;
-    is_misused(
-        &rt,
-        &[
-            "solve",
-            "--problem",
-            "P||sumC",
-            "--problem",
-            "P||sumC",
-            "file",
-        ],
-    )
-}
-
-fn draws(rt: &HostRuntime, line: &[&str], wanted: Drawing) -> Result<(), Fail> {
-    let words = words(rt, line)?;
-    match understand(command(rt.alloc())?, words.as_slice()) {
-        Asked::Work(
-            Work::Gantt {
-                answer,
-                drawing,
-                ..
-            },
-        ) => { ensure(answer == "file" && drawing == wanted, "another drawing") }
-        _ => Err(Fail::new("no drawing")),
-    }
-}
-
-#[test]
-fn charts(rt: HostRuntime) -> Result<(), Fail> {
-    draws(&rt, &["gantt", "file"], Drawing::Chart { columns: 72 })?;
-    draws(
-        &rt,
-        &["gantt", "--columns", "1", "file"],
-        Drawing::Chart { columns: 1 },
-    )?;
-    draws(
-        &rt,
-        &["gantt", "--columns=1000", "file"],
-        Drawing::Chart { columns: 1_000 },
-    )?;
-    is_unfit(&rt, &["gantt", "--columns=0", "file"])?;
-    is_unfit(&rt, &["gantt", "--columns=1001", "file"])?;
-    is_unfit(&rt, &["gantt", "-c", "-1", "file"])?;
-    draws(
-        &rt,
-        &["gantt", "-c", "40", "file"],
-        Drawing::Chart { columns: 40 },
-    )
-}
-
-#[test]
-fn pictures(rt: HostRuntime) -> Result<(), Fail> {
-    draws(&rt, &["gantt", "--svg", "file"], Drawing::Picture)?;
-    is_misused(&rt, &["gantt", "--svg", "--columns=40", "file"])
-}
-
-#[test]
-fn help(rt: HostRuntime) -> Result<(), Fail> {
-    is_help(&rt, &["--help"])?;
-    is_help(&rt, &["help"])?;
-    is_help(&rt, &["help", "solve"])?;
-    is_help(&rt, &["--version"])?;
-    is_help(&rt, &["solve", "--help"])
+    Ok(())
 }

@@ -3,10 +3,9 @@ use std::alloc::AllocError;
 use std::test::Fail;
 use tf_command::report::report;
 use tf_engine::fault::RunFault;
-use tf_model::ids::{JobId, MachineId};
+use tf_model::ids::JobId;
 use tf_model::job_list::JobList;
 use tf_model::prepare::{Field, Refusal};
-use tf_notation::reading::NotationFault;
 use tf_read::fault::ReadFault;
 use tf_schedule::schedule::PieceFault;
 use tf_text::answer::fault::AnswerFault;
@@ -38,102 +37,36 @@ fn refuses(rt: &HostRuntime, fault: RunFault, name: &str) -> Result<(), Fail> {
     says(rt, fault, 2, &line)
 }
 
-fn refuses_text(rt: &HostRuntime, fault: ReadFault, name: &str) -> Result<(), Fail> {
-    refuses(rt, RunFault::Text(fault), name)
-}
-
-fn refuses_task(rt: &HostRuntime, refusal: Refusal, name: &str) -> Result<(), Fail> {
-    refuses(rt, RunFault::Task(refusal), name)
-}
-
-fn refuses_answer(rt: &HostRuntime, fault: AnswerFault, name: &str) -> Result<(), Fail> {
-    refuses(rt, RunFault::Answer(fault), name)
-}
-
+/// The faults that no session comes to.
 #[test]
-fn faults_of_a_line(rt: HostRuntime) -> Result<(), Fail> {
-    refuses_text(&rt, ReadFault::BadNumber(2), "BadNumber 2")?;
-    refuses_text(&rt, ReadFault::NumberTooLarge(2), "NumberTooLarge 2")?;
-    refuses_text(&rt, ReadFault::Negative(3), "Negative 3")?;
-    refuses_text(&rt, ReadFault::NotAFlowShop(6), "NotAFlowShop 6")?;
-    refuses_text(&rt, ReadFault::BadLine(2), "BadLine 2")?;
-    refuses_text(&rt, ReadFault::BadCost(2), "BadCost 2")?;
-    refuses_text(&rt, ReadFault::BadArc(4294967295), "BadArc 4294967295")
-}
-
-#[test]
-fn faults_of_a_whole_text(rt: HostRuntime) -> Result<(), Fail> {
-    refuses_text(&rt, ReadFault::TooLong, "TooLong")?;
-    refuses_text(&rt, ReadFault::EndsEarly, "EndsEarly")?;
-    refuses_text(&rt, ReadFault::NoInstance, "NoInstance")?;
-    refuses_text(&rt, ReadFault::BadPair, "BadPair")?;
-    refuses_text(&rt, ReadFault::NoJobs, "NoJobs")?;
-    refuses_text(&rt, ReadFault::TooManyJobs, "TooManyJobs")?;
-    refuses_text(&rt, ReadFault::TooManyArcs, "TooManyArcs")
-}
-
-#[test]
-fn refusals_of_a_task(rt: HostRuntime) -> Result<(), Fail> {
-    let job = JobId::new(1).ok_or("a job")?;
-    refuses_task(&rt, Refusal::NoSolver, "NoSolver")?;
-    refuses_task(&rt, Refusal::TooManyJobs, "TooManyJobs")?;
-    refuses_task(&rt, Refusal::MachinesMissing, "MachinesMissing")?;
-    refuses_task(&rt, Refusal::MachinesDisagree, "MachinesDisagree")?;
-    refuses_task(&rt, Refusal::MachineCount(0), "MachineCount 0")?;
-    refuses_task(&rt, Refusal::WrongTimes(job), "WrongTimes 1")?;
-    refuses_task(&rt, Refusal::ZeroTime(job), "ZeroTime 1")?;
-    refuses_task(&rt, Refusal::TotalTooLarge, "TotalTooLarge")
-}
-
-#[test]
-fn fields_that_are_missing(rt: HostRuntime) -> Result<(), Fail> {
+fn each_fault_has_its_line_and_its_status(rt: HostRuntime) -> Result<(), Fail> {
+    let texts = [
+        (ReadFault::BadArc(4294967295), "BadArc 4294967295"),
+        (ReadFault::TooLong, "TooLong"),
+        (ReadFault::TooManyJobs, "TooManyJobs"),
+        (ReadFault::TooManyArcs, "TooManyArcs"),
+    ];
+    for (fault, name) in texts {
+        refuses(&rt, RunFault::Text(fault), name)?;
+    }
     let job = JobId::new(12).ok_or("a job")?;
-    let weight = Refusal::MissingField(job, Field::Weight);
-    refuses_task(&rt, weight, "MissingField 12 weight")?;
-    let due = Refusal::MissingField(job, Field::Due);
-    refuses_task(&rt, due, "MissingField 12 due")?;
-    let release = Refusal::MissingField(job, Field::Release);
-    refuses_task(&rt, release, "MissingField 12 release")?;
-    let cost = Refusal::MissingField(job, Field::Cost);
-    refuses_task(&rt, cost, "MissingField 12 cost")
-}
-
-#[test]
-fn faults_of_an_answer(rt: HostRuntime) -> Result<(), Fail> {
-    refuses_answer(&rt, AnswerFault::TooLong, "answer TooLong")?;
-    refuses_answer(&rt, AnswerFault::BadLine(6), "answer BadLine 6")?;
-    refuses_answer(
-        &rt,
-        AnswerFault::NumberTooLarge(5),
-        "answer NumberTooLarge 5",
-    )?;
-    refuses_answer(&rt, AnswerFault::BadNotation, "answer BadNotation")?;
-    refuses_answer(&rt, AnswerFault::EndsEarly, "answer EndsEarly")
-}
-
-#[test]
-fn faults_of_a_chart(rt: HostRuntime) -> Result<(), Fail> {
-    let machine = MachineId::new(1).ok_or("a machine")?;
-    let twice = PieceFault::MachineTwice(machine, 3);
-    refuses(&rt, RunFault::Pieces(twice), "answer MachineTwice 1 3")?;
-    let empty = PieceFault::EmptyPiece(1);
-    refuses(&rt, RunFault::Pieces(empty), "answer EmptyPiece 1")?;
-    let beyond = PieceFault::OutOfRange(12);
-    refuses(&rt, RunFault::Pieces(beyond), "answer OutOfRange 12")
-}
-
-#[test]
-fn a_cycle(rt: HostRuntime) -> Result<(), Fail> {
-    let mut jobs = Vec::new(rt.alloc());
-    jobs.push(JobId::new(3).ok_or("a job")?)?;
-    jobs.push(JobId::new(12).ok_or("a job")?)?;
-    refuses(&rt, RunFault::Cycle(JobList::new(jobs)), "Cycle 3 12")
-}
-
-#[test]
-fn other_faults(rt: HostRuntime) -> Result<(), Fail> {
-    let byte = RunFault::Notation(NotationFault { byte: 3 });
-    refuses(&rt, byte, "NotationFault 3")?;
+    let tasks = [
+        (Refusal::TooManyJobs, "TooManyJobs"),
+        (Refusal::MachineCount(0), "MachineCount 0"),
+        (
+            Refusal::MissingField(job, Field::Cost),
+            "MissingField 12 cost",
+        ),
+    ];
+    for (refusal, name) in tasks {
+        refuses(&rt, RunFault::Task(refusal), name)?;
+    }
+    let answer = RunFault::Answer(AnswerFault::TooLong);
+    refuses(&rt, answer, "answer TooLong")?;
+    let beyond = RunFault::Pieces(PieceFault::OutOfRange(12));
+    refuses(&rt, beyond, "answer OutOfRange 12")?;
+    let jobs = vec![in rt.alloc(); JobId::at(2), job]?;
+    refuses(&rt, RunFault::Cycle(JobList::new(jobs)), "Cycle 3 12")?;
     says(
         &rt,
         RunFault::OutOfMemory,

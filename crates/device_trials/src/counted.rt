@@ -22,18 +22,6 @@ fn writer_fails(rt: &HostRuntime, failure: Failure) -> Result<(), Fail> {
     ensure(taken.len() as u64 / 3 + 1 == failure.call, "another prefix")
 }
 
-#[test]
-fn a_writer_is_not_called_after_it_failed(rt: HostRuntime) -> Result<(), Fail> {
-    for call in 1..11 {
-        for way in [Way::Error, Way::Interruption, Way::NoByte] {
-            for heals in [false, true] {
-                writer_fails(&rt, Failure { call, way, heals })?;
-            }
-        }
-    }
-    Ok(())
-}
-
 /// A reader of one byte a call whose call fails: nothing is called after it.
 fn reader_fails(rt: &HostRuntime, failure: Failure) -> Result<(), Fail> {
     let mut source = Source::new(TEXT).by(1).failing(failure);
@@ -51,7 +39,14 @@ fn reader_fails(rt: &HostRuntime, failure: Failure) -> Result<(), Fail> {
 }
 
 #[test]
-fn a_reader_is_not_called_after_it_failed(rt: HostRuntime) -> Result<(), Fail> {
+fn a_device_is_not_called_after_it_failed(rt: HostRuntime) -> Result<(), Fail> {
+    for call in 1..11 {
+        for way in [Way::Error, Way::Interruption, Way::NoByte] {
+            for heals in [false, true] {
+                writer_fails(&rt, Failure { call, way, heals })?;
+            }
+        }
+    }
     // the last call shows the end
     for call in 1..TEXT.len() as u64 + 2 {
         for way in [Way::Error, Way::Interruption] {

@@ -108,16 +108,16 @@ fn solving_is_cut_off(
     is_cut_off(result, &source, failure, &sink)
 }
 
-#[test]
-fn solving_is_refused_where_any_read_fails(rt: HostRuntime) -> Result<(), Fail> {
+/// An instance of each form, where each call of its reader fails in turn.
+fn solving_by_reads(rt: &HostRuntime) -> Result<(), Fail> {
     for example in [FOURS, SECOND_OF_TWO, TWO_OF_THREE] {
-        let request = request_for(&rt, &example, Layout::Two)?;
+        let request = request_for(rt, &example, Layout::Two)?;
         for before in 0..calls_by_five(example.instance) {
             let call = before + 1;
             for way in READER_WAYS {
                 for heals in [false, true] {
                     let failure = Failure { call, way, heals };
-                    solving_is_cut_off(&rt, &request, example.instance, failure)?;
+                    solving_is_cut_off(rt, &request, example.instance, failure)?;
                 }
             }
         }
@@ -153,23 +153,23 @@ fn checking_is_cut_off(
     is_cut_off(result, &other, failure, &sink)
 }
 
-#[test]
-fn checking_is_refused_where_any_read_fails(rt: HostRuntime) -> Result<(), Fail> {
-    let request = request_for(&rt, &FOURS, Layout::One)?;
+/// Each of the two readers of a check.
+fn checking_by_reads(rt: &HostRuntime) -> Result<(), Fail> {
+    let request = request_for(rt, &FOURS, Layout::One)?;
     for layout in LAYOUTS {
-        let answer = answer_in(&rt, &FOURS, layout)?;
+        let answer = answer_in(rt, &FOURS, layout)?;
         for before in 0..calls_by_five(FOURS.instance) {
             let call = before + 1;
             for way in READER_WAYS {
                 let heals = call % 2 == 0;
-                checking_is_cut_off_at_once(&rt, &request, &answer, Failure { call, way, heals })?;
+                checking_is_cut_off_at_once(rt, &request, &answer, Failure { call, way, heals })?;
             }
         }
         for before in 0..calls_by_five(&answer) {
             let call = before + 1;
             for way in READER_WAYS {
                 let heals = call % 2 == 0;
-                checking_is_cut_off(&rt, &request, &answer, Failure { call, way, heals })?;
+                checking_is_cut_off(rt, &request, &answer, Failure { call, way, heals })?;
             }
         }
     }
@@ -183,20 +183,26 @@ fn drawing_is_cut_off(rt: &HostRuntime, answer: &[u8], failure: Failure) -> Resu
     is_cut_off(result, &source, failure, &sink)
 }
 
-#[test]
-fn drawing_is_refused_where_any_read_fails(rt: HostRuntime) -> Result<(), Fail> {
+fn drawing_by_reads(rt: &HostRuntime) -> Result<(), Fail> {
     for layout in LAYOUTS {
-        let answer = answer_in(&rt, &FOURS, layout)?;
+        let answer = answer_in(rt, &FOURS, layout)?;
         for before in 0..calls_by_five(&answer) {
             let call = before + 1;
             for way in READER_WAYS {
                 for heals in [false, true] {
-                    drawing_is_cut_off(&rt, &answer, Failure { call, way, heals })?;
+                    drawing_is_cut_off(rt, &answer, Failure { call, way, heals })?;
                 }
             }
         }
     }
     Ok(())
+}
+
+#[test]
+fn a_run_is_refused_where_any_read_fails(rt: HostRuntime) -> Result<(), Fail> {
+    solving_by_reads(&rt)?;
+    checking_by_reads(&rt)?;
+    drawing_by_reads(&rt)
 }
 
 const WRITER_WAYS: [Way; 3] = [Way::Error, Way::Interruption, Way::NoByte];
@@ -227,16 +233,15 @@ fn solving_is_cut_short(
     is_cut_short(result, wanted, failure, &sink)
 }
 
-#[test]
-fn solving_writes_a_prefix_where_any_write_fails(rt: HostRuntime) -> Result<(), Fail> {
+fn solving_by_writes(rt: &HostRuntime) -> Result<(), Fail> {
     for layout in LAYOUTS {
-        let request = request_for(&rt, &FOURS, layout)?;
-        let wanted = answer_in(&rt, &FOURS, layout)?;
+        let request = request_for(rt, &FOURS, layout)?;
+        let wanted = answer_in(rt, &FOURS, layout)?;
         for call in 1..wanted.len() as u64 + 1 {
             for way in WRITER_WAYS {
                 for heals in [false, true] {
                     let failure = Failure { call, way, heals };
-                    solving_is_cut_short(&rt, &request, &wanted, failure)?;
+                    solving_is_cut_short(rt, &request, &wanted, failure)?;
                 }
             }
         }
@@ -257,15 +262,14 @@ fn checking_is_cut_short(
     is_cut_short(result, b"accepted\n", failure, &sink)
 }
 
-#[test]
-fn checking_writes_a_prefix_where_any_write_fails(rt: HostRuntime) -> Result<(), Fail> {
-    let request = request_for(&rt, &FOURS, Layout::One)?;
+fn checking_by_writes(rt: &HostRuntime) -> Result<(), Fail> {
+    let request = request_for(rt, &FOURS, Layout::One)?;
     for layout in LAYOUTS {
-        let answer = answer_in(&rt, &FOURS, layout)?;
+        let answer = answer_in(rt, &FOURS, layout)?;
         for call in 1..10 {
             for way in WRITER_WAYS {
                 for heals in [false, true] {
-                    checking_is_cut_short(&rt, &request, &answer, Failure { call, way, heals })?;
+                    checking_is_cut_short(rt, &request, &answer, Failure { call, way, heals })?;
                 }
             }
         }
@@ -280,19 +284,25 @@ fn drawing_is_cut_short(rt: &HostRuntime, answer: &[u8], failure: Failure) -> Re
     is_cut_short(result, FOURS.chart, failure, &sink)
 }
 
-#[test]
-fn drawing_writes_a_prefix_where_any_write_fails(rt: HostRuntime) -> Result<(), Fail> {
+fn drawing_by_writes(rt: &HostRuntime) -> Result<(), Fail> {
     for layout in LAYOUTS {
-        let answer = answer_in(&rt, &FOURS, layout)?;
+        let answer = answer_in(rt, &FOURS, layout)?;
         for call in 1..FOURS.chart.len() as u64 + 1 {
             for way in WRITER_WAYS {
                 for heals in [false, true] {
-                    drawing_is_cut_short(&rt, &answer, Failure { call, way, heals })?;
+                    drawing_is_cut_short(rt, &answer, Failure { call, way, heals })?;
                 }
             }
         }
     }
     Ok(())
+}
+
+#[test]
+fn a_run_writes_a_prefix_where_any_write_fails(rt: HostRuntime) -> Result<(), Fail> {
+    solving_by_writes(&rt)?;
+    checking_by_writes(&rt)?;
+    drawing_by_writes(&rt)
 }
 
 /// A call that fails as the text behind a fault is read.

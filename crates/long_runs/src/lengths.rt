@@ -59,16 +59,12 @@ fn an_instance_has_at_most_67_108_864_bytes(rt: HostRuntime) -> Result<(), Fail>
     is_not_solved(&rt, SHOP, &BLANKS, MOST, ReadFault::NoInstance)?;
     for given in [Given::Table, TARDINESS, SHOP] {
         is_not_solved(&rt, given, &BLANKS, MOST + 1, ReadFault::TooLong)?;
-    }
-    Ok(())
-}
-
-#[test]
-fn an_instance_without_an_end_is_read_by_one_byte_more(rt: HostRuntime) -> Result<(), Fail> {
-    for given in [Given::Table, TARDINESS, SHOP] {
+        // a text without an end is read by one byte more
         is_not_solved(&rt, given, &BLANKS, usize::MAX, ReadFault::TooLong)?;
     }
-    Ok(())
+    // behind a fault it is refused as too long
+    is_not_solved(&rt, TARDINESS, b"4 x ", MOST, ReadFault::BadNumber(1))?;
+    is_not_solved(&rt, TARDINESS, b"4 x ", MOST + 1, ReadFault::TooLong)
 }
 
 /// An answer of so many blanks is refused in both runs that read one.
@@ -104,10 +100,4 @@ fn an_answer_has_at_most_67_108_864_bytes(rt: HostRuntime) -> Result<(), Fail> {
     is_no_answer(&rt, MOST, AnswerFault::EndsEarly)?;
     is_no_answer(&rt, MOST + 1, AnswerFault::TooLong)?;
     is_no_answer(&rt, usize::MAX, AnswerFault::TooLong)
-}
-
-#[test]
-fn a_text_that_is_too_long_is_refused_as_such_behind_a_fault(rt: HostRuntime) -> Result<(), Fail> {
-    is_not_solved(&rt, TARDINESS, b"4 x ", MOST, ReadFault::BadNumber(1))?;
-    is_not_solved(&rt, TARDINESS, b"4 x ", MOST + 1, ReadFault::TooLong)
 }

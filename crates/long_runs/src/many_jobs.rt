@@ -70,7 +70,7 @@ fn refuses(rt: &HostRuntime, problem: &str, table: &[u8], fault: RunFault) -> Re
 }
 
 #[test]
-fn at_most_2_000_jobs_have_costs(rt: HostRuntime) -> Result<(), Fail> {
+fn at_most_2_000_jobs_have_costs_and_100_000_are_in_a_table(rt: HostRuntime) -> Result<(), Fail> {
     let head = "problem 1||hmax\njobs 2000\nmachines 1\nvalue 0\n";
     let wanted = in_order(&rt, Layout::Two, head, 2_000, b"cert last 1-2000")?;
     answers(&rt, "1||hmax", Layout::Two, &table_of(&rt, 2_000)?, &wanted)?;
@@ -78,15 +78,11 @@ fn at_most_2_000_jobs_have_costs(rt: HostRuntime) -> Result<(), Fail> {
     refuses(&rt, "1||hmax", &more, RunFault::Task(Refusal::TooManyJobs))?;
     let head = "problem 1||sumC\njobs 2001\nmachines 1\nvalue 2003001\n";
     let wanted = in_order(&rt, Layout::Two, head, 2_001, b"cert pairs")?;
-    answers(&rt, "1||sumC", Layout::Two, &more, &wanted)
-}
-
-#[test]
-fn at_most_100_000_jobs_are_in_a_table(rt: HostRuntime) -> Result<(), Fail> {
-    let table = table_of(&rt, 100_000)?;
+    answers(&rt, "1||sumC", Layout::Two, &more, &wanted)?;
+    let most = table_of(&rt, 100_000)?;
     let head = "problem 1||sumC\njobs 100000\nmachines 1\nvalue 5000050000\n";
     let wanted = in_order(&rt, Layout::Two, head, 100_000, b"cert pairs")?;
-    answers(&rt, "1||sumC", Layout::Two, &table, &wanted)?;
+    answers(&rt, "1||sumC", Layout::Two, &most, &wanted)?;
     let too_many = RunFault::Text(ReadFault::TooManyJobs);
     refuses(&rt, "1||sumC", &table_of(&rt, 100_001)?, too_many)
 }

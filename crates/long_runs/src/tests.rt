@@ -71,22 +71,10 @@ fn up_to_a_hundred_jobs(rt: HostRuntime) -> Result<(), Fail> {
 }
 
 #[test]
-fn most_jobs_on_one_machine(rt: HostRuntime) -> Result<(), Fail> {
-    are_answered(&rt, &SINGLE, Machines::One, 100_000)
-}
-
-#[test]
-fn most_jobs_with_costs(rt: HostRuntime) -> Result<(), Fail> {
-    are_answered(&rt, &COSTED, Machines::One, 2_000)
-}
-
-#[test]
-fn most_jobs_in_parallel(rt: HostRuntime) -> Result<(), Fail> {
-    are_answered(&rt, &PARALLEL, Machines::Seven, 100_000)
-}
-
-#[test]
-fn most_jobs_of_shops(rt: HostRuntime) -> Result<(), Fail> {
+fn as_many_jobs_of_each_class_as_there_may_be(rt: HostRuntime) -> Result<(), Fail> {
+    are_answered(&rt, &SINGLE, Machines::One, 100_000)?;
+    are_answered(&rt, &COSTED, Machines::One, 2_000)?;
+    are_answered(&rt, &PARALLEL, Machines::Seven, 100_000)?;
     are_answered(&rt, &SHOPS, Machines::Shop, 100_000)
 }
 
@@ -117,14 +105,6 @@ fn is_tardiness_alike(rt: &HostRuntime, jobs: u32) -> Result<(), Fail> {
     )
 }
 
-#[test]
-fn weighted_tardiness_files(rt: HostRuntime) -> Result<(), Fail> {
-    for jobs in 1..101 {
-        is_tardiness_alike(&rt, jobs)?;
-    }
-    is_tardiness_alike(&rt, 100_000)
-}
-
 /// So many jobs of a flow shop from a table and from a flow shop file.
 fn is_flow_shop_alike(rt: &HostRuntime, jobs: u32) -> Result<(), Fail> {
     let drawn = Drawn::new(rt, Machines::Shop, jobs)?;
@@ -142,9 +122,11 @@ fn is_flow_shop_alike(rt: &HostRuntime, jobs: u32) -> Result<(), Fail> {
 }
 
 #[test]
-fn flow_shop_files(rt: HostRuntime) -> Result<(), Fail> {
+fn files_have_the_answers_of_tables(rt: HostRuntime) -> Result<(), Fail> {
     for jobs in 1..101 {
+        is_tardiness_alike(&rt, jobs)?;
         is_flow_shop_alike(&rt, jobs)?;
     }
+    is_tardiness_alike(&rt, 100_000)?;
     is_flow_shop_alike(&rt, 100_000)
 }

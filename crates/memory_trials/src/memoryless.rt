@@ -17,7 +17,7 @@ use trials::examples::parallel::FOURS;
 use trials::runs::{ensure, request_table};
 
 /// Problems that are refused, with the byte of the fault where it is one of the notation.
-const REFUSED: [(&str, Option<usize>); 7] = [
+const REFUSED: [(&str, Option<usize>); 11] = [
     ("1||sumX", Some(3)),
     ("1||", Some(3)),
     ("1|rj,r_j|Lmax", Some(5)),
@@ -25,15 +25,22 @@ const REFUSED: [(&str, Option<usize>); 7] = [
     ("1||sumwT", None),
     ("F3||Cmax", None),
     ("J3||Cmax", None),
+    ("1|nwt,rj|sumwjCj", None),
+    ("1|prmp,rj|sumC", None),
+    ("P2|prmp|sumC", None),
+    ("1|rj|Lmax", None),
 ];
 
-/// Both runs refuse the problem, read nothing and write nothing, though no growth is granted.
-fn refuses(rt: &HostRuntime, problem: &str, byte: Option<usize>) -> Result<(), Fail> {
+/// How many growths are granted: none, and more than any call asks for.
+const GRANTED: [u64; 2] = [0, 1_000_000_000];
+
+/// Both runs refuse the problem, read nothing, write nothing, and ask for no growth.
+fn refuses(rt: &HostRuntime, problem: &str, byte: Option<usize>, granted: u64) -> Result<(), Fail> {
     let request = request_table(rt, problem)?;
     let mut instance = Source::new(FOURS.instance);
     let mut answer = Source::new(FOURS.answer);
     let mut sink = Sink::new(rt.alloc());
-    let heap = Refusing::new(rt.alloc(), 0);
+    let heap = Refusing::new(rt.alloc(), granted);
     let mut reader = Counted::new(&mut instance);
     let mut other = Counted::new(&mut answer);
     let mut writer = Counted::new(&mut sink);
@@ -68,9 +75,11 @@ fn refuses(rt: &HostRuntime, problem: &str, byte: Option<usize>) -> Result<(), F
 }
 
 #[test]
-fn a_problem_is_refused_before_any_growth(rt: HostRuntime) -> Result<(), Fail> {
+fn a_problem_is_refused_before_any_read_and_any_growth(rt: HostRuntime) -> Result<(), Fail> {
     for (problem, byte) in REFUSED {
-        refuses(&rt, problem, byte)?;
+        for granted in GRANTED {
+            refuses(&rt, problem, byte, granted)?;
+        }
     }
     Ok(())
 }

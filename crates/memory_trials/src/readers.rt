@@ -5,7 +5,7 @@ use std::test::Fail;
 use tf_model::instance::Instance;
 use tf_model::job::{Job, Times};
 use tf_read::fault::ReadFault;
-use tf_read::flow_shop::{FlowReader, read_flowshop};
+use tf_read::flow_shop::FlowReader;
 use tf_read::weighted_tardiness::{WtReader, read_wt};
 use tf_words::feed::Feed;
 use trials::examples::files::{SHOP, TARDINESS};
@@ -57,24 +57,11 @@ const SECOND: [Fields; 3] = [
     (Times::One(3), Some(3), Some(8)),
 ];
 
-/// The demo on its first and last machine, and on its first two.
+/// The demo on its first and last machine.
 const FIRST_AND_LAST: [Fields; 2] = [
     (Times::Two(4, 1), None, None),
     (Times::Two(2, 5), None, None),
 ];
-
-const FIRST_TWO: [Fields; 2] = [
-    (Times::Two(4, 9), None, None),
-    (Times::Two(2, 9), None, None),
-];
-
-#[test]
-fn a_flow_shop_file_has_the_times_on_two_of_its_machines(rt: HostRuntime) -> Result<(), Fail> {
-    let pair = read_flowshop(rt.alloc(), SHOP, b"demo", Some((0, 2)));
-    is_instance(&pair, Some(2), &FIRST_AND_LAST)?;
-    let whole = read_flowshop(rt.alloc(), SHOP, b"demo", None);
-    is_instance(&whole, Some(3), &FIRST_TWO)
-}
 
 /// Numbers of jobs and indices for which the file has no instance.
 const ABSENT: [(u32, u32, ReadFault); 5] = [
@@ -86,14 +73,20 @@ const ABSENT: [(u32, u32, ReadFault); 5] = [
 ];
 
 #[test]
-fn a_weighted_tardiness_file_without_the_instance_is_refused(rt: HostRuntime) -> Result<(), Fail> {
+fn a_file_without_the_instance_is_refused(rt: HostRuntime) -> Result<(), Fail> {
     for (jobs, index, fault) in ABSENT {
         is_fault(&read_wt(rt.alloc(), TARDINESS, jobs, index), fault)?;
         let mut reader = WtReader::new(rt.alloc(), jobs, index)?;
         feed_bytes(&mut reader, TARDINESS);
         is_fault(&reader.finish(), fault)?;
     }
-    Ok(())
+    // readers that are fed nothing
+    is_fault(
+        &WtReader::new(rt.alloc(), 3, 1)?.finish(),
+        ReadFault::NoInstance,
+    )?;
+    let reader = FlowReader::new(rt.alloc(), b"demo", None);
+    is_fault(&reader.finish(), ReadFault::NoInstance)
 }
 
 /// Feeds a text in three pieces, cut at these places.
@@ -114,7 +107,7 @@ fn feed_bytes<F: Feed>(reader: &mut F, text: &[u8]) {
 }
 
 #[test]
-fn a_weighted_tardiness_file_may_come_in_any_pieces(rt: HostRuntime) -> Result<(), Fail> {
+fn a_file_may_come_in_any_pieces(rt: HostRuntime) -> Result<(), Fail> {
     for first in 0..TARDINESS.len() {
         for second in first..TARDINESS.len() {
             let mut reader = WtReader::new(rt.alloc(), 3, 2)?;
@@ -124,11 +117,7 @@ fn a_weighted_tardiness_file_may_come_in_any_pieces(rt: HostRuntime) -> Result<(
     }
     let mut reader = WtReader::new(rt.alloc(), 3, 2)?;
     feed_bytes(&mut reader, TARDINESS);
-    is_instance(&reader.finish(), None, &SECOND)
-}
-
-#[test]
-fn a_flow_shop_file_may_come_in_any_pieces(rt: HostRuntime) -> Result<(), Fail> {
+    is_instance(&reader.finish(), None, &SECOND)?;
     for first in 0..SHOP.len() {
         let mut reader = FlowReader::new(rt.alloc(), b"demo", Some((0, 2)));
         feed_cut(&mut reader, SHOP, first, first.saturating_add(3));
@@ -137,16 +126,6 @@ fn a_flow_shop_file_may_come_in_any_pieces(rt: HostRuntime) -> Result<(), Fail> 
     let mut reader = FlowReader::new(rt.alloc(), b"demo", Some((0, 2)));
     feed_bytes(&mut reader, SHOP);
     is_instance(&reader.finish(), Some(2), &FIRST_AND_LAST)
-}
-
-#[test]
-fn a_reader_that_is_fed_nothing_has_no_instance(rt: HostRuntime) -> Result<(), Fail> {
-    is_fault(
-        &WtReader::new(rt.alloc(), 3, 1)?.finish(),
-        ReadFault::NoInstance,
-    )?;
-    let reader = FlowReader::new(rt.alloc(), b"demo", None);
-    is_fault(&reader.finish(), ReadFault::NoInstance)
 }
 
 /// Feeds as many bytes as a text may have, all blanks.
@@ -158,9 +137,7 @@ fn feed_full<F: Feed>(reader: &mut F) {
 }
 
 #[test]
-fn a_text_that_is_too_long_is_refused_as_such_for_any_instance(
-    rt: HostRuntime,
-) -> Result<(), Fail> {
+fn a_text_that_is_too_long_comes_before_a_refused_growth(rt: HostRuntime) -> Result<(), Fail> {
     let mut none = WtReader::new(rt.alloc(), 0, 1)?;
     feed_full(&mut none);
     none.feed(&[]);
@@ -168,11 +145,7 @@ fn a_text_that_is_too_long_is_refused_as_such_for_any_instance(
     let mut longer = WtReader::new(rt.alloc(), 0, 1)?;
     feed_full(&mut longer);
     longer.feed(b" ");
-    is_fault(&longer.finish(), ReadFault::TooLong)
-}
-
-#[test]
-fn a_text_that_is_too_long_comes_before_a_refused_growth(rt: HostRuntime) -> Result<(), Fail> {
+    is_fault(&longer.finish(), ReadFault::TooLong)?;
     let heap = Refusing::new(rt.alloc(), 0);
     let mut reader = FlowReader::new(&heap, b"demo", None);
     reader.feed(SHOP);
@@ -181,7 +154,8 @@ fn a_text_that_is_too_long_comes_before_a_refused_growth(rt: HostRuntime) -> Res
     is_fault(&reader.finish(), ReadFault::TooLong)
 }
 
-/// So many growths are asked for to make a reader, and none after that.
+/// So many growths are asked for to make a reader, and none after that; none at all where no text
+/// has the instance.
 #[test]
 fn a_weighted_tardiness_reader_grows_at_the_beginning_alone(rt: HostRuntime) -> Result<(), Fail> {
     for granted in 0..2 {
@@ -193,11 +167,7 @@ fn a_weighted_tardiness_reader_grows_at_the_beginning_alone(rt: HostRuntime) -> 
     let mut reader = WtReader::new(&heap, 3, 2)?;
     reader.feed(TARDINESS);
     is_instance(&reader.finish(), None, &SECOND)?;
-    ensure(!heap.has_refused(), "a growth")
-}
-
-#[test]
-fn no_growth_is_asked_for_where_no_text_has_the_instance(rt: HostRuntime) -> Result<(), Fail> {
+    ensure(!heap.has_refused(), "a growth")?;
     let heap = Refusing::new(rt.alloc(), 0);
     for (jobs, index) in [(0, 1), (100_001, 1), (3, 0)] {
         ensure(WtReader::new(&heap, jobs, index).is_ok(), "a growth")?;

@@ -162,16 +162,6 @@ const FAULTS: &[(u32, &str, AnswerFault)] = &[
     (8, "end\n\n#\nanswer 1", AnswerFault::BadLine(11)),
 ];
 
-#[test]
-fn an_answer_has_its_first_fault(rt: HostRuntime) -> Result<(), Fail> {
-    for (number, line, fault) in FAULTS {
-        let text = answer(&rt, "answer 1", *number, line)?;
-        let read = read_answer(rt.alloc(), text.as_bytes());
-        assert_eq!(rt; read.err(), Some(*fault), "{line}");
-    }
-    Ok(())
-}
-
 /// Another line in an answer of version 2.
 const FAULTS_OF_RANGES: &[(&str, AnswerFault)] = &[
     ("cert last 7-3", AnswerFault::BadLine(7)),
@@ -207,7 +197,12 @@ const FAULTS_OF_RANGES: &[(&str, AnswerFault)] = &[
 ];
 
 #[test]
-fn a_range_has_its_first_fault(rt: HostRuntime) -> Result<(), Fail> {
+fn an_answer_has_its_first_fault(rt: HostRuntime) -> Result<(), Fail> {
+    for (number, line, fault) in FAULTS {
+        let text = answer(&rt, "answer 1", *number, line)?;
+        let read = read_answer(rt.alloc(), text.as_bytes());
+        assert_eq!(rt; read.err(), Some(*fault), "{line}");
+    }
     for (line, fault) in FAULTS_OF_RANGES {
         let text = answer(&rt, "answer 2", 7, line)?;
         let read = read_answer(rt.alloc(), text.as_bytes());

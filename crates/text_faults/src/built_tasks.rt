@@ -12,23 +12,18 @@ fn job_id(rt: &impl Abort, number: u32) -> JobId {
 }
 
 #[test]
-fn a_task_has_its_jobs_and_arcs(rt: HostRuntime) -> Result<(), Fail> {
+fn a_task_has_its_jobs_and_the_arcs_that_count(rt: HostRuntime) -> Result<(), Fail> {
+    let plain = Problem::plain(Env::Single, Goal::Lmax);
     let problem = Problem {
         prec: true,
-        ..Problem::plain(Env::Single, Goal::Lmax)
+        ..plain
     };
     let task = table_task(rt.alloc(), &problem, None, ORDERED).ok_or("it is refused")?;
     let (first, second) = (job_id(&rt, 1), job_id(&rt, 2));
     assert_eq!(rt; task.len(), 2);
     assert_eq!(rt; task.machines(), 1);
     assert!(rt; task.arcs() == [(first, second)].as_slice());
-    Ok(())
-}
-
-#[test]
-fn a_task_has_no_arc_that_does_not_count(rt: HostRuntime) -> Result<(), Fail> {
-    let problem = Problem::plain(Env::Single, Goal::Lmax);
-    let task = table_task(rt.alloc(), &problem, None, ORDERED).ok_or("it is refused")?;
+    let task = table_task(rt.alloc(), &plain, None, ORDERED).ok_or("it is refused")?;
     assert_eq!(rt; task.arcs().len(), 0);
     Ok(())
 }

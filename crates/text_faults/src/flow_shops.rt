@@ -81,14 +81,6 @@ const FAULTS: &[(&str, ReadFault)] = &[
     ),
 ];
 
-#[test]
-fn a_file_has_its_first_fault(rt: HostRuntime) {
-    for (text, fault) in FAULTS {
-        let read = read_flowshop(rt.alloc(), text.as_bytes(), b"demo", None);
-        assert_eq!(rt; read.err(), Some(*fault), "{text}");
-    }
-}
-
 /// Names and pairs that the demo doesn't have.
 const ABSENT: &[(&str, Option<(u32, u32)>, ReadFault)] = &[
     ("", None, ReadFault::NoInstance),
@@ -105,7 +97,11 @@ const ABSENT: &[(&str, Option<(u32, u32)>, ReadFault)] = &[
 ];
 
 #[test]
-fn what_a_file_does_not_have_is_refused(rt: HostRuntime) {
+fn a_flow_shop_file_has_its_first_fault(rt: HostRuntime) {
+    for (text, fault) in FAULTS {
+        let read = read_flowshop(rt.alloc(), text.as_bytes(), b"demo", None);
+        assert_eq!(rt; read.err(), Some(*fault), "{text}");
+    }
     for (name, pair, fault) in ABSENT {
         let read = read_flowshop(rt.alloc(), DEMO.as_bytes(), name.as_bytes(), *pair);
         assert_eq!(rt; read.err(), Some(*fault), "{name} {pair:?}");
@@ -166,7 +162,7 @@ const READ: &[(&str, Option<(u32, u32)>, u32, &[Times])] = &[
 ];
 
 #[test]
-fn a_file_is_read(rt: HostRuntime) {
+fn a_flow_shop_file_is_read(rt: HostRuntime) {
     for (text, pair, machines, times) in READ {
         let read = read_flowshop(rt.alloc(), text.as_bytes(), b"demo", *pair);
         assert!(rt; is_read(read, *machines, times), "{pair:?} of {text}");

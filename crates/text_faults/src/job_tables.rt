@@ -1,4 +1,5 @@
 //! Job tables.
+use std::alloc::AllocError;
 use std::test::Fail;
 use tf_model::ids::JobId;
 use tf_model::instance::Instance;
@@ -62,14 +63,6 @@ const TABLES: &[(&str, ReadFault)] = &[
     ),
 ];
 
-#[test]
-fn a_table_has_its_first_fault(rt: HostRuntime) {
-    for (text, fault) in TABLES {
-        let read = read_table(rt.alloc(), text.as_bytes());
-        assert_eq!(rt; read.err(), Some(*fault), "{text}");
-    }
-}
-
 /// Tables with bytes that are no text.
 const BYTES: [(&[u8], ReadFault); 5] = [
     (b"\xff", ReadFault::BadLine(1)),
@@ -79,14 +72,6 @@ const BYTES: [(&[u8], ReadFault); 5] = [
     (b"table 1\njob 1 p=x\n\xff", ReadFault::BadNumber(2)),
 ];
 
-#[test]
-fn bytes_that_are_no_text_are_faults_where_they_stand(rt: HostRuntime) {
-    for (text, fault) in BYTES {
-        let read = read_table(rt.alloc(), text);
-        assert_eq!(rt; read.err(), Some(fault));
-    }
-}
-
 /// The front of a table whose next word has 10,000 digits.
 const LONG: [(&[u8], ReadFault); 3] = [
     (b"table 1\njob 1 p=", ReadFault::NumberTooLarge(2)),
@@ -94,17 +79,13 @@ const LONG: [(&[u8], ReadFault); 3] = [
     (b"table 1\nmachines ", ReadFault::BadLine(2)),
 ];
 
-#[test]
-fn numbers_of_many_digits_are_too_large(rt: HostRuntime) -> Result<(), Fail> {
-    for (front, fault) in LONG {
-        let mut text = Vec::from_slice(rt.alloc(), front)?;
-        for _ in 0..10_000 {
-            text.push(b'9')?;
-        }
-        let read = read_table(rt.alloc(), &text);
-        assert_eq!(rt; read.err(), Some(fault));
+/// A text, and 10,000 times a digit behind it.
+fn with_digits(rt: &HostRuntime, front: &[u8], digit: u8) -> Result<Vec<u8>, AllocError> {
+    let mut text = Vec::from_slice(rt.alloc(), front)?;
+    for _ in 0..10_000 {
+        text.push(digit)?;
     }
-    Ok(())
+    Ok(text)
 }
 
 /// Lines for job 1.
@@ -193,7 +174,20 @@ const JOBS: &[(&str, ReadFault)] = &[
 ];
 
 #[test]
-fn a_job_has_its_first_fault(rt: HostRuntime) -> Result<(), Fail> {
+fn a_table_has_its_first_fault(rt: HostRuntime) -> Result<(), Fail> {
+    for (text, fault) in TABLES {
+        let read = read_table(rt.alloc(), text.as_bytes());
+        assert_eq!(rt; read.err(), Some(*fault), "{text}");
+    }
+    for (text, fault) in BYTES {
+        let read = read_table(rt.alloc(), text);
+        assert_eq!(rt; read.err(), Some(fault));
+    }
+    for (front, fault) in LONG {
+        let text = with_digits(&rt, front, b'9')?;
+        let read = read_table(rt.alloc(), &text);
+        assert_eq!(rt; read.err(), Some(fault));
+    }
     for (line, fault) in JOBS {
         let text = format!(in rt.alloc(); "table 1\n{line}\njob 2 p=x")?;
         let read = read_table(rt.alloc(), text.as_bytes());
@@ -251,19 +245,13 @@ const READ: &[(&str, Option<u32>, Times)] = &[
 ];
 
 #[test]
-fn a_table_is_read(rt: HostRuntime) {
+fn a_table_is_read(rt: HostRuntime) -> Result<(), Fail> {
     for (text, machines, times) in READ {
         let read = read_table(rt.alloc(), text.as_bytes());
         assert!(rt; is_read(read, *machines, *times), "{text}");
     }
-}
-
-#[test]
-fn leading_zeros_are_allowed_without_end(rt: HostRuntime) -> Result<(), Fail> {
-    let mut text = Vec::from_slice(rt.alloc(), b"table 1\njob 1 p=")?;
-    for _ in 0..10_000 {
-        text.push(b'0')?;
-    }
+    // leading zeros are allowed without end
+    let mut text = with_digits(&rt, b"table 1\njob 1 p=", b'0')?;
     text.push(b'4')?;
     assert!(rt; is_read(read_table(rt.alloc(), &text), None, Times::One(4)));
     Ok(())
@@ -309,17 +297,12 @@ fn large_table(rt: &HostRuntime, jobs: u32, arcs: u32) -> Result<Vec<u8>, Fail> 
 }
 
 #[test]
-fn a_table_has_at_most_100_000_jobs(rt: HostRuntime) -> Result<(), Fail> {
+fn a_table_has_at_most_100_000_jobs_and_200_000_arcs(rt: HostRuntime) -> Result<(), Fail> {
     let mut text = large_table(&rt, 100_000, 0)?;
     assert!(rt; read_table(rt.alloc(), &text).is_ok());
     text.extend_from_slice(b"job x")?;
     let read = read_table(rt.alloc(), &text);
     assert_eq!(rt; read.err(), Some(ReadFault::TooManyJobs));
-    Ok(())
-}
-
-#[test]
-fn a_table_has_at_most_200_000_arcs(rt: HostRuntime) -> Result<(), Fail> {
     let mut text = large_table(&rt, 1, 200_000)?;
     let instance = read_table(rt.alloc(), &text)?;
     assert_eq!(rt; instance.arcs().len(), 200_000);

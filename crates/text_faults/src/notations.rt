@@ -1,4 +1,5 @@
 //! Three-field notation.
+use std::process::Abort;
 use std::test::Fail;
 use tf_model::problem::{Env, Goal, Problem};
 use tf_notation::reading::{NotationFault, read};
@@ -29,19 +30,6 @@ const ENVIRONMENTS: &[(&str, Env, Option<u32>)] = &[
     ("J100", Env::JobShop, Some(100)),
 ];
 
-#[test]
-fn each_word_for_an_environment_is_read(rt: HostRuntime) -> Result<(), Fail> {
-    for (word, env, count) in ENVIRONMENTS {
-        let text = format!(in rt.alloc(); "{word}||Cmax")?;
-        let wanted = Problem {
-            count: *count,
-            ..Problem::plain(*env, Goal::Cmax)
-        };
-        assert_eq!(rt; read(text.as_bytes()), Ok(wanted), "{word}");
-    }
-    Ok(())
-}
-
 /// Every word for an objective, with the one that is written.
 const OBJECTIVES: &[(&str, Goal, &str)] = &[
     ("Cmax", Goal::Cmax, "Cmax"),
@@ -70,19 +58,6 @@ const OBJECTIVES: &[(&str, Goal, &str)] = &[
     ("sumw_jU_j", Goal::SumWU, "sumwU"),
 ];
 
-#[test]
-fn each_word_for_an_objective_is_read(rt: HostRuntime) -> Result<(), Fail> {
-    for (word, goal, canonical) in OBJECTIVES {
-        let text = format!(in rt.alloc(); "1||{word}")?;
-        let problem = read(text.as_bytes())?;
-        assert_eq!(rt; problem, Problem::plain(Env::Single, *goal), "{word}");
-        let written = notation_text(rt.alloc(), &problem)?;
-        let wanted = format!(in rt.alloc(); "1||{canonical}")?;
-        assert_eq!(rt; written.as_str(), wanted.as_str());
-    }
-    Ok(())
-}
-
 /// Whether release dates, precedence, preemption, permutation, no wait, blocking and recirculation
 /// are named.
 type Named = [bool; 7];
@@ -106,44 +81,81 @@ const CONDITIONS: &[(&str, Named)] = &[
     ),
 ];
 
+fn with_conditions(named: Named) -> Problem {
+    let [release, prec, prmp, prmu, nwt, block, rcrc] = named;
+    Problem {
+        env: Env::Single,
+        count: None,
+        release,
+        prec,
+        prmp,
+        prmu,
+        nwt,
+        block,
+        rcrc,
+        goal: Goal::Cmax,
+    }
+}
+
 #[test]
-fn each_word_for_a_condition_is_read(rt: HostRuntime) -> Result<(), Fail> {
+fn each_word_is_read(rt: HostRuntime) -> Result<(), Fail> {
+    for (word, env, count) in ENVIRONMENTS {
+        let text = format!(in rt.alloc(); "{word}||Cmax")?;
+        let wanted = Problem {
+            count: *count,
+            ..Problem::plain(*env, Goal::Cmax)
+        };
+        assert_eq!(rt; read(text.as_bytes()), Ok(wanted), "{word}");
+    }
+    for (word, goal, _) in OBJECTIVES {
+        let text = format!(in rt.alloc(); "1||{word}")?;
+        let wanted = Problem::plain(Env::Single, *goal);
+        assert_eq!(rt; read(text.as_bytes()), Ok(wanted), "{word}");
+    }
     for (words, named) in CONDITIONS {
         let text = format!(in rt.alloc(); "1|{words}|Cmax")?;
-        let [release, prec, prmp, prmu, nwt, block, rcrc] = *named;
-        let wanted = Problem {
-            env: Env::Single,
-            count: None,
-            release,
-            prec,
-            prmp,
-            prmu,
-            nwt,
-            block,
-            rcrc,
-            goal: Goal::Cmax,
-        };
+        let wanted = with_conditions(*named);
         assert_eq!(rt; read(text.as_bytes()), Ok(wanted), "{words}");
     }
     Ok(())
 }
 
-/// Texts that mean `1|rj,prmp|Lmax`.
-const ALIKE: &[&str] = &[
-    "1|rj,prmp|Lmax",
-    "1|prmp,rj|Lmax",
-    "1 | pmtn , r_j | L_max",
-    "\t1\t|\trj\t,\tprmp\t|\tLmax\t",
-    "  1|rj,prmp|Lmax  ",
+/// Texts, and the canonical text of what they mean.
+const CANONICAL: &[(&str, &str)] = &[
+    ("1|rj,prmp|Lmax", "1|rj,prmp|Lmax"),
+    ("1|prmp,rj|Lmax", "1|rj,prmp|Lmax"),
+    ("1 | pmtn , r_j | L_max", "1|rj,prmp|Lmax"),
+    ("\t1\t|\trj\t,\tprmp\t|\tLmax\t", "1|rj,prmp|Lmax"),
+    ("  1|rj,prmp|Lmax  ", "1|rj,prmp|Lmax"),
+    ("Pm|pmtn|C_max", "P|prmp|Cmax"),
+    ("1|nwt,rj|sumwjCj", "1|rj,nwt|sumwC"),
+    ("1||sumwT", "1||sumwT"),
+    ("F3||Cmax", "F3||Cmax"),
+    ("J3||Cmax", "J3||Cmax"),
 ];
 
-#[test]
-fn blanks_and_tabs_are_skipped(rt: HostRuntime) -> Result<(), Fail> {
-    for text in ALIKE {
-        let written = notation_text(rt.alloc(), &read(text.as_bytes())?)?;
-        assert_eq!(rt; written.as_str(), "1|rj,prmp|Lmax", "{text}");
-    }
+fn writes(rt: &(impl Abort + AllocGlobal), problem: &Problem, wanted: &str) -> Result<(), Fail> {
+    let written = notation_text(rt.alloc(), problem)?;
+    assert_eq!(rt; written.as_str(), wanted);
     Ok(())
+}
+
+#[test]
+fn a_problem_is_written_in_its_canonical_text(rt: HostRuntime) -> Result<(), Fail> {
+    for (text, canonical) in CANONICAL {
+        writes(&rt, &read(text.as_bytes())?, canonical)?;
+    }
+    for (word, _, canonical) in OBJECTIVES {
+        let text = format!(in rt.alloc(); "1||{word}")?;
+        let wanted = format!(in rt.alloc(); "1||{canonical}")?;
+        writes(&rt, &read(text.as_bytes())?, &wanted)?;
+    }
+    // a count of machines beside the single machine is left out
+    let counted = Problem {
+        count: Some(2),
+        ..read(b"1|rj,prmp|Lmax")?
+    };
+    writes(&rt, &counted, "1|rj,prmp|Lmax")
 }
 
 /// Texts with the byte that isn't expected.
@@ -198,6 +210,7 @@ const FAULTS: &[(&[u8], usize)] = &[
     (b"1||Lmax|", 7),
     (b"1||Lmax ,", 8),
     (b"1||Lmax Lmax", 8),
+    (b"P2|prmp|Cmax x", 13),
     (b"1||Lmax\r", 7),
     (b"1||Lmax\n", 7),
     (b"\r1||Lmax", 0),

@@ -123,15 +123,12 @@ fn is_read(read: Result<Instance, ReadFault>, jobs: u32, wanted: FirstJob) -> bo
 }
 
 #[test]
-fn a_file_is_read(rt: HostRuntime) {
+fn a_file_is_read(rt: HostRuntime) -> Result<(), Fail> {
     for (text, jobs, index, wanted) in READ {
         let read = read_wt(rt.alloc(), text.as_bytes(), *jobs, *index);
         assert!(rt; is_read(read, *jobs, *wanted), "index {index} of {text}");
     }
-}
-
-#[test]
-fn each_job_has_its_numbers(rt: HostRuntime) -> Result<(), Fail> {
+    // each job has its numbers
     let instance = read_wt(rt.alloc(), TWO_INSTANCES.as_bytes(), 3, 1)?;
     let jobs = [(2, 1, 5), (3, 2, -2), (1, 4, 9)];
     assert_eq!(rt; instance.jobs().len(), jobs.len());

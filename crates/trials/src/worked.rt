@@ -1,5 +1,5 @@
-//! Each worked example through the three runs, in both versions of the answer text; with ample
-//! memory, and with each growth refused.
+//! Each worked example through the three runs, in both versions of the answer text: with each growth
+//! refused, and after each of them with ample memory.
 use crate::examples::{Example, WORKED, answer_in};
 use crate::growths::{Ended, refuse_each_growth};
 use crate::runs::{LAYOUTS, check_into, draw_into, ensure, request_for, solve_into};
@@ -8,51 +8,7 @@ use std::alloc::Global;
 use std::test::Fail;
 use tf_engine::fault::RunFault;
 use tf_engine::request::Request;
-use tf_engine::run_check::Checked;
 use tf_text::answer::layout::Layout;
-
-#[test]
-fn each_is_solved(rt: HostRuntime) -> Result<(), Fail> {
-    for example in WORKED.iter() {
-        for layout in LAYOUTS {
-            let request = request_for(&rt, example, layout)?;
-            let mut out = Vec::new(rt.alloc());
-            let result = solve_into(rt.alloc(), &request, example.instance, &mut out);
-            ensure(result == Ok(()), example.name)?;
-            ensure(out == answer_in(&rt, example, layout)?, example.name)?;
-        }
-    }
-    Ok(())
-}
-
-#[test]
-fn each_is_accepted(rt: HostRuntime) -> Result<(), Fail> {
-    for example in WORKED.iter() {
-        let request = request_for(&rt, example, Layout::One)?;
-        for layout in LAYOUTS {
-            let answer = answer_in(&rt, example, layout)?;
-            let mut out = Vec::new(rt.alloc());
-            let result = check_into(rt.alloc(), &request, example.instance, &answer, &mut out);
-            ensure(result == Ok(Checked::Accepted), example.name)?;
-            ensure(out.as_slice() == b"accepted\n".as_slice(), example.name)?;
-        }
-    }
-    Ok(())
-}
-
-#[test]
-fn each_is_drawn(rt: HostRuntime) -> Result<(), Fail> {
-    for example in WORKED.iter() {
-        for layout in LAYOUTS {
-            let answer = answer_in(&rt, example, layout)?;
-            let mut out = Vec::new(rt.alloc());
-            let result = draw_into(rt.alloc(), &answer, 72, &mut out);
-            ensure(result == Ok(()), example.name)?;
-            ensure(out.as_slice() == example.chart, example.name)?;
-        }
-    }
-    Ok(())
-}
 
 /// A run ends with exactly these bytes, or with want of memory and nothing written.
 fn ended<T: Drop>(

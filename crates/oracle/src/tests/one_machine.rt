@@ -1,5 +1,5 @@
 //! The classes of one machine.
-use super::trial::{counts, examine_any, examine_own};
+use super::trial::{counts, examine_both, examine_own};
 use crate::family::{Arcs, Family};
 use crate::small_task::{Cost, Kind, Objective};
 use std::test::Fail;
@@ -75,142 +75,71 @@ const ORDERED_COST: Family = Family {
 
 #[test]
 fn total_completion_time_is_least(rt: HostRuntime) -> Result<(), Fail> {
-    examine_own(&rt, 3, &COMPLETIONS, counts(29, 4_623, 468, 29))?;
-    examine_any(&rt, &COMPLETIONS, counts(9, 946, 42, 9))
-}
-
-#[test]
-fn total_completion_time_is_least_with_breaks(rt: HostRuntime) -> Result<(), Fail> {
-    examine_own(
-        &rt,
-        3,
-        &COMPLETIONS.with_breaks(),
-        counts(29, 4_623, 4_623, 29),
-    )?;
-    examine_any(&rt, &COMPLETIONS.with_breaks(), counts(9, 946, 109, 9))
-}
-
-#[test]
-fn total_weighted_completion_time_is_least(rt: HostRuntime) -> Result<(), Fail> {
-    examine_own(
-        &rt,
-        3,
-        &WEIGHTED_COMPLETIONS,
+    let (own, any) = (counts(29, 4_623, 468, 29), counts(9, 946, 42, 9));
+    examine_both(&rt, &COMPLETIONS, own, any)?;
+    let (own, any) = (counts(29, 4_623, 4_623, 29), counts(9, 946, 109, 9));
+    examine_both(&rt, &COMPLETIONS.with_breaks(), own, any)?;
+    let (own, any) = (
         counts(549, 118_125, 11_520, 549),
-    )?;
-    examine_any(&rt, &WEIGHTED_COMPLETIONS, counts(63, 8_346, 342, 63))
-}
-
-#[test]
-fn total_weighted_completion_time_is_least_with_breaks(rt: HostRuntime) -> Result<(), Fail> {
-    examine_own(
-        &rt,
-        3,
-        &WEIGHTED_COMPLETIONS.with_breaks(),
+        counts(63, 8_346, 342, 63),
+    );
+    examine_both(&rt, &WEIGHTED_COMPLETIONS, own, any)?;
+    let (own, any) = (
         counts(549, 118_125, 118_125, 549),
-    )?;
-    examine_any(
-        &rt,
-        &WEIGHTED_COMPLETIONS.with_breaks(),
         counts(63, 8_346, 927, 63),
-    )
+    );
+    examine_both(&rt, &WEIGHTED_COMPLETIONS.with_breaks(), own, any)
 }
 
 #[test]
 fn greatest_lateness_is_least(rt: HostRuntime) -> Result<(), Fail> {
-    examine_own(&rt, 3, &LATENESS, counts(584, 88_916, 12_688, 17_688))?;
-    examine_any(&rt, &LATENESS, counts(72, 6_960, 400, 792))
-}
-
-#[test]
-fn greatest_lateness_is_least_with_breaks(rt: HostRuntime) -> Result<(), Fail> {
-    examine_own(
-        &rt,
-        3,
-        &LATENESS.with_breaks(),
+    let (own, any) = (
+        counts(584, 88_916, 12_688, 17_688),
+        counts(72, 6_960, 400, 792),
+    );
+    examine_both(&rt, &LATENESS, own, any)?;
+    let (own, any) = (
         counts(584, 88_916, 88_916, 17_688),
-    )?;
-    examine_any(&rt, &LATENESS.with_breaks(), counts(72, 6_960, 980, 792))
-}
-
-#[test]
-fn greatest_lateness_is_least_with_arcs(rt: HostRuntime) -> Result<(), Fail> {
-    examine_own(
-        &rt,
-        3,
-        &ORDERED_LATENESS,
+        counts(72, 6_960, 980, 792),
+    );
+    examine_both(&rt, &LATENESS.with_breaks(), own, any)?;
+    let (own, any) = (
         counts(3_652, 381_898, 10_952, 93_756),
-    )?;
-    examine_any(&rt, &ORDERED_LATENESS, counts(68, 6_936, 200, 684))
-}
-
-#[test]
-fn greatest_lateness_is_least_with_arcs_and_breaks(rt: HostRuntime) -> Result<(), Fail> {
-    examine_own(
-        &rt,
-        3,
-        &ORDERED_LATENESS.with_breaks(),
+        counts(68, 6_936, 200, 684),
+    );
+    examine_both(&rt, &ORDERED_LATENESS, own, any)?;
+    let (own, any) = (
         counts(3_652, 381_898, 26_778, 93_756),
-    )?;
-    examine_any(
-        &rt,
-        &ORDERED_LATENESS.with_breaks(),
         counts(68, 6_936, 378, 684),
-    )
-}
-
-#[test]
-fn greatest_lateness_is_least_with_release_dates(rt: HostRuntime) -> Result<(), Fail> {
-    examine_own(
-        &rt,
-        3,
-        &RELEASED_LATENESS,
-        counts(1_020, 465_644, 169_630, 30_276),
-    )?;
-    examine_any(&rt, &RELEASED_LATENESS, counts(156, 250_824, 5_086, 1_764))
+    );
+    examine_both(&rt, &ORDERED_LATENESS.with_breaks(), own, any)?;
+    let own = counts(1_020, 465_644, 169_630, 30_276);
+    let any = counts(156, 250_824, 5_086, 1_764);
+    examine_both(&rt, &RELEASED_LATENESS, own, any)
 }
 
 #[test]
 fn greatest_cost_is_least(rt: HostRuntime) -> Result<(), Fail> {
-    examine_own(&rt, 3, &COST, counts(258, 37_653, 5_412, 7_578))?;
-    examine_any(&rt, &COST, counts(42, 3_924, 228, 450))
-}
-
-#[test]
-fn greatest_cost_is_least_with_breaks(rt: HostRuntime) -> Result<(), Fail> {
-    examine_own(
-        &rt,
-        3,
-        &COST.with_breaks(),
+    let (own, any) = (
+        counts(258, 37_653, 5_412, 7_578),
+        counts(42, 3_924, 228, 450),
+    );
+    examine_both(&rt, &COST, own, any)?;
+    let (own, any) = (
         counts(258, 37_653, 37_653, 7_578),
-    )?;
-    examine_any(&rt, &COST.with_breaks(), counts(42, 3_924, 555, 450))
-}
-
-#[test]
-fn greatest_cost_is_least_with_arcs(rt: HostRuntime) -> Result<(), Fail> {
-    examine_own(
-        &rt,
-        3,
-        &ORDERED_COST,
+        counts(42, 3_924, 555, 450),
+    );
+    examine_both(&rt, &COST.with_breaks(), own, any)?;
+    let (own, any) = (
         counts(3_652, 381_898, 10_952, 93_756),
-    )?;
-    examine_any(&rt, &ORDERED_COST, counts(68, 6_936, 200, 684))
-}
-
-#[test]
-fn greatest_cost_is_least_with_arcs_and_breaks(rt: HostRuntime) -> Result<(), Fail> {
-    examine_own(
-        &rt,
-        3,
-        &ORDERED_COST.with_breaks(),
+        counts(68, 6_936, 200, 684),
+    );
+    examine_both(&rt, &ORDERED_COST, own, any)?;
+    let (own, any) = (
         counts(3_652, 381_898, 26_778, 93_756),
-    )?;
-    examine_any(
-        &rt,
-        &ORDERED_COST.with_breaks(),
         counts(68, 6_936, 378, 684),
-    )
+    );
+    examine_both(&rt, &ORDERED_COST.with_breaks(), own, any)
 }
 
 /// Two jobs, with arcs from a job to itself among the arcs.

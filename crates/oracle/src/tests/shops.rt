@@ -1,5 +1,5 @@
 //! The classes of shops of two machines.
-use super::trial::{counts, examine_any, examine_own};
+use super::trial::{counts, examine_both};
 use crate::family::Family;
 use crate::small_task::{Kind, Machines, Objective};
 use std::test::Fail;
@@ -26,38 +26,28 @@ const OPEN_SHOP: Family = Family {
 
 #[test]
 fn makespan_of_a_flow_shop_is_least(rt: HostRuntime) -> Result<(), Fail> {
-    examine_own(&rt, 3, &FLOW_SHOP, counts(520, 557_943, 23_423, 30_345))?;
-    examine_any(&rt, &FLOW_SHOP, counts(59, 137_622, 226, 1_384))
-}
-
-#[test]
-fn makespan_of_a_flow_shop_is_least_with_breaks(rt: HostRuntime) -> Result<(), Fail> {
-    examine_own(
-        &rt,
-        3,
-        &FLOW_SHOP.with_breaks(),
+    let (own, any) = (
+        counts(520, 557_943, 23_423, 30_345),
+        counts(59, 137_622, 226, 1_384),
+    );
+    examine_both(&rt, &FLOW_SHOP, own, any)?;
+    let (own, any) = (
         counts(520, 557_943, 85_635, 30_345),
-    )?;
-    examine_any(
-        &rt,
-        &FLOW_SHOP.with_breaks(),
         counts(59, 137_622, 360, 1_384),
-    )
+    );
+    examine_both(&rt, &FLOW_SHOP.with_breaks(), own, any)
 }
 
 #[test]
 fn makespan_of_an_open_shop_is_least(rt: HostRuntime) -> Result<(), Fail> {
-    examine_own(&rt, 3, &OPEN_SHOP, counts(520, 557_943, 82_555, 2_506))?;
-    examine_any(&rt, &OPEN_SHOP, counts(59, 137_622, 428, 227))
-}
-
-#[test]
-fn makespan_of_an_open_shop_is_least_with_breaks(rt: HostRuntime) -> Result<(), Fail> {
-    examine_own(
-        &rt,
-        3,
-        &OPEN_SHOP.with_breaks(),
+    let (own, any) = (
+        counts(520, 557_943, 82_555, 2_506),
+        counts(59, 137_622, 428, 227),
+    );
+    examine_both(&rt, &OPEN_SHOP, own, any)?;
+    let (own, any) = (
         counts(520, 557_943, 327_711, 2_506),
-    )?;
-    examine_any(&rt, &OPEN_SHOP.with_breaks(), counts(59, 137_622, 716, 227))
+        counts(59, 137_622, 716, 227),
+    );
+    examine_both(&rt, &OPEN_SHOP.with_breaks(), own, any)
 }

@@ -225,10 +225,22 @@ pub fn examine_own(
 
 /// Holds the answers to all tasks of one and two jobs and at most four time steps against all
 /// timetables.
-pub fn examine_any(
+fn examine_any(
     rt: &(impl Abort + AllocGlobal),
     family: &Family,
     wanted: Tally,
 ) -> Result<(), Fail> {
     examine_all(rt, Timetables::All, 2, &family.within(4), wanted)
+}
+
+/// Holds the answers to all tasks of up to three jobs against the timetables in which each job has
+/// its time, and those to small ones against all timetables.
+pub fn examine_both(
+    rt: &(impl Abort + AllocGlobal),
+    family: &Family,
+    own: Tally,
+    any: Tally,
+) -> Result<(), Fail> {
+    examine_own(rt, 3, family, own)?;
+    examine_any(rt, family, any)
 }

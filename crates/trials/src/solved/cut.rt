@@ -9,10 +9,11 @@ use tf_engine::fault::RunFault;
 use tf_engine::request::Request;
 use tf_read::fault::ReadFault;
 
-/// What is left of a text: an answer text, or a fault.
+/// What is left of a text: an answer text, that of the whole text, or a fault.
 #[derive(Clone, Copy)]
 enum Left {
     Answer(&'static [u8]),
+    Whole,
     Fault(ReadFault),
 }
 
@@ -30,16 +31,16 @@ fn is_left(
     let (text, _) = example.instance.split_at(bytes.min(example.instance.len()));
     let mut out = Vec::new(rt.alloc());
     let result = solve_into(rt.alloc(), request, text, &mut out);
-    match left {
-        Left::Answer(wanted) => {
-            ensure(result == Ok(()), example.name)?;
-            ensure(out.as_slice() == wanted, example.name)
-        }
+    let wanted = match left {
+        Left::Answer(wanted) => wanted,
+        Left::Whole => example.answer,
         Left::Fault(fault) => {
             ensure(result == Err(RunFault::Text(fault)), example.name)?;
-            ensure(out.is_empty(), example.name)
+            return ensure(out.is_empty(), example.name);
         }
-    }
+    };
+    ensure(result == Ok(()), example.name)?;
+    ensure(out.as_slice() == wanted, example.name)
 }
 
 /// The example's text is cut at each byte.
@@ -80,44 +81,39 @@ cert load
 end
 ";
 
-#[test]
-fn a_table_cut_anywhere(rt: HostRuntime) -> Result<(), Fail> {
-    let rows = [
-        (0, Left::Fault(ReadFault::EndsEarly)),
-        (6, Left::Fault(ReadFault::BadLine(1))),
-        (8, Left::Fault(ReadFault::NoJobs)),
-        (15, Left::Fault(ReadFault::BadLine(2))),
-        (16, Left::Fault(ReadFault::BadNumber(2))),
-        (18, Left::Answer(ONE_FOUR)),
-        (25, Left::Fault(ReadFault::BadLine(3))),
-        (26, Left::Fault(ReadFault::BadNumber(3))),
-        (28, Left::Answer(TWO_FOURS)),
-        (35, Left::Fault(ReadFault::BadLine(4))),
-        (36, Left::Fault(ReadFault::BadNumber(4))),
-        (37, Left::Answer(FOURS.answer)),
-    ];
-    is_cut(&rt, &FOURS, &rows)
-}
+const TABLE: [Row; 12] = [
+    (0, Left::Fault(ReadFault::EndsEarly)),
+    (6, Left::Fault(ReadFault::BadLine(1))),
+    (8, Left::Fault(ReadFault::NoJobs)),
+    (15, Left::Fault(ReadFault::BadLine(2))),
+    (16, Left::Fault(ReadFault::BadNumber(2))),
+    (18, Left::Answer(ONE_FOUR)),
+    (25, Left::Fault(ReadFault::BadLine(3))),
+    (26, Left::Fault(ReadFault::BadNumber(3))),
+    (28, Left::Answer(TWO_FOURS)),
+    (35, Left::Fault(ReadFault::BadLine(4))),
+    (36, Left::Fault(ReadFault::BadNumber(4))),
+    (37, Left::Whole),
+];
+
+const TARDINESS: [Row; 5] = [
+    (14, Left::Fault(ReadFault::NoInstance)),
+    // the sign of a due date without its digits
+    (15, Left::Fault(ReadFault::BadNumber(3))),
+    (19, Left::Fault(ReadFault::NoInstance)),
+    (35, Left::Fault(ReadFault::EndsEarly)),
+    (36, Left::Whole),
+];
+
+const FLOW_SHOP: [Row; 3] = [
+    (13, Left::Fault(ReadFault::NoInstance)),
+    (88, Left::Fault(ReadFault::EndsEarly)),
+    (89, Left::Whole),
+];
 
 #[test]
-fn a_weighted_tardiness_file_cut_anywhere(rt: HostRuntime) -> Result<(), Fail> {
-    let rows = [
-        (14, Left::Fault(ReadFault::NoInstance)),
-        // the sign of a due date without its digits
-        (15, Left::Fault(ReadFault::BadNumber(3))),
-        (19, Left::Fault(ReadFault::NoInstance)),
-        (35, Left::Fault(ReadFault::EndsEarly)),
-        (36, Left::Answer(SECOND_OF_TWO.answer)),
-    ];
-    is_cut(&rt, &SECOND_OF_TWO, &rows)
-}
-
-#[test]
-fn a_flow_shop_file_cut_anywhere(rt: HostRuntime) -> Result<(), Fail> {
-    let rows = [
-        (13, Left::Fault(ReadFault::NoInstance)),
-        (88, Left::Fault(ReadFault::EndsEarly)),
-        (89, Left::Answer(TWO_OF_THREE.answer)),
-    ];
-    is_cut(&rt, &TWO_OF_THREE, &rows)
+fn a_text_of_each_form_is_cut_anywhere(rt: HostRuntime) -> Result<(), Fail> {
+    is_cut(&rt, &FOURS, &TABLE)?;
+    is_cut(&rt, &SECOND_OF_TWO, &TARDINESS)?;
+    is_cut(&rt, &TWO_OF_THREE, &FLOW_SHOP)
 }

@@ -1,5 +1,5 @@
 //! The forms of an instance.
-use super::{answers, asked, refuses};
+use super::{answers, asked};
 use crate::devices::{Sink, Source};
 use crate::examples::Given;
 use crate::examples::files::{SHOP, TARDINESS};
@@ -8,19 +8,17 @@ use crate::runs::{ensure, request_table};
 use std::test::Fail;
 use tf_engine::fault::RunFault;
 use tf_engine::run_solve::run_solve;
-use tf_model::ids::JobId;
-use tf_model::prepare::{Field, Refusal};
 use tf_read::fault::ReadFault;
 use tf_text::counted::Counted;
 
-#[test]
-fn a_table_may_have_returns_tabs_and_leading_zeros(rt: HostRuntime) -> Result<(), Fail> {
-    let request = request_table(&rt, FOURS.problem)?;
-    let returns = b"table 1\r\njob 1 p=4\r\n\r\njob 2 p=4\r\njob 3 p=4\r\n";
-    answers(&rt, &request, returns, FOURS.answer)?;
-    let tabs = b"\ttable\t1\n machines 02\njob\t1  p=0004\t\njob 2 w=-0 p=4\njob 3 d=-05 p=04";
-    answers(&rt, &request, tabs, FOURS.answer)
-}
+/// Tables of three jobs of time 4.
+const TABLES: [&[u8]; 2] = [
+    b"table 1\r\njob 1 p=4\r\n\r\njob 2 p=4\r\njob 3 p=4\r\n",
+    b"\ttable\t1\n machines 02\njob\t1  p=0004\t\njob 2 w=-0 p=4\njob 3 d=-05 p=04",
+];
+
+/// A weighted tardiness file of two instances of three jobs.
+const RETURNS: &[u8] = b"\r\n2 3 1 1 2 4\t5 -02 9\r\n04 1 3 2\t\t-0 3 6 7 8";
 
 /// What is written for the second of the instances, with times 4, 1 and 3, on two machines.
 const SECOND: &[u8] = b"answer 1
@@ -35,44 +33,12 @@ cert load
 end
 ";
 
-#[test]
-fn a_weighted_tardiness_file_gives_times_to_machines(rt: HostRuntime) -> Result<(), Fail> {
-    let second = Given::Tardiness { jobs: 3, index: 2 };
-    let request = asked(&rt, "P2|prmp|Cmax", second)?;
-    answers(&rt, &request, TARDINESS, SECOND)?;
-    let returns = b"\r\n2 3 1 1 2 4\t5 -02 9\r\n04 1 3 2\t\t-0 3 6 7 8";
-    answers(&rt, &request, returns, SECOND)
-}
+/// A flow shop file of which the demo has one machine.
+const ONE_MACHINE: &[u8] =
+    b"instance other\r\n1 1\r\n0 9\r\ninstance\tdemo \r\n a line\r\n03 01\r\n0 4 -0\r\n04\t0 4";
 
-#[test]
-fn a_file_without_a_field_is_refused_for_it(rt: HostRuntime) -> Result<(), Fail> {
-    let first = JobId::new(1).ok_or("a job")?;
-    let missing = RunFault::Task(Refusal::MissingField(first, Field::Release));
-    let tardiness = Given::Tardiness { jobs: 3, index: 1 };
-    let request = asked(&rt, "1|rj,prmp|Lmax", tardiness)?;
-    refuses(&rt, &request, TARDINESS, missing)
-}
-
-/// The whole demo, and two of its machines.
-fn demo(pair: Option<(u32, u32)>) -> Given {
-    Given::FlowShop { name: "demo", pair }
-}
-
-#[test]
-fn machines_of_a_flow_shop_file_are_those_of_the_problem(rt: HostRuntime) -> Result<(), Fail> {
-    let any = asked(&rt, "F||Cmax", demo(None))?;
-    let three = RunFault::Task(Refusal::MachineCount(3));
-    refuses(&rt, &any, SHOP, three)?;
-    let two = asked(&rt, "F2||Cmax", demo(None))?;
-    let disagree = RunFault::Task(Refusal::MachinesDisagree);
-    refuses(&rt, &two, SHOP, disagree)
-}
-
-#[test]
-fn a_flow_shop_file_of_one_machine_gives_single_times(rt: HostRuntime) -> Result<(), Fail> {
-    let text =
-        b"instance other\r\n1 1\r\n0 9\r\ninstance\tdemo \r\n a line\r\n03 01\r\n0 4 -0\r\n04\t0 4";
-    let wanted = b"answer 1
+/// What is written for its three jobs of time 4.
+const ONE_AFTER_ANOTHER: &[u8] = b"answer 1
 problem P|prmp|Cmax
 jobs 3
 machines 1
@@ -83,7 +49,22 @@ piece 3 1 8 12
 cert load
 end
 ";
-    answers(&rt, &asked(&rt, "P|prmp|Cmax", demo(None))?, text, wanted)
+
+#[test]
+fn texts_may_have_returns_tabs_and_leading_zeros(rt: HostRuntime) -> Result<(), Fail> {
+    let request = request_table(&rt, FOURS.problem)?;
+    for table in TABLES {
+        answers(&rt, &request, table, FOURS.answer)?;
+    }
+    let second = Given::Tardiness { jobs: 3, index: 2 };
+    let request = asked(&rt, "P2|prmp|Cmax", second)?;
+    answers(&rt, &request, RETURNS, SECOND)?;
+    let demo = Given::FlowShop {
+        name: "demo",
+        pair: None,
+    };
+    let request = asked(&rt, "P|prmp|Cmax", demo)?;
+    answers(&rt, &request, ONE_MACHINE, ONE_AFTER_ANOTHER)
 }
 
 /// The demo with the machines of the second job in another order.
