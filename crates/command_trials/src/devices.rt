@@ -1,10 +1,10 @@
 //! An output that fails, explained.
 use std::test::Fail;
+use tf_advice::source::Source;
 use tf_engine::fault::RunFault;
 use tf_engine::request::{Form, Request};
 use tf_engine::text::Text;
 use tf_explain::explain;
-use tf_explain::source::Source;
 use tf_text::answer::layout::Layout;
 
 #[test]

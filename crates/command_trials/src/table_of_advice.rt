@@ -1,5 +1,5 @@
 //! The table of advice.
-use tf_explain::advice::{ADVICE, Cause};
+use tf_advice::advice::{ADVICE, Cause};
 
 #[test]
 fn each_cause_has_advice(rt: HostRuntime) {

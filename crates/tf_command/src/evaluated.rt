@@ -11,9 +11,9 @@ use crate::report::{report, say_device, say_memory, status_of_standing};
 use crate::source::Sources;
 use std::alloc::Global;
 use std::io::{Read, Write};
+use tf_advice::source::Source;
 use tf_evaluate::run_evaluate::run_evaluate;
 use tf_explain::explain;
-use tf_explain::source::Source;
 use tf_text::answer::layout::Layout;
 use tf_text::counted::Counted;
 

@@ -4,8 +4,8 @@ use crate::source::Sources;
 use std::alloc::{AllocError, Global};
 use std::io;
 use std::io::{ErrorKind, Read, Write};
+use tf_advice::source::Source;
 use tf_explain::explain;
-use tf_explain::source::Source;
 use tf_model::limit::MOST_BYTES;
 use tf_text::counted::Counted;
 

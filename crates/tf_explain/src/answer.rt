@@ -1,9 +1,9 @@
 //! What is wrong with an answer text.
-use crate::page::Page;
-use crate::piece_lines::{going_on, pieces_of, quote_pieces};
-use crate::source::{Source, words_of};
-use crate::tardiness::is_table;
 use std::alloc::{AllocError, Global};
+use tf_advice::page::Page;
+use tf_advice::piece_lines::{going_on, pieces_of, quote_pieces};
+use tf_advice::source::{Source, words_of};
+use tf_advice::tardiness::is_table;
 use tf_model::limit::{LIMIT, MOST_BYTES, MOST_JOBS, MOST_MACHINES};
 use tf_schedule::schedule::PieceFault;
 use tf_text::answer::fault::AnswerFault;

@@ -1,17 +1,17 @@
 //! What may be said of a run that is over.
 use crate::answer::{explain_answer, explain_pieces};
-use crate::cycle::explain_cycle;
 use crate::instance::instance_in;
-use crate::notation::explain_notation;
-use crate::page::Page;
 use crate::refusal::{class_in, explain_refusal};
-use crate::source::Source;
-use crate::tardiness::explain_rest;
 use crate::text::explain_text;
-use crate::unused::explain_unused;
 use crate::verdict::{Case, explain_verdict};
 use std::alloc::{AllocError, Global};
 use std::io;
+use tf_advice::cycle::explain_cycle;
+use tf_advice::notation::explain_notation;
+use tf_advice::page::Page;
+use tf_advice::source::Source;
+use tf_advice::tardiness::explain_rest;
+use tf_advice::unused::explain_unused;
 use tf_engine::fault::RunFault;
 use tf_engine::request::{Form, Request};
 use tf_engine::run_check::Checked;

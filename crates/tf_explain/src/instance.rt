@@ -1,6 +1,6 @@
 //! The instance that a run read, read again.
-use crate::source::Source;
 use std::alloc::Global;
+use tf_advice::source::Source;
 use tf_engine::request::Form;
 use tf_model::instance::Instance;
 use tf_read::flow_shop::read_flowshop;

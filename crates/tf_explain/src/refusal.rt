@@ -1,9 +1,9 @@
 //! Why an instance is no task of a problem.
 use crate::instance::instance_in;
-use crate::notation::explain_unsolved;
-use crate::page::Page;
-use crate::source::Source;
 use std::alloc::{AllocError, Global};
+use tf_advice::notation::explain_unsolved;
+use tf_advice::page::Page;
+use tf_advice::source::Source;
 use tf_engine::request::{Form, Request};
 use tf_model::class::{Class, class_of};
 use tf_model::ids::JobId;

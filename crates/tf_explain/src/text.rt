@@ -1,10 +1,10 @@
 //! What is wrong with the text of an instance.
-use crate::page::Page;
-use crate::shop::explain_shop;
-use crate::source::Source;
-use crate::table::explain_table;
-use crate::tardiness::explain_tardiness;
 use std::alloc::{AllocError, Global};
+use tf_advice::page::Page;
+use tf_advice::shop::explain_shop;
+use tf_advice::source::Source;
+use tf_advice::table::explain_table;
+use tf_advice::tardiness::explain_tardiness;
 use tf_engine::request::Form;
 use tf_model::limit::{MOST_ARCS, MOST_BYTES, MOST_JOBS};
 use tf_read::fault::ReadFault;

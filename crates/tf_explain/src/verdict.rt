@@ -1,10 +1,10 @@
 //! Why an answer was rejected.
 use crate::answer::explain_pieces;
 use crate::instance::instance_in;
-use crate::page::Page;
-use crate::piece_lines::{going_on, of_job, quote_pieces};
-use crate::source::Source;
 use std::alloc::{AllocError, Global};
+use tf_advice::page::Page;
+use tf_advice::piece_lines::{going_on, of_job, quote_pieces};
+use tf_advice::source::Source;
 use tf_check::evidence::Evidence;
 use tf_check::fault::BoundFault;
 use tf_check::verdict::Reason;

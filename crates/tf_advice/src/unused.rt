@@ -5,7 +5,7 @@ use tf_model::class::Class;
 use tf_model::instance::Instance;
 
 /// Notes on what the class does not use.
-pub(crate) fn explain_unused(
+pub fn explain_unused(
     page: &mut Page,
     notation: &str,
     class: Class,

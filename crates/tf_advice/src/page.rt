@@ -10,25 +10,25 @@ const MARGIN: &str = "    ";
 
 /// An explanation as it is written.
 #[derive(Drop)]
-pub(crate) struct Page {
-    pub(crate) text: String,
+pub struct Page {
+    pub text: String,
 }
 
 impl Page {
-    pub(crate) fn new(alloc: Global) -> Page {
+    pub fn new(alloc: Global) -> Page {
         Page {
             text: String::new(alloc),
         }
     }
 
     /// A line of its own.
-    pub(crate) fn say(&mut self, sentence: &str) -> Result<(), AllocError> {
+    pub fn say(&mut self, sentence: &str) -> Result<(), AllocError> {
         self.text.push_str(sentence)?;
         self.text.push('\n')
     }
 
     /// A line of a source with its number, and marks under one of its words.
-    pub(crate) fn quote(
+    pub fn quote(
         &mut self,
         source: &Source<'_>,
         line: &SourceLine<'_>,
@@ -45,11 +45,7 @@ impl Page {
     }
 
     /// The line of that number, where there is one.
-    pub(crate) fn quote_number(
-        &mut self,
-        source: &Source<'_>,
-        number: usize,
-    ) -> Result<(), AllocError> {
+    pub fn quote_number(&mut self, source: &Source<'_>, number: usize) -> Result<(), AllocError> {
         match source.line(number) {
             Some(line) => self.quote(source, &line, None),
             None => Ok(()),
@@ -57,7 +53,7 @@ impl Page {
     }
 
     /// Bytes on a line of their own: unprintable ones are escaped, and a long line is cut.
-    pub(crate) fn show(&mut self, bytes: &[u8]) -> Result<(), AllocError> {
+    pub fn show(&mut self, bytes: &[u8]) -> Result<(), AllocError> {
         self.text.push_str(MARGIN)?;
         for byte in bytes.iter().take(MOST_SHOWN) {
             push_byte(&mut self.text, *byte)?;
@@ -69,12 +65,7 @@ impl Page {
     }
 
     /// Marks under some of the bytes that were shown last.
-    pub(crate) fn mark(
-        &mut self,
-        bytes: &[u8],
-        start: usize,
-        len: usize,
-    ) -> Result<(), AllocError> {
+    pub fn mark(&mut self, bytes: &[u8], start: usize, len: usize) -> Result<(), AllocError> {
         if start > MOST_SHOWN {
             return Ok(());
         }
@@ -115,7 +106,7 @@ fn push_times(text: &mut String, c: char, times: usize) -> Result<(), AllocError
 }
 
 /// A word as a sentence names it.
-pub(crate) fn push_word(text: &mut String, word: &[u8]) -> Result<(), AllocError> {
+pub fn push_word(text: &mut String, word: &[u8]) -> Result<(), AllocError> {
     text.push('"')?;
     for byte in word.iter().take(MOST_SHOWN) {
         push_byte(text, *byte)?;

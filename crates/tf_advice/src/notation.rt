@@ -77,7 +77,7 @@ impl Expected {
 }
 
 /// What is wrong with the text at that byte.
-pub(crate) fn explain_notation(
+pub fn explain_notation(
     alloc: Global,
     page: &mut Page,
     problem: &str,
@@ -158,11 +158,7 @@ fn say_nearest(
 }
 
 /// The solved problems nearest to one that is not solved.
-pub(crate) fn explain_unsolved(
-    alloc: Global,
-    page: &mut Page,
-    problem: &str,
-) -> Result<(), AllocError> {
+pub fn explain_unsolved(alloc: Global, page: &mut Page, problem: &str) -> Result<(), AllocError> {
     let Ok(asked) = read(problem.as_bytes()) else {
         return Ok(());
     };

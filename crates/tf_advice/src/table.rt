@@ -43,7 +43,7 @@ struct Judge<'a> {
 }
 
 /// Tells all slips of a table, up to the most that are told, and whether there was one.
-pub(crate) fn explain_table(
+pub fn explain_table(
     alloc: Global,
     page: &mut Page,
     source: &Source<'_>,

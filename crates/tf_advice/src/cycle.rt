@@ -8,7 +8,7 @@ use tf_model::ids::JobId;
 const MOST_ARCS: usize = 20;
 
 /// Each arc of the cycle that these jobs make.
-pub(crate) fn explain_cycle(
+pub fn explain_cycle(
     alloc: Global,
     page: &mut Page,
     source: &Source<'_>,

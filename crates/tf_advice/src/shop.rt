@@ -11,7 +11,7 @@ use tf_words::word::is;
 const MOST_NAMES: usize = 20;
 
 /// What is wrong, where the instance of this name was read.
-pub(crate) fn explain_shop(
+pub fn explain_shop(
     alloc: Global,
     page: &mut Page,
     source: &Source<'_>,

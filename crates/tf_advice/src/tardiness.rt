@@ -8,7 +8,7 @@ use std::alloc::{AllocError, Global};
 use tf_read::fault::ReadFault;
 
 /// What is wrong, where the file was read as instances of so many jobs.
-pub(crate) fn explain_tardiness(
+pub fn explain_tardiness(
     alloc: Global,
     page: &mut Page,
     source: &Source<'_>,
@@ -43,7 +43,7 @@ pub(crate) fn explain_tardiness(
 }
 
 /// Whether the text begins as a job table does.
-pub(crate) fn is_table(source: &Source<'_>) -> bool {
+pub fn is_table(source: &Source<'_>) -> bool {
     source.text.trim_ascii().starts_with(b"table 1")
 }
 
@@ -87,11 +87,7 @@ fn bad_word<'a>(
 }
 
 /// Says so where the numbers of the file are not those of whole instances of this size.
-pub(crate) fn explain_rest(
-    page: &mut Page,
-    source: &Source<'_>,
-    jobs: u32,
-) -> Result<(), AllocError> {
+pub fn explain_rest(page: &mut Page, source: &Source<'_>, jobs: u32) -> Result<(), AllocError> {
     if source.word_count() % numbers_of(jobs) == 0 {
         Ok(())
     } else {

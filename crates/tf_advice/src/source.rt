@@ -13,23 +13,23 @@ pub struct Source<'a> {
 
 /// A line of a text.
 #[derive(Clone, Copy, Debug)]
-pub(crate) struct SourceLine<'a> {
+pub struct SourceLine<'a> {
     /// Its number, from 1.
-    pub(crate) number: usize,
-    pub(crate) bytes: &'a [u8],
+    pub number: usize,
+    pub bytes: &'a [u8],
 }
 
 /// A word of a line.
 #[derive(Clone, Copy, Debug)]
-pub(crate) struct Word<'a> {
+pub struct Word<'a> {
     /// How many bytes of the line stand before it.
-    pub(crate) start: usize,
-    pub(crate) bytes: &'a [u8],
+    pub start: usize,
+    pub bytes: &'a [u8],
 }
 
 impl<'a> Source<'a> {
     /// What the source is called in a sentence.
-    pub(crate) fn title(&self) -> &'a str {
+    pub fn title(&self) -> &'a str {
         if self.name == "-" {
             "standard input"
         } else {
@@ -38,14 +38,14 @@ impl<'a> Source<'a> {
     }
 
     /// The line of that number, from 1.
-    pub(crate) fn line(&self, number: usize) -> Option<SourceLine<'a>> {
+    pub fn line(&self, number: usize) -> Option<SourceLine<'a>> {
         let before = number.checked_sub(1)?;
         let bytes = self.text.split(|byte| *byte == b'\n').nth(before)?;
         Some(SourceLine { number, bytes })
     }
 
     /// The first line whose words begin with these.
-    pub(crate) fn line_beginning(
+    pub fn line_beginning(
         &self,
         alloc: Global,
         front: &[&[u8]],
@@ -61,17 +61,13 @@ impl<'a> Source<'a> {
     }
 
     /// The line of a job in a table.
-    pub(crate) fn job_line(
-        &self,
-        alloc: Global,
-        job: u32,
-    ) -> Result<Option<SourceLine<'a>>, AllocError> {
+    pub fn job_line(&self, alloc: Global, job: u32) -> Result<Option<SourceLine<'a>>, AllocError> {
         let number = job.to_string(alloc)?;
         self.line_beginning(alloc, &[b"job", number.as_bytes()])
     }
 
     /// How many words the text has.
-    pub(crate) fn word_count(&self) -> usize {
+    pub fn word_count(&self) -> usize {
         self.text
             .split(|byte| is_white(*byte))
             .filter(|word| !word.is_empty())
@@ -80,7 +76,7 @@ impl<'a> Source<'a> {
 }
 
 /// The words of a line.
-pub(crate) fn words_of<'a>(alloc: Global, line: &'a [u8]) -> Result<Vec<Word<'a>>, AllocError> {
+pub fn words_of<'a>(alloc: Global, line: &'a [u8]) -> Result<Vec<Word<'a>>, AllocError> {
     let mut words = Vec::new(alloc);
     let mut start: usize = 0;
     for bytes in line.split(|byte| is_white(*byte)) {

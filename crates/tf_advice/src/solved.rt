@@ -7,7 +7,7 @@ use tf_model::limit::MOST_COSTED_JOBS;
 use tf_notation::writing::notation_text;
 
 /// All classes, those of one machine first.
-pub(crate) static CLASSES: [Class; 19] = [
+pub static CLASSES: [Class; 19] = [
     Class::PlainSum,
     Class::PrmpPlainSum,
     Class::WeightedSum,
@@ -110,7 +110,7 @@ pub fn solved_problems(alloc: Global, instance: Option<&Instance>) -> Result<Str
 }
 
 /// A line for one problem.
-pub(crate) fn push_class(alloc: Global, text: &mut String, class: Class) -> Result<(), AllocError> {
+pub fn push_class(alloc: Global, text: &mut String, class: Class) -> Result<(), AllocError> {
     let notation = notation_of(alloc, class)?;
     let notation = notation.as_str();
     let needs = needs_of(class);

@@ -10,26 +10,23 @@ const MOST_PIECES: usize = 8;
 
 /// A line `piece`.
 #[derive(Clone, Copy, Debug)]
-pub(crate) struct PieceLine<'a> {
+pub struct PieceLine<'a> {
     line: SourceLine<'a>,
-    pub(crate) job: i64,
-    pub(crate) machine: i64,
-    pub(crate) start: i64,
-    pub(crate) stop: i64,
+    pub job: i64,
+    pub machine: i64,
+    pub start: i64,
+    pub stop: i64,
 }
 
 impl PieceLine<'_> {
     /// Whether the piece is going on at a time.
-    pub(crate) fn covers(&self, time: i64) -> bool {
+    pub fn covers(&self, time: i64) -> bool {
         self.start <= time && time < self.stop
     }
 }
 
 /// All pieces of an answer text.
-pub(crate) fn pieces_of<'a>(
-    alloc: Global,
-    source: &Source<'a>,
-) -> Result<Vec<PieceLine<'a>>, AllocError> {
+pub fn pieces_of<'a>(alloc: Global, source: &Source<'a>) -> Result<Vec<PieceLine<'a>>, AllocError> {
     let mut pieces = Vec::new(alloc);
     for (k, bytes) in source.text.split(|byte| *byte == b'\n').enumerate() {
         let line = SourceLine {
@@ -68,7 +65,7 @@ fn value_in(word: &[u8]) -> Option<i64> {
 }
 
 /// Lines of some of the pieces, those first that stand first.
-pub(crate) fn quote_pieces<'a>(
+pub fn quote_pieces<'a>(
     page: &mut Page,
     source: &Source<'a>,
     pieces: &[PieceLine<'a>],
@@ -83,7 +80,7 @@ pub(crate) fn quote_pieces<'a>(
 }
 
 /// The pieces of a job.
-pub(crate) fn of_job<'a>(
+pub fn of_job<'a>(
     alloc: Global,
     source: &Source<'a>,
     job: u32,
@@ -98,7 +95,7 @@ pub(crate) fn of_job<'a>(
 }
 
 /// The pieces that are going on at a time on a machine, or, with a job, of that job.
-pub(crate) fn going_on<'a>(
+pub fn going_on<'a>(
     alloc: Global,
     source: &Source<'a>,
     machine: Option<u32>,

@@ -1,0 +1,17 @@
+//! Plain words on texts: which line is wrong and how to mend it, what a problem line means, which
+//! problems are solved. It looks at the texts again and decides nothing.
+#![tactic(auto)]
+
+pub mod advice;
+pub mod cycle;
+mod field;
+pub mod notation;
+mod number;
+pub mod page;
+pub mod piece_lines;
+pub mod shop;
+pub mod solved;
+pub mod source;
+pub mod table;
+pub mod tardiness;
+pub mod unused;
