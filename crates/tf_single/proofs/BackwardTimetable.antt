@@ -33,7 +33,7 @@ use Rattle.tf_schedule.proofs.Parts.{AllPairs-append}
 use Rattle.tf_schedule.proofs.Prices.{other_cost}
 use Rattle.tf_schedule.proofs.Times.{sound_times}
 use Rattle.tf_check.specs.Bound.{is_free}
-use Rattle.tf_single.specs.Backward.{rest_of, price_behind, AreChosen}
+use Rattle.tf_single.specs.Backward.{rest_of, step_price, AreChosen}
 use Rattle.tf_single.proofs.Rest.{distinct_take, stands_from, stands_says, in_rest, sum_own, distinct_tail, distinct_head, rest_sum}
 
 -- job x runs before job y, which is another one and precedes it by no arc
@@ -278,7 +278,7 @@ module _ (k : SchedulingTask) (order : List ℕ) (chosen : AreChosen k order) wh
 
     -- what no step costs more than, the timetable does not either
     pub chosen_cost : (v : ℤ) → IsFalse (is_sum k.class)
-        → ((i : ℕ) → i < length order → price_behind k (drop i order) (slice_index order i) ≤ℤ v)
+        → ((i : ℕ) → i < length order → step_price k order i ≤ℤ v)
         → cost k rows ≤ℤ v
     chosen_cost v no_sum below =
         let S = RunsBefore k in
@@ -301,5 +301,6 @@ module _ (k : SchedulingTask) (order : List ℕ) (chosen : AreChosen k order) wh
         let priced : price k j (completion rows j)
         ≤ℤ price k j (sum_by (time_of k) (drop i order)) = sound.rising j _ _ reached.1 done in
         let own : price k j (sum_by (time_of k) (drop i order)) ≤ℤ v =
-        subst (λ z. price k z (sum_by (time_of k) (drop i order)) ≤ℤ v) at.2 (below i at.1) in
+        subst (λ z. price k z (sum_by (time_of k) (drop i order)) ≤ℤ v) at.2
+        (subst (λ c. price k (slice_index order i) c ≤ℤ v) (work_left i) (below i at.1)) in
         subst (λ z. z ≤ℤ v) (sym (other_cost k rows no_sum ∙ reached.2)) (≤ℤ_trans priced own)

@@ -1,5 +1,5 @@
 -- Of jobs with due dates the one that is due last is the cheapest.
-use Rattle.std.proofs.Common.{◌≡◌, ℕ, ◌+◌, ◌-◌, ◌<◌, ◌≤◌, ℤ, pos, ◌-ℤ◌, ◌≤ℤ◌, Bool, true, false, List, [], ◌∷◌, ◌++◌, length, get_or, Option, Some, option_to_list, refl, sym, ap, ◌∙◌, subst, arith, Contains, IsTrue}
+use Rattle.std.proofs.Common.{◌≡◌, ℕ, ◌+◌, ◌-◌, ◌<◌, ◌≤◌, ℤ, pos, ◌-ℤ◌, ◌≤ℤ◌, Bool, true, false, List, [], ◌∷◌, ◌++◌, length, get_or, Option, Some, option_to_list, refl, sym, ap, ◌∙◌, subst, arith, Contains}
 use Rattle.std.specs.Cmp.{IsStrictWeakOrder}
 use Rattle.std.specs.List.{All}
 use Rattle.std.specs.List.Sorted.{IsPermutation, IsSorted}
@@ -12,9 +12,8 @@ use Rattle.std.proofs.lemmas.Int.{ints}
 use Rattle.std.proofs.lemmas.List.{get_or-map, length-map, length_push, length-append, get_or_at, get_or_default, get_or_append_left, append_assoc}
 use Rattle.std.proofs.lemmas.List.Elements.{All-append, All-tail, All-cons, All-from_recursion}
 use Rattle.std.proofs.lemmas.List.Sorted.{All-permutation, IsPermutation-map, IsPermutation-sym, IsPermutation-trans, IsPermutation-middle, IsPermutation-append_left, IsPermutation-append_right, length_permutation, ranks_by, sorted_far}
-use Rattle.tf_model.specs.ClassTable.{is_due}
 use Rattle.tf_model.specs.Cost.{price}
-use Rattle.tf_model.specs.SchedulingTask.{SchedulingTask, job_data}
+use Rattle.tf_model.specs.SchedulingTask.{SchedulingTask, IsJob, job_data}
 use Rattle.tf_schedule.proofs.Prices.{due_price}
 use Rattle.tf_single.specs.ByDue.{jobs_due, HasDue, IsLatest, AreDue}
 use Rattle.tf_check.specs.KeyedJob.{key_cmp}
@@ -30,14 +29,6 @@ due_le a b m n h = grind (arith, nat_tests, ints)
 
 less_left : (e a b : ℤ) → b ≤ℤ a → (e -ℤ a) ≤ℤ (e -ℤ b)
 less_left e a b le = omega (arith, ints)
-
--- at one time, what is due later costs no more
-later_cheaper : (k : SchedulingTask) (i j end : ℕ) → IsTrue (is_due k.class)
-    → (job_data k i).due ≤ℤ (job_data k j).due → price k j end ≤ℤ price k i end
-later_cheaper k i j end due le =
-    subst (λ z. z ≤ℤ price k i end) (due_price k j end due)
-    (subst (λ z. (pos end -ℤ (job_data k j).due) ≤ℤ z) (due_price k i end due)
-    (less_left (pos end) (job_data k j).due (job_data k i).due le))
 
 -- ---- where an entry stands
 
@@ -161,14 +152,13 @@ later_pushed k begun first later more e due its moved keeps = record {
 
 -- ---- the entry that is due last is taken
 
--- some job is left
-pub some_left : (first later sorted now : List KeyedJob) → 0 < length (jobs_due (first ++ later))
+-- some entry is left
+pub some_left : (first later sorted now : List KeyedJob) → 0 < length (first ++ later)
     → IsPermutation first sorted → now ≡ later → 0 < length (sorted ++ now)
 some_left first later sorted now some sorts same =
     omega (
       arith,
       some,
-      length-map (first ++ later) (λ (e : KeyedJob). e.job),
       length-append first later,
       length-append sorted now,
       length_permutation first sorted sorts,
@@ -196,60 +186,72 @@ last_of xs front x is =
     ap (λ i. get_or xs i x) at ∙ ap (λ ys. get_or ys (length front) x) is
     ∙ get_or_at front x [] x (length front) refl
 
-module _ (k : SchedulingTask) (begun : Bool) (first later sorted : List KeyedJob)
-    (due : AreDue k begun first later) (sorts : IsPermutation first sorted) where
-  abbrev pub entries : List KeyedJob
+-- what holds of the entries where the first ones are sorted holds of them before
+module _ (first later sorted : List KeyedJob) (sorts : IsPermutation first sorted) (x : KeyedJob) where
+  pub sorted_moved : (others : List KeyedJob) → IsPermutation (sorted ++ later) (x ∷ others)
+      → IsPermutation (first ++ later) (x ∷ others)
+  sorted_moved others moved =
+      IsPermutation-trans (first ++ later) (sorted ++ later) (x ∷ others)
+      (IsPermutation-append_left later first sorted sorts) moved
+
+  pub sorted_latest : IsLatest (sorted ++ later) x → IsLatest (first ++ later) x
+  sorted_latest latest =
+      All-permutation (λ e. e.key ≤ℤ x.key) (sorted ++ later) (first ++ later)
+      (IsPermutation-sym (first ++ later) (sorted ++ later)
+      (IsPermutation-append_left later first sorted sorts)) latest
+
+-- the last of the first is taken
+pub first_taken : (sorted later front : List KeyedJob) (x : KeyedJob) → sorted ≡ front ++ x ∷ []
+    → IsPermutation (sorted ++ later) (x ∷ (front ++ later))
+first_taken sorted later front x is =
+    subst (λ (es : List KeyedJob). IsPermutation (es ++ later) (x ∷ (front ++ later))) (sym is)
+    (IsPermutation-sym (x ∷ (front ++ later)) ((front ++ x ∷ []) ++ later)
+    (pushed_first front later x))
+
+-- the greatest of those that followed is taken
+pub later_taken : (sorted later more : List KeyedJob) (x : KeyedJob) → IsPermutation later (x ∷ more)
+    → IsPermutation (sorted ++ later) (x ∷ (sorted ++ more))
+later_taken sorted later more x moved =
+    IsPermutation-trans (sorted ++ later) (sorted ++ x ∷ more) (x ∷ (sorted ++ more))
+    (IsPermutation-append_right sorted later (x ∷ more) moved)
+    (IsPermutation-middle sorted x more)
+
+-- x is taken, and the others are left
+module _ (k : SchedulingTask) (begun : Bool) (first later : List KeyedJob)
+    (due : AreDue k begun first later) (x : KeyedJob) (others : List KeyedJob)
+    (moved : IsPermutation (first ++ later) (x ∷ others)) (latest : IsLatest (first ++ later) x) where
+  abbrev entries : List KeyedJob
   entries = first ++ later
 
-  -- x is taken, and the others are left
-  module _ (x : KeyedJob) (others : List KeyedJob) (moved : IsPermutation (sorted ++ later) (x ∷ others))
-      (latest : IsLatest (sorted ++ later) x) where
-    all_moved : IsPermutation entries (x ∷ others)
-    all_moved = IsPermutation-trans entries (sorted ++ later) (x ∷ others)
-        (IsPermutation-append_left later first sorted sorts) moved
+  pub own_due : HasDue k x
+  own_due = All-permutation (HasDue k) entries (x ∷ others) moved due.dues 0 x (omega arith)
 
-    all_latest : IsLatest entries x
-    all_latest = All-permutation (λ e. e.key ≤ℤ x.key) (sorted ++ later) entries
-        (IsPermutation-sym entries (sorted ++ later)
-        (IsPermutation-append_left later first sorted sorts)) latest
+  pub jobs_moved : IsPermutation (jobs_due entries) (x.job ∷ jobs_due others)
+  jobs_moved = IsPermutation-map (λ (e : KeyedJob). e.job) entries (x ∷ others) moved
 
-    own_due : HasDue k x
-    own_due = All-permutation (HasDue k) entries (x ∷ others) all_moved due.dues 0 x (omega arith)
+  pub own_job : All (IsJob k) (jobs_due entries) → IsJob k x.job
+  own_job known =
+      All-permutation (IsJob k) (jobs_due entries) (x.job ∷ jobs_due others) jobs_moved known 0 0
+      (omega arith)
 
-    pub jobs_moved : IsPermutation (jobs_due entries) (x.job ∷ jobs_due others)
-    jobs_moved = IsPermutation-map (λ (e : KeyedJob). e.job) entries (x ∷ others) all_moved
+  -- it costs how late it is
+  pub latest_cost : (end : ℕ) → (pos end -ℤ x.key) ≡ price k x.job end
+  latest_cost end = ap (λ d. pos end -ℤ d) own_due ∙ due_price k x.job end due.class
 
-    -- it is the cheapest at each time
-    pub latest_cheapest : (end i : ℕ) → Contains (jobs_due entries) i
-        → price k x.job end ≤ℤ price k i end
-    latest_cheapest end i at =
-        let lt : at.0 < length entries =
-        omega (arith, at.1, length-map entries (λ (e : KeyedJob). e.job)) in
-        let e : KeyedJob = get_or entries at.0 x in
-        let its : e.job ≡ i = sym (get_or-map (λ (d : KeyedJob). d.job) entries at.0 x i lt)
-        ∙ at.2 in
-        let is : e.key ≡ (job_data k i).due = due.dues at.0 x lt
-        ∙ ap (λ j. (job_data k j).due) its in
-        later_cheaper k i x.job end due.class
-        (subst (λ z. z ≤ℤ (job_data k x.job).due) is
-        (subst (λ z. e.key ≤ℤ z) own_due (all_latest at.0 x lt)))
+  -- and is the cheapest at each time
+  pub latest_cheapest : (end i : ℕ) → Contains (jobs_due entries) i
+      → (pos end -ℤ x.key) ≤ℤ price k i end
+  latest_cheapest end i at =
+      let lt : at.0 < length entries =
+      omega (arith, at.1, length-map entries (λ (e : KeyedJob). e.job)) in
+      let e : KeyedJob = get_or entries at.0 x in
+      let its : e.job ≡ i = sym (get_or-map (λ (d : KeyedJob). d.job) entries at.0 x i lt)
+      ∙ at.2 in
+      let is : e.key ≡ (job_data k i).due = due.dues at.0 x lt
+      ∙ ap (λ j. (job_data k j).due) its in
+      subst (λ z. (pos end -ℤ x.key) ≤ℤ z) (ap (λ d. pos end -ℤ d) is ∙ due_price k i end due.class)
+      (less_left (pos end) x.key e.key (latest at.0 x lt))
 
-    pub others_due : All (HasDue k) others
-    others_due = All-tail (HasDue k) x others
-        (All-permutation (HasDue k) entries (x ∷ others) all_moved due.dues)
-
-  -- the last of the first is taken
-  pub first_taken : (x : KeyedJob) (front : List KeyedJob) → sorted ≡ front ++ x ∷ []
-      → IsPermutation (sorted ++ later) (x ∷ (front ++ later))
-  first_taken x front is =
-      subst (λ (es : List KeyedJob). IsPermutation (es ++ later) (x ∷ (front ++ later))) (sym is)
-      (IsPermutation-sym (x ∷ (front ++ later)) ((front ++ x ∷ []) ++ later)
-      (pushed_first front later x))
-
-  -- the greatest of those that followed is taken
-  pub later_taken : (x : KeyedJob) (more : List KeyedJob) → IsPermutation later (x ∷ more)
-      → IsPermutation (sorted ++ later) (x ∷ (sorted ++ more))
-  later_taken x more moved =
-      IsPermutation-trans (sorted ++ later) (sorted ++ x ∷ more) (x ∷ (sorted ++ more))
-      (IsPermutation-append_right sorted later (x ∷ more) moved)
-      (IsPermutation-middle sorted x more)
+  pub others_due : All (HasDue k) others
+  others_due = All-tail (HasDue k) x others
+      (All-permutation (HasDue k) entries (x ∷ others) moved due.dues)

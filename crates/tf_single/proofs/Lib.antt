@@ -11,11 +11,10 @@ pub mod Sequence
 pub mod Rest
 pub mod BackwardTimetable
 pub mod DearestStep
-pub mod Grouped
+pub mod ArcsInto
 pub mod Open
 pub mod Walk
 pub mod Found
 pub mod Taking
-pub mod TaskCosts
 pub mod ByDue
 pub mod Cheapest

@@ -1,13 +1,13 @@
 -- What taking a job does to the counts of arcs that are left and to the free jobs.
-use Rattle.std.proofs.Common.{◌≡◌, ◌≢◌, ℕ, ◌+◌, ◌-◌, ◌≤◌, ◌<◌, ◌≤ℤ◌, Bool, true, false, not, ◌&&◌, ◌||◌, ◌==◌, cond, eqb, List, [], ◌∷◌, ◌++◌, length, get_or, slice_index, set, take, map, filter, refl, sym, ap, ◌∙◌, subst, arith, ⊎_elim, ◌⊎◌, inl, inr, sum_by, count_by, All, Contains}
+use Rattle.std.proofs.Common.{◌≡◌, ◌≢◌, ℕ, ◌+◌, ◌-◌, ◌≤◌, ◌<◌, ◌≤ℤ◌, Bool, true, false, not, ◌&&◌, ◌||◌, ◌==◌, cond, eqb, List, [], ◌∷◌, ◌++◌, length, slice_index, set, take, filter, refl, sym, ap, ◌∙◌, subst, arith, ⊎_elim, ◌⊎◌, inl, inr, sum_by, count_by, All, Contains}
 use Rattle.std.specs.List.{list_all}
 use Rattle.std.specs.List.Sorted.{IsPermutation}
-use Rattle.std.proofs.lemmas.Bool.{and_parts, false≢true, eqb-true, eq-eqb, ne_eqb, cases_eq, cases_Bool, not-true, or_cases, cases_lt}
+use Rattle.std.proofs.lemmas.Bool.{false≢true, eqb-true, eq-eqb, ne_eqb, cases_eq, cases_Bool, not-true, or_cases, cases_lt}
 use Rattle.std.proofs.lemmas.Bool.Decides.{nat_tests}
 use Rattle.std.proofs.lemmas.List.{length-set, get_or-set_same, get_or-set_other, take-append-le, get_or_append_left, length-append}
 use Rattle.std.proofs.Math.Seq.{take-append_seam, get_or-append_seam}
-use Rattle.std.proofs.lemmas.List.Elements.{All-head, All-tail, All-push, All-contains, All-filter, All-map}
-use Rattle.std.proofs.lemmas.List.Sums.{sum_by-cons, sum_by_push, get_or-le-sum_by}
+use Rattle.std.proofs.lemmas.List.Elements.{All-head, All-tail, All-push, All-contains, All-filter}
+use Rattle.std.proofs.lemmas.List.Sums.{sum_by-cons, sum_by_push}
 use Rattle.std.proofs.lemmas.List.Sorted.{sum_by-IsPermutation, All-permutation}
 use Rattle.tf_model.specs.SchedulingTask.{SchedulingTask, IsJob, all_jobs, time_of}
 use Rattle.tf_model.specs.Sound.{IsSound}
@@ -15,8 +15,6 @@ use Rattle.tf_model.specs.Bounds.{stands_in}
 use Rattle.tf_model.specs.Cost.{price}
 use Rattle.tf_model.proofs.Costs.{All-all_jobs}
 use Rattle.tf_model.proofs.Sums.{sum_by-plus, sum_by-same}
-use Rattle.tf_schedule.proofs.Counting.{sum_by-map}
-use Rattle.tf_single.specs.ArcsInto.{turned}
 use Rattle.tf_check.specs.Bound.{is_free}
 use Rattle.tf_single.specs.Progress.{of_job}
 use Rattle.tf_single.specs.Backward.{rest_of, IsLastChoice, AreChosen}
@@ -59,7 +57,7 @@ free_is k sound taken j = along k.arcs sound.arcs_in
         (sum_by-cons (λ arc. as_one ((arc.0 == j) && not (stands_in taken arc.1))) a arcs)
 
 module _ (k : SchedulingTask) (sound : IsSound k) (taken counts free : List ℕ)
-    (now : IsOpen k taken [] counts free) where
+    (now : IsOpen k taken (λ _. 0) counts free) where
   free_test : (s z : Bool) (n : ℕ) → n ≡ cond s 0 (cond z 1 0) → 1 ≤ n → (s ≡ false) × (z ≡ true)
   free_test true z n e some = absurd (omega arith)
   free_test false true n e some = (refl, refl)
@@ -121,9 +119,8 @@ module _ (k : SchedulingTask) (sound : IsSound k) (taken counts free : List ℕ)
 
   -- ---- a free job is taken
   module _ (j : ℕ) (at : Contains free j) (others : List ℕ)
-      (moved : IsPermutation free (j ∷ others)) (pending : List ℕ)
-      (pends : (i : ℕ)
-      → count_by (λ b. b == i) pending ≡ count_by (λ arc. (arc.1 == j) && (arc.0 == i)) k.arcs)
+      (moved : IsPermutation free (j ∷ others)) (pending : ℕ → ℕ)
+      (pends : (i : ℕ) → pending i ≡ count_by (λ arc. (arc.1 == j) && (arc.0 == i)) k.arcs)
     where
       split_test : (a s e f : Bool) → f ≡ e → (e ≡ true → s ≡ false)
           → as_one (a && not s) ≡ as_one (a && not (s || e)) + as_one (f && a)
@@ -189,7 +186,8 @@ module _ (k : SchedulingTask) (sound : IsSound k) (taken counts free : List ℕ)
       }
 
 -- the free jobs in another order
-pub open_moved : (k : SchedulingTask) (taken pending counts free others : List ℕ)
+pub open_moved : (k : SchedulingTask) (taken : List ℕ) (pending : ℕ → ℕ)
+    (counts free others : List ℕ)
     → IsOpen k taken pending counts free → IsPermutation free others
     → IsOpen k taken pending counts others
 open_moved k taken pending counts free others now moved = record {
@@ -201,13 +199,22 @@ open_moved k taken pending counts free others now moved = record {
       ∙ now.frees j job;
 }
 
--- ---- one arc less
-module _ (k : SchedulingTask) (taken pending counts free : List ℕ) (b : ℕ) (job : IsJob k b)
-    (now : IsOpen k taken (b ∷ pending) counts free) where
-  pending_count : (i : ℕ)
-      → count_by (λ a. a == i) (b ∷ pending) ≡ as_one (b == i) + count_by (λ a. a == i) pending
-  pending_count i = sum_by-cons (λ a. as_one (a == i)) b pending
+-- as many pending arcs, counted in another way
+pub open_pending : (k : SchedulingTask) (taken : List ℕ) (pending more : ℕ → ℕ)
+    (counts free : List ℕ) → IsOpen k taken pending counts free
+    → ((j : ℕ) → pending j ≡ more j) → IsOpen k taken more counts free
+open_pending k taken pending more counts free now same = record {
+  len = now.len;
+  counted = λ j job. omega (arith, now.counted j job, same j);
+  over = now.over;
+  known = now.known;
+  frees = now.frees;
+}
 
+-- ---- one arc less
+module _ (k : SchedulingTask) (taken : List ℕ) (all pending : ℕ → ℕ) (counts free : List ℕ) (b : ℕ)
+    (job : IsJob k b) (pending_count : (i : ℕ) → all i ≡ as_one (b == i) + pending i)
+    (now : IsOpen k taken all counts free) where
   own_one : ◌≡◌ {A = ℕ} (as_one (b == b)) 1
   own_one = ap as_one (eq-eqb b b refl)
 
@@ -235,7 +242,7 @@ module _ (k : SchedulingTask) (taken pending counts free : List ℕ) (b : ℕ) (
         (same : (i : ℕ) → i ≢ b → count_by (λ a. a == i) others ≡ count_by (λ a. a == i) free)
         (own : count_by (λ a. a == b) others ≡ as_one (n == 0)) where
       at_job : (i : ℕ) → IsJob k i → (i ≡ b) ⊎ (i ≢ b)
-          → (of_job fewer i ≡ arcs_left k taken i + count_by (λ a. a == i) pending)
+          → (of_job fewer i ≡ arcs_left k taken i + pending i)
           × (stands_in taken i ≡ true → of_job fewer i ≡ 0)
           × (count_by (λ a. a == i) others
           ≡ cond (stands_in taken i) 0 (as_one (of_job fewer i == 0)))
@@ -250,7 +257,7 @@ module _ (k : SchedulingTask) (taken pending counts free : List ℕ) (b : ℕ) (
               pending_count b,
               own_one,
               ap (arcs_left k taken) e,
-              ap (λ x. count_by (λ a. a == x) pending) e,
+              ap pending e,
             ),
             λ there. absurd (false≢true (sym (ap (stands_in taken) e ∙ still_left) ∙ there)),
             ap (λ x. count_by (λ a. a == x) others) e ∙ own
@@ -363,7 +370,7 @@ module _ (k : SchedulingTask) (counts : List ℕ) (len : length counts ≡ lengt
       (λ i. flip_test (i == j) (of_job counts i == 0) (j == i) (grind (arith, nat_tests)))
       ∙ sum_own k (λ i. as_one (of_job counts i == 0)) j job
 
-  pub open_start : IsOpen k [] [] counts (filter (λ j. of_job counts j == 0) (all_jobs k))
+  pub open_start : IsOpen k [] (λ _. 0) counts (filter (λ j. of_job counts j == 0) (all_jobs k))
   open_start = record {
     len = len;
     counted = λ j job. omega (arith, each j job);
@@ -372,68 +379,3 @@ module _ (k : SchedulingTask) (counts : List ℕ) (len : length counts ≡ lengt
         (All-all_jobs k (IsJob k) (λ j h. h));
     frees = start_frees;
   }
-
--- ---- the arcs into a job that is taken
-pub into_counts : (k : SchedulingTask) (arcs : List (ℕ × ℕ)) (j i : ℕ)
-    → IsPermutation (map turned k.arcs) arcs
-    → count_by (λ arc. (arc.0 == j) && (arc.1 == i)) arcs
-    ≡ count_by (λ arc. (arc.1 == j) && (arc.0 == i)) k.arcs
-into_counts k arcs j i moved =
-    sum_by-IsPermutation (λ (arc : ℕ × ℕ). as_one ((arc.0 == j) && (arc.1 == i)))
-    (map turned k.arcs) arcs moved
-    ∙ sum_by-map (λ (arc : ℕ × ℕ). as_one ((arc.0 == j) && (arc.1 == i))) turned k.arcs
-
-pub seconds_count : (arcs : List (ℕ × ℕ)) (i : ℕ)
-    → count_by (λ b. b == i) (map (λ (arc : ℕ × ℕ). arc.1) arcs) ≡ count_by (λ arc. arc.1 == i) arcs
-seconds_count arcs i = sum_by-map (λ b. as_one (b == i)) (λ (arc : ℕ × ℕ). arc.1) arcs
-
--- the jobs that they come from are of the task
-pub into_jobs : (k : SchedulingTask) → IsSound k → (arcs : List (ℕ × ℕ))
-    → IsPermutation (map turned k.arcs) arcs → All (λ arc. IsJob k arc.1) arcs
-into_jobs k sound arcs moved =
-    All-permutation (λ (arc : ℕ × ℕ). IsJob k arc.1) (map turned k.arcs) arcs moved
-    (All-map (λ (arc : ℕ × ℕ). IsJob k arc.1) turned k.arcs (λ i d h. (sound.arcs_in i d h).0))
-
--- in the part that leads to one job
-pub into_part : (k : SchedulingTask) → IsSound k → (arcs : List (ℕ × ℕ))
-    → IsPermutation (map turned k.arcs) arcs → (j : ℕ) (part : List (ℕ × ℕ))
-    → ((i : ℕ) → count_by (λ arc. arc.1 == i) part
-    ≡ count_by (λ arc. (arc.0 == j) && (arc.1 == i)) arcs)
-    → (n : ℕ) (d : ℕ × ℕ) → n < length part → IsJob k (get_or part n d).1
-into_part k sound arcs moved j part counts n d lt =
-    let i : ℕ = (get_or part n d).1 in
-    let one : ◌≡◌ {A = ℕ} (as_one ((get_or part n d).1 == i)) 1 = ap as_one (eq-eqb i i refl) in
-    let some : 1 ≤ count_by (λ (arc : ℕ × ℕ). (arc.0 == j) && (arc.1 == i)) arcs =
-    omega (
-      arith,
-      counts i,
-      one,
-      get_or-le-sum_by (λ (arc : ℕ × ℕ). as_one (arc.1 == i)) part n d lt,
-    ) in
-    found arcs (into_jobs k sound arcs moved) some
-  where
-    found : (xs : List (ℕ × ℕ)) → All (λ arc. IsJob k arc.1) xs
-        → 1 ≤ count_by (λ (arc : ℕ × ℕ). (arc.0 == j) && (arc.1 == (get_or part n d).1)) xs
-        → IsJob k (get_or part n d).1
-    found [] all some = absurd (omega arith)
-    found (a ∷ xs) all some =
-        by_test (cases_Bool ((a.0 == j) && (a.1 == (get_or part n d).1)))
-        (found xs (All-tail (λ arc. IsJob k arc.1) a xs all))
-      where
-        by_test : (((a.0 == j) && (a.1 == (get_or part n d).1)) ≡ true) ⊎
-            (((a.0 == j) && (a.1 == (get_or part n d).1)) ≡ false)
-            → (1 ≤ count_by (λ (arc : ℕ × ℕ). (arc.0 == j) && (arc.1 == (get_or part n d).1)) xs
-            → IsJob k (get_or part n d).1) → IsJob k (get_or part n d).1
-        by_test (inl e) later =
-            subst (IsJob k)
-            (eqb-true a.1 (get_or part n d).1
-            (and_parts (a.0 == j) (a.1 == (get_or part n d).1) e).1)
-            (All-head (λ arc. IsJob k arc.1) a xs all)
-        by_test (inr e) later =
-            later (omega (
-              arith,
-              some,
-              sum_by-cons (λ (arc : ℕ × ℕ). as_one ((arc.0 == j) && (arc.1 == (get_or part n d).1))) a
-                  xs,
-              ap as_one e,
-            ))

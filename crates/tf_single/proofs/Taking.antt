@@ -11,7 +11,7 @@ use Rattle.tf_model.specs.Sound.{IsSound}
 use Rattle.tf_model.specs.Bounds.{stands_in}
 use Rattle.tf_model.specs.Cost.{price}
 use Rattle.tf_model.specs.Limit.{limit}
-use Rattle.tf_single.specs.Backward.{rest_of, AreChosen}
+use Rattle.tf_single.specs.Backward.{rest_of, price_behind, AreChosen}
 use Rattle.tf_single.specs.Open.{IsOpen, AreTaken}
 use Rattle.tf_single.specs.Progress.{of_job}
 use Rattle.tf_single.proofs.Open.{free_says, left_count, none_free, open_choice, open_taken, chosen_more, work_less}
@@ -100,7 +100,7 @@ counted p (x ∷ xs) some = by_test (cases_Bool (p x)) (counted p xs)
         (rest.0, (suc rest.1.0, omega (arith, rest.1.1), rest.1.2), rest.2)
 
 module _ (k : SchedulingTask) (sound : IsSound k) (taken counts free : List ℕ)
-    (now : IsOpen k taken [] counts free) where
+    (now : IsOpen k taken (λ _. 0) counts free) where
   left_counts : free ≡ [] → (j : ℕ) → IsJob k j → stands_in taken j ≡ false → 0 < of_job counts j
   left_counts none j job left =
       omega (
@@ -156,14 +156,17 @@ module _ (k : SchedulingTask) (sound : IsSound k) (taken counts free : List ℕ)
     pub step_time : time_of k j ≤ work
     step_time = omega (arith, step_work)
 
-    pub step_open : (pending : List ℕ)
-        → ((i : ℕ) → count_by (λ b. b == i) pending
-        ≡ count_by (λ arc. (arc.1 == j) && (arc.0 == i)) k.arcs)
+    pub step_open : (pending : ℕ → ℕ)
+        → ((i : ℕ) → pending i ≡ count_by (λ arc. (arc.1 == j) && (arc.0 == i)) k.arcs)
         → IsOpen k (taken ++ j ∷ []) pending counts others
     step_open = open_taken k sound taken counts free at.now j here others moved
 
+    -- what it costs
+    pub step_cost : price k j work ≡ price_behind k (rest_of k taken) j
+    step_cost = ap (price k j) at.left
+
     pub step_taken : ((i : ℕ) → Contains free i → price k j work ≤ℤ price k i work)
-        → (fewer more : List ℕ) → IsOpen k (taken ++ j ∷ []) [] fewer more
+        → (fewer more : List ℕ) → IsOpen k (taken ++ j ∷ []) (λ _. 0) fewer more
         → AreTaken k (taken ++ j ∷ []) fewer more (work - time_of k j)
     step_taken cheapest fewer more now = record {
       chosen = chosen_more k taken j at.chosen step_job left

@@ -6,6 +6,7 @@ use Rattle.tf_model.specs.Bounds.{stands_in}
 use Rattle.tf_model.specs.Cost.{price}
 use Rattle.tf_model.specs.Distinct.{IsDistinct}
 use Rattle.tf_check.specs.Bound.{is_free}
+use Rattle.tf_single.specs.declared.backward.Step.{Step}
 
 -- the jobs that are left when those of the list are taken, in rising order
 abbrev pub rest_of : SchedulingTask → List ℕ → List ℕ
@@ -21,6 +22,16 @@ pub record IsLastChoice (k : SchedulingTask) (jobs : List ℕ) (j : ℕ) : Type 
   pub free : is_free k jobs j ≡ true
   pub cheapest : (i : ℕ) → Contains jobs i → is_free k jobs i ≡ true
       → price_behind k jobs j ≤ℤ price_behind k jobs i
+
+-- what the job costs that is taken at this place
+abbrev pub step_price : SchedulingTask → List ℕ → ℕ → ℤ
+step_price k taken n = price_behind k (rest_of k (take n taken)) (slice_index taken n)
+
+-- the step costs this, and none of the steps costs more
+pub record IsDearest (k : SchedulingTask) (taken : List ℕ) (step : Step) : Type 0 where
+  pub within : step.place < length taken
+  pub value : step.value ≡ step_price k taken step.place
+  pub dearest : (n : ℕ) → n < length taken → step_price k taken n ≤ℤ step.value
 
 -- jobs were taken one after another, each the choice for last among those that were left
 pub record AreChosen (k : SchedulingTask) (taken : List ℕ) : Type 0 where

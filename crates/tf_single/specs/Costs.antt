@@ -1,9 +1,8 @@
 -- The cost functions of a task.
-use Rattle.std.specs.Prelude.{◌≡◌, ℕ, ◌-◌, ◌≤◌, ℤ, pos, ◌-ℤ◌, List, length, slice_index_or}
+use Rattle.std.specs.Prelude.{◌≡◌, ℕ, ◌-◌, ◌≤◌, ℤ, List, length, slice_index_or}
 use Rattle.tf_model.specs.Limit.{limit}
 use Rattle.tf_model.specs.SchedulingTask.{SchedulingTask, IsJob}
 use Rattle.tf_model.specs.Cost.{price}
-use Rattle.tf_model.specs.declared.cost.Late.{Late}
 
 -- the costs are the task's, job by job, up to the limit
 pub record AreCosts {C : Type 0} (cost_at : C → ℕ → ℤ) (k : SchedulingTask) (costs : List C) : Type
@@ -11,7 +10,3 @@ pub record AreCosts {C : Type 0} (cost_at : C → ℕ → ℤ) (k : SchedulingTa
   pub len : length costs ≡ length k.jobs
   pub each : (j c : ℕ) (d : C) → IsJob k j → c ≤ limit
       → cost_at (slice_index_or costs (j - 1) d) c ≡ price k j c
-
--- how late a job is that completes at c
-abbrev pub late_value : Late → ℕ → ℤ
-late_value late c = pos c -ℤ late.due

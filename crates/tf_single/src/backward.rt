@@ -1,48 +1,77 @@
 //! Jobs that are taken one after another, each to go last of those that are left.
-ghost use Rattle.std.specs.Prelude.{◌≡◌, ℕ, ◌≤◌, [], length, IfOk, MatchResult};
-ghost use Rattle.tf_model.specs.Cost.{price};
+ghost use Rattle.std.specs.Prelude.{◌≡◌, ◌⊎◌, ℕ, ◌≤◌, ◌≤ℤ◌, [], length, IfOk, IfSome, MatchResult, Some};
 ghost use Rattle.tf_model.specs.Limit.{limit};
 ghost use Rattle.tf_model.specs.SchedulingTask.{IsJob};
 ghost use Rattle.tf_model.specs.Sound.{IsSound};
-ghost use Rattle.tf_single.specs.Backward.{AreChosen, rest_of};
-ghost use Rattle.tf_single.specs.Costs.{AreCosts};
+ghost use Rattle.tf_single.specs.Backward.{AreChosen, IsDearest, rest_of};
 ghost use Rattle.tf_single.specs.LawlerFault.{HoldsCycle};
 ghost use Rattle.tf_single.specs.Open.{arcs_left};
 ghost use Rattle.tf_single.specs.Progress.{of_job};
 
-use crate::arcs_into::ArcsByEnd;
+use crate::arcs_into::{ArcsInto, Link};
 use crate::cycle::cycle;
-use crate::free_jobs::FreeJobs;
+use crate::free_jobs::{FreeJobs, LastJob};
 use crate::lawler_fault::LawlerFault;
 use std::alloc::Allocator;
-use tf_model::cost::Cost;
 use tf_model::ids::JobId;
 use tf_model::memory::OutOfMemory;
 use tf_model::task::Task;
 
-// The jobs in the order in which they are taken, the last first: of those without a successor that
-// is left, each is the cheapest when the work of those that are left is over, the greatest number
-// among equals. Where each that is left has a successor that is left, a cycle. None is free before.
+/// A step at which a job is taken, and what the job costs.
+#[derive(Clone, Copy)]
+pub(crate) struct Step {
+    pub(crate) place: usize,
+    pub(crate) value: i64,
+}
+
+/// Jobs in the order in which they are taken, the last first, and the first of the dearest steps.
+#[derive(Drop)]
+pub(crate) struct LastFirst<A: Allocator> {
+    pub(crate) jobs: Vec<JobId, A>,
+    pub(crate) dearest: Step,
+}
+
+// All jobs: of those without a successor that is left, each is the cheapest when the work of those
+// that are left is over, the greatest number among equals. Where each that is left has a successor
+// that is left, a cycle. None is free before.
 pub(crate) fn last_first<A: Allocator + Copy, B: Allocator, F: FreeJobs + Drop>(
     alloc: A,
     task: &Task<B>,
     free: F,
-) -> Result<Vec<JobId, A>, LawlerFault<A>>
+) -> Result<LastFirst<A>, LawlerFault<A>>
     requires none { F.jobs_of free ≡ [] }
     requires kept { (work : ℕ) → work ≤ limit → F.IsKept free task.now work }
     ensures { MatchResult result
-        (λ v. IsSound task.now × AreChosen task.now v.items × (rest_of task.now v.items ≡ []))
+        (λ order. IsSound task.now × AreChosen task.now order.jobs.items
+        × (rest_of task.now order.jobs.items ≡ [])
+        × IsDearest task.now order.jobs.items order.dearest)
         (λ fault. HoldsCycle task.now fault) }
 {
-    let arcs = ArcsByEnd::of(alloc, task)?;
+    let arcs = ArcsInto::of(alloc, task)?;
     let mut open = Open::new(alloc, task, free)?;
-    for _step in 0..task.len() {
+    let mut dearest = None;
+    for place in 0..task.len() {
         if open.free.is_empty() {
             return Err(LawlerFault::Cycle(cycle(alloc, task, &open.counts)?));
         }
-        open.take(task, &arcs)?;
+        let value = open.take(task, &arcs)?.cost;
+        dearest = Some(dearer(dearest, Step { place, value }));
     }
-    Ok(open.taken)
+    Ok(LastFirst {
+        jobs: open.taken,
+        dearest: dearest.unwrap(),
+    })
+}
+
+// The dearer of a step, where there is one, and a later step; of equals the first.
+fn dearer(before: Option<Step>, step: Step) -> Step
+    ensures { ((result ≡ step) × IfSome before (λ other. other.value ≤ℤ step.value))
+        ⊎ ((before ≡ Some result) × (step.value ≤ℤ result.value)) }
+{
+    match before {
+        Some(dearest) if dearest.value >= step.value => dearest,
+        _ => step,
+    }
 }
 
 // For each job, how many arcs lead from it.
@@ -61,21 +90,6 @@ pub(crate) fn successor_counts<A: Allocator, B: Allocator>(
     Ok(counts)
 }
 
-// What the job costs if it completes at `end`.
-pub(crate) fn cost_of<B: Allocator, C: Cost>(
-    task: &Task<B>,
-    costs: &[C],
-    job: JobId,
-    end: u64,
-) -> i64
-    requires costs { AreCosts C.cost_at task.now costs.now }
-    requires job { IsJob task.now job }
-    requires end { end ≤ limit }
-    ensures { result ≡ price task.now job end }
-{
-    costs[job.get() as usize - 1].value_at(end as i64)
-}
-
 // The jobs that were taken, the last first, and what the arcs say of those that are left.
 #[derive(Drop)]
 struct Open<F: FreeJobs, A: Allocator> {
@@ -89,13 +103,12 @@ struct Open<F: FreeJobs, A: Allocator> {
 }
 
 impl<F: FreeJobs + Drop, A: Allocator + Copy> Open<F, A> {
-    ghost use Rattle.std.specs.Prelude.{◌≡◌, ℕ, ◌+◌, ◌<◌, ◌≤◌, [], map, length};
-    ghost use Rattle.std.specs.Prelude.{slice_index_or, IfOk};
-    ghost use Rattle.std.specs.List.Sorted.{IsPermutation};
+    ghost use Rattle.std.specs.Prelude.{◌≡◌, ℕ, ◌<◌, ◌≤◌, [], ◌∷◌, ◌++◌, length, IfOk};
     ghost use Rattle.tf_model.specs.Limit.{limit};
     ghost use Rattle.tf_model.specs.SchedulingTask.{IsJob};
     ghost use Rattle.tf_model.specs.Sound.{IsSound};
-    ghost use Rattle.tf_single.specs.ArcsInto.{turned};
+    ghost use Rattle.tf_single.specs.ArcsInto.{AreFound, arcs_between};
+    ghost use Rattle.tf_single.specs.Backward.{price_behind, rest_of};
     ghost use Rattle.tf_single.specs.Open.{IsOpen, AreTaken};
 
     // No job is taken, and those that no arc leads from are free.
@@ -124,49 +137,64 @@ impl<F: FreeJobs + Drop, A: Allocator + Copy> Open<F, A> {
     }
 
     // The cheapest free job is taken.
-    fn take<B: Allocator>(&mut self, task: &Task<B>, arcs: &ArcsByEnd<A>) -> Result<(), OutOfMemory>
+    fn take<B: Allocator>(
+        &mut self,
+        task: &Task<B>,
+        arcs: &ArcsInto<A>,
+    ) -> Result<LastJob, OutOfMemory>
         requires sound { IsSound task.now }
-        requires arcs { IsPermutation (map turned task.now.arcs) arcs.now }
+        requires arcs { AreFound task.now (length task.now.arcs) arcs.now.last.items
+            arcs.now.links.items }
         requires some { 0 < length (F.jobs_of self.old.free) }
         requires now { AreTaken task.now self.old.taken.items self.old.counts.items
             (F.jobs_of self.old.free) self.old.work }
         requires kept { F.IsKept self.old.free task.now self.old.work }
-        ensures taken { IfOk result (λ _.
-            length self.new.taken.items ≡ length self.old.taken.items + 1) }
+        ensures taken { IfOk result (λ last.
+            self.new.taken.items ≡ self.old.taken.items ++ last.job ∷ []) }
+        ensures cost { IfOk result (λ last. last.cost
+            ≡ price_behind task.now (rest_of task.now self.old.taken.items) last.job) }
         ensures now { IfOk result (λ _. AreTaken task.now self.new.taken.items
             self.new.counts.items (F.jobs_of self.new.free) self.new.work) }
         ensures kept { IfOk result (λ _. F.IsKept self.new.free task.now self.new.work) }
     {
-        let job = self.free.take_last(task, self.work);
-        self.work -= task.time(job);
-        self.taken.push(job)?;
-        self.release(task, arcs.leading_to(job))
+        let last = self.free.take_last(task, self.work);
+        self.work -= task.time(last.job);
+        self.taken.push(last.job)?;
+        self.release(task, arcs, last.job)?;
+        Ok(last)
     }
 
-    // Each of these arcs leads to a job that is left no more.
+    // The job is left no more, so that the arcs into it are none of those that are left.
     fn release<B: Allocator>(
         &mut self,
         task: &Task<B>,
-        arcs: &[(JobId, JobId)],
+        arcs: &ArcsInto<A>,
+        job: JobId,
     ) -> Result<(), OutOfMemory>
-        requires arcs { (n : ℕ) (d : ℕ × ℕ) → n < length arcs.now
-            → IsJob task.now (slice_index_or arcs.now n d).1 }
-        requires now { IsOpen task.now self.old.taken.items (map (λ arc. arc.1) arcs.now)
+        requires sound { IsSound task.now }
+        requires arcs { AreFound task.now (length task.now.arcs) arcs.now.last.items
+            arcs.now.links.items }
+        requires job { IsJob task.now job }
+        requires now { IsOpen task.now self.old.taken.items
+            (arcs_between task.now.arcs (length task.now.arcs) job)
             self.old.counts.items (F.jobs_of self.old.free) }
         requires kept { F.IsKept self.old.free task.now self.old.work }
         ensures taken { self.new.taken.items ≡ self.old.taken.items }
         ensures work { self.new.work ≡ self.old.work }
-        ensures now { IfOk result (λ _. IsOpen task.now self.new.taken.items []
+        ensures now { IfOk result (λ _. IsOpen task.now self.new.taken.items (λ _. 0)
             self.new.counts.items (F.jobs_of self.new.free)) }
         ensures kept { IfOk result (λ _. F.IsKept self.new.free task.now self.new.work) }
     {
-        for arc in arcs {
-            let place = arc.1.get() as usize - 1;
+        let mut arc = arcs.last[job.get() as usize - 1];
+        while arc > 0 {
+            let Link { from, before } = arcs.links[arc - 1];
+            let place = from.get() as usize - 1;
             let left = self.counts[place] - 1;
             self.counts[place] = left;
             if left == 0 {
-                self.free.add(task, arc.1)?;
+                self.free.add(task, from)?;
             }
+            arc = before;
         }
         Ok(())
     }

@@ -8,7 +8,7 @@ ghost use Rattle.tf_single.specs.CostedJob.{HasLevel, jobs_of};
 ghost use Rattle.tf_single.specs.Costs.{AreCosts};
 
 use crate::costed_job::CostedJob;
-use crate::free_jobs::FreeJobs;
+use crate::free_jobs::{FreeJobs, LastJob};
 use std::alloc::Allocator;
 use tf_model::cost::Cost;
 use tf_model::ids::JobId;
@@ -62,30 +62,40 @@ impl<C: Cost, A: Allocator> FreeJobs for ByCost<'_, C, A> {
         Ok(())
     }
 
-    fn take_last<B: Allocator>(&mut self, task: &Task<B>, work: u64) -> JobId {
+    fn take_last<B: Allocator>(&mut self, task: &Task<B>, work: u64) -> LastJob {
         let costs = self.costs;
-        let place = cheapest_place(task, costs, self.free.as_mut_slice(), work);
-        self.free.swap_remove(place).job
+        let cheapest = cheapest(task, costs, self.free.as_mut_slice(), work);
+        LastJob {
+            job: self.free.swap_remove(cheapest.place).job,
+            cost: cheapest.cost,
+        }
     }
 }
 
-// The place of the cheapest of these jobs if it completes at `end`, of the greatest number among
-// equals.
-fn cheapest_place<B: Allocator, C: Cost>(
+// A free job, and what it costs.
+#[derive(Clone, Copy)]
+struct Found {
+    place: usize,
+    cost: i64,
+}
+
+// The cheapest of these jobs if it completes at `end`, of the greatest number among equals.
+fn cheapest<B: Allocator, C: Cost>(
     task: &Task<B>,
     costs: &[C],
     free: &mut [CostedJob],
     end: u64,
-) -> usize
+) -> Found
     requires costs { AreCosts C.cost_at task.now costs.now }
     requires some { 0 < length free.old }
     requires known { All (IsJob task.now) (jobs_of free.old) }
     requires end { end ≤ limit }
     requires levels { All (HasLevel task.now end) free.old }
-    ensures within { result < length free.new }
+    ensures within { result.place < length free.new }
+    ensures cost { result.cost
+        ≡ price task.now (slice_index (jobs_of free.new) result.place) end }
     ensures cheapest { (k : ℕ) → k < length free.new
-        → price task.now (slice_index (jobs_of free.new) result) end
-        ≤ℤ price task.now (slice_index (jobs_of free.new) k) end }
+        → result.cost ≤ℤ price task.now (slice_index (jobs_of free.new) k) end }
     ensures jobs { jobs_of free.new ≡ jobs_of free.old }
     ensures levels { All (HasLevel task.now end) free.new }
 {
@@ -104,5 +114,5 @@ fn cheapest_place<B: Allocator, C: Cost>(
             least = cost;
         }
     }
-    place
+    Found { place, cost: least }
 }

@@ -8,10 +8,11 @@ ghost use Rattle.tf_single.specs.ByDue.{AreDue, IsRising, IsLatest, jobs_due};
 ghost use Rattle.tf_check.specs.KeyedJob.{key_cmp};
 ghost use Rattle.tf_check.specs.declared.keyed_job.KeyedJob.{KeyedJob};
 
-use crate::free_jobs::FreeJobs;
+use crate::free_jobs::{FreeJobs, LastJob};
 use std::alloc::Allocator;
 use std::collections::BinaryHeap;
 use tf_check::keyed_job::{KeyedJob, sort_jobs};
+use tf_model::cost::{Cost, Late};
 use tf_model::ids::JobId;
 use tf_model::memory::OutOfMemory;
 use tf_model::task::Task;
@@ -52,7 +53,8 @@ impl<A: Allocator + Copy> ByDue<A> {
 }
 
 impl<A: Allocator + Copy> ByDue<A> {
-    ghost use Rattle.std.specs.Prelude.{◌≡◌, ◌<◌, ◌-◌, ◌++◌, length, slice_index_or, true, false};
+    ghost use Rattle.std.specs.Prelude.{◌≡◌, ◌<◌, ◌-◌, ◌∷◌, ◌++◌, length, slice_index_or, true};
+    ghost use Rattle.std.specs.Prelude.{false};
     ghost use Rattle.std.specs.BinaryHeap.{heap_items, IsHeap};
     ghost use Rattle.std.specs.List.Sorted.{IsPermutation, IsSorted};
     ghost use Rattle.tf_single.specs.ByDue.{IsRising, IsLatest};
@@ -94,6 +96,24 @@ impl<A: Allocator + Copy> ByDue<A> {
         };
         later.cmp(first).is_lt()
     }
+
+    // Takes away the entry that is due last.
+    fn pop_latest(&mut self) -> KeyedJob
+        requires some { 0 < length (self.old.first.items ++ heap_items self.old.later) }
+        requires rising { IsRising self.old.has_begun self.old.first.items }
+        requires heap { IsHeap key_cmp (heap_items self.old.later) }
+        ensures latest { IsLatest (self.old.first.items ++ heap_items self.old.later) result }
+        ensures moved { IsPermutation (self.old.first.items ++ heap_items self.old.later)
+            (result ∷ (self.new.first.items ++ heap_items self.new.later)) }
+        ensures rising { IsSorted key_cmp self.new.first.items }
+        ensures heap { IsHeap key_cmp (heap_items self.new.later) }
+    {
+        self.begin();
+        if self.is_first_ahead() {
+            return self.first.pop().unwrap();
+        }
+        self.later.pop().unwrap()
+    }
 }
 
 impl<A: Allocator + Copy> FreeJobs for ByDue<A> {
@@ -123,11 +143,11 @@ impl<A: Allocator + Copy> FreeJobs for ByDue<A> {
         Ok(())
     }
 
-    fn take_last<B: Allocator>(&mut self, _: &Task<B>, _: u64) -> JobId {
-        self.begin();
-        if self.is_first_ahead() {
-            return self.first.pop().unwrap().job;
+    fn take_last<B: Allocator>(&mut self, _: &Task<B>, work: u64) -> LastJob {
+        let KeyedJob { key: due, job } = self.pop_latest();
+        LastJob {
+            job,
+            cost: Late { due }.value_at(work as i64),
         }
-        self.later.pop().unwrap().job
     }
 }

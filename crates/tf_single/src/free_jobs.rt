@@ -4,6 +4,13 @@ use tf_model::ids::JobId;
 use tf_model::memory::OutOfMemory;
 use tf_model::task::Task;
 
+/// A job that goes last of those that are left, and what it costs there.
+#[derive(Clone, Copy)]
+pub(crate) struct LastJob {
+    pub(crate) job: JobId,
+    pub(crate) cost: i64,
+}
+
 /// Jobs of those that are left of which each may go last, so that the cheapest for last is at hand.
 pub(crate) trait FreeJobs {
     ghost use Rattle.std.specs.Prelude.{◌≡◌, ℕ, ◌<◌, ◌≤◌, ◌≤ℤ◌, true, false};
@@ -13,6 +20,7 @@ pub(crate) trait FreeJobs {
     ghost use Rattle.tf_model.specs.Cost.{price};
     ghost use Rattle.tf_model.specs.Limit.{limit};
     ghost use Rattle.tf_model.specs.SchedulingTask.{SchedulingTask, IsJob};
+    ghost use Rattle.tf_model.specs.Sound.{IsSound};
 
     /// The free jobs.
     ghost jobs_of: { Self → List ℕ };
@@ -36,13 +44,15 @@ pub(crate) trait FreeJobs {
 
     /// Takes away the job that is the cheapest if it completes when this work is over, the greatest
     /// number among equals. What is asked later is asked for no more work.
-    fn take_last<B: Allocator>(&mut self, task: &Task<B>, work: u64) -> JobId
+    fn take_last<B: Allocator>(&mut self, task: &Task<B>, work: u64) -> LastJob
+        requires sound { IsSound task.now }
         requires some { 0 < length (jobs_of self.old) }
         requires known { All (IsJob task.now) (jobs_of self.old) }
         requires within { work ≤ limit }
         requires kept { IsKept self.old task.now work }
-        ensures jobs { IsPermutation (jobs_of self.old) (result ∷ jobs_of self.new) }
+        ensures jobs { IsPermutation (jobs_of self.old) (result.job ∷ jobs_of self.new) }
+        ensures cost { result.cost ≡ price task.now result.job work }
         ensures cheapest { (j : ℕ) → Contains (jobs_of self.old) j →
-            price task.now result work ≤ℤ price task.now j work }
+            result.cost ≤ℤ price task.now j work }
         ensures kept { (end : ℕ) → end ≤ work → IsKept self.new task.now end };
 }

@@ -1,23 +1,20 @@
 //! One machine, and the greatest cost of a job: Lawler's rule.
-ghost use Rattle.std.specs.Prelude.{◌≡◌, ℕ, ◌<◌, ◌≤◌, ◌≤ℤ◌, [], drop, length, slice_index};
-ghost use Rattle.std.specs.Prelude.{IfOk, IfErr, IsTrue};
-ghost use Rattle.std.specs.List.{All, sum_by};
+ghost use Rattle.std.specs.Prelude.{◌≡◌, [], IfOk, IfErr, IsTrue};
+ghost use Rattle.std.specs.List.{All};
 ghost use Rattle.tf_model.specs.ClassTable.{is_due};
-ghost use Rattle.tf_model.specs.Limit.{limit};
-ghost use Rattle.tf_model.specs.SchedulingTask.{IsJob, all_jobs, time_of};
+ghost use Rattle.tf_model.specs.SchedulingTask.{IsJob};
 ghost use Rattle.tf_model.specs.Sound.{IsSound};
 ghost use Rattle.tf_schedule.specs.Schedule.{IsSchedule};
 ghost use Rattle.tf_check.specs.Accepted.{IsAccepted};
 ghost use Rattle.tf_check.specs.Free.{AreMarks};
 ghost use Rattle.tf_check.specs.Kinds.{takes_last_of};
-ghost use Rattle.tf_single.specs.Backward.{AreChosen, rest_of, price_behind};
+ghost use Rattle.tf_single.specs.Backward.{AreChosen, IsDearest, rest_of};
 ghost use Rattle.tf_single.specs.Costs.{AreCosts};
 ghost use Rattle.tf_single.specs.LawlerFault.{HoldsCycle};
 
-use crate::backward::{cost_of, last_first};
+use crate::backward::{LastFirst, last_first};
 use crate::by_cost::ByCost;
 use crate::by_due::ByDue;
-use crate::costs::late_costs;
 use crate::lawler_fault::LawlerFault;
 use std::alloc::Allocator;
 use tf_check::answer::Answer;
@@ -52,7 +49,7 @@ pub fn lawler<A: Allocator + Copy, B: Allocator, C: Cost>(
     ensures cycle { IfErr result (HoldsCycle task.now) }
 {
     let order = last_first(alloc, task, ByCost::new(alloc, task, costs)?)?;
-    Ok(answer_of(alloc, task, costs, order)?)
+    Ok(answer_of(alloc, task, order)?)
 }
 
 /// A timetable on one machine whose latest job is least late, where arcs are kept (Lawler 1973); or
@@ -72,72 +69,35 @@ pub fn lawler_by_due<A: Allocator + Copy, B: Allocator>(
     ensures cycle { IfErr result (HoldsCycle task.now) }
 {
     let order = last_first(alloc, task, ByDue::new(alloc, task)?)?;
-    let costs = late_costs(alloc, task)?;
-    Ok(answer_of(alloc, task, costs.as_slice(), order)?)
+    Ok(answer_of(alloc, task, order)?)
 }
 
 // The timetable of jobs that were chosen the last first, with the set of those that were left at
 // the first of the dearest steps.
-fn answer_of<A: Allocator + Copy, B: Allocator, C: Cost>(
+fn answer_of<A: Allocator + Copy, B: Allocator>(
     alloc: A,
     task: &Task<B>,
-    costs: &[C],
-    order: Vec<JobId, A>,
+    order: LastFirst<A>,
 ) -> Result<Answer<A>, OutOfMemory>
     requires class { IsTrue (takes_last_of task.now.class) }
-    requires costs { AreCosts C.cost_at task.now costs.now }
     requires sound { IsSound task.now }
-    requires chosen { AreChosen task.now order.items }
-    requires all { rest_of task.now order.items ≡ [] }
+    requires chosen { AreChosen task.now order.jobs.items }
+    requires all { rest_of task.now order.jobs.items ≡ [] }
+    requires dearest { IsDearest task.now order.jobs.items order.dearest }
     ensures schedule { IfOk result (λ a. IsSchedule a.pieces) }
     ensures accepted { IfOk result (IsAccepted task.now) }
 {
-    let step = dearest_step(task, costs, &order);
-    let jobs = left_jobs(alloc, task, &order[..step.place])?;
-    let sequence = reversed(order);
+    let LastFirst { jobs, dearest } = order;
+    let left = left_jobs(alloc, task, &jobs[..dearest.place])?;
+    let sequence = reversed(jobs);
     let pieces = in_sequence(alloc, task, &sequence)?;
     Ok(Answer {
         pieces: PieceList::new(pieces),
-        value: step.value,
+        value: dearest.value,
         certificate: Certificate::LastOf(LastOf {
-            jobs: JobList::new(jobs),
+            jobs: JobList::new(left),
         }),
     })
-}
-
-// A step at which a job is taken, and what it costs.
-#[derive(Clone, Copy)]
-struct Step {
-    place: usize,
-    value: i64,
-}
-
-// The first of the dearest steps.
-fn dearest_step<B: Allocator, C: Cost>(task: &Task<B>, costs: &[C], order: &[JobId]) -> Step
-    requires costs { AreCosts C.cost_at task.now costs.now }
-    requires some { 0 < length order.now }
-    requires known { All (IsJob task.now) order.now }
-    requires all { sum_by (time_of task.now) order.now
-        ≡ sum_by (time_of task.now) (all_jobs task.now) }
-    requires within { sum_by (time_of task.now) order.now ≤ limit }
-    ensures within { result.place < length order.now }
-    ensures value { result.value
-        ≡ price_behind task.now (drop result.place order.now) (slice_index order.now result.place) }
-    ensures dearest { (n : ℕ) → n < length order.now
-        → price_behind task.now (drop n order.now) (slice_index order.now n) ≤ℤ result.value }
-{
-    let mut work = task.total_time();
-    let mut place = 0;
-    let mut value = cost_of(task, costs, order[0], work);
-    for k in 0..order.len() {
-        let cost = cost_of(task, costs, order[k], work);
-        if value < cost {
-            place = k;
-            value = cost;
-        }
-        work -= task.time(order[k]);
-    }
-    Step { place, value }
 }
 
 // Job by job, whether it was taken.

@@ -1,11 +1,13 @@
 use Rattle.std.proofs.Common.{◌≡◌, length}
 use Rattle.tf_single.specs.Open.{AreTaken}
+use Rattle.tf_single.proofs.DearestStep.{HasDearest}
 use Rattle.tf_single.proofs.backward.last_first.Given as goal
 
-abbrev pub invariant-loop-step : goal.invariant-loop-step
-invariant-loop-step g l = record {
+abbrev pub invariant-loop-place : goal.invariant-loop-place
+invariant-loop-place g l = record {
   now : AreTaken l.task l.open.taken.items l.open.counts.items
       (g.F.FreeJobs.jobs_of l.open.free) l.open.work;
   kept : g.F.FreeJobs.IsKept l.open.free l.task l.open.work;
-  count : length l.open.taken.items ≡ l._step;
+  count : length l.open.taken.items ≡ l.place;
+  dearest : HasDearest l.task l.open.taken.items l.dearest;
 }

@@ -70,8 +70,8 @@ returns-clause-now g c =
     let free : List ℕ = g.F.FreeJobs.jobs_of c.loop-k.free in
     let all : c.loop-k.k ≡ length k.jobs =
     omega (arith, c.len-k-end.ensures.value, c.loop-k-test.false, c.loop-k.auto.k-end) in
-    let start : IsOpen k [] [] counts free =
-    open_moved k [] [] counts (filter (λ j. of_job counts j == 0) (all_jobs k)) free
+    let start : IsOpen k [] (λ _. 0) counts free =
+    open_moved k [] (λ _. 0) counts (filter (λ j. of_job counts j == 0) (all_jobs k)) free
     (open_start k counts c.in_ok-counts.ensures.len c.in_ok-counts.ensures.each)
     (subst (λ n. IsPermutation (filter (λ j. of_job counts j == 0) (range_with_len 1 n)) free) all
     c.loop-k.invariant.jobs) in

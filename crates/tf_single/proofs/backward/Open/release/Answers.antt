@@ -1,62 +1,131 @@
-use Rattle.std.proofs.Common.{◌≡◌, ◌+◌, ◌-◌, ◌<◌, ℕ, List, [], ◌∷◌, ◌++◌, length, get_or, set, map, drop, sym, ap, ◌∙◌, subst, arith}
-use Rattle.std.proofs.lemmas.List.{drop_more, get_or_default}
+use Rattle.std.proofs.Common.{◌≡◌, ℕ, ◌-◌, ◌≤◌, List, [], ◌∷◌, ◌++◌, length, get_or, set, refl, sym, ap, ◌∙◌, subst, arith}
+use Rattle.std.proofs.lemmas.List.{get_or_default}
 use Rattle.std.proofs.lemmas.List.Sorted.{IsPermutation-trans, IsPermutation-to_front}
 use Rattle.tf_model.specs.SchedulingTask.{SchedulingTask, IsJob}
-use Rattle.tf_single.specs.Open.{IsOpen}
+use Rattle.tf_single.specs.ArcsInto.{arc_of, IsLastInto, arcs_between}
 use Rattle.tf_single.specs.Progress.{of_job}
-use Rattle.tf_single.proofs.Open.{open_freed, open_held, open_moved}
+use Rattle.tf_single.specs.declared.arcs_into.Link.{Link}
+use Rattle.tf_single.proofs.ArcsInto.{between_last, link_job, link_within, link_own, link_count}
+use Rattle.tf_single.proofs.Open.{open_freed, open_held, open_moved, open_pending, some_left}
 use Rattle.tf_single.proofs.backward.Open.release.Goals as goal
-use Rattle.tf_single.proofs.backward.Open.release.Goals.{then-left-eq0+in_ok-add, else-left-eq0}
+
+-- what the list has for a job of the task
+read : (k : SchedulingTask) (list : List ℕ) (j number x : ℕ) → length list ≡ length k.jobs → IsJob k j
+    → number ≡ j → x ≡ get_or list (number - 1) x → x ≡ of_job list j
+read k list j number x len job same at =
+    at ∙ get_or_default list (number - 1) x 0 (omega (arith, len, same, job.0, job.1))
+    ∙ ap (λ n. get_or list (n - 1) 0) same
+
+pub loop-arc-init : goal.loop-arc-init
+loop-arc-init g c =
+    let k : SchedulingTask = c.args.task.now in
+    let found = c.requires.arcs in
+    let first : ℕ = c.index-arc.result.now in
+    let at : first ≡ of_job c.args.arcs.now.last.items c.args.job =
+    read k c.args.arcs.now.last.items c.args.job c.get.result first found.jobs c.requires.job
+    c.get.ensures.value c.index-arc.ensures in
+    let last = subst (IsLastInto k.arcs (length k.arcs) c.args.job) (sym at)
+    (found.lasts c.args.job c.requires.job) in
+    record {
+      within = last.within;
+      own = last.own;
+      taken = refl;
+      work = refl;
+      now = open_pending k c.args.self.now.taken.items
+          (arcs_between k.arcs (length k.arcs) c.args.job) (arcs_between k.arcs first c.args.job)
+          c.args.self.now.counts.items (g.F.FreeJobs.jobs_of c.args.self.now.free) c.requires.now
+          (λ i. between_last k.arcs c.args.job i (length k.arcs) first (omega arith) last);
+      kept = c.requires.kept;
+    }
+
+pub overflow_sub-left : goal.overflow_sub-left
+overflow_sub-left g c =
+    let k : SchedulingTask = c.args.task.now in
+    let into = c.args.arcs.now in
+    let link : Link = c.index.result.now in
+    let now = c.loop-arc.invariant in
+    let own : (arc_of k.arcs c.loop-arc.arc).1 ≡ c.args.job = now.own c.loop-arc-test.true in
+    let job : IsJob k link.from = link_job k c.requires.sound into.last.items into.links.items
+    c.requires.arcs c.args.job c.loop-arc.arc link c.loop-arc-test.true now.within own c.index.ensures in
+    let counts : List ℕ = c.loop-arc.self.counts.items in
+    let some : 1 ≤ of_job counts link.from = some_left k c.loop-arc.self.taken.items
+    (arcs_between k.arcs c.loop-arc.arc c.args.job) (arcs_between k.arcs link.before c.args.job) counts
+    (g.F.FreeJobs.jobs_of c.loop-arc.self.free) link.from job
+    (link_count k c.requires.sound into.last.items into.links.items c.requires.arcs c.args.job
+    c.loop-arc.arc link c.loop-arc-test.true now.within own c.index.ensures) now.now in
+    omega (
+      arith,
+      some,
+      read k counts link.from c.get-in-loop-arc.result c.index-in-loop-arc.result.now now.now.len job
+          c.get-in-loop-arc.ensures.value c.index-in-loop-arc.ensures,
+    )
+
+pub loop-arc-preserved-in_ok-add : goal.loop-arc-preserved-in_ok-add
+loop-arc-preserved-in_ok-add g c =
+    let k : SchedulingTask = c.args.task.now in
+    let into = c.args.arcs.now in
+    let x : ℕ = c.loop-arc.arc in
+    let link : Link = c.index.result.now in
+    let now = c.loop-arc.invariant in
+    let own : (arc_of k.arcs x).1 ≡ c.args.job = now.own c.loop-arc-test.true in
+    let job : IsJob k link.from = link_job k c.requires.sound into.last.items into.links.items
+    c.requires.arcs c.args.job x link c.loop-arc-test.true now.within own c.index.ensures in
+    let taken : List ℕ = c.loop-arc.self.taken.items in
+    let counts : List ℕ = c.loop-arc.self.counts.items in
+    let free : List ℕ = g.F.FreeJobs.jobs_of c.loop-arc.self.free in
+    let others : List ℕ = g.F.FreeJobs.jobs_of c.add.new.self in
+    let left : ℕ = c.index-in-loop-arc.result.now - 1 in
+    let at : c.index-in-loop-arc.result.now ≡ of_job counts link.from =
+    read k counts link.from c.get-in-loop-arc.result c.index-in-loop-arc.result.now now.now.len job
+    c.get-in-loop-arc.ensures.value c.index-in-loop-arc.ensures in
+    let behind = arcs_between k.arcs link.before c.args.job in
+    rw c.get-in-loop-arc.ensures.value
+    (record {
+      within = link_within k c.requires.sound into.last.items into.links.items c.requires.arcs
+          c.args.job x link c.loop-arc-test.true now.within own c.index.ensures;
+      own = link_own k c.requires.sound into.last.items into.links.items c.requires.arcs c.args.job
+          x link c.loop-arc-test.true now.within own c.index.ensures;
+      taken = now.taken;
+      work = now.work;
+      now = open_moved k taken behind (set counts (link.from - 1) left) (free ++ link.from ∷ []) others
+          (open_freed k taken (arcs_between k.arcs x c.args.job) behind counts free link.from job
+          (link_count k c.requires.sound into.last.items into.links.items c.requires.arcs c.args.job
+          x link c.loop-arc-test.true now.within own c.index.ensures) now.now left
+          (ap (λ n. n - 1) at) c.if-left-eq0.true)
+          (IsPermutation-trans (free ++ link.from ∷ []) (link.from ∷ free) others
+          (IsPermutation-to_front free link.from) c.in_ok-add.ensures.jobs);
+      kept = c.in_ok-add.ensures.kept c.loop-arc.self.work now.kept;
+    })
 
 pub loop-arc-preserved : goal.loop-arc-preserved
 loop-arc-preserved g c =
     let k : SchedulingTask = c.args.task.now in
-    let arcs : List (ℕ × ℕ) = c.args.arcs.now in
-    let i : ℕ = c.loop-arc.arc-index in
-    let arc : ℕ × ℕ = c.arc-item.result in
-    let b : ℕ = arc.1 in
+    let into = c.args.arcs.now in
+    let x : ℕ = c.loop-arc.arc in
+    let link : Link = c.index.result.now in
+    let now = c.loop-arc.invariant in
+    let own : (arc_of k.arcs x).1 ≡ c.args.job = now.own c.loop-arc-test.true in
+    let job : IsJob k link.from = link_job k c.requires.sound into.last.items into.links.items
+    c.requires.arcs c.args.job x link c.loop-arc-test.true now.within own c.index.ensures in
     let taken : List ℕ = c.loop-arc.self.taken.items in
     let counts : List ℕ = c.loop-arc.self.counts.items in
     let free : List ℕ = g.F.FreeJobs.jobs_of c.loop-arc.self.free in
-    let lt : i < length arcs = c.loop-arc-test.true in
-    let job : IsJob k b =
-    subst (λ (a : ℕ × ℕ). IsJob k a.1) (sym c.arc-item.is) (c.requires.arcs i arc lt) in
-    let pending : List ℕ = map (λ (a : ℕ × ℕ). a.1) (drop (i + 1) arcs) in
-    let split : map (λ (a : ℕ × ℕ). a.1) (drop i arcs) ≡ b ∷ pending =
-    ap (map (λ (a : ℕ × ℕ). a.1)) (drop_more arcs i arc lt)
-    ∙ ap (λ (a : ℕ × ℕ). a.1 ∷ pending) (sym c.arc-item.is) in
-    let now : IsOpen k taken (b ∷ pending) counts free =
-    subst (λ xs. IsOpen k taken xs counts free) split c.loop-arc.invariant.now in
-    let at : c.index.result.now ≡ of_job counts b =
-    c.index.ensures
-    ∙ get_or_default counts (c.get.result - 1) c.index.result.now 0
-    (omega (arith, now.len, c.get.ensures.value, job.0, job.1))
-    ∙ ap (λ n. get_or counts (n - 1) 0) c.get.ensures.value in
-    let left : ℕ = c.index.result.now - 1 in
-    let less : left ≡ of_job counts b - 1 = ap (λ n. n - 1) at in
-    elim c.if-left-eq0.branch [
-      | then-left-eq0+in_ok-add w ↦
-          let others : List ℕ = g.F.FreeJobs.jobs_of w.add.new.self in
-          let freed : IsOpen k taken pending (set counts (b - 1) left) others =
-          open_moved k taken pending (set counts (b - 1) left) (free ++ b ∷ []) others
-          (open_freed k taken pending counts free b job now left less w.if-left-eq0.true)
-          (IsPermutation-trans (free ++ b ∷ []) (b ∷ free) others (IsPermutation-to_front free b)
-          w.in_ok-add.ensures.jobs) in
-          rw (w.self-is, c.get.ensures.value)
-          (record {
-            taken = c.loop-arc.invariant.taken;
-            work = c.loop-arc.invariant.work;
-            now = freed;
-            kept = w.in_ok-add.ensures.kept c.loop-arc.self.work c.loop-arc.invariant.kept;
-          })
-      | else-left-eq0 w ↦
-          let held : IsOpen k taken pending (set counts (b - 1) left) free =
-          open_held k taken pending counts free b job now left less w.if-left-eq0.false in
-          rw (w.self-is, c.get.ensures.value)
-          (record {
-            taken = c.loop-arc.invariant.taken;
-            work = c.loop-arc.invariant.work;
-            now = held;
-            kept = c.loop-arc.invariant.kept;
-          })
-    ]
+    let left : ℕ = c.index-in-loop-arc.result.now - 1 in
+    let at : c.index-in-loop-arc.result.now ≡ of_job counts link.from =
+    read k counts link.from c.get-in-loop-arc.result c.index-in-loop-arc.result.now now.now.len job
+    c.get-in-loop-arc.ensures.value c.index-in-loop-arc.ensures in
+    rw c.get-in-loop-arc.ensures.value
+    (record {
+      within = link_within k c.requires.sound into.last.items into.links.items c.requires.arcs
+          c.args.job x link c.loop-arc-test.true now.within own c.index.ensures;
+      own = link_own k c.requires.sound into.last.items into.links.items c.requires.arcs c.args.job
+          x link c.loop-arc-test.true now.within own c.index.ensures;
+      taken = now.taken;
+      work = now.work;
+      now = open_held k taken (arcs_between k.arcs x c.args.job)
+          (arcs_between k.arcs link.before c.args.job) counts free link.from job
+          (link_count k c.requires.sound into.last.items into.links.items c.requires.arcs c.args.job
+          x link c.loop-arc-test.true now.within own c.index.ensures) now.now left
+          (ap (λ n. n - 1) at) c.if-left-eq0.false;
+      kept = now.kept;
+    })

@@ -1,4 +1,6 @@
-use Rattle.std.proofs.Common.{◌≡◌, ℕ, ◌≤ℤ◌, ◌<◌, ◌++◌, ◌∷◌, List, length, slice_index, slice_index_or, take, drop, refl, sym, ap, ◌∙◌, subst, arith}
+use Rattle.std.proofs.Common.{◌≡◌, ℕ, ◌≤ℤ◌, ◌<◌, ◌++◌, ◌∷◌, List, length, slice_index, slice_index_or, take, drop, refl, sym, ap, ◌∙◌, subst, arith, rules}
+use Rattle.std.proofs.lemmas.Int.{to_z-of_z}
+use mir.Syntax.{w64}
 use Rattle.std.specs.List.{swap_remove}
 use Rattle.std.specs.List.Sorted.{IsPermutation}
 use Rattle.std.proofs.Math.Seq.{take-append_seam}
@@ -15,15 +17,15 @@ pub returns : goal.returns
 returns g c =
     let k = c.args.task.now in
     let work : ℕ = c.args.work in
-    let place : ℕ = c.cheapest_place-place.result in
+    let place : ℕ = c.cheapest-cheapest.result.place in
     let found : CostedJob = c.swap_remove.result in
     let before : List CostedJob = c.args.self.now.free.items in
-    let free : List CostedJob = c.cheapest_place-place.new.free in
+    let free : List CostedJob = c.cheapest-cheapest.new.free in
     let others : List CostedJob = drop (length free) before in
     let lent : ◌≡◌ {A = List CostedJob} c.as_mut_slice.result.now before =
     c.as_mut_slice.ensures.value in
     let jobs : jobs_of free ≡ jobs_of before =
-    c.cheapest_place-place.ensures.jobs ∙ ap jobs_of lent in
+    c.cheapest-cheapest.ensures.jobs ∙ ap jobs_of lent in
     let whole : take c.args.self.now.free.len (free ++ others) ≡ free =
     ap (λ n. take n (free ++ others))
     (omega (
@@ -34,7 +36,7 @@ returns g c =
       c.args.self.now.free.ok.0,
     ))
     ∙ take-append_seam free others in
-    let within : place < length free = c.cheapest_place-place.ensures.within in
+    let within : place < length free = c.cheapest-cheapest.ensures.within in
     let value =
     subst (λ xs. found ≡ slice_index_or xs place found) whole c.swap_remove.ensures.value in
     let rest : List CostedJob = c.swap_remove.new.self.items in
@@ -45,9 +47,11 @@ returns g c =
     (IsPermutation-swap_remove free place found within value) in
     let at_place : found.job ≡ slice_index (jobs_of free) place =
     ap (λ x. x.job) value ∙ job_read free (jobs_of free) place found refl within in
-    record {
+    rw (to_z-of_z w64 c.cheapest-cheapest.result.cost (search rules))
+    (record {
       jobs = subst (λ js. IsPermutation js (found.job ∷ jobs_of rest)) jobs
           (IsPermutation-map (λ x. x.job) free (found ∷ rest) moved);
+      cost = c.cheapest-cheapest.ensures.cost ∙ ap (λ j. price k j work) (sym at_place);
       cheapest = λ j at.
           let here : slice_index (jobs_of free) at.0 ≡ j =
           ap (λ js. slice_index js at.0) jobs ∙ get_or_default (jobs_of before) at.0 0 j at.1
@@ -58,14 +62,13 @@ returns g c =
             ap length jobs,
             length-map free (λ x. x.job),
           ) in
-          subst (λ z. price k z work ≤ℤ price k j work) (sym at_place)
-          (subst (λ z. price k (slice_index (jobs_of free) place) work ≤ℤ price k z work) here
-          (c.cheapest_place-place.ensures.cheapest at.0 inside));
+          subst (λ z. c.cheapest-cheapest.result.cost ≤ℤ price k z work) here
+          (c.cheapest-cheapest.ensures.cheapest at.0 inside);
       kept = λ end le. (
         c.requires.kept.0,
         λ n d h e from to small.
             All-tail (HasLevel k work) found rest
             (All-permutation (HasLevel k work) free (found ∷ rest) moved
-            c.cheapest_place-place.ensures.levels) n d h e from (omega (arith, to, le)) small,
+            c.cheapest-cheapest.ensures.levels) n d h e from (omega (arith, to, le)) small,
       );
-    }
+    })

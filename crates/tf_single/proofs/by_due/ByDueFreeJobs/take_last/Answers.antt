@@ -1,98 +1,85 @@
-use Rattle.std.proofs.Common.{◌≡◌, ◌<◌, List, [], ◌∷◌, ◌++◌, length, get_or, sym, ap, subst, arith}
-use Rattle.std.specs.BinaryHeap.{heap_items, IsHeap, PopsGreatest}
-use Rattle.std.specs.List.Sorted.{IsPermutation, IsSorted}
-use Rattle.std.specs.Option.{IfSome}
-use Rattle.tf_model.specs.SchedulingTask.{SchedulingTask}
-use Rattle.tf_single.specs.ByDue.{IsLatest}
-use Rattle.tf_check.specs.KeyedJob.{key_cmp}
+use Rattle.std.proofs.Common.{◌≡◌, ℕ, ◌≤◌, ℤ, pos, arith, ◌-ℤ◌, List, ◌++◌, subst, sym, ap, ◌∙◌, rules}
+use Rattle.std.proofs.lemmas.Int.{to_z-of_z, to_z_pos}
+use mir.Syntax.{w64}
+use mir.Val.{SFits, to_z, of_z}
+use Rattle.std.specs.BinaryHeap.{heap_items}
+use Rattle.tf_model.specs.Limit.{limit}
+use Rattle.tf_model.specs.Whole.{IsWithin, as_time}
+use Rattle.tf_single.specs.ByDue.{HasDue}
+use Rattle.tf_model.specs.SchedulingTask.{SchedulingTask, IsJob}
 use Rattle.tf_check.specs.declared.keyed_job.KeyedJob.{KeyedJob}
-use Rattle.tf_single.proofs.ByDue.{first_taken, later_taken, jobs_moved, latest_cheapest, others_due, sorted_front, last_of, popped_last, some_left}
+use Rattle.tf_single.proofs.ByDue.{own_due, own_job, jobs_moved, latest_cost, latest_cheapest, others_due}
 use Rattle.tf_single.proofs.by_due.ByDueFreeJobs.take_last.Goals as goal
 
-pub returns-then-is_first_ahead : goal.returns-then-is_first_ahead
-returns-then-is_first_ahead g c =
+pub invariant_of-value_at : goal.invariant_of-value_at
+invariant_of-value_at g c =
     let k : SchedulingTask = c.args.arg2.now in
+    let x : KeyedJob = c.pop_latest-due.result in
     let first : List KeyedJob = c.args.self.now.first.items in
     let later : List KeyedJob = heap_items c.args.self.now.later in
-    let sorted : List KeyedJob = c.begin.new.self.first.items in
-    let front : List KeyedJob = c.pop.new.self.items in
-    let x : KeyedJob = c.unwrap.result in
-    let is : sorted ≡ front ++ x ∷ [] =
-    popped_last sorted front c.pop.result x c.pop.ensures.items c.unwrap.ensures in
-    let latest : IsLatest (sorted ++ later) x =
-    subst (λ es. IsLatest (sorted ++ es) x) (ap heap_items c.begin.ensures.later)
-    (subst (IsLatest (sorted ++ heap_items c.begin.new.self.later)) (last_of sorted front x is)
-    ((c.is_first_ahead.ensures.first c.if-is_first_ahead.true).1 x)) in
-    let moved : IsPermutation (sorted ++ later) (x ∷ (front ++ later)) =
-    first_taken k c.args.self.now.has_begun first later sorted c.requires.kept
-    c.begin.ensures.first x front is in
-    rw (ap heap_items c.begin.ensures.later) (record {
-      jobs = jobs_moved k c.args.self.now.has_begun first later sorted c.requires.kept
-          c.begin.ensures.first x (front ++ later) moved latest;
-      cheapest = latest_cheapest k c.args.self.now.has_begun first later sorted c.requires.kept
-          c.begin.ensures.first x (front ++ later) moved latest c.args.arg3;
-      kept = λ end le. record {
-        class = c.requires.kept.class;
-        dues = others_due k c.args.self.now.has_begun first later sorted c.requires.kept
-            c.begin.ensures.first x (front ++ later) moved latest;
-        rising = λ yes. sorted_front front x (subst (IsSorted key_cmp) is c.begin.ensures.rising);
-        heap = c.requires.kept.heap;
-      };
-    })
-
--- some job is left
-pub unwrap-requires-2 : goal.unwrap-requires-2
-unwrap-requires-2 g c =
-    let first : List KeyedJob = c.args.self.now.first.items in
-    let later : List KeyedJob = heap_items c.args.self.now.later in
-    let sorted : List KeyedJob = c.begin.new.self.first.items in
-    let later_now : List KeyedJob = heap_items c.begin.new.self.later in
-    let held : 0 < length (sorted ++ later_now) =
-    some_left first later sorted later_now c.requires.some c.begin.ensures.first
-    (ap heap_items c.begin.ensures.later) in
-    let some : 0 < length later_now =
-    (c.is_first_ahead.ensures.later c.if-is_first_ahead.false held).0 in
-    c.pop-2.ensures.variant.1 (omega (arith, some, c.begin.new.self.later.data.ok.0))
-
-pub returns : goal.returns
-returns g c =
-    let k : SchedulingTask = c.args.arg2.now in
-    let first : List KeyedJob = c.args.self.now.first.items in
-    let later : List KeyedJob = heap_items c.args.self.now.later in
-    let sorted : List KeyedJob = c.begin.new.self.first.items in
-    let later_now : List KeyedJob = heap_items c.begin.new.self.later in
-    let more : List KeyedJob = heap_items c.pop-2.new.self in
-    let x : KeyedJob = c.unwrap-2.result in
-    let same : later_now ≡ later = ap heap_items c.begin.ensures.later in
-    let popped : IsPermutation later (x ∷ more) =
-    subst (λ es. IsPermutation es (x ∷ more)) same
-    (subst (λ r. IfSome r (λ y. IsPermutation later_now (y ∷ more))) c.unwrap-2.ensures
-    c.pop-2.ensures.permutation) in
-    let pops : PopsGreatest key_cmp later_now x more =
-    subst (λ r. IfSome r (λ y. PopsGreatest key_cmp later_now y more)) c.unwrap-2.ensures
-    c.pop-2.ensures.heap_order in
-    let top : x ≡ get_or later_now 0 x =
-    subst (λ r. IfSome r (λ y. y ≡ get_or later_now 0 y)) c.unwrap-2.ensures c.pop-2.ensures.top in
-    let held : 0 < length (sorted ++ later_now) =
-    some_left first later sorted later_now c.requires.some c.begin.ensures.first
-    (ap heap_items c.begin.ensures.later) in
-    let latest : IsLatest (sorted ++ later) x =
-    subst (λ es. IsLatest (sorted ++ es) x) same
-    (subst (IsLatest (sorted ++ later_now)) (sym top)
-    ((c.is_first_ahead.ensures.later c.if-is_first_ahead.false held).1 x)) in
-    let moved : IsPermutation (sorted ++ later) (x ∷ (sorted ++ more)) =
-    later_taken k c.args.self.now.has_begun first later sorted c.requires.kept
-    c.begin.ensures.first x more popped in
+    let others : List KeyedJob =
+    c.pop_latest-due.new.self.first.items ++ heap_items c.pop_latest-due.new.self.later in
+    let job : IsJob k x.job =
+    own_job k c.args.self.now.has_begun first later c.requires.kept x others
+    c.pop_latest-due.ensures.moved c.pop_latest-due.ensures.latest c.requires.known in
+    let own : HasDue k x =
+    own_due k c.args.self.now.has_begun first later c.requires.kept x others
+    c.pop_latest-due.ensures.moved c.pop_latest-due.ensures.latest in
     record {
-      jobs = jobs_moved k c.args.self.now.has_begun first later sorted c.requires.kept
-          c.begin.ensures.first x (sorted ++ more) moved latest;
-      cheapest = latest_cheapest k c.args.self.now.has_begun first later sorted c.requires.kept
-          c.begin.ensures.first x (sorted ++ more) moved latest c.args.arg3;
-      kept = λ end le. record {
-        class = c.requires.kept.class;
-        dues = others_due k c.args.self.now.has_begun first later sorted c.requires.kept
-            c.begin.ensures.first x (sorted ++ more) moved latest;
-        rising = λ yes. c.begin.ensures.rising;
-        heap = (pops (subst (IsHeap key_cmp) (sym same) c.requires.kept.heap)).0;
-      };
+      in_range = subst IsWithin (sym (to_z-of_z w64 x.key (search rules) ∙ own))
+          (c.requires.sound.dues x.job job);
     }
+
+pub returns-clause-jobs : goal.returns-clause-jobs
+returns-clause-jobs g c =
+    let later : List KeyedJob = heap_items c.args.self.now.later in
+    jobs_moved c.args.arg2.now c.args.self.now.has_begun c.args.self.now.first.items later
+    c.requires.kept c.pop_latest-due.result
+    (c.pop_latest-due.new.self.first.items ++ heap_items c.pop_latest-due.new.self.later)
+    c.pop_latest-due.ensures.moved c.pop_latest-due.ensures.latest
+
+pub returns-clause-kept : goal.returns-clause-kept
+returns-clause-kept g c = λ end le.
+    let later : List KeyedJob = heap_items c.args.self.now.later in
+    record {
+      class = c.requires.kept.class;
+      dues = others_due c.args.arg2.now c.args.self.now.has_begun c.args.self.now.first.items later
+          c.requires.kept c.pop_latest-due.result
+          (c.pop_latest-due.new.self.first.items ++ heap_items c.pop_latest-due.new.self.later)
+          c.pop_latest-due.ensures.moved c.pop_latest-due.ensures.latest;
+      rising = λ yes. c.pop_latest-due.ensures.rising;
+      heap = c.pop_latest-due.ensures.heap;
+    }
+
+-- what the bits of a cost say: how late the job is
+late : (work : ℕ) (key z : ℤ) → work ≤ limit → SFits w64 key → SFits w64 z
+    → z ≡ (pos (as_time (to_z w64 work)) -ℤ to_z w64 (of_z w64 key))
+    → to_z w64 (of_z w64 z) ≡ (pos work -ℤ key)
+late work key z small fits_key fits is =
+    to_z-of_z w64 z fits ∙ is
+    ∙ ap (λ e. pos (as_time e) -ℤ to_z w64 (of_z w64 key)) (to_z_pos w64 work (omega (arith, small)))
+    ∙ ap (λ d. pos work -ℤ d) (to_z-of_z w64 key fits_key)
+
+pub returns-clause-cost : goal.returns-clause-cost
+returns-clause-cost g c =
+    let x : KeyedJob = c.pop_latest-due.result in
+    let first : List KeyedJob = c.args.self.now.first.items in
+    let later : List KeyedJob = heap_items c.args.self.now.later in
+    let others : List KeyedJob =
+    c.pop_latest-due.new.self.first.items ++ heap_items c.pop_latest-due.new.self.later in
+    late c.args.work x.key c.value_at.result c.requires.within (search rules)
+    (search rules) c.value_at.ensures.value
+    ∙ latest_cost c.args.arg2.now c.args.self.now.has_begun first later c.requires.kept x others
+    c.pop_latest-due.ensures.moved c.pop_latest-due.ensures.latest c.args.work
+
+pub returns-clause-cheapest : goal.returns-clause-cheapest
+returns-clause-cheapest g c = λ j at.
+    let x : KeyedJob = c.pop_latest-due.result in
+    let first : List KeyedJob = c.args.self.now.first.items in
+    let later : List KeyedJob = heap_items c.args.self.now.later in
+    let others : List KeyedJob =
+    c.pop_latest-due.new.self.first.items ++ heap_items c.pop_latest-due.new.self.later in
+    rw (late c.args.work x.key c.value_at.result c.requires.within (search rules)
+    (search rules) c.value_at.ensures.value)
+    (latest_cheapest c.args.arg2.now c.args.self.now.has_begun first later c.requires.kept x others
+    c.pop_latest-due.ensures.moved c.pop_latest-due.ensures.latest c.args.work j at)

@@ -2,7 +2,7 @@ use Rattle.std.proofs.Common.{◌≡◌}
 use Rattle.std.specs.List.{All}
 use Rattle.tf_single.specs.CostedJob.{HasLevel, jobs_of}
 use Rattle.tf_single.proofs.Cheapest.{IsCheapest}
-use Rattle.tf_single.proofs.by_cost.cheapest_place.Given as goal
+use Rattle.tf_single.proofs.by_cost.cheapest.Given as goal
 
 abbrev pub invariant-loop-k : goal.invariant-loop-k
 invariant-loop-k g l = record {

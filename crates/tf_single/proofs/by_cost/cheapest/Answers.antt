@@ -8,8 +8,8 @@ use Rattle.tf_model.specs.Cost.{price}
 use Rattle.tf_model.specs.SchedulingTask.{IsJob}
 use Rattle.tf_single.specs.CostedJob.{HasLevel, jobs_of}
 use Rattle.tf_single.proofs.Cheapest.{cheapest_kept, cheapest_taken, job_read, jobs_kept}
-use Rattle.tf_single.proofs.by_cost.cheapest_place.Goals.{then-cost-least-2, else-cost-least-2+else-lt}
-use Rattle.tf_single.proofs.by_cost.cheapest_place.Goals as goal
+use Rattle.tf_single.proofs.by_cost.cheapest.Goals.{then-cost-least-2, else-cost-least-2+else-lt}
+use Rattle.tf_single.proofs.by_cost.cheapest.Goals as goal
 
 pub cost_at-cost-requires-clause-job : goal.cost_at-cost-requires-clause-job
 cost_at-cost-requires-clause-job g c =
