@@ -226,6 +226,7 @@ fours_sound : IsSound fours
 fours_sound = record {
   some_job = omega arith;
   few_jobs = omega arith;
+  few_arcs = omega arith;
   some_machine = omega arith;
   few_machines = omega arith;
   single = λ e. absurd (false≢true e);

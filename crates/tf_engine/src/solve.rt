@@ -1,5 +1,6 @@
 //! A solver for each class.
 ghost use Rattle.std.specs.Prelude.{◌≡◌, IfOk, IfErr};
+ghost use Rattle.tf_model.specs.Sound.{IsSound};
 ghost use Rattle.tf_engine.specs.declared.solve.SolveFault.TheVariants.{OutOfMemory as NoMemory};
 ghost use Rattle.tf_check.specs.Accepted.{IsAccepted, IsBestAnswer};
 ghost use Rattle.tf_engine.specs.Solvers.{IsNotSolved, of_lawler};
@@ -63,16 +64,15 @@ pub fn solve<A: Allocator + Copy, B: Allocator>(
     ensures best { IfOk result (IsBestAnswer task.now) }
     ensures refused { IfErr result (IsNotSolved task.now) }
 {
-    // Each reader of a task says that it is sound, as the bounds ask.
-    let _class = task.class();
     answer_of(alloc, task)
 }
 
-// The answer of the class's solver.
+// The answer of the class's solver, and that the task is sound.
 fn answer_of<A: Allocator + Copy, B: Allocator>(
     alloc: A,
     task: &Task<B>,
 ) -> Result<Answer<A>, SolveFault<A>>
+    ensures sound { IsSound task.now }
     ensures accepted { IfOk result (IsAccepted task.now) }
     ensures refused { IfErr result (IsNotSolved task.now) }
 {

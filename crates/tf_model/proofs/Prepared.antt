@@ -186,8 +186,8 @@ price_rises Total k j c e steps le =
 
 module _ (class : Class) (m : ℕ) (i : InstanceData) (instance : IsInstance i)
     (refusal : jobs_refusal class i.jobs ≡ None) where
-  few_jobs : (1 ≤ length i.jobs) × (length i.jobs ≤ most_jobs)
-  few_jobs =
+  few : (1 ≤ length i.jobs) × (length i.jobs ≤ most_jobs) × (length i.arcs ≤ most_arcs)
+  few =
       let counts =
       none_of_two (counts_fault (length i.jobs) i.machines (length i.arcs))
       (option_or (option_map NegativeNumber (first_with has_negative i.jobs))
@@ -202,11 +202,21 @@ module _ (class : Class) (m : ℕ) (i : InstanceData) (instance : IsInstance i)
       none_of_two (then_some (ltb most_jobs (length i.jobs)) TooManyJobs)
       (option_or (count_fault i.machines)
       (then_some (ltb most_arcs (length i.arcs)) TooManyArcs)) no_jobs.1 in
-      (not_zero (length i.jobs) (not_then _ _ no_jobs.0), ltb-false _ _ (not_then _ _ many_jobs.0))
+      let many_arcs =
+      none_of_two (count_fault i.machines) (then_some (ltb most_arcs (length i.arcs)) TooManyArcs)
+      many_jobs.1 in (
+        not_zero (length i.jobs) (not_then _ _ no_jobs.0),
+        ltb-false _ _ (not_then _ _ many_jobs.0),
+        ltb-false _ _ (not_then _ _ many_arcs.1),
+      )
     where
       not_zero : (n : ℕ) → eqb n 0 ≡ false → 1 ≤ n
       not_zero zero e = cc
       not_zero (suc n) e = omega arith
+
+  few_arcs : (is_kept : Bool) → length (cond is_kept i.arcs []) ≤ most_arcs
+  few_arcs true = few.2
+  few_arcs false = omega arith
 
   good_jobs : All (λ job. has_beyond job ≡ false) i.jobs
       × All (λ arc. is_bad_arc (length i.jobs) arc ≡ false) i.arcs
@@ -326,8 +336,9 @@ module _ (class : Class) (m : ℕ) (i : InstanceData) (instance : IsInstance i)
       λ h. ap length (cond-true (is_costed class) (map steps_of i.jobs) [] h)
       ∙ length-map i.jobs steps_of ∙ sym same in
       record {
-        some_job = omega (arith, same, few_jobs.0);
-        few_jobs = omega (arith, same, few_jobs.1);
+        some_job = omega (arith, same, few.0);
+        few_jobs = omega (arith, same, few.1);
+        few_arcs = few_arcs (is_ordered class);
         some_machine = fits.some;
         few_machines = fits.few;
         single = fits.single;

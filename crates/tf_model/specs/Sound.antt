@@ -1,7 +1,7 @@
 -- What every task keeps that was prepared.
 use Rattle.std.specs.Prelude.{◌≡◌, ℕ, ◌+◌, ◌*◌, ◌≤◌, ◌≤ℤ◌, [], length, IsTrue, IsFalse}
 use Rattle.std.specs.List.{All, sum_by}
-use Rattle.tf_model.specs.Limit.{limit, most_jobs, most_machines}
+use Rattle.tf_model.specs.Limit.{limit, most_jobs, most_arcs, most_machines}
 use Rattle.tf_model.specs.Whole.{IsWithin}
 use Rattle.tf_model.specs.SchedulingTask.{SchedulingTask, all_jobs, IsJob, job_data, time_of}
 use Rattle.tf_model.specs.ClassTable.{is_shop, is_single, is_weighted, is_released, is_costed, is_ordered, is_sum}
@@ -10,6 +10,7 @@ use Rattle.tf_model.specs.Cost.{price}
 pub record IsSound (k : SchedulingTask) : Type 0 where
   pub some_job : 1 ≤ length k.jobs
   pub few_jobs : length k.jobs ≤ most_jobs
+  pub few_arcs : length k.arcs ≤ most_arcs
   pub some_machine : 1 ≤ k.machines
   pub few_machines : k.machines ≤ most_machines
   pub single : IsTrue (is_single k.class) → k.machines ≡ 1

@@ -78,12 +78,12 @@ fn dearer(before: Option<Step>, step: Step) -> Step
 pub(crate) fn successor_counts<A: Allocator, B: Allocator>(
     alloc: A,
     task: &Task<B>,
-) -> Result<Vec<usize, A>, OutOfMemory>
+) -> Result<Vec<u32, A>, OutOfMemory>
     ensures len { IfOk result (λ v. length v.items ≡ length task.now.jobs) }
     ensures each { IfOk result (λ v.
         (j : ℕ) → IsJob task.now j → of_job v.items j ≡ arcs_left task.now [] j) }
 {
-    let mut counts = vec![in alloc; 0_usize; task.len()]?;
+    let mut counts = vec![in alloc; 0_u32; task.len()]?;
     for (before, _) in task.arcs() {
         counts[before.get() as usize - 1] += 1;
     }
@@ -95,7 +95,7 @@ pub(crate) fn successor_counts<A: Allocator, B: Allocator>(
 struct Open<F: FreeJobs, A: Allocator> {
     taken: Vec<JobId, A>,
     // For each job, how many arcs lead from it to jobs that are left.
-    counts: Vec<usize, A>,
+    counts: Vec<u32, A>,
     // The jobs that are left and have count 0.
     free: F,
     // The work of the jobs that are left.
@@ -187,7 +187,7 @@ impl<F: FreeJobs + Drop, A: Allocator + Copy> Open<F, A> {
     {
         let mut arc = arcs.last[job.get() as usize - 1];
         while arc > 0 {
-            let Link { from, before } = arcs.links[arc - 1];
+            let Link { from, before } = arcs.links[arc as usize - 1];
             let place = from.get() as usize - 1;
             let left = self.counts[place] - 1;
             self.counts[place] = left;

@@ -18,7 +18,7 @@ use tf_model::task::Task;
 pub(crate) fn cycle<A: Allocator + Copy, B: Allocator>(
     alloc: A,
     task: &Task<B>,
-    counts: &[usize],
+    counts: &[u32],
 ) -> Result<JobList<A>, OutOfMemory>
     requires len { length counts.now ≡ length task.now.jobs }
     requires stuck { (j : ℕ) → IsJob task.now j → 0 < of_job counts.now j
@@ -31,7 +31,7 @@ pub(crate) fn cycle<A: Allocator + Copy, B: Allocator>(
 }
 
 // The smallest job of which some arcs are left.
-fn first_left<B: Allocator>(task: &Task<B>, counts: &[usize]) -> JobId
+fn first_left<B: Allocator>(task: &Task<B>, counts: &[u32]) -> JobId
     requires len { length counts.now ≡ length task.now.jobs }
     requires some { (j : ℕ) × IsJob task.now j × (0 < of_job counts.now j) }
     ensures { IsJob task.now result × (0 < of_job counts.now result) }
@@ -48,7 +48,7 @@ fn first_left<B: Allocator>(task: &Task<B>, counts: &[usize]) -> JobId
 fn successors<A: Allocator, B: Allocator>(
     alloc: A,
     task: &Task<B>,
-    counts: &[usize],
+    counts: &[u32],
 ) -> Result<Vec<Option<JobId>, A>, OutOfMemory>
     requires len { length counts.now ≡ length task.now.jobs }
     requires stuck { (j : ℕ) → IsJob task.now j → 0 < of_job counts.now j

@@ -64,7 +64,8 @@ overflow_add-index_mut g c =
       c.loop-before.invariant.each arc.0 its.0,
       count_by-le-length (λ a. a.0 == arc.0) (take c.loop-before.before-index arcs),
       length-take c.loop-before.before-index arcs,
-      c.arcs-before-items.type_inv,
+      ap length c.arcs-before-items.ensures.value,
+      c.len.ensures.sound.few_arcs,
     )
 
 pub loop-before-preserved : goal.loop-before-preserved
