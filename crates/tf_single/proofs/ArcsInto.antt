@@ -167,26 +167,27 @@ module _ (arcs : List (ℕ × ℕ)) (j i : ℕ) where
   between_all = ap (count_by (λ arc. (arc.1 == j) && (arc.0 == i))) (take-length arcs)
 
 -- ---- an arc of a chain
-module _ (k : SchedulingTask) (sound : IsSound k) (last : List ℕ) (links : List Link)
-    (found : AreFound k (length k.arcs) last links) (j number : ℕ) (link : Link) (some : 0 < number)
-    (within : number ≤ length k.arcs) (own : (arc_of k.arcs number).1 ≡ j)
-    (at : link ≡ get_or links (number - 1) link) where
-  link_of : IsLink k.arcs number link
-  link_of = subst (IsLink k.arcs number) (sym at) (found.each number link some within)
 
-  -- it comes from a job of the task
-  pub link_job : IsJob k link.from
-  link_job = subst (IsJob k) (sym link_of.from)
-      (sound.arcs_in (number - 1) (0, 0) (omega (arith, some, within))).0
-
-  -- the one before it is an arc too, and leads to the same job
-  pub link_within : link.before ≤ length k.arcs
-  link_within = omega (arith, link_of.before.within, within)
-
-  pub link_own : 0 < link.before → (arc_of k.arcs link.before).1 ≡ j
-  link_own more = link_of.before.own more ∙ own
-
-  -- and there are no others between them
-  pub link_count : (i : ℕ) → arcs_between k.arcs number j i
+-- an arc into job j comes from a job of the task; the one before it in the chain is an arc too, and
+-- leads to the same job, and there are no others between them
+pub record IsChained (k : SchedulingTask) (j number : ℕ) (link : Link) : Type 0 where
+  pub job : IsJob k link.from
+  pub within : link.before ≤ length k.arcs
+  pub own : 0 < link.before → (arc_of k.arcs link.before).1 ≡ j
+  pub count : (i : ℕ) → arcs_between k.arcs number j i
       ≡ cond (link.from == i) 1 0 + arcs_between k.arcs link.before j i
-  link_count i = between_link k.arcs j i number link some within own link_of
+
+pub link_chained : (k : SchedulingTask) → IsSound k → (last : List ℕ) (links : List Link)
+    → AreFound k (length k.arcs) last links → (j number : ℕ) (link : Link) → 0 < number
+    → number ≤ length k.arcs → (arc_of k.arcs number).1 ≡ j
+    → link ≡ get_or links (number - 1) link → IsChained k j number link
+link_chained k sound last links found j number link some within own at =
+    let its : IsLink k.arcs number link =
+    subst (IsLink k.arcs number) (sym at) (found.each number link some within) in
+    record {
+      job = subst (IsJob k) (sym its.from)
+          (sound.arcs_in (number - 1) (0, 0) (omega (arith, some, within))).0;
+      within = omega (arith, its.before.within, within);
+      own = λ more. its.before.own more ∙ own;
+      count = λ i. between_link k.arcs j i number link some within own its;
+    }

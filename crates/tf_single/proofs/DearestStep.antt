@@ -1,5 +1,5 @@
 -- The set of the dearest step bounds the cost by what the step costs.
-use Rattle.std.proofs.Common.{◌≡◌, ℕ, ◌<◌, ◌≤◌, ℤ, ◌≤ℤ◌, not, ◌&&◌, List, [], ◌∷◌, ◌++◌, length, slice_index, get_or, ◌⊎◌, inl, inr, ⊎_elim, map, take, reverse, Option, None, Some, Ok, refl, sym, ap, ◌∙◌, subst, arith, sum_by, All, Contains, IsTrue, IsFalse}
+use Rattle.std.proofs.Common.{◌≡◌, ℕ, ◌<◌, ◌≤◌, ℤ, ◌≤ℤ◌, ◌<ℤ◌, not, ◌&&◌, List, [], ◌∷◌, ◌++◌, length, slice_index, get_or, ◌⊎◌, inl, inr, ⊎_elim, map, take, reverse, Option, None, Some, Ok, refl, sym, ap, ◌∙◌, subst, arith, sum_by, All, Contains, IsTrue, IsFalse}
 use Rattle.std.specs.Option.{IfSome}
 use Rattle.std.proofs.lemmas.Bool.{and_parts, not-true, false≢true, cases_lt}
 use Rattle.std.proofs.lemmas.Int.{ints, fold-int_min_bounds, fold-int_min_reached}
@@ -8,7 +8,6 @@ use Rattle.std.proofs.lemmas.List.{get_or-map, length-map, length-append, take-a
 use Rattle.std.proofs.Math.Seq.{take-append_seam, get_or-append_seam}
 use Rattle.std.proofs.lemmas.List.Sorted.{All-permutation, IsPermutation-refl, IsPermutation-reverse, sum_by-IsPermutation}
 use Rattle.tf_model.specs.ClassTable.{is_single, is_released, is_sum}
-use Rattle.tf_model.proofs.Costs.{≤ℤ_trans}
 use Rattle.tf_model.specs.Outcome.{unless}
 use Rattle.tf_model.specs.Limit.{limit}
 use Rattle.tf_model.specs.SchedulingTask.{SchedulingTask, IsJob, all_jobs, time_of}
@@ -174,12 +173,19 @@ module _ (k : SchedulingTask) (taken : List ℕ) (j : ℕ) where
         subst (λ z. z ≤ℤ v) (step_value ∙ ap (step_price k (taken ++ j ∷ [])) same) own)
         (cases_lt n (length taken))
 
-    new_dearest : ((n : ℕ) → n < length taken → step_price k taken n ≤ℤ step.value)
+    old_less : (v : ℤ) (n : ℕ) → n < length taken → step_price k taken n <ℤ v
+        → step_price k (taken ++ j ∷ []) n <ℤ v
+    old_less v n lt less = subst (λ z. z <ℤ v) (sym (old_price n lt)) less
+
+    new_dearest : ((n : ℕ) → n < length taken → step_price k taken n <ℤ step.value)
         → IsDearest k (taken ++ j ∷ []) step
     new_dearest before = record {
       within = omega (arith, here, length-append taken (j ∷ []));
       value = step_value;
-      dearest = most step.value before (omega (arith, ints));
+      dearest = most step.value (λ n lt. omega (arith, ints, before n lt)) (omega (arith, ints));
+      first = λ n lt.
+          let old : n < length taken = omega (arith, lt, here) in
+          old_less step.value n old (before n old);
     }
 
     old_dearest : (old : Step) → IsDearest k taken old → step.value ≤ℤ old.value
@@ -188,11 +194,12 @@ module _ (k : SchedulingTask) (taken : List ℕ) (j : ℕ) where
       within = omega (arith, its.within, length-append taken (j ∷ []));
       value = its.value ∙ sym (old_price old.place its.within);
       dearest = most old.value its.dearest le;
+      first = λ n lt. old_less old.value n (omega (arith, lt, its.within)) (its.first n lt);
     }
 
     -- the dearer of the dearest step so far and the next
     pub dearest_more : (before : Option Step) (result : Step) → HasDearest k taken before
-        → (((result ≡ step) × IfSome before (λ other. other.value ≤ℤ step.value))
+        → (((result ≡ step) × IfSome before (λ other. other.value <ℤ step.value))
         ⊎ ((before ≡ Some result) × (step.value ≤ℤ result.value)))
         → IsDearest k (taken ++ j ∷ []) result
     dearest_more None result none (inl new) =
@@ -200,7 +207,7 @@ module _ (k : SchedulingTask) (taken : List ℕ) (j : ℕ) where
         (new_dearest (λ n lt. absurd (omega (arith, none, lt))))
     dearest_more (Some old) result its (inl new) =
         subst (IsDearest k (taken ++ j ∷ [])) (sym new.0)
-        (new_dearest (λ n lt. ≤ℤ_trans (its.dearest n lt) new.1))
+        (new_dearest (λ n lt. omega (arith, ints, its.dearest n lt, new.1)))
     dearest_more before result its (inr same) =
         old_dearest result (subst (HasDearest k taken) same.0 its) same.1
 

@@ -1,5 +1,5 @@
 -- Orders that are built from the back, the last job first (Lawler 1973).
-use Rattle.std.specs.Prelude.{◌≡◌, ℕ, ◌<◌, ℤ, ◌≤ℤ◌, not, true, List, length, take, slice_index, filter}
+use Rattle.std.specs.Prelude.{◌≡◌, ℕ, ◌<◌, ℤ, ◌≤ℤ◌, ◌<ℤ◌, not, true, List, length, take, slice_index, filter}
 use Rattle.std.specs.List.{All, Contains, sum_by}
 use Rattle.tf_model.specs.SchedulingTask.{SchedulingTask, IsJob, all_jobs, time_of}
 use Rattle.tf_model.specs.Bounds.{stands_in}
@@ -27,11 +27,12 @@ pub record IsLastChoice (k : SchedulingTask) (jobs : List ℕ) (j : ℕ) : Type 
 abbrev pub step_price : SchedulingTask → List ℕ → ℕ → ℤ
 step_price k taken n = price_behind k (rest_of k (take n taken)) (slice_index taken n)
 
--- the step costs this, and none of the steps costs more
+-- the step costs this, none of the steps costs more, and those before it cost less
 pub record IsDearest (k : SchedulingTask) (taken : List ℕ) (step : Step) : Type 0 where
   pub within : step.place < length taken
   pub value : step.value ≡ step_price k taken step.place
   pub dearest : (n : ℕ) → n < length taken → step_price k taken n ≤ℤ step.value
+  pub first : (n : ℕ) → n < step.place → step_price k taken n <ℤ step.value
 
 -- jobs were taken one after another, each the choice for last among those that were left
 pub record AreChosen (k : SchedulingTask) (taken : List ℕ) : Type 0 where

@@ -1,5 +1,6 @@
 //! Jobs that are taken one after another, each to go last of those that are left.
-ghost use Rattle.std.specs.Prelude.{◌≡◌, ◌⊎◌, ℕ, ◌≤◌, ◌≤ℤ◌, [], length, IfOk, IfSome, MatchResult, Some};
+ghost use Rattle.std.specs.Prelude.{◌≡◌, ◌⊎◌, ℕ, ◌≤◌, ◌≤ℤ◌, ◌<ℤ◌, [], length};
+ghost use Rattle.std.specs.Prelude.{IfOk, IfSome, MatchResult, Some};
 ghost use Rattle.tf_model.specs.Limit.{limit};
 ghost use Rattle.tf_model.specs.SchedulingTask.{IsJob};
 ghost use Rattle.tf_model.specs.Sound.{IsSound};
@@ -65,7 +66,7 @@ pub(crate) fn last_first<A: Allocator + Copy, B: Allocator, F: FreeJobs + Drop>(
 
 // The dearer of a step, where there is one, and a later step; of equals the first.
 fn dearer(before: Option<Step>, step: Step) -> Step
-    ensures { ((result ≡ step) × IfSome before (λ other. other.value ≤ℤ step.value))
+    ensures { ((result ≡ step) × IfSome before (λ other. other.value <ℤ step.value))
         ⊎ ((before ≡ Some result) × (step.value ≤ℤ result.value)) }
 {
     match before {

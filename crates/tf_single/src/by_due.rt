@@ -17,7 +17,8 @@ use tf_model::ids::JobId;
 use tf_model::memory::OutOfMemory;
 use tf_model::task::Task;
 
-/// Free jobs by their due dates, which are their keys: what is due last is the least late, whatever the work.
+/// Free jobs by their due dates, which are their keys: what is due last is the least late, whatever
+/// the work.
 ///
 /// Those that are free before any is taken are sorted once; a heap takes those that follow.
 #[derive(Drop)]

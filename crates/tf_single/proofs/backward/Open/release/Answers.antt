@@ -2,10 +2,10 @@ use Rattle.std.proofs.Common.{◌≡◌, ℕ, ◌-◌, ◌≤◌, List, [], ◌�
 use Rattle.std.proofs.lemmas.List.{get_or_default}
 use Rattle.std.proofs.lemmas.List.Sorted.{IsPermutation-trans, IsPermutation-to_front}
 use Rattle.tf_model.specs.SchedulingTask.{SchedulingTask, IsJob}
-use Rattle.tf_single.specs.ArcsInto.{arc_of, IsLastInto, arcs_between}
+use Rattle.tf_single.specs.ArcsInto.{IsLastInto, arcs_between}
 use Rattle.tf_single.specs.Progress.{of_job}
 use Rattle.tf_single.specs.declared.arcs_into.Link.{Link}
-use Rattle.tf_single.proofs.ArcsInto.{between_last, link_job, link_within, link_own, link_count}
+use Rattle.tf_single.proofs.ArcsInto.{IsChained, between_last, link_chained}
 use Rattle.tf_single.proofs.Open.{open_freed, open_held, open_moved, open_pending, some_left}
 use Rattle.tf_single.proofs.backward.Open.release.Goals as goal
 
@@ -41,57 +41,52 @@ loop-arc-init g c =
 pub overflow_sub-left : goal.overflow_sub-left
 overflow_sub-left g c =
     let k : SchedulingTask = c.args.task.now in
-    let into = c.args.arcs.now in
     let link : Link = c.index.result.now in
     let now = c.loop-arc.invariant in
-    let own : (arc_of k.arcs c.loop-arc.arc).1 ≡ c.args.job = now.own c.loop-arc-test.true in
-    let job : IsJob k link.from = link_job k c.requires.sound into.last.items into.links.items
-    c.requires.arcs c.args.job c.loop-arc.arc link c.loop-arc-test.true now.within own c.index.ensures in
+    let arc : IsChained k c.args.job c.loop-arc.arc link =
+    link_chained k c.requires.sound c.args.arcs.now.last.items c.args.arcs.now.links.items
+    c.requires.arcs c.args.job c.loop-arc.arc link c.loop-arc-test.true now.within
+    (now.own c.loop-arc-test.true) c.index.ensures in
     let counts : List ℕ = c.loop-arc.self.counts.items in
-    let some : 1 ≤ of_job counts link.from = some_left k c.loop-arc.self.taken.items
-    (arcs_between k.arcs c.loop-arc.arc c.args.job) (arcs_between k.arcs link.before c.args.job) counts
-    (g.F.FreeJobs.jobs_of c.loop-arc.self.free) link.from job
-    (link_count k c.requires.sound into.last.items into.links.items c.requires.arcs c.args.job
-    c.loop-arc.arc link c.loop-arc-test.true now.within own c.index.ensures) now.now in
+    let some : 1 ≤ of_job counts link.from =
+    some_left k c.loop-arc.self.taken.items (arcs_between k.arcs c.loop-arc.arc c.args.job)
+    (arcs_between k.arcs link.before c.args.job) counts
+    (g.F.FreeJobs.jobs_of c.loop-arc.self.free) link.from arc.job arc.count now.now in
     omega (
       arith,
       some,
-      read k counts link.from c.get-in-loop-arc.result c.index-in-loop-arc.result.now now.now.len job
-          c.get-in-loop-arc.ensures.value c.index-in-loop-arc.ensures,
+      read k counts link.from c.get-in-loop-arc.result c.index-in-loop-arc.result.now now.now.len
+          arc.job c.get-in-loop-arc.ensures.value c.index-in-loop-arc.ensures,
     )
 
 pub loop-arc-preserved-in_ok-add : goal.loop-arc-preserved-in_ok-add
 loop-arc-preserved-in_ok-add g c =
     let k : SchedulingTask = c.args.task.now in
-    let into = c.args.arcs.now in
-    let x : ℕ = c.loop-arc.arc in
     let link : Link = c.index.result.now in
     let now = c.loop-arc.invariant in
-    let own : (arc_of k.arcs x).1 ≡ c.args.job = now.own c.loop-arc-test.true in
-    let job : IsJob k link.from = link_job k c.requires.sound into.last.items into.links.items
-    c.requires.arcs c.args.job x link c.loop-arc-test.true now.within own c.index.ensures in
+    let arc : IsChained k c.args.job c.loop-arc.arc link =
+    link_chained k c.requires.sound c.args.arcs.now.last.items c.args.arcs.now.links.items
+    c.requires.arcs c.args.job c.loop-arc.arc link c.loop-arc-test.true now.within
+    (now.own c.loop-arc-test.true) c.index.ensures in
     let taken : List ℕ = c.loop-arc.self.taken.items in
     let counts : List ℕ = c.loop-arc.self.counts.items in
     let free : List ℕ = g.F.FreeJobs.jobs_of c.loop-arc.self.free in
     let others : List ℕ = g.F.FreeJobs.jobs_of c.add.new.self in
     let left : ℕ = c.index-in-loop-arc.result.now - 1 in
     let at : c.index-in-loop-arc.result.now ≡ of_job counts link.from =
-    read k counts link.from c.get-in-loop-arc.result c.index-in-loop-arc.result.now now.now.len job
-    c.get-in-loop-arc.ensures.value c.index-in-loop-arc.ensures in
+    read k counts link.from c.get-in-loop-arc.result c.index-in-loop-arc.result.now now.now.len
+    arc.job c.get-in-loop-arc.ensures.value c.index-in-loop-arc.ensures in
     let behind = arcs_between k.arcs link.before c.args.job in
     rw c.get-in-loop-arc.ensures.value
     (record {
-      within = link_within k c.requires.sound into.last.items into.links.items c.requires.arcs
-          c.args.job x link c.loop-arc-test.true now.within own c.index.ensures;
-      own = link_own k c.requires.sound into.last.items into.links.items c.requires.arcs c.args.job
-          x link c.loop-arc-test.true now.within own c.index.ensures;
+      within = arc.within;
+      own = arc.own;
       taken = now.taken;
       work = now.work;
-      now = open_moved k taken behind (set counts (link.from - 1) left) (free ++ link.from ∷ []) others
-          (open_freed k taken (arcs_between k.arcs x c.args.job) behind counts free link.from job
-          (link_count k c.requires.sound into.last.items into.links.items c.requires.arcs c.args.job
-          x link c.loop-arc-test.true now.within own c.index.ensures) now.now left
-          (ap (λ n. n - 1) at) c.if-left-eq0.true)
+      now = open_moved k taken behind (set counts (link.from - 1) left) (free ++ link.from ∷ [])
+          others
+          (open_freed k taken (arcs_between k.arcs c.loop-arc.arc c.args.job) behind counts free
+          link.from arc.job arc.count now.now left (ap (λ n. n - 1) at) c.if-left-eq0.true)
           (IsPermutation-trans (free ++ link.from ∷ []) (link.from ∷ free) others
           (IsPermutation-to_front free link.from) c.in_ok-add.ensures.jobs);
       kept = c.in_ok-add.ensures.kept c.loop-arc.self.work now.kept;
@@ -100,32 +95,27 @@ loop-arc-preserved-in_ok-add g c =
 pub loop-arc-preserved : goal.loop-arc-preserved
 loop-arc-preserved g c =
     let k : SchedulingTask = c.args.task.now in
-    let into = c.args.arcs.now in
-    let x : ℕ = c.loop-arc.arc in
     let link : Link = c.index.result.now in
     let now = c.loop-arc.invariant in
-    let own : (arc_of k.arcs x).1 ≡ c.args.job = now.own c.loop-arc-test.true in
-    let job : IsJob k link.from = link_job k c.requires.sound into.last.items into.links.items
-    c.requires.arcs c.args.job x link c.loop-arc-test.true now.within own c.index.ensures in
-    let taken : List ℕ = c.loop-arc.self.taken.items in
+    let arc : IsChained k c.args.job c.loop-arc.arc link =
+    link_chained k c.requires.sound c.args.arcs.now.last.items c.args.arcs.now.links.items
+    c.requires.arcs c.args.job c.loop-arc.arc link c.loop-arc-test.true now.within
+    (now.own c.loop-arc-test.true) c.index.ensures in
     let counts : List ℕ = c.loop-arc.self.counts.items in
-    let free : List ℕ = g.F.FreeJobs.jobs_of c.loop-arc.self.free in
     let left : ℕ = c.index-in-loop-arc.result.now - 1 in
     let at : c.index-in-loop-arc.result.now ≡ of_job counts link.from =
-    read k counts link.from c.get-in-loop-arc.result c.index-in-loop-arc.result.now now.now.len job
-    c.get-in-loop-arc.ensures.value c.index-in-loop-arc.ensures in
+    read k counts link.from c.get-in-loop-arc.result c.index-in-loop-arc.result.now now.now.len
+    arc.job c.get-in-loop-arc.ensures.value c.index-in-loop-arc.ensures in
     rw c.get-in-loop-arc.ensures.value
     (record {
-      within = link_within k c.requires.sound into.last.items into.links.items c.requires.arcs
-          c.args.job x link c.loop-arc-test.true now.within own c.index.ensures;
-      own = link_own k c.requires.sound into.last.items into.links.items c.requires.arcs c.args.job
-          x link c.loop-arc-test.true now.within own c.index.ensures;
+      within = arc.within;
+      own = arc.own;
       taken = now.taken;
       work = now.work;
-      now = open_held k taken (arcs_between k.arcs x c.args.job)
-          (arcs_between k.arcs link.before c.args.job) counts free link.from job
-          (link_count k c.requires.sound into.last.items into.links.items c.requires.arcs c.args.job
-          x link c.loop-arc-test.true now.within own c.index.ensures) now.now left
+      now = open_held k c.loop-arc.self.taken.items
+          (arcs_between k.arcs c.loop-arc.arc c.args.job)
+          (arcs_between k.arcs link.before c.args.job) counts
+          (g.F.FreeJobs.jobs_of c.loop-arc.self.free) link.from arc.job arc.count now.now left
           (ap (λ n. n - 1) at) c.if-left-eq0.false;
       kept = now.kept;
     })
