@@ -1,8 +1,12 @@
 -- A part of a run that reads: the text that it speaks of, and what it says of it.
-use Rattle.std.proofs.Common.{◌≡◌, ℕ, ◌+◌, ◌<◌, ◌≤◌, Bool, true, false, List, Option, None, Some, Result, Ok, Err, IfSome, length, ◌⊎◌, inl, inr, refl, sym, ap, ◌∙◌, arith, length-append}
+use Rattle.std.proofs.Common.{◌≡◌, ℕ, ◌+◌, ◌<◌, ◌≤◌, true, false, List, Option, None, Some, Result, Ok, Err, IfSome, length, ◌⊎◌, inl, inr, refl, sym, ap, ◌∙◌, arith, length-append}
 use Rattle.std.specs.Io.KnownBytes.{Consumes, IsAtEnd}
 use Rattle.std.proofs.KnownBytes.{Consumes-whole}
 use Rattle.tf_model.specs.Limit.{most_bytes}
+use Rattle.tf_model.specs.Prepare.{Prepares}
+use Rattle.tf_model.specs.SchedulingTask.{SchedulingTask}
+use Rattle.tf_model.specs.declared.prepare.Refusal.{Refusal}
+use Rattle.tf_model.specs.declared.prepare.Refusal.TheVariants as refusals
 use Rattle.tf_read.specs.declared.fault.ReadFault.{ReadFault}
 use Rattle.tf_read.specs.declared.fault.ReadFault.TheVariants as reads
 use Rattle.tf_read.specs.Faults as read
@@ -14,9 +18,9 @@ use Rattle.tf_text.specs.declared.input.InputFault.TheVariants as inputs
 use Rattle.tf_engine.specs.declared.fault.RunFault.TheVariants.{Device, OutOfMemory}
 use Rattle.tf_model.specs.Outcome.{◌>>=◌}
 use Rattle.tf_engine.specs.declared.fault.RunFault.{RunFault}
-use Rattle.tf_engine.specs.Faults.{Refused, ByText, Stop, Refuses, Fails, Wants, is_of_whole, stop_of}
-use Rattle.tf_engine.specs.Passed.{of_read, of_input}
-use Rattle.tf_engine.specs.Parts.{ReadsTo, StopsReading}
+use Rattle.tf_engine.specs.Faults.{Refused, ByText, ByTask, Stop, Refuses, Fails, Wants, is_of_whole, stop_of}
+use Rattle.tf_engine.specs.Passed.{of_read, of_input, of_refusal}
+use Rattle.tf_engine.specs.Parts.{ReadsTo, StopsBy, StopsReading}
 use Rattle.tf_engine.specs.Refusal.{refused_by}
 use Rattle.tf_engine.proofs.Unread.{text_for, long_text_for}
 
@@ -188,3 +192,53 @@ reads_on f says remaining old new e had = record {
     stopped (Refuses refused) h = ap (λ r. r >>= f) h
     stopped Fails h = h
     stopped Wants h = h
+
+-- what was read is made into what goes on
+pub reads_then : {X Y A T : Type 0} (f : X → Result Y Refused) (says : List ℕ → Result X Refused)
+    (remaining : T → Option (List ℕ)) (old new : Counted T) (x : X) (y : Y)
+    → ReadsTo {A = A} says remaining old new (Ok x) → f x ≡ Ok y
+    → ReadsTo {A = A} (λ text. says text >>= f) remaining old new (Ok y)
+reads_then f says remaining old new x y had h = record {
+  text = had.text;
+  is_all = had.is_all;
+  given = ap (λ r. r >>= f) had.given ∙ h;
+  unfailed = had.unfailed;
+  unhidden = tt;
+  wanting = tt;
+  ended = had.ended;
+  pulled = had.pulled;
+  counted = had.counted;
+}
+
+-- or is refused, where memory is not wanting
+pub reads_refused : {X Y A T : Type 0} (f : X → Result Y Refused)
+    (says : List ℕ → Result X Refused) (remaining : T → Option (List ℕ)) (old new : Counted T)
+    (x : X) (e : RunFault A)
+    → ReadsTo {A = A} says remaining old new (Ok x)
+    → StopsBy (λ refused. f x ≡ Err refused) (stop_of e)
+    → ReadsTo (λ text. says text >>= f) remaining old new (Err e)
+reads_refused f says remaining old new x e had h = record {
+  text = had.text;
+  is_all = had.is_all;
+  given = stopped (stop_of e) h;
+  unfailed = tt;
+  unhidden = λ r. had.unfailed;
+  wanting = λ r. inr had.unfailed;
+  ended = λ r. had.ended refl;
+  pulled = had.pulled;
+  counted = had.counted;
+}
+  where
+    stopped : (stop : Stop) → StopsBy (λ refused. f x ≡ Err refused) stop
+        → StopsReading (λ refused. (says had.text >>= f) ≡ Err refused) (has_failed new ≡ true) stop
+    stopped (Refuses refused) h = ap (λ r. r >>= f) had.given ∙ h
+    stopped Fails h = absurd h
+    stopped Wants h = tt
+
+-- why an instance is no task stops the run
+pub unprepared : (A : Type 0) (wanted : Result SchedulingTask Refusal) (refusal : Refusal)
+    → Prepares (Err refusal) wanted
+    → StopsBy (λ refused. refused_by ByTask wanted ≡ Err refused)
+    (stop_of (of_refusal {A = A} refusal))
+unprepared A wanted refusals.OutOfMemory h = tt
+unprepared A wanted _ h = ap (refused_by ByTask) h

@@ -1,7 +1,7 @@
 -- An accepted answer can be read back.
-use Rattle.std.proofs.Common.{◌≡◌, ℕ, ◌+◌, ◌-◌, ◌≤◌, ℤ, pos, negsuc, List, [], ◌∷◌, length, get_or, Bool, true, false, Result, Ok, Err, Some, None, Option, refl, ap, ◌∙◌, arith, sum_by, int_le, not, nat_lt, nat_le, ◌&&◌, cond}
+use Rattle.std.proofs.Common.{◌≡◌, ℕ, ◌+◌, ◌-◌, ◌≤◌, ℤ, pos, negsuc, List, [], ◌∷◌, length, get_or, Bool, true, false, Result, Ok, Err, Some, None, Option, refl, ap, ◌∙◌, arith, sum_by, int_le, not, nat_le}
 use Rattle.std.specs.List.{All, AllByRecursion}
-use Rattle.std.proofs.lemmas.Bool.{and_parts, false≢true, leb-true, ltb-true}
+use Rattle.std.proofs.lemmas.Bool.{and_parts, false≢true, leb-true}
 use Rattle.std.proofs.lemmas.Int.{ints}
 use Rattle.std.proofs.lemmas.List.{get_or_default}
 use Rattle.std.proofs.lemmas.List.FromFn.{length-range_with_len}
@@ -10,8 +10,7 @@ use Rattle.std.proofs.lemmas.List.Elements.{All-head, All-tail}
 use Rattle.tf_model.specs.Limit.{limit}
 use Rattle.tf_model.specs.Whole.{IsWithin}
 use Rattle.tf_model.specs.Bounds.{stands_in}
-use Rattle.tf_check.specs.declared.fault.BoundFault.TheVariants.{BadJob, BadMachine}
-use Rattle.tf_model.specs.Limit.{most_jobs, most_machines}
+use Rattle.tf_model.specs.Limit.{most_jobs}
 use Rattle.tf_model.specs.Timetable.{Timetable}
 use Rattle.tf_model.specs.SchedulingTask.{SchedulingTask, IsJob, all_jobs, time_of, time_on}
 use Rattle.tf_model.specs.Sound.{IsSound}
@@ -25,8 +24,7 @@ use Rattle.tf_schedule.specs.Drawing.{Draws, IsGoing}
 use Rattle.tf_schedule.specs.Amounts.{start_of}
 use Rattle.tf_schedule.proofs.Times.{time_lt}
 use Rattle.tf_check.specs.Claim.{Claim, ByPairs, ByLastOf, ByWindow, BySplit, ByLoad, ByMachine, ByOneJob, ByRanks}
-use Rattle.tf_check.specs.Kinds.{takes_one_job, takes_last_of, takes_window, takes_split, takes_machine, takes_ranks}
-use Rattle.tf_check.specs.Bound.{bound_by, other_kind, job_fault, machine_fault, list_fault, side_fault, delta_fault, is_job, reaches_delta}
+use Rattle.tf_check.specs.Bound.{bound_by, list_fault, reaches_delta}
 use Rattle.tf_check.specs.Accepted.{IsAccepted}
 use Rattle.tf_check.specs.Laws.{list_fault_says, delta_fault_says, last_of_says, window_says, split_says, machine_says, one_job_says, ranks_says}
 use Rattle.tf_check.proofs.JobLists.{jobs_in_task}

@@ -1,6 +1,5 @@
 -- Why a run gives no answer, as definitions see it.
 use Rattle.std.specs.Prelude.{ℕ, List, Bool, true, false, not, ◌&&◌, Result, Ok, Err}
-use Rattle.tf_notation.specs.declared.reading.NotationFault.{NotationFault}
 use Rattle.tf_model.specs.declared.prepare.Refusal.{Refusal}
 use Rattle.tf_read.specs.declared.fault.ReadFault.{ReadFault}
 use Rattle.tf_read.specs.declared.fault.ReadFault.TheVariants as reads

@@ -36,9 +36,43 @@ pub(crate) fn table_task_read<A: Allocator + Copy, R: Read>(
     Ok(prepare(alloc, &instance, problem, machines)?)
 }
 
+/// The task of a problem and of the instance of this number of a weighted tardiness file that the
+/// reader's text is, where the caller gives this number of machines or none.
+pub(crate) fn wt_task_read<A: Allocator + Copy, R: Read>(
+    alloc: A,
+    problem: &Problem,
+    machines: Option<u32>,
+    jobs: u32,
+    index: u32,
+    reader: &mut Counted<R>,
+) -> Result<Task<A>, RunFault<A>>
+    ensures { ReadsTo (task_said (InWt jobs index) problem.now machines) R.remaining reader.old
+        reader.new result }
+{
+    let numbers = wt_read(alloc, jobs, index, reader)?;
+    Ok(numbers.into_task(alloc, problem, machines)?)
+}
+
+/// The task of a problem and of the instance of this name of a flow shop file that the reader's text
+/// is, for a pair of machines, where the caller gives this number of machines or none.
+pub(crate) fn flow_task_read<A: Allocator + Copy, R: Read>(
+    alloc: A,
+    problem: &Problem,
+    machines: Option<u32>,
+    name: &[u8],
+    pair: Option<(u32, u32)>,
+    reader: &mut Counted<R>,
+) -> Result<Task<A>, RunFault<A>>
+    ensures { ReadsTo (task_said (InFlow name.now pair) problem.now machines) R.remaining reader.old
+        reader.new result }
+{
+    let numbers = flow_read(alloc, name, pair, reader)?;
+    Ok(numbers.into_task(alloc, problem, machines)?)
+}
+
 /// The numbers of the instance of this number of a weighted tardiness file that the reader's text
 /// is.
-pub(crate) fn wt_read<A: Allocator + Copy, R: Read>(
+fn wt_read<A: Allocator + Copy, R: Read>(
     alloc: A,
     jobs: u32,
     index: u32,
@@ -53,7 +87,7 @@ pub(crate) fn wt_read<A: Allocator + Copy, R: Read>(
 
 /// The numbers of the instance of this name of a flow shop file that the reader's text is, for a
 /// pair of machines.
-pub(crate) fn flow_read<A: Allocator + Copy, R: Read>(
+fn flow_read<A: Allocator + Copy, R: Read>(
     alloc: A,
     name: &[u8],
     pair: Option<(u32, u32)>,

@@ -4,7 +4,7 @@ ghost use Rattle.tf_engine.specs.Refusal.{problem_for, task_in};
 ghost use Rattle.tf_engine.specs.Parts.{GivesProblem, ReadsTo};
 
 use crate::fault::RunFault;
-use crate::form_read::{flow_read, table_task_read, wt_read};
+use crate::form_read::{flow_task_read, table_task_read, wt_task_read};
 use crate::request::{Form, Request};
 use std::alloc::Allocator;
 use std::io::Read;
@@ -35,15 +35,13 @@ pub fn task_read<A: Allocator + Copy, B: Allocator, R: Read>(
 ) -> Result<Task<A>, RunFault<A>>
     ensures { ReadsTo (task_in request.now problem.now) R.remaining reader.old reader.new result }
 {
+    let machines = request.machines;
     match &request.form {
-        Form::Table => table_task_read(alloc, problem, request.machines, reader),
-        Form::Wt { jobs, index } => {
-            let numbers = wt_read(alloc, *jobs, *index, reader)?;
-            Ok(numbers.into_task(alloc, problem, request.machines)?)
-        }
+        Form::Table => table_task_read(alloc, problem, machines, reader),
+        Form::Wt { jobs, index } => wt_task_read(alloc, problem, machines, *jobs, *index, reader),
         Form::Flow { name, pair } => {
-            let numbers = flow_read(alloc, name.as_str().as_bytes(), *pair, reader)?;
-            Ok(numbers.into_task(alloc, problem, request.machines)?)
+            let name = name.as_str().as_bytes();
+            flow_task_read(alloc, problem, machines, name, *pair, reader)
         }
     }
 }

@@ -4,9 +4,10 @@ use Rattle.std.proofs.KnownBytes.{Keeps-refl}
 use Rattle.tf_model.specs.SchedulingTask.{SchedulingTask}
 use Rattle.tf_model.specs.declared.problem.Problem.{Problem}
 use Rattle.tf_text.specs.declared.counted.Counted.{Counted}
-use Rattle.tf_text.specs.Counted.{has_failed, DeviceUse, use_of, unused}
+use Rattle.tf_text.specs.Counted.{has_failed, AppendsPrefix, DeviceUse, use_of, unused}
 use Rattle.tf_text.specs.Input.{IsTextOf}
 use Rattle.tf_engine.specs.declared.fault.RunFault.{RunFault}
+use Rattle.tf_engine.specs.declared.fault.RunFault.TheVariants.{Device}
 use Rattle.tf_engine.specs.declared.solve.SolveFault.{SolveFault}
 use Rattle.tf_engine.specs.declared.solve.SolveFault.TheVariants as solves
 use Rattle.tf_engine.specs.RequestData.{RequestData}
@@ -19,7 +20,9 @@ use Rattle.tf_engine.specs.Solvers.{IsNotSolved}
 use Rattle.tf_engine.specs.Checking.{HasReaderFailed}
 use Rattle.tf_engine.proofs.Unread.{text_for, refused_task, meant_by, reading_stops}
 use Rattle.tf_evaluate.specs.declared.evaluation.Detail.{Detail}
-use Rattle.tf_evaluate.specs.RunEvaluating.{SaysEvaluation, IsRefusedEvaluation, IsEvaluationOf}
+use Rattle.tf_evaluate.specs.EvaluationData.{EvaluationData}
+use Rattle.tf_evaluate.specs.EvaluationText.{evaluation_text}
+use Rattle.tf_evaluate.specs.RunEvaluating.{SaysEvaluation, IsEvaluated, IsRefusedEvaluation, IsEvaluationOf}
 
 -- nothing was written where the answer says no sheet
 unsaid : (detail : Detail) (request : RequestData) (text : List ℕ) (task : SchedulingTask)
@@ -136,3 +139,20 @@ module _ (A : Type 0) (detail : Detail) (request : RequestData) (held : Option (
         is_whole_answer = is_answer;
         outcome = tt;
       }
+
+-- where the writer failed, a prefix of the evaluation was written
+pub evaluation_cut : (A : Type 0) (detail : Detail) (request : RequestData)
+    (instance answer writer : DeviceUse) (text said out : List ℕ) (e : EvaluationData)
+    → IsTextOf instance.before text → IsTextOf answer.before said
+    → IsEvaluated detail request text said e → out ≡ evaluation_text e → writer.failed ≡ true
+    → AppendsPrefix writer.before writer.after out
+    → IsEvaluationOf {A = A} detail request instance answer writer (Err Device)
+evaluation_cut A detail request instance answer writer text said out e is is_answer evaluated same
+    failed prefix =
+    record {
+      text = text;
+      is_all = is;
+      answer_text = said;
+      is_whole_answer = is_answer;
+      outcome = inr (failed, (out, (e, evaluated, same), prefix));
+    }

@@ -2,6 +2,7 @@ pub mod Classes
 pub mod Complete
 pub mod Summed
 pub mod TaskBuilder
+pub mod JobRows
 pub mod OfClass
 pub mod Outcomes
 pub mod Sums

@@ -182,6 +182,18 @@ price_rises Total k j c e steps le =
     let less : (job_data k j).weight * c ≤ (job_data k j).weight * e =
     mul-le-mul_left (job_data k j).weight le in omega (arith, ints)
 
+-- ---- times
+
+-- where nothing is refused, each job has as many times as the class wants
+pub times_right : (class : Class) (jobs : List JobFields) → jobs_refusal class jobs ≡ None
+    → All (λ job. has_wrong_times class job ≡ false) jobs
+times_right class jobs refusal =
+    let parts = none_of_two (option_map WrongTimes (first_with (has_wrong_times class) jobs))
+    (option_or (missing_from class 1 jobs)
+    (option_or (zero_time class jobs)
+    (then_some (is_too_large class (map (data_of class) jobs)) TotalTooLarge))) refusal in
+    none_at (has_wrong_times class) jobs (none_mapped _ _ (none_mapped _ _ parts.0))
+
 -- ---- the task
 
 module _ (class : Class) (m : ℕ) (i : InstanceData) (instance : IsInstance i)
@@ -238,12 +250,7 @@ module _ (class : Class) (m : ℕ) (i : InstanceData) (instance : IsInstance i)
       )
 
   right_times : All (λ job. has_wrong_times class job ≡ false) i.jobs
-  right_times =
-      let parts = none_of_two (option_map WrongTimes (first_with (has_wrong_times class) i.jobs))
-      (option_or (missing_from class 1 i.jobs)
-      (option_or (zero_time class i.jobs)
-      (then_some (is_too_large class (map (data_of class) i.jobs)) TotalTooLarge))) refusal in
-      none_at (has_wrong_times class) i.jobs (none_mapped _ _ (none_mapped _ _ parts.0))
+  right_times = times_right class i.jobs refusal
 
   enough : (zero_time class i.jobs ≡ None)
       × (is_too_large class (map (data_of class) i.jobs) ≡ false)

@@ -1,14 +1,26 @@
 -- A task that grows job by job, and at its end.
-use Rattle.std.proofs.Common.{◌≡◌, ℕ, false, Option, None, Ok, List, [], ◌∷◌, ◌++◌, append_assoc, map, length, sym, ap, ◌∙◌, refl, subst, All}
+use Rattle.std.specs.Prelude.{IfOk, is_ok, is_some, not, ◌&&◌, ◌||◌, if◌then◌else◌}
+use Rattle.std.proofs.Common.{◌≡◌, ℕ, zero, suc, Bool, true, false, Option, None, Some, Result, Ok, Err, List, [], ◌∷◌, ◌++◌, append_assoc, map, length, sym, ap, ◌∙◌, refl, subst, arith, All}
 use Rattle.std.specs.Bool.{then_some}
-use Rattle.std.proofs.lemmas.List.{append-nil, length-map}
+use Rattle.std.specs.List.{list_all}
+use Rattle.std.specs.Result.{result_ok}
+use Rattle.std.proofs.lemmas.Bool.{cond-false, cond-true}
+use Rattle.std.proofs.lemmas.List.Elements.{All-append}
+use Rattle.std.proofs.lemmas.List.Folds.{list_all-append}
+use Rattle.std.proofs.lemmas.List.{append-nil, length-map, map-append}
 use Rattle.tf_model.specs.StepFaults.{IsStepCost}
 use Rattle.tf_model.specs.InstanceData.{InstanceData, IsInstance}
 use Rattle.tf_model.specs.JobFields.{JobFields}
+use Rattle.tf_model.specs.JobRows.{rows_of}
 use Rattle.tf_model.specs.SchedulingTask.{JobData, SchedulingTask}
 use Rattle.tf_model.specs.Sound.{IsSound}
 use Rattle.tf_model.specs.Summed.{HasSummed}
-use Rattle.tf_model.specs.Prepare.{data_of, is_too_large, is_too_many, jobs_refusal, kept_arcs, kept_costs, prepared, task_of}
+use Rattle.tf_model.specs.ClassTable.{is_costed, is_shop}
+use Rattle.tf_model.specs.Complete.{is_complete}
+use Rattle.tf_model.specs.Prepare.{data_of, has_wrong_times, has_zero_time, lacking, is_too_large, is_too_many, jobs_refusal, kept_arcs, kept_costs, prepared, steps_of, task_of}
+use Rattle.tf_model.specs.Steps.{Steps}
+use Rattle.tf_model.specs.declared.class.Class.{Class}
+use Rattle.tf_model.specs.declared.job_totals.JobTotals.{JobTotals}
 use Rattle.tf_model.specs.TaskBuilder.{HasTaken, Takes}
 use Rattle.tf_model.specs.declared.prepare.Refusal.TheVariants.{TotalTooLarge}
 use Rattle.tf_model.specs.declared.problem.Problem.{Problem}
@@ -29,6 +41,71 @@ takes_next old new next jobs job first second = λ problem argument count before
     subst (HasTaken problem argument count next) (append_assoc before jobs (job ∷ []))
     (second problem argument count _ (first problem argument count before had))
 
+-- ---- what one job more makes of what was taken
+
+-- what a call that gave something says
+pub ok_holds : {X E P : Type 0} (r : Result X E) (x : X) → Some x ≡ result_ok r
+    → IfOk r (λ _. P) → P
+ok_holds (Ok y) x e h = h
+ok_holds (Err f) x e h = cc
+
+-- and what it made
+pub ok_made : {X E A : Type 0} (r : Result X E) (x : X) (made new old : A) → Some x ≡ result_ok r
+    → made ≡ (if is_ok r then new else old) → made ≡ new
+ok_made (Ok y) x made new old e h = h
+ok_made (Err f) x made new old e h = cc
+
+pub complete_more : (class : Class) (before : List JobFields) (job : JobFields) (r : Bool)
+    → list_all (is_complete class) before ≡ true → r ≡ true → r ≡ is_complete class job
+    → list_all (is_complete class) (before ++ job ∷ []) ≡ true
+complete_more class before job r all passed is =
+    list_all-append (is_complete class) before (job ∷ []) ∙ rw (all, sym is ∙ passed) refl
+
+-- a complete job has as many times as the class wants
+pub right_times : (class : Class) (job : JobFields) (r : Bool) → r ≡ true
+    → r ≡ is_complete class job → has_wrong_times class job ≡ false
+right_times class job r passed is = by (has_wrong_times class job) (sym is ∙ passed)
+  where
+    by : (wrong : Bool) → (not wrong && (not (is_some (lacking class job))
+        && (is_shop class || not (has_zero_time job)))) ≡ true → wrong ≡ false
+    by true e = cc
+    by false e = refl
+
+pub summed_more : (class : Class) (totals : JobTotals) (before : List JobFields) (job : JobFields)
+    (row : JobData) → row ≡ data_of class job
+    → HasSummed totals (map (data_of class) before ++ row ∷ [])
+    → HasSummed totals (map (data_of class) (before ++ job ∷ []))
+summed_more class totals before job row is =
+    subst (HasSummed totals) (ap (λ d. map (data_of class) before ++ d ∷ []) is
+    ∙ sym (map-append (data_of class) before (job ∷ [])))
+
+pub costs_more : (class : Class) (before : List JobFields) (job : JobFields) (old new : List Steps)
+    (cost : Steps) → is_costed class ≡ true → old ≡ kept_costs class before → new ≡ old ++ cost ∷ []
+    → cost ≡ steps_of job → new ≡ kept_costs class (before ++ job ∷ [])
+costs_more class before job old new cost costed had pushed is =
+    pushed
+    ∙ ap (λ xs. xs ++ cost ∷ []) (had ∙ cond-true (is_costed class) (map steps_of before) [] costed)
+    ∙ ap (λ x. map steps_of before ++ x ∷ []) is
+    ∙ sym (map-append steps_of before (job ∷ []))
+    ∙ sym (cond-true (is_costed class) (map steps_of (before ++ job ∷ [])) [] costed)
+
+pub costs_stay : (class : Class) (before : List JobFields) (job : JobFields) (old : List Steps)
+    → is_costed class ≡ false → old ≡ kept_costs class before
+    → old ≡ kept_costs class (before ++ job ∷ [])
+costs_stay class before job old plain had =
+    had ∙ cond-false (is_costed class) (map steps_of before) [] plain
+    ∙ sym (cond-false (is_costed class) (map steps_of (before ++ job ∷ [])) [] plain)
+
+one_sound : (cost : Steps) → IsStepCost cost → All IsStepCost (cost ∷ [])
+one_sound cost h zero d lt = h
+one_sound cost h (suc k) d lt = absurd (omega (arith, lt))
+
+pub sound_more : (old new : List Steps) (cost : Steps) → All IsStepCost old → IsStepCost cost
+    → new ≡ old ++ cost ∷ [] → All IsStepCost new
+sound_more old new cost had sound pushed =
+    subst (All IsStepCost) (sym pushed)
+    (All-append IsStepCost old (cost ∷ []) had (one_sound cost sound))
+
 module _ {A : Type 0} (builder : TaskBuilder A) (kept given : List (ℕ × ℕ)) (problem : Problem)
     (argument : Option ℕ) (i : InstanceData)
     (had : HasTaken problem argument i.machines builder i.jobs)
@@ -39,7 +116,7 @@ module _ {A : Type 0} (builder : TaskBuilder A) (kept given : List (ℕ × ℕ))
   task = record {
     class = builder.class;
     machines = builder.machines;
-    jobs = builder.rows.items;
+    jobs = rows_of builder.rows;
     costs = builder.costs.items;
     arcs = kept;
   }
@@ -49,12 +126,11 @@ module _ {A : Type 0} (builder : TaskBuilder A) (kept given : List (ℕ × ℕ))
   none_refused =
       complete_refusal builder.class i.jobs had.complete
       ∙ ap (λ b. then_some b TotalTooLarge)
-      (sym (small (map (data_of builder.class) i.jobs)
-      (subst (HasSummed builder.totals) had.rows had.summed)))
+      (sym (small (map (data_of builder.class) i.jobs) had.summed))
 
   -- its parts are those of the task
   parts_are : task ≡ task_of builder.class builder.machines i
-  parts_are = rw (had.rows, had.costs, arcs, same) refl
+  parts_are = rw (had.rows.rows_are, had.costs, arcs, same) refl
 
   -- so it is sound
   pub built_sound : IsInstance i → IsSound task
@@ -70,7 +146,7 @@ module _ {A : Type 0} (builder : TaskBuilder A) (kept given : List (ℕ × ℕ))
       → prepared i problem argument ≡ Ok task
   built_prepared few =
       let count : builder.totals.jobs ≡ length i.jobs =
-      had.summed.count ∙ ap length had.rows ∙ length-map i.jobs (data_of builder.class) in
+      had.summed.count ∙ length-map i.jobs (data_of builder.class) in
       let enough : is_too_many builder.class (length i.jobs) ≡ false =
       ap (is_too_many builder.class) (sym count) ∙ few in
       rw (had.class_is, enough, had.machines_are, none_refused) (ap Ok (sym parts_are))

@@ -1,22 +1,11 @@
 -- The running totals of the jobs' times, on all machines and on one of a shop's.
-use Rattle.std.proofs.Common.{◌≡◌, ℕ, zero, suc, ◌+◌, ◌-◌, ◌≤◌, ◌<◌, List, length, slice_index_or, sym, ap, ◌∙◌, arith, sum_by, add_comm}
+use Rattle.std.proofs.Common.{◌≡◌, ℕ, zero, suc, ◌+◌, ◌-◌, ◌≤◌, length, ap, arith, sum_by, add_comm}
 use Rattle.std.specs.List.{range_with_len}
-use Rattle.std.proofs.lemmas.List.{get_or_read}
 use Rattle.tf_model.specs.Limit.{limit}
-use Rattle.tf_model.specs.SchedulingTask.{SchedulingTask, JobData, no_job, time_of, time_on}
+use Rattle.tf_model.specs.SchedulingTask.{SchedulingTask, time_of, time_on}
 use Rattle.tf_model.specs.Sound.{IsSound}
 use Rattle.tf_model.proofs.Sums.{sum_by_le_all}
 use Rattle.tf_model.proofs.Ranges.{sum_by-range_more, sum_by-range_le}
-
--- the item at i is job i + 1
-pub item_time : (k : SchedulingTask) (items : List JobData) (i : ℕ) (item : JobData)
-    → items ≡ k.jobs → i < length items → item ≡ slice_index_or items i item
-    → item.first + item.second ≡ time_of k (i + 1)
-item_time k items i item all lt is =
-    let at : (i + 1) - 1 ≡ i = omega arith in
-    ap (λ (d : JobData). d.first + d.second)
-    (get_or_read items i item lt is no_job ∙ ap (λ z. slice_index_or z i no_job) all
-    ∙ ap (λ n. slice_index_or k.jobs n no_job) (sym at))
 
 -- with the time of the next job
 pub total_more : (k : SchedulingTask) (total n time : ℕ)

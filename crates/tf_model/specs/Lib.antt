@@ -22,4 +22,5 @@ pub mod CountFor
 pub mod Distinct
 pub mod Complete
 pub mod Summed
+pub mod JobRows
 pub mod TaskBuilder

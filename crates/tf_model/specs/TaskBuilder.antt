@@ -3,6 +3,7 @@ use Rattle.std.specs.Prelude.{◌≡◌, ℕ, true, List, ◌++◌, map, Option,
 use Rattle.std.specs.List.{All, list_all}
 use Rattle.tf_model.specs.StepFaults.{IsStepCost}
 use Rattle.tf_model.specs.JobFields.{JobFields}
+use Rattle.tf_model.specs.JobRows.{HasRows}
 use Rattle.tf_model.specs.InstanceData.{InstanceData, IsInstance}
 use Rattle.tf_model.specs.ClassTable.{class_of}
 use Rattle.tf_model.specs.Prepare.{data_of, kept_costs, machines_for}
@@ -17,8 +18,8 @@ pub record HasTaken {A : Type 0} (problem : Problem) (argument count : Option �
   pub class_is : class_of problem ≡ Some builder.class
   pub machines_are : machines_for builder.class problem.count argument count ≡ Ok builder.machines
   pub complete : list_all (is_complete builder.class) jobs ≡ true
-  pub rows : builder.rows.items ≡ map (data_of builder.class) jobs
-  pub summed : HasSummed builder.totals builder.rows.items
+  pub rows : HasRows builder.class builder.rows jobs
+  pub summed : HasSummed builder.totals (map (data_of builder.class) jobs)
   pub costs : builder.costs.items ≡ kept_costs builder.class jobs
   pub sound : All IsStepCost builder.costs.items
 

@@ -3,8 +3,8 @@ ghost use Rattle.std.specs.Prelude.{◌≤◌, ◌*◌, ◌^◌};
 ghost use Rattle.tf_model.specs.Limit.{most_jobs};
 
 use crate::class::Class;
+use crate::job_rows::JobRow;
 use crate::limit::LIMIT;
-use crate::task::JobRow;
 
 /// How many jobs there are so far, their time, their weight and their last release date.
 #[derive(Clone, Copy)]

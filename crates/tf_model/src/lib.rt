@@ -7,6 +7,7 @@ pub mod ids;
 pub mod instance;
 pub mod job;
 pub mod job_list;
+pub mod job_rows;
 mod job_totals;
 pub mod limit;
 pub mod memory;

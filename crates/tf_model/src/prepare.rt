@@ -1,5 +1,5 @@
 //! From an instance and a problem to a task, or to the one refusal.
-ghost use Rattle.std.specs.Prelude.{◌≡◌, ℕ, ◌+◌, ◌<◌, ◌≤◌, ◌^◌, ◌*◌, Ok, Err, Option, None, Some, length, map, take, position, MatchResult, IfOk, IfErr, All};
+ghost use Rattle.std.specs.Prelude.{◌≡◌, ℕ, false, ◌+◌, ◌<◌, ◌≤◌, ◌^◌, ◌*◌, Ok, Err, Option, None, Some, length, map, take, position, MatchResult, IfOk, IfErr, All};
 ghost use Rattle.std.specs.Bool.{then_some};
 ghost use Rattle.std.specs.Option.{option_map, ForSome};
 ghost use Rattle.std.specs.List.{list_all};
@@ -8,6 +8,7 @@ ghost use Rattle.tf_model.specs.StepFaults.{IsStepCost};
 ghost use Rattle.tf_model.specs.InstanceData.{IsInstance, first_with};
 ghost use Rattle.tf_model.specs.SchedulingTask.{SchedulingTask};
 ghost use Rattle.tf_model.specs.ClassTable.{is_shop, is_single, is_weighted, is_released, is_due, is_costed, is_ordered, is_sum};
+ghost use Rattle.tf_model.specs.JobRows.{HasRows};
 ghost use Rattle.tf_model.specs.Prepare.{is_too_many, machines_for, agreed, given, count_for, has_wrong_times, lacking, missing_from, has_zero_time, zero_time, data_of, steps_of, kept_costs, kept_arcs, task_of, is_too_large, jobs_refusal, prepared, Prepares};
 ghost use Rattle.tf_model.specs.Complete.{is_complete};
 ghost use Rattle.tf_model.specs.Summed.{HasSummed};
@@ -19,10 +20,11 @@ use crate::cost::StepCost;
 use crate::ids::JobId;
 use crate::instance::{Instance, numbered};
 use crate::job::{Job, Times};
+use crate::job_rows::{JobRow, JobRows};
 use crate::job_totals::JobTotals;
 use crate::limit::{MOST_COSTED_JOBS, MOST_JOBS, MOST_MACHINES};
 use crate::problem::Problem;
-use crate::task::{JobRow, Task};
+use crate::task::Task;
 use std::alloc::{AllocError, AllocFailed, Allocator};
 use thiserror::Error;
 
@@ -318,10 +320,11 @@ fn rows_of<A: Allocator, B: Allocator>(
     alloc: A,
     class: Class,
     jobs: &[Job<B>],
-) -> Result<Vec<JobRow, A>, AllocError>
-    ensures { IfOk result (λ rows. rows.items ≡ map (data_of class) jobs.now) }
+) -> Result<JobRows<A>, AllocError>
+    requires { All (λ job. has_wrong_times class job ≡ false) jobs.now }
+    ensures { IfOk result (λ rows. HasRows class rows jobs.now) }
 {
-    let mut rows = Vec::with_capacity(alloc, jobs.len())?;
+    let mut rows = JobRows::new(alloc, class, jobs.len())?;
     for job in jobs {
         rows.push(row_of(class, job))?;
     }

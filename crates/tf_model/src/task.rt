@@ -6,60 +6,9 @@ use crate::class::Class;
 use crate::cost::StepCost;
 use crate::ids::{JobId, MachineId};
 use crate::job::Times;
+use crate::job_rows::{JobRow, JobRows};
 use std::alloc::{Allocator, Global};
 use std::marker::Model;
-
-/// What a task knows of one job. What the class does not use is neutral: second time 0, weight 1,
-/// release date 0, due date 0.
-#[derive(Clone, Copy, Debug)]
-pub struct JobRow {
-    /// Its time, in time steps; in a shop its time on machine 1.
-    pub first: u64,
-    /// In a shop its time on machine 2.
-    pub second: u64,
-    /// How much each time step of its completion costs in a weighted sum.
-    pub weight: u64,
-    /// The time before which it does not start.
-    pub release: u64,
-    /// The time from which its lateness is counted.
-    pub due: i64,
-}
-
-impl JobRow {
-    ghost use Rattle.std.specs.Prelude.{◌≡◌, ◌+◌, ◌<◌, ◌^◌};
-
-    /// Its time on all machines together.
-    pub fn time(&self) -> u64
-        requires { self.now.first + self.now.second < 2 ^ 64 }
-        ensures { result ≡ self.now.first + self.now.second }
-    {
-        self.first + self.second
-    }
-}
-
-impl Model for JobRow {
-    ghost use Rattle.tf_model.specs.SchedulingTask.{JobData};
-
-    ghost Value = { JobData };
-
-    ghost view = { λ j.
-        record {
-          first = j.first;
-          second = j.second;
-          weight = j.weight;
-          release = j.release;
-          due = j.due;
-        } };
-
-    ghost inverse = { λ d.
-        record {
-          first = d.first;
-          second = d.second;
-          weight = d.weight;
-          release = d.release;
-          due = d.due;
-        } };
-}
 
 fn as_signed(time: u64) -> i64
     requires { time ≤ limit }
@@ -74,12 +23,13 @@ fn as_signed(time: u64) -> i64
 pub struct Task<A: Allocator = Global> {
     class: Class,
     machines: u32,
-    jobs: Vec<JobRow, A>,
+    jobs: JobRows<A>,
     costs: Vec<StepCost<A>, A>,
     arcs: Vec<(JobId, JobId), A>,
 }
 
 impl<A: Allocator> Model for Task<A> {
+    ghost use Rattle.tf_model.specs.JobRows.{rows_of};
     ghost use Rattle.tf_model.specs.SchedulingTask.{SchedulingTask};
     ghost use Rattle.tf_model.specs.Sound.{IsSound};
 
@@ -89,7 +39,7 @@ impl<A: Allocator> Model for Task<A> {
         record {
           class = t.class;
           machines = t.machines;
-          jobs = t.jobs.items;
+          jobs = rows_of t.jobs;
           costs = t.costs.items;
           arcs = t.arcs.items;
         } };
@@ -98,15 +48,16 @@ impl<A: Allocator> Model for Task<A> {
         (record {
           class = t.class;
           machines = t.machines;
-          jobs = t.jobs.items;
+          jobs = rows_of t.jobs;
           costs = t.costs.items;
           arcs = t.arcs.items;
         }) };
 }
 
 impl<A: Allocator> Task<A> {
-    ghost use Rattle.std.specs.Prelude.{◌≡◌, ◌-◌, ◌≤◌, length, pos, IsTrue, IsFalse};
+    ghost use Rattle.std.specs.Prelude.{◌≡◌, ◌+◌, ◌-◌, ◌≤◌, length, pos, IsTrue, IsFalse};
     ghost use Rattle.std.specs.List.{sum_by};
+    ghost use Rattle.tf_model.specs.JobRows.{rows_of};
     ghost use Rattle.tf_model.specs.SchedulingTask.{IsJob, all_jobs, job_data, time_of, time_on};
     ghost use Rattle.tf_model.specs.ClassTable.{is_costed, is_due, is_released, is_shop, is_sum};
     ghost use Rattle.tf_model.specs.Sound.{IsSound};
@@ -116,7 +67,7 @@ impl<A: Allocator> Task<A> {
     pub(crate) fn new(
         class: Class,
         machines: u32,
-        jobs: Vec<JobRow, A>,
+        jobs: JobRows<A>,
         costs: Vec<StepCost<A>, A>,
         arcs: Vec<(JobId, JobId), A>,
     ) -> Self
@@ -124,7 +75,7 @@ impl<A: Allocator> Task<A> {
             (record {
               class = class;
               machines = machines;
-              jobs = jobs.items;
+              jobs = rows_of jobs;
               costs = costs.items;
               arcs = arcs.items;
             }) }
@@ -132,7 +83,7 @@ impl<A: Allocator> Task<A> {
             ≡ record {
               class = class;
               machines = machines;
-              jobs = jobs.items;
+              jobs = rows_of jobs;
               costs = costs.items;
               arcs = arcs.items;
             } }
@@ -170,20 +121,13 @@ impl<A: Allocator> Task<A> {
         self.machines
     }
 
-    /// What is known of each job, in the order of their numbers.
-    pub fn jobs(&self) -> &[JobRow]
-        ensures value { result.now ≡ self.now.jobs }
-        ensures sound { IsSound self.now }
-    {
-        self.jobs.as_slice()
-    }
-
     /// What is known of a job that is there.
     pub fn job(&self, job: JobId) -> JobRow
         requires { IsJob self.now job }
-        ensures { result ≡ job_data self.now job }
+        ensures value { result ≡ job_data self.now job }
+        ensures small { result.first + result.second ≤ limit }
     {
-        self.jobs[job.get() as usize - 1]
+        self.jobs.row(job.get() as usize - 1)
     }
 
     /// The times of a job that is there: one for each machine of a shop, else one.
@@ -236,7 +180,7 @@ impl<A: Allocator> Task<A> {
         ensures value { result ≡ time_of self.now job }
         ensures small { result ≤ limit }
     {
-        self.jobs[job.get() as usize - 1].time()
+        self.job(job).time()
     }
 
     /// The time of a job that is there on a machine of a shop, which are 1 and 2.
@@ -271,8 +215,8 @@ impl<A: Allocator> Task<A> {
         ensures sound { IsSound self.now }
     {
         let mut total: u64 = 0;
-        for job in self.jobs() {
-            total += job.time();
+        for k in 0..self.len() {
+            total += self.time(JobId::at(k));
         }
         total
     }

@@ -10,11 +10,12 @@ use crate::class::{Class, class_of};
 use crate::cost::StepCost;
 use crate::ids::JobId;
 use crate::job::Job;
+use crate::job_rows::JobRows;
 use crate::job_totals::JobTotals;
 use crate::limit::{MOST_COSTED_JOBS, MOST_JOBS};
 use crate::prepare::{is_complete, is_too_many, machines_for, row_of};
 use crate::problem::Problem;
-use crate::task::{JobRow, Task};
+use crate::task::Task;
 use std::alloc::{Allocator, Global};
 
 /// A task that grows job by job and keeps of each only what its class uses. Nothing of it is
@@ -25,7 +26,7 @@ pub struct TaskBuilder<A: Allocator = Global> {
     class: Class,
     machines: u32,
     totals: JobTotals,
-    rows: Vec<JobRow, A>,
+    rows: JobRows<A>,
     costs: Vec<StepCost<A>, A>,
 }
 
@@ -77,7 +78,7 @@ impl<A: Allocator + Copy> TaskBuilder<A> {
             class,
             machines,
             totals: JobTotals::new(),
-            rows: Vec::with_capacity(alloc, room).ok()?,
+            rows: JobRows::new(alloc, class, room).ok()?,
             costs: Vec::with_capacity(alloc, costs).ok()?,
         })
     }

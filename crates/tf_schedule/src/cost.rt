@@ -175,12 +175,11 @@ fn with_block<A: Allocator>(
         ≡ total_to task.now (known_pieces task.now pieces.now)
         (min (length task.now.jobs) (first + length stops.now)) }
 {
-    let jobs = task.jobs();
-    let end = jobs.len().min(first + stops.len());
+    let end = task.len().min(first + stops.len());
     let mut sum: u128 = total;
     for i in first..end {
-        let job = jobs[i];
-        sum += u128::from(job.weight) * u128::from(stops[i - first]);
+        let weight = task.weight(JobId::at(i));
+        sum += u128::from(weight) * u128::from(stops[i - first]);
     }
     sum
 }

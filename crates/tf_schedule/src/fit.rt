@@ -24,7 +24,7 @@ use std::alloc::{AllocError, Allocator};
 use tf_model::class::Class;
 use tf_model::ids::{JobId, MachineId};
 use tf_model::limit::MOST_JOBS;
-use tf_model::task::{JobRow, Task};
+use tf_model::task::Task;
 use thiserror::Error;
 
 /// Why a schedule does not fit a task, in the order in which it is judged: each kind over all jobs
@@ -107,16 +107,16 @@ fn judge_plain<A: Allocator, B: Allocator>(
     ensures { MatchResult result (λ _. Fits task.now (drawing task.now.machines pieces.now))
         (HasFirstMisfit task.now pieces.now) }
 {
-    let jobs = task.jobs();
-    let list = extents(alloc, jobs.len(), pieces)?;
+    let class = task.class();
+    let list = extents(alloc, task.len(), pieces)?;
     let extents = list.as_slice();
-    if let Some(job) = first_wrong_amount(jobs, extents) {
+    if let Some(job) = first_wrong_amount(task, extents) {
         return Err(Misfit::WrongAmount(job));
     }
-    if let Some(job) = first_broken(task.class(), extents) {
+    if let Some(job) = first_broken(class, extents) {
         return Err(Misfit::Broken(job));
     }
-    if let Some(job) = first_too_early(jobs, extents) {
+    if let Some(job) = first_too_early(task, extents) {
         return Err(Misfit::TooEarly(job));
     }
     if let Some((before, after)) = first_out_of_order(task.arcs(), extents) {
@@ -138,17 +138,17 @@ fn judge_in_shop<A: Allocator + Copy, B: Allocator>(
     ensures { MatchResult result (λ _. Fits task.now (drawing task.now.machines pieces.now))
         (HasFirstMisfit task.now pieces.now) }
 {
-    let jobs = task.jobs();
+    let class = task.class();
     let (on_first, on_second) = extents_by_machine(alloc, task, pieces)?;
     let first = on_first.as_slice();
     let second = on_second.as_slice();
-    if let Some(job) = first_wrong_in_shop(jobs, first, second) {
+    if let Some(job) = first_wrong_in_shop(task, first, second) {
         return Err(Misfit::WrongAmount(job));
     }
-    if let Some(job) = first_broken_in_shop(task.class(), first, second) {
+    if let Some(job) = first_broken_in_shop(class, first, second) {
         return Err(Misfit::Broken(job));
     }
-    if let Some(job) = first_out_of_flow(task.class(), first, second) {
+    if let Some(job) = first_out_of_flow(class, first, second) {
         return Err(Misfit::OutOfOrder(job, job));
     }
     Ok(())
@@ -240,15 +240,14 @@ pub(crate) fn is_known<A: Allocator>(task: &Task<A>, piece: &Piece) -> bool
 
 // ---- where a job has one time
 
-fn first_wrong_amount(jobs: &[JobRow], extents: &[Extent]) -> Option<JobId>
-    requires len { length extents.now ≡ length jobs.now }
-    requires few { length jobs.now ≤ MOST_JOBS }
-    ensures { FindsSmallestNot (length jobs.now) (IsDone jobs.now extents.now) result }
+fn first_wrong_amount<A: Allocator>(task: &Task<A>, extents: &[Extent]) -> Option<JobId>
+    requires { length extents.now ≡ length task.now.jobs }
+    ensures { FindsSmallestNot (length task.now.jobs) (IsDone task.now.jobs extents.now) result }
 {
-    for k in 0..jobs.len() {
-        let job = jobs[k];
-        if extents[k].work != job.first {
-            return Some(JobId::at(k));
+    for k in 0..task.len() {
+        let job = JobId::at(k);
+        if extents[k].work != task.job(job).first {
+            return Some(job);
         }
     }
     None
@@ -273,15 +272,15 @@ fn first_broken(class: Class, extents: &[Extent]) -> Option<JobId>
     None
 }
 
-fn first_too_early(jobs: &[JobRow], extents: &[Extent]) -> Option<JobId>
-    requires len { length extents.now ≡ length jobs.now }
-    requires few { length jobs.now ≤ MOST_JOBS }
-    ensures { FindsSmallestNot (length jobs.now) (StartsReleased jobs.now extents.now) result }
+fn first_too_early<A: Allocator>(task: &Task<A>, extents: &[Extent]) -> Option<JobId>
+    requires { length extents.now ≡ length task.now.jobs }
+    ensures { FindsSmallestNot (length task.now.jobs)
+        (StartsReleased task.now.jobs extents.now) result }
 {
-    for k in 0..jobs.len() {
-        let job = jobs[k];
-        if extents[k].start < job.release {
-            return Some(JobId::at(k));
+    for k in 0..task.len() {
+        let job = JobId::at(k);
+        if extents[k].start < task.job(job).release {
+            return Some(job);
         }
     }
     None
@@ -306,17 +305,21 @@ fn first_out_of_order(arcs: &[(JobId, JobId)], extents: &[Extent]) -> Option<(Jo
 
 // ---- in shops, where a job has a time for each machine
 
-fn first_wrong_in_shop(jobs: &[JobRow], first: &[Extent], second: &[Extent]) -> Option<JobId>
-    requires first { length first.now ≡ length jobs.now }
-    requires second { length second.now ≡ length jobs.now }
-    requires few { length jobs.now ≤ MOST_JOBS }
-    ensures { FindsSmallestNot (length jobs.now) (IsDoneInShop jobs.now first.now second.now)
-        result }
+fn first_wrong_in_shop<A: Allocator>(
+    task: &Task<A>,
+    first: &[Extent],
+    second: &[Extent],
+) -> Option<JobId>
+    requires first { length first.now ≡ length task.now.jobs }
+    requires second { length second.now ≡ length task.now.jobs }
+    ensures { FindsSmallestNot (length task.now.jobs)
+        (IsDoneInShop task.now.jobs first.now second.now) result }
 {
-    for k in 0..jobs.len() {
-        let job = jobs[k];
-        if first[k].work != job.first || second[k].work != job.second {
-            return Some(JobId::at(k));
+    for k in 0..task.len() {
+        let job = JobId::at(k);
+        let row = task.job(job);
+        if first[k].work != row.first || second[k].work != row.second {
+            return Some(job);
         }
     }
     None

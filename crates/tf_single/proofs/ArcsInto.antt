@@ -191,3 +191,12 @@ link_chained k sound last links found j number link some within own at =
       own = λ more. its.before.own more ∙ own;
       count = λ i. between_link k.arcs j i number link some within own its;
     }
+
+-- the arc before it in the chain has a smaller number
+pub link_falls : (k : SchedulingTask) (last : List ℕ) (links : List Link)
+    → AreFound k (length k.arcs) last links → (number : ℕ) (link : Link) → 0 < number
+    → number ≤ length k.arcs → link ≡ get_or links (number - 1) link → link.before < number
+link_falls k last links found number link some within at =
+    let its : IsLink k.arcs number link =
+    subst (IsLink k.arcs number) (sym at) (found.each number link some within) in
+    omega (arith, some, its.before.within)

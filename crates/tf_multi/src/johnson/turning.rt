@@ -10,7 +10,8 @@ ghost use Rattle.tf_multi.specs.TwoMachines.{time_at};
 
 use std::alloc::Allocator;
 use tf_model::ids::JobId;
-use tf_model::task::{JobRow, Task};
+use tf_model::job_rows::JobRow;
+use tf_model::task::Task;
 
 // When the two machines are free of some jobs of a line, and the place of the last of them whose
 // end on machine 1 came after all earlier work on machine 2.

@@ -1,10 +1,11 @@
-use Rattle.std.proofs.Common.{arith, [], ◌≡◌, Ok, IfErr, true, false, ap, sym, ◌∙◌}
+use Rattle.std.proofs.Common.{arith, [], ◌≡◌, Ok, IfErr, true, false, refl, ap, sym, ◌∙◌}
 use Rattle.std.proofs.KnownBytes.{Consumes-nil}
 use Rattle.std.specs.Io.KnownBytes.{IsAtEnd}
 use Rattle.tf_text.specs.Counted.{inner_of, has_failed}
-use Rattle.tf_engine.specs.Faults.{Refuses, stop_of, is_of_answer, is_past_answer, is_of_whole_answer}
+use Rattle.tf_engine.specs.Faults.{stop_of, is_of_answer, is_past_answer, is_of_whole_answer}
 use Rattle.tf_engine.specs.Refusal.{problem_for}
-use Rattle.tf_engine.specs.Checking.{IsCheckOf}
+use Rattle.tf_engine.specs.Checking.{AcceptsUnlessStopped, IsCheckOf}
+use Rattle.tf_engine.specs.declared.fault.RunFault.TheVariants.{Device}
 use Rattle.tf_engine.proofs.Unread.{err_is, meant_by, before_answer, not_of_answer}
 use Rattle.tf_engine.proofs.Unchecked.{check_unread, check_untasked, check_unsaid}
 use Rattle.tf_engine.proofs.AcceptedAlone.{accepts_checked}
@@ -86,3 +87,7 @@ returns-clause-accepts g c = λ text said is is' good.
       said = says;
       verdict = c.in_ok-checked.ensures;
     })
+
+pub returns-in_err-push_all-clause-accepts : goal.returns-in_err-push_all-clause-accepts
+returns-in_err-push_all-clause-accepts g c = λ text said is is' good.
+    err_is AcceptsUnlessStopped Device _ c.from_residual-in_err-push_all.ensures.1 refl

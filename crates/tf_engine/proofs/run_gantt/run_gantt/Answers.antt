@@ -1,4 +1,4 @@
-use Rattle.std.proofs.Common.{false, ap, subst}
+use Rattle.std.proofs.Common.{ap, subst}
 use Rattle.std.specs.Io.KnownBytes.{Appends}
 use Rattle.tf_text.specs.Counted.{inner_of, AppendsPrefix}
 use Rattle.tf_text.specs.Chart.{chart_text}

@@ -2,12 +2,13 @@ use Rattle.std.proofs.Common.{◌≡◌, true, false, IfErr, Ok, [], ap, sym, �
 use Rattle.std.proofs.KnownBytes.{Consumes-nil}
 use Rattle.std.specs.Io.KnownBytes.{IsAtEnd}
 use Rattle.tf_text.specs.Counted.{inner_of, has_failed}
+use Rattle.tf_engine.specs.declared.fault.RunFault.TheVariants.{Device}
 use Rattle.tf_engine.specs.Faults.{stop_of, is_of_answer, is_past_answer, is_of_whole_answer}
 use Rattle.tf_engine.specs.Passed.{of_solve}
 use Rattle.tf_engine.specs.Refusal.{problem_for}
 use Rattle.tf_engine.proofs.Unread.{err_is, meant_by, before_answer, not_of_answer}
 use Rattle.tf_evaluate.specs.RunEvaluating.{IsEvaluationOf}
-use Rattle.tf_evaluate.proofs.Unevaluated.{evaluation_unread, evaluation_untasked, evaluation_unsaid, evaluation_unsolved}
+use Rattle.tf_evaluate.proofs.Unevaluated.{evaluation_cut, evaluation_unread, evaluation_untasked, evaluation_unsaid, evaluation_unsolved}
 use Rattle.tf_evaluate.proofs.run_evaluate.run_evaluate.Goals as goal
 
 pub returns-in_err-problem-clause-outcome : goal.returns-in_err-problem-clause-outcome
@@ -84,3 +85,29 @@ returns-in_err-evaluation-clause-outcome g c =
     c.in_err-evaluation.field-0.0 read.is_all is_answer
     (meant_by c.args.request.now c.in_ok-problem.problem read.text line ∙ read.given)
     c.in_err-evaluation.ensures.refused)
+
+pub returns-in_err-push_all-clause-outcome : goal.returns-in_err-push_all-clause-outcome
+returns-in_err-push_all-clause-outcome g c =
+    let line : problem_for c.args.request.now.problem ≡ Ok c.in_ok-problem.problem =
+    ap problem_for (ap (λ r. r.problem) (sym c.request.view_is) ∙ sym c.as_str.ensures)
+    ∙ c.in_ok-problem.ensures in
+    let read = c.in_ok-task.ensures in
+    let (said, is_answer, says) = c.in_ok-sheet.ensures.said in
+    err_is (IsEvaluationOf c.args.detail c.args.request.now _ _ _) Device _
+    c.from_residual-in_err-push_all.ensures.1
+    (evaluation_cut g.row.A.Denot c.args.detail c.args.request.now _ _ _ read.text said
+    c.as_slice.result.now c.in_ok-evaluation.evaluation read.is_all is_answer
+    (record {
+      problem = c.in_ok-problem.problem;
+      asked = line;
+      task = c.in_ok-task.task;
+      meant = meant_by c.args.request.now c.in_ok-problem.problem read.text line ∙ read.given;
+      sheet = c.in_ok-sheet.sheet;
+      said = says;
+      evaluation = c.in_ok-evaluation.ensures.evaluation;
+      standing = c.in_ok-evaluation.ensures.standing.0;
+      gap_is = c.in_ok-evaluation.ensures.standing.1;
+      ends = c.in_ok-evaluation.ensures.arithmetic;
+    })
+    (c.as_slice.ensures.value ∙ c.in_ok-text.ensures) c.in_err-push_all.ensures.device
+    c.in_err-push_all.ensures.prefix)

@@ -1,4 +1,4 @@
-use Rattle.std.proofs.Common.{◌≡◌, ℕ, None, ap, ◌∙◌, subst, map, List, All}
+use Rattle.std.proofs.Common.{◌≡◌, ℕ, false, None, ap, sym, ◌∙◌, subst, map, List, All}
 use Rattle.tf_model.specs.Steps.{Steps}
 use Rattle.tf_model.specs.StepFaults.{IsStepCost}
 use Rattle.tf_model.specs.JobFields.{JobFields}
@@ -6,9 +6,9 @@ use Rattle.tf_model.specs.InstanceData.{InstanceData, IsInstance}
 use Rattle.tf_model.specs.SchedulingTask.{JobData}
 use Rattle.tf_model.specs.Sound.{IsSound}
 use Rattle.tf_model.specs.CountFor.{IsCountFor}
-use Rattle.tf_model.specs.Prepare.{data_of, kept_costs, kept_arcs, jobs_refusal}
+use Rattle.tf_model.specs.Prepare.{data_of, has_wrong_times, kept_costs, kept_arcs, jobs_refusal}
 use Rattle.tf_model.specs.declared.class.Class.{Class}
-use Rattle.tf_model.proofs.Prepared.{task_of-IsSound}
+use Rattle.tf_model.proofs.Prepared.{task_of-IsSound, times_right}
 use Rattle.tf_model.proofs.prepare.assemble.Goals as goal
 
 -- the parts make the task, which is sound
@@ -32,5 +32,10 @@ pub new-requires : goal.new-requires
 new-requires g c =
     assembled c.args.class c.args.machines c.args.instance.now _ _ _ _ _ c.jobs-jobs.ensures.sound
     c.requires.refusal c.requires.machines
-    c.jobs-jobs.ensures.value c.arcs.ensures.value c.in_ok-rows.ensures c.in_ok-costs.ensures.0
+    c.jobs-jobs.ensures.value c.arcs.ensures.value c.in_ok-rows.ensures.rows_are c.in_ok-costs.ensures.0
     c.in_ok-costs.ensures.1 c.in_ok-arcs.ensures
+
+pub rows_of-requires : goal.rows_of-requires
+rows_of-requires g c =
+    subst (All (λ job. has_wrong_times c.args.class job ≡ false)) (sym c.jobs-jobs.ensures.value)
+    (times_right c.args.class c.args.instance.now.jobs c.requires.refusal)

@@ -47,7 +47,7 @@ returns-then-is_due g c =
     ∙ sym c.is_due.ensures ∙ c.if-is_due.true in
     let due : ℤ = c.from-then-is_due-2.inside.due in
     let is : due ≡ (job_data c.args.task.now c.args.job).due =
-    ap (λ (j : JobData). j.due) (c.from-then-is_due-2.view_is ∙ c.job.ensures) in
+    ap (λ (j : JobData). j.due) (c.from-then-is_due-2.view_is ∙ c.job.ensures.value) in
     let wide : SFits w128 c.from-then-is_due.result = search rules in
     let wide_due : SFits w128 c.from-then-is_due-3.result = search rules in
     let small : SFits w64 due = search rules in

@@ -9,14 +9,6 @@ use Rattle.tf_schedule.proofs.Costing.{total_more, total_fits, stops_within}
 use Rattle.tf_schedule.proofs.cost.with_block.Goals as goal
 use Rattle.tf_model.specs.SchedulingTask.{SchedulingTask}
 
--- the datum of job i + 1
-datum : (jobs jobs' : List JobData) (i : ℕ) (x y : JobData) → jobs ≡ jobs' → i < length jobs
-    → x ≡ get_or jobs i x → y ≡ x → y ≡ get_or jobs' (i + 1 - 1) no_job
-datum jobs jobs' i x y e h read is =
-    let same : i ≡ i + 1 - 1 = omega arith in
-    is ∙ read ∙ get_or_default jobs i x no_job h ∙ ap (λ (js : List JobData). get_or js i no_job) e
-    ∙ ap (λ n. get_or jobs' n no_job) same
-
 -- the stop of job i + 1
 stop_at : (k : SchedulingTask) (ps : List Piece) (first i x : ℕ) → first ≤ i
     → x ≡ last_stop (known_pieces k ps) (first + (i - first) + 1)
@@ -29,12 +21,10 @@ product w w' c c' t u e f g = ap (λ x. t + x * c) e ∙ ap (λ x. t + w' * x) f
 
 pub overflow_mul-sum : goal.overflow_mul-sum
 overflow_mul-sum g c =
-    let inside : c.loop-i.i < length c.jobs-jobs.result.now =
-    omega (arith, c.loop-i-test.true, c.min-end.ensures) in
+    let inside : c.loop-i.i < length c.args.task.now.jobs =
+    omega (arith, c.loop-i-test.true, c.min-end.ensures, c.len.ensures.value) in
     let weight : c.from.result ≡ (job_data c.args.task.now (c.loop-i.i + 1)).weight = c.from.ensures
-    ∙ ap (λ (j : JobData). j.weight)
-    (datum c.jobs-jobs.result.now c.args.task.now.jobs c.loop-i.i c.index-jobs-i.result _
-    c.jobs-jobs.ensures.value inside c.index-jobs-i.is c.job.view_is) in
+    ∙ c.weight-weight.ensures ∙ ap (λ j. (job_data c.args.task.now j).weight) c.at.ensures in
     let stop : c.from-in-loop-i.result
     ≡ last_stop (known_pieces c.args.task.now c.args.pieces.now) (c.loop-i.i + 1) =
     stop_at c.args.task.now c.args.pieces.now c.args.first c.loop-i.i c.from-in-loop-i.result
@@ -52,17 +42,15 @@ overflow_mul-sum g c =
     let fits = total_fits c.args.task.now (known_pieces c.args.task.now c.args.pieces.now)
     c.requires.task c.requires.class
     (stops_within c.args.task.now c.args.pieces.now c.requires.sound) (c.loop-i.i + 1)
-    (omega (arith, inside, ap length c.jobs-jobs.ensures.value)) in
+    (omega (arith, inside)) in
     omega (arith, more, fits)
 
 pub overflow_add-sum : goal.overflow_add-sum
 overflow_add-sum g c =
-    let inside : c.loop-i.i < length c.jobs-jobs.result.now =
-    omega (arith, c.loop-i-test.true, c.min-end.ensures) in
+    let inside : c.loop-i.i < length c.args.task.now.jobs =
+    omega (arith, c.loop-i-test.true, c.min-end.ensures, c.len.ensures.value) in
     let weight : c.from.result ≡ (job_data c.args.task.now (c.loop-i.i + 1)).weight = c.from.ensures
-    ∙ ap (λ (j : JobData). j.weight)
-    (datum c.jobs-jobs.result.now c.args.task.now.jobs c.loop-i.i c.index-jobs-i.result _
-    c.jobs-jobs.ensures.value inside c.index-jobs-i.is c.job.view_is) in
+    ∙ c.weight-weight.ensures ∙ ap (λ j. (job_data c.args.task.now j).weight) c.at.ensures in
     let stop : c.from-in-loop-i.result
     ≡ last_stop (known_pieces c.args.task.now c.args.pieces.now) (c.loop-i.i + 1) =
     stop_at c.args.task.now c.args.pieces.now c.args.first c.loop-i.i c.from-in-loop-i.result
@@ -80,7 +68,7 @@ overflow_add-sum g c =
     let fits = total_fits c.args.task.now (known_pieces c.args.task.now c.args.pieces.now)
     c.requires.task c.requires.class
     (stops_within c.args.task.now c.args.pieces.now c.requires.sound) (c.loop-i.i + 1)
-    (omega (arith, inside, ap length c.jobs-jobs.ensures.value)) in
+    (omega (arith, inside)) in
     let so_far : c.loop-i.sum
     ≡ total_to c.args.task.now (known_pieces c.args.task.now c.args.pieces.now) c.loop-i.i =
     c.loop-i.invariant in
@@ -88,12 +76,10 @@ overflow_add-sum g c =
 
 pub loop-i-preserved : goal.loop-i-preserved
 loop-i-preserved g c =
-    let inside : c.loop-i.i < length c.jobs-jobs.result.now =
-    omega (arith, c.loop-i-test.true, c.min-end.ensures) in
+    let inside : c.loop-i.i < length c.args.task.now.jobs =
+    omega (arith, c.loop-i-test.true, c.min-end.ensures, c.len.ensures.value) in
     let weight : c.from.result ≡ (job_data c.args.task.now (c.loop-i.i + 1)).weight = c.from.ensures
-    ∙ ap (λ (j : JobData). j.weight)
-    (datum c.jobs-jobs.result.now c.args.task.now.jobs c.loop-i.i c.index-jobs-i.result _
-    c.jobs-jobs.ensures.value inside c.index-jobs-i.is c.job.view_is) in
+    ∙ c.weight-weight.ensures ∙ ap (λ j. (job_data c.args.task.now j).weight) c.at.ensures in
     let stop : c.from-in-loop-i.result
     ≡ last_stop (known_pieces c.args.task.now c.args.pieces.now) (c.loop-i.i + 1) =
     stop_at c.args.task.now c.args.pieces.now c.args.first c.loop-i.i c.from-in-loop-i.result

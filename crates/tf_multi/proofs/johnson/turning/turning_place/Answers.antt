@@ -20,8 +20,8 @@ pass-turn-requires g c =
       next_within (time_at task) c.args.order.now c.loop-i.i t.first t.second t.late
           c.index-order-i.result c.loop-i-test.true c.index-order-i.is c.loop-i.invariant,
       order_total task c.args.order.now c.requires.order c.requires.sound,
-      ap (λ (d : JobData). d.first) c.job.ensures,
-      ap (λ (d : JobData). d.second) c.job.ensures,
+      ap (λ (d : JobData). d.first) c.job.ensures.value,
+      ap (λ (d : JobData). d.second) c.job.ensures.value,
     )
 
 pub loop-i-preserved : goal.loop-i-preserved
@@ -31,9 +31,9 @@ loop-i-preserved g c =
     let n = c.pass-turn.result in
     let x = c.index-order-i.result in
     let first : c.job.result.first ≡ time_at task x 1 =
-    ap (λ (d : JobData). d.first) c.job.ensures in
+    ap (λ (d : JobData). d.first) c.job.ensures.value in
     let second : c.job.result.second ≡ time_at task x 2 =
-    ap (λ (d : JobData). d.second) c.job.ensures in
+    ap (λ (d : JobData). d.second) c.job.ensures.value in
     turned_more (time_at task) c.args.order.now c.loop-i.i t.first t.second t.late x
     c.loop-i-test.true c.index-order-i.is c.loop-i.invariant n.first n.second n.late
     (omega (arith, c.pass-turn.ensures.first, first))

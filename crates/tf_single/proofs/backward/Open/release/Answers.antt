@@ -5,7 +5,7 @@ use Rattle.tf_model.specs.SchedulingTask.{SchedulingTask, IsJob}
 use Rattle.tf_single.specs.ArcsInto.{IsLastInto, arcs_between}
 use Rattle.tf_single.specs.Progress.{of_job}
 use Rattle.tf_single.specs.declared.arcs_into.Link.{Link}
-use Rattle.tf_single.proofs.ArcsInto.{IsChained, between_last, link_chained}
+use Rattle.tf_single.proofs.ArcsInto.{IsChained, between_last, link_chained, link_falls}
 use Rattle.tf_single.proofs.Open.{open_freed, open_held, open_moved, open_pending, some_left}
 use Rattle.tf_single.proofs.backward.Open.release.Goals as goal
 
@@ -119,3 +119,9 @@ loop-arc-preserved g c =
           (ap (λ n. n - 1) at) c.if-left-eq0.false;
       kept = now.kept;
     })
+
+pub loop-arc-smaller-in_ok-add : goal.loop-arc-smaller-in_ok-add
+loop-arc-smaller-in_ok-add g c =
+    link_falls c.args.task.now c.args.arcs.now.last.items c.args.arcs.now.links.items
+    c.requires.arcs c.loop-arc.arc c.index.result.now c.loop-arc-test.true
+    c.loop-arc.invariant.within c.index.ensures

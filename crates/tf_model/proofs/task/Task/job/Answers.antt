@@ -1,0 +1,24 @@
+-- A job's time is within the total, which the task's invariant bounds.
+use Rattle.std.proofs.Common.{◌≡◌, ℕ, ◌+◌, ◌-◌, ◌≤◌, slice_index_or, ap, sym, subst, arith}
+use Rattle.tf_model.specs.Limit.{limit}
+use Rattle.tf_model.specs.SchedulingTask.{SchedulingTask, JobData, IsJob, no_job, time_of}
+use Rattle.tf_model.specs.Sound.{IsSound}
+use Rattle.tf_model.proofs.Costs.{term-le-all_jobs}
+use Rattle.tf_model.proofs.task.Task.job.Goals as goal
+
+within : (k now : SchedulingTask) → IsSound k → k ≡ now → (j : ℕ) → IsJob now j → (row : JobData)
+    → ((d : JobData) → slice_index_or k.jobs (j - 1) d ≡ row) → row.first + row.second ≤ limit
+within k now sound view j h row read =
+    let job : IsJob k j = subst (λ z. IsJob z j) (sym view) h in
+    omega (
+      arith,
+      sound.total,
+      term-le-all_jobs k (time_of k) j job,
+      ap (λ (d : JobData). d.first + d.second) (read no_job),
+    )
+
+pub returns-clause-small : goal.returns-clause-small
+returns-clause-small g c =
+    within _ c.args.self.now c.self.invariant c.self.view_is c.get.result
+    (subst (IsJob c.args.self.now) (sym c.get.ensures.value) c.requires)
+    c.row.result c.row.ensures
