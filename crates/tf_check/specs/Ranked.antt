@@ -1,6 +1,11 @@
 -- Jobs with keys that are near to one another, each as one number.
 use Rattle.std.specs.Prelude.{ℕ, ◌<◌, ◌/◌, ◌%◌, ℤ, pos, ◌+ℤ◌, ◌≤ℤ◌}
 use Rattle.tf_check.specs.declared.keyed_job.KeyedJob.{KeyedJob}
+use Rattle.tf_check.specs.declared.keyed_job.KeySpan.{KeySpan}
+
+-- the key lies within the span
+abbrev pub IsBetween : KeySpan → ℤ → Type 0
+IsBetween span key = (span.least ≤ℤ key) × (key ≤ℤ span.greatest)
 
 -- the key is at least the least, and less than 2^32 from it
 pub record IsNear (least : ℤ) (j : KeyedJob) : Type 0 where

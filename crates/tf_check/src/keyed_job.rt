@@ -38,22 +38,58 @@ pub fn sort_jobs<A: Allocator, B: Allocator>(alloc: A, jobs: &mut Vec<KeyedJob, 
     put_ranked(jobs, &ranks, least);
 }
 
+/// Between which numbers some keys lie.
+#[derive(Clone, Copy, Debug)]
+pub struct KeySpan {
+    pub least: i64,
+    pub greatest: i64,
+}
+
+impl KeySpan {
+    ghost use Rattle.std.specs.Prelude.{ℤ, IfSome};
+    ghost use Rattle.tf_check.specs.Ranked.{IsBetween, IsNear};
+    ghost use Rattle.tf_check.specs.declared.keyed_job.KeyedJob.{KeyedJob};
+
+    /// That of no key.
+    pub const EMPTY: KeySpan = KeySpan {
+        least: i64::MAX,
+        greatest: i64::MIN,
+    };
+
+    /// With one key more.
+    pub fn with(self, key: i64) -> KeySpan
+        ensures more { IsBetween result key }
+        ensures all { (other : ℤ) → IsBetween self other → IsBetween result other }
+    {
+        KeySpan {
+            least: self.least.min(key),
+            greatest: self.greatest.max(key),
+        }
+    }
+
+    /// The least, where no key is too far from it for a rank.
+    pub fn near_least(self) -> Option<i64>
+        ensures { IfSome result (λ least. (job : KeyedJob) → IsBetween self job.key
+            → IsNear least job) }
+    {
+        let distance = self.greatest.checked_sub(self.least)?;
+        if distance < NUMBERS as i64 {
+            Some(self.least)
+        } else {
+            None
+        }
+    }
+}
+
 // The least key, where no key is too far from it for a rank.
 fn near_least(jobs: &[KeyedJob]) -> Option<i64>
     ensures { IfSome result (λ least. All (IsNear least) jobs.now) }
 {
-    let mut least: i64 = jobs.first()?.key;
-    let mut greatest: i64 = least;
+    let mut span = KeySpan::EMPTY;
     for job in jobs {
-        least = least.min(job.key);
-        greatest = greatest.max(job.key);
+        span = span.with(job.key);
     }
-    let distance = greatest.checked_sub(least)?;
-    if distance < NUMBERS as i64 {
-        Some(least)
-    } else {
-        None
-    }
+    span.near_least()
 }
 
 // How far each key is from the least, and then the number of the job, in one number.
@@ -73,7 +109,9 @@ fn ranks_of<A: Allocator>(
     Ok(ranks)
 }
 
-fn rank_of(job: KeyedJob, least: i64) -> u64
+/// The rank of a job: how far its key is from the least, and then its number. Of two jobs the
+/// greater has the greater rank.
+pub fn rank_of(job: KeyedJob, least: i64) -> u64
     requires { IsNear least job }
     ensures job { ranked least result ≡ job }
     ensures rank { IsRank least result }
@@ -92,7 +130,8 @@ fn put_ranked<B: Allocator>(jobs: &mut Vec<KeyedJob, B>, ranks: &[u64], least: i
     }
 }
 
-fn job_of(rank: u64, least: i64) -> KeyedJob
+/// The job of a rank, with its key.
+pub fn job_of(rank: u64, least: i64) -> KeyedJob
     requires { IsRank least rank }
     ensures { result ≡ ranked least rank }
 {

@@ -1,237 +1,134 @@
 -- Of jobs with due dates the one that is due last is the cheapest.
-use Rattle.std.proofs.Common.{◌≡◌, ℕ, ◌+◌, ◌-◌, ◌<◌, ◌≤◌, ℤ, pos, ◌-ℤ◌, ◌≤ℤ◌, Bool, true, false, List, [], ◌∷◌, ◌++◌, length, get_or, Option, Some, option_to_list, refl, sym, ap, ◌∙◌, subst, arith, Contains}
-use Rattle.std.specs.Cmp.{IsStrictWeakOrder}
+use Rattle.std.proofs.Common.{◌≡◌, ℕ, ◌+◌, ◌<◌, ◌≤◌, ℤ, pos, ◌-ℤ◌, ◌≤ℤ◌, false, List, ◌∷◌, length, get_or, map, sym, ap, ◌∙◌, subst, arith, Contains, ⊎_elim, Option, None, Some, IfSome}
 use Rattle.std.specs.List.{All}
-use Rattle.std.specs.List.Sorted.{IsPermutation, IsSorted}
-use Rattle.std.specs.BinaryHeap.{IsHeap, IsUpperBound}
+use Rattle.std.specs.List.Sorted.{IsPermutation}
 use Rattle.std.specs.Ordering.{nat_cmp, int_cmp, ordering_then, is_lt}
-use Rattle.std.proofs.lemmas.Bool.{false≢true}
+use Rattle.std.proofs.lemmas.Bool.{cases_lt}
 use Rattle.std.proofs.lemmas.Bool.Decides.{nat_tests}
-use Rattle.std.proofs.lemmas.Cmp.{then_total, on_total, nat_cmp_total, int_cmp_total}
-use Rattle.std.proofs.lemmas.Int.{ints}
-use Rattle.std.proofs.lemmas.List.{get_or-map, length-map, length_push, length-append, get_or_at, get_or_default, get_or_append_left, append_assoc}
-use Rattle.std.proofs.lemmas.List.Elements.{All-append, All-tail, All-cons, All-from_recursion}
-use Rattle.std.proofs.lemmas.List.Sorted.{All-permutation, IsPermutation-map, IsPermutation-sym, IsPermutation-trans, IsPermutation-middle, IsPermutation-append_left, IsPermutation-append_right, length_permutation, ranks_by, sorted_far}
+use Rattle.std.proofs.lemmas.Int.{ints, to_z-of_z, to_z_pos}
+use mir.Syntax.{w64}
+use mir.Val.{SFits, to_z, of_z}
+use Rattle.std.proofs.lemmas.List.{get_or-map, length-map}
+use Rattle.std.proofs.lemmas.List.Elements.{All-tail, All-cons}
+use Rattle.std.proofs.lemmas.List.Sorted.{All-permutation, IsPermutation-map}
 use Rattle.tf_model.specs.Cost.{price}
+use Rattle.tf_model.specs.Limit.{limit}
+use Rattle.tf_model.specs.Whole.{as_time}
 use Rattle.tf_model.specs.SchedulingTask.{SchedulingTask, IsJob, job_data}
 use Rattle.tf_schedule.proofs.Prices.{due_price}
-use Rattle.tf_single.specs.ByDue.{jobs_due, HasDue, IsLatest, AreDue}
 use Rattle.tf_check.specs.KeyedJob.{key_cmp}
+use Rattle.tf_check.specs.Ranked.{IsBetween, IsNear, ranked}
 use Rattle.tf_check.specs.declared.keyed_job.KeyedJob.{KeyedJob}
+use Rattle.tf_check.specs.declared.keyed_job.KeySpan.{KeySpan}
+use Rattle.tf_check.proofs.KeyedJob.{not_less, pair_in_order}
+use Rattle.tf_single.specs.ByDue.{jobs_due, HasDue, AreDue, AreNear}
+use Rattle.tf_single.specs.GreatestFirst.{IsGreatest}
 
--- ---- prices
+-- ---- what is due last
+
+-- none of the entries is due later
+abbrev pub IsLatest : List KeyedJob → KeyedJob → Type 0
+IsLatest es x = All (λ e. e.key ≤ℤ x.key) es
 
 due_ge : (a b : ℤ) (m n : ℕ) → is_lt (ordering_then (int_cmp a b) (nat_cmp m n)) ≡ false → b ≤ℤ a
 due_ge a b m n h = grind (arith, nat_tests, ints)
 
-due_le : (a b : ℤ) (m n : ℕ) → is_lt (ordering_then (int_cmp a b) (nat_cmp m n)) ≡ true → a ≤ℤ b
-due_le a b m n h = grind (arith, nat_tests, ints)
+-- the greatest entry is due last
+pub greatest_latest : (es : List KeyedJob) (x : KeyedJob) → IsGreatest key_cmp es x → IsLatest es x
+greatest_latest es x greatest i e h =
+    due_ge x.key (get_or es i e).key x.job (get_or es i e).job (greatest i e h)
+
+-- and so is the job of the greatest rank
+pub greatest_ranked : (least : ℤ) (rs : List ℕ) (r : ℕ) (x : KeyedJob) → SFits w64 least
+    → x ≡ ranked (to_z w64 (of_z w64 least)) r → IsGreatest nat_cmp rs r
+    → IsLatest (map (ranked least) rs) x
+greatest_ranked least rs r x fits is greatest =
+    subst (IsLatest (map (ranked least) rs))
+    (sym (is ∙ ap (λ l. ranked l r) (to_z-of_z w64 least fits))) (λ i e h.
+    let lt : i < length rs = omega (arith, h, length-map rs (ranked least)) in
+    let q : KeyedJob = ranked least (get_or rs i 0) in
+    let top : KeyedJob = ranked least r in
+    subst (λ (d : KeyedJob). d.key ≤ℤ top.key) (sym (get_or-map (ranked least) rs i 0 e lt))
+    (due_ge top.key q.key top.job q.job
+    (pair_in_order least (get_or rs i 0) r (not_less (get_or rs i 0) r (greatest i 0 lt)))))
+
+-- ---- due dates within a span
+
+-- those up to one job more, where the span is wider
+pub between_more : (span wider : KeySpan) (due : ℕ → ℤ) (n : ℕ)
+    → ((j : ℕ) → 0 < j → j ≤ n → IsBetween span (due j)) → IsBetween wider (due (n + 1))
+    → ((key : ℤ) → IsBetween span key → IsBetween wider key)
+    → (j : ℕ) → 0 < j → j ≤ n + 1 → IsBetween wider (due j)
+between_more span wider due n all more wide j low high =
+    ⊎_elim
+    (λ above. let is : j ≡ n + 1 = omega (arith, above, high) in
+    subst (λ i. IsBetween wider (due i)) (sym is) more)
+    (λ le. wide (due j) (all j low le))
+    (cases_lt n j)
+
+-- where all do, they are near if the span is narrow
+pub span_near : (k : SchedulingTask) (span : KeySpan) (least : Option ℤ)
+    → IfSome least (λ l. (job : KeyedJob) → IsBetween span job.key → IsNear l job)
+    → ((j : ℕ) → IsJob k j → IsBetween span (job_data k j).due) → IfSome least (AreNear k)
+span_near k span None near all = tt
+span_near k span (Some l) near all = λ j is.
+    near (record { key = (job_data k j).due; job = j }) (all j is)
+
+-- ---- one entry more
+
+pub due_more : (k : SchedulingTask) (es more : List KeyedJob) (e : KeyedJob) → AreDue k es
+    → HasDue k e → IsPermutation (e ∷ es) more → AreDue k more
+due_more k es more e due its moved = record {
+  class = due.class;
+  dues = All-permutation (HasDue k) (e ∷ es) more moved (All-cons (HasDue k) e es its due.dues);
+}
+
+-- a rank more is an entry more, where the least key is read from its bits
+pub ranks_more : (least : ℤ) (rs more : List ℕ) (r : ℕ) (e : KeyedJob) → SFits w64 least
+    → IsPermutation (r ∷ rs) more → ranked (to_z w64 (of_z w64 least)) r ≡ e
+    → IsPermutation (e ∷ map (ranked least) rs) (map (ranked least) more)
+ranks_more least rs more r e fits moved is =
+    subst (λ (d : KeyedJob). IsPermutation (d ∷ map (ranked least) rs) (map (ranked least) more))
+    (ap (λ l. ranked l r) (sym (to_z-of_z w64 least fits)) ∙ is)
+    (IsPermutation-map (ranked least) (r ∷ rs) more moved)
+
+-- ---- the entry that is due last is taken
+
+-- what the bits of a cost say: how late the job is
+pub late : (work : ℕ) (key z : ℤ) → work ≤ limit → SFits w64 key → SFits w64 z
+    → z ≡ (pos (as_time (to_z w64 work)) -ℤ to_z w64 (of_z w64 key))
+    → to_z w64 (of_z w64 z) ≡ (pos work -ℤ key)
+late work key z small fits_key fits is =
+    to_z-of_z w64 z fits ∙ is
+    ∙ ap (λ e. pos (as_time e) -ℤ to_z w64 (of_z w64 key)) (to_z_pos w64 work (omega (arith, small)))
+    ∙ ap (λ d. pos work -ℤ d) (to_z-of_z w64 key fits_key)
 
 less_left : (e a b : ℤ) → b ≤ℤ a → (e -ℤ a) ≤ℤ (e -ℤ b)
 less_left e a b le = omega (arith, ints)
 
--- ---- where an entry stands
-
--- behind the first ones
-pub pushed_first : (first later : List KeyedJob) (e : KeyedJob)
-    → IsPermutation (e ∷ (first ++ later)) ((first ++ e ∷ []) ++ later)
-pushed_first first later e =
-    subst (IsPermutation (e ∷ (first ++ later))) (sym (append_assoc first (e ∷ []) later))
-    (IsPermutation-sym (first ++ e ∷ later) (e ∷ (first ++ later))
-    (IsPermutation-middle first e later))
-
--- among those that followed
-pub pushed_later : (first later more : List KeyedJob) (e : KeyedJob) → IsPermutation (e ∷ later) more
-    → IsPermutation (e ∷ (first ++ later)) (first ++ more)
-pushed_later first later more e moved =
-    IsPermutation-trans (e ∷ (first ++ later)) (first ++ e ∷ later) (first ++ more)
-    (IsPermutation-sym (first ++ e ∷ later) (e ∷ (first ++ later))
-    (IsPermutation-middle first e later))
-    (IsPermutation-append_right first (e ∷ later) more moved)
-
--- ---- entries
-
-due_order : IsStrictWeakOrder (λ a b. is_lt (key_cmp a b))
-due_order =
-    ranks_by
-    (then_total (on_total (λ (e : KeyedJob). e.key) int_cmp_total)
-    (on_total (λ (e : KeyedJob). e.job) nat_cmp_total))
-    (λ (e : KeyedJob). e)
-
--- the last of a list in order is due last
-pub last_latest : (xs : List KeyedJob) → IsSorted key_cmp xs → 0 < length xs → (d : KeyedJob)
-    → IsLatest xs (get_or xs (length xs - 1) d)
-last_latest xs rising some d i e h =
-    let x : KeyedJob = get_or xs (length xs - 1) d in
-    subst (λ (y : KeyedJob). y.key ≤ℤ x.key) (get_or_default xs i d e h)
-    (due_ge x.key (get_or xs i d).key x.job (get_or xs i d).job
-    (sorted_far (λ a b. is_lt (key_cmp a b)) due_order xs rising i (length xs - 1) d (omega arith)
-    (omega arith)))
-
--- as the greatest of a heap is
-pub top_latest : (xs : List KeyedJob) (x : KeyedJob) → IsUpperBound key_cmp x xs → IsLatest xs x
-top_latest xs x bound i e h =
-    due_ge x.key (get_or xs i e).key x.job (get_or xs i e).job
-    (All-from_recursion (λ y. is_lt (key_cmp x y) ≡ false) xs bound i e h)
-
--- and so is what is due no earlier
-pub IsLatest-trans : (xs : List KeyedJob) (x y : KeyedJob) → IsLatest xs x → x.key ≤ℤ y.key
-    → IsLatest xs y
-IsLatest-trans xs x y latest le i e h = omega (arith, ints, latest i e h, le)
-
--- no entry is due later than the last one
-last_ahead : (first later : List KeyedJob) (d : KeyedJob) → IsSorted key_cmp first → 0 < length first
-    → IsLatest later (get_or first (length first - 1) d)
-    → IsLatest (first ++ later) (get_or first (length first - 1) d)
-last_ahead first later d rising some latest =
-    All-append (λ e. e.key ≤ℤ (get_or first (length first - 1) d).key) first later
-    (last_latest first rising some d) latest
-
--- where none followed
-pub alone_ahead : (first later : List KeyedJob) (d : KeyedJob) → IsSorted key_cmp first
-    → 0 < length first → length later ≤ 0
-    → IsLatest (first ++ later) (get_or first (length first - 1) d)
-alone_ahead first later d rising some none =
-    last_ahead first later d rising some (λ i e h. absurd (omega (arith, h, none)))
-
--- where the greatest of those that followed is less
-pub first_ahead : (first later : List KeyedJob) (x y d : KeyedJob) → IsSorted key_cmp first
-    → 0 < length first → x ≡ get_or first (length first - 1) x → IsUpperBound key_cmp y later
-    → is_lt (key_cmp y x) ≡ true
-    → IsLatest (first ++ later) (get_or first (length first - 1) d)
-first_ahead first later x y d rising some last bound less =
-    last_ahead first later d rising some
-    (subst (IsLatest later) (last ∙ get_or_default first (length first - 1) x d (omega arith))
-    (IsLatest-trans later y x (top_latest later y bound) (due_le y.key x.key y.job x.job less)))
-
--- where it is not
-pub later_ahead : (first later : List KeyedJob) (x y d : KeyedJob) → IsSorted key_cmp first
-    → 0 < length first → x ≡ get_or first (length first - 1) x → IsUpperBound key_cmp y later
-    → 0 < length later → y ≡ get_or later 0 y → is_lt (key_cmp y x) ≡ false
-    → IsLatest (first ++ later) (get_or later 0 d)
-later_ahead first later x y d rising held last bound some top less =
-    subst (IsLatest (first ++ later)) (top ∙ get_or_default later 0 y d some)
-    (All-append (λ e. e.key ≤ℤ y.key) first later
-    (IsLatest-trans first x y
-    (subst (IsLatest first) (sym last) (last_latest first rising held x))
-    (due_ge y.key x.key y.job x.job less))
-    (top_latest later y bound))
-
--- where none is first
-pub none_ahead : (first later : List KeyedJob) (y d : KeyedJob) → length first ≤ 0
-    → IsUpperBound key_cmp y later → 0 < length later → y ≡ get_or later 0 y
-    → IsLatest (first ++ later) (get_or later 0 d)
-none_ahead first later y d none bound some top =
-    subst (IsLatest (first ++ later)) (top ∙ get_or_default later 0 y d some)
-    (All-append (λ e. e.key ≤ℤ y.key) first later (λ i e h. absurd (omega (arith, h, none)))
-    (top_latest later y bound))
-
--- an entry more, behind the first ones
-pub first_pushed : (k : SchedulingTask) (begun : Bool) (first later : List KeyedJob) (e : KeyedJob)
-    → begun ≡ false → AreDue k begun first later → HasDue k e
-    → AreDue k begun (first ++ e ∷ []) later
-first_pushed k begun first later e same due its = record {
-  class = due.class;
-  dues = All-permutation (HasDue k) (e ∷ (first ++ later)) ((first ++ e ∷ []) ++ later)
-      (pushed_first first later e) (All-cons (HasDue k) e (first ++ later) its due.dues);
-  rising = λ yes. absurd (false≢true (sym same ∙ yes));
-  heap = due.heap;
-}
-
--- or in the heap
-pub later_pushed : (k : SchedulingTask) (begun : Bool) (first later more : List KeyedJob) (e : KeyedJob)
-    → AreDue k begun first later → HasDue k e → IsPermutation (e ∷ later) more
-    → (IsHeap key_cmp later → IsHeap key_cmp more) → AreDue k begun first more
-later_pushed k begun first later more e due its moved keeps = record {
-  class = due.class;
-  dues = All-permutation (HasDue k) (e ∷ (first ++ later)) (first ++ more)
-      (pushed_later first later more e moved) (All-cons (HasDue k) e (first ++ later) its due.dues);
-  rising = due.rising;
-  heap = keeps due.heap;
-}
-
--- ---- the entry that is due last is taken
-
--- some entry is left
-pub some_left : (first later sorted now : List KeyedJob) → 0 < length (first ++ later)
-    → IsPermutation first sorted → now ≡ later → 0 < length (sorted ++ now)
-some_left first later sorted now some sorts same =
-    omega (
-      arith,
-      some,
-      length-append first later,
-      length-append sorted now,
-      length_permutation first sorted sorts,
-      ap length same,
-    )
-
--- the first of a list in order are in order
-pub sorted_front : (xs : List KeyedJob) (x : KeyedJob) → IsSorted key_cmp (xs ++ x ∷ []) → IsSorted key_cmp xs
-sorted_front xs x rising i d low h =
-    subst (λ (e : KeyedJob). is_lt (key_cmp e (get_or xs i d)) ≡ false)
-    (get_or_append_left xs (x ∷ []) d (i + 1) h)
-    (subst (λ (e : KeyedJob). is_lt (key_cmp (get_or (xs ++ x ∷ []) (i + 1) d) e) ≡ false)
-    (get_or_append_left xs (x ∷ []) d i (omega arith))
-    (rising i d low (omega (arith, length_push xs x))))
-
--- the last of a list is what a pop gives
-pub popped_last : (xs front : List KeyedJob) (o : Option KeyedJob) (x : KeyedJob)
-    → xs ≡ front ++ option_to_list o → o ≡ Some x → xs ≡ front ++ x ∷ []
-popped_last xs front o x is some = is ∙ ap (λ p. front ++ option_to_list p) some
-
-pub last_of : (xs front : List KeyedJob) (x : KeyedJob) → xs ≡ front ++ x ∷ []
-    → get_or xs (length xs - 1) x ≡ x
-last_of xs front x is =
-    let at : length xs - 1 ≡ length front = omega (arith, ap length is, length_push front x) in
-    ap (λ i. get_or xs i x) at ∙ ap (λ ys. get_or ys (length front) x) is
-    ∙ get_or_at front x [] x (length front) refl
-
--- what holds of the entries where the first ones are sorted holds of them before
-module _ (first later sorted : List KeyedJob) (sorts : IsPermutation first sorted) (x : KeyedJob) where
-  pub sorted_moved : (others : List KeyedJob) → IsPermutation (sorted ++ later) (x ∷ others)
-      → IsPermutation (first ++ later) (x ∷ others)
-  sorted_moved others moved =
-      IsPermutation-trans (first ++ later) (sorted ++ later) (x ∷ others)
-      (IsPermutation-append_left later first sorted sorts) moved
-
-  pub sorted_latest : IsLatest (sorted ++ later) x → IsLatest (first ++ later) x
-  sorted_latest latest =
-      All-permutation (λ e. e.key ≤ℤ x.key) (sorted ++ later) (first ++ later)
-      (IsPermutation-sym (first ++ later) (sorted ++ later)
-      (IsPermutation-append_left later first sorted sorts)) latest
-
--- the last of the first is taken
-pub first_taken : (sorted later front : List KeyedJob) (x : KeyedJob) → sorted ≡ front ++ x ∷ []
-    → IsPermutation (sorted ++ later) (x ∷ (front ++ later))
-first_taken sorted later front x is =
-    subst (λ (es : List KeyedJob). IsPermutation (es ++ later) (x ∷ (front ++ later))) (sym is)
-    (IsPermutation-sym (x ∷ (front ++ later)) ((front ++ x ∷ []) ++ later)
-    (pushed_first front later x))
-
--- the greatest of those that followed is taken
-pub later_taken : (sorted later more : List KeyedJob) (x : KeyedJob) → IsPermutation later (x ∷ more)
-    → IsPermutation (sorted ++ later) (x ∷ (sorted ++ more))
-later_taken sorted later more x moved =
-    IsPermutation-trans (sorted ++ later) (sorted ++ x ∷ more) (x ∷ (sorted ++ more))
-    (IsPermutation-append_right sorted later (x ∷ more) moved)
-    (IsPermutation-middle sorted x more)
+-- of ranks too, where the least key is read from its bits
+pub ranks_moved : (least : ℤ) (rs : List ℕ) (r : ℕ) (others : List ℕ) (x : KeyedJob)
+    → SFits w64 least → IsPermutation rs (r ∷ others)
+    → x ≡ ranked (to_z w64 (of_z w64 least)) r
+    → IsPermutation (map (ranked least) rs) (x ∷ map (ranked least) others)
+ranks_moved least rs r others x fits moved is =
+    subst (λ (d : KeyedJob). IsPermutation (map (ranked least) rs)
+    (d ∷ map (ranked least) others))
+    (sym (is ∙ ap (λ l. ranked l r) (to_z-of_z w64 least fits)))
+    (IsPermutation-map (ranked least) rs (r ∷ others) moved)
 
 -- x is taken, and the others are left
-module _ (k : SchedulingTask) (begun : Bool) (first later : List KeyedJob)
-    (due : AreDue k begun first later) (x : KeyedJob) (others : List KeyedJob)
-    (moved : IsPermutation (first ++ later) (x ∷ others)) (latest : IsLatest (first ++ later) x) where
-  abbrev entries : List KeyedJob
-  entries = first ++ later
-
+module _ (k : SchedulingTask) (es : List KeyedJob) (due : AreDue k es) (x : KeyedJob)
+    (others : List KeyedJob) (moved : IsPermutation es (x ∷ others)) where
   pub own_due : HasDue k x
-  own_due = All-permutation (HasDue k) entries (x ∷ others) moved due.dues 0 x (omega arith)
+  own_due = All-permutation (HasDue k) es (x ∷ others) moved due.dues 0 x (omega arith)
 
-  pub jobs_moved : IsPermutation (jobs_due entries) (x.job ∷ jobs_due others)
-  jobs_moved = IsPermutation-map (λ (e : KeyedJob). e.job) entries (x ∷ others) moved
+  pub jobs_moved : IsPermutation (jobs_due es) (x.job ∷ jobs_due others)
+  jobs_moved = IsPermutation-map (λ (e : KeyedJob). e.job) es (x ∷ others) moved
 
-  pub own_job : All (IsJob k) (jobs_due entries) → IsJob k x.job
+  pub own_job : All (IsJob k) (jobs_due es) → IsJob k x.job
   own_job known =
-      All-permutation (IsJob k) (jobs_due entries) (x.job ∷ jobs_due others) jobs_moved known 0 0
+      All-permutation (IsJob k) (jobs_due es) (x.job ∷ jobs_due others) jobs_moved known 0 0
       (omega arith)
 
   -- it costs how late it is
@@ -239,19 +136,23 @@ module _ (k : SchedulingTask) (begun : Bool) (first later : List KeyedJob)
   latest_cost end = ap (λ d. pos end -ℤ d) own_due ∙ due_price k x.job end due.class
 
   -- and is the cheapest at each time
-  pub latest_cheapest : (end i : ℕ) → Contains (jobs_due entries) i
+  pub latest_cheapest : IsLatest es x → (end i : ℕ) → Contains (jobs_due es) i
       → (pos end -ℤ x.key) ≤ℤ price k i end
-  latest_cheapest end i at =
-      let lt : at.0 < length entries =
-      omega (arith, at.1, length-map entries (λ (e : KeyedJob). e.job)) in
-      let e : KeyedJob = get_or entries at.0 x in
-      let its : e.job ≡ i = sym (get_or-map (λ (d : KeyedJob). d.job) entries at.0 x i lt)
+  latest_cheapest latest end i at =
+      let lt : at.0 < length es =
+      omega (arith, at.1, length-map es (λ (e : KeyedJob). e.job)) in
+      let e : KeyedJob = get_or es at.0 x in
+      let its : e.job ≡ i = sym (get_or-map (λ (d : KeyedJob). d.job) es at.0 x i lt)
       ∙ at.2 in
       let is : e.key ≡ (job_data k i).due = due.dues at.0 x lt
       ∙ ap (λ j. (job_data k j).due) its in
       subst (λ z. (pos end -ℤ x.key) ≤ℤ z) (ap (λ d. pos end -ℤ d) is ∙ due_price k i end due.class)
       (less_left (pos end) x.key e.key (latest at.0 x lt))
 
-  pub others_due : All (HasDue k) others
-  others_due = All-tail (HasDue k) x others
-      (All-permutation (HasDue k) entries (x ∷ others) moved due.dues)
+  pub others_due : AreDue k others
+  others_due =
+      record {
+        class = due.class;
+        dues = All-tail (HasDue k) x others
+            (All-permutation (HasDue k) es (x ∷ others) moved due.dues);
+      }

@@ -16,5 +16,6 @@ pub mod Open
 pub mod Walk
 pub mod Found
 pub mod Taking
+pub mod GreatestFirst
 pub mod ByDue
 pub mod Cheapest

@@ -9,6 +9,7 @@ pub mod Progress
 pub mod Agenda
 pub mod Ends
 pub mod Open
+pub mod GreatestFirst
 pub mod ByDue
 pub mod ArcsInto
 pub mod Successors

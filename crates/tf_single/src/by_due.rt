@@ -1,17 +1,12 @@
 //! Free jobs by their due dates.
-ghost use Rattle.std.specs.Prelude.{◌≡◌, ◌<◌, ◌-◌, ◌++◌, [], length, slice_index_or};
-ghost use Rattle.std.specs.Prelude.{true, false, IsTrue, IfOk};
-ghost use Rattle.std.specs.BinaryHeap.{heap_items, IsHeap};
-ghost use Rattle.std.specs.List.Sorted.{IsPermutation, IsSorted};
+ghost use Rattle.std.specs.Prelude.{IfSome, IsTrue};
 ghost use Rattle.tf_model.specs.ClassTable.{is_due};
-ghost use Rattle.tf_single.specs.ByDue.{AreDue, IsRising, IsLatest, jobs_due};
-ghost use Rattle.tf_check.specs.KeyedJob.{key_cmp};
-ghost use Rattle.tf_check.specs.declared.keyed_job.KeyedJob.{KeyedJob};
+ghost use Rattle.tf_single.specs.ByDue.{AreNear};
 
 use crate::free_jobs::{FreeJobs, LastJob};
+use crate::greatest_first::GreatestFirst;
 use std::alloc::Allocator;
-use std::collections::BinaryHeap;
-use tf_check::keyed_job::{KeyedJob, sort_jobs};
+use tf_check::keyed_job::{KeySpan, KeyedJob, job_of, rank_of};
 use tf_model::cost::{Cost, Late};
 use tf_model::ids::JobId;
 use tf_model::memory::OutOfMemory;
@@ -19,133 +14,120 @@ use tf_model::task::Task;
 
 /// Free jobs by their due dates, which are their keys: what is due last is the least late, whatever
 /// the work.
-///
-/// Those that are free before any is taken are sorted once; a heap takes those that follow.
 #[derive(Drop)]
 pub(crate) struct ByDue<A: Allocator> {
-    alloc: A,
-    // In rising order once the first job is taken.
-    first: Vec<KeyedJob, A>,
-    later: BinaryHeap<KeyedJob, A>,
-    has_begun: bool,
+    jobs: GreatestFirst<KeyedJob, A>,
 }
 
 impl<A: Allocator + Copy> ByDue<A> {
-    ghost use Rattle.std.specs.Prelude.{◌≡◌, ◌++◌, [], IsTrue, IfOk};
-    ghost use Rattle.std.specs.BinaryHeap.{heap_items};
+    ghost use Rattle.std.specs.Prelude.{◌≡◌, [], IsTrue, IfOk};
     ghost use Rattle.tf_model.specs.ClassTable.{is_due};
+    ghost use Rattle.tf_check.specs.KeyedJob.{key_cmp};
     ghost use Rattle.tf_single.specs.ByDue.{AreDue, jobs_due};
+    ghost use Rattle.tf_single.specs.GreatestFirst.{AreOrdered, entries};
 
     /// No job is free.
     pub(crate) fn new<B: Allocator>(alloc: A, task: &Task<B>) -> Result<Self, OutOfMemory>
         requires { IsTrue (is_due task.now.class) }
-        ensures none { IfOk result (λ free.
-            jobs_due (free.first.items ++ heap_items free.later) ≡ []) }
-        ensures kept { IfOk result (λ free.
-            AreDue task.now free.has_begun free.first.items (heap_items free.later)) }
+        ensures none { IfOk result (λ free. jobs_due (entries free.jobs) ≡ []) }
+        ensures due { IfOk result (λ free. AreDue task.now (entries free.jobs)) }
+        ensures ordered { IfOk result (λ free. AreOrdered key_cmp free.jobs) }
     {
         Ok(ByDue {
-            alloc,
-            first: Vec::with_capacity(alloc, task.len())?,
-            later: BinaryHeap::with_capacity(alloc, task.len())?,
-            has_begun: false,
+            jobs: GreatestFirst::new(alloc, task.len())?,
         })
     }
 }
 
-impl<A: Allocator + Copy> ByDue<A> {
-    ghost use Rattle.std.specs.Prelude.{◌≡◌, ◌<◌, ◌-◌, ◌∷◌, ◌++◌, length, slice_index_or, true};
-    ghost use Rattle.std.specs.Prelude.{false};
-    ghost use Rattle.std.specs.BinaryHeap.{heap_items, IsHeap};
-    ghost use Rattle.std.specs.List.Sorted.{IsPermutation, IsSorted};
-    ghost use Rattle.tf_single.specs.ByDue.{IsRising, IsLatest};
-    ghost use Rattle.tf_check.specs.KeyedJob.{key_cmp};
-    ghost use Rattle.tf_check.specs.declared.keyed_job.KeyedJob.{KeyedJob};
-
-    // From now on the jobs that become free follow.
-    fn begin(&mut self)
-        requires { IsRising self.old.has_begun self.old.first.items }
-        ensures begun { self.new.has_begun ≡ true }
-        ensures first { IsPermutation self.old.first.items self.new.first.items }
-        ensures rising { IsSorted key_cmp self.new.first.items }
-        ensures later { self.new.later ≡ self.old.later }
-    {
-        if !self.has_begun {
-            sort_jobs(self.alloc, &mut self.first);
-            self.has_begun = true;
-        }
-    }
-
-    // Whether the last of the first jobs goes before the greatest of those that followed.
-    fn is_first_ahead(&self) -> bool
-        requires rising { IsSorted key_cmp self.now.first.items }
-        requires heap { IsHeap key_cmp (heap_items self.now.later) }
-        ensures first { result ≡ true → (0 < length self.now.first.items)
-            × ((d : KeyedJob) → IsLatest (self.now.first.items ++ heap_items self.now.later)
-            (slice_index_or self.now.first.items (length self.now.first.items - 1) d)) }
-        ensures later { result ≡ false
-            → 0 < length (self.now.first.items ++ heap_items self.now.later)
-            → (0 < length (heap_items self.now.later))
-            × ((d : KeyedJob) → IsLatest (self.now.first.items ++ heap_items self.now.later)
-            (slice_index_or (heap_items self.now.later) 0 d)) }
-    {
-        let Some(later) = self.later.peek() else {
-            return !self.first.is_empty();
-        };
-        let Some(first) = self.first.last() else {
-            return false;
-        };
-        later.cmp(first).is_lt()
-    }
-
-    // Takes away the entry that is due last.
-    fn pop_latest(&mut self) -> KeyedJob
-        requires some { 0 < length (self.old.first.items ++ heap_items self.old.later) }
-        requires rising { IsRising self.old.has_begun self.old.first.items }
-        requires heap { IsHeap key_cmp (heap_items self.old.later) }
-        ensures latest { IsLatest (self.old.first.items ++ heap_items self.old.later) result }
-        ensures moved { IsPermutation (self.old.first.items ++ heap_items self.old.later)
-            (result ∷ (self.new.first.items ++ heap_items self.new.later)) }
-        ensures rising { IsSorted key_cmp self.new.first.items }
-        ensures heap { IsHeap key_cmp (heap_items self.new.later) }
-    {
-        self.begin();
-        if self.is_first_ahead() {
-            return self.first.pop().unwrap();
-        }
-        self.later.pop().unwrap()
-    }
-}
-
 impl<A: Allocator + Copy> FreeJobs for ByDue<A> {
-    ghost use Rattle.std.specs.Prelude.{◌++◌};
-    ghost use Rattle.std.specs.BinaryHeap.{heap_items};
+    ghost use Rattle.tf_check.specs.KeyedJob.{key_cmp};
     ghost use Rattle.tf_single.specs.ByDue.{AreDue, jobs_due};
+    ghost use Rattle.tf_single.specs.GreatestFirst.{AreOrdered, entries};
 
-    ghost jobs_of = { λ free. jobs_due (free.first.items ++ heap_items free.later) };
+    ghost jobs_of = { λ free. jobs_due (entries free.jobs) };
 
-    ghost IsKept = { λ free k _.
-        AreDue k free.has_begun free.first.items (heap_items free.later) };
+    ghost IsKept = { λ free k _. AreDue k (entries free.jobs) × AreOrdered key_cmp free.jobs };
 
     fn is_empty(&self) -> bool {
-        self.first.is_empty() && self.later.is_empty()
+        self.jobs.is_empty()
     }
 
     fn add<B: Allocator>(&mut self, task: &Task<B>, job: JobId) -> Result<(), OutOfMemory> {
-        let entry = KeyedJob {
-            key: task.due(job),
-            job,
-        };
-        if self.has_begun {
-            self.later.push(entry)?;
-        } else {
-            self.first.push(entry)?;
-        }
+        let key = task.due(job);
+        self.jobs.push(KeyedJob { key, job })?;
         Ok(())
     }
 
     fn take_last<B: Allocator>(&mut self, _: &Task<B>, work: u64) -> LastJob {
-        let KeyedJob { key: due, job } = self.pop_latest();
+        let KeyedJob { key: due, job } = self.jobs.pop();
+        LastJob {
+            job,
+            cost: Late { due }.value_at(work as i64),
+        }
+    }
+}
+
+/// The least due date, where no job's is too far from it for a rank.
+pub(crate) fn near_due<B: Allocator>(task: &Task<B>) -> Option<i64>
+    requires { IsTrue (is_due task.now.class) }
+    ensures { IfSome result (AreNear task.now) }
+{
+    let mut span = KeySpan::EMPTY;
+    for k in 0..task.len() {
+        span = span.with(task.due(JobId::at(k)));
+    }
+    span.near_least()
+}
+
+/// The same by ranks, where the due dates are near to one another.
+#[derive(Drop)]
+pub(crate) struct ByNearDue<A: Allocator> {
+    least: i64,
+    ranks: GreatestFirst<u64, A>,
+}
+
+impl<A: Allocator + Copy> ByNearDue<A> {
+    ghost use Rattle.std.specs.Prelude.{◌≡◌, [], IsTrue, IfOk};
+    ghost use Rattle.tf_model.specs.ClassTable.{is_due};
+    ghost use Rattle.tf_single.specs.ByDue.{AreNear, AreRanked, jobs_due, jobs_ranked};
+
+    /// No job is free.
+    pub(crate) fn new<B: Allocator>(
+        alloc: A,
+        task: &Task<B>,
+        least: i64,
+    ) -> Result<Self, OutOfMemory>
+        requires class { IsTrue (is_due task.now.class) }
+        requires near { AreNear task.now least }
+        ensures none { IfOk result (λ free. jobs_due (jobs_ranked free.least free.ranks) ≡ []) }
+        ensures kept { IfOk result (λ free. AreRanked task.now free.least free.ranks) }
+    {
+        Ok(ByNearDue {
+            least,
+            ranks: GreatestFirst::new(alloc, task.len())?,
+        })
+    }
+}
+
+impl<A: Allocator + Copy> FreeJobs for ByNearDue<A> {
+    ghost use Rattle.tf_single.specs.ByDue.{AreRanked, jobs_due, jobs_ranked};
+
+    ghost jobs_of = { λ free. jobs_due (jobs_ranked free.least free.ranks) };
+
+    ghost IsKept = { λ free k _. AreRanked k free.least free.ranks };
+
+    fn is_empty(&self) -> bool {
+        self.ranks.is_empty()
+    }
+
+    fn add<B: Allocator>(&mut self, task: &Task<B>, job: JobId) -> Result<(), OutOfMemory> {
+        let key = task.due(job);
+        self.ranks.push(rank_of(KeyedJob { key, job }, self.least))?;
+        Ok(())
+    }
+
+    fn take_last<B: Allocator>(&mut self, _: &Task<B>, work: u64) -> LastJob {
+        let KeyedJob { key: due, job } = job_of(self.ranks.pop(), self.least);
         LastJob {
             job,
             cost: Late { due }.value_at(work as i64),

@@ -1,7 +1,8 @@
 //! One machine, and the greatest cost of a job: Lawler's rule.
-ghost use Rattle.std.specs.Prelude.{◌≡◌, [], IfOk, IfErr, IsTrue};
+ghost use Rattle.std.specs.Prelude.{◌≡◌, ℕ, ◌≤◌, [], IfOk, IfErr, IsTrue};
 ghost use Rattle.std.specs.List.{All};
 ghost use Rattle.tf_model.specs.ClassTable.{is_due};
+ghost use Rattle.tf_model.specs.Limit.{limit};
 ghost use Rattle.tf_model.specs.SchedulingTask.{IsJob};
 ghost use Rattle.tf_model.specs.Sound.{IsSound};
 ghost use Rattle.tf_schedule.specs.Schedule.{IsSchedule};
@@ -14,7 +15,8 @@ ghost use Rattle.tf_single.specs.LawlerFault.{HoldsCycle};
 
 use crate::backward::{LastFirst, last_first};
 use crate::by_cost::ByCost;
-use crate::by_due::ByDue;
+use crate::by_due::{ByDue, ByNearDue, near_due};
+use crate::free_jobs::FreeJobs;
 use crate::lawler_fault::LawlerFault;
 use std::alloc::Allocator;
 use tf_check::answer::Answer;
@@ -48,8 +50,7 @@ pub fn lawler<A: Allocator + Copy, B: Allocator, C: Cost>(
     ensures accepted { IfOk result (IsAccepted task.now) }
     ensures cycle { IfErr result (HoldsCycle task.now) }
 {
-    let order = last_first(alloc, task, ByCost::new(alloc, task, costs)?)?;
-    Ok(answer_of(alloc, task, order)?)
+    from_the_back(alloc, task, ByCost::new(alloc, task, costs)?)
 }
 
 /// A timetable on one machine whose latest job is least late, where arcs are kept (Lawler 1973); or
@@ -68,7 +69,26 @@ pub fn lawler_by_due<A: Allocator + Copy, B: Allocator>(
     ensures accepted { IfOk result (IsAccepted task.now) }
     ensures cycle { IfErr result (HoldsCycle task.now) }
 {
-    let order = last_first(alloc, task, ByDue::new(alloc, task)?)?;
+    match near_due(task) {
+        Some(least) => from_the_back(alloc, task, ByNearDue::new(alloc, task, least)?),
+        None => from_the_back(alloc, task, ByDue::new(alloc, task)?),
+    }
+}
+
+// The answer by free jobs of this kind, of which none is free before.
+fn from_the_back<A: Allocator + Copy, B: Allocator, F: FreeJobs + Drop>(
+    alloc: A,
+    task: &Task<B>,
+    free: F,
+) -> Result<Answer<A>, LawlerFault<A>>
+    requires class { IsTrue (takes_last_of task.now.class) }
+    requires none { F.jobs_of free ≡ [] }
+    requires kept { (work : ℕ) → work ≤ limit → F.IsKept free task.now work }
+    ensures schedule { IfOk result (λ a. IsSchedule a.pieces) }
+    ensures accepted { IfOk result (IsAccepted task.now) }
+    ensures cycle { IfErr result (HoldsCycle task.now) }
+{
+    let order = last_first(alloc, task, free)?;
     Ok(answer_of(alloc, task, order)?)
 }
 

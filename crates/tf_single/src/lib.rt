@@ -10,6 +10,7 @@ pub mod costs;
 mod cycle;
 pub mod edd;
 mod free_jobs;
+mod greatest_first;
 pub mod lawler;
 pub mod lawler_fault;
 mod timeline;
