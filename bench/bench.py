@@ -1,12 +1,13 @@
 #!/usr/bin/env python3
 """Measures threefield beside the tuned program of bench/tuned, on the same instances and in turn.
 
-    python3 bench/bench.py [--runs R] [--jobs N] [CASE..]      in the root folder
+    python3 bench/bench.py [--runs R] [--jobs N] [--growth] [CASE..]      in the root folder
 
 It needs the program that `rt run` in crates/threefield leaves in its out/, rustc and /usr/bin/time. Of `solve` and of
 `check` of each program's own answer it prints the least processor time (user and system) of the runs in milliseconds, and
-the peak memory in MB. The two answers are compared. A CASE is a problem in three-field notation, `wt`, `flow`, or one of the worst inputs
-`steps`, `pieces`, `chain`, `star` and `alike`; without one all are run.
+the peak memory in MB. The two answers are compared. A CASE is a problem in three-field notation, `wt`, `flow`, or one of the
+worst inputs `steps`, `pieces`, `chain`, `star` and `alike`; without one all are run. With --growth it prints how many times as
+long N jobs take as a tenth of them, by the least and the median times.
 """
 import argparse
 import os
@@ -181,18 +182,15 @@ class Table:
                   f"worst {max(r[0] for r in ratios):.1f} and {max(r[1] for r in ratios):.1f}")
 
 
-def measure(case, programs, folder, options, table):
+def prepared(case, jobs, programs, folder):
+    """The commands on an instance of so many jobs, each with the words of the two programs; their answers are compared."""
+    os.makedirs(folder, exist_ok=True)
     if case == "pieces":
-        path, answer = write_pieces(folder, options.jobs)
-        checks = [[p, "check", "--problem", "1|prmp|sumC", path, answer] for p in programs]
-        table.add(case, "check", compared(checks, options.runs))
-        return
+        path, answer = write_pieces(folder, jobs)
+        return [("check", [[p, "check", "--problem", "1|prmp|sumC", path, answer] for p in programs])]
     path = os.path.join(folder, "input")
     draw = random.Random(case)
-    if case in WRITERS:
-        problem, form = WRITERS[case](path, options.jobs, draw)
-    else:
-        problem, form = write_class(path, case, options.jobs, draw)
+    problem, form = WRITERS[case](path, jobs, draw) if case in WRITERS else write_class(path, case, jobs, draw)
     common = ["--problem", problem] + form
     answers = [os.path.join(folder, name) for name in ("ours", "tuned_answer")]
     solves = [[programs[0], "solve", "--answer", "1"] + common + [path], [programs[1], "solve"] + common + [path]]
@@ -201,9 +199,29 @@ def measure(case, programs, folder, options, table):
     with open(answers[0], "rb") as a, open(answers[1], "rb") as b:
         if a.read() != b.read():
             sys.exit(f"{case}: the two answers differ")
-    table.add(case, "solve", compared(solves, options.runs))
     checks = [[p, "check"] + common + [path, answer] for p, answer in zip(programs, answers)]
-    table.add(case, "check", compared(checks, options.runs))
+    return [("solve", solves), ("check", checks)]
+
+
+def measure(cases, programs, folder, options):
+    table = Table()
+    for case in cases:
+        for command, pair in prepared(case, options.jobs, programs, folder):
+            table.add(case, command, compared(pair, options.runs))
+    table.close()
+
+
+def measure_growth(cases, programs, folder, options):
+    """How many times as long ten times the jobs take, both programs at both sizes in turn."""
+    print("| Case | Command | threefield, least | median | tuned, least | median |\n" + "|---" * 6 + "|")
+    for case in cases:
+        few, many = (prepared(case, jobs, programs, os.path.join(folder, str(jobs)))
+                     for jobs in (options.jobs // 10, options.jobs))
+        for (command, small), (_, large) in zip(few, many):
+            times = list(zip(*([run(words) for words in small + large] for _ in range(options.runs))))
+            growth = [f"{kind(times[k + 2]) / kind(times[k]):.1f}" for k in (0, 1) for kind in (min, statistics.median)]
+            shown = case.replace("|", "\\|")
+            print(f"| `{shown}` | {command} | " + " | ".join(growth) + " |", flush=True)
 
 
 def main():
@@ -211,16 +229,18 @@ def main():
     parser.add_argument("cases", nargs="*", metavar="CASE")
     parser.add_argument("--runs", type=int, default=15)
     parser.add_argument("--jobs", type=int, default=100_000)
+    parser.add_argument("--growth", action="store_true")
     parser.add_argument("--program", default=PROGRAM)
     options = parser.parse_args()
     here = os.path.dirname(os.path.abspath(__file__))
     with tempfile.TemporaryDirectory() as folder:
         tuned = os.path.join(folder, "tuned")
         subprocess.run(["rustc", "-O", "--edition", "2021", "-o", tuned, os.path.join(here, "tuned", "main.rs")], check=True)
-        table = Table()
-        for case in options.cases or CLASSES + list(WRITERS) + ["pieces"]:
-            measure(case, (options.program, tuned), folder, options, table)
-        table.close()
+        programs = (options.program, tuned)
+        if options.growth:
+            measure_growth(options.cases or CLASSES, programs, folder, options)
+        else:
+            measure(options.cases or CLASSES + list(WRITERS) + ["pieces"], programs, folder, options)
 
 
 if __name__ == "__main__":
