@@ -4,12 +4,13 @@ use std::alloc::{Allocator, Global};
 use std::test::Fail;
 use tf_check::answer::Answer;
 use tf_check::certificate::Certificate;
-use tf_check::check::check;
+use tf_check::check::{check, check_owned};
 use tf_check::evidence::Evidence;
 use tf_check::fault::BoundFault;
 use tf_check::verdict::Verdict;
 use tf_engine::solve::{SolveFault, solve};
 use tf_model::instance::Instance;
+use tf_model::memory::OutOfMemory;
 use tf_model::prepare::{Refusal, prepare};
 use tf_model::problem::Problem;
 use tf_model::task::Task;
@@ -118,12 +119,21 @@ impl Lent {
         }
     }
 
-    fn checks(&self, heap: &Refusing<Global>) -> Result<Ended, Fail> {
-        match check(heap, &self.task, &self.answer) {
+    fn is_accepted(&self, verdict: Result<Verdict, OutOfMemory>) -> Result<Ended, Fail> {
+        match verdict {
             Ok(Verdict::Accepted) => Ok(Ended::Answered),
             Ok(Verdict::Rejected(_)) => Err(self.fails()),
             Err(_) => Ok(Ended::OutOfMemory),
         }
+    }
+
+    fn checks(&self, heap: &Refusing<Global>) -> Result<Ended, Fail> {
+        self.is_accepted(check(heap, &self.task, &self.answer))
+    }
+
+    fn checks_owned(&self, rt: &HostRuntime, heap: &Refusing<Global>) -> Result<Ended, Fail> {
+        let answer = read_answer(rt.alloc(), self.example.answer)?.answer;
+        self.is_accepted(check_owned(heap, &self.task, answer))
     }
 
     fn judges(&self, heap: &Refusing<Global>, schedule: &Schedule) -> Result<Ended, Fail> {
@@ -155,12 +165,20 @@ fn preparing_and_solving_answer_whatever_growth_is_refused(rt: HostRuntime) -> R
     Ok(())
 }
 
+/// An answer that is given up is judged without a growth for a copy of its pieces, if it has some.
 #[test]
 fn judging_answers_whatever_growth_is_refused(rt: HostRuntime) -> Result<(), Fail> {
     for example in WORKED.iter() {
         let lent = lend(&rt, example)?;
         let checks = |heap: &Refusing<Global>| lent.checks(heap);
-        ensure(refuse_each_growth(&rt, checks)? > 0, example.name)?;
+        let growths = refuse_each_growth(&rt, checks)?;
+        let checks_owned = |heap: &Refusing<Global>| lent.checks_owned(&rt, heap);
+        let growths_owned = refuse_each_growth(&rt, checks_owned)?;
+        let copies = u64::from(!lent.answer.pieces.as_slice().is_empty());
+        ensure(
+            growths.checked_sub(growths_owned) == Some(copies),
+            example.name,
+        )?;
         let pieces = lent.answer.pieces.as_slice().to_vec(rt.alloc())?;
         let schedule = Schedule::new(pieces).ok().ok_or("no schedule")?;
         let judges = |heap: &Refusing<Global>| lent.judges(heap, &schedule);

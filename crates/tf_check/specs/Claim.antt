@@ -17,3 +17,8 @@ pub record AnswerData : Type 0 where
   pub pieces : List Piece
   pub value : ℤ
   pub certificate : Claim
+
+-- an answer by its parts
+abbrev pub answer_of : List Piece → ℤ → Claim → AnswerData
+answer_of pieces value claim =
+    record { pieces = pieces; value = value; certificate = claim }

@@ -14,7 +14,7 @@ use crate::task_for::{problem_for, task_read};
 use crate::verdict_line::verdict_bytes;
 use std::alloc::Allocator;
 use std::io::{Read, Write};
-use tf_check::check::check;
+use tf_check::check::check_owned;
 use tf_check::verdict::{Reason, Verdict};
 use tf_model::class::class_of;
 use tf_model::memory::OutOfMemory;
@@ -94,7 +94,7 @@ pub fn run_check<A: Allocator + Copy, B: Allocator, R: Read, S: Read, W: Write>(
     let problem = problem_for(request.problem.as_str())?;
     let task = task_read(alloc, request, &problem, instance)?;
     let sheet = sheet_said(alloc, answer)?;
-    let checked = verdict_on(alloc, &task, &sheet)?;
+    let checked = verdict_on(alloc, &task, sheet)?;
     let line = verdict_bytes(alloc, &checked)?;
     writer.push_all(line.as_slice())?;
     Ok(checked)
@@ -112,14 +112,14 @@ pub fn is_for<B: Allocator, C: Allocator>(task: &Task<B>, sheet: &Sheet<C>) -> b
 fn verdict_on<A: Allocator + Copy, B: Allocator, C: Allocator>(
     alloc: A,
     task: &Task<B>,
-    sheet: &Sheet<C>,
+    sheet: Sheet<C>,
 ) -> Result<Checked, OutOfMemory>
-    ensures { IfOk result (IsVerdict task.now sheet.now) }
+    ensures { IfOk result (IsVerdict task.now sheet) }
 {
-    if !is_for(task, sheet) {
+    if !is_for(task, &sheet) {
         return Ok(Checked::OtherTask);
     }
-    match check(alloc, task, &sheet.answer)? {
+    match check_owned(alloc, task, sheet.into_answer())? {
         Verdict::Accepted => Ok(Checked::Accepted),
         Verdict::Rejected(reason) => Ok(Checked::Rejected(reason)),
     }

@@ -43,7 +43,8 @@ pub fn run_gantt<A: Allocator + Copy, R: Read, W: Write>(
     ensures counted { pulled_of reader.new ≤ pulled_of reader.old + (most_bytes + 1) }
 {
     let sheet = sheet_said(alloc, reader)?;
-    let schedule = schedule_said(alloc, &sheet)?;
-    write_gantt(writer, &schedule, sheet.machines, columns)?;
+    let machines = sheet.machines;
+    let schedule = schedule_said(sheet)?;
+    write_gantt(writer, &schedule, machines, columns)?;
     Ok(())
 }

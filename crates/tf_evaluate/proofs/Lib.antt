@@ -1,5 +1,6 @@
 pub mod Written
 pub mod Judged
+pub mod PermutedOutcomes
 pub mod Unevaluated
 pub mod Standing
 pub mod Given

@@ -53,9 +53,9 @@ HasStanding k sheet Unfit = IsFor k sheet → (rows : Timetable)
     → ¬ (DrawsFitting k sheet.answer.pieces rows)
 
 -- what the certificate bounds, or its first fault
-abbrev pub bound_for : SchedulingTask → AnswerData → Fit → Option (Result ℤ BoundFault)
-bound_for k a OtherTask = None
-bound_for k a _ = Some (bound_by a.certificate k)
+abbrev pub bound_for : SchedulingTask → Claim → Fit → Option (Result ℤ BoundFault)
+bound_for k claim OtherTask = None
+bound_for k claim _ = Some (bound_by claim k)
 
 -- the bound, where there is one, is the certificate's
 abbrev pub IsBoundOf : SchedulingTask → Claim → Option (Result ℤ BoundFault) → Type 0
@@ -91,6 +91,6 @@ pub record IsEvaluation (detail : Detail) (problem : Problem) (k : SchedulingTas
   pub fit : HasFit k sheet e.fit
   pub claimed : e.claimed ≡ sheet.answer.value
   pub best : IsLeastCost k e.best
-  pub bound : e.bound ≡ bound_for k sheet.answer e.fit
+  pub bound : e.bound ≡ bound_for k sheet.answer.certificate e.fit
   pub steps : e.steps ≡ steps_for detail e.bound k sheet.answer.certificate
   pub outcomes : e.outcomes ≡ outcomes_for k sheet.answer.pieces e.fit

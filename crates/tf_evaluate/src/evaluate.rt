@@ -1,9 +1,17 @@
 //! An answer, evaluated.
-ghost use Rattle.std.specs.Prelude.{◌≡◌, IfOk, IfErr};
+ghost use Rattle.std.specs.Prelude.{◌≡◌, ◌↔◌, map, IsTrue, IfOk, IfErr};
+ghost use Rattle.std.specs.List.Sorted.{IsPermutation};
+ghost use Rattle.tf_model.specs.SchedulingTask.{all_jobs};
 ghost use Rattle.tf_model.specs.Sound.{IsSound};
+ghost use Rattle.tf_schedule.specs.Schedule.{IsSchedule};
+ghost use Rattle.tf_check.specs.Certificate.{claim_of};
+ghost use Rattle.tf_check.specs.Claim.{AnswerData};
+ghost use Rattle.tf_text.specs.AnswerText.{SheetData};
+ghost use Rattle.tf_engine.specs.Checking.{IsFor};
 ghost use Rattle.tf_engine.specs.Solvers.{IsNotSolved};
 ghost use Rattle.tf_evaluate.specs.Evaluating.{EndsInBound, IsBoundOf, IsEvaluation, IsLeastCost, HasFit, HasStanding, HasGap, IsJudged, bound_for, outcomes_for, steps_for};
 ghost use Rattle.tf_evaluate.specs.EvaluationData.{standing_of};
+ghost use Rattle.tf_evaluate.specs.Outcomes.{outcome_of};
 
 use crate::arithmetic::arithmetic;
 use crate::evaluation::{Detail, Evaluation, Fit, JobOutcome};
@@ -11,6 +19,7 @@ use crate::outcomes::outcomes;
 use crate::step::Step;
 use std::alloc::Allocator;
 use tf_check::answer::Answer;
+use tf_check::certificate::Certificate;
 use tf_check::evidence::Evidence;
 use tf_check::fault::BoundFault;
 use tf_engine::run_check::is_for;
@@ -20,36 +29,42 @@ use tf_model::problem::Problem;
 use tf_model::task::Task;
 use tf_schedule::cost::cost;
 use tf_schedule::fit::{Misfit, fits};
+use tf_schedule::piece::Piece;
 use tf_schedule::schedule::Schedule;
 use tf_text::answer::sheet::Sheet;
 
-/// How an answer to a problem stands to its task. A cycle of arcs is refused, since then no
-/// timetable fits.
+/// How an answer to a problem stands to its task. The answer is given up, so that its pieces are
+/// sorted where they stand. A cycle of arcs is refused, since then no timetable fits.
 pub fn evaluate<A: Allocator + Copy, B: Allocator, C: Allocator>(
     alloc: A,
     problem: &Problem,
     task: &Task<B>,
-    sheet: &Sheet<C>,
+    sheet: Sheet<C>,
     detail: Detail,
 ) -> Result<Evaluation<A>, SolveFault<A>>
-    ensures evaluation { IfOk result (IsEvaluation detail problem.now task.now sheet.now) }
+    ensures evaluation { IfOk result (IsEvaluation detail problem.now task.now sheet) }
     ensures standing { IfOk result
-        (λ e. HasStanding task.now sheet.now (standing_of e.fit e.best) × HasGap e.fit e.best) }
+        (λ e. HasStanding task.now sheet (standing_of e.fit e.best) × HasGap e.fit e.best) }
     ensures arithmetic { IfOk result (λ e. EndsInBound detail e.bound e.steps) }
     ensures refused { IfErr result (IsNotSolved task.now) }
 {
     let jobs = task.len() as u32;
     let best = least_cost(alloc, task)?;
-    let fit = fit_of(alloc, task, sheet)?;
-    let bound = bound_of(alloc, task, &sheet.answer, &fit)?;
-    let steps = steps_of(alloc, task, &sheet.answer, &bound, detail)?;
-    let outcomes = outcomes_of(alloc, task, sheet, &fit)?;
+    let is_its = is_for(task, &sheet);
+    let Answer {
+        pieces,
+        value: claimed,
+        certificate,
+    } = sheet.into_answer();
+    let Judgement { fit, outcomes } = judged(alloc, task, is_its, pieces.into_vec())?;
+    let bound = bound_of(alloc, task, &certificate, &fit)?;
+    let steps = steps_of(alloc, task, &certificate, &bound, detail)?;
     Ok(Evaluation {
         problem: *problem,
         jobs,
         machines: task.machines(),
         fit,
-        claimed: sheet.answer.value,
+        claimed,
         best,
         bound,
         steps,
@@ -69,33 +84,58 @@ fn least_cost<A: Allocator + Copy, B: Allocator>(
     Ok(answer.value)
 }
 
-fn fit_of<A: Allocator + Copy, B: Allocator, C: Allocator>(
-    alloc: A,
-    task: &Task<B>,
-    sheet: &Sheet<C>,
-) -> Result<Fit, OutOfMemory>
-    ensures { IfOk result (HasFit task.now sheet.now) }
-{
-    if !is_for(task, sheet) {
-        return Ok(Fit::OtherTask);
-    }
-    judged(alloc, task, &sheet.answer)
+// How pieces stand to a task, and what happens to its jobs.
+#[derive(Drop)]
+struct Judgement<A: Allocator> {
+    fit: Fit,
+    outcomes: Vec<JobOutcome, A>,
 }
 
-// How the pieces stand to the task that they are for.
+// Of the pieces of an answer, which is for the task or for another one.
 fn judged<A: Allocator + Copy, B: Allocator, C: Allocator>(
     alloc: A,
     task: &Task<B>,
-    answer: &Answer<C>,
-) -> Result<Fit, OutOfMemory>
-    ensures { IfOk result (IsJudged task.now answer.now) }
+    is_its: bool,
+    pieces: Vec<Piece, C>,
+) -> Result<Judgement<A>, OutOfMemory>
+    ensures fit { (sheet : SheetData) → sheet.answer.pieces ≡ pieces.items →
+        (IsTrue is_its ↔ IsFor task.now sheet) →
+        IfOk result (λ judged. HasFit task.now sheet judged.fit) }
+    ensures outcomes { IfOk result
+        (λ judged. judged.outcomes.items ≡ outcomes_for task.now pieces.items judged.fit) }
 {
-    let schedule = match Schedule::new(answer.pieces.as_slice().to_vec(alloc)?) {
-        Ok(schedule) => schedule,
-        Err(fault) => return Ok(Fit::NoSchedule(fault)),
-    };
-    match fits(alloc, task, &schedule) {
-        Ok(()) => Ok(Fit::Fits(cost(task, &schedule))),
+    if !is_its {
+        return Ok(Judgement {
+            fit: Fit::OtherTask,
+            outcomes: Vec::new(alloc),
+        });
+    }
+    match Schedule::new(pieces) {
+        Ok(schedule) => Ok(Judgement {
+            fit: fit_of(alloc, task, &schedule)?,
+            outcomes: outcomes(alloc, task, schedule.pieces())?,
+        }),
+        Err(fault) => Ok(Judgement {
+            fit: Fit::NoSchedule(fault),
+            outcomes: Vec::new(alloc),
+        }),
+    }
+}
+
+// How a schedule fits the task.
+fn fit_of<A: Allocator + Copy, B: Allocator, C: Allocator>(
+    alloc: A,
+    task: &Task<B>,
+    schedule: &Schedule<C>,
+) -> Result<Fit, OutOfMemory>
+    requires { IsSchedule schedule.now }
+    ensures judged { (a : AnswerData) → IsPermutation a.pieces schedule.now →
+        IfOk result (IsJudged task.now a) }
+    ensures scheduled { IfOk result (λ fit. outcomes_for task.now schedule.now fit
+        ≡ map (outcome_of task.now schedule.now) (all_jobs task.now)) }
+{
+    match fits(alloc, task, schedule) {
+        Ok(()) => Ok(Fit::Fits(cost(task, schedule))),
         Err(Misfit::OutOfMemory) => Err(OutOfMemory),
         Err(misfit) => Ok(Fit::Misfit(misfit)),
     }
@@ -105,15 +145,15 @@ fn judged<A: Allocator + Copy, B: Allocator, C: Allocator>(
 fn bound_of<A: Allocator + Copy, B: Allocator, C: Allocator>(
     alloc: A,
     task: &Task<B>,
-    answer: &Answer<C>,
+    certificate: &Certificate<C>,
     fit: &Fit,
 ) -> Result<Option<Result<i128, BoundFault>>, OutOfMemory>
-    ensures { IfOk result (λ bound. bound ≡ bound_for task.now answer.now fit.now) }
+    ensures { IfOk result (λ bound. bound ≡ bound_for task.now (claim_of certificate.now) fit.now) }
 {
     if let Fit::OtherTask = fit {
         return Ok(None);
     }
-    match answer.certificate.bound(alloc, task) {
+    match certificate.bound(alloc, task) {
         Ok(bound) => Ok(Some(Ok(bound))),
         Err(BoundFault::OutOfMemory) => Err(OutOfMemory),
         Err(fault) => Ok(Some(Err(fault))),
@@ -124,38 +164,21 @@ fn bound_of<A: Allocator + Copy, B: Allocator, C: Allocator>(
 fn steps_of<A: Allocator + Copy, B: Allocator, C: Allocator>(
     alloc: A,
     task: &Task<B>,
-    answer: &Answer<C>,
+    certificate: &Certificate<C>,
     bound: &Option<Result<i128, BoundFault>>,
     detail: Detail,
 ) -> Result<Vec<Step, A>, OutOfMemory>
     requires sound { IsSound task.now }
-    requires bound { IsBoundOf task.now answer.now.certificate bound.now }
+    requires bound { IsBoundOf task.now (claim_of certificate.now) bound.now }
     ensures steps { IfOk result
-        (λ v. v.items ≡ steps_for detail bound.now task.now answer.now.certificate) }
+        (λ v. v.items ≡ steps_for detail bound.now task.now (claim_of certificate.now)) }
     ensures ends { IfOk result (λ v. EndsInBound detail bound.now v.items) }
 {
     if let Detail::Summary = detail {
         return Ok(Vec::new(alloc));
     }
     match bound {
-        Some(Ok(bound)) => arithmetic(alloc, task, &answer.certificate, *bound),
+        Some(Ok(bound)) => arithmetic(alloc, task, certificate, *bound),
         _ => Ok(Vec::new(alloc)),
-    }
-}
-
-// What happens to the jobs, where the pieces make a schedule and the answer is for the task.
-fn outcomes_of<A: Allocator + Copy, B: Allocator, C: Allocator>(
-    alloc: A,
-    task: &Task<B>,
-    sheet: &Sheet<C>,
-    fit: &Fit,
-) -> Result<Vec<JobOutcome, A>, OutOfMemory>
-    requires { HasFit task.now sheet.now fit.now }
-    ensures { IfOk result
-        (λ v. v.items ≡ outcomes_for task.now sheet.now.answer.pieces fit.now) }
-{
-    match fit {
-        Fit::Fits(_) | Fit::Misfit(_) => { outcomes(alloc, task, sheet.answer.pieces.as_slice()) }
-        Fit::OtherTask | Fit::NoSchedule(_) => Ok(Vec::new(alloc)),
     }
 }

@@ -70,7 +70,7 @@ pub fn run_evaluate<A: Allocator + Copy, B: Allocator, R: Read, S: Read, W: Writ
     let problem = problem_for(request.problem.as_str())?;
     let task = task_read(alloc, request, &problem, instance)?;
     let sheet = sheet_said(alloc, answer)?;
-    let evaluation = evaluate(alloc, &problem, &task, &sheet, detail)?;
+    let evaluation = evaluate(alloc, &problem, &task, sheet, detail)?;
     let text = evaluation_bytes(alloc, &evaluation)?;
     writer.push_all(text.as_slice())?;
     Ok(evaluation.standing())

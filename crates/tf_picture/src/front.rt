@@ -6,17 +6,46 @@ use crate::frame::{Frame, LEFT, SPAN, WIDTH};
 use crate::writing::{push_label, push_part};
 use std::alloc::Allocator;
 use tf_model::memory::OutOfMemory;
+use tf_model::problem::Problem;
 use tf_notation::writing::notation_text;
 use tf_text::answer::sheet::Sheet;
 use tf_text::answer::writing::push_number;
 
+/// What a picture says of the answer that it shows.
+#[derive(Clone, Copy, Debug)]
+pub struct Heading {
+    pub problem: Problem,
+    /// The number of jobs.
+    pub jobs: u32,
+    /// The number of machines.
+    pub machines: u32,
+    /// The value that the answer claims.
+    pub value: i64,
+}
+
+impl Heading {
+    ghost use Rattle.std.specs.Prelude.{◌≡◌};
+
+    /// The heading of a sheet.
+    pub fn of<A: Allocator>(sheet: &Sheet<A>) -> Self
+        ensures { result.machines ≡ sheet.now.machines }
+    {
+        Heading {
+            problem: sheet.problem,
+            jobs: sheet.jobs,
+            machines: sheet.machines,
+            value: sheet.answer.value,
+        }
+    }
+}
+
 /// The picture up to its bars: the titles, the rows with their numbers, and the axis.
-pub fn front<A: Allocator + Copy, B: Allocator>(
+pub fn front<A: Allocator + Copy>(
     alloc: A,
-    sheet: &Sheet<B>,
+    heading: &Heading,
     frame: &Frame,
 ) -> Result<Vec<u8, A>, OutOfMemory> {
-    let title = title(alloc, sheet)?;
+    let title = title(alloc, heading)?;
     let mut text = Vec::from_slice(alloc, b"<svg xmlns=\"http://www.w3.org/2000/svg\"")?;
     push_part(&mut text, b" role=\"img\" width=\"", WIDTH / 100)?;
     push_part(&mut text, b"\" height=\"", frame.height() / 100)?;
@@ -28,7 +57,7 @@ pub fn front<A: Allocator + Copy, B: Allocator>(
     text.extend_from_slice(b"<text x=\"7000\" y=\"3200\" font-size=\"2000\">")?;
     text.extend_from_slice(title.as_slice())?;
     text.extend_from_slice(b"</text>\n")?;
-    push_sizes(&mut text, sheet, frame)?;
+    push_sizes(&mut text, heading, frame)?;
     push_rows(&mut text, frame)?;
     push_axis(&mut text, frame)?;
     text.extend_from_slice(b"<g stroke=\"#222222\" stroke-width=\"60\">\n")?;
@@ -36,26 +65,23 @@ pub fn front<A: Allocator + Copy, B: Allocator>(
 }
 
 // The problem and the value that the answer claims.
-fn title<A: Allocator + Copy, B: Allocator>(
-    alloc: A,
-    sheet: &Sheet<B>,
-) -> Result<Vec<u8, A>, OutOfMemory> {
-    let notation = notation_text(alloc, &sheet.problem)?;
+fn title<A: Allocator + Copy>(alloc: A, heading: &Heading) -> Result<Vec<u8, A>, OutOfMemory> {
+    let notation = notation_text(alloc, &heading.problem)?;
     let mut title = Vec::from_slice(alloc, notation.as_bytes())?;
     title.extend_from_slice(b", value")?;
-    push_number(&mut title, sheet.answer.value)?;
+    push_number(&mut title, heading.value)?;
     Ok(title)
 }
 
 // The numbers of jobs, machines and time steps.
-fn push_sizes<A: Allocator, B: Allocator>(
+fn push_sizes<A: Allocator>(
     text: &mut Vec<u8, A>,
-    sheet: &Sheet<B>,
+    heading: &Heading,
     frame: &Frame,
 ) -> Result<(), OutOfMemory> {
     text.extend_from_slice(b"<text x=\"7000\" y=\"5200\" font-size=\"1300\">")?;
-    push_part(text, b"jobs ", u64::from(sheet.jobs))?;
-    push_part(text, b", machines ", u64::from(sheet.machines))?;
+    push_part(text, b"jobs ", u64::from(heading.jobs))?;
+    push_part(text, b", machines ", u64::from(heading.machines))?;
     push_part(text, b", length ", frame.length)?;
     text.extend_from_slice(b"</text>\n")?;
     Ok(())

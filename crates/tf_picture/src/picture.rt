@@ -1,34 +1,35 @@
 //! The picture of a schedule.
-ghost use Rattle.std.specs.Prelude.{IfOk};
+ghost use Rattle.std.specs.Prelude.{◌≡◌, IfOk};
 ghost use Rattle.std.specs.List.{All};
 ghost use Rattle.std.specs.List.Sorted.{IsPermutation};
+ghost use Rattle.tf_text.specs.AnswerText.{SheetData};
 ghost use Rattle.tf_picture.specs.Picture.{IsPicture};
 ghost use Rattle.tf_picture.specs.Within.{LiesWithin};
 
 use crate::bars::push_bars;
 use crate::frame::Frame;
-use crate::front::front;
+use crate::front::{Heading, front};
 use crate::labels::push_labels;
 use crate::writing::push_part;
 use std::alloc::Allocator;
 use tf_model::memory::OutOfMemory;
 use tf_schedule::piece::Piece;
 use tf_schedule::schedule::Schedule;
-use tf_text::answer::sheet::Sheet;
 
-/// The picture of a sheet and of the schedule of its pieces, as SVG: a row for each of the sheet's
-/// machines, a bar for each piece on one of them, and an axis of time. Pieces on further machines
-/// are not shown, but their stops count in the length.
-pub fn picture<A: Allocator + Copy, B: Allocator, C: Allocator>(
+/// The picture of a schedule under a heading, as SVG: a row for each of the heading's machines, a
+/// bar for each piece on one of them, and an axis of time. Pieces on further machines are not
+/// shown, but their stops count in the length.
+pub fn picture<A: Allocator + Copy, B: Allocator>(
     alloc: A,
-    sheet: &Sheet<B>,
-    schedule: &Schedule<C>,
+    heading: &Heading,
+    schedule: &Schedule<B>,
 ) -> Result<Vec<u8, A>, OutOfMemory>
-    ensures { IfOk result (λ text. IsPermutation sheet.now.answer.pieces schedule.now →
-        IsPicture sheet.now text.items) }
+    ensures { (sheet : SheetData) → sheet.machines ≡ heading.now.machines →
+        IsPermutation sheet.answer.pieces schedule.now →
+        IfOk result (λ text. IsPicture sheet text.items) }
 {
-    let frame = Frame::of(sheet.machines, schedule);
-    let mut text = front(alloc, sheet, &frame)?;
+    let frame = Frame::of(heading.machines, schedule);
+    let mut text = front(alloc, heading, &frame)?;
     push_bars(&mut text, &frame, schedule.pieces())?;
     let behind = behind(alloc, &frame, schedule.pieces())?;
     text.extend_from_slice(behind.as_slice())?;

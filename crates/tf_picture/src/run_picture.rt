@@ -7,6 +7,7 @@ ghost use Rattle.tf_engine.specs.Faults.{stop_of, is_failure, is_of_whole_answer
 ghost use Rattle.tf_engine.specs.Drawing.{IsDrawingOf};
 ghost use Rattle.tf_picture.specs.Picture.{IsPicture};
 
+use crate::front::Heading;
 use crate::picture::picture;
 use std::alloc::Allocator;
 use std::io::{Read, Write};
@@ -43,8 +44,9 @@ pub fn run_picture<A: Allocator + Copy, R: Read, W: Write>(
     ensures counted { pulled_of reader.new ≤ pulled_of reader.old + (most_bytes + 1) }
 {
     let sheet = sheet_said(alloc, reader)?;
-    let schedule = schedule_said(alloc, &sheet)?;
-    let text = picture(alloc, &sheet, &schedule)?;
+    let heading = Heading::of(&sheet);
+    let schedule = schedule_said(sheet)?;
+    let text = picture(alloc, &heading, &schedule)?;
     writer.push_all(text.as_slice())?;
     Ok(())
 }

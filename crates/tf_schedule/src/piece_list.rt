@@ -34,4 +34,12 @@ impl<A: Allocator> PieceList<A> {
     {
         self.pieces.as_slice()
     }
+
+    /// The pieces in their order, given up. It takes no memory.
+    pub fn into_vec(self) -> Vec<Piece, A>
+        ensures { result.items ≡ self }
+    {
+        let PieceList { pieces } = self;
+        pieces
+    }
 }

@@ -1,4 +1,6 @@
 //! Sheets: an answer with the problem and the sizes that it is for.
+ghost use Rattle.std.specs.Prelude.{◌≡◌};
+
 use std::alloc::{Allocator, Global};
 use std::marker::Model;
 use tf_check::answer::Answer;
@@ -26,4 +28,14 @@ impl<A: Allocator> Model for Sheet<A> {
       machines = s.machines;
       answer = s.answer;
     } };
+}
+
+impl<A: Allocator> Sheet<A> {
+    /// The answer, without what it is for.
+    pub fn into_answer(self) -> Answer<A>
+        ensures { result ≡ self.answer }
+    {
+        let Sheet { answer, .. } = self;
+        answer
+    }
 }

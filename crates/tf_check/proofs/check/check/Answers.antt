@@ -1,23 +1,39 @@
-use Rattle.tf_check.specs.Accepted.{IsAccepted}
-use Rattle.tf_check.specs.Verdict.{HasReason}
-use Rattle.tf_check.proofs.Best.{accepted-best}
-use Rattle.tf_check.proofs.Verdicts.{reason_excludes}
+use Rattle.std.proofs.Common.{◌≡◌, ℤ, ap, subst, ◌∙◌, IfOk, rules, SFits, w64, of_z, to_z}
+use Rattle.std.proofs.lemmas.Int.{to_z-of_z}
+use Rattle.tf_check.specs.Accepted.{IsAccepted, IsBestAnswer}
+use Rattle.tf_check.specs.Certificate.{claim_of}
+use Rattle.tf_check.specs.Claim.{AnswerData, answer_of}
+use Rattle.tf_check.specs.Verdict.{HasVerdict}
+use Rattle.tf_check.specs.declared.verdict.Verdict.TheVariants.{Accepted}
 use Rattle.tf_check.proofs.check.check.Goals as goal
 
-pub returns-in-Some-clause-accepted : goal.returns-in-Some-clause-accepted
-returns-in-Some-clause-accepted g c accepted =
-    let is : HasReason c.args.task.now c.args.answer.now c.in-Some.reason =
-    rw c.in-Some.is at c.in_ok-reason.ensures in
-    absurd (reason_excludes c.args.task.now c.args.answer.now c.in-Some.reason is accepted)
+-- the parts are those of the answer
+parts_are : (g : _) (c : goal.After-verdict_on g)
+    → answer_of c.in_ok-pieces.pieces.items (to_z w64 (of_z w64 c.answer.inside.value))
+    (claim_of c.answer.inside.certificate) ≡ c.args.answer.now
+parts_are g c =
+    let fits : SFits w64 c.answer.inside.value = search rules in
+    let items : c.in_ok-pieces.pieces.items ≡ c.answer.inside.pieces =
+    c.in_ok-pieces.ensures.items_if_clones_equal (λ x y e. e) ∙ c.as_slice.ensures in
+    let claim = claim_of c.answer.inside.certificate in
+    ap (λ ps. answer_of ps (to_z w64 (of_z w64 c.answer.inside.value)) claim) items
+    ∙ ap (λ (v : ℤ). answer_of c.answer.inside.pieces v claim)
+    (to_z-of_z w64 c.answer.inside.value fits)
+    ∙ c.answer.view_is
 
-pub returns-in-Some-2-clause-accepted : goal.returns-in-Some-2-clause-accepted
-returns-in-Some-2-clause-accepted g c accepted =
-    let is : HasReason c.args.task.now c.args.answer.now c.in-Some-2.reason =
-    rw c.in-Some-2.is at c.in_ok-reason-2.ensures in
-    absurd (reason_excludes c.args.task.now c.args.answer.now c.in-Some-2.reason is accepted)
+pub returns-clause-verdict : goal.returns-clause-verdict
+returns-clause-verdict g c =
+    subst (λ (a : AnswerData). IfOk c.verdict_on.result (HasVerdict c.args.task.now a))
+    (parts_are g c) c.verdict_on.ensures.verdict
 
-pub returns-in-None-clause-best : goal.returns-in-None-clause-best
-returns-in-None-clause-best g c is =
-    let accepted : IsAccepted c.args.task.now c.args.answer.now =
-    rw c.in-None.is at c.in_ok-reason-2.ensures in
-    accepted-best c.args.task.now c.args.answer.now c.class-class.ensures.sound accepted
+pub returns-clause-accepted : goal.returns-clause-accepted
+returns-clause-accepted g c =
+    subst (λ (a : AnswerData). IsAccepted c.args.task.now a
+    → IfOk c.verdict_on.result (λ verdict. verdict ≡ Accepted))
+    (parts_are g c) c.verdict_on.ensures.accepted
+
+pub returns-clause-best : goal.returns-clause-best
+returns-clause-best g c =
+    subst (λ (a : AnswerData). IfOk c.verdict_on.result
+    (λ verdict. verdict ≡ Accepted → IsBestAnswer c.args.task.now a))
+    (parts_are g c) c.verdict_on.ensures.best

@@ -1,33 +1,27 @@
-use Rattle.std.proofs.Common.{◌≡◌, sym, subst, ap, ◌∙◌, rules, SFits, w64, of_z, to_z}
+use Rattle.std.proofs.Common.{◌≡◌, sym, ap, ◌∙◌, rules, SFits, w64, of_z, to_z}
 use Rattle.std.specs.Int.{w128}
-use Rattle.std.specs.List.Sorted.{IsPermutation}
 use Rattle.std.proofs.lemmas.Int.{to_z-of_z}
 use Rattle.tf_model.specs.Cost.{cost}
 use Rattle.tf_schedule.specs.Drawing.{drawing}
+use Rattle.tf_check.specs.Claim.{answer_of}
 use Rattle.tf_check.proofs.Costs.{schedule_cost_is}
 use Rattle.tf_check.proofs.Verdicts.{IsFitting, draws_fitting, feasible}
 use Rattle.tf_check.proofs.check.reason_in_timetable.Goals as goal
 
 pub returns-then-cost-from : goal.returns-then-cost-from
-returns-then-cost-from g c =
+returns-then-cost-from g c = λ claim.
     let k = c.args.task.now in
-    let a = c.args.answer.now in
     let qs = c.in-Ok.schedule in
-    let items : c.in_ok-to_vec.field-0.items ≡ a.pieces =
-    c.in_ok-to_vec.ensures.items_if_clones_equal (λ x y e. e) ∙ c.as_slice.ensures
-    ∙ ap (λ z. z.pieces) c.answer.view_is in
-    let kept : IsPermutation a.pieces qs =
-    subst (λ z. IsPermutation z qs) items c.in-Ok.ensures.kept in
+    let a = answer_of c.args.pieces.items c.args.value claim in
     let fitting : IsFitting k a qs =
     record {
-      kept = kept;
+      kept = c.in-Ok.ensures.kept;
       schedule = c.in-Ok.ensures.schedule;
       draws = c.in-Ok-fits.ensures.judged.0;
       fits = c.in-Ok-fits.ensures.judged.1;
     } in
-    let fits : SFits w64 c.answer.inside.value = search rules in
-    let value : c.from.result ≡ a.value = c.from.ensures ∙ to_z-of_z w64 c.answer.inside.value fits
-    ∙ ap (λ z. z.value) c.answer.view_is in
+    let fits : SFits w64 c.args.value = search rules in
+    let value : c.from.result ≡ a.value = c.from.ensures ∙ to_z-of_z w64 c.args.value fits in
     let costs : c.cost.result ≡ cost k (drawing k.machines qs) = c.cost.ensures
     ∙ schedule_cost_is k qs fitting.schedule fitting.draws fitting.fits in (
       drawing k.machines qs,
@@ -36,25 +30,19 @@ returns-then-cost-from g c =
     )
 
 pub returns : goal.returns
-returns g c =
+returns g c = λ claim.
     let k = c.args.task.now in
-    let a = c.args.answer.now in
     let qs = c.in-Ok.schedule in
-    let items : c.in_ok-to_vec.field-0.items ≡ a.pieces =
-    c.in_ok-to_vec.ensures.items_if_clones_equal (λ x y e. e) ∙ c.as_slice.ensures
-    ∙ ap (λ z. z.pieces) c.answer.view_is in
-    let kept : IsPermutation a.pieces qs =
-    subst (λ z. IsPermutation z qs) items c.in-Ok.ensures.kept in
+    let a = answer_of c.args.pieces.items c.args.value claim in
     let fitting : IsFitting k a qs =
     record {
-      kept = kept;
+      kept = c.in-Ok.ensures.kept;
       schedule = c.in-Ok.ensures.schedule;
       draws = c.in-Ok-fits.ensures.judged.0;
       fits = c.in-Ok-fits.ensures.judged.1;
     } in
-    let fits : SFits w64 c.answer.inside.value = search rules in
-    let value : c.from.result ≡ a.value = c.from.ensures ∙ to_z-of_z w64 c.answer.inside.value fits
-    ∙ ap (λ z. z.value) c.answer.view_is in
+    let fits : SFits w64 c.args.value = search rules in
+    let value : c.from.result ≡ a.value = c.from.ensures ∙ to_z-of_z w64 c.args.value fits in
     let costs : c.cost.result ≡ cost k (drawing k.machines qs) = c.cost.ensures
     ∙ schedule_cost_is k qs fitting.schedule fitting.draws fitting.fits in
     let cost_fits : SFits w128 c.cost.result = search rules in

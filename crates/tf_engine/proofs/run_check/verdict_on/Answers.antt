@@ -1,4 +1,4 @@
-use Rattle.std.proofs.Common.{ap, subst, rules}
+use Rattle.std.proofs.Common.{rules, subst}
 use Rattle.tf_check.specs.Claim.{AnswerData}
 use Rattle.tf_check.specs.Verdict.{HasReason, HasVerdict}
 use Rattle.tf_check.specs.declared.verdict.Verdict.TheVariants.{Rejected}
@@ -7,11 +7,11 @@ use Rattle.tf_engine.proofs.run_check.verdict_on.Goals as goal
 
 pub returns-in-Rejected : goal.returns-in-Rejected
 returns-in-Rejected g c =
-    let same : IsFor c.args.task.now c.args.sheet.now = search rules in
-    let verdict : HasVerdict c.args.task.now c.sheet.inside.answer (Rejected c.in-Rejected.reason) =
-    subst (HasVerdict c.args.task.now c.sheet.inside.answer) c.in-Rejected.is
-    c.in_ok-check.ensures.verdict in (
+    let same : IsFor c.args.task.now c.args.sheet = search rules in
+    let verdict : HasVerdict c.args.task.now c.into_answer.result (Rejected c.in-Rejected.reason) =
+    subst (HasVerdict c.args.task.now c.into_answer.result) c.in-Rejected.is
+    c.in_ok-check_owned.ensures.verdict in (
       same,
       subst (λ (a : AnswerData). HasReason c.args.task.now a c.in-Rejected.reason)
-          (ap (λ s. s.answer) c.sheet.view_is) verdict,
+          c.into_answer.ensures verdict,
     )

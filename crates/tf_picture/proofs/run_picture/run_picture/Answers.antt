@@ -1,4 +1,4 @@
-use Rattle.std.proofs.Common.{subst}
+use Rattle.std.proofs.Common.{subst, sym}
 use Rattle.std.specs.Io.KnownBytes.{Appends}
 use Rattle.tf_text.specs.Counted.{inner_of, AppendsPrefix}
 use Rattle.tf_engine.specs.declared.fault.RunFault.TheVariants.{Device}
@@ -19,7 +19,8 @@ returns-in_err-push_all-clause-outcome g c =
     err_is (IsDrawingOf IsPicture _ _) Device _ c.from_residual-in_err-push_all.ensures.1
     (undrawn_unwritten IsPicture g.row.A.Denot _ _ c.in_ok-sheet.sheet c.in_ok-schedule.schedule
     c.in_ok-text.text.items c.in_ok-sheet.ensures.said c.in_ok-schedule.ensures.kept
-    c.in_ok-schedule.ensures.schedule (c.in_ok-text.ensures c.in_ok-schedule.ensures.kept)
+    c.in_ok-schedule.ensures.schedule (c.in_ok-text.ensures c.in_ok-sheet.sheet (sym c.of-heading.ensures)
+    c.in_ok-schedule.ensures.kept)
     c.in_err-push_all.ensures.device
     (subst (AppendsPrefix (g.W.Write.contents (inner_of c.args.writer.now))
     (g.W.Write.contents (inner_of c.push_all.new.self)))
@@ -29,7 +30,8 @@ pub returns-clause-outcome : goal.returns-clause-outcome
 returns-clause-outcome g c =
     drawn IsPicture g.row.A.Denot _ _ c.in_ok-sheet.sheet c.in_ok-schedule.schedule
     c.in_ok-text.text.items c.in_ok-sheet.ensures.said c.in_ok-schedule.ensures.kept
-    c.in_ok-schedule.ensures.schedule (c.in_ok-text.ensures c.in_ok-schedule.ensures.kept)
+    c.in_ok-schedule.ensures.schedule (c.in_ok-text.ensures c.in_ok-sheet.sheet (sym c.of-heading.ensures)
+    c.in_ok-schedule.ensures.kept)
     (subst (Appends (g.W.Write.contents (inner_of c.args.writer.now))
     (g.W.Write.contents (inner_of c.push_all.new.self)))
     c.as_slice.ensures.value c.in_ok-push_all.ensures.written)
