@@ -11,6 +11,7 @@ pub mod Sequence
 pub mod Rest
 pub mod BackwardTimetable
 pub mod DearestStep
+pub mod ArcCounts
 pub mod ArcsInto
 pub mod Open
 pub mod Walk

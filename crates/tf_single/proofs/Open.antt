@@ -5,6 +5,7 @@ use Rattle.std.specs.List.Sorted.{IsPermutation}
 use Rattle.std.proofs.lemmas.Bool.{false≢true, eqb-true, eq-eqb, ne_eqb, cases_eq, cases_Bool, not-true, or_cases, cases_lt}
 use Rattle.std.proofs.lemmas.Bool.Decides.{nat_tests}
 use Rattle.std.proofs.lemmas.List.{length-set, get_or-set_same, get_or-set_other, take-append-le, get_or_append_left, length-append}
+use Rattle.std.proofs.Math.Bool.{and-true}
 use Rattle.std.proofs.Math.Seq.{take-append_seam, get_or-append_seam}
 use Rattle.std.proofs.lemmas.List.Elements.{All-head, All-tail, All-push, All-contains, All-filter}
 use Rattle.std.proofs.lemmas.List.Sums.{sum_by-cons, sum_by_push}
@@ -18,6 +19,7 @@ use Rattle.tf_model.proofs.Sums.{sum_by-plus, sum_by-same}
 use Rattle.tf_check.specs.Bound.{is_free}
 use Rattle.tf_single.specs.Progress.{of_job}
 use Rattle.tf_single.specs.Backward.{rest_of, IsLastChoice, AreChosen}
+use Rattle.tf_single.specs.ArcCounts.{AreArcsFrom}
 use Rattle.tf_single.specs.Open.{arcs_left, IsOpen}
 use Rattle.tf_single.proofs.Rest.{sum_filter, sum_own, stands_from, stands_says, in_rest, rest_jobs, rest_sum, stands_push, counted_there, there_counted, distinct_push}
 
@@ -350,8 +352,13 @@ module _ (k : SchedulingTask) (taken : List ℕ) (j : ℕ) (chosen : AreChosen k
       )
 
 -- ---- before any job is taken
-module _ (k : SchedulingTask) (counts : List ℕ) (len : length counts ≡ length k.jobs)
-    (each : (j : ℕ) → IsJob k j → of_job counts j ≡ arcs_left k [] j) where
+module _ (k : SchedulingTask) (counts : List ℕ) (are : AreArcsFrom k counts) where
+  -- all arcs lead to jobs that are left
+  all_left : (j : ℕ) → arcs_left k [] j ≡ count_by (λ arc. arc.0 == j) k.arcs
+  all_left j =
+      sum_by-same (λ arc. as_one ((arc.0 == j) && true)) (λ arc. as_one (arc.0 == j)) k.arcs
+      (λ arc. ap as_one (and-true (arc.0 == j)))
+
   flip_test : (a b c : Bool) → c ≡ a → cond b (as_one a) 0 ≡ cond c (as_one b) 0
   flip_test true true true e = refl
   flip_test true false true e = refl
@@ -372,8 +379,8 @@ module _ (k : SchedulingTask) (counts : List ℕ) (len : length counts ≡ lengt
 
   pub open_start : IsOpen k [] (λ _. 0) counts (filter (λ j. of_job counts j == 0) (all_jobs k))
   open_start = record {
-    len = len;
-    counted = λ j job. omega (arith, each j job);
+    len = are.len;
+    counted = λ j job. omega (arith, are.each j job, all_left j);
     over = λ j job there. absurd (false≢true there);
     known = All-filter (λ j. of_job counts j == 0) (IsJob k) (all_jobs k)
         (All-all_jobs k (IsJob k) (λ j h. h));

@@ -1,33 +1,30 @@
--- Arcs in chains, one for each job that some lead to.
-use Rattle.std.specs.Prelude.{◌≡◌, ◌≢◌, ℕ, ◌-◌, ◌<◌, ◌≤◌, ◌==◌, ◌&&◌, List, length, take, slice_index_or}
-use Rattle.std.specs.List.{count_by}
+-- Arcs in one list, by the job that they lead to.
+use Rattle.std.specs.Prelude.{◌≡◌, ℕ, ◌-◌, ◌≤◌, ◌==◌, ◌&&◌, nat_lt, if◌then◌else◌, List, length, take, slice_range}
+use Rattle.std.specs.List.{All, count_by}
 use Rattle.tf_model.specs.SchedulingTask.{SchedulingTask, IsJob}
 use Rattle.tf_single.specs.Progress.{of_job}
-use Rattle.tf_single.specs.declared.arcs_into.Link.{Link}
 
--- arc `number`, counted from 1
-abbrev pub arc_of : List (ℕ × ℕ) → ℕ → ℕ × ℕ
-arc_of arcs number = slice_index_or arcs (number - 1) (0, 0)
-
--- of the first n arcs this is the number of the last that leads to job j, or 0 where none does
-pub record IsLastInto (arcs : List (ℕ × ℕ)) (n j number : ℕ) : Type 0 where
-  pub within : number ≤ n
-  pub own : 0 < number → (arc_of arcs number).1 ≡ j
-  pub none_behind : (i : ℕ) → number < i → i ≤ n → (arc_of arcs i).1 ≢ j
-
--- the link of arc `number`
-pub record IsLink (arcs : List (ℕ × ℕ)) (number : ℕ) (link : Link) : Type 0 where
-  pub from : link.from ≡ (arc_of arcs number).0
-  pub before : IsLastInto arcs (number - 1) (arc_of arcs number).1 link.before
-
--- of the first n arcs each job's last one, and the link of each
-pub record AreFound (k : SchedulingTask) (n : ℕ) (last : List ℕ) (links : List Link) : Type 0 where
-  pub jobs : length last ≡ length k.jobs
-  pub count : length links ≡ n
-  pub lasts : (j : ℕ) → IsJob k j → IsLastInto k.arcs n j (of_job last j)
-  pub each : (number : ℕ) (d : Link) → 0 < number → number ≤ n
-      → IsLink k.arcs number (slice_index_or links (number - 1) d)
+-- how many arcs lead to jobs before job j
+abbrev pub arcs_before : List (ℕ × ℕ) → ℕ → ℕ
+arcs_before arcs j = count_by (λ arc. nat_lt arc.1 j) arcs
 
 -- how many of the first n arcs lead to job j and come from job i
 abbrev pub arcs_between : List (ℕ × ℕ) → ℕ → ℕ → ℕ → ℕ
 arcs_between arcs n j i = count_by (λ arc. (arc.1 == j) && (arc.0 == i)) (take n arcs)
+
+-- where the list of job j begins: that of the job before it ends there
+abbrev pub begin_of : List ℕ → ℕ → ℕ
+begin_of ends j = if j == 1 then 0 else of_job ends (j - 1)
+
+-- the list of job j
+abbrev pub list_of : List ℕ → List ℕ → ℕ → List ℕ
+list_of ends froms j = slice_range froms (begin_of ends j) (of_job ends j)
+
+-- the list of each job has each job as often as arcs lead from it
+pub record AreFound (k : SchedulingTask) (ends froms : List ℕ) : Type 0 where
+  pub jobs : length ends ≡ length k.jobs
+  pub in_order : (j : ℕ) → IsJob k j → begin_of ends j ≤ of_job ends j
+  pub within : (j : ℕ) → IsJob k j → of_job ends j ≤ length froms
+  pub known : All (IsJob k) froms
+  pub each : (j i : ℕ) → IsJob k j
+      → count_by (λ b. b == i) (list_of ends froms j) ≡ arcs_between k.arcs (length k.arcs) j i

@@ -11,5 +11,6 @@ pub mod Ends
 pub mod Open
 pub mod GreatestFirst
 pub mod ByDue
+pub mod ArcCounts
 pub mod ArcsInto
 pub mod Successors

@@ -1,45 +1,76 @@
 //! Arcs, found by the job that they lead to.
+ghost use Rattle.std.specs.Prelude.{◌≡◌, ℕ, length};
+ghost use Rattle.tf_model.specs.SchedulingTask.{IsJob};
+ghost use Rattle.tf_single.specs.ArcCounts.{AreArcsTo};
+ghost use Rattle.tf_single.specs.ArcsInto.{arcs_before};
+ghost use Rattle.tf_single.specs.Progress.{of_job};
+
 use std::alloc::Allocator;
 use tf_model::ids::JobId;
 use tf_model::memory::OutOfMemory;
 use tf_model::task::Task;
 
-/// An arc in the chain of those that lead to the same job.
-#[derive(Clone, Copy)]
-pub(crate) struct Link {
-    /// The job that it comes from.
-    pub(crate) from: JobId,
-    /// The number of the arc before it in the chain, 0 where it is the first.
-    pub(crate) before: u32,
-}
-
-/// The arcs of a task, numbered from 1, in a chain for each job that some lead to.
+/// The arcs of a task, in one list by the job that they lead to.
 #[derive(Drop)]
 pub(crate) struct ArcsInto<A: Allocator> {
-    /// For each job the number of the last arc that leads to it, 0 where none does.
-    pub(crate) last: Vec<u32, A>,
-    pub(crate) links: Vec<Link, A>,
+    /// For each job the number of arcs that lead to it or to a job before it: where its list ends.
+    ends: Vec<u32, A>,
+    /// For each arc the job that it comes from, by the job that it leads to.
+    froms: Vec<JobId, A>,
 }
 
 impl<A: Allocator + Copy> ArcsInto<A> {
-    ghost use Rattle.std.specs.Prelude.{length, IfOk};
-    ghost use Rattle.tf_single.specs.ArcsInto.{AreFound};
+    ghost use Rattle.std.specs.Prelude.{◌≡◌, ◌≤◌, length, IfOk};
+    ghost use Rattle.tf_single.specs.ArcCounts.{AreArcsTo};
+    ghost use Rattle.tf_single.specs.ArcsInto.{AreFound, begin_of, list_of};
+    ghost use Rattle.tf_single.specs.Progress.{of_job};
 
-    /// The arcs of the task.
-    pub(crate) fn of<B: Allocator>(alloc: A, task: &Task<B>) -> Result<Self, OutOfMemory>
-        ensures { IfOk result (λ into. AreFound task.now (length task.now.arcs)
-            into.last.items into.links.items) }
+    /// The arcs of the task, of which so many lead to each job.
+    pub(crate) fn of<B: Allocator>(
+        alloc: A,
+        task: &Task<B>,
+        predecessors: Vec<u32, A>,
+    ) -> Result<Self, OutOfMemory>
+        requires { AreArcsTo task.now predecessors.items }
+        ensures { IfOk result (λ into. AreFound task.now into.ends.items into.froms.items) }
     {
-        let mut last = vec![in alloc; 0_u32; task.len()]?;
-        let mut links = Vec::with_capacity(alloc, task.arcs().len())?;
+        let mut ends = begins(task, predecessors);
+        let mut froms = vec![in alloc; JobId::at(0); task.arcs().len()]?;
         for (from, to) in task.arcs() {
-            let place = to.get() as usize - 1;
-            links.push(Link {
-                from: *from,
-                before: last[place],
-            })?;
-            last[place] = links.len() as u32;
+            let job = to.get() as usize - 1;
+            let place = ends[job];
+            froms[place as usize] = *from;
+            ends[job] = place + 1;
         }
-        Ok(ArcsInto { last, links })
+        Ok(ArcsInto { ends, froms })
     }
+
+    /// The jobs from which arcs lead to the job, one for each arc.
+    pub(crate) fn predecessors(&self, job: JobId) -> &[JobId]
+        requires job { job ≤ length self.now.ends.items }
+        requires in_order { begin_of self.now.ends.items job ≤ of_job self.now.ends.items job }
+        requires within { of_job self.now.ends.items job ≤ length self.now.froms.items }
+        ensures { result.now ≡ list_of self.now.ends.items self.now.froms.items job }
+    {
+        let place = job.get() as usize - 1;
+        let begin = if place == 0 { 0 } else { self.ends[place - 1] };
+        &self.froms[begin as usize..self.ends[place] as usize]
+    }
+}
+
+// From how many arcs lead to each job, how many lead to jobs before it.
+fn begins<A: Allocator, B: Allocator>(task: &Task<B>, predecessors: Vec<u32, A>) -> Vec<u32, A>
+    requires { AreArcsTo task.now predecessors.items }
+    ensures len { length result.items ≡ length task.now.jobs }
+    ensures each { (j : ℕ) → IsJob task.now j
+        → of_job result.items j ≡ arcs_before task.now.arcs j }
+{
+    let mut begins = predecessors;
+    let mut begin = 0;
+    for place in 0..task.len() {
+        let count = begins[place];
+        begins[place] = begin;
+        begin += count;
+    }
+    begins
 }

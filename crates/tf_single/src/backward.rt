@@ -1,15 +1,13 @@
 //! Jobs that are taken one after another, each to go last of those that are left.
-ghost use Rattle.std.specs.Prelude.{◌≡◌, ◌⊎◌, ℕ, ◌≤◌, ◌≤ℤ◌, ◌<ℤ◌, [], length};
-ghost use Rattle.std.specs.Prelude.{IfOk, IfSome, MatchResult, Some};
+ghost use Rattle.std.specs.Prelude.{◌≡◌, ◌⊎◌, ℕ, ◌≤◌, ◌≤ℤ◌, ◌<ℤ◌, []};
+ghost use Rattle.std.specs.Prelude.{IfSome, MatchResult, Some};
 ghost use Rattle.tf_model.specs.Limit.{limit};
-ghost use Rattle.tf_model.specs.SchedulingTask.{IsJob};
 ghost use Rattle.tf_model.specs.Sound.{IsSound};
 ghost use Rattle.tf_single.specs.Backward.{AreChosen, IsDearest, rest_of};
 ghost use Rattle.tf_single.specs.LawlerFault.{HoldsCycle};
-ghost use Rattle.tf_single.specs.Open.{arcs_left};
-ghost use Rattle.tf_single.specs.Progress.{of_job};
 
-use crate::arcs_into::{ArcsInto, Link};
+use crate::arc_counts::ArcCounts;
+use crate::arcs_into::ArcsInto;
 use crate::cycle::cycle;
 use crate::free_jobs::{FreeJobs, LastJob};
 use crate::lawler_fault::LawlerFault;
@@ -48,8 +46,9 @@ pub(crate) fn last_first<A: Allocator + Copy, B: Allocator, F: FreeJobs + Drop>(
         × IsDearest task.now order.jobs.items order.dearest)
         (λ fault. HoldsCycle task.now fault) }
 {
-    let arcs = ArcsInto::of(alloc, task)?;
-    let mut open = Open::new(alloc, task, free)?;
+    let counts = ArcCounts::of(alloc, task)?;
+    let arcs = ArcsInto::of(alloc, task, counts.predecessors)?;
+    let mut open = Open::new(alloc, task, counts.successors, free)?;
     let mut dearest = None;
     for place in 0..task.len() {
         if open.free.is_empty() {
@@ -75,22 +74,6 @@ fn dearer(before: Option<Step>, step: Step) -> Step
     }
 }
 
-// For each job, how many arcs lead from it.
-pub(crate) fn successor_counts<A: Allocator, B: Allocator>(
-    alloc: A,
-    task: &Task<B>,
-) -> Result<Vec<u32, A>, OutOfMemory>
-    ensures len { IfOk result (λ v. length v.items ≡ length task.now.jobs) }
-    ensures each { IfOk result (λ v.
-        (j : ℕ) → IsJob task.now j → of_job v.items j ≡ arcs_left task.now [] j) }
-{
-    let mut counts = vec![in alloc; 0_u32; task.len()]?;
-    for (before, _) in task.arcs() {
-        counts[before.get() as usize - 1] += 1;
-    }
-    Ok(counts)
-}
-
 // The jobs that were taken, the last first, and what the arcs say of those that are left.
 #[derive(Drop)]
 struct Open<F: FreeJobs, A: Allocator> {
@@ -108,12 +91,20 @@ impl<F: FreeJobs + Drop, A: Allocator + Copy> Open<F, A> {
     ghost use Rattle.tf_model.specs.Limit.{limit};
     ghost use Rattle.tf_model.specs.SchedulingTask.{IsJob};
     ghost use Rattle.tf_model.specs.Sound.{IsSound};
+    ghost use Rattle.tf_single.specs.ArcCounts.{AreArcsFrom};
     ghost use Rattle.tf_single.specs.ArcsInto.{AreFound, arcs_between};
     ghost use Rattle.tf_single.specs.Backward.{price_behind, rest_of};
     ghost use Rattle.tf_single.specs.Open.{IsOpen, AreTaken};
 
-    // No job is taken, and those that no arc leads from are free.
-    fn new<B: Allocator>(alloc: A, task: &Task<B>, free: F) -> Result<Self, OutOfMemory>
+    // No job is taken, and those that no arc leads from are free. The counts are those of the arcs
+    // from each job.
+    fn new<B: Allocator>(
+        alloc: A,
+        task: &Task<B>,
+        counts: Vec<u32, A>,
+        free: F,
+    ) -> Result<Self, OutOfMemory>
+        requires counts { AreArcsFrom task.now counts.items }
         requires none { F.jobs_of free ≡ [] }
         requires kept { (work : ℕ) → work ≤ limit → F.IsKept free task.now work }
         ensures taken { IfOk result (λ start. start.taken.items ≡ []) }
@@ -122,7 +113,6 @@ impl<F: FreeJobs + Drop, A: Allocator + Copy> Open<F, A> {
         ensures kept { IfOk result (λ start. F.IsKept start.free task.now start.work) }
     {
         let taken = Vec::with_capacity(alloc, task.len())?;
-        let counts = successor_counts(alloc, task)?;
         let mut free = free;
         for k in 0..task.len() {
             if counts[k] == 0 {
@@ -144,8 +134,7 @@ impl<F: FreeJobs + Drop, A: Allocator + Copy> Open<F, A> {
         arcs: &ArcsInto<A>,
     ) -> Result<LastJob, OutOfMemory>
         requires sound { IsSound task.now }
-        requires arcs { AreFound task.now (length task.now.arcs) arcs.now.last.items
-            arcs.now.links.items }
+        requires arcs { AreFound task.now arcs.now.ends.items arcs.now.froms.items }
         requires some { 0 < length (F.jobs_of self.old.free) }
         requires now { AreTaken task.now self.old.taken.items self.old.counts.items
             (F.jobs_of self.old.free) self.old.work }
@@ -172,9 +161,7 @@ impl<F: FreeJobs + Drop, A: Allocator + Copy> Open<F, A> {
         arcs: &ArcsInto<A>,
         job: JobId,
     ) -> Result<(), OutOfMemory>
-        requires sound { IsSound task.now }
-        requires arcs { AreFound task.now (length task.now.arcs) arcs.now.last.items
-            arcs.now.links.items }
+        requires arcs { AreFound task.now arcs.now.ends.items arcs.now.froms.items }
         requires job { IsJob task.now job }
         requires now { IsOpen task.now self.old.taken.items
             (arcs_between task.now.arcs (length task.now.arcs) job)
@@ -186,16 +173,13 @@ impl<F: FreeJobs + Drop, A: Allocator + Copy> Open<F, A> {
             self.new.counts.items (F.jobs_of self.new.free)) }
         ensures kept { IfOk result (λ _. F.IsKept self.new.free task.now self.new.work) }
     {
-        let mut arc = arcs.last[job.get() as usize - 1];
-        while arc > 0 {
-            let Link { from, before } = arcs.links[arc as usize - 1];
-            let place = from.get() as usize - 1;
+        for before in arcs.predecessors(job) {
+            let place = before.get() as usize - 1;
             let left = self.counts[place] - 1;
             self.counts[place] = left;
             if left == 0 {
-                self.free.add(task, from)?;
+                self.free.add(task, *before)?;
             }
-            arc = before;
         }
         Ok(())
     }

@@ -1,38 +1,45 @@
-use Rattle.std.proofs.Common.{◌≡◌, ℕ, ◌+◌, ◌-◌, get_or, sym, ap, ◌∙◌, arith}
-use Rattle.std.proofs.lemmas.List.{get_or_default}
+use Rattle.std.proofs.Common.{◌≡◌, length, ap, subst, arith}
 use Rattle.tf_model.specs.SchedulingTask.{SchedulingTask}
-use Rattle.tf_check.proofs.Followed.{arc_in_task}
-use Rattle.tf_single.specs.ArcsInto.{arc_of}
-use Rattle.tf_single.specs.Progress.{of_job}
-use Rattle.tf_single.proofs.ArcsInto.{found_more}
+use Rattle.tf_single.proofs.ArcsInto.{ArePlaced, next_place, found_all}
 use Rattle.tf_single.proofs.arcs_into.ArcsInto.of.Goals as goal
+
+pub index_mut-requires : goal.index_mut-requires
+index_mut-requires g c =
+    let next = next_place c.args.task.now c.arcs.ensures.sound c.loop-from.from-index
+    c.loop-from.ends.items c.loop-from.froms.items c.loop-from.invariant
+    c.arcs-from-items.result.now c.arcs-from-items.ensures.value c.loop-from-item.result
+    c.loop-from-test.true c.loop-from-item.is c.get.result c.index-place.result.now
+    c.get.ensures.value c.index-place.ensures in
+    omega (arith, next.room, c.loop-from.froms.ok.0)
+
+pub overflow_add-place : goal.overflow_add-place
+overflow_add-place g c =
+    let next = next_place c.args.task.now c.arcs.ensures.sound c.loop-from.from-index
+    c.loop-from.ends.items c.loop-from.froms.items c.loop-from.invariant
+    c.arcs-from-items.result.now c.arcs-from-items.ensures.value c.loop-from-item.result
+    c.loop-from-test.true c.loop-from-item.is c.get.result c.index-place.result.now
+    c.get.ensures.value c.index-place.ensures in
+    omega (arith, next.room, c.loop-from.invariant.count, c.arcs.ensures.sound.few_arcs)
 
 pub loop-from-preserved : goal.loop-from-preserved
 loop-from-preserved g c =
+    let next = next_place c.args.task.now c.arcs.ensures.sound c.loop-from.from-index
+    c.loop-from.ends.items c.loop-from.froms.items c.loop-from.invariant
+    c.arcs-from-items.result.now c.arcs-from-items.ensures.value c.loop-from-item.result
+    c.loop-from-test.true c.loop-from-item.is c.get.result c.index-place.result.now
+    c.get.ensures.value c.index-place.ensures in
+    next.next
+
+pub returns : goal.returns
+returns g c =
     let k : SchedulingTask = c.args.task.now in
-    let arcs = c.arcs-from-items.result.now in
-    let i : ℕ = c.loop-from.from-index in
-    let arc : ℕ × ℕ = c.loop-from-item.result in
-    let last = c.loop-from.last.items in
-    let its = arc_in_task k c.len.ensures.sound arcs c.arcs-from-items.ensures.value i arc
-    c.loop-from-test.true c.loop-from-item.is in
-    let found = c.loop-from.invariant in
-    let is : arc_of k.arcs (i + 1) ≡ arc =
-    ap (λ n. get_or k.arcs n (0, 0)) (omega arith)
-    ∙ ap (λ xs. get_or xs i (0, 0)) (sym c.arcs-from-items.ensures.value)
-    ∙ get_or_default arcs i (0, 0) arc c.loop-from-test.true ∙ sym c.loop-from-item.is in
-    let at : c.index.result.now ≡ of_job last arc.1 =
-    c.index.ensures
-    ∙ get_or_default last (c.get.result - 1) c.index.result.now 0
-    (omega (arith, found.jobs, c.get.ensures.value, its.1.0, its.1.1))
-    ∙ ap (λ n. get_or last (n - 1) 0) c.get.ensures.value in
-    let count : c.len-in-loop-from.result ≡ i + 1 =
+    let end : c.loop-from.from-index ≡ length k.arcs =
     omega (
       arith,
-      c.len-in-loop-from.ensures,
-      c.in_ok-push.ensures.len,
-      c.loop-from.links.ok.0,
-      found.count,
+      c.loop-from-test.false,
+      c.loop-from.auto.from-index-end,
+      ap length c.arcs-from-items.ensures.value,
     ) in
-    rw (c.in_ok-push.ensures.items, c.get.ensures.value, count, at)
-    (found_more k i last c.loop-from.links.items arc found is its.1)
+    found_all k c.arcs.ensures.sound c.loop-from.ends.items c.loop-from.froms.items
+    (subst (λ n. ArePlaced k n c.loop-from.ends.items c.loop-from.froms.items) end
+    c.loop-from.invariant)

@@ -1,5 +1,5 @@
-use Rattle.tf_single.specs.ArcsInto.{AreFound}
+use Rattle.tf_single.proofs.ArcsInto.{ArePlaced}
 use Rattle.tf_single.proofs.arcs_into.ArcsInto.of.Given as goal
 
 abbrev pub invariant-loop-from : goal.invariant-loop-from
-invariant-loop-from g l = AreFound l.task l.from-index l.last.items l.links.items
+invariant-loop-from g l = ArePlaced l.task l.from-index l.ends.items l.froms.items

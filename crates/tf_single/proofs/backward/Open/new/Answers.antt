@@ -30,12 +30,12 @@ loop-k-init g c = record {
 
 pub loop-k-preserved : goal.loop-k-preserved
 loop-k-preserved g c =
-    let counts : List ℕ = c.in_ok-counts.counts.items in
+    let counts : List ℕ = c.args.counts.items in
     let n : ℕ = c.loop-k.k in
     let free : List ℕ = g.F.FreeJobs.jobs_of c.loop-k.free in
     let p : ℕ → Bool = λ j. of_job counts j == 0 in
     let at : of_job counts (n + 1) ≡ c.index.result.now = count_at counts n c.index.result.now
-    (omega (arith, c.loop-k-test.true, c.in_ok-counts.ensures.len, c.len-k-end.ensures.value))
+    (omega (arith, c.loop-k-test.true, c.requires.counts.len, c.len-k-end.ensures.value))
     c.index.ensures in
     elim c.if-index-eq0.branch [
       | then-index-eq0+in_ok-add w ↦
@@ -66,13 +66,13 @@ loop-k-preserved g c =
 pub returns-clause-now : goal.returns-clause-now
 returns-clause-now g c =
     let k : SchedulingTask = c.args.task.now in
-    let counts : List ℕ = c.in_ok-counts.counts.items in
+    let counts : List ℕ = c.args.counts.items in
     let free : List ℕ = g.F.FreeJobs.jobs_of c.loop-k.free in
     let all : c.loop-k.k ≡ length k.jobs =
     omega (arith, c.len-k-end.ensures.value, c.loop-k-test.false, c.loop-k.auto.k-end) in
     let start : IsOpen k [] (λ _. 0) counts free =
     open_moved k [] (λ _. 0) counts (filter (λ j. of_job counts j == 0) (all_jobs k)) free
-    (open_start k counts c.in_ok-counts.ensures.len c.in_ok-counts.ensures.each)
+    (open_start k counts c.requires.counts)
     (subst (λ n. IsPermutation (filter (λ j. of_job counts j == 0) (range_with_len 1 n)) free) all
     c.loop-k.invariant.jobs) in
     rw c.in_ok-taken.ensures.items
