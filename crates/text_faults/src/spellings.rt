@@ -190,3 +190,43 @@ fn wide_numbers_are_read_up_to_the_limit(rt: HostRuntime) -> Result<(), Fail> {
     }
     Ok(())
 }
+
+/// Due dates below 0 and at it, and whether they are too large.
+const SIGNED: &[(&str, Option<i64>)] = &[
+    ("-5", Some(-5)),
+    ("-05", Some(-5)),
+    ("-0", Some(0)),
+    ("-000000000000000005", Some(-5)),
+    ("-0000000000000000005", Some(-5)),
+    ("-999999999999999999", Some(-999_999_999_999_999_999)),
+    ("-1000000000000000000", Some(-1_000_000_000_000_000_000)),
+    ("-4000000000000000000", Some(-4_000_000_000_000_000_000)),
+    ("-4000000000000000001", None),
+    ("-9223372036854775808", None),
+    ("-18446744073709551617", None),
+];
+
+#[test]
+fn due_dates_are_read_down_to_the_limit(rt: HostRuntime) -> Result<(), Fail> {
+    for (number, value) in SIGNED {
+        let wanted = match value {
+            None => Err(ReadFault::NumberTooLarge(2)),
+            Some(value) => Ok(Some((Times::One(1), Some(3), Some(*value), Some(2)))),
+        };
+        for line in [
+            format!(in rt.alloc(); "job 1 p=1 w=3 d={number} r=2\n")?,
+            format!(in rt.alloc(); "job 1 d={number} w=3 r=2 p=1\r\n")?,
+            format!(in rt.alloc(); "job 1  p=1 w=3 d={number}\tr=2")?,
+        ] {
+            let text = format!(in rt.alloc(); "table 1\n{line}")?;
+            let read = read_table(rt.alloc(), text.as_bytes());
+            assert_eq!(rt; read.map(|instance| fields(&instance)), wanted, "{line}");
+        }
+    }
+    for number in ["-", "--5", "-5-", "-x", "5-"] {
+        let text = format!(in rt.alloc(); "table 1\njob 1 p=1 d={number}\n")?;
+        let read = read_table(rt.alloc(), text.as_bytes());
+        assert_eq!(rt; read.err(), Some(ReadFault::BadNumber(2)), "{number}");
+    }
+    Ok(())
+}

@@ -1,14 +1,17 @@
 -- Fields in their usual form.
-use Rattle.std.proofs.Common.{◌≡◌, ℕ, ◌+◌, ◌-◌, ◌≤◌, true, false, not, eqb, ltb, List, [], ◌∷◌, ◌++◌, length, take, drop, get_or, Some, None, Ok, is_some, to_z, w64, refl, sym, ap, ◌∙◌, arith}
+use Rattle.std.proofs.Common.{◌≡◌, ℕ, ◌+◌, ◌-◌, ◌≤◌, true, false, not, eqb, ltb, List, [], ◌∷◌, ◌++◌, length, take, drop, get_or, Some, None, Ok, is_some, to_z, of_z, w64, SFits, ℤ, pos, neg_ℤ, ◌-ℤ◌, refl, sym, ap, ◌∙◌, arith}
 use Rattle.std.specs.List.{list_all, position_or_len}
 use Rattle.std.specs.Char.{is_ascii_digit}
 use Rattle.std.proofs.lemmas.Bool.{and_parts, and_from, not-true, eq-eqb, ne_eqb, lt-ltb, le-ltb, false≢true}
 use Rattle.std.proofs.Math.Seq.{take-append_seam, drop-append-add}
 use Rattle.std.proofs.lemmas.List.{length-append, take_all}
 use Rattle.std.proofs.lemmas.List.Folds.{list_all-append}
-use Rattle.tf_words.specs.Digits.{is_numeral}
+use Rattle.std.proofs.lemmas.Int.{ints, to_z-of_z}
+use Rattle.tf_words.specs.Digits.{is_numeral, numeral}
 use Rattle.tf_words.specs.Words.{is_white}
-use Rattle.tf_words.specs.Number.{number}
+use Rattle.tf_words.specs.Number.{number, limit, within_limit}
+use Rattle.tf_words.specs.Ranged.{judged, placed}
+use Rattle.tf_words.specs.declared.number.Number.TheVariants.{Value}
 use Rattle.tf_words.specs.WordParts.{divided}
 use Rattle.tf_words.specs.FirstLine.{IsNumeralOf, BeginsWhite, IsWordBefore}
 use Rattle.tf_words.proofs.FirstLine.{digits_dark, numeral_parts, word_first, behind_blank}
@@ -83,6 +86,36 @@ pub integer_is : (line : ℕ) (digits : List ℕ) (n : ℕ) → IsNumeralOf digi
 integer_is line digits n is few =
     ap (integer line) (number_is digits n is (omega arith)) ∙ ap (λ z. Ok z) (as_pos n few)
 
+-- a number below 0 within the limit
+minus_in_limit : (n : ℕ) → n ≤ limit
+    → within_limit (judged (neg_ℤ (pos limit)) (pos limit) (neg_ℤ (pos n))) ≡ Value (neg_ℤ (pos n))
+minus_in_limit n le = grind (arith, ints)
+
+-- digits behind a minus as a signed number
+minus_numeral : (digits : List ℕ) (n : ℕ) → IsNumeralOf digits n
+    → numeral (45 ∷ digits) ≡ Some (neg_ℤ (pos n))
+unfolding numeral
+minus_numeral digits n is = rw is.numeral (ap (λ m. Some (neg_ℤ (pos m))) is.value)
+
+-- the size of a number below 0 keeps its value when its sign is turned
+minus_kept : (n : ℕ) → Few n → neg_ℤ (pos n) ≡ to_z w64 (of_z w64 (pos 0 -ℤ to_z w64 n))
+minus_kept n few =
+    let below : neg_ℤ (pos n) ≡ pos 0 -ℤ pos n = omega (arith, ints) in
+    let same : neg_ℤ (pos n) ≡ pos 0 -ℤ to_z w64 n =
+    below ∙ ap (λ z. pos 0 -ℤ z) (as_pos n few) in
+    let fits : SFits w64 (neg_ℤ (pos n)) = grind (arith, ints) in
+    sym (to_z-of_z w64 (neg_ℤ (pos n)) fits) ∙ ap (λ z. to_z w64 (of_z w64 z)) same
+
+-- digits behind a minus as a number that may be negative
+pub minus_is : (line : ℕ) (digits : List ℕ) (n : ℕ) → IsNumeralOf digits n → Few n
+    → integer line (number (45 ∷ digits)) ≡ Ok (to_z w64 (of_z w64 (pos 0 -ℤ to_z w64 n)))
+unfolding number
+minus_is line digits n is few =
+    ap (λ o. integer line (within_limit (placed (neg_ℤ (pos limit)) (pos limit) o)))
+    (minus_numeral digits n is)
+    ∙ ap (integer line) (minus_in_limit n (omega arith))
+    ∙ ap (λ z. Ok z) (minus_kept n few)
+
 -- ---- times
 
 -- digits as a time
@@ -137,12 +170,12 @@ weight_field line f value n none is few =
     ap (field_in line f) (keyed 119 value refl) ∙ rw none (rw (natural_is line value n is few) refl)
 
 -- the field of the due date
-pub due_field : (line : ℕ) (f : SomeFields) (value : List ℕ) (n : ℕ)
-    → is_some f.due ≡ false → IsNumeralOf value n → Few n
-    → field_at line f (100 ∷ 61 ∷ value) ≡ Ok (record f { due = Some (to_z w64 n) })
+pub due_field : (line : ℕ) (f : SomeFields) (value : List ℕ) (due : ℤ)
+    → is_some f.due ≡ false → integer line (number value) ≡ Ok due
+    → field_at line f (100 ∷ 61 ∷ value) ≡ Ok (record f { due = Some due })
 unfolding field_at
-due_field line f value n none is few =
-    ap (field_in line f) (keyed 100 value refl) ∙ rw none (rw (integer_is line value n is few) refl)
+due_field line f value due none is =
+    ap (field_in line f) (keyed 100 value refl) ∙ rw none (rw is refl)
 
 -- the field of the release date
 pub release_field : (line : ℕ) (f : SomeFields) (value : List ℕ) (n : ℕ)

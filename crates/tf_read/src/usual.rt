@@ -1,12 +1,15 @@
-//! Job and arc lines in their usual form: one blank between the words, digits, and a line feed.
+//! Job and arc lines in their usual form: one blank between the words, digits, those of a due date
+//! maybe behind a minus, and a line feed, maybe behind a carriage return.
 //!
 //! They are read in one pass. Where one of these functions gives nothing, the line has another
 //! form, and nothing is said of it.
 ghost use Rattle.std.specs.Prelude.{◌≡◌, ◌++◌, ◌∷◌, ◌<◌, ℕ, List, Ok, true, not, length, IfSome};
 ghost use Rattle.std.specs.List.{list_all};
+ghost use Rattle.tf_words.specs.Number.{number};
 ghost use Rattle.tf_words.specs.Words.{is_white, lines};
 ghost use Rattle.tf_words.specs.Lines.{word_lines_of};
 ghost use Rattle.tf_words.specs.FirstLine.{IsWordBefore, line_words, lines_behind};
+ghost use Rattle.tf_read.specs.Faults.{integer};
 ghost use Rattle.tf_read.specs.JobLine.{times_at, field_at, fields_at, no_fields};
 ghost use Rattle.tf_read.specs.NextJob.{BeginsWithJob};
 ghost use Rattle.tf_read.specs.NextArc.{BeginsWithArc};
@@ -36,6 +39,21 @@ fn times_first(text: &[u8]) -> Option<(Times, &[u8])>
     Some((Times::Two(first as i64, second as i64), rest))
 }
 
+/// The number with which a text begins, behind a minus or not, and what follows it.
+fn signed_first(text: &[u8]) -> Option<(i64, &[u8])>
+    ensures { IfSome result (λ x. (value : List ℕ)
+        × ((line : ℕ) → integer line (number value) ≡ Ok x.0)
+        × (text.now ≡ value ++ x.1.now)
+        × (list_all (λ b. not (is_white b)) value ≡ true)) }
+{
+    if let [b'-', digits @ ..] = text {
+        let (size, rest) = digits_first(digits)?;
+        return Some((-(size as i64), rest));
+    }
+    let (size, rest) = digits_first(text)?;
+    Some((size as i64, rest))
+}
+
 impl<A: Allocator> Fields<A> {
     /// With the field of this key, of which the value begins the text; what follows that.
     fn add_value<'a>(&mut self, key: u8, text: &'a [u8]) -> Option<&'a [u8]>
@@ -49,13 +67,14 @@ impl<A: Allocator> Fields<A> {
             self.times = Some(times);
             return Some(rest);
         }
+        if key == b'd' && self.due.is_none() {
+            let (due, rest) = signed_first(text)?;
+            self.due = Some(due);
+            return Some(rest);
+        }
         let (number, rest) = digits_first(text)?;
         if key == b'w' && self.weight.is_none() {
             self.weight = Some(number as i64);
-            return Some(rest);
-        }
-        if key == b'd' && self.due.is_none() {
-            self.due = Some(number as i64);
             return Some(rest);
         }
         if key == b'r' && self.release.is_none() {

@@ -1,4 +1,5 @@
-//! Piece lines in their usual form: one blank between the words, digits, and a line feed.
+//! Piece lines in their usual form: one blank between the words, digits, and a line feed, maybe
+//! behind a carriage return.
 ghost use Rattle.std.specs.Prelude.{IfSome};
 ghost use Rattle.tf_words.specs.Lines.{lines_of};
 ghost use Rattle.tf_text.specs.NextPiece.{BeginsWithPiece};
