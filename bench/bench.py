@@ -6,8 +6,8 @@
 It needs the program that `rt run` in crates/threefield leaves in its out/, rustc and /usr/bin/time. Of `solve` and of
 `check` of each program's own answer it prints the least processor time (user and system) of the runs in milliseconds, and
 the peak memory in MB. The two answers are compared. A CASE is a problem in three-field notation, `wt`, `flow`, or one of the
-worst inputs `steps`, `pieces`, `chain`, `star` and `alike`; without one all are run. With --growth it prints how many times as
-long N jobs take as a tenth of them, by the least and the median times.
+inputs `steps`, `pieces`, `chain`, `star`, `alike`, `minus` and `returns`; without one all are run. With --growth it prints
+how many times as long N jobs take as a tenth of them, by the least and the median times.
 """
 import argparse
 import os
@@ -119,8 +119,21 @@ def write_alike(path, n, draw):
     return "1||sumwC", []
 
 
+def write_minus(path, n, draw):
+    """All due dates below 0."""
+    jobs = (fields("1||Lmax", n, draw).replace("d=", "d=-") for _ in range(n))
+    write_table(path, "1||Lmax", jobs)
+    return "1||Lmax", []
+
+
+def write_returns(path, n, draw):
+    """Lines of jobs that end in a carriage return and a line feed."""
+    write_table(path, "1||Lmax", (fields("1||Lmax", n, draw) + "\r" for _ in range(n)))
+    return "1||Lmax", []
+
+
 WRITERS = {"wt": write_wt, "flow": write_flow, "steps": write_steps, "chain": write_chain, "star": write_star,
-           "alike": write_alike}
+           "alike": write_alike, "minus": write_minus, "returns": write_returns}
 
 
 def write_pieces(folder, n):
