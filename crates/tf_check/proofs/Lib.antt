@@ -1,5 +1,4 @@
 pub mod Best
-pub mod Costs
 pub mod Followed
 pub mod JobLists
 pub mod NoFault

@@ -20,41 +20,38 @@ use Rattle.tf_schedule.proofs.Permuted.{drawing_permutation, draws_drawing, draw
 use Rattle.tf_check.specs.Claim.{AnswerData}
 use Rattle.tf_check.specs.Bound.{bound_by}
 use Rattle.tf_check.specs.Accepted.{IsAccepted}
-use Rattle.tf_check.specs.Verdict.{DrawsFitting, IsFeasible, HasReason}
+use Rattle.tf_check.specs.Verdict.{DrawsFitting, IsFeasible, HasReason, HasVerdict}
+use Rattle.tf_check.specs.declared.verdict.Verdict.{Verdict}
+use Rattle.tf_check.specs.declared.verdict.Verdict.TheVariants.{Accepted, Rejected}
 use Rattle.tf_check.specs.declared.verdict.Reason.{Reason}
 use Rattle.tf_check.specs.declared.verdict.Reason.TheVariants.{Pieces, Misfit, WrongValue, Bound, BoundBelowValue}
 use Rattle.tf_schedule.proofs.Excludes.{no_misfit}
 
--- the schedule has the answer's pieces, and its timetable fits
-pub record IsFitting (k : SchedulingTask) (a : AnswerData) (qs : List Piece) : Type 0 where
-  pub kept : IsPermutation a.pieces qs
+-- the schedule has the pieces, and its timetable fits
+pub record IsFitting (k : SchedulingTask) (ps qs : List Piece) : Type 0 where
+  pub kept : IsPermutation ps qs
   pub schedule : IsSchedule qs
   pub draws : Draws k.machines qs (drawing k.machines qs)
   pub fits : Fits k (drawing k.machines qs)
 
-pub draws_fitting : (k : SchedulingTask) (a : AnswerData) (qs : List Piece) → IsFitting k a qs
-    → DrawsFitting k a.pieces (drawing k.machines qs)
-draws_fitting k a qs h =
-    let back = IsPermutation-sym a.pieces qs h.kept in
-    let once : NoneTwice a.pieces =
+pub draws_fitting : (k : SchedulingTask) (ps qs : List Piece) → IsFitting k ps qs
+    → DrawsFitting k ps (drawing k.machines qs)
+draws_fitting k ps qs h =
+    let back = IsPermutation-sym ps qs h.kept in
+    let once : NoneTwice ps =
     λ n t. omega
-    (arith, claims_permutation machine_of a.pieces qs n t h.kept, h.schedule.none_twice n t) in
-    let numbered : All (λ p. 0 < p.job) a.pieces =
-    All-permutation (λ p. 0 < p.job) qs a.pieces back h.draws.numbered in
-    let on : All (IsOnMachine k.machines) a.pieces =
-    All-permutation (IsOnMachine k.machines) qs a.pieces back h.draws.on_machines in
-    let same : drawing k.machines qs ≡ drawing k.machines a.pieces =
-    sym (drawing_permutation k.machines qs a.pieces h.schedule.none_twice back) in
+    (arith, claims_permutation machine_of ps qs n t h.kept, h.schedule.none_twice n t) in
+    let numbered : All (λ p. 0 < p.job) ps =
+    All-permutation (λ p. 0 < p.job) qs ps back h.draws.numbered in
+    let on : All (IsOnMachine k.machines) ps =
+    All-permutation (IsOnMachine k.machines) qs ps back h.draws.on_machines in
+    let same : drawing k.machines qs ≡ drawing k.machines ps =
+    sym (drawing_permutation k.machines qs ps h.schedule.none_twice back) in
     record {
-      pieces = All-permutation IsPiece qs a.pieces back h.schedule.sound;
-      draws = rw same (draws_drawing k.machines a.pieces once numbered on);
+      pieces = All-permutation IsPiece qs ps back h.schedule.sound;
+      draws = rw same (draws_drawing k.machines ps once numbered on);
       fits = h.fits;
     }
-
-pub feasible : (k : SchedulingTask) (a : AnswerData) (qs : List Piece) → IsFitting k a qs
-    → cost k (drawing k.machines qs) ≡ a.value → IsFeasible k a
-feasible k a qs h value =
-    record { rows = drawing k.machines qs; fitting = draws_fitting k a qs h; value = value }
 
 pub accepted_from : (k : SchedulingTask) (a : AnswerData) (bound : ℤ) → IsFeasible k a
     → bound_by a.certificate k ≡ Ok bound → a.value ≤ℤ bound → IsAccepted k a
@@ -115,3 +112,14 @@ reason_excludes k a (Bound fault) h accepted = cc (h.1, accepted.bounded)
 reason_excludes k a BoundBelowValue h accepted =
     let same : h.1 ≡ accepted.bound = ap bound_in (sym h.2 ∙ accepted.bounded) in
     omega (arith, ints, same, h.3, accepted.enough)
+
+-- the verdict on an answer that is accepted
+pub accepts : (k : SchedulingTask) (a : AnswerData) (verdict : Verdict) → HasVerdict k a verdict
+    → IsAccepted k a → verdict ≡ Accepted
+accepts k a Accepted h accepted = refl
+accepts k a (Rejected reason) h accepted = absurd (reason_excludes k a reason h accepted)
+
+-- and an answer that the verdict accepts
+pub is_accepted : (k : SchedulingTask) (a : AnswerData) (verdict : Verdict) → HasVerdict k a verdict
+    → verdict ≡ Accepted → IsAccepted k a
+is_accepted k a verdict h is = subst (HasVerdict k a) is h

@@ -7,6 +7,7 @@ pub mod Kinds
 pub mod Bound
 pub mod Accepted
 pub mod Verdict
+pub mod Judgement
 -- within the crate
 pub mod Laws
 pub mod GoesBefore

@@ -1,23 +1,18 @@
 //! The check of an answer.
-ghost use Rattle.std.specs.Prelude.{◌≡◌, ◌<◌, List, All, IfOk, MatchOption};
-ghost use Rattle.tf_schedule.specs.declared.piece.Piece.{Piece};
+ghost use Rattle.std.specs.Prelude.{◌≡◌, IfOk};
 ghost use Rattle.tf_check.specs.Accepted.{IsAccepted, IsBestAnswer};
 ghost use Rattle.tf_check.specs.Certificate.{claim_of};
-ghost use Rattle.tf_check.specs.Claim.{Claim, answer_of};
-ghost use Rattle.tf_check.specs.Verdict.{IsFeasible, HasReason, HasVerdict};
+ghost use Rattle.tf_check.specs.Claim.{answer_of};
+ghost use Rattle.tf_check.specs.Verdict.{HasVerdict};
 
 use crate::answer::Answer;
 use crate::certificate::Certificate;
-use crate::evidence::Evidence;
-use crate::fault::BoundFault;
-use crate::verdict::{Reason, Verdict};
+use crate::judgement::{Judgement, judge_answer, verdict};
+use crate::verdict::Verdict;
 use std::alloc::Allocator;
 use tf_model::memory::OutOfMemory;
 use tf_model::task::Task;
-use tf_schedule::cost::cost;
-use tf_schedule::fit::{Misfit, fits};
 use tf_schedule::piece::Piece;
-use tf_schedule::schedule::Schedule;
 
 /// Judges an answer to a task, whoever made it: accepted, or the first reason against it.
 /// It takes memory for a copy of the pieces, and for what [`check_owned`] takes.
@@ -75,58 +70,6 @@ fn verdict_on<A: Allocator + Copy, B: Allocator, C: Allocator, D: Allocator>(
 {
     // Each reader of a task says that it is sound, as the bounds ask.
     let _class = task.class();
-    if let Some(reason) = reason_in_timetable(alloc, task, pieces, value)? {
-        return Ok(Verdict::Rejected(reason));
-    }
-    match reason_in_bound(alloc, task, value, certificate)? {
-        Some(reason) => Ok(Verdict::Rejected(reason)),
-        None => Ok(Verdict::Accepted),
-    }
-}
-
-// The first reason in the pieces, in what they draw, and in what that costs.
-fn reason_in_timetable<A: Allocator + Copy, B: Allocator, C: Allocator>(
-    alloc: A,
-    task: &Task<B>,
-    pieces: Vec<Piece, C>,
-    value: i64,
-) -> Result<Option<Reason>, OutOfMemory>
-    ensures { (claim : Claim) → IfOk result
-        (λ reason. MatchOption reason (IsFeasible task.now (answer_of pieces.items value claim))
-        (HasReason task.now (answer_of pieces.items value claim))) }
-{
-    let schedule = match Schedule::new(pieces) {
-        Ok(schedule) => schedule,
-        Err(fault) => return Ok(Some(Reason::Pieces(fault))),
-    };
-    match fits(alloc, task, &schedule) {
-        Ok(()) => {}
-        Err(Misfit::OutOfMemory) => return Err(OutOfMemory),
-        Err(misfit) => return Ok(Some(Reason::Misfit(misfit))),
-    }
-    if cost(task, &schedule) != i128::from(value) {
-        return Ok(Some(Reason::WrongValue));
-    }
-    Ok(None)
-}
-
-// The reason in the certificate, where the timetable has none.
-fn reason_in_bound<A: Allocator + Copy, B: Allocator, C: Allocator>(
-    alloc: A,
-    task: &Task<B>,
-    value: i64,
-    certificate: &Certificate<C>,
-) -> Result<Option<Reason>, OutOfMemory>
-    ensures { (pieces : List Piece) →
-        IsFeasible task.now (answer_of pieces value (claim_of certificate.now)) →
-        IfOk result (λ reason. MatchOption reason
-        (IsAccepted task.now (answer_of pieces value (claim_of certificate.now)))
-        (HasReason task.now (answer_of pieces value (claim_of certificate.now)))) }
-{
-    match certificate.bound(alloc, task) {
-        Ok(bound) if i128::from(value) <= bound => Ok(None),
-        Ok(_) => Ok(Some(Reason::BoundBelowValue)),
-        Err(BoundFault::OutOfMemory) => Err(OutOfMemory),
-        Err(fault) => Ok(Some(Reason::Bound(fault))),
-    }
+    let Judgement { fit, bound, .. } = judge_answer(alloc, task, pieces, certificate)?;
+    Ok(verdict(fit, bound, value))
 }

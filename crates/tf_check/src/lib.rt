@@ -7,6 +7,7 @@ pub mod check;
 pub mod evidence;
 pub mod fault;
 mod jobs;
+pub mod judgement;
 pub mod keyed_job;
 mod kinds;
 pub mod last_of;

@@ -28,7 +28,7 @@ use Rattle.tf_check.specs.Bound.{bound_by, list_fault, reaches_delta}
 use Rattle.tf_check.specs.Accepted.{IsAccepted}
 use Rattle.tf_check.specs.Laws.{list_fault_says, delta_fault_says, last_of_says, window_says, split_says, machine_says, one_job_says, ranks_says}
 use Rattle.tf_check.proofs.JobLists.{jobs_in_task}
-use Rattle.tf_check.proofs.Costs.{cell_within}
+use Rattle.tf_schedule.proofs.Cells.{cell_within}
 use Rattle.std.specs.Int.RustNames.{FitsSigned}
 use mir.Syntax.{w64}
 use Rattle.tf_model.specs.declared.class.Class.{Class}

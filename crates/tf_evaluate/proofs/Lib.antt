@@ -1,5 +1,4 @@
 pub mod Written
-pub mod Judged
 pub mod PermutedOutcomes
 pub mod Unevaluated
 pub mod Standing

@@ -1,23 +1,27 @@
 -- What happens to the jobs does not depend on the order of the pieces.
-use Rattle.std.proofs.Common.{◌≡◌, ℕ, ◌<◌, ◌≤◌, min, Bool, true, false, cond, eqb, List, [], ◌∷◌, map, subst, ap, sym, ◌∙◌, arith, inl, inr, refl}
-use Rattle.std.specs.List.{All}
+use Rattle.std.proofs.Common.{◌≡◌, ℕ, ◌<◌, ◌≤◌, min, Bool, true, false, cond, eqb, List, [], ◌∷◌, map, subst, ap, ◌∙◌, arith, inl, inr, refl, length, zero, suc, ◌+◌, Option, Some, None}
+use Rattle.std.specs.List.{range_with_len}
 use Rattle.std.specs.List.Sorted.{IsPermutation}
 use Rattle.std.proofs.lemmas.Bool.{cases_lt}
 use Rattle.std.proofs.lemmas.List.Sorted.{All-permutation, IsPermutation-sym}
 use Rattle.tf_model.specs.Limit.{limit}
 use Rattle.tf_model.specs.Cost.{price}
-use Rattle.tf_model.specs.SchedulingTask.{SchedulingTask, all_jobs}
+use Rattle.tf_model.specs.ClassTable.{is_shop}
+use Rattle.tf_model.specs.SchedulingTask.{SchedulingTask, IsJob, all_jobs}
 use Rattle.tf_schedule.specs.declared.piece.Piece.{Piece}
-use Rattle.tf_schedule.specs.declared.fit.Misfit.{Misfit as MisfitOf}
 use Rattle.tf_schedule.specs.Amounts.{greatest_by, least_by, last_stop, start_of}
 use Rattle.tf_schedule.specs.Drawing.{stop_of}
-use Rattle.tf_schedule.proofs.Busy.{greatest_ge, greatest_reached, least_le, least_reached}
+use Rattle.tf_schedule.specs.Lanes.{LanesData, HasLanes, start_in, stop_in}
+use Rattle.tf_schedule.specs.Schedule.{IsSchedule}
+use Rattle.tf_check.specs.Judgement.{HasTable}
+use Rattle.tf_schedule.proofs.Busy.{greatest_ge, greatest_reached, least_le, least_reached, stop_within}
+use Rattle.tf_schedule.proofs.OnLanes.{start_is, stop_is}
 use Rattle.tf_schedule.proofs.Permuted.{map_same}
-use Rattle.tf_evaluate.specs.declared.evaluation.Fit.{Fit}
-use Rattle.tf_evaluate.specs.declared.evaluation.Fit.TheVariants.{Fits, OtherTask, NoSchedule, Misfit}
+use Rattle.tf_check.specs.declared.judgement.Fit.{Fit}
+use Rattle.tf_check.specs.declared.judgement.Fit.TheVariants.{Fits, NoSchedule, Misfit}
 use Rattle.tf_evaluate.specs.declared.evaluation.JobOutcome.{JobOutcome}
 use Rattle.tf_evaluate.specs.Evaluating.{outcomes_for}
-use Rattle.tf_evaluate.specs.Outcomes.{first_start, outcome_of}
+use Rattle.tf_evaluate.specs.Outcomes.{first_start, outcome_of, outcome_in}
 
 -- a job's greatest is reached, and the other list has it too
 greatest_at_most : (f : Piece → ℕ) (ps qs : List Piece) (j : ℕ) → IsPermutation ps qs
@@ -81,11 +85,83 @@ outcome_same k ps qs same j =
       price = price k j stop;
     }
 
-pub outcomes_same : (k : SchedulingTask) (ps qs : List Piece) → IsPermutation ps qs → (fit : Fit)
+pub outcomes_same : (k : SchedulingTask) (ps qs : List Piece) → IsPermutation ps qs → (fit : Option Fit)
     → outcomes_for k qs fit ≡ outcomes_for k ps fit
-outcomes_same k ps qs same (Fits value) =
+outcomes_same k ps qs same (Some (Fits value)) =
     map_same (outcome_of k qs) (outcome_of k ps) (outcome_same k ps qs same) (all_jobs k)
-outcomes_same k ps qs same OtherTask = refl
-outcomes_same k ps qs same (NoSchedule fault) = refl
-outcomes_same k ps qs same (Misfit misfit) =
+outcomes_same k ps qs same None = refl
+outcomes_same k ps qs same (Some (NoSchedule fault)) = refl
+outcomes_same k ps qs same (Some (Misfit misfit)) =
     map_same (outcome_of k qs) (outcome_of k ps) (outcome_same k ps qs same) (all_jobs k)
+
+-- ---- by the table
+
+map_range : {X : Type 0} (f g : ℕ → X) (a n : ℕ) → ((j : ℕ) → a ≤ j → j < a + n → f j ≡ g j)
+    → map f (range_with_len a n) ≡ map g (range_with_len a n)
+map_range f g a zero same = refl
+map_range {X} f g a (suc n) same =
+    ap (λ (x : X). x ∷ map f (range_with_len (a + 1) n)) (same a (omega arith) (omega arith))
+    ∙ ap (λ (xs : List X). g a ∷ xs)
+    (map_range f g (a + 1) n (λ j low high. same j (omega arith) (omega arith)))
+
+module _ (k : SchedulingTask) (qs : List Piece) (schedule : IsSchedule qs) (l : LanesData)
+    (has : HasLanes (is_shop k.class) (length k.jobs) qs l) where
+  stops : (j : ℕ) → IsJob k j → stop_in l j ≤ limit
+  stops j job = omega (
+    arith,
+    stop_is (is_shop k.class) (length k.jobs) qs l has j job.0 job.1,
+    stop_within qs schedule.sound j,
+  )
+
+  in_table : map (outcome_in k l) (all_jobs k) ≡ map (outcome_of k qs) (all_jobs k)
+  in_table = map_range (outcome_in k l) (outcome_of k qs) 1 (length k.jobs) (λ j low high.
+      let at_most : j ≤ length k.jobs = omega (arith, high) in
+      let starts = start_is (is_shop k.class) (length k.jobs) qs l has j low at_most in
+      let ends = stop_is (is_shop k.class) (length k.jobs) qs l has j low at_most in
+      ap (with_stop j (start_in l j)) ends ∙ ap (λ s. with_stop j s (last_stop qs j)) starts)
+    where
+      with_stop : ℕ → ℕ → ℕ → JobOutcome
+      with_stop j start stop = record {
+        job = j;
+        start = first_start start stop;
+        completion = stop;
+        price = price k j stop;
+      }
+
+pub table_stops : (k : SchedulingTask) (ps : List Piece) (fit : Fit) (l : LanesData)
+    → HasTable k ps fit (Some l) → (j : ℕ) → IsJob k j → stop_in l j ≤ limit
+table_stops k ps (Fits value) l (qs, kept, schedule, l', is, has) =
+    stops k qs schedule l (subst (HasLanes (is_shop k.class) (length k.jobs) qs) (same l l' is) has)
+  where
+    same : (l l' : LanesData) → Some l ≡ Some l' → l' ≡ l
+    same l l' e = cc
+table_stops k ps (NoSchedule fault) l is = absurd (cc)
+table_stops k ps (Misfit misfit) l (qs, kept, schedule, l', is, has) =
+    stops k qs schedule l (subst (HasLanes (is_shop k.class) (length k.jobs) qs) (same l l' is) has)
+  where
+    same : (l l' : LanesData) → Some l ≡ Some l' → l' ≡ l
+    same l l' e = cc
+
+pub table_outcomes : (k : SchedulingTask) (ps : List Piece) (fit : Fit) (l : LanesData)
+    → HasTable k ps fit (Some l)
+    → map (outcome_in k l) (all_jobs k) ≡ outcomes_for k ps (Some fit)
+table_outcomes k ps (Fits value) l (qs, kept, schedule, l', is, has) =
+    in_table k qs schedule l (subst (HasLanes (is_shop k.class) (length k.jobs) qs) (same l l' is) has)
+    ∙ outcomes_same k ps qs kept (Some (Fits value))
+  where
+    same : (l l' : LanesData) → Some l ≡ Some l' → l' ≡ l
+    same l l' e = cc
+table_outcomes k ps (NoSchedule fault) l is = absurd (cc)
+table_outcomes k ps (Misfit misfit) l (qs, kept, schedule, l', is, has) =
+    in_table k qs schedule l (subst (HasLanes (is_shop k.class) (length k.jobs) qs) (same l l' is) has)
+    ∙ outcomes_same k ps qs kept (Some (Misfit misfit))
+  where
+    same : (l l' : LanesData) → Some l ≡ Some l' → l' ≡ l
+    same l l' e = cc
+
+-- without a table there is no schedule
+pub no_outcomes : (k : SchedulingTask) (ps : List Piece) (fit : Fit) → HasTable k ps fit None
+    → [] ≡ outcomes_for k ps (Some fit)
+no_outcomes k ps (Fits value) (qs, kept, schedule, l, is, has) = absurd (cc)
+no_outcomes k ps (NoSchedule fault) is = refl
+no_outcomes k ps (Misfit misfit) (qs, kept, schedule, l, is, has) = absurd (cc)

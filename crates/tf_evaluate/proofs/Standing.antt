@@ -1,5 +1,5 @@
 -- What a schedule comes to.
-use Rattle.std.proofs.Common.{◌≡◌, ◌<◌, ◌≤ℤ◌, ◌<ℤ◌, ◌-ℤ◌, ℤ, pos, negsuc, ℕ, int_le, nat_le, unsigned_abs, Bool, true, false, cond, refl, sym, subst, ap, ◌∙◌, arith}
+use Rattle.std.proofs.Common.{◌≡◌, ◌<◌, ◌≤ℤ◌, ◌<ℤ◌, ◌-ℤ◌, ℤ, pos, negsuc, ℕ, int_le, nat_le, unsigned_abs, Bool, true, false, cond, refl, sym, subst, ap, ◌∙◌, arith, List, Option, Some, None}
 use Rattle.std.specs.Int.Signed.{le_z_yes}
 use Rattle.std.specs.Prelude.{T}
 use Rattle.std.proofs.lemmas.Bool.{le-leb, lt-ltb}
@@ -10,16 +10,16 @@ use Rattle.tf_model.specs.SchedulingTask.{SchedulingTask}
 use Rattle.tf_model.specs.Timetable.{Timetable}
 use Rattle.tf_model.specs.Feasible.{Fits as FitsTask}
 use Rattle.tf_schedule.specs.declared.fit.Misfit.{Misfit as MisfitOf}
+use Rattle.tf_schedule.specs.declared.piece.Piece.{Piece}
 use Rattle.tf_schedule.specs.Drawing.{drawing, IsOnMachine}
 use Rattle.tf_schedule.proofs.Permuted.{drawing_permutation, drawing_only}
 use Rattle.tf_schedule.proofs.Excludes.{no_misfit}
-use Rattle.tf_check.specs.Claim.{AnswerData}
-use Rattle.tf_check.specs.Verdict.{DrawsFitting, HasReason}
-use Rattle.tf_check.specs.declared.verdict.Reason.TheVariants as reasons
+use Rattle.tf_check.specs.Judgement.{IsJudged}
+use Rattle.tf_check.specs.Verdict.{DrawsFitting}
 use Rattle.tf_check.proofs.Verdicts.{fault_excludes}
 use Rattle.tf_text.specs.AnswerText.{SheetData}
-use Rattle.tf_evaluate.specs.declared.evaluation.Fit.{Fit}
-use Rattle.tf_evaluate.specs.declared.evaluation.Fit.TheVariants.{Fits, OtherTask, NoSchedule, Misfit}
+use Rattle.tf_check.specs.declared.judgement.Fit.{Fit}
+use Rattle.tf_check.specs.declared.judgement.Fit.TheVariants.{Fits, NoSchedule, Misfit}
 use Rattle.tf_evaluate.specs.declared.evaluation.Standing.TheVariants.{Best, Beaten}
 use Rattle.tf_evaluate.specs.EvaluationData.{standing_of}
 use Rattle.tf_evaluate.specs.Evaluating.{IsLeastCost, HasFit, HasStanding, HasGap}
@@ -39,7 +39,7 @@ more (negsuc a) (pos b) e = cc
 more (negsuc a) (negsuc b) e = record { lt = subst T (sym (lt-ltb a b (below b a e))) tt }
 
 fitting_standing : (k : SchedulingTask) (sheet : SheetData) (value best : ℤ) (b : Bool)
-    → int_le value best ≡ b → HasFit k sheet (Fits value) → IsLeastCost k best
+    → int_le value best ≡ b → HasFit k sheet (Some (Fits value)) → IsLeastCost k best
     → HasStanding k sheet (cond b Best Beaten)
 fitting_standing k sheet value best true e (is, (rows, fitting, costs)) (least, is_best) = (
   is,
@@ -64,28 +64,28 @@ fitting_standing k sheet value best false e (is, (rows, fitting, costs)) (least,
 -- ---- a schedule that does not
 
 -- pieces with a misfit draw nothing that fits
-misfit_excludes : (k : SchedulingTask) (a : AnswerData) (misfit : MisfitOf) (rows : Timetable)
-    → HasReason k a (reasons.Misfit misfit) → DrawsFitting k a.pieces rows → ⊥
-misfit_excludes k a misfit rows (qs, kept, schedule, first, other) h =
-    let same : drawing k.machines qs ≡ drawing k.machines a.pieces =
-    sym (drawing_permutation k.machines qs a.pieces schedule.none_twice
-    (IsPermutation-sym a.pieces qs kept)) in
+misfit_excludes : (k : SchedulingTask) (ps : List Piece) (misfit : MisfitOf) (rows : Timetable)
+    → IsJudged k ps (Misfit misfit) → DrawsFitting k ps rows → ⊥
+misfit_excludes k ps misfit rows (qs, kept, schedule, first, other) h =
+    let same : drawing k.machines qs ≡ drawing k.machines ps =
+    sym (drawing_permutation k.machines qs ps schedule.none_twice
+    (IsPermutation-sym ps qs kept)) in
     let drawn : rows ≡ drawing k.machines qs =
-    drawing_only k.machines a.pieces rows h.draws ∙ sym same in
+    drawing_only k.machines ps rows h.draws ∙ sym same in
     other (no_misfit k qs schedule
-    (All-permutation (λ p. 0 < p.job) a.pieces qs kept h.draws.numbered)
-    (All-permutation (IsOnMachine k.machines) a.pieces qs kept h.draws.on_machines)
+    (All-permutation (λ p. 0 < p.job) ps qs kept h.draws.numbered)
+    (All-permutation (IsOnMachine k.machines) ps qs kept h.draws.on_machines)
     (subst (FitsTask k) drawn h.fits) misfit first)
 
-pub standing_is : (k : SchedulingTask) (sheet : SheetData) (fit : Fit) (best : ℤ)
+pub standing_is : (k : SchedulingTask) (sheet : SheetData) (fit : Option Fit) (best : ℤ)
     → HasFit k sheet fit → IsLeastCost k best → HasStanding k sheet (standing_of fit best)
-standing_is k sheet (Fits value) best h least =
+standing_is k sheet (Some (Fits value)) best h least =
     fitting_standing k sheet value best (int_le value best) refl h least
-standing_is k sheet OtherTask best h least = λ is rows fitting. h is
-standing_is k sheet (NoSchedule fault) best h least = λ is rows fitting.
+standing_is k sheet None best h least = λ is rows fitting. h is
+standing_is k sheet (Some (NoSchedule fault)) best h least = λ is rows fitting.
     fault_excludes sheet.answer.pieces fault fitting.pieces fitting.draws.none_twice h.1
-standing_is k sheet (Misfit misfit) best h least = λ is rows fitting.
-    misfit_excludes k sheet.answer misfit rows h.1 fitting
+standing_is k sheet (Some (Misfit misfit)) best h least = λ is rows fitting.
+    misfit_excludes k sheet.answer.pieces misfit rows h.1 fitting
 
 -- ---- the gap
 
@@ -101,9 +101,9 @@ best_only : (b : Bool) → cond b Best Beaten ≡ Best → b ≡ true
 best_only true e = refl
 best_only false e = cc
 
-pub gap_is : (k : SchedulingTask) (sheet : SheetData) (fit : Fit) (best : ℤ)
+pub gap_is : (k : SchedulingTask) (sheet : SheetData) (fit : Option Fit) (best : ℤ)
     → HasFit k sheet fit → IsLeastCost k best → HasGap fit best
-gap_is k sheet (Fits value) best (is, (rows, fitting, costs)) (least, is_best) =
+gap_is k sheet (Some (Fits value)) best (is, (rows, fitting, costs)) (least, is_best) =
     let above : best ≤ℤ value =
     omega (arith, ints, costs, is_best.least rows fitting.fits) in (
       λ none.
@@ -116,6 +116,6 @@ gap_is k sheet (Fits value) best (is, (rows, fitting, costs)) (least, is_best) =
           let apart : value -ℤ best ≡ pos 0 = omega (arith, ints, above, below) in
           ap unsigned_abs apart,
     )
-gap_is k sheet OtherTask best h least = tt
-gap_is k sheet (NoSchedule fault) best h least = tt
-gap_is k sheet (Misfit misfit) best h least = tt
+gap_is k sheet None best h least = tt
+gap_is k sheet (Some (NoSchedule fault)) best h least = tt
+gap_is k sheet (Some (Misfit misfit)) best h least = tt

@@ -6,15 +6,15 @@ use Rattle.tf_model.specs.Timetable.{Timetable}
 use Rattle.tf_model.specs.Feasible.{Fits as FitsTask}
 use Rattle.tf_model.specs.Cost.{cost, IsBest}
 use Rattle.tf_schedule.specs.declared.piece.Piece.{Piece}
-use Rattle.tf_check.specs.Claim.{AnswerData, Claim}
+use Rattle.tf_check.specs.Claim.{Claim}
 use Rattle.tf_check.specs.Bound.{bound_by}
-use Rattle.tf_check.specs.Verdict.{DrawsFitting, HasReason}
+use Rattle.tf_check.specs.Judgement.{IsJudged}
+use Rattle.tf_check.specs.Verdict.{DrawsFitting}
 use Rattle.tf_check.specs.declared.fault.BoundFault.{BoundFault}
-use Rattle.tf_check.specs.declared.verdict.Reason.TheVariants as reasons
 use Rattle.tf_text.specs.AnswerText.{SheetData}
 use Rattle.tf_engine.specs.Checking.{IsFor}
-use Rattle.tf_evaluate.specs.declared.evaluation.Fit.{Fit}
-use Rattle.tf_evaluate.specs.declared.evaluation.Fit.TheVariants.{Fits, OtherTask, NoSchedule, Misfit}
+use Rattle.tf_check.specs.declared.judgement.Fit.{Fit}
+use Rattle.tf_check.specs.declared.judgement.Fit.TheVariants.{Fits, NoSchedule}
 use Rattle.tf_evaluate.specs.declared.evaluation.JobOutcome.{JobOutcome}
 use Rattle.tf_evaluate.specs.declared.evaluation.Standing.{Standing}
 use Rattle.tf_evaluate.specs.declared.evaluation.Standing.TheVariants.{Best, Beaten, Unfit}
@@ -29,18 +29,10 @@ use Rattle.tf_evaluate.specs.Arithmetic.{arithmetic, last_result}
 abbrev pub IsLeastCost : SchedulingTask → ℤ → Type 0
 IsLeastCost k best = (rows : Timetable) × IsBest k rows best
 
--- how the pieces of an answer stand to the task that it is for
-abbrev pub IsJudged : SchedulingTask → AnswerData → Fit → Type 0
-IsJudged k a (Fits value) = (rows : Timetable) × DrawsFitting k a.pieces rows
-    × (cost k rows ≡ value)
-IsJudged k a OtherTask = ⊥
-IsJudged k a (NoSchedule fault) = HasReason k a (reasons.Pieces fault)
-IsJudged k a (Misfit misfit) = HasReason k a (reasons.Misfit misfit)
-
--- the same of a sheet, which may be for another task
-abbrev pub HasFit : SchedulingTask → SheetData → Fit → Type 0
-HasFit k sheet OtherTask = ¬ (IsFor k sheet)
-HasFit k sheet fit = IsFor k sheet × IsJudged k sheet.answer fit
+-- how the pieces of a sheet stand to the task, which may be another one
+abbrev pub HasFit : SchedulingTask → SheetData → Option Fit → Type 0
+HasFit k sheet None = ¬ (IsFor k sheet)
+HasFit k sheet (Some fit) = IsFor k sheet × IsJudged k sheet.answer.pieces fit
 
 -- what the schedule comes to: none that fits costs less, or this other timetable does
 abbrev pub HasStanding : SchedulingTask → SheetData → Standing → Type 0
@@ -53,8 +45,8 @@ HasStanding k sheet Unfit = IsFor k sheet → (rows : Timetable)
     → ¬ (DrawsFitting k sheet.answer.pieces rows)
 
 -- what the certificate bounds, or its first fault
-abbrev pub bound_for : SchedulingTask → Claim → Fit → Option (Result ℤ BoundFault)
-bound_for k claim OtherTask = None
+abbrev pub bound_for : SchedulingTask → Claim → Option Fit → Option (Result ℤ BoundFault)
+bound_for k claim None = None
 bound_for k claim _ = Some (bound_by claim k)
 
 -- the bound, where there is one, is the certificate's
@@ -73,14 +65,14 @@ EndsInBound WithArithmetic (Some (Ok bound)) steps = last_result None steps ≡ 
 EndsInBound _ _ steps = steps ≡ []
 
 -- what happens to the jobs from 1 on, where the pieces make a schedule
-abbrev pub outcomes_for : SchedulingTask → List Piece → Fit → List JobOutcome
-outcomes_for k ps OtherTask = []
-outcomes_for k ps (NoSchedule fault) = []
+abbrev pub outcomes_for : SchedulingTask → List Piece → Option Fit → List JobOutcome
+outcomes_for k ps None = []
+outcomes_for k ps (Some (NoSchedule fault)) = []
 outcomes_for k ps _ = map (outcome_of k ps) (all_jobs k)
 
 -- the gap is 0 exactly where the schedule is best
-abbrev pub HasGap : Fit → ℤ → Type 0
-HasGap (Fits value) best = (gap value best ≡ 0) ↔ (standing_of (Fits value) best ≡ Best)
+abbrev pub HasGap : Option Fit → ℤ → Type 0
+HasGap (Some (Fits value)) best = (gap value best ≡ 0) ↔ (standing_of (Some (Fits value)) best ≡ Best)
 HasGap _ best = Unit {0}
 
 pub record IsEvaluation (detail : Detail) (problem : Problem) (k : SchedulingTask)

@@ -1,9 +1,9 @@
 -- What an evaluation says, whatever memory holds it.
-use Rattle.std.specs.Prelude.{ℕ, ℤ, ◌-ℤ◌, unsigned_abs, int_le, List, Option, Result, if◌then◌else◌}
+use Rattle.std.specs.Prelude.{ℕ, ℤ, ◌-ℤ◌, unsigned_abs, int_le, List, Option, Some, Result, if◌then◌else◌}
 use Rattle.tf_model.specs.declared.problem.Problem.{Problem}
 use Rattle.tf_check.specs.declared.fault.BoundFault.{BoundFault}
-use Rattle.tf_evaluate.specs.declared.evaluation.Fit.{Fit}
-use Rattle.tf_evaluate.specs.declared.evaluation.Fit.TheVariants.{Fits}
+use Rattle.tf_check.specs.declared.judgement.Fit.{Fit}
+use Rattle.tf_check.specs.declared.judgement.Fit.TheVariants.{Fits}
 use Rattle.tf_evaluate.specs.declared.evaluation.Standing.{Standing}
 use Rattle.tf_evaluate.specs.declared.evaluation.Standing.TheVariants.{Best, Beaten, Unfit}
 use Rattle.tf_evaluate.specs.declared.evaluation.JobOutcome.{JobOutcome}
@@ -13,7 +13,7 @@ pub record EvaluationData : Type 0 where
   pub problem : Problem
   pub jobs : ℕ
   pub machines : ℕ
-  pub fit : Fit
+  pub fit : Option Fit
   pub claimed : ℤ
   pub best : ℤ
   pub bound : Option (Result ℤ BoundFault)
@@ -25,6 +25,6 @@ abbrev pub gap : ℤ → ℤ → ℕ
 gap value best = unsigned_abs (value -ℤ best)
 
 -- a schedule that fits is best where it costs no more than the least cost
-abbrev pub standing_of : Fit → ℤ → Standing
-standing_of (Fits value) best = if int_le value best then Best else Beaten
+abbrev pub standing_of : Option Fit → ℤ → Standing
+standing_of (Some (Fits value)) best = if int_le value best then Best else Beaten
 standing_of _ best = Unfit

@@ -6,8 +6,8 @@ use Rattle.tf_notation.specs.Canonical.{canonical}
 use Rattle.tf_check.specs.declared.fault.BoundFault.{BoundFault}
 use Rattle.tf_text.specs.AnswerText.{line_text}
 use Rattle.tf_engine.specs.VerdictLine.{piece_fault_words, misfit_words, bound_fault_words}
-use Rattle.tf_evaluate.specs.declared.evaluation.Fit.{Fit}
-use Rattle.tf_evaluate.specs.declared.evaluation.Fit.TheVariants.{Fits, OtherTask, NoSchedule, Misfit}
+use Rattle.tf_check.specs.declared.judgement.Fit.{Fit}
+use Rattle.tf_check.specs.declared.judgement.Fit.TheVariants.{Fits, NoSchedule, Misfit}
 use Rattle.tf_evaluate.specs.declared.evaluation.JobOutcome.{JobOutcome}
 use Rattle.tf_evaluate.specs.declared.step.Terms.{Terms}
 use Rattle.tf_evaluate.specs.declared.step.Terms.TheVariants.{Load, JobTime, ShopTimes, MachineWork, Smith, SetWork, LeastCost, Window, Split, GreatestFactor, Ranks}
@@ -15,20 +15,20 @@ use Rattle.tf_evaluate.specs.declared.step.Step.{Step}
 use Rattle.tf_evaluate.specs.EvaluationData.{EvaluationData, gap}
 
 -- `fits`, or `misfit` and why
-abbrev pub fit_words : Fit → List (List ℕ)
-fit_words (Fits value) = codes "fits" ∷ []
-fit_words OtherTask = codes "misfit" ∷ codes "OtherTask" ∷ []
-fit_words (NoSchedule fault) = codes "misfit" ∷ piece_fault_words fault
-fit_words (Misfit misfit) = codes "misfit" ∷ misfit_words misfit
+abbrev pub fit_words : Option Fit → List (List ℕ)
+fit_words (Some (Fits value)) = codes "fits" ∷ []
+fit_words None = codes "misfit" ∷ codes "OtherTask" ∷ []
+fit_words (Some (NoSchedule fault)) = codes "misfit" ∷ piece_fault_words fault
+fit_words (Some (Misfit misfit)) = codes "misfit" ∷ misfit_words misfit
 
 -- what a schedule that fits costs
-abbrev pub value_lines : Fit → List (List (List ℕ))
-value_lines (Fits value) = (codes "value" ∷ signed_decimal value ∷ []) ∷ []
+abbrev pub value_lines : Option Fit → List (List (List ℕ))
+value_lines (Some (Fits value)) = (codes "value" ∷ signed_decimal value ∷ []) ∷ []
 value_lines _ = []
 
 -- by how much it costs more than the least cost
-abbrev pub gap_lines : Fit → ℤ → List (List (List ℕ))
-gap_lines (Fits value) best = (codes "gap" ∷ decimal (gap value best) ∷ []) ∷ []
+abbrev pub gap_lines : Option Fit → ℤ → List (List (List ℕ))
+gap_lines (Some (Fits value)) best = (codes "gap" ∷ decimal (gap value best) ∷ []) ∷ []
 gap_lines _ best = []
 
 -- what the certificate bounds, or its first fault

@@ -4,6 +4,7 @@ use Rattle.tf_model.specs.SchedulingTask.{SchedulingTask}
 use Rattle.tf_model.specs.Cost.{price}
 use Rattle.tf_schedule.specs.declared.piece.Piece.{Piece}
 use Rattle.tf_schedule.specs.Amounts.{least_by, start_of, last_stop}
+use Rattle.tf_schedule.specs.Lanes.{LanesData, start_in, stop_in}
 use Rattle.tf_evaluate.specs.declared.evaluation.JobOutcome.{JobOutcome}
 
 -- the least start, 0 of a job without pieces, which has no stop
@@ -17,4 +18,13 @@ outcome_of k ps j = record {
   start = first_start (least_by start_of ps j) (last_stop ps j);
   completion = last_stop ps j;
   price = price k j (last_stop ps j);
+}
+
+-- the same by the table of when the jobs work
+abbrev pub outcome_in : SchedulingTask → LanesData → ℕ → JobOutcome
+outcome_in k l j = record {
+  job = j;
+  start = first_start (start_in l j) (stop_in l j);
+  completion = stop_in l j;
+  price = price k j (stop_in l j);
 }

@@ -1,36 +1,28 @@
 //! An answer, evaluated.
-ghost use Rattle.std.specs.Prelude.{◌≡◌, ◌↔◌, map, IsTrue, IfOk, IfErr};
-ghost use Rattle.std.specs.List.Sorted.{IsPermutation};
-ghost use Rattle.tf_model.specs.SchedulingTask.{all_jobs};
+ghost use Rattle.std.specs.Prelude.{◌≡◌, ◌↔◌, IsTrue, IfOk, IfErr};
 ghost use Rattle.tf_model.specs.Sound.{IsSound};
-ghost use Rattle.tf_schedule.specs.Schedule.{IsSchedule};
 ghost use Rattle.tf_check.specs.Certificate.{claim_of};
-ghost use Rattle.tf_check.specs.Claim.{AnswerData};
 ghost use Rattle.tf_text.specs.AnswerText.{SheetData};
 ghost use Rattle.tf_engine.specs.Checking.{IsFor};
 ghost use Rattle.tf_engine.specs.Solvers.{IsNotSolved};
-ghost use Rattle.tf_evaluate.specs.Evaluating.{EndsInBound, IsBoundOf, IsEvaluation, IsLeastCost, HasFit, HasStanding, HasGap, IsJudged, bound_for, outcomes_for, steps_for};
+ghost use Rattle.tf_evaluate.specs.Evaluating.{EndsInBound, IsBoundOf, IsEvaluation, IsLeastCost, HasFit, HasStanding, HasGap, bound_for, outcomes_for, steps_for};
 ghost use Rattle.tf_evaluate.specs.EvaluationData.{standing_of};
-ghost use Rattle.tf_evaluate.specs.Outcomes.{outcome_of};
 
 use crate::arithmetic::arithmetic;
-use crate::evaluation::{Detail, Evaluation, Fit, JobOutcome};
+use crate::evaluation::{Detail, Evaluation, JobOutcome};
 use crate::outcomes::outcomes;
 use crate::step::Step;
 use std::alloc::Allocator;
 use tf_check::answer::Answer;
 use tf_check::certificate::Certificate;
-use tf_check::evidence::Evidence;
 use tf_check::fault::BoundFault;
+use tf_check::judgement::{Fit, Judgement, judge_answer};
 use tf_engine::run_check::is_for;
 use tf_engine::solve::{SolveFault, solve};
 use tf_model::memory::OutOfMemory;
 use tf_model::problem::Problem;
 use tf_model::task::Task;
-use tf_schedule::cost::cost;
-use tf_schedule::fit::{Misfit, fits};
 use tf_schedule::piece::Piece;
-use tf_schedule::schedule::Schedule;
 use tf_text::answer::sheet::Sheet;
 
 /// How an answer to a problem stands to its task. The answer is given up, so that its pieces are
@@ -56,8 +48,11 @@ pub fn evaluate<A: Allocator + Copy, B: Allocator, C: Allocator>(
         value: claimed,
         certificate,
     } = sheet.into_answer();
-    let Judgement { fit, outcomes } = judged(alloc, task, is_its, pieces.into_vec())?;
-    let bound = bound_of(alloc, task, &certificate, &fit)?;
+    let Judged {
+        fit,
+        bound,
+        outcomes,
+    } = judge_sheet(alloc, task, is_its, pieces.into_vec(), &certificate)?;
     let steps = steps_of(alloc, task, &certificate, &bound, detail)?;
     Ok(Evaluation {
         problem: *problem,
@@ -84,80 +79,47 @@ fn least_cost<A: Allocator + Copy, B: Allocator>(
     Ok(answer.value)
 }
 
-// How pieces stand to a task, and what happens to its jobs.
+// How an answer stands to a task, and what happens to the jobs.
 #[derive(Drop)]
-struct Judgement<A: Allocator> {
-    fit: Fit,
+struct Judged<A: Allocator> {
+    fit: Option<Fit>,
+    bound: Option<Result<i128, BoundFault>>,
     outcomes: Vec<JobOutcome, A>,
 }
 
-// Of the pieces of an answer, which is for the task or for another one.
-fn judged<A: Allocator + Copy, B: Allocator, C: Allocator>(
+// Of the parts of an answer, which is for the task or for another one.
+fn judge_sheet<A: Allocator + Copy, B: Allocator, C: Allocator, D: Allocator>(
     alloc: A,
     task: &Task<B>,
     is_its: bool,
     pieces: Vec<Piece, C>,
-) -> Result<Judgement<A>, OutOfMemory>
+    certificate: &Certificate<D>,
+) -> Result<Judged<A>, OutOfMemory>
     ensures fit { (sheet : SheetData) → sheet.answer.pieces ≡ pieces.items →
         (IsTrue is_its ↔ IsFor task.now sheet) →
         IfOk result (λ judged. HasFit task.now sheet judged.fit) }
+    ensures bound { IfOk result
+        (λ judged. judged.bound ≡ bound_for task.now (claim_of certificate.now) judged.fit) }
     ensures outcomes { IfOk result
         (λ judged. judged.outcomes.items ≡ outcomes_for task.now pieces.items judged.fit) }
 {
     if !is_its {
-        return Ok(Judgement {
-            fit: Fit::OtherTask,
+        return Ok(Judged {
+            fit: None,
+            bound: None,
             outcomes: Vec::new(alloc),
         });
     }
-    match Schedule::new(pieces) {
-        Ok(schedule) => Ok(Judgement {
-            fit: fit_of(alloc, task, &schedule)?,
-            outcomes: outcomes(alloc, task, schedule.pieces())?,
-        }),
-        Err(fault) => Ok(Judgement {
-            fit: Fit::NoSchedule(fault),
-            outcomes: Vec::new(alloc),
-        }),
-    }
-}
-
-// How a schedule fits the task.
-fn fit_of<A: Allocator + Copy, B: Allocator, C: Allocator>(
-    alloc: A,
-    task: &Task<B>,
-    schedule: &Schedule<C>,
-) -> Result<Fit, OutOfMemory>
-    requires { IsSchedule schedule.now }
-    ensures judged { (a : AnswerData) → IsPermutation a.pieces schedule.now →
-        IfOk result (IsJudged task.now a) }
-    ensures scheduled { IfOk result (λ fit. outcomes_for task.now schedule.now fit
-        ≡ map (outcome_of task.now schedule.now) (all_jobs task.now)) }
-{
-    match fits(alloc, task, schedule) {
-        Ok(()) => Ok(Fit::Fits(cost(task, schedule))),
-        Err(Misfit::OutOfMemory) => Err(OutOfMemory),
-        Err(misfit) => Ok(Fit::Misfit(misfit)),
-    }
-}
-
-// What the certificate bounds, unless the answer is for another task.
-fn bound_of<A: Allocator + Copy, B: Allocator, C: Allocator>(
-    alloc: A,
-    task: &Task<B>,
-    certificate: &Certificate<C>,
-    fit: &Fit,
-) -> Result<Option<Result<i128, BoundFault>>, OutOfMemory>
-    ensures { IfOk result (λ bound. bound ≡ bound_for task.now (claim_of certificate.now) fit.now) }
-{
-    if let Fit::OtherTask = fit {
-        return Ok(None);
-    }
-    match certificate.bound(alloc, task) {
-        Ok(bound) => Ok(Some(Ok(bound))),
-        Err(BoundFault::OutOfMemory) => Err(OutOfMemory),
-        Err(fault) => Ok(Some(Err(fault))),
-    }
+    let Judgement { fit, lanes, bound } = judge_answer(alloc, task, pieces, certificate)?;
+    let outcomes = match &lanes {
+        Some(lanes) => outcomes(alloc, task, lanes)?,
+        None => Vec::new(alloc),
+    };
+    Ok(Judged {
+        fit: Some(fit),
+        bound: Some(bound),
+        outcomes,
+    })
 }
 
 // The certificate's arithmetic, where it is asked for and there is a bound.

@@ -3,23 +3,9 @@ use crate::step::Step;
 use std::alloc::{Allocator, Global};
 use std::marker::Model;
 use tf_check::fault::BoundFault;
+use tf_check::judgement::Fit;
 use tf_model::ids::JobId;
 use tf_model::problem::Problem;
-use tf_schedule::fit::Misfit;
-use tf_schedule::schedule::PieceFault;
-
-/// How the pieces of an answer stand to a task.
-#[derive(Debug, Drop, PartialEq, Eq)]
-pub enum Fit {
-    /// They draw a timetable that fits, and this is what it costs.
-    Fits(i128),
-    /// The answer is for a task of another class, or with other numbers of jobs or machines.
-    OtherTask,
-    /// They make no schedule.
-    NoSchedule(PieceFault),
-    /// The schedule does not fit.
-    Misfit(Misfit),
-}
 
 /// How much is told of an answer.
 #[derive(Clone, Copy, Debug, Drop, PartialEq, Eq)]
@@ -62,7 +48,8 @@ pub struct Evaluation<A: Allocator = Global> {
     /// The task's numbers of jobs and of machines.
     pub jobs: u32,
     pub machines: u32,
-    pub fit: Fit,
+    /// How the pieces stand to the task; `None` for an answer to another task.
+    pub fit: Option<Fit>,
     /// The value that the answer claims.
     pub claimed: i64,
     /// The least cost of a timetable that fits.
@@ -103,8 +90,8 @@ impl<A: Allocator> Evaluation<A> {
         ensures { result ≡ standing_of self.now.fit self.now.best }
     {
         match &self.fit {
-            Fit::Fits(value) if *value <= i128::from(self.best) => Standing::Best,
-            Fit::Fits(_) => Standing::Beaten,
+            Some(Fit::Fits(value)) if *value <= i128::from(self.best) => Standing::Best,
+            Some(Fit::Fits(_)) => Standing::Beaten,
             _ => Standing::Unfit,
         }
     }

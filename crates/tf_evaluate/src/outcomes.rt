@@ -1,11 +1,10 @@
 //! What happens to each job.
-ghost use Rattle.std.specs.Prelude.{◌≡◌, ◌≤◌, ◌+◌, ◌<◌, map, length, IfOk};
-ghost use Rattle.std.specs.List.{All};
+ghost use Rattle.std.specs.Prelude.{◌≡◌, ℕ, ◌≤◌, ◌+◌, ◌<◌, map, length, IfOk};
 ghost use Rattle.tf_model.specs.Limit.{limit};
 ghost use Rattle.tf_model.specs.SchedulingTask.{IsJob, all_jobs};
 ghost use Rattle.tf_model.specs.Cost.{price};
-ghost use Rattle.tf_schedule.specs.Schedule.{IsPiece};
-ghost use Rattle.tf_evaluate.specs.Outcomes.{first_start, outcome_of};
+ghost use Rattle.tf_schedule.specs.Lanes.{stop_in};
+ghost use Rattle.tf_evaluate.specs.Outcomes.{outcome_in};
 
 use crate::evaluation::JobOutcome;
 use std::alloc::Allocator;
@@ -13,43 +12,38 @@ use tf_model::ids::JobId;
 use tf_model::memory::OutOfMemory;
 use tf_model::task::Task;
 use tf_schedule::cost::price;
-use tf_schedule::piece::Piece;
-use tf_schedule::span::{Span, spans};
+use tf_schedule::lanes::Lanes;
 
-/// What happens to each job of the task, from 1 on. It goes over the pieces once.
-pub(crate) fn outcomes<A: Allocator + Copy, B: Allocator>(
+/// What happens to each job of the task, from 1 on, by the table of when they work.
+pub(crate) fn outcomes<A: Allocator + Copy, B: Allocator, C: Allocator>(
     alloc: A,
     task: &Task<B>,
-    pieces: &[Piece],
+    lanes: &Lanes<C>,
 ) -> Result<Vec<JobOutcome, A>, OutOfMemory>
-    requires { All IsPiece pieces.now }
+    requires { (j : ℕ) → IsJob task.now j → stop_in lanes.now j ≤ limit }
     ensures { IfOk result
-        (λ v. v.items ≡ map (outcome_of task.now pieces.now) (all_jobs task.now)) }
+        (λ v. v.items ≡ map (outcome_in task.now lanes.now) (all_jobs task.now)) }
 {
-    let spans = spans(alloc, task.len(), pieces)?;
     let mut outcomes = Vec::with_capacity(alloc, task.len())?;
     for k in 0..task.len() {
-        outcomes.push(outcome(task, JobId::at(k), spans[k]))?;
+        outcomes.push(outcome(task, lanes, JobId::at(k)))?;
     }
     Ok(outcomes)
 }
 
-// What happens to a job whose pieces have this span.
-fn outcome<A: Allocator>(task: &Task<A>, job: JobId, span: Span) -> JobOutcome
+// What happens to a job.
+fn outcome<A: Allocator, B: Allocator>(task: &Task<A>, lanes: &Lanes<B>, job: JobId) -> JobOutcome
     requires job { IsJob task.now job }
-    requires stop { span.stop ≤ limit }
-    ensures { result ≡ record {
-      job = job;
-      start = first_start span.start span.stop;
-      completion = span.stop;
-      price = price task.now job span.stop;
-    } }
+    requires stop { stop_in lanes.now job ≤ limit }
+    ensures { result ≡ outcome_in task.now lanes.now job }
 {
+    let start = lanes.start(job);
+    let stop = lanes.stop(job);
     JobOutcome {
         job,
-        start: if span.stop == 0 { 0 } else { span.start },
-        completion: span.stop,
-        price: price_at(task, job, span.stop),
+        start: if stop == 0 { 0 } else { start },
+        completion: stop,
+        price: price_at(task, job, stop),
     }
 }
 

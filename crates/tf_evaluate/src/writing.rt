@@ -5,11 +5,12 @@ ghost use Rattle.std.specs.List.{flat_map, join_with_byte};
 ghost use Rattle.tf_text.specs.AnswerText.{line_text};
 ghost use Rattle.tf_evaluate.specs.EvaluationText.{fit_words, value_lines, gap_lines, bound_words, bound_lines, outcome_words, judgement_lines, step_words, terms_words, evaluation_text};
 
-use crate::evaluation::{Evaluation, Fit, JobOutcome};
+use crate::evaluation::{Evaluation, JobOutcome};
 use crate::step::{Step, Terms};
 use itoa::Integer;
 use std::alloc::Allocator;
 use tf_check::fault::BoundFault;
+use tf_check::judgement::Fit;
 use tf_engine::verdict_line::{push_bound_fault, push_misfit, push_piece_fault};
 use tf_model::ids::JobId;
 use tf_model::memory::OutOfMemory;
@@ -54,18 +55,18 @@ fn push_judgement<A: Allocator, M: Allocator>(
 }
 
 // `fits`, or `misfit` and why.
-fn push_fit<A: Allocator>(text: &mut Vec<u8, A>, fit: &Fit) -> Result<(), OutOfMemory>
+fn push_fit<A: Allocator>(text: &mut Vec<u8, A>, fit: &Option<Fit>) -> Result<(), OutOfMemory>
     ensures { OnOk result (text.new.items ≡ text.old.items ++ line_text (fit_words fit.now)) }
 {
     match fit {
-        Fit::Fits(_) => text.extend_from_slice(b"fits\n")?,
-        Fit::OtherTask => text.extend_from_slice(b"misfit OtherTask\n")?,
-        Fit::NoSchedule(fault) => {
+        Some(Fit::Fits(_)) => text.extend_from_slice(b"fits\n")?,
+        None => text.extend_from_slice(b"misfit OtherTask\n")?,
+        Some(Fit::NoSchedule(fault)) => {
             text.extend_from_slice(b"misfit ")?;
             push_piece_fault(text, fault)?;
             text.push(b'\n')?;
         }
-        Fit::Misfit(misfit) => {
+        Some(Fit::Misfit(misfit)) => {
             text.extend_from_slice(b"misfit ")?;
             push_misfit(text, misfit)?;
             text.push(b'\n')?;
@@ -74,22 +75,26 @@ fn push_fit<A: Allocator>(text: &mut Vec<u8, A>, fit: &Fit) -> Result<(), OutOfM
     Ok(())
 }
 
-fn push_value<A: Allocator>(text: &mut Vec<u8, A>, fit: &Fit) -> Result<(), OutOfMemory>
+fn push_value<A: Allocator>(text: &mut Vec<u8, A>, fit: &Option<Fit>) -> Result<(), OutOfMemory>
     ensures { OnOk result
         (text.new.items ≡ text.old.items ++ flat_map line_text (value_lines fit.now)) }
 {
     match fit {
-        Fit::Fits(value) => push_number_line(text, b"value", *value),
+        Some(Fit::Fits(value)) => push_number_line(text, b"value", *value),
         _ => Ok(()),
     }
 }
 
-fn push_gap<A: Allocator>(text: &mut Vec<u8, A>, fit: &Fit, best: i64) -> Result<(), OutOfMemory>
+fn push_gap<A: Allocator>(
+    text: &mut Vec<u8, A>,
+    fit: &Option<Fit>,
+    best: i64,
+) -> Result<(), OutOfMemory>
     ensures { OnOk result
         (text.new.items ≡ text.old.items ++ flat_map line_text (gap_lines fit.now best)) }
 {
     match fit {
-        Fit::Fits(value) => push_number_line(text, b"gap", value.abs_diff(i128::from(best))),
+        Some(Fit::Fits(value)) => push_number_line(text, b"gap", value.abs_diff(i128::from(best))),
         _ => Ok(()),
     }
 }

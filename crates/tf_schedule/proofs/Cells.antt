@@ -1,12 +1,12 @@
 -- A cell of the drawing has a job exactly where a piece of the job on the machine is going.
-use Rattle.std.proofs.Common.{◌≡◌, ℕ, suc, ◌+◌, ◌-◌, ◌<◌, ◌≤◌, ◌↔◌, Bool, true, false, cond, List, [], ◌∷◌, length, get_or, refl, sym, ap, subst, ◌∙◌, arith, inl, inr}
+use Rattle.std.proofs.Common.{◌≡◌, ℕ, suc, ◌+◌, ◌-◌, ◌<◌, ◌≤◌, ◌↔◌, Bool, true, false, cond, List, [], ◌∷◌, length, get_or, refl, sym, ap, subst, ◌∙◌, arith, inl, inr, ⊎_elim}
 use Rattle.std.specs.List.{All, Any}
 use Rattle.std.proofs.lemmas.Bool.{cases_lt}
 use Rattle.std.proofs.lemmas.List.{get_or_past}
 use Rattle.tf_schedule.specs.declared.piece.Piece.{Piece}
 use Rattle.tf_schedule.specs.Piece.{machine_of, as_time, covers}
 use Rattle.tf_schedule.specs.Schedule.{NoneTwice}
-use Rattle.tf_model.specs.Timetable.{Row, cell}
+use Rattle.tf_model.specs.Timetable.{Row, Timetable, cell}
 use Rattle.tf_schedule.specs.Drawing.{job_at, drawing, IsOnMachine, IsGoing}
 use Rattle.tf_schedule.proofs.Scan.{claimed_from_test, test_from_claimed}
 use Rattle.tf_schedule.proofs.Drawing.{cell-drawing, width-drawing}
@@ -80,3 +80,17 @@ on_some_machine m ps t i j some e = elim (cases_lt i m) [
   | inl lt ↦ lt
   | inr le ↦ absurd (omega (arith, cell_beyond m ps t i le, e))
 ]
+
+-- each cell of rows of jobs up to n is at most n
+row_within : (n : ℕ) (row : Row) → All (λ j. j ≤ n) row → (i : ℕ) → get_or row i 0 ≤ n
+row_within n row all i =
+    ⊎_elim (λ h. all i 0 h) (λ h. let e = get_or_past row i 0 h in omega (arith, e))
+    (cases_lt i (length row))
+
+pub cell_within : (n : ℕ) (rows : Timetable) (t i : ℕ) → All (λ row. All (λ j. j ≤ n) row) rows
+    → cell rows t i ≤ n
+cell_within n rows t i all = ⊎_elim
+    (λ h. row_within n (get_or rows t []) (all t [] h) i)
+    (λ h. let none : cell rows t i ≡ 0 = ap (λ row. get_or row i 0) (get_or_past rows t [] h) in
+    omega (arith, none))
+    (cases_lt t (length rows))

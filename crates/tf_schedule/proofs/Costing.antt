@@ -20,7 +20,7 @@ use Rattle.tf_schedule.specs.Drawing.{drawing, stop_of, IsOnMachine}
 use Rattle.tf_schedule.specs.Amounts.{last_stop, greatest_by, start_of}
 use Rattle.tf_schedule.specs.Misfit.{IsKnown}
 use Rattle.tf_schedule.specs.Cost.{is_known, known_pieces}
-use Rattle.tf_schedule.specs.Stops.{total_to, with_stop}
+use Rattle.tf_schedule.specs.Stops.{total_of, total_to, with_stop}
 use Rattle.tf_schedule.proofs.Times.{sound_times}
 use Rattle.tf_schedule.proofs.Filters.{sum_by-filter-le}
 use Rattle.tf_schedule.proofs.Drawing.{completion-drawing}
@@ -199,11 +199,11 @@ range_more f a (suc n) =
     next : (a n : ℕ) → a + 1 + n ≡ a + suc n
     next a n = omega arith
 
-module _ (k : SchedulingTask) (qs : List Piece) where
+module _ (k : SchedulingTask) (f : ℕ → ℕ) where
   pub total_more : (n : ℕ)
-      → total_to k qs (n + 1) ≡ total_to k qs n + (job_data k (n + 1)).weight * last_stop qs (n + 1)
-  total_more n = range_more (λ j. (job_data k j).weight * last_stop qs j) 1 n
-      ∙ ap (λ j. total_to k qs n + (job_data k j).weight * last_stop qs j) (one_more n)
+      → total_of k f (n + 1) ≡ total_of k f n + (job_data k (n + 1)).weight * f (n + 1)
+  total_more n = range_more (λ j. (job_data k j).weight * f j) 1 n
+      ∙ ap (λ j. total_of k f n + (job_data k j).weight * f j) (one_more n)
     where
       one_more : (n : ℕ) → 1 + n ≡ n + 1
       one_more n = omega arith
@@ -231,16 +231,17 @@ module _ (k : SchedulingTask) (qs : List Piece) where
       let split : (v + w) * l ≡ v * l + w * l = add-mul v w l in
       omega (arith, one, split, rest)
 
-  total_le : ((j : ℕ) → last_stop qs j ≤ limit) → (n : ℕ) → total_to k qs n ≤ weights n * limit
-  total_le stops zero = omega arith
-  total_le stops (suc n) =
+  total_le : (n : ℕ) → ((j : ℕ) → 1 ≤ j → j ≤ n → f j ≤ limit) → total_of k f n ≤ weights n * limit
+  total_le zero stops = omega arith
+  total_le (suc n) stops =
       let next : n + 1 ≡ suc n = omega arith in
-      subst (λ m. total_to k qs m ≤ weights m * limit) next
+      subst (λ m. total_of k f m ≤ weights m * limit) next
       (subst (λ t. t ≤ weights (n + 1) * limit) (sym (total_more n))
-      (subst (λ v. total_to k qs n + (job_data k (n + 1)).weight * last_stop qs (n + 1) ≤ v * limit)
+      (subst (λ v. total_of k f n + (job_data k (n + 1)).weight * f (n + 1) ≤ v * limit)
       (sym (weights_more n))
-      (scaled (job_data k (n + 1)).weight (last_stop qs (n + 1)) limit (total_to k qs n) (weights n)
-      (stops (n + 1)) (total_le stops n))))
+      (scaled (job_data k (n + 1)).weight (f (n + 1)) limit (total_of k f n) (weights n)
+      (stops (n + 1) (omega arith) (omega arith))
+      (total_le n (λ j low high. stops j low (omega arith))))))
 
   module _ (task : IsSound k) (class : IsTrue (is_sum k.class)) where
     work_some : 1 ≤ sum_by (time_of k) (all_jobs k)
@@ -258,15 +259,15 @@ module _ (k : SchedulingTask) (qs : List Piece) where
           le-mul_of_pos_right (weights (length k.jobs)) work_some,
         )
 
-    pub total_fits : ((j : ℕ) → last_stop qs j ≤ limit) → (n : ℕ) → n ≤ length k.jobs
-        → total_to k qs n ≤ 16000000000000000000000000000000000000
+    pub total_fits : ((j : ℕ) → IsJob k j → f j ≤ limit) → (n : ℕ) → n ≤ length k.jobs
+        → total_of k f n ≤ 16000000000000000000000000000000000000
     total_fits stops n le =
         let rest : n + (length k.jobs - n) ≡ length k.jobs = omega arith in
         let fewer : weights n ≤ weights (length k.jobs) =
         subst (λ m. weights n ≤ weights m) rest (weights_le n (length k.jobs - n)) in
         let few : weights n ≤ limit = omega (arith, fewer, weights_fit) in
         let most : weights n * limit ≤ limit * limit = mul-le-mul_right limit few in
-        omega (arith, most, total_le stops n)
+        omega (arith, most, total_le n (λ j low high. stops j (low, omega arith)))
 
 -- the weighted sum of the completions is that of the last stops
 pub total_is : (k : SchedulingTask) (ps : List Piece) → IsSchedule ps
@@ -278,7 +279,7 @@ total_is k ps schedule =
     (λ j. (job_data k j).weight * last_stop (known_pieces k ps) j) 1 (length k.jobs)
     (λ j low high. ap (λ c. (job_data k j).weight * c) (completion_is k ps schedule j low))
 
-pub stops_within : (k : SchedulingTask) (ps : List Piece) → All IsPiece ps → (j : ℕ)
+pub stops_within : (k : SchedulingTask) (ps : List Piece) → All IsPiece ps → (j : ℕ) → IsJob k j
     → last_stop (known_pieces k ps) j ≤ limit
-stops_within k ps sound j =
+stops_within k ps sound j job =
     stop_within (known_pieces k ps) (All-filter (is_known k) IsPiece ps sound) j

@@ -2,7 +2,7 @@
 use Rattle.std.proofs.Common.{◌≡◌, ℕ, zero, suc, ◌-◌, ◌<◌, ◌≤◌, List, [], ◌∷◌, length, get_or, refl, arith, inl, inr}
 use Rattle.std.specs.List.{All}
 use Rattle.tf_model.specs.SchedulingTask.{SchedulingTask}
-use Rattle.tf_model.specs.Timetable.{Row, Timetable, cell, cells_of}
+use Rattle.tf_model.specs.Timetable.{Timetable, cell, cells_of}
 use Rattle.tf_model.specs.Feasible.{Fits}
 use Rattle.tf_model.proofs.Units.{cell_with}
 use Rattle.tf_schedule.specs.declared.piece.Piece.{Piece}
@@ -15,30 +15,15 @@ use Rattle.tf_schedule.specs.Amounts.{start_of}
 use Rattle.tf_schedule.specs.Misfit.{IsKnown, IsKept, HasFirstMisfit}
 use Rattle.tf_schedule.proofs.Times.{sound_times}
 use Rattle.tf_schedule.proofs.Transport.{element}
-use Rattle.tf_schedule.proofs.Cells.{piece_draws}
+use Rattle.tf_schedule.proofs.Cells.{piece_draws, cell_within}
 
 module _ (k : SchedulingTask) (ps : List Piece) (schedule : IsSchedule ps)
     (numbered : All (λ p. 0 < p.job) ps) (on : All (IsOnMachine k.machines) ps)
     (fits : Fits k (drawing k.machines ps)) where
   -- each cell of the drawing is empty or a job of the task
-  cell_within : (t i : ℕ) → cell (drawing k.machines ps) t i ≤ length k.jobs
-  cell_within t i = by_row (get_or (drawing k.machines ps) t []) refl
-    where
-      in_row : (row : Row) (n : ℕ) → All (λ j. j ≤ n) row → (i : ℕ) → get_or row i 0 ≤ n
-      in_row [] n all i = omega arith
-      in_row (c ∷ row) n all zero = all 0 0 (omega arith)
-      in_row (c ∷ row) n all (suc i) = in_row row n (λ h d lt. all (suc h) d (omega arith)) i
-
-      in_rows : (rows : Timetable) (n : ℕ) → All (λ row. All (λ j. j ≤ n) row) rows → (t i : ℕ)
-          → cell rows t i ≤ n
-      in_rows [] n all t i = omega arith
-      in_rows (row ∷ rows) n all zero i = in_row row n (all 0 [] (omega arith)) i
-      in_rows (row ∷ rows) n all (suc t) i =
-          in_rows rows n (λ h d lt. all (suc h) d (omega arith)) t i
-
-      by_row : (row : Row) → get_or (drawing k.machines ps) t [] ≡ row
-          → cell (drawing k.machines ps) t i ≤ length k.jobs
-      by_row row e = in_rows (drawing k.machines ps) (length k.jobs) fits.broken.jobs_only t i
+  drawn_within : (t i : ℕ) → cell (drawing k.machines ps) t i ≤ length k.jobs
+  drawn_within t i =
+      cell_within (length k.jobs) (drawing k.machines ps) t i fits.broken.jobs_only
 
   -- so each piece is of a job of the task, since it draws a cell
   pub pieces_known : All (IsKnown k) ps
@@ -47,13 +32,13 @@ module _ (k : SchedulingTask) (ps : List Piece) (schedule : IsSchedule ps)
       let drawn : cell (drawing k.machines ps) (start_of p) (p.machine - 1) ≡ p.job =
       piece_draws k.machines ps i d (start_of p) schedule.none_twice on h (omega arith)
       (sound_times p (schedule.sound i d h)) in
-      ((numbered i d h, omega (arith, drawn, cell_within (start_of p) (p.machine - 1))), on i d h)
+      ((numbered i d h, omega (arith, drawn, drawn_within (start_of p) (p.machine - 1))), on i d h)
 
   -- a job that stands in a cell is one of the task
   in_task : (j t : ℕ) → 1 ≤ j → 0 < cells_of j (get_or (drawing k.machines ps) t [])
       → j ≤ length k.jobs
   in_task j t low some = let (i, at) = cell_with j (get_or (drawing k.machines ps) t []) some in
-      omega (arith, at, cell_within t i)
+      omega (arith, at, drawn_within t i)
 
   cells_once : (rows : Timetable) (j t : ℕ) → All (λ row. cells_of j row ≤ 1) rows
       → cells_of j (get_or rows t []) ≤ 1

@@ -1,12 +1,10 @@
 -- The extents of jobs, piece by piece.
-use Rattle.std.proofs.Common.{◌≡◌, ◌≢◌, ℕ, ◌+◌, ◌*◌, ◌<◌, ◌≤◌, max, min, Bool, true, false, cond, eqb, List, [], ◌∷◌, ◌++◌, length, get_or, take, set, get_or-set_other, get_or-set_same, length-set, refl, sym, ap, ◌∙◌, arith, inl, inr}
+use Rattle.std.proofs.Common.{◌≡◌, ◌≢◌, ℕ, ◌+◌, ◌-◌, ◌*◌, ◌≤◌, max, min, Bool, true, false, cond, eqb, List, [], ◌∷◌, ◌++◌, length, get_or, get_or-set_other, get_or-set_same, pos, refl, sym, ap, ◌∙◌, arith, inl, inr}
 use Rattle.std.specs.List.{All, sum_by, range_with_len}
-use Rattle.std.proofs.lemmas.List.{take_more}
-use Rattle.std.proofs.lemmas.List.Sums.{sum_by_more, sum_by-le, sum_by_more_le}
+use Rattle.std.proofs.lemmas.List.Sums.{sum_by-append, sum_by-cons, sum_by-le}
 use Rattle.std.proofs.lemmas.List.FromFn.{length-range_with_len}
 use Rattle.std.proofs.lemmas.Bool.{cases_eq}
 use Rattle.std.proofs.lemmas.Bool.Decides.{nat_tests}
-use Rattle.std.proofs.Common.{pos}
 use Rattle.tf_schedule.specs.declared.piece.Piece.{Piece}
 use Rattle.tf_schedule.specs.declared.extent.Extent.{Extent}
 use Rattle.tf_schedule.specs.Piece.{machine_of}
@@ -14,7 +12,7 @@ use Rattle.tf_schedule.specs.Claims.{places, JobsOnce}
 use Rattle.tf_schedule.specs.Schedule.{IsPiece}
 use Rattle.tf_schedule.specs.Drawing.{duration, greatest_stop, stop_of}
 use Rattle.tf_schedule.specs.Amounts.{work, greatest_by, least_by, start_of}
-use Rattle.tf_schedule.specs.Extent.{extended, extent_of, HasExtents}
+use Rattle.tf_schedule.specs.Extent.{most_work, most_machine, no_extent, extended, extent_of, extent_at, with_piece}
 use Rattle.tf_schedule.proofs.Times.{time_le}
 use Rattle.tf_schedule.proofs.Drawing.{sum_places, greatest_stop_le}
 use Rattle.tf_model.specs.Limit.{limit}
@@ -33,24 +31,14 @@ work_le_stop ps j once =
       length-range_with_len 0 (greatest_stop ps),
     )
 
--- a total stays within the limit
-pub add_fits : (ps : List Piece) (k : ℕ) (p : Piece) → k < length ps → p ≡ get_or ps k p
-    → All IsPiece ps → JobsOnce ps → work (take k ps) p.job + duration p ≤ limit
-add_fits ps k p in_range read sound once =
-    let same : eqb p.job p.job ≡ true = grind (arith, nat_tests) in
-    let own : cond (eqb (get_or ps k p).job p.job) (duration (get_or ps k p)) 0 ≡ duration p =
-    ap (λ (q : Piece). cond (eqb q.job p.job) (duration q) 0) (sym read)
-    ∙ ap (λ (b : Bool). cond b (duration p) 0) same in
+-- so its work is not cut short
+pub work_exact : (ps : List Piece) (j : ℕ) → All IsPiece ps → JobsOnce ps
+    → min (work ps j) most_work ≡ work ps j
+work_exact ps j sound once =
     let stops : greatest_stop ps ≤ limit =
     greatest_stop_le ps limit
     (λ n d h. time_le (get_or ps n d).stop (pos limit) (sound n d h).0.1) in
-    omega (
-      arith,
-      own,
-      stops,
-      work_le_stop ps p.job once,
-      sum_by_more_le (λ q. cond (eqb q.job p.job) (duration q) 0) ps k p in_range,
-    )
+    omega (arith, stops, work_le_stop ps j once)
 
 -- ---- one more piece
 
@@ -84,97 +72,85 @@ least_push f (q ∷ ps) p j =
     step false true x y g h e = e
     step false false x y g h e = e
 
--- one entry for each job, of which one is set
-pub set_entry : {X : Type 0} (before after : ℕ → X) (xs : List X) (jobs at : ℕ) (x : X)
-    → length xs ≡ jobs → at < jobs → x ≡ after (at + 1)
-    → ((j : ℕ) → j ≢ at + 1 → after j ≡ before j)
-    → ((k : ℕ) (d : X) → k < jobs → get_or xs k d ≡ before (k + 1))
-    → (k : ℕ) (d : X) → k < jobs → get_or (set xs at x) k d ≡ after (k + 1)
-set_entry before after xs jobs at x len in' now others each k d lt = elim (cases_eq k at) [
-  | inl same ↦
-      ap (λ m. get_or (set xs at x) m d) same ∙ get_or-set_same xs at x d (omega (arith, len, in'))
-      ∙ now ∙ ap (λ m. after (m + 1)) (sym same)
-  | inr differ ↦
-      get_or-set_other xs at k x d differ ∙ each k d lt
-      ∙ sym (others (k + 1) (λ e. differ (omega (arith, e))))
-]
+same_extent : (w w' s s' t t' l l' h h' : ℕ) → w ≡ w' → s ≡ s' → t ≡ t' → l ≡ l' → h ≡ h'
+    → ◌≡◌ {A = Extent} (record { work = w; start = s; stop = t; lowest = l; highest = h })
+    (record { work = w'; start = s'; stop = t'; lowest = l'; highest = h' })
+same_extent w w' s s' t t' l l' h h' a b c d e = cc
 
-module _ (ps : List Piece) (k : ℕ) (p : Piece) (in_range : k < length ps) (read : p ≡ get_or ps k p)
-  where
-    taken : take (k + 1) ps ≡ take k ps ++ p ∷ []
-    taken = take_more ps k p in_range ∙ ap (λ (q : Piece). take k ps ++ q ∷ []) (sym read)
+module _ (ps : List Piece) (p : Piece) (j : ℕ) where
+  work_push : work (ps ++ p ∷ []) j ≡ work ps j + cond (eqb p.job j) (duration p) 0
+  work_push =
+      omega (
+        arith,
+        sum_by-append (λ q. cond (eqb q.job j) (duration q) 0) ps (p ∷ []),
+        sum_by-cons (λ q. cond (eqb q.job j) (duration q) 0) p [],
+      )
 
-    work_more : (j : ℕ)
-        → work (take (k + 1) ps) j ≡ work (take k ps) j + cond (eqb p.job j) (duration p) 0
-    work_more j = sum_by_more (λ q. cond (eqb q.job j) (duration q) 0) ps k p in_range
-        ∙ ap (λ (q : Piece). work (take k ps) j + cond (eqb q.job j) (duration q) 0) (sym read)
+  cut_sum : (w d v m : ℕ) → v ≡ w + d → min v m ≡ min (min w m + d) m
+  cut_sum w d v m e = omega (arith, e)
 
-    greatest_more : (f : Piece → ℕ) (j : ℕ)
-        → greatest_by f (take (k + 1) ps) j
-        ≡ cond (eqb p.job j) (max (f p) (greatest_by f (take k ps) j))
-        (greatest_by f (take k ps) j)
-    greatest_more f j = ap (λ qs. greatest_by f qs j) taken ∙ greatest_push f (take k ps) p j
+  cut_min : (a l m v : ℕ) → v ≡ min a l → min v m ≡ min a (min l m)
+  cut_min a l m v e = omega (arith, e)
 
-    least_more : (f : Piece → ℕ) (j : ℕ)
-        → least_by f (take (k + 1) ps) j
-        ≡ cond (eqb p.job j) (min (f p) (least_by f (take k ps) j)) (least_by f (take k ps) j)
-    least_more f j = ap (λ qs. least_by f qs j) taken ∙ least_push f (take k ps) p j
+  -- with one more piece of the job
+  extent_same : p.job ≡ j → extent_of (ps ++ p ∷ []) j ≡ extended (extent_of ps j) p
+  extent_same own =
+      let test : eqb p.job j ≡ true = grind (arith, nat_tests) in
+      same_extent _ _ _ _ _ _ _ _ _ _
+      (cut_sum (work ps j) (duration p) (work (ps ++ p ∷ []) j) most_work
+      (work_push ∙ ap (λ (b : Bool). work ps j + cond b (duration p) 0) test))
+      (least_push start_of ps p j
+      ∙ ap (λ (b : Bool). cond b (min (start_of p) (least_by start_of ps j)) (least_by start_of ps j))
+      test)
+      (greatest_push stop_of ps p j
+      ∙ ap (λ (b : Bool). cond b (max (stop_of p) (greatest_by stop_of ps j))
+      (greatest_by stop_of ps j)) test)
+      (cut_min (machine_of p) (least_by machine_of ps j) most_machine
+      (least_by machine_of (ps ++ p ∷ []) j)
+      (least_push machine_of ps p j
+      ∙ ap (λ (b : Bool). cond b (min (machine_of p) (least_by machine_of ps j))
+      (least_by machine_of ps j)) test))
+      (greatest_push machine_of ps p j
+      ∙ ap (λ (b : Bool). cond b (max (machine_of p) (greatest_by machine_of ps j))
+      (greatest_by machine_of ps j)) test)
 
-    same_extent : (w w' s s' t t' l l' h h' : ℕ) → w ≡ w' → s ≡ s' → t ≡ t' → l ≡ l' → h ≡ h'
-        → ◌≡◌ {A = Extent} (record { work = w; start = s; stop = t; lowest = l; highest = h })
-        (record { work = w'; start = s'; stop = t'; lowest = l'; highest = h' })
-    same_extent w w' s s' t t' l l' h h' a b c d e = cc
+  -- and of another job
+  extent_other : p.job ≢ j → extent_of (ps ++ p ∷ []) j ≡ extent_of ps j
+  extent_other other =
+      let test : eqb p.job j ≡ false = grind (arith, nat_tests) in
+      let no_more : work ps j + 0 ≡ work ps j = omega arith in
+      same_extent _ _ _ _ _ _ _ _ _ _
+      (ap (λ w. min w most_work)
+      (work_push ∙ ap (λ (b : Bool). work ps j + cond b (duration p) 0) test ∙ no_more))
+      (least_push start_of ps p j
+      ∙ ap (λ (b : Bool). cond b (min (start_of p) (least_by start_of ps j)) (least_by start_of ps j))
+      test)
+      (greatest_push stop_of ps p j
+      ∙ ap (λ (b : Bool). cond b (max (stop_of p) (greatest_by stop_of ps j))
+      (greatest_by stop_of ps j)) test)
+      (ap (λ l. min l most_machine)
+      (least_push machine_of ps p j
+      ∙ ap (λ (b : Bool). cond b (min (machine_of p) (least_by machine_of ps j))
+      (least_by machine_of ps j)) test))
+      (greatest_push machine_of ps p j
+      ∙ ap (λ (b : Bool). cond b (max (machine_of p) (greatest_by machine_of ps j))
+      (greatest_by machine_of ps j)) test)
 
-    extent_same : (j : ℕ) → p.job ≡ j
-        → extent_of (take (k + 1) ps) j ≡ extended (extent_of (take k ps) j) p
-    extent_same j own =
-        let test : eqb p.job j ≡ true = grind (arith, nat_tests) in
-        same_extent _ _ _ _ _ _ _ _ _ _
-        (work_more j ∙ ap (λ (b : Bool). work (take k ps) j + cond b (duration p) 0) test)
-        (least_more start_of j
-        ∙ ap (λ (b : Bool). cond b (min (start_of p) (least_by start_of (take k ps) j))
-        (least_by start_of (take k ps) j)) test)
-        (greatest_more stop_of j
-        ∙ ap (λ (b : Bool). cond b (max (stop_of p) (greatest_by stop_of (take k ps) j))
-        (greatest_by stop_of (take k ps) j)) test)
-        (least_more machine_of j
-        ∙ ap (λ (b : Bool). cond b (min (machine_of p) (least_by machine_of (take k ps) j))
-        (least_by machine_of (take k ps) j)) test)
-        (greatest_more machine_of j
-        ∙ ap (λ (b : Bool). cond b (max (machine_of p) (greatest_by machine_of (take k ps) j))
-        (greatest_by machine_of (take k ps) j)) test)
-
-    extent_other : (j : ℕ) → p.job ≢ j → extent_of (take (k + 1) ps) j ≡ extent_of (take k ps) j
-    extent_other j other =
-        let test : eqb p.job j ≡ false = grind (arith, nat_tests) in
-        let no_more : work (take k ps) j + 0 ≡ work (take k ps) j = omega arith in
-        same_extent _ _ _ _ _ _ _ _ _ _
-        (work_more j ∙ ap (λ (b : Bool). work (take k ps) j + cond b (duration p) 0) test ∙ no_more)
-        (least_more start_of j
-        ∙ ap (λ (b : Bool). cond b (min (start_of p) (least_by start_of (take k ps) j))
-        (least_by start_of (take k ps) j)) test)
-        (greatest_more stop_of j
-        ∙ ap (λ (b : Bool). cond b (max (stop_of p) (greatest_by stop_of (take k ps) j))
-        (greatest_by stop_of (take k ps) j)) test)
-        (least_more machine_of j
-        ∙ ap (λ (b : Bool). cond b (min (machine_of p) (least_by machine_of (take k ps) j))
-        (least_by machine_of (take k ps) j)) test)
-        (greatest_more machine_of j
-        ∙ ap (λ (b : Bool). cond b (max (machine_of p) (greatest_by machine_of (take k ps) j))
-        (greatest_by machine_of (take k ps) j)) test)
-
-    -- the extents after one more piece
-    pub extents_more : (extents : List Extent) (jobs at : ℕ) (x : Extent) → at + 1 ≡ p.job
-        → p.job ≤ jobs → HasExtents (take k ps) jobs extents → x ≡ extended (get_or extents at x) p
-        → HasExtents (take (k + 1) ps) jobs (set extents at x)
-    extents_more extents jobs at x is_at le has is_x =
-        let before : get_or extents at x ≡ extent_of (take k ps) (at + 1) =
-        has.each at x (omega arith) in
-        let now : x ≡ extent_of (take (k + 1) ps) (at + 1) = is_x
-        ∙ ap (λ (e : Extent). extended e p) before ∙ sym (extent_same (at + 1) (sym is_at)) in
-        record {
-          len = length-set extents at x ∙ has.len;
-          each = set_entry (extent_of (take k ps)) (extent_of (take (k + 1) ps)) extents jobs at x
-              has.len (omega (arith, is_at, le)) now
-              (λ j other. extent_other j (λ e. other (omega (arith, e, is_at)))) has.each;
-        }
+  -- the extents with one more piece
+  pub extents_push : (extents : List Extent) → 1 ≤ p.job → 1 ≤ j → j ≤ length extents
+      → extent_at extents j ≡ extent_of ps j
+      → extent_at (with_piece extents p) j ≡ extent_of (ps ++ p ∷ []) j
+  extents_push extents some low high is = elim (cases_eq j p.job) [
+    | inl same ↦
+        let own : p.job ≡ j = omega (arith, same) in
+        let at : j - 1 ≡ p.job - 1 = omega (arith, same) in
+        ap (λ n. get_or (with_piece extents p) n no_extent) at
+        ∙ get_or-set_same extents (p.job - 1) (extended (extent_at extents p.job) p) no_extent
+        (omega (arith, same, low, high))
+        ∙ ap (λ n. extended (extent_at extents n) p) own
+        ∙ ap (λ (e : Extent). extended e p) is ∙ sym (extent_same own)
+    | inr differ ↦
+        get_or-set_other extents (p.job - 1) (j - 1) (extended (extent_at extents p.job) p) no_extent
+        (λ e. differ (omega (arith, e, some, low)))
+        ∙ is ∙ sym (extent_other (λ e. differ (omega (arith, e))))
+  ]

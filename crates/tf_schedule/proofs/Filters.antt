@@ -1,5 +1,5 @@
 -- Sums and counts over the elements that pass a test.
-use Rattle.std.proofs.Common.{◌≡◌, ℕ, zero, suc, ◌+◌, ◌<◌, ◌≤◌, Bool, true, false, cond, ◌&&◌, List, [], ◌∷◌, length, get_or, take, drop, filter, refl, sym, ap, ◌∙◌, arith}
+use Rattle.std.proofs.Common.{◌≡◌, ℕ, ◌+◌, ◌≤◌, Bool, true, false, cond, ◌&&◌, List, [], ◌∷◌, filter, refl, sym, ap, ◌∙◌, arith}
 use Rattle.std.specs.List.{count_by, sum_by}
 use Rattle.std.proofs.lemmas.List.Sums.{sum_by-cons}
 use Rattle.tf_schedule.proofs.Counting.{sum_by-same}
@@ -43,43 +43,3 @@ module _ {X : Type 0} (q : X → Bool) where
   count_by-filter r xs = sum_by-filter (λ x. cond (r x) 1 0) xs
       ∙ sum_by-same (λ x. cond (q x) (cond (r x) 1 0) 0) (λ x. cond (q x && r x) 1 0)
       (λ x. both (q x) (r x)) xs
-
-  -- where the first k pass and no others
-  kept_step : (x : X) (xs : List X) → q x ≡ true → filter q (x ∷ xs) ≡ x ∷ filter q xs
-  kept_step x xs e = ap (λ (b : Bool). cond b (x ∷ filter q xs) (filter q xs)) e
-
-  dropped_step : (x : X) (xs : List X) → q x ≡ false → filter q (x ∷ xs) ≡ filter q xs
-  dropped_step x xs e = ap (λ (b : Bool). cond b (x ∷ filter q xs) (filter q xs)) e
-
-  pub filter-front : (xs : List X) (k : ℕ)
-      → ((n : ℕ) (d : X) → n < k → n < length xs → q (get_or xs n d) ≡ true)
-      → ((n : ℕ) (d : X) → k ≤ n → n < length xs → q (get_or xs n d) ≡ false)
-      → take k xs ≡ filter q xs
-  filter-front [] zero passes none = refl
-  filter-front [] (suc k) passes none = refl
-  filter-front (x ∷ xs) zero passes none =
-      filter-front xs zero (λ n d lt h. absurd (omega arith))
-      (λ n d le h. none (suc n) d (omega arith) (omega arith))
-      ∙ sym (dropped_step x xs (none 0 x (omega arith) (omega arith)))
-  filter-front (x ∷ xs) (suc k) passes none =
-      ap (λ ys. x ∷ ys)
-      (filter-front xs k (λ n d lt h. passes (suc n) d (omega arith) (omega arith))
-      (λ n d le h. none (suc n) d (omega arith) (omega arith)))
-      ∙ sym (kept_step x xs (passes 0 x (omega arith) (omega arith)))
-
-  -- where all but the first k pass
-  pub filter-back : (xs : List X) (k : ℕ)
-      → ((n : ℕ) (d : X) → n < k → n < length xs → q (get_or xs n d) ≡ false)
-      → ((n : ℕ) (d : X) → k ≤ n → n < length xs → q (get_or xs n d) ≡ true)
-      → drop k xs ≡ filter q xs
-  filter-back [] zero none passes = refl
-  filter-back [] (suc k) none passes = refl
-  filter-back (x ∷ xs) zero none passes =
-      ap (λ ys. x ∷ ys)
-      (filter-back xs zero (λ n d lt h. absurd (omega arith))
-      (λ n d le h. passes (suc n) d (omega arith) (omega arith)))
-      ∙ sym (kept_step x xs (passes 0 x (omega arith) (omega arith)))
-  filter-back (x ∷ xs) (suc k) none passes =
-      filter-back xs k (λ n d lt h. none (suc n) d (omega arith) (omega arith))
-      (λ n d le h. passes (suc n) d (omega arith) (omega arith))
-      ∙ sym (dropped_step x xs (none 0 x (omega arith) (omega arith)))

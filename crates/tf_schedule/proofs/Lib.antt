@@ -1,4 +1,3 @@
-pub mod Spans
 pub mod Times
 pub mod Scan
 pub mod Order
@@ -11,11 +10,12 @@ pub mod Cells
 pub mod Unbroken
 pub mod Busy
 pub mod Extents
+pub mod OnLanes
 pub mod Transport
 pub mod Fitting
-pub mod Plain
 pub mod Filters
 pub mod Shops
+pub mod Judging
 pub mod TwoPlaces
 pub mod Prices
 pub mod Costing
@@ -27,5 +27,4 @@ pub mod InSequence
 pub mod Apart
 pub mod Makespan
 pub mod LaidFits
-pub mod OneMachine
 pub mod OneOperation

@@ -36,21 +36,22 @@ max_one v p w e = step (int_lt p v) (sym e)
     step true f = inl (sym f)
     step false f = inr (sym f)
 
--- one more job completes at 0
-module _ (k : SchedulingTask) (n j : ℕ) (v w : ℤ) (inside : n < length k.jobs) (is : j ≡ n + 1)
-    (new : w ≡ int_max v (price k j 0)) where
-  pub idle_all : ((i : ℕ) → 1 ≤ i → i ≤ n → price k i 0 ≤ℤ v) → (i : ℕ) → 1 ≤ i → i ≤ n + 1
-      → price k i 0 ≤ℤ w
-  idle_all all i low high = elim (cases_lt i (n + 1)) [
+-- one more job, where job j completes at f j
+module _ (k : SchedulingTask) (f : ℕ → ℕ) (n j : ℕ) (v w : ℤ) (inside : n < length k.jobs)
+    (is : j ≡ n + 1) (new : w ≡ int_max v (price k j (f j))) where
+  pub price_all : ((i : ℕ) → 1 ≤ i → i ≤ n → price k i (f i) ≤ℤ v) → (i : ℕ) → 1 ≤ i → i ≤ n + 1
+      → price k i (f i) ≤ℤ w
+  price_all all i low high = elim (cases_lt i (n + 1)) [
     | inl less ↦
-        ≤ℤ_trans (price k i 0) v w (all i low (omega arith)) (max_above v (price k j 0) w new).0
+        ≤ℤ_trans (price k i (f i)) v w (all i low (omega arith))
+        (max_above v (price k j (f j)) w new).0
     | inr ge ↦ let same : j ≡ i = omega arith in
-        subst (λ h. price k h 0 ≤ℤ w) same (max_above v (price k j 0) w new).1
+        subst (λ h. price k h (f h) ≤ℤ w) same (max_above v (price k j (f j)) w new).1
   ]
 
-  pub idle_reached : (i : ℕ) × IsJob k i × (v ≡ price k i 0)
-      → (i : ℕ) × IsJob k i × (w ≡ price k i 0)
-  idle_reached (i, job, at) = elim (max_one v (price k j 0) w new) [
+  pub price_reached : (i : ℕ) × IsJob k i × (v ≡ price k i (f i))
+      → (i : ℕ) × IsJob k i × (w ≡ price k i (f i))
+  price_reached (i, job, at) = elim (max_one v (price k j (f j)) w new) [
     | inl old ↦ (i, job, old ∙ at)
     | inr here ↦ (j, (omega arith, omega arith), here)
   ]

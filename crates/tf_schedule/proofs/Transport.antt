@@ -2,12 +2,9 @@
 use Rattle.std.proofs.Common.{◌≡◌, ℕ, zero, suc, ◌≤◌, List, [], ◌∷◌, get_or, take, slice_get, Some, Result, Ok, Err, MatchResult, subst, arith}
 use Rattle.std.specs.List.{All}
 use Rattle.std.proofs.lemmas.List.Elements.{All-take, All-tail}
-use Rattle.tf_schedule.specs.Misfit.{EachJob, IsSmallestNot, IsFirstNot}
+use Rattle.tf_schedule.specs.Misfit.{IsSmallestNot, IsFirstNot}
 
 module _ (n : ℕ) (P Q : ℕ → Type 0) (to : (j : ℕ) → 1 ≤ j → j ≤ n → P j → Q j) where
-  pub each_by : EachJob n P → EachJob n Q
-  each_by all j low high = to j low high (all j low high)
-
   pub smallest_by : ((j : ℕ) → 1 ≤ j → j ≤ n → Q j → P j) → (j : ℕ) → IsSmallestNot n P j
       → IsSmallestNot n Q j
   smallest_by from j first = record {

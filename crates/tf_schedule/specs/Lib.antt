@@ -5,14 +5,15 @@ pub mod Drawing
 pub mod SemiActive
 pub mod Sequence
 pub mod Misfit
+pub mod Judged
 pub mod Cost
 -- for the proofs of this crate and of those above it
 pub mod Claims
 pub mod Amounts
-pub mod Spans
+pub mod Extent
+pub mod Lanes
 -- within the crate
 pub mod Stops
-pub mod Smallest
+pub mod Condition
 pub mod Line
 pub mod MachinePart
-pub mod Extent

@@ -8,9 +8,13 @@ use Rattle.tf_schedule.specs.Drawing.{stop_of}
 use Rattle.tf_schedule.specs.SemiActive.{line_stop}
 use Rattle.tf_schedule.specs.declared.piece.Piece.{Piece}
 
--- the weighted sum of the last stops of the jobs 1 to n
+-- the weighted sum of the jobs 1 to n, of which job j completes at f j
+abbrev pub total_of : SchedulingTask → (ℕ → ℕ) → ℕ → ℕ
+total_of k f n = sum_by (λ j. (job_data k j).weight * f j) (range_with_len 1 n)
+
+-- of which each completes at its last stop
 abbrev pub total_to : SchedulingTask → List Piece → ℕ → ℕ
-total_to k ps n = sum_by (λ j. (job_data k j).weight * last_stop ps j) (range_with_len 1 n)
+total_to k ps = total_of k (last_stop ps)
 
 -- the list has the last stops of the jobs from first + 1 on
 abbrev pub HasStops : List Piece → ℕ → List ℕ → Type 0

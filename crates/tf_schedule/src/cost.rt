@@ -1,19 +1,23 @@
 //! What a schedule costs.
-ghost use Rattle.std.specs.Prelude.{◌≡◌, ℕ, ℤ, pos, ◌≤ℤ◌, ◌+◌, ◌*◌, ◌<◌, ◌≤◌, ◌⊎◌, min, length, slice_index, IsTrue, IsFalse};
+ghost use Rattle.std.specs.Prelude.{◌≡◌, ℕ, ℤ, pos, ◌≤ℤ◌, ◌+◌, ◌*◌, ◌<◌, ◌≤◌, ◌⊎◌, min, List, length, slice_index, IsTrue, IsFalse};
 ghost use Rattle.std.specs.List.{All};
 ghost use Rattle.tf_model.specs.Limit.{limit};
-ghost use Rattle.tf_model.specs.SchedulingTask.{IsJob};
-ghost use Rattle.tf_model.specs.ClassTable.{is_sum};
-ghost use Rattle.tf_model.specs.Cost.{price, greatest_price, total_price};
+ghost use Rattle.tf_model.specs.SchedulingTask.{IsJob, job_data};
+ghost use Rattle.tf_model.specs.ClassTable.{is_shop, is_sum};
+ghost use Rattle.tf_model.specs.Cost.{cost, price, greatest_price, total_price};
 ghost use Rattle.tf_model.specs.Sound.{IsSound};
+ghost use Rattle.tf_schedule.specs.declared.piece.Piece.{Piece};
 ghost use Rattle.tf_schedule.specs.Piece.{as_time};
 ghost use Rattle.tf_schedule.specs.Schedule.{IsSchedule, IsPiece};
 ghost use Rattle.tf_schedule.specs.Drawing.{drawing, stop_of};
 ghost use Rattle.tf_schedule.specs.Misfit.{IsKnown};
 ghost use Rattle.tf_schedule.specs.Cost.{known_pieces, schedule_cost};
-ghost use Rattle.tf_schedule.specs.Stops.{total_to, with_stop, HasStops};
+ghost use Rattle.tf_schedule.specs.Lanes.{HasLanes, stop_by, stop_in};
+ghost use Rattle.tf_schedule.specs.Stops.{total_of, total_to, with_stop, HasStops};
 
+use crate::extent::Extent;
 use crate::fit::is_known;
+use crate::lanes::{Lanes, last_stop};
 use crate::piece::Piece;
 use crate::schedule::Schedule;
 use std::alloc::Allocator;
@@ -33,6 +37,20 @@ pub fn cost<A: Allocator, B: Allocator>(task: &Task<A>, schedule: &Schedule<B>) 
     }
 }
 
+/// What the timetable costs that the pieces of a table draw, if all are the task's.
+pub(crate) fn cost_in<A: Allocator, B: Allocator>(task: &Task<A>, lanes: &Lanes<B>) -> i128
+    requires stops { (j : ℕ) → IsJob task.now j → stop_in lanes.now j ≤ limit }
+    ensures { (ps : List Piece) → IsSchedule ps → All (IsKnown task.now) ps →
+        HasLanes (is_shop task.now.class) (length task.now.jobs) ps lanes.now →
+        result ≡ cost task.now (drawing task.now.machines ps) }
+{
+    if task.class().is_sum() {
+        total_by(task, lanes.first_lane(), lanes.second_lane()) as i128
+    } else {
+        greatest_by(task, lanes.first_lane(), lanes.second_lane())
+    }
+}
+
 // ---- the greatest cost of a job
 
 // No job gets cheaper by being late, so each piece of a job may stand for its last one.
@@ -43,7 +61,8 @@ fn greatest_cost<A: Allocator>(task: &Task<A>, pieces: &[Piece]) -> i128
     ensures { result
         ≡ greatest_price task.now (drawing task.now.machines (known_pieces task.now pieces.now)) }
 {
-    let mut value: i128 = idle_cost(task);
+    // A job without a piece completes at time 0.
+    let mut value: i128 = greatest_by(task, &[], &[]);
     for piece in pieces {
         value = raised(task, value, piece);
     }
@@ -67,18 +86,30 @@ fn raised<A: Allocator>(task: &Task<A>, value: i128, piece: &Piece) -> i128
     value.max(price(task, piece.job, piece.stop))
 }
 
-// The greatest cost of a job if all complete at time 0.
-fn idle_cost<A: Allocator>(task: &Task<A>) -> i128
+// The greatest cost of a job if each completes at its last stop by the extents of two lanes.
+fn greatest_by<A: Allocator>(task: &Task<A>, first: &[Extent], second: &[Extent]) -> i128
     requires class { IsFalse (is_sum task.now.class) }
-    ensures all { (j : ℕ) → IsJob task.now j → price task.now j 0 ≤ℤ result }
-    ensures reached { (j : ℕ) × IsJob task.now j × (result ≡ price task.now j 0) }
+    requires stops { (j : ℕ) → IsJob task.now j → stop_by first.now second.now j ≤ limit }
+    ensures all { (j : ℕ) → IsJob task.now j →
+        price task.now j (stop_by first.now second.now j) ≤ℤ result }
+    ensures reached { (j : ℕ) × IsJob task.now j
+        × (result ≡ price task.now j (stop_by first.now second.now j)) }
 {
     let jobs = task.len();
-    let mut value: i128 = price(task, JobId::at(0), 0);
+    let mut value: i128 = price_by(task, first, second, JobId::at(0));
     for k in 1..jobs {
-        value = value.max(price(task, JobId::at(k), 0));
+        value = value.max(price_by(task, first, second, JobId::at(k)));
     }
     value
+}
+
+fn price_by<A: Allocator>(task: &Task<A>, first: &[Extent], second: &[Extent], job: JobId) -> i128
+    requires class { IsFalse (is_sum task.now.class) }
+    requires job { IsJob task.now job }
+    requires stop { stop_by first.now second.now job ≤ limit }
+    ensures { result ≡ price task.now job (stop_by first.now second.now job) }
+{
+    price(task, job, last_stop(first, second, job) as i64)
 }
 
 /// What a job that is there costs if it completes at time `c`, where the objective is a greatest
@@ -178,8 +209,31 @@ fn with_block<A: Allocator>(
     let end = task.len().min(first + stops.len());
     let mut sum: u128 = total;
     for i in first..end {
-        let weight = task.weight(JobId::at(i));
-        sum += u128::from(weight) * u128::from(stops[i - first]);
+        sum += weighted(task, JobId::at(i), stops[i - first]);
+    }
+    sum
+}
+
+// The weighted completion of a job that completes at time `c`.
+fn weighted<A: Allocator>(task: &Task<A>, job: JobId, c: u64) -> u128
+    requires class { IsTrue (is_sum task.now.class) }
+    requires job { IsJob task.now job }
+    ensures { result ≡ (job_data task.now job).weight * c }
+{
+    u128::from(task.weight(job)) * u128::from(c)
+}
+
+// The sum where each job completes at its last stop by the extents of two lanes.
+fn total_by<A: Allocator>(task: &Task<A>, first: &[Extent], second: &[Extent]) -> u128
+    requires task { IsSound task.now }
+    requires class { IsTrue (is_sum task.now.class) }
+    requires stops { (j : ℕ) → IsJob task.now j → stop_by first.now second.now j ≤ limit }
+    ensures { result ≡ total_of task.now (stop_by first.now second.now) (length task.now.jobs) }
+{
+    let mut sum: u128 = 0;
+    for k in 0..task.len() {
+        let job = JobId::at(k);
+        sum += weighted(task, job, last_stop(first, second, job));
     }
     sum
 }

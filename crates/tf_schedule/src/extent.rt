@@ -1,76 +1,86 @@
-//! When and where jobs work.
-ghost use Rattle.std.specs.Prelude.{◌≡◌, ◌+◌, ◌<◌, ◌≤◌, ◌^◌, IfOk};
-ghost use Rattle.std.specs.List.{All};
+//! When and where a job works.
+ghost use Rattle.std.specs.Prelude.{◌≡◌, ◌<◌, ◌≤◌, ◌↔◌, IsTrue};
+ghost use Rattle.tf_schedule.specs.Extent.{extent_at, with_piece};
 ghost use Rattle.tf_schedule.specs.Schedule.{IsPiece};
-ghost use Rattle.tf_schedule.specs.Claims.{JobsOnce};
-ghost use Rattle.tf_schedule.specs.Drawing.{duration};
-ghost use Rattle.tf_schedule.specs.Extent.{HasExtents};
 
 use crate::piece::Piece;
-use std::alloc::{AllocError, Allocator};
+use tf_model::ids::JobId;
 use tf_model::limit::LIMIT;
 
-// What the pieces of a job come to.
+/// What the pieces of a job on a lane come to.
 #[derive(Clone, Copy)]
 pub(crate) struct Extent {
-    // In time steps.
+    /// In time steps; `u64::MAX` where it is more.
     pub work: u64,
-    // The first start and the last stop.
+    /// The first start and the last stop: `LIMIT` and 0 where the job has no piece.
     pub start: u64,
     pub stop: u64,
-    // The lowest machine and the highest.
-    pub lowest: u64,
-    pub highest: u64,
+    /// The lowest machine and the highest: `u32::MAX` and 0 where the job has no piece.
+    pub lowest: u32,
+    pub highest: u32,
 }
 
 impl Extent {
-    ghost use Rattle.tf_schedule.specs.Extent.{no_extent, extended};
+    ghost use Rattle.std.specs.Prelude.{◌≡◌, ◌↔◌, IsTrue};
+    ghost use Rattle.tf_schedule.specs.Extent.{no_extent, extended, IsSolid};
+    ghost use Rattle.tf_schedule.specs.Schedule.{IsPiece};
 
-    // Of a job without pieces.
-    fn empty() -> Self
+    /// The extent of a job without pieces.
+    pub(crate) fn empty() -> Self
         ensures { result ≡ no_extent }
     {
         Extent {
             work: 0,
             start: LIMIT as u64,
             stop: 0,
-            lowest: LIMIT as u64,
+            lowest: u32::MAX,
             highest: 0,
         }
     }
 
-    // With one more piece.
+    /// The extent with one more piece.
     fn extended(self, piece: &Piece) -> Self
-        requires sound { IsPiece piece.now }
-        requires fits { self.work + duration piece.now < 2 ^ 64 }
+        requires { IsPiece piece.now }
         ensures { result ≡ extended self piece.now }
     {
-        let machine = u64::from(piece.machine.get());
+        let machine = piece.machine.get();
         Extent {
-            work: self.work + piece.duration(),
+            work: self.work.saturating_add(piece.duration()),
             start: (piece.start as u64).min(self.start),
             stop: (piece.stop as u64).max(self.stop),
             lowest: machine.min(self.lowest),
             highest: machine.max(self.highest),
         }
     }
+
+    /// Whether the job works without a gap, and on one machine.
+    pub(crate) fn is_solid(self) -> bool
+        ensures { IsTrue result ↔ IsSolid self }
+    {
+        self.stop.saturating_sub(self.start) == self.work && self.highest <= self.lowest
+    }
 }
 
-// The extents of the jobs from 1 on.
-pub(crate) fn extents<A: Allocator>(
-    alloc: A,
-    jobs: usize,
-    pieces: &[Piece],
-) -> Result<Vec<Extent, A>, AllocError>
-    requires known { All (λ p. (0 < p.job) × (p.job ≤ jobs)) pieces.now }
-    requires sound { All IsPiece pieces.now }
-    requires once { JobsOnce pieces.now }
-    ensures { IfOk result (λ v. HasExtents pieces.now jobs v.items) }
+/// The extent of a job in a list for the jobs from 1 on; an empty one where the list has none.
+pub(crate) fn extent_at(extents: &[Extent], job: JobId) -> Extent
+    ensures { result ≡ extent_at extents.now job }
 {
-    let mut extents = vec![in alloc; Extent::empty(); jobs]?;
-    for piece in pieces {
-        let k = piece.job.get() as usize - 1;
+    let k = job.get() as usize - 1;
+    if k < extents.len() {
+        extents[k]
+    } else {
+        Extent::empty()
+    }
+}
+
+/// Adds a piece to the extent of its job, if the list has one.
+pub(crate) fn add_piece(extents: &mut [Extent], piece: &Piece)
+    requires { IsPiece piece.now }
+    ensures added { extents.new ≡ with_piece extents.old piece.now }
+    ensures from_one { 0 < piece.now.job }
+{
+    let k = piece.job.get() as usize - 1;
+    if k < extents.len() {
         extents[k] = extents[k].extended(piece);
     }
-    Ok(extents)
 }

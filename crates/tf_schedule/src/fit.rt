@@ -1,29 +1,30 @@
 //! Whether a schedule fits a task.
-ghost use Rattle.std.specs.Prelude.{◌≡◌, ◌+◌, ◌-◌, ◌<◌, ◌≤◌, length, MatchResult, MatchOption, IsOkUnless, IfOk, IsTrue, IsFalse, ◌↔◌, take, drop};
-ghost use Rattle.std.specs.List.{All, AllPairs};
-ghost use Rattle.tf_model.specs.ClassTable.{is_flow, is_shop, may_break};
+ghost use Rattle.std.specs.Prelude.{◌≡◌, ◌<◌, ◌≤◌, length, MatchResult, MatchOption, IsOkUnless, IfOk, IsTrue, ◌↔◌};
+ghost use Rattle.std.specs.List.{All};
+ghost use Rattle.tf_model.specs.SchedulingTask.{IsJob};
+ghost use Rattle.tf_model.specs.ClassTable.{is_shop};
 ghost use Rattle.tf_model.specs.Timetable.{Timetable};
 ghost use Rattle.tf_model.specs.Feasible.{Fits};
+ghost use Rattle.tf_model.specs.Sound.{IsSound};
 ghost use Rattle.tf_schedule.specs.Piece.{job_of};
 ghost use Rattle.tf_schedule.specs.Line.{StartsFirstClashBy};
-ghost use Rattle.tf_schedule.specs.Schedule.{ComesBefore, IsSchedule, IsPiece};
+ghost use Rattle.tf_schedule.specs.Schedule.{IsSchedule};
 ghost use Rattle.tf_schedule.specs.Claims.{JobsOnce};
+ghost use Rattle.tf_schedule.specs.Condition.{FindsSmallestNot, IsMet, StartsAfter, is_asked};
 ghost use Rattle.tf_schedule.specs.Drawing.{Draws, drawing};
-ghost use Rattle.tf_schedule.specs.Amounts.{pieces_on};
-ghost use Rattle.tf_schedule.specs.Extent.{HasExtents, IsDone, IsDoneInShop, IsSolidOnOne, IsSolidInShop, StartsReleased, StartsAfter, StartsInFlow};
-ghost use Rattle.tf_schedule.specs.Misfit.{EachJob, IsSmallestNot, IsFirstNot, IsKnown, HasFirstMisfit};
-ghost use Rattle.tf_schedule.specs.Smallest.{FindsSmallestNot};
+ghost use Rattle.tf_schedule.specs.Lanes.{HasLanes};
+ghost use Rattle.tf_schedule.specs.Misfit.{IsFirstNot, IsKnown, HasFirstMisfit};
 ghost use Rattle.tf_schedule.specs.declared.fit.Misfit.TheVariants.{OutOfMemory};
 
-use crate::extent::{Extent, extents};
+use crate::judge::{Judged, judge};
+use crate::lanes::Lanes;
 use crate::line::Line;
 use crate::piece::Piece;
 use crate::schedule::Schedule;
-use crate::span::are_apart;
 use std::alloc::{AllocError, Allocator};
 use tf_model::class::Class;
 use tf_model::ids::{JobId, MachineId};
-use tf_model::limit::MOST_JOBS;
+use tf_model::memory;
 use tf_model::task::Task;
 use thiserror::Error;
 
@@ -63,6 +64,14 @@ impl From<AllocError> for Misfit {
     }
 }
 
+impl From<memory::OutOfMemory> for Misfit {
+    ghost from_gives = { λ _ e. e ≡ OutOfMemory };
+
+    fn from(_: memory::OutOfMemory) -> Misfit {
+        Misfit::OutOfMemory
+    }
+}
+
 /// Whether the pieces draw a timetable that fits the task, or else the first misfit in the order of
 /// [`Misfit`]. It takes memory for a few numbers for each job, and for a copy of the pieces where a
 /// job has one between two others.
@@ -80,130 +89,173 @@ pub fn fits<A: Allocator + Copy, B: Allocator, C: Allocator>(
     ensures fitting { (rows : Timetable) → Draws task.now.machines schedule.now rows →
         Fits task.now rows → IsOkUnless result OutOfMemory }
 {
-    let pieces = schedule.pieces();
-    if let Some(piece) = first_stranger(task, pieces) {
-        return Err(Misfit::Stranger(piece.job, piece.machine));
-    }
-    if let Some(piece) = first_in_two_places(alloc, task, pieces)? {
-        return Err(Misfit::JobTwice(piece.job, piece.start));
-    }
-    if task.class().is_shop() {
-        judge_in_shop(alloc, task, pieces)
-    } else {
-        judge_plain(alloc, task, pieces)
-    }
-}
-
-// What is judged after the places, where a job has one time.
-fn judge_plain<A: Allocator, B: Allocator>(
-    alloc: A,
-    task: &Task<B>,
-    pieces: &[Piece],
-) -> Result<(), Misfit>
-    requires plain { IsFalse (is_shop task.now.class) }
-    requires schedule { IsSchedule pieces.now }
-    requires known { All (IsKnown task.now) pieces.now }
-    requires once { JobsOnce pieces.now }
-    ensures { MatchResult result (λ _. Fits task.now (drawing task.now.machines pieces.now))
-        (HasFirstMisfit task.now pieces.now) }
-{
-    let class = task.class();
-    let list = extents(alloc, task.len(), pieces)?;
-    let extents = list.as_slice();
-    if let Some(job) = first_wrong_amount(task, extents) {
-        return Err(Misfit::WrongAmount(job));
-    }
-    if let Some(job) = first_broken(class, extents) {
-        return Err(Misfit::Broken(job));
-    }
-    if let Some(job) = first_too_early(task, extents) {
-        return Err(Misfit::TooEarly(job));
-    }
-    if let Some((before, after)) = first_out_of_order(task.arcs(), extents) {
-        return Err(Misfit::OutOfOrder(before, after));
-    }
+    let Judged { fit, .. } = judge(alloc, task, schedule)?;
+    let _cost = fit?;
     Ok(())
 }
 
-// The same in a shop, where a job has a time for each of two machines, no release date and no arc.
-fn judge_in_shop<A: Allocator + Copy, B: Allocator>(
+/// Whether the pieces that have this table fit the task, or else the first misfit.
+pub(crate) fn judge_pieces<A: Allocator + Copy, B: Allocator, C: Allocator>(
     alloc: A,
     task: &Task<B>,
     pieces: &[Piece],
+    lanes: &Lanes<C>,
+    are_apart: bool,
 ) -> Result<(), Misfit>
-    requires shop { IsTrue (is_shop task.now.class) }
+    requires task { IsSound task.now }
+    requires schedule { IsSchedule pieces.now }
+    requires lanes { HasLanes (is_shop task.now.class) (length task.now.jobs) pieces.now lanes.now }
+    requires apart { All (λ p. (0 < p.job) × (p.job ≤ length task.now.jobs)) pieces.now →
+        IsTrue are_apart → JobsOnce pieces.now }
+    ensures { MatchResult result
+        (λ _. All (IsKnown task.now) pieces.now × Fits task.now (drawing task.now.machines pieces.now))
+        (HasFirstMisfit task.now pieces.now) }
+{
+    if let Some(piece) = first_stranger(task, pieces) {
+        return Err(Misfit::Stranger(piece.job, piece.machine));
+    }
+    if let Some(piece) = first_in_two_places(alloc, pieces, are_apart)? {
+        return Err(Misfit::JobTwice(piece.job, piece.start));
+    }
+    judge_jobs(task, pieces, lanes)?;
+    Ok(())
+}
+
+// What is judged of the jobs and the arcs, after the places.
+fn judge_jobs<A: Allocator, B: Allocator>(
+    task: &Task<A>,
+    pieces: &[Piece],
+    lanes: &Lanes<B>,
+) -> Result<(), Misfit>
+    requires task { IsSound task.now }
     requires schedule { IsSchedule pieces.now }
     requires known { All (IsKnown task.now) pieces.now }
     requires once { JobsOnce pieces.now }
+    requires lanes { HasLanes (is_shop task.now.class) (length task.now.jobs) pieces.now lanes.now }
     ensures { MatchResult result (λ _. Fits task.now (drawing task.now.machines pieces.now))
         (HasFirstMisfit task.now pieces.now) }
 {
-    let class = task.class();
-    let (on_first, on_second) = extents_by_machine(alloc, task, pieces)?;
-    let first = on_first.as_slice();
-    let second = on_second.as_slice();
-    if let Some(job) = first_wrong_in_shop(task, first, second) {
+    if let Some(job) = first_unmet(task, lanes, Condition::Amount) {
         return Err(Misfit::WrongAmount(job));
     }
-    if let Some(job) = first_broken_in_shop(class, first, second) {
+    if let Some(job) = first_unmet(task, lanes, Condition::Whole) {
         return Err(Misfit::Broken(job));
     }
-    if let Some(job) = first_out_of_flow(class, first, second) {
+    if let Some(job) = first_unmet(task, lanes, Condition::Released) {
+        return Err(Misfit::TooEarly(job));
+    }
+    if let Some((before, after)) = first_out_of_order(task.arcs(), lanes) {
+        return Err(Misfit::OutOfOrder(before, after));
+    }
+    if let Some(job) = first_unmet(task, lanes, Condition::InFlow) {
         return Err(Misfit::OutOfOrder(job, job));
     }
     Ok(())
 }
 
-// When and where each job works on machine 1, and on machine 2.
-fn extents_by_machine<A: Allocator + Copy, B: Allocator>(
-    alloc: A,
-    task: &Task<B>,
-    pieces: &[Piece],
-) -> Result<(Vec<Extent, A>, Vec<Extent, A>), AllocError>
-    requires shop { IsTrue (is_shop task.now.class) }
-    requires schedule { IsSchedule pieces.now }
-    requires known { All (IsKnown task.now) pieces.now }
-    requires once { JobsOnce pieces.now }
-    ensures first { IfOk result (λ found.
-        HasExtents (pieces_on 1 pieces.now) (length task.now.jobs) found.0.items) }
-    ensures second { IfOk result (λ found.
-        HasExtents (pieces_on 2 pieces.now) (length task.now.jobs) found.1.items) }
-{
-    let jobs = task.len();
-    let split = end_of_first(pieces);
-    let first = extents(alloc, jobs, &pieces[..split])?;
-    let second = extents(alloc, jobs, &pieces[split..])?;
-    Ok((first, second))
+/// What is asked of each job.
+#[derive(Clone, Copy)]
+pub(crate) enum Condition {
+    /// It has its time, on each lane.
+    Amount,
+    /// It works without a gap and on one machine, on each lane; where the class has no preemption.
+    Whole,
+    /// It does not start before its release date.
+    Released,
+    /// It is over on the first lane before it starts on the second; in a flow shop.
+    InFlow,
 }
 
-// How many of the pieces are on machine 1: in their order the others are on machine 2.
-fn end_of_first(pieces: &[Piece]) -> usize
-    requires in_order { AllPairs ComesBefore pieces.now }
-    requires two { All (λ p. (0 < p.machine) × (p.machine ≤ 2)) pieces.now }
-    ensures bound { result ≤ length pieces.now }
-    ensures first { take result pieces.now ≡ pieces_on 1 pieces.now }
-    ensures second { drop result pieces.now ≡ pieces_on 2 pieces.now }
+impl Condition {
+    ghost use Rattle.std.specs.Prelude.{◌≡◌, IsTrue, ◌↔◌};
+    ghost use Rattle.tf_model.specs.SchedulingTask.{IsJob};
+    ghost use Rattle.tf_schedule.specs.Condition.{IsMet, is_asked};
+
+    // Whether the class asks for it.
+    fn is_asked(self, class: Class) -> bool
+        ensures { result ≡ is_asked self class }
+    {
+        match self {
+            Condition::Amount | Condition::Released => true,
+            Condition::Whole => !class.may_break(),
+            Condition::InFlow => class.is_flow(),
+        }
+    }
+
+    // Whether it holds of a job.
+    fn is_met<A: Allocator, B: Allocator>(
+        self,
+        task: &Task<A>,
+        lanes: &Lanes<B>,
+        job: JobId,
+    ) -> bool
+        requires { IsJob task.now job }
+        ensures { IsTrue result ↔ IsMet self task.now lanes.now job }
+    {
+        let first = lanes.first(job);
+        let second = lanes.second(job);
+        match self {
+            Condition::Amount => {
+                let row = task.job(job);
+                first.work == row.first && second.work == row.second
+            }
+            Condition::Whole => first.is_solid() && second.is_solid(),
+            Condition::Released => task.job(job).release <= first.start,
+            Condition::InFlow => first.stop <= second.start,
+        }
+    }
+}
+
+// The smallest job that does not meet the condition, where the class asks for it.
+fn first_unmet<A: Allocator, B: Allocator>(
+    task: &Task<A>,
+    lanes: &Lanes<B>,
+    condition: Condition,
+) -> Option<JobId>
+    ensures { FindsSmallestNot (is_asked condition task.now.class) (length task.now.jobs)
+        (IsMet condition task.now lanes.now) result }
 {
-    pieces.partition_point(|piece| piece.is_on_first())
+    if !condition.is_asked(task.class()) {
+        return None;
+    }
+    for k in 0..task.len() {
+        let job = JobId::at(k);
+        if !condition.is_met(task, lanes, job) {
+            return Some(job);
+        }
+    }
+    None
+}
+
+// The first arc whose first job is not over before the second starts.
+fn first_out_of_order<A: Allocator>(
+    arcs: &[(JobId, JobId)],
+    lanes: &Lanes<A>,
+) -> Option<(JobId, JobId)>
+    ensures { MatchOption result (All (StartsAfter lanes.now) arcs.now)
+        (IsFirstNot (StartsAfter lanes.now) arcs.now) }
+{
+    for arc in arcs {
+        if lanes.first(arc.1).start < lanes.first(arc.0).stop {
+            return Some(*arc);
+        }
+    }
+    None
 }
 
 // A piece at whose start its job runs in two places: the smallest such job, and its first such
-// time.
-fn first_in_two_places<A: Allocator + Copy, B: Allocator>(
+// time. There is none where the pieces of each job are apart.
+fn first_in_two_places<A: Allocator>(
     alloc: A,
-    task: &Task<B>,
     pieces: &[Piece],
+    are_apart: bool,
 ) -> Result<Option<Piece>, AllocError>
     requires schedule { IsSchedule pieces.now }
-    requires known { All (IsKnown task.now) pieces.now }
+    requires apart { IsTrue are_apart → JobsOnce pieces.now }
     ensures { IfOk result (λ found.
         MatchOption found (JobsOnce pieces.now) (StartsFirstClashBy job_of pieces.now)) }
 {
-    // A machine has one job at a time.
-    if task.machines() == 1 {
-        return Ok(None);
-    }
-    if are_apart(alloc, task.len(), pieces)? {
+    if are_apart {
         return Ok(None);
     }
     let mut by_job = copied(alloc, pieces)?;
@@ -236,136 +288,4 @@ pub(crate) fn is_known<A: Allocator>(task: &Task<A>, piece: &Piece) -> bool
     let job = piece.job.get();
     let machine = piece.machine.get();
     job as usize <= task.len() && machine <= task.machines()
-}
-
-// ---- where a job has one time
-
-fn first_wrong_amount<A: Allocator>(task: &Task<A>, extents: &[Extent]) -> Option<JobId>
-    requires { length extents.now ≡ length task.now.jobs }
-    ensures { FindsSmallestNot (length task.now.jobs) (IsDone task.now.jobs extents.now) result }
-{
-    for k in 0..task.len() {
-        let job = JobId::at(k);
-        if extents[k].work != task.job(job).first {
-            return Some(job);
-        }
-    }
-    None
-}
-
-fn first_broken(class: Class, extents: &[Extent]) -> Option<JobId>
-    requires few { length extents.now ≤ MOST_JOBS }
-    ensures { MatchOption result
-        (IsFalse (may_break class) → EachJob (length extents.now) (IsSolidOnOne extents.now))
-        (λ j. IsFalse (may_break class)
-        × IsSmallestNot (length extents.now) (IsSolidOnOne extents.now) j) }
-{
-    if class.may_break() {
-        return None;
-    }
-    for k in 0..extents.len() {
-        let extent = extents[k];
-        if !is_solid(extent) || extent.lowest < extent.highest {
-            return Some(JobId::at(k));
-        }
-    }
-    None
-}
-
-fn first_too_early<A: Allocator>(task: &Task<A>, extents: &[Extent]) -> Option<JobId>
-    requires { length extents.now ≡ length task.now.jobs }
-    ensures { FindsSmallestNot (length task.now.jobs)
-        (StartsReleased task.now.jobs extents.now) result }
-{
-    for k in 0..task.len() {
-        let job = JobId::at(k);
-        if extents[k].start < task.job(job).release {
-            return Some(job);
-        }
-    }
-    None
-}
-
-fn first_out_of_order(arcs: &[(JobId, JobId)], extents: &[Extent]) -> Option<(JobId, JobId)>
-    requires known { All
-        (λ arc. ((1 ≤ arc.0) × (arc.0 ≤ length extents.now))
-        × ((1 ≤ arc.1) × (arc.1 ≤ length extents.now))) arcs.now }
-    ensures { MatchOption result (All (StartsAfter extents.now) arcs.now)
-        (IsFirstNot (StartsAfter extents.now) arcs.now) }
-{
-    for arc in arcs {
-        let before = extents[arc.0.get() as usize - 1];
-        let after = extents[arc.1.get() as usize - 1];
-        if after.start < before.stop {
-            return Some(*arc);
-        }
-    }
-    None
-}
-
-// ---- in shops, where a job has a time for each machine
-
-fn first_wrong_in_shop<A: Allocator>(
-    task: &Task<A>,
-    first: &[Extent],
-    second: &[Extent],
-) -> Option<JobId>
-    requires first { length first.now ≡ length task.now.jobs }
-    requires second { length second.now ≡ length task.now.jobs }
-    ensures { FindsSmallestNot (length task.now.jobs)
-        (IsDoneInShop task.now.jobs first.now second.now) result }
-{
-    for k in 0..task.len() {
-        let job = JobId::at(k);
-        let row = task.job(job);
-        if first[k].work != row.first || second[k].work != row.second {
-            return Some(job);
-        }
-    }
-    None
-}
-
-fn first_broken_in_shop(class: Class, first: &[Extent], second: &[Extent]) -> Option<JobId>
-    requires same { length second.now ≡ length first.now }
-    requires few { length first.now ≤ MOST_JOBS }
-    ensures { MatchOption result
-        (IsFalse (may_break class) →
-        EachJob (length first.now) (IsSolidInShop first.now second.now))
-        (λ j. IsFalse (may_break class)
-        × IsSmallestNot (length first.now) (IsSolidInShop first.now second.now) j) }
-{
-    if class.may_break() {
-        return None;
-    }
-    for k in 0..first.len() {
-        if !is_solid(first[k]) || !is_solid(second[k]) {
-            return Some(JobId::at(k));
-        }
-    }
-    None
-}
-
-fn is_solid(extent: Extent) -> bool
-    ensures { IsTrue result ↔ (extent.stop - extent.start ≡ extent.work) }
-{
-    extent.stop.saturating_sub(extent.start) == extent.work
-}
-
-fn first_out_of_flow(class: Class, first: &[Extent], second: &[Extent]) -> Option<JobId>
-    requires same { length second.now ≡ length first.now }
-    requires few { length first.now ≤ MOST_JOBS }
-    ensures { MatchOption result
-        (IsTrue (is_flow class) → EachJob (length first.now) (StartsInFlow first.now second.now))
-        (λ j. IsTrue (is_flow class)
-        × IsSmallestNot (length first.now) (StartsInFlow first.now second.now) j) }
-{
-    if !class.is_flow() {
-        return None;
-    }
-    for k in 0..first.len() {
-        if second[k].start < first[k].stop {
-            return Some(JobId::at(k));
-        }
-    }
-    None
 }

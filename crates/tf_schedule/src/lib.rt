@@ -4,6 +4,8 @@
 pub mod cost;
 mod extent;
 pub mod fit;
+pub mod judge;
+pub mod lanes;
 mod line;
 pub mod machine_order;
 pub mod piece;
@@ -11,4 +13,3 @@ pub mod piece_list;
 pub mod schedule;
 pub mod semi_active;
 pub mod sequence;
-pub mod span;

@@ -9,13 +9,13 @@ use Rattle.tf_evaluate.proofs.Standing.{standing_is, gap_is}
 use Rattle.tf_evaluate.proofs.evaluate.evaluate.Goals as goal
 
 -- the pieces that are judged are those of the sheet
-pieces_are : (g : _) (c : goal.Joined-certificate-4 g)
+pieces_are : (g : _) (c : goal.Joined-certificate-3 g)
     → c.args.sheet.answer.pieces ≡ c.into_vec.result.items
 pieces_are g c =
     sym (c.into_vec.ensures
     ∙ ap (λ (a : AnswerData). a.pieces) (c.pieces.view_is ∙ c.into_answer.ensures))
 
-fit_is : (g : _) (c : goal.Joined-certificate-4 g)
+fit_is : (g : _) (c : goal.Joined-certificate-3 g)
     → HasFit c.args.task.now c.args.sheet c.in_ok-fit.field-0.fit
 fit_is g c = c.in_ok-fit.ensures.fit c.args.sheet (pieces_are g c) c.is_for-is_its.ensures
 
@@ -49,9 +49,9 @@ returns-clause-evaluation g c =
           ∙ ap (λ (a : AnswerData). a.value) answer;
       best = subst (IsLeastCost k) (sym (to_z-of_z w64 c.in_ok-best.best best_fits))
           c.in_ok-best.ensures.least;
-      bound = c.in_ok-bound.ensures ∙ ap (λ (claim : Claim). bound_for k claim fit) claim;
+      bound = c.in_ok-fit.ensures.bound ∙ ap (λ (claim : Claim). bound_for k claim fit) claim;
       steps = c.in_ok-steps.ensures.steps
-          ∙ ap (steps_for c.args.detail c.in_ok-bound.bound k) claim;
+          ∙ ap (steps_for c.args.detail c.in_ok-fit.field-0.bound k) claim;
       outcomes = c.in_ok-fit.ensures.outcomes
           ∙ ap (λ (ps : List Piece). outcomes_for k ps fit) (sym (pieces_are g c));
     }

@@ -17,10 +17,10 @@ use Rattle.tf_schedule.proofs.cost.greatest_cost.Goals as goal
 
 pub loop-piece-init : goal.loop-piece-init
 loop-piece-init g c =
-    let fits : SFits w128 c.idle_cost-value.result = search rules in
-    let stored : to_z w128 (of_z w128 c.idle_cost-value.result) ≡ c.idle_cost-value.result =
-    to_z-of_z w128 c.idle_cost-value.result fits in
-    let (j, job, at) = c.idle_cost-value.ensures.reached in
+    let fits : SFits w128 c.greatest_by-value.result = search rules in
+    let stored : to_z w128 (of_z w128 c.greatest_by-value.result) ≡ c.greatest_by-value.result =
+    to_z-of_z w128 c.greatest_by-value.result fits in
+    let (j, job, at) = c.greatest_by-value.ensures.reached in
     record {
       below = subst
           (λ (z : ℤ). z
@@ -29,7 +29,7 @@ loop-piece-init g c =
           (sym (stored ∙ at))
           (idle_below c.args.task.now c.args.pieces.now c.requires.schedule c.requires.task j job);
       idle = λ i is. subst (λ (z : ℤ). price c.args.task.now i 0 ≤ℤ z) (sym stored)
-          (c.idle_cost-value.ensures.all i is);
+          (c.greatest_by-value.ensures.all i is);
       over = λ i d h. absurd (omega arith);
     }
 

@@ -2,6 +2,7 @@ use mir.Val.{to_z}
 use mir.Syntax.{w128}
 use Rattle.std.proofs.Common.{◌≡◌, ◌<◌, pos, min, length, sym, ap, ◌∙◌, arith}
 use Rattle.std.proofs.lemmas.Int.{ints, to_z_pos}
+use Rattle.tf_schedule.specs.Amounts.{last_stop}
 use Rattle.tf_schedule.specs.Cost.{known_pieces}
 use Rattle.tf_schedule.specs.Stops.{total_to}
 use Rattle.tf_schedule.proofs.Costing.{total_fits, total_is, stops_within}
@@ -15,7 +16,7 @@ overflow_cast-result g c =
     ≡ total_to c.args.task.now (known_pieces c.args.task.now c.args.pieces.now)
     (length c.args.task.now.jobs) = c.loop-first.invariant.sum
     ∙ ap (total_to c.args.task.now (known_pieces c.args.task.now c.args.pieces.now)) whole in
-    let fits = total_fits c.args.task.now (known_pieces c.args.task.now c.args.pieces.now)
+    let fits = total_fits c.args.task.now (last_stop (known_pieces c.args.task.now c.args.pieces.now))
     c.requires.task c.requires.class
     (stops_within c.args.task.now c.args.pieces.now c.requires.schedule.sound)
     (length c.args.task.now.jobs) (omega arith) in
@@ -29,7 +30,7 @@ returns g c =
     ≡ total_to c.args.task.now (known_pieces c.args.task.now c.args.pieces.now)
     (length c.args.task.now.jobs) = c.loop-first.invariant.sum
     ∙ ap (total_to c.args.task.now (known_pieces c.args.task.now c.args.pieces.now)) whole in
-    let fits = total_fits c.args.task.now (known_pieces c.args.task.now c.args.pieces.now)
+    let fits = total_fits c.args.task.now (last_stop (known_pieces c.args.task.now c.args.pieces.now))
     c.requires.task c.requires.class
     (stops_within c.args.task.now c.args.pieces.now c.requires.schedule.sound)
     (length c.args.task.now.jobs) (omega arith) in

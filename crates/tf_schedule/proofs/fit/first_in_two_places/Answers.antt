@@ -1,4 +1,4 @@
-use Rattle.std.proofs.Common.{List, Option, Some, None, MatchOption, arith}
+use Rattle.std.proofs.Common.{List, Option, Some, None, MatchOption}
 use Rattle.std.specs.List.Sorted.{IsPermutation}
 use Rattle.std.proofs.lemmas.List.Sorted.{All-permutation}
 use Rattle.tf_schedule.specs.declared.piece.Piece.{Piece}
@@ -6,7 +6,6 @@ use Rattle.tf_schedule.specs.Line.{StartsFirstClashBy}
 use Rattle.tf_schedule.specs.Piece.{as_time, job_of}
 use Rattle.tf_schedule.specs.Schedule.{IsPiece}
 use Rattle.tf_schedule.specs.Claims.{JobsOnce}
-use Rattle.tf_schedule.proofs.OneMachine.{once_on_one}
 use Rattle.tf_schedule.proofs.Scan.{none_twice_permutation, first_clash_permutation}
 use Rattle.tf_schedule.proofs.fit.first_in_two_places.Goals as goal
 
@@ -30,8 +29,5 @@ returns g c =
     found_before _ _ c.first_overlap.result (rw c.in_ok-by_job.ensures at c.sort.ensures.kept)
     (rw c.deref.ensures.value at c.first_overlap.ensures)
 
-pub returns-then-machines-eq1 : goal.returns-then-machines-eq1
-returns-then-machines-eq1 g c =
-    once_on_one c.args.task.now c.args.pieces.now
-    (omega (arith, c.machines.ensures.value, c.if-machines-eq1.true)) c.requires.schedule
-    c.requires.known
+pub returns-then-are_apart : goal.returns-then-are_apart
+returns-then-are_apart g c = c.requires.apart c.if-are_apart.true
