@@ -2,6 +2,7 @@
 use crate::texts::Texts;
 use std::alloc::{AllocError, Global};
 use tf_command::commands::perform;
+use tf_command::console::Console;
 use tf_command::options::{Asked, command, understand};
 use tf_command::report::{say_memory, say_usage};
 use tf_text::counted::Counted;
@@ -19,23 +20,25 @@ pub fn run(alloc: Global, line: &str, texts: Texts<'_>) -> Result<Ended, AllocEr
     let words = words_of(alloc, line)?;
     let mut written = Vec::new(alloc);
     let mut said = Vec::new(alloc);
-    let mut writer = Counted::new(&mut written);
-    let mut errors = Counted::new(&mut said);
+    let mut console = Console {
+        alloc,
+        writer: Counted::new(&mut written),
+        errors: Counted::new(&mut said),
+    };
     let status = match understand(command(alloc)?, words.as_slice()) {
-        Asked::Work(work) => perform(alloc, &texts, &work, &mut writer, &mut errors),
+        Asked::Work(work) => perform(&mut console, &texts, &work),
         Asked::Help(text) => {
-            let _ = writer.push_all(text.to_string(alloc)?.as_bytes());
+            let _ = console.writer.push_all(text.to_string(alloc)?.as_bytes());
             0
         }
         Asked::Misused(text) => {
-            let _ = errors.push_all(text.to_string(alloc)?.as_bytes());
+            let _ = console.errors.push_all(text.to_string(alloc)?.as_bytes());
             5
         }
-        Asked::Unfit(text) => say_usage(&mut errors, text),
-        Asked::NoMemory => say_memory(&mut errors),
+        Asked::Unfit(text) => say_usage(&mut console.errors, text),
+        Asked::NoMemory => say_memory(&mut console.errors),
     };
-    drop(writer);
-    drop(errors);
+    drop(console);
     Ok(Ended {
         status,
         written,

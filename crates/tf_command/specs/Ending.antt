@@ -1,5 +1,5 @@
 -- How a command ends: after a run of what was asked for, with the status of what the run gave.
-use Rattle.std.specs.Prelude.{◌≡◌, ℕ, List, Some, Result, Ok, Err}
+use Rattle.std.specs.Prelude.{◌≡◌, ℕ, List, Result, Ok, Err}
 use Rattle.std.specs.declared.alloc.Global.{Global}
 use Rattle.tf_text.specs.Counted.{DeviceUse}
 use Rattle.tf_engine.specs.declared.fault.RunFault.{RunFault}
@@ -59,9 +59,3 @@ pub record EndsEvaluating (detail : Detail) (request : RequestData)
   pub run : Result Standing (RunFault Global)
   pub outcome : IsEvaluationOf detail request instance answer writer run
   pub ends : status ≡ status_of_evaluating run
-
--- the command ends so over a reader of this text
-pub record OverText (text : List ℕ) (Ends : DeviceUse → Type 0) : Type 0 where
-  pub reader : DeviceUse
-  pub known : reader.before ≡ Some text
-  pub ends : Ends reader

@@ -1,43 +1,152 @@
-//! Texts that are read whole before a run, so that what comes of it can be explained.
-use crate::report::{say_device, say_memory};
-use crate::source::Sources;
+//! What is said, in plain words, of a run that has ended.
+use crate::options::Telling;
+use crate::recorded::Recorded;
 use std::alloc::{AllocError, Global};
 use std::io;
-use std::io::{ErrorKind, Read, Write};
+use std::io::Write;
 use tf_advice::source::Source;
+use tf_engine::fault::RunFault;
+use tf_engine::request::Request;
+use tf_engine::run_check::Checked;
+use tf_evaluate::evaluation::Standing;
 use tf_explain::explain;
-use tf_model::limit::MOST_BYTES;
 use tf_text::counted::Counted;
 
-/// The texts of a check.
+/// What a run over an instance read, and the source that failed.
 #[derive(Clone, Copy)]
-pub struct Texts<'a> {
+pub struct Told<'a> {
     pub instance: Source<'a>,
-    pub answer: Source<'a>,
+    pub answer: Option<Source<'a>>,
+    failure: Option<(&'a str, io::Error)>,
 }
 
-/// The text of that name, of one that is too long one byte more than a text may have.
-pub fn whole<S: Sources>(alloc: Global, sources: &S, name: &str) -> io::Result<Vec<u8>> {
-    const MOST: u64 = MOST_BYTES as u64 + 1;
-    let mut text = Vec::new(alloc);
-    let mut source = sources.open(name)?.take(MOST);
-    source.read_to_end(&mut text)?;
-    Ok(text)
-}
-
-/// Says that a text was not read, and why, and answers the exit status.
-pub fn not_read<E: Write>(
-    alloc: Global,
-    name: &str,
-    error: &io::Error,
-    errors: &mut Counted<E>,
-) -> u8 {
-    if error.kind() == ErrorKind::OutOfMemory {
-        return say_memory(errors);
+impl<'a> Told<'a> {
+    /// What was kept of an instance.
+    pub fn of_instance<R>(instance: &'a Recorded<'a, R>) -> Option<Told<'a>> {
+        Some(Told {
+            instance: instance.source()?,
+            answer: None,
+            failure: instance.failure(),
+        })
     }
-    let status = say_device(errors);
-    tell(explain::not_read(alloc, name, error), errors);
-    status
+
+    /// What was kept of an instance and an answer.
+    pub fn of_both<R, S>(
+        instance: &'a Recorded<'a, R>,
+        answer: &'a Recorded<'a, S>,
+    ) -> Option<Told<'a>> {
+        Some(Told {
+            instance: instance.source()?,
+            answer: Some(answer.source()?),
+            failure: instance.failure().or(answer.failure()),
+        })
+    }
+
+    /// What is to be said of a run that gave no answer.
+    pub fn refused(
+        &self,
+        alloc: Global,
+        fault: &RunFault,
+        request: &Request,
+    ) -> Result<String, AllocError> {
+        match &self.failure {
+            Some((name, error)) => explain::not_read(alloc, name, error),
+            None => {
+                explain::refused(alloc, fault, request, &self.instance, self.answer.as_ref())
+            }
+        }
+    }
+}
+
+/// What a run that has ended was asked for.
+#[derive(Clone, Copy)]
+pub struct Ended<'a> {
+    pub alloc: Global,
+    pub telling: Telling,
+    pub request: &'a Request,
+}
+
+impl Ended<'_> {
+    /// Says what is to be said of the options and of a run that solved, where the instance was kept.
+    pub fn tell_solved<R, E: Write>(
+        &self,
+        run: &Result<(), RunFault>,
+        instance: &Recorded<'_, R>,
+        errors: &mut Counted<E>,
+    ) {
+        if let Some(told) = Told::of_instance(instance) {
+            let explanation = match run {
+                Ok(()) => explain::solved(self.alloc, self.request, &told.instance),
+                Err(fault) => told.refused(self.alloc, fault, self.request),
+            };
+            tell_behind(self.telling, explanation, errors);
+        }
+    }
+
+    /// Says what is to be said of the options and of a check, where both texts were kept.
+    pub fn tell_checked<R, S, E: Write>(
+        &self,
+        run: &Result<Checked, RunFault>,
+        instance: &Recorded<'_, R>,
+        answer: &Recorded<'_, S>,
+        errors: &mut Counted<E>,
+    ) {
+        if let Some(told) = Told::of_both(instance, answer) {
+            let explanation = match (run, &told.answer) {
+                (Ok(checked), Some(answer)) => {
+                    explain::checked(self.alloc, checked, self.request, &told.instance, answer)
+                }
+                (Err(fault), _) => told.refused(self.alloc, fault, self.request),
+                _ => Ok(String::new(self.alloc)),
+            };
+            tell_behind(self.telling, explanation, errors);
+        }
+    }
+
+    /// Says what is to be said of the options and of an evaluation, where both texts were kept.
+    pub fn tell_evaluated<R, S, E: Write>(
+        &self,
+        run: &Result<Standing, RunFault>,
+        instance: &Recorded<'_, R>,
+        answer: &Recorded<'_, S>,
+        errors: &mut Counted<E>,
+    ) {
+        if let Some(told) = Told::of_both(instance, answer) {
+            let explanation = match run {
+                Ok(_) => Ok(String::new(self.alloc)),
+                Err(fault) => told.refused(self.alloc, fault, self.request),
+            };
+            tell_behind(self.telling, explanation, errors);
+        }
+    }
+}
+
+/// Says what is to be said of a drawing, where the answer was kept.
+pub fn tell_drawn<R, E: Write>(
+    run: &Result<(), RunFault>,
+    answer: &Recorded<'_, R>,
+    errors: &mut Counted<E>,
+    alloc: Global,
+) {
+    if let (Err(fault), Some(text)) = (run, answer.source()) {
+        let explanation = match answer.failure() {
+            Some((name, error)) => explain::not_read(alloc, name, &error),
+            None => explain::not_drawn(alloc, fault, &text),
+        };
+        tell(explanation, errors);
+    }
+}
+
+/// Says what is to be said of the options, and what is explained.
+fn tell_behind<E: Write>(
+    telling: Telling,
+    explanation: Result<String, AllocError>,
+    errors: &mut Counted<E>,
+) {
+    if let Some(text) = telling.idle {
+        let _ = errors.push_all(text.as_bytes());
+    }
+    tell(explanation, errors);
 }
 
 /// Says what is explained, if there was memory for it.

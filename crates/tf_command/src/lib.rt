@@ -3,8 +3,9 @@
 #![tactic(auto)]
 
 pub mod commands;
-mod evaluated;
+pub mod console;
 mod explained;
 pub mod options;
+mod recorded;
 pub mod report;
 pub mod source;

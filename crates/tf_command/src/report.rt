@@ -1,6 +1,7 @@
 //! What the program says of a run that gave no answer.
 ghost use Rattle.std.specs.Prelude.{◌≡◌};
 ghost use Rattle.tf_command.specs.Statuses.{status_of, status_of_check, status_of_standing};
+ghost use Rattle.tf_command.specs.Ending.{status_of_run, status_of_checking, status_of_evaluating};
 
 use std::alloc::Allocator;
 use std::io::Write;
@@ -51,6 +52,42 @@ pub fn status_of_standing(standing: &Standing) -> u8
         Standing::Best => 0,
         Standing::Unfit => 1,
         Standing::Beaten => 6,
+    }
+}
+
+/// Ends a run that wrote an answer or a drawing, or none: reports why, and answers the exit status.
+pub fn end_run<A: Allocator, W: Write>(run: &Result<(), RunFault<A>>, writer: &mut Counted<W>) -> u8
+    ensures { result ≡ status_of_run run.now }
+{
+    match run {
+        Ok(()) => 0,
+        Err(fault) => report(fault, writer),
+    }
+}
+
+/// Ends a check in the same way.
+pub fn end_check<A: Allocator, W: Write>(
+    run: &Result<Checked, RunFault<A>>,
+    writer: &mut Counted<W>,
+) -> u8
+    ensures { result ≡ status_of_checking run.now }
+{
+    match run {
+        Ok(checked) => status_of_check(checked),
+        Err(fault) => report(fault, writer),
+    }
+}
+
+/// Ends an evaluation in the same way.
+pub fn end_evaluation<A: Allocator, W: Write>(
+    run: &Result<Standing, RunFault<A>>,
+    writer: &mut Counted<W>,
+) -> u8
+    ensures { result ≡ status_of_evaluating run.now }
+{
+    match run {
+        Ok(standing) => status_of_standing(standing),
+        Err(fault) => report(fault, writer),
     }
 }
 

@@ -5,3 +5,7 @@ pub mod Undrawn
 pub mod Readable
 pub mod AcceptedAgain
 pub mod AcceptedAlone
+pub mod Devices
+pub mod SheetRead
+pub mod CaseRead
+pub mod Promises

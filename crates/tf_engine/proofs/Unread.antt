@@ -1,19 +1,10 @@
 -- Runs that gave no answer.
-use Rattle.std.proofs.Common.{◌≡◌, ℕ, zero, suc, ◌+◌, ◌<◌, List, [], ◌∷◌, Option, None, Some, Ok, Err, IfSome, IsErrAnd, Result, length, refl, sym, ap, ◌∙◌, subst, inl, inr, Bool, true, false, arith}
+use Rattle.std.proofs.Common.{◌≡◌, ℕ, zero, suc, ◌+◌, ◌<◌, List, [], ◌∷◌, Option, None, Some, Ok, Err, IfSome, IsErrAnd, Result, length, refl, sym, ap, subst, inl, inr, Bool, true, arith}
 use Rattle.std.proofs.lemmas.Bool.{lt-ltb}
 use Rattle.std.proofs.KnownBytes.{Keeps-refl}
 use Rattle.tf_model.specs.Limit.{most_bytes}
 use Rattle.tf_model.specs.declared.problem.Problem.{Problem}
-use Rattle.tf_model.specs.declared.class.Class.{Class}
-use Rattle.tf_model.specs.declared.prepare.Refusal.{Refusal}
-use Rattle.tf_model.specs.declared.prepare.Refusal.TheVariants.{NoSolver}
-use Rattle.tf_model.specs.ClassTable.{class_of}
-use Rattle.tf_notation.specs.Reading.{notation}
-use Rattle.tf_model.specs.InstanceData.{InstanceData}
-use Rattle.tf_model.specs.SchedulingTask.{SchedulingTask}
 use Rattle.tf_model.specs.Outcome.{◌>>=◌}
-use Rattle.tf_read.specs.declared.fault.ReadFault.{ReadFault}
-use Rattle.tf_model.specs.Prepare.{prepared}
 use Rattle.tf_read.specs.declared.fault.ReadFault.TheVariants.{TooLong}
 use Rattle.tf_read.specs.JobTable.{job_table}
 use Rattle.tf_read.proofs.Wt as wt
@@ -27,11 +18,14 @@ use Rattle.tf_text.specs.declared.answer.writing.WriteFault.TheVariants as write
 use Rattle.tf_engine.specs.declared.fault.RunFault.{RunFault}
 use Rattle.tf_engine.specs.FormData.{FormData, InTable, InWt, InFlow}
 use Rattle.tf_engine.specs.RequestData.{RequestData}
-use Rattle.tf_engine.specs.Faults.{Refused, ByNotation, ByText, ByTask, Stop, Refuses, Fails, Wants, is_of_answer, is_past_answer, stop_of}
+use Rattle.tf_engine.specs.Faults.{Refused, Stop, Refuses, Fails, Wants, stop_of, end_of}
 use Rattle.tf_engine.specs.Passed.{of_write}
-use Rattle.tf_engine.specs.Refusal.{refused_by, with_class, problem_for, instance_in, task_in, task_for}
-use Rattle.tf_engine.specs.Parts.{ReadsTo, StopsBy, StopsReading}
+use Rattle.tf_engine.specs.Refusal.{problem_for, instance_in, task_in, task_for}
+use Rattle.tf_engine.specs.CaseParts.{ReadsAsked}
+use Rattle.tf_engine.specs.Parts.{StopsBy, StopsReading}
 use Rattle.tf_engine.specs.Runs.{Leaves}
+use Rattle.tf_engine.specs.Devices.{LeavesInstance, LeavesRun}
+use Rattle.tf_engine.proofs.Devices.{instance_sound, instance_later, stopped, cut}
 use Rattle.tf_engine.proofs.AcceptedAgain.{answers_of}
 pub use Rattle.tf_engine.proofs.AcceptedAgain.{meant_by}
 use Rattle.tf_engine.specs.Headline.{IsSolved, Answers, IsRefusedRun, IsRunOf}
@@ -65,51 +59,16 @@ too_long InTable text h = rw (lt-ltb most_bytes (length text) h) refl
 too_long (InWt jobs index) text h = wt.too_long jobs index text h
 too_long (InFlow name pair) text h = flow.too_long name pair text h
 
--- no refusal of the problem line comes after the answer text
-pub before_answer : (text : List ℕ) (refused : Refused) → problem_for text ≡ Err refused
-    → is_past_answer (Refuses refused) ≡ false
-before_answer text refused e = by_notation (notation text) e
-  where
-    by_class : (problem : Problem) (o : Option Class) → with_class problem o ≡ Err refused
-        → is_past_answer (Refuses refused) ≡ false
-    by_class problem None e = let is : refused ≡ ByTask NoSolver = cc in rw is refl
-    by_class problem (Some class) e = cc
-
-    by_notation : (r : Result Problem ℕ)
-        → (refused_by ByNotation r >>= λ problem. with_class problem (class_of problem))
-        ≡ Err refused
-        → is_past_answer (Refuses refused) ≡ false
-    by_notation (Ok problem) e = by_class problem (class_of problem) e
-    by_notation (Err byte) e = let is : refused ≡ ByNotation byte = cc in rw is refl
-
--- nor is one for the instance's sake of the answer text, or comes after it
-pub not_of_answer : (request : RequestData) (problem : Problem) (text : List ℕ) (R : Type 0)
-    (s : Stop)
-    → StopsReading (λ refused. task_in request problem text ≡ Err refused) R s
-    → (is_of_answer s ≡ false) × (is_past_answer s ≡ false)
-not_of_answer request problem text R Fails h = (refl, refl)
-not_of_answer request problem text R Wants h = (refl, refl)
-not_of_answer request problem text R (Refuses refused) h =
-    by_instance (instance_in request.form text) h
-  where
-    by_task : (r : Result SchedulingTask Refusal) → refused_by ByTask r ≡ Err refused
-        → (is_of_answer (Refuses refused) ≡ false) × (is_past_answer (Refuses refused) ≡ false)
-    by_task (Ok task) e = cc
-    by_task (Err refusal) e = let is : refused ≡ ByTask refusal = cc in rw is (refl, refl)
-
-    by_instance : (r : Result InstanceData ReadFault)
-        → (refused_by ByText r
-        >>= λ instance. refused_by ByTask (prepared instance problem request.machines))
-        ≡ Err refused
-        → (is_of_answer (Refuses refused) ≡ false) × (is_past_answer (Refuses refused) ≡ false)
-    by_instance (Ok instance) e = by_task (prepared instance problem request.machines) e
-    by_instance (Err fault) e = let is : refused ≡ ByText fault = cc in rw is (refl, refl)
-
 -- what holds of a fault holds of what `?` makes of it
 pub err_is : {X E : Type 0} (P : Result X E → Type 0) (f : E) (r : Result X E)
     → IsErrAnd r (λ e. e ≡ f) → P (Err f) → P r
 err_is P f (Ok x) h p = absurd h
 err_is P f (Err e) h p = subst (λ e. P (Err e)) (sym h) p
+
+-- the same of how a run ends
+pub err_ends : {X A : Type 0} (P : Option Stop → Type 0) (f : RunFault A) (r : Result X (RunFault A))
+    → IsErrAnd r (λ e. e ≡ f) → P (Some (stop_of f)) → P (end_of r)
+err_ends P f r h p = err_is (λ r. P (end_of r)) f r h p
 
 -- a part that reads and writes nothing stops the run as it stopped
 pub part_stops : (Says : List ℕ → Type 0) (P Q : Refused → Type 0) (R : Type 0)
@@ -133,21 +92,7 @@ reading_stops Says P Q F R held writer more failed Wants h = tt
 
 module _ (A : Type 0) (request : RequestData) (reader : DeviceUse) (held : Option (List ℕ))
     (writer : Bool) where
-  -- nothing was written where the problem line was refused
-  pub run_unread : (e : RunFault A) (refused : Refused) → stop_of e ≡ Refuses refused
-      → problem_for request.problem ≡ Err refused
-      → IsRunOf request reader (unused held writer) (Err e)
-  run_unread e refused same h =
-      let (text, is) = text_for reader.before in
-      record {
-        text = text;
-        is_all = is;
-        outcome = subst
-            (Leaves (Answers request text) (IsRefusedRun request text) (reader.failed ≡ true)
-            (unused held writer)) (sym same) (inl (refused_task request text refused h));
-      }
-
-  -- nor where no sheet answers the text
+  -- nothing was written where no sheet answers the text
   pub run_unsolved : (text : List ℕ) (e : RunFault A) → IsTextOf reader.before text
       → StopsBy (IsRefusedRun request text) (stop_of e)
       → IsRunOf request reader (unused held writer) (Err e)
@@ -159,20 +104,17 @@ module _ (A : Type 0) (request : RequestData) (reader : DeviceUse) (held : Optio
         (stop_of e) h;
   }
 
--- nor where no task was read
-pub run_untasked : (A T : Type 0) (request : RequestData) (remaining : T → Option (List ℕ))
-    (old new : Counted T) (held : Option (List ℕ)) (writer : Bool)
-    (problem : Problem) (e : RunFault A)
-    → problem_for request.problem ≡ Ok problem
-    → ReadsTo (task_in request problem) remaining old new (Err e)
+-- nor where nothing was asked for
+pub run_unasked : (A T : Type 0) (request : RequestData) (remaining : T → Option (List ℕ))
+    (old new : Counted T) (held : Option (List ℕ)) (writer : Bool) (e : RunFault A)
+    → ReadsAsked request remaining old new (Err e)
     → IsRunOf request (use_of remaining old new) (unused held writer) (Err e)
-run_untasked A T request remaining old new held writer problem e ok h = record {
+run_unasked A T request remaining old new held writer e h = record {
   text = h.text;
   is_all = h.is_all;
-  outcome = reading_stops (Answers request h.text) (λ refused. task_in request problem h.text ≡ Err refused)
+  outcome = reading_stops (Answers request h.text) (λ refused. task_for request h.text ≡ Err refused)
       (IsRefusedRun request h.text) (has_failed new ≡ true) (has_failed new ≡ true) held writer
-      (λ refused same. inl (meant_by request problem h.text ok ∙ same)) (λ failed. failed)
-      (stop_of e) h.given;
+      (λ refused same. inl same) (λ failed. failed) (stop_of e) h.given;
 }
 
 -- a prefix of the answer was written where the writer failed
@@ -194,3 +136,16 @@ run_unwritten A request reader writer text sheet writes.Device is solved prefix 
         (answer_text request.layout sheet, answers_of request text sheet solved, written),
       );
     }
+
+-- nor is anything where memory was wanting before
+pub cut_short : {T V : Type 0} {asked : Result Problem Refused} {remaining : T → Option (List ℕ)}
+    {old new : Counted T} {held written : Counted V} (A : Type 0)
+    → LeavesInstance asked remaining old new None → (f : WriteFault)
+    → (f ≡ writes.OutOfMemory → written ≡ held)
+    → LeavesRun asked remaining old new held written (Some (stop_of (of_write {A = A} f)))
+cut_short A had writes.Device same =
+    cut _ _ _ _ (instance_sound had) (instance_later had (Some Fails))
+cut_short {asked = asked} {remaining = remaining} {old = old} {new = new} {held = held} A had
+    writes.OutOfMemory same =
+    subst (λ w. LeavesRun asked remaining old new held w (Some Wants)) (sym (same refl))
+    (stopped _ _ held Wants (instance_later had (Some Wants)))

@@ -1,5 +1,5 @@
 -- Why a run gives no answer, as definitions see it.
-use Rattle.std.specs.Prelude.{ℕ, List, Bool, true, false, not, ◌&&◌, Result, Ok, Err}
+use Rattle.std.specs.Prelude.{ℕ, List, Bool, true, false, not, ◌&&◌, Option, None, Some, Result, Ok, Err}
 use Rattle.tf_model.specs.declared.prepare.Refusal.{Refusal}
 use Rattle.tf_read.specs.declared.fault.ReadFault.{ReadFault}
 use Rattle.tf_read.specs.declared.fault.ReadFault.TheVariants as reads
@@ -60,12 +60,65 @@ abbrev pub is_of_whole_answer : {X A : Type 0} → Result X (RunFault A) → Boo
 is_of_whole_answer (Ok x) = true
 is_of_whole_answer (Err e) = is_past_answer (stop_of e)
 
--- what is said only after the whole instance text was read: a value, and each refusal but that of a
--- text that is too long
-abbrev pub is_of_whole : {X A : Type 0} → Result X (RunFault A) → Bool
-is_of_whole (Ok x) = true
-is_of_whole (Err e) = is_refusal (stop_of e) && not (is_too_long (stop_of e))
+-- a refusal that comes after the whole instance text was read: each but that of a text that is too
+-- long
+abbrev pub is_past_text : Stop → Bool
+is_past_text s = is_refusal s && not (is_too_long s)
   where
     is_too_long : Stop → Bool
     is_too_long (Refuses (ByText reads.TooLong)) = true
     is_too_long _ = false
+
+-- what is said only after the whole instance text was read: a value, and each refusal but that of a
+-- text that is too long
+abbrev pub is_of_whole : {X A : Type 0} → Result X (RunFault A) → Bool
+is_of_whole (Ok x) = true
+is_of_whole (Err e) = is_past_text (stop_of e)
+
+-- a refusal for the sake of the problem line or of the instance
+abbrev pub is_on_instance : Stop → Bool
+is_on_instance (Refuses (ByNotation byte)) = true
+is_on_instance (Refuses (ByText fault)) = true
+is_on_instance (Refuses (ByTask refusal)) = true
+is_on_instance _ = false
+
+-- a refusal for the sake of the answer text or of its pieces
+abbrev pub is_on_answer : Stop → Bool
+is_on_answer (Refuses (ByAnswer fault)) = true
+is_on_answer (Refuses (ByPieces fault)) = true
+is_on_answer _ = false
+
+-- how a run ends: by a stop, or with a value
+abbrev pub end_of : {X A : Type 0} → Result X (RunFault A) → Option Stop
+end_of (Ok x) = None
+end_of (Err e) = Some (stop_of e)
+
+-- it ends by a device's failure
+abbrev pub ends_failing : Option Stop → Bool
+ends_failing None = false
+ends_failing (Some s) = is_failure s
+
+-- it ends after the whole answer text was read
+abbrev pub ends_past_answer : Option Stop → Bool
+ends_past_answer None = true
+ends_past_answer (Some s) = is_past_answer s
+
+-- it ends with a value or a refusal
+abbrev pub ends_answering : Option Stop → Bool
+ends_answering None = true
+ends_answering (Some s) = is_refusal s
+
+-- it ends after the whole instance text was read
+abbrev pub ends_past_text : Option Stop → Bool
+ends_past_text None = true
+ends_past_text (Some s) = is_past_text s
+
+-- it ends with a value, or for the answer's sake
+abbrev pub ends_on_answer : Option Stop → Bool
+ends_on_answer None = true
+ends_on_answer (Some s) = is_on_answer s
+
+-- it ends for the sake of the problem line or of the instance
+abbrev pub ends_on_instance : Option Stop → Bool
+ends_on_instance None = false
+ends_on_instance (Some s) = is_on_instance s

@@ -9,6 +9,8 @@ pub mod VerdictLine
 pub mod Checking
 pub mod Headline
 pub mod Drawing
+pub mod Devices
 -- within the crate
 pub mod Passed
 pub mod Parts
+pub mod CaseParts

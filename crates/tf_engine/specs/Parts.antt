@@ -12,8 +12,10 @@ use Rattle.tf_text.specs.Counted.{inner_of, pulled_of, has_failed, ConsumesAtMos
 use Rattle.tf_text.specs.Input.{IsTextOf}
 use Rattle.tf_text.specs.AnswerText.{SheetData}
 use Rattle.tf_text.specs.AnswerReading.{answer_in}
+use Rattle.tf_text.specs.declared.answer.fault.AnswerFault.{AnswerFault}
 use Rattle.tf_engine.specs.declared.fault.RunFault.{RunFault}
-use Rattle.tf_engine.specs.Faults.{Refused, ByText, ByTask, ByAnswer, Stop, Refuses, Fails, Wants, is_refusal, is_of_whole, stop_of}
+use Rattle.tf_engine.specs.Faults.{Refused, ByText, ByTask, ByAnswer, Stop, Refuses, Fails, Wants, is_refusal, is_of_whole, stop_of, end_of}
+use Rattle.tf_engine.specs.Devices.{LeavesReader}
 use Rattle.tf_engine.specs.FormData.{FormData}
 use Rattle.tf_engine.specs.Refusal.{refused_by, instance_in}
 use Rattle.tf_engine.specs.RequestData.{RequestData}
@@ -75,16 +77,17 @@ GivesSheet request text result =
     MatchResult result (IsSolved request text)
     (λ e. StopsBy (IsRefusedRun request text) (stop_of e))
 
--- the fault of the answer text, unless memory ran out or the reader failed
-abbrev pub StopsSaying : Option (List ℕ) → Stop → Type 0
-StopsSaying known (Refuses (ByAnswer fault)) = (answer : List ℕ) × IsTextOf known answer
-    × (answer_in answer ≡ Err fault)
-StopsSaying known (Refuses _) = ⊥
-StopsSaying known Fails = Unit {0}
-StopsSaying known Wants = Unit {0}
+-- the refusal is the fault of the answer text
+abbrev pub IsOfAnswer : List ℕ → Refused → Type 0
+IsOfAnswer text refused = (fault : AnswerFault) × (refused ≡ ByAnswer fault)
+    × (answer_in text ≡ Err fault)
 
--- the sheet that the answer text says, or why there is none
-abbrev pub GivesSaid : {A : Type 0} → Option (List ℕ) → Result SheetData (RunFault A) → Type 0
-GivesSaid known (Ok sheet) = (answer : List ℕ) × IsTextOf known answer
-    × (answer_in answer ≡ Ok sheet)
-GivesSaid known (Err e) = StopsSaying known (stop_of e)
+-- A part that reads an answer text gives the sheet that it says, or the fault of the text, which is
+-- all bytes of the reader up to its end where they are known.
+pub record ReadsSheet {A T : Type 0} (remaining : T → Option (List ℕ)) (old new : Counted T)
+    (result : Result SheetData (RunFault A)) : Type 0 where
+  pub text : List ℕ
+  pub is_all : IsTextOf (remaining (inner_of old)) text
+  pub given : MatchResult result (λ sheet. answer_in text ≡ Ok sheet)
+      (λ e. StopsReading (IsOfAnswer text) (has_failed new ≡ true) (stop_of e))
+  pub reader : LeavesReader remaining old new (end_of result)

@@ -1,6 +1,7 @@
 //! Solving, from the bytes of a problem and an instance to the bytes of an answer, and judging an answer.
 #![tactic(auto)]
 
+pub mod case;
 pub mod fault;
 mod form_read;
 pub mod request;
@@ -8,7 +9,7 @@ pub mod run_check;
 pub mod run_gantt;
 pub mod run_solve;
 pub mod schedule_said;
-pub mod sheet_said;
+pub mod sheet_read;
 pub mod solve;
 pub mod task_for;
 pub mod text;

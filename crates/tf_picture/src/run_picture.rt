@@ -1,10 +1,8 @@
 //! Picturing an answer, from bytes to bytes.
-ghost use Rattle.std.specs.Prelude.{◌≡◌, ◌+◌, ◌≤◌, true, false, OnOk, IfErr};
-ghost use Rattle.tf_model.specs.Limit.{most_bytes};
-ghost use Rattle.std.specs.Io.KnownBytes.{IsAtEnd};
-ghost use Rattle.tf_text.specs.Counted.{inner_of, pulled_of, has_failed, use_of, ConsumesAtMost};
-ghost use Rattle.tf_engine.specs.Faults.{stop_of, is_failure, is_of_whole_answer};
+ghost use Rattle.tf_text.specs.Counted.{use_of};
+ghost use Rattle.tf_engine.specs.Devices.{LeavesDrawing};
 ghost use Rattle.tf_engine.specs.Drawing.{IsDrawingOf};
+ghost use Rattle.tf_engine.specs.Faults.{end_of};
 ghost use Rattle.tf_picture.specs.Picture.{IsPicture};
 
 use crate::front::Heading;
@@ -13,7 +11,7 @@ use std::alloc::Allocator;
 use std::io::{Read, Write};
 use tf_engine::fault::RunFault;
 use tf_engine::schedule_said::schedule_said;
-use tf_engine::sheet_said::sheet_said;
+use tf_engine::sheet_read::sheet_read;
 use tf_text::counted::Counted;
 
 /// Reads an answer to its end and writes a picture of its schedule, as SVG.
@@ -30,20 +28,10 @@ pub fn run_picture<A: Allocator + Copy, R: Read, W: Write>(
 ) -> Result<(), RunFault<A>>
     ensures outcome { IsDrawingOf IsPicture (use_of R.remaining reader.old reader.new)
         (use_of W.contents writer.old writer.new) result }
-    ensures unfailed { OnOk result
-        ((has_failed reader.new ≡ false) × (has_failed writer.new ≡ false)) }
-    ensures unwritten { IfErr result
-        (λ e. is_failure (stop_of e) ≡ false → writer.new ≡ writer.old) }
-    ensures untouched { has_failed reader.new ≡ true → writer.new ≡ writer.old }
-    ensures read { IfErr result
-        (λ e. is_failure (stop_of e) ≡ false → has_failed reader.new ≡ false) }
-    ensures ended { is_of_whole_answer result ≡ true →
-        IsAtEnd (R.remaining (inner_of reader.new)) }
-    ensures pulled { ConsumesAtMost (most_bytes + 1) (R.remaining (inner_of reader.old))
-        (R.remaining (inner_of reader.new)) }
-    ensures counted { pulled_of reader.new ≤ pulled_of reader.old + (most_bytes + 1) }
+    ensures devices { LeavesDrawing R.remaining reader.old reader.new writer.old writer.new
+        (end_of result) }
 {
-    let sheet = sheet_said(alloc, reader)?;
+    let sheet = sheet_read(alloc, reader)?;
     let heading = Heading::of(&sheet);
     let schedule = schedule_said(sheet)?;
     let text = picture(alloc, &heading, &schedule)?;

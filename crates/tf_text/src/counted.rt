@@ -35,6 +35,13 @@ impl<T> Counted<T> {
         }
     }
 
+    /// What is wrapped.
+    pub fn inner(&self) -> &T
+        ensures { result.now ≡ inner_of self.now }
+    {
+        &self.inner
+    }
+
     /// How many bytes were pulled. Beyond 64 bits it stays at the greatest number.
     pub fn pulled(&self) -> u64
         ensures { result ≡ pulled_of self.now }

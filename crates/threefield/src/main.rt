@@ -8,6 +8,7 @@ use std::alloc::AllocError;
 use std::io;
 use std::process::ExitCode;
 use tf_command::commands::perform;
+use tf_command::console::Console;
 use tf_command::options::{Asked, command, understand};
 use tf_command::report::{say_device, say_memory, say_usage};
 use tf_text::counted::Counted;
@@ -33,8 +34,12 @@ fn program(rt: &HostRuntime) -> u8 {
     };
     match understand(command, words.as_slice()) {
         Asked::Work(work) => {
-            let mut writer = Counted::new(rt.stdout());
-            perform(rt.alloc(), &Files { rt }, &work, &mut writer, &mut errors)
+            let mut console = Console {
+                alloc: rt.alloc(),
+                writer: Counted::new(rt.stdout()),
+                errors,
+            };
+            perform(&mut console, &Files { rt }, &work)
         }
         Asked::Help(text) => match text.print(rt) {
             Ok(()) => 0,

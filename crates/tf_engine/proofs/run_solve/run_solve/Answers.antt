@@ -1,46 +1,46 @@
-use Rattle.std.proofs.Common.{◌≡◌, Ok, Err, ap, sym, subst, ◌∙◌}
-use Rattle.tf_text.specs.Counted.{inner_of, AppendsPrefix}
+use Rattle.std.proofs.Common.{Err, ap, subst}
 use Rattle.std.specs.Io.KnownBytes.{Appends}
 use Rattle.tf_text.specs.AnswerText.{answer_text}
+use Rattle.tf_text.specs.Counted.{inner_of, AppendsPrefix}
 use Rattle.tf_text.specs.declared.answer.layout.Layout.{Layout}
-use Rattle.tf_engine.proofs.AcceptedAgain.{answers_of}
-use Rattle.tf_engine.specs.Passed.{of_write}
-use Rattle.tf_engine.specs.Refusal.{problem_for}
+use Rattle.tf_engine.specs.Devices.{LeavesRun}
+use Rattle.tf_engine.specs.Faults.{stop_of}
 use Rattle.tf_engine.specs.Headline.{IsRunOf}
-use Rattle.tf_engine.proofs.Unread.{err_is, run_unread, run_untasked, run_unsolved, run_unwritten}
+use Rattle.tf_engine.specs.Passed.{of_write}
+use Rattle.tf_engine.proofs.AcceptedAgain.{answers_of}
+use Rattle.tf_engine.proofs.Devices.{instance_later, instance_sound, stopped, wrote}
+use Rattle.tf_engine.proofs.Unread.{err_is, err_ends, run_unasked, run_unsolved, run_unwritten, cut_short}
 use Rattle.tf_engine.proofs.run_solve.run_solve.Goals as goal
 
-pub returns-in_err-problem-clause-outcome : goal.returns-in_err-problem-clause-outcome
-returns-in_err-problem-clause-outcome g c =
-    let line = ap problem_for
-    (ap (λ r. r.problem) (sym c.request.view_is) ∙ sym c.as_str.ensures) in
-    let (refused, same, is) = c.in_err-problem.ensures in
-    err_is (IsRunOf c.args.request.now _ _) c.in_err-problem.field-0.0 _
-    c.from_residual.ensures.1
-    (run_unread g.row.A.Denot c.args.request.now _ _ _ c.in_err-problem.field-0.0 refused same
-    (line ∙ is))
+pub returns-in_err-asked-clause-outcome : goal.returns-in_err-asked-clause-outcome
+returns-in_err-asked-clause-outcome g c =
+    err_is (IsRunOf c.args.request.now _ _) c.in_err-asked.field-0.0 _ c.from_residual.ensures.1
+    (run_unasked g.row.A.Denot _ c.args.request.now _ _ _ _ _ c.in_err-asked.field-0.0
+    c.in_err-asked.ensures)
 
-pub returns-in_err-task-clause-outcome : goal.returns-in_err-task-clause-outcome
-returns-in_err-task-clause-outcome g c =
-    let line : problem_for c.args.request.now.problem ≡ Ok c.in_ok-problem.problem =
-    ap problem_for (ap (λ r. r.problem) (sym c.request.view_is) ∙ sym c.as_str.ensures)
-    ∙ c.in_ok-problem.ensures in
-    err_is (IsRunOf c.args.request.now _ _) c.in_err-task.field-0.0 _
-    c.from_residual-in_err-task.ensures.1
-    (run_untasked g.row.A.Denot _ c.args.request.now _ _ _ _ _ c.in_ok-problem.problem
-    c.in_err-task.field-0.0 line c.in_err-task.ensures)
+pub returns-in_err-asked-clause-devices : goal.returns-in_err-asked-clause-devices
+returns-in_err-asked-clause-devices g c =
+    err_ends (LeavesRun _ _ _ _ _ _) c.in_err-asked.field-0.0 _ c.from_residual.ensures.1
+    (stopped _ _ _ (stop_of c.in_err-asked.field-0.0) c.in_err-asked.ensures.reader)
 
 pub returns-in_err-sheet-clause-outcome : goal.returns-in_err-sheet-clause-outcome
 returns-in_err-sheet-clause-outcome g c =
-    let read = c.in_ok-task.ensures in
+    let read = c.in_ok-asked.ensures in
     err_is (IsRunOf c.args.request.now _ _) c.in_err-sheet.field-0.0 _
     c.from_residual-in_err-sheet.ensures.1
     (run_unsolved g.row.A.Denot c.args.request.now _ _ _ read.text c.in_err-sheet.field-0.0
     read.is_all (c.in_err-sheet.ensures read.text read.given))
 
+pub returns-in_err-sheet-clause-devices : goal.returns-in_err-sheet-clause-devices
+returns-in_err-sheet-clause-devices g c =
+    err_ends (LeavesRun _ _ _ _ _ _) c.in_err-sheet.field-0.0 _
+    c.from_residual-in_err-sheet.ensures.1
+    (stopped _ _ _ (stop_of c.in_err-sheet.field-0.0)
+    (instance_later c.in_ok-asked.ensures.reader _))
+
 pub returns-in_err-write_answer-clause-outcome : goal.returns-in_err-write_answer-clause-outcome
 returns-in_err-write_answer-clause-outcome g c =
-    let read = c.in_ok-task.ensures in
+    let read = c.in_ok-asked.ensures in
     err_is (IsRunOf c.args.request.now _ _) (of_write c.in_err-write_answer.field-0.0) _
     c.from_residual-in_err-write_answer.ensures.1
     (run_unwritten g.row.A.Denot c.args.request.now _ _ read.text _
@@ -54,9 +54,16 @@ returns-in_err-write_answer-clause-outcome g c =
           (ap (λ r. r.layout) c.request.view_is) (c.in_err-write_answer.ensures.prefix (ap Err e)),
     )))
 
+pub returns-in_err-write_answer-clause-devices : goal.returns-in_err-write_answer-clause-devices
+returns-in_err-write_answer-clause-devices g c =
+    err_ends (LeavesRun _ _ _ _ _ _) (of_write c.in_err-write_answer.field-0.0) _
+    c.from_residual-in_err-write_answer.ensures.1
+    (cut_short g.row.A.Denot c.in_ok-asked.ensures.reader c.in_err-write_answer.field-0.0
+    (λ e. c.in_err-write_answer.ensures.memory (ap Err e)))
+
 pub returns-clause-outcome : goal.returns-clause-outcome
 returns-clause-outcome g c =
-    let read = c.in_ok-task.ensures in
+    let read = c.in_ok-asked.ensures in
     record {
       text = read.text;
       is_all = read.is_all;
@@ -70,3 +77,8 @@ returns-clause-outcome g c =
             (ap (λ r. r.layout) c.request.view_is) c.in_ok-write_answer.ensures.written,
       );
     }
+
+pub returns-clause-devices : goal.returns-clause-devices
+returns-clause-devices g c =
+    let had = c.in_ok-asked.ensures.reader in
+    wrote _ _ _ _ (instance_sound had) had c.in_ok-write_answer.ensures.unfailed

@@ -1,20 +1,19 @@
-use Rattle.std.proofs.Common.{rules, ◌∙◌}
-use Rattle.tf_engine.proofs.AcceptedAgain.{meant_by}
+use Rattle.std.proofs.Common.{rules}
 use Rattle.tf_engine.proofs.Readable.{sheet_readable}
 use Rattle.tf_engine.proofs.run_solve.sheet_for.Goals as goal
 
 pub returns : goal.returns
 returns g c = λ text said. record {
-  task = c.args.task.now;
-  meant = meant_by c.args.request.now c.args.problem.now text c.requires ∙ said;
+  task = c.args.asked.now.task;
+  meant = said.meant;
   solved = record {
-    problem = c.requires;
+    problem = said.problem;
     jobs = c.len.ensures.value;
     machines = c.machines.ensures.value;
     accepted = c.in_ok-answer.ensures.accepted;
     best = c.in_ok-answer.ensures.best;
-    readable = sheet_readable c.args.request.now c.args.task.now _ c.args.request.now.layout
-        c.len.ensures.sound c.requires c.len.ensures.value c.machines.ensures.value
-        c.in_ok-answer.ensures.accepted (search rules);
+    readable = sheet_readable c.args.request.now c.args.asked.now.task _
+        c.args.request.now.layout c.len.ensures.sound said.problem c.len.ensures.value
+        c.machines.ensures.value c.in_ok-answer.ensures.accepted (search rules);
   };
 }

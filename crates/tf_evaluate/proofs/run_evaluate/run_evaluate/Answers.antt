@@ -1,113 +1,84 @@
-use Rattle.std.proofs.Common.{◌≡◌, true, false, IfErr, Ok, [], ap, sym, ◌∙◌, arith}
-use Rattle.std.proofs.KnownBytes.{Consumes-nil}
-use Rattle.std.specs.Io.KnownBytes.{IsAtEnd}
-use Rattle.tf_text.specs.Counted.{inner_of, has_failed}
-use Rattle.tf_engine.specs.declared.fault.RunFault.TheVariants.{Device}
-use Rattle.tf_engine.specs.Faults.{stop_of, is_of_answer, is_past_answer, is_of_whole_answer}
+use Rattle.std.proofs.Common.{◌∙◌, refl, subst}
+use Rattle.std.specs.Io.KnownBytes.{Appends}
+use Rattle.tf_text.specs.Counted.{inner_of, AppendsPrefix}
+use Rattle.tf_engine.specs.declared.fault.RunFault.TheVariants.{Device, OutOfMemory}
+use Rattle.tf_engine.specs.Devices.{LeavesCase}
+use Rattle.tf_engine.specs.Faults.{Fails, Wants, stop_of}
 use Rattle.tf_engine.specs.Passed.{of_solve}
-use Rattle.tf_engine.specs.Refusal.{problem_for}
-use Rattle.tf_engine.proofs.Unread.{err_is, meant_by, before_answer, not_of_answer}
+use Rattle.tf_engine.proofs.Devices.{both_sound, both_later, stopped, cut, wrote}
+use Rattle.tf_engine.proofs.Unread.{err_is, err_ends}
 use Rattle.tf_evaluate.specs.RunEvaluating.{IsEvaluationOf}
-use Rattle.tf_evaluate.proofs.Unevaluated.{evaluation_cut, evaluation_unread, evaluation_untasked, evaluation_unsaid, evaluation_unsolved}
+use Rattle.tf_evaluate.proofs.Unevaluated.{unsolved_later, evaluation_stopped, evaluation_wanting, evaluation_unsolved, evaluation_cut, evaluation_said}
 use Rattle.tf_evaluate.proofs.run_evaluate.run_evaluate.Goals as goal
 
-pub returns-in_err-problem-clause-outcome : goal.returns-in_err-problem-clause-outcome
-returns-in_err-problem-clause-outcome g c =
-    let line = ap problem_for
-    (ap (λ r. r.problem) (sym c.request.view_is) ∙ sym c.as_str.ensures) in
-    let (refused, same, is) = c.in_err-problem.ensures in
-    err_is (IsEvaluationOf c.args.detail c.args.request.now _ _ _) c.in_err-problem.field-0.0 _
+pub returns-in_err-case-clause-outcome : goal.returns-in_err-case-clause-outcome
+returns-in_err-case-clause-outcome g c =
+    err_is (IsEvaluationOf c.args.detail c.args.request.now _ _ _) c.in_err-case.field-0.0 _
     c.from_residual.ensures.1
-    (evaluation_unread g.row.A.Denot c.args.detail c.args.request.now _ _ _ _ c.in_err-problem.field-0.0 refused
-    same (line ∙ is))
+    (evaluation_stopped g.row.A.Denot _ _ c.args.detail c.args.request.now _ _ _ _ _ _ _ _
+    c.in_err-case.field-0.0 c.in_err-case.ensures)
 
-pub returns-in_err-task-clause-outcome : goal.returns-in_err-task-clause-outcome
-returns-in_err-task-clause-outcome g c =
-    let line : problem_for c.args.request.now.problem ≡ Ok c.in_ok-problem.problem =
-    ap problem_for (ap (λ r. r.problem) (sym c.request.view_is) ∙ sym c.as_str.ensures)
-    ∙ c.in_ok-problem.ensures in
-    err_is (IsEvaluationOf c.args.detail c.args.request.now _ _ _) c.in_err-task.field-0.0 _
-    c.from_residual-in_err-task.ensures.1
-    (evaluation_untasked g.row.A.Denot c.args.detail c.args.request.now _ _ _ _ _ _ _ c.in_ok-problem.problem
-    c.in_err-task.field-0.0 line c.in_err-task.ensures)
-
-pub returns-in_err-task-clause-read_answer : goal.returns-in_err-task-clause-read_answer
-returns-in_err-task-clause-read_answer g c =
-    let not = not_of_answer c.args.request.now c.in_ok-problem.problem c.in_err-task.ensures.text _
-    (stop_of c.in_err-task.field-0.0) c.in_err-task.ensures.given in
-    let not_answer : is_of_answer (stop_of c.in_err-task.field-0.0) ≡ false = not.0 in
-    err_is (λ r. IfErr r
-    (λ e. is_of_answer (stop_of e) ≡ true → has_failed c.args.answer.now ≡ false))
-    c.in_err-task.field-0.0 _ c.from_residual-in_err-task.ensures.1 (λ h. cc)
-
-pub returns-in_err-task-clause-ended_answer : goal.returns-in_err-task-clause-ended_answer
-returns-in_err-task-clause-ended_answer g c =
-    let not = not_of_answer c.args.request.now c.in_ok-problem.problem c.in_err-task.ensures.text _
-    (stop_of c.in_err-task.field-0.0) c.in_err-task.ensures.given in
-    let not_past : is_past_answer (stop_of c.in_err-task.field-0.0) ≡ false = not.1 in
-    err_is (λ r. is_of_whole_answer r ≡ true → IsAtEnd (g.S.Read.remaining (inner_of c.args.answer.now)))
-    c.in_err-task.field-0.0 _ c.from_residual-in_err-task.ensures.1 (λ h. cc)
-
-pub returns-in_err-problem-clause-ended_answer : goal.returns-in_err-problem-clause-ended_answer
-returns-in_err-problem-clause-ended_answer g c =
-    let (refused, same, is) = c.in_err-problem.ensures in
-    let not_past : is_past_answer (stop_of c.in_err-problem.field-0.0) ≡ false =
-    ap is_past_answer same ∙ before_answer _ refused is in
-    err_is (λ r. is_of_whole_answer r ≡ true → IsAtEnd (g.S.Read.remaining (inner_of c.args.answer.now)))
-    c.in_err-problem.field-0.0 _ c.from_residual.ensures.1 (λ h. cc)
-
-pub returns-in_err-task-clause-pulled_answer : goal.returns-in_err-task-clause-pulled_answer
-returns-in_err-task-clause-pulled_answer g c = ([], omega arith, Consumes-nil _)
-
-pub returns-in_err-sheet-clause-outcome : goal.returns-in_err-sheet-clause-outcome
-returns-in_err-sheet-clause-outcome g c =
-    let line : problem_for c.args.request.now.problem ≡ Ok c.in_ok-problem.problem =
-    ap problem_for (ap (λ r. r.problem) (sym c.request.view_is) ∙ sym c.as_str.ensures)
-    ∙ c.in_ok-problem.ensures in
-    let read = c.in_ok-task.ensures in
-    err_is (IsEvaluationOf c.args.detail c.args.request.now _ _ _) c.in_err-sheet.field-0.0 _
-    c.from_residual-in_err-sheet.ensures.1
-    (evaluation_unsaid g.row.A.Denot c.args.detail c.args.request.now _ _ _ _ read.text _
-    c.in_err-sheet.field-0.0 read.is_all
-    (meant_by c.args.request.now c.in_ok-problem.problem read.text line ∙ read.given)
-    c.in_err-sheet.ensures.device c.in_err-sheet.ensures.said)
+pub returns-in_err-case-clause-devices : goal.returns-in_err-case-clause-devices
+returns-in_err-case-clause-devices g c =
+    err_ends (LeavesCase _ _ _ _ _ _ _ _ _) c.in_err-case.field-0.0 _ c.from_residual.ensures.1
+    (stopped _ _ _ (stop_of c.in_err-case.field-0.0) c.in_err-case.ensures.readers)
 
 pub returns-in_err-evaluation-clause-outcome : goal.returns-in_err-evaluation-clause-outcome
 returns-in_err-evaluation-clause-outcome g c =
-    let line : problem_for c.args.request.now.problem ≡ Ok c.in_ok-problem.problem =
-    ap problem_for (ap (λ r. r.problem) (sym c.request.view_is) ∙ sym c.as_str.ensures)
-    ∙ c.in_ok-problem.ensures in
-    let read = c.in_ok-task.ensures in
-    let (said, is_answer, says) = c.in_ok-sheet.ensures.said in
-    err_is (IsEvaluationOf c.args.detail c.args.request.now _ _ _) (of_solve c.in_err-evaluation.field-0.0) _
+    err_is (IsEvaluationOf c.args.detail c.args.request.now _ _ _)
+    (of_solve c.in_err-evaluation.field-0.0) _ c.from_residual-in_err-evaluation.ensures.1
+    (evaluation_unsolved g.row.A.Denot _ _ c.args.detail c.args.request.now _ _ _ _ _ _ _
+    c.in_ok-case.ensures _ c.in_err-evaluation.field-0.0 c.in_err-evaluation.ensures.refused)
+
+pub returns-in_err-evaluation-clause-devices : goal.returns-in_err-evaluation-clause-devices
+returns-in_err-evaluation-clause-devices g c =
+    let f = c.in_err-evaluation.field-0.0 in
+    err_ends (LeavesCase _ _ _ _ _ _ _ _ _) (of_solve f) _
     c.from_residual-in_err-evaluation.ensures.1
-    (evaluation_unsolved g.row.A.Denot c.args.detail c.args.request.now _ _ _ _ read.text said _
-    c.in_err-evaluation.field-0.0 read.is_all is_answer
-    (meant_by c.args.request.now c.in_ok-problem.problem read.text line ∙ read.given)
-    c.in_err-evaluation.ensures.refused)
+    (stopped _ _ _ _ (both_later c.in_ok-case.ensures.readers
+    (stop_of (of_solve f)) (unsolved_later g.row.A.Denot f)))
+
+pub returns-in_err-text-clause-outcome : goal.returns-in_err-text-clause-outcome
+returns-in_err-text-clause-outcome g c =
+    err_is (IsEvaluationOf c.args.detail c.args.request.now _ _ _) OutOfMemory _
+    c.from_residual-in_err-text.ensures.1
+    (evaluation_wanting g.row.A.Denot _ _ c.args.detail c.args.request.now _ _ _ _ _ _ _
+    c.in_ok-case.ensures _)
+
+pub returns-in_err-text-clause-devices : goal.returns-in_err-text-clause-devices
+returns-in_err-text-clause-devices g c =
+    err_ends (LeavesCase _ _ _ _ _ _ _ _ _) OutOfMemory _ c.from_residual-in_err-text.ensures.1
+    (stopped _ _ _ Wants (both_later c.in_ok-case.ensures.readers Wants refl))
 
 pub returns-in_err-push_all-clause-outcome : goal.returns-in_err-push_all-clause-outcome
 returns-in_err-push_all-clause-outcome g c =
-    let line : problem_for c.args.request.now.problem ≡ Ok c.in_ok-problem.problem =
-    ap problem_for (ap (λ r. r.problem) (sym c.request.view_is) ∙ sym c.as_str.ensures)
-    ∙ c.in_ok-problem.ensures in
-    let read = c.in_ok-task.ensures in
-    let (said, is_answer, says) = c.in_ok-sheet.ensures.said in
+    let is = c.in_ok-evaluation.ensures in
     err_is (IsEvaluationOf c.args.detail c.args.request.now _ _ _) Device _
     c.from_residual-in_err-push_all.ensures.1
-    (evaluation_cut g.row.A.Denot c.args.detail c.args.request.now _ _ _ read.text said
-    c.as_slice.result.now c.in_ok-evaluation.evaluation read.is_all is_answer
-    (record {
-      problem = c.in_ok-problem.problem;
-      asked = line;
-      task = c.in_ok-task.task;
-      meant = meant_by c.args.request.now c.in_ok-problem.problem read.text line ∙ read.given;
-      sheet = c.in_ok-sheet.sheet;
-      said = says;
-      evaluation = c.in_ok-evaluation.ensures.evaluation;
-      standing = c.in_ok-evaluation.ensures.standing.0;
-      gap_is = c.in_ok-evaluation.ensures.standing.1;
-      ends = c.in_ok-evaluation.ensures.arithmetic;
-    })
-    (c.as_slice.ensures.value ∙ c.in_ok-text.ensures) c.in_err-push_all.ensures.device
-    c.in_err-push_all.ensures.prefix)
+    (evaluation_cut g.row.A.Denot _ _ c.args.detail c.args.request.now _ _ _ _ _ _ _
+    c.in_ok-case.ensures _ c.in_ok-evaluation.evaluation is.evaluation is.standing.0
+    is.standing.1 is.arithmetic c.in_err-push_all.ensures.device
+    (subst (AppendsPrefix (g.W.Write.contents (inner_of c.args.writer.now))
+    (g.W.Write.contents (inner_of c.push_all.new.self)))
+    (c.as_slice.ensures.value ∙ c.in_ok-text.ensures) c.in_err-push_all.ensures.prefix))
+
+pub returns-in_err-push_all-clause-devices : goal.returns-in_err-push_all-clause-devices
+returns-in_err-push_all-clause-devices g c =
+    err_ends (LeavesCase _ _ _ _ _ _ _ _ _) Device _ c.from_residual-in_err-push_all.ensures.1
+    (cut _ _ _ _ (both_sound c.in_ok-case.ensures.readers)
+    (both_later c.in_ok-case.ensures.readers Fails refl))
+
+pub returns-clause-outcome : goal.returns-clause-outcome
+returns-clause-outcome g c =
+    let is = c.in_ok-evaluation.ensures in
+    evaluation_said g.row.A.Denot _ _ c.args.detail c.args.request.now _ _ _ _ _ _ _
+    c.in_ok-case.ensures _ c.in_ok-evaluation.evaluation is.evaluation is.standing.0
+    is.standing.1 is.arithmetic _ c.standing.ensures
+    (subst (Appends (g.W.Write.contents (inner_of c.args.writer.now))
+    (g.W.Write.contents (inner_of c.push_all.new.self)))
+    (c.as_slice.ensures.value ∙ c.in_ok-text.ensures) c.in_ok-push_all.ensures.written)
+
+pub returns-clause-devices : goal.returns-clause-devices
+returns-clause-devices g c =
+    let had = c.in_ok-case.ensures.readers in
+    wrote _ _ _ _ (both_sound had) had c.in_ok-push_all.ensures.unfailed
