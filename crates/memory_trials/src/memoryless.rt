@@ -1,12 +1,14 @@
 //! Refusals that come before any growth is asked for, and calls that ask for none.
 use refusing::Refusing;
+use std::alloc::Allocator;
 use std::test::Fail;
 use tf_engine::fault::RunFault;
-use tf_engine::run_check::run_check;
+use tf_engine::request::Request;
+use tf_engine::run_check::{Checked, run_check};
 use tf_engine::run_solve::run_solve;
 use tf_model::ids::JobId;
 use tf_model::prepare::{Field, Refusal, prepare};
-use tf_notation::reading::{NotationFault, read};
+use tf_notation::reading::read;
 use tf_read::fault::ReadFault;
 use tf_read::flow_shop::FlowReader;
 use tf_read::job_table::read_table;
@@ -34,44 +36,80 @@ const REFUSED: [(&str, Option<usize>); 11] = [
 /// How many growths are granted: none, and more than any call asks for.
 const GRANTED: [u64; 2] = [0, 1_000_000_000];
 
-/// Both runs refuse the problem, read nothing, write nothing, and ask for no growth.
-fn refuses(rt: &HostRuntime, problem: &str, byte: Option<usize>, granted: u64) -> Result<(), Fail> {
-    let request = request_table(rt, problem)?;
+/// The fault is of the notation at this byte, or there is no solver where none is given.
+fn is_told<A: Allocator>(fault: &RunFault<A>, byte: Option<usize>) -> bool {
+    match (fault, byte) {
+        (RunFault::Notation(fault), Some(byte)) => fault.byte == byte,
+        (RunFault::Task(Refusal::NoSolver), None) => true,
+        _ => false,
+    }
+}
+
+fn solved<A: Allocator + Copy>(
+    alloc: A,
+    request: &Request,
+    instance: &mut Source,
+    sink: &mut Sink,
+) -> Result<(), RunFault<A>> {
+    let mut reader = Counted::new(instance);
+    let mut writer = Counted::new(sink);
+    run_solve(alloc, request, &mut reader, &mut writer)
+}
+
+fn checked<A: Allocator + Copy>(
+    alloc: A,
+    request: &Request,
+    instance: &mut Source,
+    answer: &mut Source,
+    sink: &mut Sink,
+) -> Result<Checked, RunFault<A>> {
+    let mut reader = Counted::new(instance);
+    let mut other = Counted::new(answer);
+    let mut writer = Counted::new(sink);
+    run_check(alloc, request, &mut reader, &mut other, &mut writer)
+}
+
+/// Solving refuses the problem, reads nothing and writes nothing.
+fn solving_refuses<A: Allocator + Copy>(
+    rt: &HostRuntime,
+    alloc: A,
+    request: &Request,
+    byte: Option<usize>,
+) -> bool {
+    let mut instance = Source::new(FOURS.instance);
+    let mut sink = Sink::new(rt.alloc());
+    let is_told = match solved(alloc, request, &mut instance, &mut sink) {
+        Ok(_) => false,
+        Err(fault) => is_told(&fault, byte),
+    };
+    is_told && instance.calls() == 0 && sink.calls() == 0
+}
+
+/// Checking refuses the problem, reads nothing and writes nothing.
+fn checking_refuses<A: Allocator + Copy>(
+    rt: &HostRuntime,
+    alloc: A,
+    request: &Request,
+    byte: Option<usize>,
+) -> bool {
     let mut instance = Source::new(FOURS.instance);
     let mut answer = Source::new(FOURS.answer);
     let mut sink = Sink::new(rt.alloc());
+    let is_told = match checked(alloc, request, &mut instance, &mut answer, &mut sink) {
+        Ok(_) => false,
+        Err(fault) => is_told(&fault, byte),
+    };
+    is_told && instance.calls() == 0 && answer.calls() == 0 && sink.calls() == 0
+}
+
+/// Both runs refuse the problem, read nothing, write nothing, and ask for no growth.
+fn refuses(rt: &HostRuntime, problem: &str, byte: Option<usize>, granted: u64) -> Result<(), Fail> {
+    let request = request_table(rt, problem)?;
     let heap = Refusing::new(rt.alloc(), granted);
-    let mut reader = Counted::new(&mut instance);
-    let mut other = Counted::new(&mut answer);
-    let mut writer = Counted::new(&mut sink);
-    let solved = run_solve(&heap, &request, &mut reader, &mut writer);
-    let checked = run_check(&heap, &request, &mut reader, &mut other, &mut writer);
-    drop(reader);
-    drop(other);
-    drop(writer);
-    ensure(!heap.has_refused(), "a growth")?;
-    ensure(
-        instance.calls() == 0 && answer.calls() == 0,
-        "something was read",
-    )?;
-    ensure(sink.calls() == 0, "something was written")?;
-    match byte {
-        Some(byte) => {
-            let fault = NotationFault { byte };
-            ensure(solved == Err(RunFault::Notation(fault)), "another outcome")?;
-            ensure(checked == Err(RunFault::Notation(fault)), "another outcome")
-        }
-        None => {
-            ensure(
-                solved == Err(RunFault::Task(Refusal::NoSolver)),
-                "another outcome",
-            )?;
-            ensure(
-                checked == Err(RunFault::Task(Refusal::NoSolver)),
-                "another outcome",
-            )
-        }
-    }
+    let both = solving_refuses(rt, &heap, &request, byte)
+        && checking_refuses(rt, &heap, &request, byte)
+        && !heap.has_refused();
+    ensure(both, "another outcome")
 }
 
 #[test]

@@ -1,6 +1,8 @@
 //! Classes of problems that are solved in one way, and which problem is of which.
-ghost use Rattle.std.specs.Prelude.{◌≡◌, ◌↔◌, Some};
-ghost use Rattle.tf_model.specs.ClassTable.{IsOfClass, class_of, single_class, parallel_class, shop_class};
+ghost use Rattle.std.specs.Prelude.{◌≡◌, ◌↔◌, Some, Option};
+ghost use Rattle.tf_model.specs.declared.problem.Env.TheVariants.{Single, Parallel};
+ghost use Rattle.tf_model.specs.declared.problem.Goal.TheVariants.{Cmax};
+ghost use Rattle.tf_model.specs.ClassTable.{IsOfClass, plain_problem, class_of, single_class, parallel_class, shop_class};
 
 use crate::problem::{Env, Goal, Problem};
 
@@ -108,6 +110,38 @@ fn shop_class(problem: &Problem, plain: Class, broken: Class) -> Option<Class>
     }
 }
 
+// A problem of one machine.
+fn single(goal: Goal, prec: bool, prmp: bool) -> Problem
+    ensures { result ≡ record (plain_problem Single goal) { prec = prec; prmp = prmp } }
+{
+    Problem {
+        prec,
+        prmp,
+        ..Problem::plain(Env::Single, goal)
+    }
+}
+
+// A problem of machines in parallel.
+fn parallel(goal: Goal, prmp: bool) -> Problem
+    ensures { result ≡ record (plain_problem Parallel goal) { prmp = prmp } }
+{
+    Problem {
+        prmp,
+        ..Problem::plain(Env::Parallel, goal)
+    }
+}
+
+// A problem of a shop of two machines.
+fn two(env: Env, prmp: bool) -> Problem
+    ensures { result ≡ record (plain_problem env Cmax) { count = Some 2; prmp = prmp } }
+{
+    Problem {
+        count: Some(2),
+        prmp,
+        ..Problem::plain(env, Goal::Cmax)
+    }
+}
+
 impl Class {
     ghost use Rattle.tf_model.specs.ClassTable.{notation_of, may_break, is_flow, is_shop, is_single, is_weighted, is_released, is_due, is_costed, is_ordered, is_sum, is_parallel, is_span};
 
@@ -117,72 +151,28 @@ impl Class {
         ensures own { class_of result ≡ Some self }
     {
         match self {
-            Class::WeightedSum => Problem::plain(Env::Single, Goal::SumWC),
-            Class::PlainSum => Problem::plain(Env::Single, Goal::SumC),
-            Class::Hmax => Problem::plain(Env::Single, Goal::Hmax),
-            Class::PrecHmax => Problem {
-                prec: true,
-                ..Problem::plain(Env::Single, Goal::Hmax)
-            },
-            Class::Lmax => Problem::plain(Env::Single, Goal::Lmax),
-            Class::PrecLmax => Problem {
-                prec: true,
-                ..Problem::plain(Env::Single, Goal::Lmax)
-            },
+            Class::WeightedSum => single(Goal::SumWC, false, false),
+            Class::PlainSum => single(Goal::SumC, false, false),
+            Class::Hmax => single(Goal::Hmax, false, false),
+            Class::PrecHmax => single(Goal::Hmax, true, false),
+            Class::Lmax => single(Goal::Lmax, false, false),
+            Class::PrecLmax => single(Goal::Lmax, true, false),
             Class::ReleaseLmax => Problem {
                 release: true,
-                prmp: true,
-                ..Problem::plain(Env::Single, Goal::Lmax)
+                ..single(Goal::Lmax, false, true)
             },
-            Class::FlowTwo => Problem {
-                count: Some(2),
-                ..Problem::plain(Env::Flow, Goal::Cmax)
-            },
-            Class::OpenTwo => Problem {
-                count: Some(2),
-                ..Problem::plain(Env::OpenShop, Goal::Cmax)
-            },
-            Class::ParallelPrmp => Problem {
-                prmp: true,
-                ..Problem::plain(Env::Parallel, Goal::Cmax)
-            },
-            Class::ParallelSum => Problem::plain(Env::Parallel, Goal::SumC),
-            Class::PrmpWeightedSum => Problem {
-                prmp: true,
-                ..Problem::plain(Env::Single, Goal::SumWC)
-            },
-            Class::PrmpPlainSum => Problem {
-                prmp: true,
-                ..Problem::plain(Env::Single, Goal::SumC)
-            },
-            Class::PrmpHmax => Problem {
-                prmp: true,
-                ..Problem::plain(Env::Single, Goal::Hmax)
-            },
-            Class::PrmpPrecHmax => Problem {
-                prec: true,
-                prmp: true,
-                ..Problem::plain(Env::Single, Goal::Hmax)
-            },
-            Class::PrmpLmax => Problem {
-                prmp: true,
-                ..Problem::plain(Env::Single, Goal::Lmax)
-            },
-            Class::PrmpPrecLmax => Problem {
-                prec: true,
-                prmp: true,
-                ..Problem::plain(Env::Single, Goal::Lmax)
-            },
-            Class::PrmpFlowTwo => Problem {
-                count: Some(2),
-                prmp: true,
-                ..Problem::plain(Env::Flow, Goal::Cmax)
-            },
-            Class::PrmpOpenTwo => Problem {
-                count: Some(2),
-                prmp: true,
-                ..Problem::plain(Env::OpenShop, Goal::Cmax)
-            },
+            Class::FlowTwo => two(Env::Flow, false),
+            Class::OpenTwo => two(Env::OpenShop, false),
+            Class::ParallelPrmp => parallel(Goal::Cmax, true),
+            Class::ParallelSum => parallel(Goal::SumC, false),
+            Class::PrmpWeightedSum => single(Goal::SumWC, false, true),
+            Class::PrmpPlainSum => single(Goal::SumC, false, true),
+            Class::PrmpHmax => single(Goal::Hmax, false, true),
+            Class::PrmpPrecHmax => single(Goal::Hmax, true, true),
+            Class::PrmpLmax => single(Goal::Lmax, false, true),
+            Class::PrmpPrecLmax => single(Goal::Lmax, true, true),
+            Class::PrmpFlowTwo => two(Env::Flow, true),
+            Class::PrmpOpenTwo => two(Env::OpenShop, true),
         }
     }
 

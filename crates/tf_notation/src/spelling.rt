@@ -70,15 +70,22 @@ pub(crate) fn goal_of(word: &[u8]) -> Option<Goal>
 fn condition_of(word: &[u8]) -> Option<Condition>
     ensures { result ≡ meaning conditions word.now }
 {
-    match word {
-        b"rj" | b"r_j" => Some(Condition::Release),
-        b"prec" => Some(Condition::Prec),
-        b"prmp" | b"pmtn" => Some(Condition::Prmp),
-        b"prmu" => Some(Condition::Prmu),
-        b"nwt" => Some(Condition::Nwt),
-        b"block" => Some(Condition::Block),
-        b"rcrc" => Some(Condition::Rcrc),
-        _ => None,
+    if is(word, b"rj") || is(word, b"r_j") {
+        Some(Condition::Release)
+    } else if is(word, b"prec") {
+        Some(Condition::Prec)
+    } else if is(word, b"prmp") || is(word, b"pmtn") {
+        Some(Condition::Prmp)
+    } else if is(word, b"prmu") {
+        Some(Condition::Prmu)
+    } else if is(word, b"nwt") {
+        Some(Condition::Nwt)
+    } else if is(word, b"block") {
+        Some(Condition::Block)
+    } else if is(word, b"rcrc") {
+        Some(Condition::Rcrc)
+    } else {
+        None
     }
 }
 

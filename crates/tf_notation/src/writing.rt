@@ -120,14 +120,9 @@ fn canonical<A: Allocator + Copy>(alloc: A, problem: &Problem) -> Result<String<
     };
     let count = count_text(alloc, problem.env, problem.count)?;
     let list = listed_text(alloc, &named)?;
-    let mut text = String::new(alloc);
-    text.push_str(environment_word(problem.env))?;
-    text.push_str(&count)?;
-    text.push('|')?;
-    text.push_str(&list)?;
-    text.push('|')?;
-    text.push_str(goal_word(problem.goal))?;
-    Ok(text)
+    let environment = environment_word(problem.env);
+    let goal = goal_word(problem.goal);
+    Ok(format!(in alloc; "{environment}{count}|{list}|{goal}")?)
 }
 
 /// The canonical text of a problem: no blanks, the first spelling of each word, and the conditions

@@ -32,6 +32,20 @@ pub record SomeFields : Type 0 where
   pub release : Option ℤ
   pub cost : Option Steps
 
+-- the value of a due date, a release date or a cost
+abbrev pub later_in : ℕ → SomeFields → List ℕ → List ℕ → Result SomeFields ReadFault
+later_in line so_far key value =
+    if bytes_eq key (codes "d")
+    && not (is_some so_far.due)
+    then (integer line (number value) >>= λ x. Ok (record so_far { due = Some x }))
+    else if bytes_eq key (codes "r")
+    && not (is_some so_far.release)
+    then (natural line (number value) >>= λ x. Ok (record so_far { release = Some x }))
+    else if bytes_eq key (codes "h")
+    && not (is_some so_far.cost)
+    then (cost_at line value >>= λ x. Ok (record so_far { cost = Some x }))
+    else Err (BadLine line)
+
 -- a word `key=value`; each key stands once at most
 abbrev pub field_in : ℕ → SomeFields → Option (List ℕ × List ℕ) → Result SomeFields ReadFault
 field_in line so_far None = Err (BadLine line)
@@ -42,16 +56,7 @@ field_in line so_far (Some parts) =
     else if bytes_eq parts.0 (codes "w")
     && not (is_some so_far.weight)
     then (natural line (number parts.1) >>= λ x. Ok (record so_far { weight = Some x }))
-    else if bytes_eq parts.0 (codes "d")
-    && not (is_some so_far.due)
-    then (integer line (number parts.1) >>= λ x. Ok (record so_far { due = Some x }))
-    else if bytes_eq parts.0 (codes "r")
-    && not (is_some so_far.release)
-    then (natural line (number parts.1) >>= λ x. Ok (record so_far { release = Some x }))
-    else if bytes_eq parts.0 (codes "h")
-    && not (is_some so_far.cost)
-    then (cost_at line parts.1 >>= λ x. Ok (record so_far { cost = Some x }))
-    else Err (BadLine line)
+    else later_in line so_far parts.0 parts.1
 
 unfoldable pub field_at : ℕ → SomeFields → List ℕ → Result SomeFields ReadFault
 field_at line so_far word = field_in line so_far (divided 61 word)

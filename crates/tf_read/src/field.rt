@@ -2,7 +2,7 @@
 ghost use Rattle.std.specs.Prelude.{◌≡◌};
 ghost use Rattle.tf_words.specs.Words.{words};
 ghost use Rattle.tf_read.specs.Faults.{Gives};
-ghost use Rattle.tf_read.specs.JobLine.{times_at, field_at, fields_at, no_fields};
+ghost use Rattle.tf_read.specs.JobLine.{times_at, field_at, later_in, fields_at, no_fields};
 
 use crate::cost_field::cost_at;
 use crate::fault::ReadFault;
@@ -90,6 +90,15 @@ impl<A: Allocator> Fields<A> {
             self.weight = Some(natural(line, value)?);
             return Ok(());
         }
+        self.add_later(alloc, line, key, value)
+    }
+
+    /// With a due date, a release date or a cost more.
+    fn add_later(&mut self, alloc: A, line: u32, key: &[u8], value: &[u8]) -> Result<(), ReadFault>
+    where
+        A: Copy,
+        ensures { Gives (λ _. self.new) result (later_in line self.old key.now value.now) }
+    {
         if is(key, b"d") && self.due.is_none() {
             self.due = Some(integer(line, value)?);
             return Ok(());

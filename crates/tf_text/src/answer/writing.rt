@@ -5,6 +5,7 @@ ghost use Rattle.std.specs.List.{flat_map, join_with_byte};
 ghost use Rattle.std.specs.Fmt.{decimal, signed_decimal};
 ghost use Rattle.std.specs.Io.KnownBytes.{Appends};
 ghost use Rattle.tf_check.specs.Certificate.{claim_of};
+ghost use Rattle.tf_check.specs.Claim.{BySplit};
 ghost use Rattle.tf_text.specs.Counted.{inner_of, has_failed, AppendsPrefix};
 ghost use Rattle.tf_text.specs.JobWords.{runs, run_words, job_words};
 ghost use Rattle.tf_text.specs.AnswerText.{version, side_word, claim_words, front_lines, back_lines, line_text, answer_text};
@@ -21,6 +22,7 @@ use itoa::{Buffer, Integer};
 use std::alloc::Allocator;
 use std::io::Write;
 use tf_check::certificate::Certificate;
+use tf_check::split::Split;
 use tf_model::ids::JobId;
 use tf_model::memory::OutOfMemory;
 use tf_notation::writing::notation_text;
@@ -163,6 +165,58 @@ fn side_word(first: bool) -> &'static [u8]
     if first { b"first" } else { b"second" }
 }
 
+// Adds a word, and jobs behind it.
+fn push_listed<A: Allocator>(
+    text: &mut Vec<u8, A>,
+    word: &[u8],
+    layout: Layout,
+    jobs: &[JobId],
+) -> Result<(), OutOfMemory>
+    ensures { OnOk result (text.new.items
+        ≡ text.old.items ++ join_with_byte 32 (word.now ∷ job_words layout jobs.now)) }
+{
+    text.extend_from_slice(word)?;
+    push_jobs(text, layout, jobs)?;
+    Ok(())
+}
+
+// Adds a word, and a number behind it.
+fn push_counted<A: Allocator>(
+    text: &mut Vec<u8, A>,
+    word: &[u8],
+    number: u32,
+) -> Result<(), OutOfMemory>
+    ensures { OnOk result (text.new.items
+        ≡ text.old.items ++ join_with_byte 32 (word.now ∷ decimal number ∷ [])) }
+{
+    text.extend_from_slice(word)?;
+    push_number(text, number)
+}
+
+// Adds a word alone.
+fn push_word<A: Allocator>(text: &mut Vec<u8, A>, word: &[u8]) -> Result<(), OutOfMemory>
+    ensures { OnOk result (text.new.items ≡ text.old.items ++ word.now) }
+{
+    text.extend_from_slice(word)?;
+    Ok(())
+}
+
+// Adds a split: which machine has to wait, for how long, and the jobs of the side.
+fn push_split<A: Allocator, M: Allocator>(
+    text: &mut Vec<u8, A>,
+    layout: Layout,
+    split: &Split<M>,
+) -> Result<(), OutOfMemory>
+    ensures { OnOk result (text.new.items ≡ text.old.items ++ join_with_byte 32
+        (claim_words layout (BySplit split.now.side split.now.delta split.now.first))) }
+{
+    text.extend_from_slice(b"split ")?;
+    text.extend_from_slice(side_word(split.first))?;
+    push_number(text, split.delta)?;
+    push_jobs(text, layout, split.side.as_slice())?;
+    Ok(())
+}
+
 fn push_claim<A: Allocator, M: Allocator>(
     text: &mut Vec<u8, A>,
     layout: Layout,
@@ -172,36 +226,19 @@ fn push_claim<A: Allocator, M: Allocator>(
         ≡ text.old.items ++ join_with_byte 32 (claim_words layout (claim_of certificate.now))) }
 {
     match certificate {
-        Certificate::Pairs(_) => text.extend_from_slice(b"pairs")?,
-        Certificate::LastOf(last) => {
-            text.extend_from_slice(b"last")?;
-            push_jobs(text, layout, last.jobs.as_slice())?;
-        }
+        Certificate::Pairs(_) => push_word(text, b"pairs"),
+        Certificate::LastOf(last) => push_listed(text, b"last", layout, last.jobs.as_slice()),
         Certificate::Window(window) => {
-            text.extend_from_slice(b"window")?;
-            push_jobs(text, layout, window.jobs.as_slice())?;
+            push_listed(text, b"window", layout, window.jobs.as_slice())
         }
-        Certificate::Split(split) => {
-            text.extend_from_slice(b"split ")?;
-            text.extend_from_slice(side_word(split.first))?;
-            push_number(text, split.delta)?;
-            push_jobs(text, layout, split.side.as_slice())?;
-        }
-        Certificate::Load(_) => text.extend_from_slice(b"load")?,
-        Certificate::Machine(load) => {
-            text.extend_from_slice(b"machine")?;
-            push_number(text, load.machine.get())?;
-        }
-        Certificate::OneJob(one) => {
-            text.extend_from_slice(b"job")?;
-            push_number(text, one.job.get())?;
-        }
+        Certificate::Split(split) => push_split(text, layout, split),
+        Certificate::Load(_) => push_word(text, b"load"),
+        Certificate::Machine(load) => push_counted(text, b"machine", load.machine.get()),
+        Certificate::OneJob(one) => push_counted(text, b"job", one.job.get()),
         Certificate::Ranks(ranks) => {
-            text.extend_from_slice(b"ranks")?;
-            push_jobs(text, Layout::One, ranks.jobs.as_slice())?;
+            push_listed(text, b"ranks", Layout::One, ranks.jobs.as_slice())
         }
     }
-    Ok(())
 }
 
 // The first line, and the first word of the second with a blank.

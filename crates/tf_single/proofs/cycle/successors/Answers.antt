@@ -7,6 +7,41 @@ use Rattle.tf_single.proofs.Found.{found_same, found_more, found_some, found_all
 use Rattle.tf_single.proofs.cycle.successors.Goals as goal
 use Rattle.tf_single.proofs.cycle.successors.Goals.{then-counts-get-gt0, else-counts-get-gt0}
 
+pub bounds-counts-get : goal.bounds-counts-get
+bounds-counts-get g c =
+    let its = arc_in_task c.args.task.now c.len.ensures.sound c.arcs-before-items.result.now
+    c.arcs-before-items.ensures.value c.loop-before.before-index c.loop-before-item.result
+    c.loop-before-test.true c.loop-before-item.is in
+    omega (arith, its.1.0, its.1.1, c.get.ensures.value, c.requires.len)
+
+pub index-requires : goal.index-requires
+index-requires g c =
+    let its = arc_in_task c.args.task.now c.len.ensures.sound c.arcs-before-items.result.now
+    c.arcs-before-items.ensures.value c.loop-before.before-index c.loop-before-item.result
+    c.loop-before-test.true c.loop-before-item.is in
+    omega (
+      arith,
+      its.0.0,
+      its.0.1,
+      c.get-then-counts-get-gt0.ensures.value,
+      c.loop-before.invariant.len,
+      c.loop-before.next.ok.0,
+    )
+
+pub index_mut-requires : goal.index_mut-requires
+index_mut-requires g c =
+    let its = arc_in_task c.args.task.now c.len.ensures.sound c.arcs-before-items.result.now
+    c.arcs-before-items.ensures.value c.loop-before.before-index c.loop-before-item.result
+    c.loop-before-test.true c.loop-before-item.is in
+    omega (
+      arith,
+      its.0.0,
+      its.0.1,
+      c.get-then-counts-get-gt0.ensures.value,
+      c.loop-before.invariant.len,
+      c.loop-before.next.ok.0,
+    )
+
 pub loop-before-preserved : goal.loop-before-preserved
 loop-before-preserved g c =
     let k : SchedulingTask = c.args.task.now in

@@ -1,7 +1,36 @@
 use Rattle.std.proofs.Common.{◌≡◌, length, ap, subst, arith}
 use Rattle.tf_model.specs.SchedulingTask.{SchedulingTask}
+use Rattle.tf_check.proofs.Followed.{arc_in_task}
 use Rattle.tf_single.proofs.ArcsInto.{ArePlaced, next_place, found_all}
 use Rattle.tf_single.proofs.arcs_into.ArcsInto.of.Goals as goal
+
+pub index-place-requires : goal.index-place-requires
+index-place-requires g c =
+    let its = arc_in_task c.args.task.now c.arcs.ensures.sound c.arcs-from-items.result.now
+    c.arcs-from-items.ensures.value c.loop-from.from-index c.loop-from-item.result
+    c.loop-from-test.true c.loop-from-item.is in
+    omega (
+      arith,
+      its.1.0,
+      its.1.1,
+      c.get.ensures.value,
+      c.loop-from.invariant.jobs,
+      c.loop-from.ends.ok.0,
+    )
+
+pub index_mut-requires-in-loop-from : goal.index_mut-requires-in-loop-from
+index_mut-requires-in-loop-from g c =
+    let its = arc_in_task c.args.task.now c.arcs.ensures.sound c.arcs-from-items.result.now
+    c.arcs-from-items.ensures.value c.loop-from.from-index c.loop-from-item.result
+    c.loop-from-test.true c.loop-from-item.is in
+    omega (
+      arith,
+      its.1.0,
+      its.1.1,
+      c.get.ensures.value,
+      c.loop-from.invariant.jobs,
+      c.loop-from.ends.ok.0,
+    )
 
 pub index_mut-requires : goal.index_mut-requires
 index_mut-requires g c =
