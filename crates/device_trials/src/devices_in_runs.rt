@@ -1,5 +1,6 @@
 //! The three runs on devices that give and take one byte a call, or fail.
 use refusing::Refusing;
+use std::alloc::Global;
 use std::test::Fail;
 use tf_engine::fault::RunFault;
 use tf_engine::request::Request;
@@ -45,26 +46,36 @@ fn draw(rt: &HostRuntime, source: &mut Source<'_>, sink: &mut Sink) -> Result<()
     run_gantt(rt.alloc(), &mut reader, &mut writer, 72)
 }
 
+fn solves_by_bytes(rt: &HostRuntime, request: &Request, instance: &[u8], answer: &[u8]) -> bool {
+    let mut source = Source::new(instance).by(1);
+    let mut sink = Sink::new(rt.alloc()).by(1);
+    let result = solve(rt, request, &mut source, &mut sink);
+    result == Ok(()) && sink.taken() == answer
+}
+
+fn checks_by_bytes(rt: &HostRuntime, request: &Request, instance: &[u8], answer: &[u8]) -> bool {
+    let mut source = Source::new(instance).by(1);
+    let mut other = Source::new(answer).by(1);
+    let mut sink = Sink::new(rt.alloc()).by(1);
+    let result = check(rt, request, &mut source, &mut other, &mut sink);
+    result == Ok(Checked::Accepted) && sink.taken() == b"accepted\n".as_slice()
+}
+
+fn draws_by_bytes(rt: &HostRuntime, answer: &[u8], chart: &[u8]) -> bool {
+    let mut source = Source::new(answer).by(1);
+    let mut sink = Sink::new(rt.alloc()).by(1);
+    let result = draw(rt, &mut source, &mut sink);
+    result == Ok(()) && sink.taken() == chart
+}
+
 /// An example through the three runs, each device by one byte a call.
 fn by_bytes(rt: &HostRuntime, example: &Example, layout: Layout) -> Result<(), Fail> {
     let request = request_for(rt, example, layout)?;
     let answer = answer_in(rt, example, layout)?;
-    let mut source = Source::new(example.instance).by(1);
-    let mut sink = Sink::new(rt.alloc()).by(1);
-    let result = solve(rt, &request, &mut source, &mut sink);
-    ensure(result == Ok(()), example.name)?;
-    ensure(sink.taken() == answer.as_slice(), example.name)?;
-    let mut source = Source::new(example.instance).by(1);
-    let mut other = Source::new(&answer).by(1);
-    let mut sink = Sink::new(rt.alloc()).by(1);
-    let result = check(rt, &request, &mut source, &mut other, &mut sink);
-    ensure(result == Ok(Checked::Accepted), example.name)?;
-    ensure(sink.taken() == b"accepted\n".as_slice(), example.name)?;
-    let mut source = Source::new(&answer).by(1);
-    let mut sink = Sink::new(rt.alloc()).by(1);
-    let result = draw(rt, &mut source, &mut sink);
-    ensure(result == Ok(()), example.name)?;
-    ensure(sink.taken() == example.chart, example.name)
+    let is_so = solves_by_bytes(rt, &request, example.instance, &answer)
+        && checks_by_bytes(rt, &request, example.instance, &answer)
+        && draws_by_bytes(rt, &answer, example.chart);
+    ensure(is_so, example.name)
 }
 
 #[test]
@@ -320,43 +331,66 @@ fn a_failing_reader_comes_before_a_fault_of_the_text(rt: HostRuntime) -> Result<
     let mut sink = Sink::new(rt.alloc());
     let result = solve(&rt, &request, &mut source, &mut sink);
     is_cut_off(result, &source, BEHIND, &sink)?;
+    ensure(is_read_to_its_end(&rt, &request), "another outcome")
+}
+
+/// The text `x 3 1` is read to its end, and then refused.
+fn is_read_to_its_end(rt: &HostRuntime, request: &Request) -> bool {
     let mut source = Source::new(b"x 3 1\n").by(1);
-    let result = solve(&rt, &request, &mut source, &mut sink);
-    let fault = RunFault::Text(ReadFault::BadNumber(1));
-    ensure(result == Err(fault), "another outcome")?;
-    ensure(source.calls() == 7, "not read to its end")
+    let mut sink = Sink::new(rt.alloc());
+    let result = solve(rt, request, &mut source, &mut sink);
+    result == Err(RunFault::Text(ReadFault::BadNumber(1))) && source.calls() == 7
 }
 
 /// The sizes of the shop stand in its third part of 30 bytes.
 #[test]
 fn a_failing_reader_comes_before_a_refused_growth(rt: HostRuntime) -> Result<(), Fail> {
     let request = request_for(&rt, &TWO_OF_THREE, Layout::Two)?;
+    let mut source = Source::new(SHOP).by(30).failing(BEHIND);
     let mut sink = Sink::new(rt.alloc());
     let heap = Refusing::new(rt.alloc(), 0);
-    let mut source = Source::new(SHOP).by(30).failing(BEHIND);
-    let mut reader = Counted::new(&mut source);
-    let mut writer = Counted::new(&mut sink);
-    let result = run_solve(&heap, &request, &mut reader, &mut writer);
-    ensure(heap.has_refused(), "no growth")?;
-    ensure(result == Err(RunFault::Device), "another outcome")?;
-    drop(reader);
-    drop(writer);
-    ensure(source.calls() == BEHIND.call, "another number of reads")?;
-    ensure(sink.calls() == 0, "something was written")
+    let ends = solves_on(&heap, &request, &mut source, &mut sink, Ending::Device);
+    ensure(ends && heap.has_refused(), "another outcome")?;
+    ensure(
+        source.calls() == BEHIND.call && sink.calls() == 0,
+        "another number of calls",
+    )
+}
+
+/// How a run ends that has no answer.
+#[derive(Clone, Copy, PartialEq, Eq)]
+enum Ending {
+    Device,
+    OutOfMemory,
+}
+
+/// The run on this heap ends so.
+fn solves_on(
+    heap: &Refusing<Global>,
+    request: &Request,
+    source: &mut Source<'_>,
+    sink: &mut Sink,
+    end: Ending,
+) -> bool {
+    let mut reader = Counted::new(source);
+    let mut writer = Counted::new(sink);
+    match run_solve(heap, request, &mut reader, &mut writer) {
+        Err(RunFault::Device) => end == Ending::Device,
+        Err(RunFault::OutOfMemory) => end == Ending::OutOfMemory,
+        _ => false,
+    }
 }
 
 #[test]
 fn no_room_for_the_numbers_is_told_before_the_text(rt: HostRuntime) -> Result<(), Fail> {
     let request = request_for(&rt, &SECOND_OF_TWO, Layout::Two)?;
+    let mut source = Source::new(TARDINESS);
     let mut sink = Sink::new(rt.alloc());
     let heap = Refusing::new(rt.alloc(), 0);
-    let mut source = Source::new(TARDINESS);
-    let mut reader = Counted::new(&mut source);
-    let mut writer = Counted::new(&mut sink);
-    let result = run_solve(&heap, &request, &mut reader, &mut writer);
-    ensure(result == Err(RunFault::OutOfMemory), "another outcome")?;
-    drop(reader);
-    drop(writer);
-    ensure(source.calls() == 0, "something was read")?;
-    ensure(sink.calls() == 0, "something was written")
+    let ends = solves_on(&heap, &request, &mut source, &mut sink, Ending::OutOfMemory);
+    ensure(ends, "another outcome")?;
+    ensure(
+        source.calls() == 0 && sink.calls() == 0,
+        "a device was called",
+    )
 }

@@ -1,4 +1,5 @@
 //! Texts of as many bytes as there may be, of one more, and without an end.
+use std::alloc::AllocError;
 use std::test::Fail;
 use tf_engine::fault::RunFault;
 use tf_engine::run_check::run_check;
@@ -69,12 +70,32 @@ fn an_instance_has_at_most_67_108_864_bytes(rt: HostRuntime) -> Result<(), Fail>
 
 /// An answer of so many blanks is refused in both runs that read one.
 fn is_no_answer(rt: &HostRuntime, bytes: usize, fault: AnswerFault) -> Result<(), Fail> {
-    let request = request_for(rt, &FOURS, Layout::Two)?;
-    let mut source = Source::repeating(&BLANKS, bytes);
     let mut sink = Sink::new(rt.alloc());
+    let mut source = Source::repeating(&BLANKS, bytes);
+    ensure(
+        check_fault(rt, &mut source, &mut sink)? == Some(fault),
+        "another outcome",
+    )?;
+    ensure(source.given() == asked_of(bytes), "another number of bytes")?;
+    let mut source = Source::repeating(&BLANKS, bytes);
+    ensure(
+        gantt_fault(rt, &mut source, &mut sink) == Some(fault),
+        "another outcome",
+    )?;
+    ensure(source.given() == asked_of(bytes), "another number of bytes")?;
+    ensure(sink.calls() == 0, "something was written")
+}
+
+/// The fault of the answer text that a check names.
+fn check_fault(
+    rt: &HostRuntime,
+    source: &mut Source<'_>,
+    sink: &mut Sink,
+) -> Result<Option<AnswerFault>, AllocError> {
+    let request = request_for(rt, &FOURS, Layout::Two)?;
     let mut instance = Counted::new(FOURS.instance);
-    let mut reader = Counted::new(&mut source);
-    let mut writer = Counted::new(&mut sink);
+    let mut reader = Counted::new(source);
+    let mut writer = Counted::new(sink);
     let result = run_check(
         rt.alloc(),
         &request,
@@ -82,17 +103,20 @@ fn is_no_answer(rt: &HostRuntime, bytes: usize, fault: AnswerFault) -> Result<()
         &mut reader,
         &mut writer,
     );
-    drop(reader);
-    ensure(result == Err(RunFault::Answer(fault)), "another outcome")?;
-    ensure(source.given() == asked_of(bytes), "another number of bytes")?;
-    let mut source = Source::repeating(&BLANKS, bytes);
-    let mut reader = Counted::new(&mut source);
-    let result = run_gantt(rt.alloc(), &mut reader, &mut writer, 72);
-    drop(reader);
-    drop(writer);
-    ensure(result == Err(RunFault::Answer(fault)), "another outcome")?;
-    ensure(source.given() == asked_of(bytes), "another number of bytes")?;
-    ensure(sink.calls() == 0, "something was written")
+    Ok(match result {
+        Err(RunFault::Answer(fault)) => Some(fault),
+        _ => None,
+    })
+}
+
+/// The fault of the answer text that a drawing names.
+fn gantt_fault(rt: &HostRuntime, source: &mut Source<'_>, sink: &mut Sink) -> Option<AnswerFault> {
+    let mut reader = Counted::new(source);
+    let mut writer = Counted::new(sink);
+    match run_gantt(rt.alloc(), &mut reader, &mut writer, 72) {
+        Err(RunFault::Answer(fault)) => Some(fault),
+        _ => None,
+    }
 }
 
 #[test]

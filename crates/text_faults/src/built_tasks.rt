@@ -1,14 +1,15 @@
 //! Tasks that a table gives without an instance on the way.
-use std::process::Abort;
 use std::test::Fail;
 use tf_model::ids::JobId;
 use tf_model::problem::{Env, Goal, Problem};
+use tf_model::task::Task;
 use tf_read::table_task::table_task;
 
 const ORDERED: &[u8] = b"table 1\njob 1 p=3 w=2 d=4\njob 2 p=2 d=6\nprec 1 2\n";
 
-fn job_id(rt: &impl Abort, number: u32) -> JobId {
-    JobId::new(number).expect(rt, "a job")
+/// The task has two jobs on one machine, and these arcs.
+fn is_built(task: &Task, arcs: &[(JobId, JobId)]) -> bool {
+    task.len() == 2 && task.machines() == 1 && task.arcs() == arcs
 }
 
 #[test]
@@ -19,12 +20,9 @@ fn a_task_has_its_jobs_and_the_arcs_that_count(rt: HostRuntime) -> Result<(), Fa
         ..plain
     };
     let task = table_task(rt.alloc(), &problem, None, ORDERED).ok_or("it is refused")?;
-    let (first, second) = (job_id(&rt, 1), job_id(&rt, 2));
-    assert_eq!(rt; task.len(), 2);
-    assert_eq!(rt; task.machines(), 1);
-    assert!(rt; task.arcs() == [(first, second)].as_slice());
+    assert!(rt; is_built(&task, &[(JobId::at(0), JobId::at(1))]));
     let task = table_task(rt.alloc(), &plain, None, ORDERED).ok_or("it is refused")?;
-    assert_eq!(rt; task.arcs().len(), 0);
+    assert!(rt; is_built(&task, &[]));
     Ok(())
 }
 

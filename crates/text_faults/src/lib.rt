@@ -14,6 +14,8 @@ mod job_tables;
 #[cfg(test)]
 mod notations;
 #[cfg(test)]
+mod refused;
+#[cfg(test)]
 mod spellings;
 #[cfg(test)]
 mod weighted_tardiness;

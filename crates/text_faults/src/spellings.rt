@@ -1,8 +1,9 @@
 //! The same line in many spellings: with one blank between its words, digits and a line feed, as
 //! lines mostly are, and otherwise.
+use crate::refused::is_refused;
 use std::test::Fail;
 use tf_model::cost::Cost;
-use tf_model::ids::JobId;
+use tf_model::ids::{JobId, MachineId};
 use tf_model::instance::Instance;
 use tf_model::job::Times;
 use tf_read::fault::ReadFault;
@@ -10,6 +11,7 @@ use tf_read::job_table::read_table;
 use tf_schedule::piece::Piece;
 use tf_text::answer::fault::AnswerFault;
 use tf_text::answer::reading::read_answer;
+use tf_text::answer::sheet::Sheet;
 
 /// Ends of tables whose job 1 has the times 5 and 0, weight 3, due date 7 and release date 2.
 const JOBS: &[&str] = &[
@@ -35,9 +37,27 @@ const JOBS: &[&str] = &[
     "job 1 p=5,0 w=3 d=0000000000000000007 r=2\n",
 ];
 
-fn fields(instance: &Instance) -> Option<(Times, Option<i64>, Option<i64>, Option<i64>)> {
-    let job = instance.jobs().first()?;
-    Some((job.times, job.weight, job.due, job.release))
+/// The times of a job, its weight, its due date and its release date.
+type Fields = (Times, Option<i64>, Option<i64>, Option<i64>);
+
+const WANTED: Fields = (Times::Two(5, 0), Some(3), Some(7), Some(2));
+
+/// A table whose first job has these fields was read.
+fn has_job(read: Result<Instance, ReadFault>, fields: Fields) -> bool {
+    read.is_ok_and(|table| {
+        table.jobs().first().is_some_and(|job| {
+            (job.times, job.weight, job.due, job.release) == fields
+        })
+    })
+}
+
+fn has_two_jobs(read: Result<Instance, ReadFault>) -> bool {
+    read.is_ok_and(|table| table.jobs().len() == 2)
+}
+
+/// A table whose one arc is from job 2 to job 1 was read.
+fn has_arc(read: Result<Instance, ReadFault>) -> bool {
+    read.is_ok_and(|table| table.arcs() == [(JobId::at(1), JobId::at(0))].as_slice())
 }
 
 /// Spellings of the cost 4 before 3, 5 from there on and 70 from 10 on.
@@ -84,26 +104,28 @@ const ARCS: &[&str] = &[
 
 #[test]
 fn a_line_of_a_table_is_the_same_in_each_spelling(rt: HostRuntime) -> Result<(), Fail> {
-    let wanted = Some((Times::Two(5, 0), Some(3), Some(7), Some(2)));
     for line in JOBS {
         let text = format!(in rt.alloc(); "table 1\n{line}")?;
-        let instance = read_table(rt.alloc(), text.as_bytes())?;
-        assert_eq!(rt; fields(&instance), wanted, "{line}");
+        assert!(rt;
+            has_job(read_table(rt.alloc(), text.as_bytes()), WANTED),
+            "{line}"
+        );
         let text = format!(in rt.alloc(); "table 1\n{line}\njob 2 p=1")?;
-        let instance = read_table(rt.alloc(), text.as_bytes())?;
-        assert_eq!(rt; instance.jobs().len(), 2, "{line}");
+        assert!(rt;
+            has_two_jobs(read_table(rt.alloc(), text.as_bytes())),
+            "{line}"
+        );
     }
     for cost in COSTS {
         let text = format!(in rt.alloc(); "table 1\njob 1 p=1 h={cost} w=6\n")?;
-        let instance = read_table(rt.alloc(), text.as_bytes())?;
-        assert!(rt; is_cost(&instance), "{cost}");
+        assert!(rt;
+            read_table(rt.alloc(), text.as_bytes()).is_ok_and(|table| is_cost(&table)),
+            "{cost}"
+        );
     }
-    let first = JobId::new(2).ok_or("a job")?;
-    let second = JobId::new(1).ok_or("a job")?;
     for line in ARCS {
         let text = format!(in rt.alloc(); "table 1\njob 1 p=1\njob 2 p=1\n{line}")?;
-        let instance = read_table(rt.alloc(), text.as_bytes())?;
-        assert_eq!(rt; instance.arcs(), [(first, second)].as_slice(), "{line}");
+        assert!(rt; has_arc(read_table(rt.alloc(), text.as_bytes())), "{line}");
     }
     Ok(())
 }
@@ -129,22 +151,26 @@ const PIECES: &[&str] = &[
     "piece 0000000000000000002 7 0 4",
 ];
 
+/// An answer of this one piece was read.
+fn has_piece(read: Result<Sheet, AnswerFault>, piece: &Piece) -> bool {
+    read.is_ok_and(|sheet| {
+        let pieces = sheet.answer.pieces.as_slice();
+        pieces.len() == 1 && pieces.first() == Some(piece)
+    })
+}
+
 #[test]
 fn a_piece_is_the_same_in_each_spelling(rt: HostRuntime) -> Result<(), Fail> {
+    let piece = Piece {
+        job: JobId::at(1),
+        machine: MachineId::at(6),
+        start: 0,
+        stop: 4,
+    };
     for line in PIECES {
         let text = format!(in rt.alloc(); "{BEFORE}\n{line}\n{BEHIND}")?;
-        let sheet = read_answer(rt.alloc(), text.as_bytes())?;
-        let pieces = sheet.answer.pieces.as_slice();
-        assert_eq!(rt; pieces.len(), 1, "{line}");
-        let Piece {
-            job,
-            machine,
-            start,
-            stop,
-        } = pieces[0];
-        assert_eq!(rt;
-            (job.get(), machine.get(), start, stop),
-            (2, 7, 0, 4),
+        assert!(rt;
+            has_piece(read_answer(rt.alloc(), text.as_bytes()), &piece),
             "{line}"
         );
     }
@@ -163,30 +189,39 @@ const WIDE: &[(&str, Option<i64>)] = &[
     ("100000000000000000000", None),
 ];
 
+/// The first job has this processing time, or it is too large.
+fn has_time(read: Result<Instance, ReadFault>, time: Option<i64>) -> bool {
+    match time {
+        None => is_refused(read, ReadFault::NumberTooLarge(2)),
+        Some(time) => has_job(read, (Times::One(time), None, None, None)),
+    }
+}
+
+/// The first piece stops at this time, or it is too large.
+fn stops_at(read: Result<Sheet, AnswerFault>, stop: Option<i64>) -> bool {
+    match (read, stop) {
+        (Err(fault), None) => fault == AnswerFault::NumberTooLarge(6),
+        (Ok(sheet), Some(stop)) => {
+            let first = sheet.answer.pieces.as_slice().first();
+            first.is_some_and(|piece| piece.stop == stop)
+        }
+        _ => false,
+    }
+}
+
 #[test]
 fn wide_numbers_are_read_up_to_the_limit(rt: HostRuntime) -> Result<(), Fail> {
     for (number, value) in WIDE {
         let text = format!(in rt.alloc(); "table 1\njob 1 p={number}\n")?;
-        let read = read_table(rt.alloc(), text.as_bytes());
-        let times = read.map(|instance| fields(&instance).map(|job| job.0));
-        let wanted = match value {
-            None => Err(ReadFault::NumberTooLarge(2)),
-            Some(value) => Ok(Some(Times::One(*value))),
-        };
-        assert_eq!(rt; times, wanted, "{number}");
+        assert!(rt;
+            has_time(read_table(rt.alloc(), text.as_bytes()), *value),
+            "{number}"
+        );
         let text = format!(in rt.alloc(); "{BEFORE}\npiece 1 1 0 {number}\n{BEHIND}")?;
-        let read = read_answer(rt.alloc(), text.as_bytes());
-        let stop = read.map(|sheet| sheet
-            .answer
-            .pieces
-            .as_slice()
-            .first()
-            .map(|piece| piece.stop));
-        let wanted = match value {
-            None => Err(AnswerFault::NumberTooLarge(6)),
-            Some(value) => Ok(Some(*value)),
-        };
-        assert_eq!(rt; stop, wanted, "{number}");
+        assert!(rt;
+            stops_at(read_answer(rt.alloc(), text.as_bytes()), *value),
+            "{number}"
+        );
     }
     Ok(())
 }
@@ -206,27 +241,33 @@ const SIGNED: &[(&str, Option<i64>)] = &[
     ("-18446744073709551617", None),
 ];
 
+/// The first job is due then, or its due date is too large.
+fn is_due(read: Result<Instance, ReadFault>, due: Option<i64>) -> bool {
+    match due {
+        None => is_refused(read, ReadFault::NumberTooLarge(2)),
+        Some(due) => has_job(read, (Times::One(1), Some(3), Some(due), Some(2))),
+    }
+}
+
 #[test]
 fn due_dates_are_read_down_to_the_limit(rt: HostRuntime) -> Result<(), Fail> {
     for (number, value) in SIGNED {
-        let wanted = match value {
-            None => Err(ReadFault::NumberTooLarge(2)),
-            Some(value) => Ok(Some((Times::One(1), Some(3), Some(*value), Some(2)))),
-        };
         for line in [
             format!(in rt.alloc(); "job 1 p=1 w=3 d={number} r=2\n")?,
             format!(in rt.alloc(); "job 1 d={number} w=3 r=2 p=1\r\n")?,
             format!(in rt.alloc(); "job 1  p=1 w=3 d={number}\tr=2")?,
         ] {
             let text = format!(in rt.alloc(); "table 1\n{line}")?;
-            let read = read_table(rt.alloc(), text.as_bytes());
-            assert_eq!(rt; read.map(|instance| fields(&instance)), wanted, "{line}");
+            assert!(rt;
+                is_due(read_table(rt.alloc(), text.as_bytes()), *value),
+                "{line}"
+            );
         }
     }
     for number in ["-", "--5", "-5-", "-x", "5-"] {
         let text = format!(in rt.alloc(); "table 1\njob 1 p=1 d={number}\n")?;
         let read = read_table(rt.alloc(), text.as_bytes());
-        assert_eq!(rt; read.err(), Some(ReadFault::BadNumber(2)), "{number}");
+        assert!(rt; is_refused(read, ReadFault::BadNumber(2)), "{number}");
     }
     Ok(())
 }

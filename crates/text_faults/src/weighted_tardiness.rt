@@ -1,4 +1,5 @@
 //! Weighted tardiness files.
+use crate::refused::is_refused;
 use std::test::Fail;
 use tf_model::instance::Instance;
 use tf_model::job::Times;
@@ -72,9 +73,8 @@ const FAULTS: &[(&str, u32, u32, ReadFault)] = &[
 fn a_file_has_its_first_fault(rt: HostRuntime) {
     for (text, jobs, index, fault) in FAULTS {
         let read = read_wt(rt.alloc(), text.as_bytes(), *jobs, *index);
-        assert_eq!(rt;
-            read.err(),
-            Some(*fault),
+        assert!(rt;
+            is_refused(read, *fault),
             "{jobs} jobs, index {index} of {text}"
         );
     }
@@ -122,19 +122,21 @@ fn is_read(read: Result<Instance, ReadFault>, jobs: u32, wanted: FirstJob) -> bo
     })
 }
 
+/// The instance has these jobs, each with its processing time, weight and due date.
+fn has_jobs(instance: &Instance, jobs: [(i64, i64, i64); 3]) -> bool {
+    instance.jobs().len() == 3
+        && instance.jobs().iter().zip(jobs).all(|(job, (time, weight, due))| {
+            job.times == Times::One(time) && job.weight == Some(weight) && job.due == Some(due)
+        })
+}
+
 #[test]
 fn a_file_is_read(rt: HostRuntime) -> Result<(), Fail> {
     for (text, jobs, index, wanted) in READ {
         let read = read_wt(rt.alloc(), text.as_bytes(), *jobs, *index);
         assert!(rt; is_read(read, *jobs, *wanted), "index {index} of {text}");
     }
-    // each job has its numbers
     let instance = read_wt(rt.alloc(), TWO_INSTANCES.as_bytes(), 3, 1)?;
-    let jobs = [(2, 1, 5), (3, 2, -2), (1, 4, 9)];
-    assert_eq!(rt; instance.jobs().len(), jobs.len());
-    for (job, (time, weight, due)) in instance.jobs().iter().zip(jobs) {
-        assert_eq!(rt; job.times, Times::One(time));
-        assert_eq!(rt; (job.weight, job.due), (Some(weight), Some(due)));
-    }
+    assert!(rt; has_jobs(&instance, [(2, 1, 5), (3, 2, -2), (1, 4, 9)]));
     Ok(())
 }
