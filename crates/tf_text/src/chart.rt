@@ -51,18 +51,10 @@ pub fn write_gantt<A: Allocator, W: Write>(
     let length = length_of(schedule);
     writer.push_all(length_line(schedule).as_slice())?;
     for k in 0..machines {
-        let line = machine_line(schedule, length, columns, machine_at(k));
+        let line = machine_line(schedule, length, columns, MachineId::at(k as usize));
         writer.push_all(line.as_slice())?;
     }
     Ok(())
-}
-
-// The machine at a place, counted from 0.
-fn machine_at(place: u32) -> MachineId
-    requires { place < most_machines }
-    ensures { result ≡ place + 1 }
-{
-    MachineId::new(place + 1).unwrap()
 }
 
 fn push(line: &mut Line, bytes: &[u8])

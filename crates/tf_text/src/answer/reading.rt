@@ -1,137 +1,32 @@
-//! Answer texts, read.
+//! Answer texts, read line by line.
 ghost use Rattle.tf_model.specs.Limit.{most_machines};
-ghost use Rattle.std.specs.Prelude.{◌≡◌, ◌^◌, ◌-◌, ◌<◌, ◌≤◌, ◌∷◌, ◌++◌, [], true, false, length, drop, codes, option_map, position, OnOk, IfOk, MatchOption, MatchResult};
-ghost use Rattle.std.specs.List.{list_all};
-ghost use Rattle.tf_words.specs.Words.{words, lines, kept_lines, first_is};
+ghost use Rattle.std.specs.Prelude.{◌≡◌, ◌<◌, ◌≤◌, ◌∷◌, [], codes, option_map, IfOk, MatchOption, MatchResult};
+ghost use Rattle.tf_words.specs.Words.{words, lines};
 ghost use Rattle.tf_check.specs.Certificate.{claim_of};
 ghost use Rattle.tf_words.specs.Lines.{line_of, lines_of};
-ghost use Rattle.tf_words.specs.Ranged.{is_number};
-ghost use Rattle.tf_text.specs.JobWords.{run_jobs};
 ghost use Rattle.tf_text.specs.NextPiece.{HasNoPiece, BeginsWithPiece, BeginsWithFault};
-ghost use Rattle.tf_text.specs.declared.answer.layout.Layout.TheVariants.{Two};
-ghost use Rattle.tf_text.specs.AnswerReading.{Gives, numerals, range_ends, is_item, run_in, name_many, jobs_listed, version_in, heading_at, count_in, time_in, value_in, most_job, most_machine, jobs_from, jobs_in, is_exactly, next, exactly, problem_in, problem_at, only, word_behind, count_at, value_at, four, piece_in, pieces_at, bare, side_of, split_of, split_in, claim_in, kind_in, certificate_in, certificate_at, finished, answer_at, sheet_of, answer_in};
+ghost use Rattle.tf_text.specs.AnswerReading.{Gives, version_in, heading_at, is_exactly, next, exactly, problem_in, problem_at, word_behind, count_at, value_at, four, piece_in, pieces_at, certificate_at, finished, answer_at, sheet_of, answer_in};
 
+use crate::answer::claim::certificate_in;
 use crate::answer::fault::AnswerFault;
+use crate::answer::field::{MOST_JOB, count_in, job_in, machine_in, only, time_in, value_in};
 use crate::answer::layout::Layout;
-use crate::answer::run::Run;
 use crate::answer::sheet::Sheet;
 use crate::answer::usual::usual_piece;
-use std::alloc::{AllocError, Allocator};
+use std::alloc::Allocator;
 use tf_check::answer::Answer;
 use tf_check::certificate::Certificate;
-use tf_check::last_of::LastOf;
-use tf_check::load::Load;
-use tf_check::machine_load::MachineLoad;
-use tf_check::one_job::OneJob;
-use tf_check::pairs::Pairs;
-use tf_check::ranks::Ranks;
-use tf_check::split::Split;
-use tf_check::window::Window;
-use tf_model::ids::{JobId, MachineId};
-use tf_model::job_list::JobList;
-use tf_model::limit::{LIMIT, MOST_BYTES, MOST_JOBS, MOST_MACHINES};
+use tf_model::limit::{MOST_BYTES, MOST_MACHINES};
 use tf_model::problem::Problem;
 use tf_notation::reading::read;
 use tf_schedule::piece::Piece;
 use tf_schedule::piece_list::PieceList;
-use tf_words::digits::is_numeral;
 use tf_words::line::{Line, Lines, after_word, without_return};
 use tf_words::part::divided;
-use tf_words::ranged::{Ranged, is_number, number_in};
+use tf_words::ranged::is_number;
 use tf_words::word::{behind_key, first_word, is};
 
-const MOST_JOB: u32 = MOST_JOBS as u32;
-
-fn count_in(line: u32, most: u32, word: &[u8]) -> Result<u32, AnswerFault>
-    ensures read { Gives (λ n. n) result (count_in line most word.now) }
-    ensures within { IfOk result (λ n. (0 < n) × (n ≤ most)) }
-{
-    match number_in(word, 1, i64::from(most)) {
-        Ranged::NotANumber | Ranged::Below => Err(AnswerFault::BadLine(line)),
-        Ranged::Above => Err(AnswerFault::NumberTooLarge(line)),
-        Ranged::Within(count) => Ok(count as u32),
-    }
-}
-
-fn job_in(line: u32, word: &[u8]) -> Result<JobId, AnswerFault>
-    ensures { Gives (λ j. j) result (count_in line most_job word.now) }
-{
-    let number = count_in(line, MOST_JOB, word)?;
-    Ok(JobId::new(number).unwrap())
-}
-
-fn machine_in(line: u32, word: &[u8]) -> Result<MachineId, AnswerFault>
-    ensures { Gives (λ i. i) result (count_in line most_machine word.now) }
-{
-    let number = count_in(line, MOST_MACHINES, word)?;
-    Ok(MachineId::new(number).unwrap())
-}
-
-fn time_in(line: u32, word: &[u8]) -> Result<i64, AnswerFault>
-    ensures { Gives (λ z. z) result (time_in line word.now) }
-{
-    match number_in(word, -LIMIT, LIMIT) {
-        Ranged::NotANumber => Err(AnswerFault::BadLine(line)),
-        Ranged::Below | Ranged::Above => Err(AnswerFault::NumberTooLarge(line)),
-        Ranged::Within(time) => Ok(time),
-    }
-}
-
-fn value_in(line: u32, word: &[u8]) -> Result<i64, AnswerFault>
-    ensures { Gives (λ z. z) result (value_in line word.now) }
-{
-    match number_in(word, i64::MIN, i64::MAX) {
-        Ranged::NotANumber => Err(AnswerFault::BadLine(line)),
-        Ranged::Below | Ranged::Above => Err(AnswerFault::NumberTooLarge(line)),
-        Ranged::Within(value) => Ok(value),
-    }
-}
-
-fn numerals<'a>(first: &'a [u8], last: &'a [u8]) -> Option<(&'a [u8], &'a [u8])>
-    ensures { option_map (λ ends. (ends.0.now, ends.1.now)) result ≡ numerals first.now last.now }
-{
-    if !is_numeral(first) {
-        return None;
-    }
-    if !is_numeral(last) {
-        return None;
-    }
-    Some((first, last))
-}
-
-// The two numbers of a range.
-#[tactic(auto, unfolding(crate::specs::AnswerReading::range_ends))]
-fn range_ends(word: &[u8]) -> Option<(&[u8], &[u8])>
-    ensures { option_map (λ ends. (ends.0.now, ends.1.now)) result ≡ range_ends word.now }
-{
-    match divided(word, b'-') {
-        None => None,
-        Some((first, last)) => numerals(first, last),
-    }
-}
-
-fn is_item(layout: Layout, word: &[u8]) -> bool
-    ensures { result ≡ is_item layout word.now }
-{
-    match layout {
-        Layout::One => is_number(word),
-        Layout::Two => is_number(word) || range_ends(word).is_some(),
-    }
-}
-
-fn are_items(layout: Layout, text: &[u8]) -> bool
-    ensures { result ≡ list_all (is_item layout) (words text.now) }
-{
-    let mut rest = text;
-    while let Some((word, after)) = first_word(rest) {
-        if !is_item(layout, word) {
-            return false;
-        }
-        rest = after;
-    }
-    true
-}
-
+/// The four words of a line `piece`.
 #[derive(Clone, Copy)]
 struct PieceWords<'a> {
     job: &'a [u8],
@@ -140,6 +35,7 @@ struct PieceWords<'a> {
     stop: &'a [u8],
 }
 
+/// Returns the words of a text that has exactly four.
 fn four(text: &[u8]) -> Option<PieceWords<'_>>
     ensures { option_map (λ w. (w.job.now, w.machine.now, w.start.now, w.stop.now)) result
         ≡ four (words text.now) }
@@ -159,6 +55,7 @@ fn four(text: &[u8]) -> Option<PieceWords<'_>>
     })
 }
 
+/// Reads a piece: first the form of its words, then the numbers from left to right.
 #[tactic(auto, unfolding(crate::specs::AnswerReading::piece_in))]
 fn piece_in(line: u32, text: &[u8]) -> Result<Piece, AnswerFault>
     ensures { Gives (λ p. p) result (piece_in line (words text.now)) }
@@ -185,18 +82,7 @@ fn piece_in(line: u32, text: &[u8]) -> Result<Piece, AnswerFault>
     })
 }
 
-fn only(line: u32, text: &[u8]) -> Result<&[u8], AnswerFault>
-    ensures { Gives (λ w. w.now) result (only line (words text.now)) }
-{
-    match first_word(text) {
-        None => Err(AnswerFault::BadLine(line)),
-        Some((word, after)) => match first_word(after) {
-            None => Ok(word),
-            Some(_) => Err(AnswerFault::BadLine(line)),
-        },
-    }
-}
-
+/// Returns the one word after the line's key.
 #[tactic(auto, unfolding(crate::specs::AnswerReading::word_behind))]
 fn word_behind<'a>(line: &Line<'a>, key: &[u8]) -> Result<&'a [u8], AnswerFault>
     ensures { Gives (λ w. w.now) result (word_behind key.now (line_of line.now)) }
@@ -207,6 +93,7 @@ fn word_behind<'a>(line: &Line<'a>, key: &[u8]) -> Result<&'a [u8], AnswerFault>
     }
 }
 
+/// Reads the line `problem`.
 #[tactic(auto, unfolding(crate::specs::AnswerReading::problem_in))]
 fn problem_in(line: &Line<'_>) -> Result<Problem, AnswerFault>
     ensures { Gives (λ p. p) result (problem_in (line_of line.now)) }
@@ -220,6 +107,7 @@ fn problem_in(line: &Line<'_>) -> Result<Problem, AnswerFault>
     }
 }
 
+/// Returns the version that the heading names.
 fn version_in(text: &[u8]) -> Option<Layout>
     ensures { result ≡ version_in (words text.now) }
 {
@@ -236,6 +124,7 @@ fn version_in(text: &[u8]) -> Option<Layout>
     }
 }
 
+/// Whether the line is `end`.
 fn is_end(text: &[u8]) -> bool
     ensures { result ≡ is_exactly (codes "end" ∷ []) (words text.now) }
 {
@@ -245,12 +134,14 @@ fn is_end(text: &[u8]) -> bool
     }
 }
 
+/// Returns the first line that is kept, and the lines after it.
 fn next_line<'a>(lines: &Lines<'a>) -> Result<(Line<'a>, Lines<'a>), AnswerFault>
     ensures { Gives (λ x. (line_of x.0, lines_of x.1)) result (next (lines_of lines.now)) }
 {
     lines.split_first().ok_or(AnswerFault::EndsEarly)
 }
 
+/// Reads the heading, and returns the lines after it.
 #[tactic(auto, unfolding(crate::specs::AnswerReading::heading_at))]
 fn heading_at<'a>(lines: &Lines<'a>) -> Result<(Layout, Lines<'a>), AnswerFault>
     ensures { Gives (λ x. (x.0, lines_of x.1)) result (heading_at (lines_of lines.now)) }
@@ -262,6 +153,7 @@ fn heading_at<'a>(lines: &Lines<'a>) -> Result<(Layout, Lines<'a>), AnswerFault>
     }
 }
 
+/// Reads the line `end`, and returns the lines after it.
 #[tactic(auto, unfolding(crate::specs::AnswerReading::exactly))]
 fn end_at<'a>(lines: &Lines<'a>) -> Result<Lines<'a>, AnswerFault>
     ensures { Gives lines_of result (exactly (codes "end" ∷ []) (lines_of lines.now)) }
@@ -273,6 +165,7 @@ fn end_at<'a>(lines: &Lines<'a>) -> Result<Lines<'a>, AnswerFault>
     Ok(more)
 }
 
+/// Reads the line `problem`, and returns the lines after it.
 #[tactic(auto, unfolding(crate::specs::AnswerReading::problem_at))]
 fn problem_at<'a>(lines: &Lines<'a>) -> Result<(Problem, Lines<'a>), AnswerFault>
     ensures { Gives (λ x. (x.0, lines_of x.1)) result (problem_at (lines_of lines.now)) }
@@ -282,6 +175,7 @@ fn problem_at<'a>(lines: &Lines<'a>) -> Result<(Problem, Lines<'a>), AnswerFault
     Ok((problem, more))
 }
 
+/// Reads a line with a key and a count, and returns the lines after it.
 #[tactic(auto, unfolding(crate::specs::AnswerReading::count_at))]
 fn count_at<'a>(lines: &Lines<'a>, key: &[u8], most: u32) -> Result<(u32, Lines<'a>), AnswerFault>
     ensures read { Gives (λ x. (x.0, lines_of x.1)) result
@@ -294,6 +188,7 @@ fn count_at<'a>(lines: &Lines<'a>, key: &[u8], most: u32) -> Result<(u32, Lines<
     Ok((count, more))
 }
 
+/// Reads the line `value`, and returns the lines after it.
 #[tactic(auto, unfolding(crate::specs::AnswerReading::value_at))]
 fn value_at<'a>(lines: &Lines<'a>) -> Result<(i64, Lines<'a>), AnswerFault>
     ensures { Gives (λ x. (x.0, lines_of x.1)) result (value_at (lines_of lines.now)) }
@@ -304,117 +199,8 @@ fn value_at<'a>(lines: &Lines<'a>) -> Result<(i64, Lines<'a>), AnswerFault>
     Ok((value, more))
 }
 
-#[tactic(auto, unfolding(crate::specs::AnswerReading::run_in))]
-fn run_in(line: u32, word: &[u8]) -> Result<Run, AnswerFault>
-    ensures read { Gives (λ run. run) result (run_in line word.now) }
-    ensures within { IfOk result (λ run. (0 < run.first) × (run.first ≤ run.last)
-        × (run.last ≤ MOST_JOB)) }
-{
-    match range_ends(word) {
-        None => {
-            let job = count_in(line, MOST_JOB, word)?;
-            Ok(Run {
-                first: job,
-                last: job,
-            })
-        }
-        Some((first, last)) => {
-            let first = count_in(line, MOST_JOB, first)?;
-            let last = count_in(line, MOST_JOB, last)?;
-            if first >= last {
-                return Err(AnswerFault::BadLine(line));
-            }
-            Ok(Run { first, last })
-        }
-    }
-}
-
-// Whether the words name more jobs than an instance may have.
-fn are_too_many(line: u32, text: &[u8]) -> Result<bool, AnswerFault>
-    ensures { Gives (λ b. b) result (name_many line (words text.now)) }
-{
-    let mut count: usize = 0;
-    let mut rest = text;
-    while let Some((word, after)) = first_word(rest) {
-        let run = run_in(line, word)?;
-        let jobs = (run.last - run.first) as usize + 1;
-        count = (count + jobs).min(MOST_JOBS + 1);
-        rest = after;
-    }
-    Ok(count > MOST_JOBS)
-}
-
-fn push_run<A: Allocator>(jobs: &mut Vec<JobId, A>, run: Run) -> Result<(), AllocError>
-    requires { (0 < run.first) × (run.first ≤ run.last) × (run.last ≤ MOST_JOB) }
-    ensures { OnOk result (jobs.new.items ≡ jobs.old.items ++ run_jobs run) }
-{
-    for number in run.first..run.last + 1 {
-        jobs.push(JobId::new(number).unwrap())?;
-    }
-    Ok(())
-}
-
-fn jobs_from<A: Allocator + Copy>(
-    alloc: A,
-    line: u32,
-    text: &[u8],
-) -> Result<JobList<A>, AnswerFault>
-    ensures { Gives (λ jobs. jobs) result (jobs_from line (words text.now)) }
-{
-    let mut jobs = Vec::new(alloc);
-    let mut rest = text;
-    while let Some((word, after)) = first_word(rest) {
-        let run = run_in(line, word)?;
-        push_run(&mut jobs, run)?;
-        rest = after;
-    }
-    Ok(JobList::new(jobs))
-}
-
-// A list of version 2 is counted before memory is asked for.
-fn few_from<A: Allocator + Copy>(
-    alloc: A,
-    line: u32,
-    text: &[u8],
-) -> Result<JobList<A>, AnswerFault>
-    ensures { Gives (λ jobs. jobs) result (jobs_listed Two line (words text.now)) }
-{
-    if are_too_many(line, text)? {
-        return Err(AnswerFault::BadLine(line));
-    }
-    jobs_from(alloc, line, text)
-}
-
-fn jobs_listed<A: Allocator + Copy>(
-    alloc: A,
-    layout: Layout,
-    line: u32,
-    text: &[u8],
-) -> Result<JobList<A>, AnswerFault>
-    ensures { Gives (λ jobs. jobs) result (jobs_listed layout line (words text.now)) }
-{
-    match layout {
-        Layout::One => jobs_from(alloc, line, text),
-        Layout::Two => few_from(alloc, line, text),
-    }
-}
-
-#[tactic(auto, unfolding(crate::specs::AnswerReading::jobs_in))]
-fn jobs_in<A: Allocator + Copy>(
-    alloc: A,
-    layout: Layout,
-    line: u32,
-    text: &[u8],
-) -> Result<JobList<A>, AnswerFault>
-    ensures { Gives (λ jobs. jobs) result (jobs_in layout line (words text.now)) }
-{
-    if !are_items(layout, text) {
-        return Err(AnswerFault::BadLine(line));
-    }
-    jobs_listed(alloc, layout, line, text)
-}
-
-// The piece whose line comes first, and the lines behind it.
+/// Returns the piece whose line comes first, and the lines after it; `None` where the first line is
+/// no line `piece`.
 fn next_piece<'a>(lines: &Lines<'a>) -> Result<Option<(Piece, Lines<'a>)>, AnswerFault>
     ensures { MatchResult result
         (λ next. MatchOption next (HasNoPiece (lines_of lines.now))
@@ -434,6 +220,7 @@ fn next_piece<'a>(lines: &Lines<'a>) -> Result<Option<(Piece, Lines<'a>)>, Answe
     Ok(Some((piece, after)))
 }
 
+/// Reads all lines `piece` that come first, and returns the lines after them.
 fn pieces_at<'a, A: Allocator + Copy>(
     alloc: A,
     lines: &Lines<'a>,
@@ -454,124 +241,7 @@ fn pieces_at<'a, A: Allocator + Copy>(
     }
 }
 
-fn bare<A: Allocator>(
-    line: u32,
-    certificate: Certificate<A>,
-    text: &[u8],
-) -> Result<Certificate<A>, AnswerFault>
-    ensures { Gives claim_of result (bare line (claim_of certificate) (words text.now)) }
-{
-    match first_word(text) {
-        None => Ok(certificate),
-        Some(_) => Err(AnswerFault::BadLine(line)),
-    }
-}
-
-fn side_of(word: &[u8]) -> Option<bool>
-    ensures { result ≡ side_of word.now }
-{
-    if is(word, b"first") {
-        Some(true)
-    } else if is(word, b"second") {
-        Some(false)
-    } else {
-        None
-    }
-}
-
-fn split_of<A: Allocator + Copy>(
-    alloc: A,
-    layout: Layout,
-    line: u32,
-    first: bool,
-    delta: &[u8],
-    text: &[u8],
-) -> Result<Certificate<A>, AnswerFault>
-    ensures { Gives claim_of result (split_of layout line first delta.now (words text.now)) }
-{
-    if !(is_number(delta) && are_items(layout, text)) {
-        return Err(AnswerFault::BadLine(line));
-    }
-    let delta = time_in(line, delta)?;
-    let side = jobs_listed(alloc, layout, line, text)?;
-    Ok(Certificate::Split(Split { side, delta, first }))
-}
-
-#[tactic(auto, unfolding(crate::specs::AnswerReading::split_in))]
-fn split_in<A: Allocator + Copy>(
-    alloc: A,
-    layout: Layout,
-    line: u32,
-    text: &[u8],
-) -> Result<Certificate<A>, AnswerFault>
-    ensures { Gives claim_of result (split_in layout line (words text.now)) }
-{
-    match first_word(text) {
-        None => Err(AnswerFault::BadLine(line)),
-        Some((side, after)) => match first_word(after) {
-            None => Err(AnswerFault::BadLine(line)),
-            Some((delta, jobs)) => match side_of(side) {
-                None => Err(AnswerFault::BadLine(line)),
-                Some(first) => split_of(alloc, layout, line, first, delta, jobs),
-            },
-        },
-    }
-}
-
-#[tactic(auto, unfolding(crate::specs::AnswerReading::claim_in))]
-fn claim_in<A: Allocator + Copy>(
-    alloc: A,
-    layout: Layout,
-    line: u32,
-    kind: &[u8],
-    text: &[u8],
-) -> Result<Certificate<A>, AnswerFault>
-    ensures { Gives claim_of result (claim_in layout line kind.now (words text.now)) }
-{
-    if is(kind, b"pairs") {
-        bare(line, Certificate::Pairs(Pairs), text)
-    } else if is(kind, b"last") {
-        let jobs = jobs_in(alloc, layout, line, text)?;
-        Ok(Certificate::LastOf(LastOf { jobs }))
-    } else if is(kind, b"window") {
-        let jobs = jobs_in(alloc, layout, line, text)?;
-        Ok(Certificate::Window(Window { jobs }))
-    } else if is(kind, b"split") {
-        split_in(alloc, layout, line, text)
-    } else if is(kind, b"load") {
-        bare(line, Certificate::Load(Load), text)
-    } else if is(kind, b"machine") {
-        let machine = machine_in(line, only(line, text)?)?;
-        Ok(Certificate::Machine(MachineLoad { machine }))
-    } else if is(kind, b"job") {
-        let job = job_in(line, only(line, text)?)?;
-        Ok(Certificate::OneJob(OneJob { job }))
-    } else if is(kind, b"ranks") {
-        let jobs = jobs_in(alloc, Layout::One, line, text)?;
-        Ok(Certificate::Ranks(Ranks { jobs }))
-    } else {
-        Err(AnswerFault::BadLine(line))
-    }
-}
-
-#[tactic(auto, unfolding(crate::specs::AnswerReading::certificate_in))]
-fn certificate_in<A: Allocator + Copy>(
-    alloc: A,
-    layout: Layout,
-    line: &Line<'_>,
-) -> Result<Certificate<A>, AnswerFault>
-    ensures { Gives claim_of result
-        (certificate_in layout line.now.number (words line.now.bytes.now)) }
-{
-    match behind_key(line.bytes, b"cert") {
-        None => Err(AnswerFault::BadLine(line.number)),
-        Some(words) => match first_word(words) {
-            None => Err(AnswerFault::BadLine(line.number)),
-            Some((kind, text)) => claim_in(alloc, layout, line.number, kind, text),
-        },
-    }
-}
-
+/// Reads the line `cert`, and returns the lines after it.
 #[tactic(auto, unfolding(crate::specs::AnswerReading::certificate_at))]
 fn certificate_at<'a, A: Allocator + Copy>(
     alloc: A,
@@ -586,6 +256,7 @@ fn certificate_at<'a, A: Allocator + Copy>(
     Ok((certificate, more))
 }
 
+/// Refuses a line after the end.
 fn finished(lines: &Lines<'_>) -> Result<(), AnswerFault>
     ensures { Gives (λ u. tt) result (finished (lines_of lines.now)) }
 {
@@ -595,6 +266,7 @@ fn finished(lines: &Lines<'_>) -> Result<(), AnswerFault>
     }
 }
 
+/// Reads the answer: value, pieces, certificate and end.
 #[tactic(auto, unfolding(crate::specs::AnswerReading::answer_at))]
 fn answer_at<A: Allocator + Copy>(
     alloc: A,
@@ -615,6 +287,7 @@ fn answer_at<A: Allocator + Copy>(
     })
 }
 
+/// Reads all lines of an answer text.
 #[tactic(auto, unfolding(crate::specs::AnswerReading::sheet_of))]
 fn sheet_of<A: Allocator + Copy>(alloc: A, lines: &Lines<'_>) -> Result<Sheet<A>, AnswerFault>
     ensures read { Gives (λ s. s) result (sheet_of (lines_of lines.now)) }

@@ -31,7 +31,7 @@ returns-in_err-push_all-2-clause-prefix g c =
     (subst (AppendsPrefix (g.W.Write.contents (inner_of c.loop-k.writer))
     (g.W.Write.contents (inner_of c.push_all-in-loop-k.new.self)))
     (line_is c.args.schedule.now c.args.columns _ c.loop-k.k _ _ c.as_slice-in-loop-k.ensures.value
-    c.machine_line-line.ensures c.machine_at.ensures)
+    c.machine_line-line.ensures c.at.ensures)
     c.in_err-push_all-2.ensures.prefix))
 
 pub loop-k-preserved : goal.loop-k-preserved
@@ -41,7 +41,7 @@ loop-k-preserved g c = record {
       (subst (Appends (g.W.Write.contents (inner_of c.loop-k.writer))
       (g.W.Write.contents (inner_of c.push_all-in-loop-k.new.self)))
       (line_is c.args.schedule.now c.args.columns _ c.loop-k.k _ _
-      c.as_slice-in-loop-k.ensures.value c.machine_line-line.ensures c.machine_at.ensures)
+      c.as_slice-in-loop-k.ensures.value c.machine_line-line.ensures c.at.ensures)
       c.in_ok-push_all-2.ensures.written);
   unfailed = c.in_ok-push_all-2.ensures.unfailed;
 }

@@ -1,6 +1,6 @@
 use Rattle.std.proofs.Common.{◌≡◌, arith, rules}
 use Rattle.tf_text.proofs.Reading.{job_pushed}
-use Rattle.tf_text.proofs.answer.reading.push_run.Goals as goal
+use Rattle.tf_text.proofs.answer.job_words.push_run.Goals as goal
 
 pub loop-number-preserved : goal.loop-number-preserved
 loop-number-preserved g c =

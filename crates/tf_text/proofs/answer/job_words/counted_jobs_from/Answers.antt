@@ -3,7 +3,7 @@ use Rattle.std.proofs.lemmas.Result.{err_from_is_err_and}
 use Rattle.tf_words.specs.Words.{words}
 use Rattle.tf_text.specs.AnswerReading.{name_many}
 use Rattle.tf_text.proofs.Reading.{listed_many, listed_few, listed_fails}
-use Rattle.tf_text.proofs.answer.reading.few_from.Goals as goal
+use Rattle.tf_text.proofs.answer.job_words.counted_jobs_from.Goals as goal
 
 pub returns-in_err-are_too_many : goal.returns-in_err-are_too_many
 returns-in_err-are_too_many g c =

@@ -3,7 +3,7 @@ use Rattle.std.proofs.lemmas.Result.{err_from_is_err_and}
 use Rattle.tf_words.specs.Words.{words}
 use Rattle.tf_text.specs.AnswerReading.{jobs_from}
 use Rattle.tf_text.proofs.Reading.{with_jobs, job_read, job_fails, jobs_end}
-use Rattle.tf_text.proofs.answer.reading.jobs_from.Goals as goal
+use Rattle.tf_text.proofs.answer.job_words.jobs_from.Goals as goal
 
 pub returns-in_err-run : goal.returns-in_err-run
 returns-in_err-run g c =

@@ -1,6 +1,6 @@
 use Rattle.tf_words.specs.Words.{words}
 use Rattle.tf_text.proofs.Reading.{listed_one}
-use Rattle.tf_text.proofs.answer.reading.jobs_listed.Goals as goal
+use Rattle.tf_text.proofs.answer.job_words.jobs_listed.Goals as goal
 
 pub returns-in-One : goal.returns-in-One
 returns-in-One g c =

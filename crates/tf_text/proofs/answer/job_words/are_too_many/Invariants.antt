@@ -2,7 +2,7 @@ use Rattle.std.proofs.Common.{◌≡◌, ◌≤◌, length}
 use Rattle.tf_words.specs.Words.{words}
 use Rattle.tf_text.specs.AnswerReading.{jobs_from, name_many}
 use Rattle.tf_text.proofs.Reading.{with_count}
-use Rattle.tf_text.proofs.answer.reading.are_too_many.Given as goal
+use Rattle.tf_text.proofs.answer.job_words.are_too_many.Given as goal
 
 -- the jobs so far are counted, up to one more than is allowed
 abbrev pub invariant-loop-word : goal.invariant-loop-word

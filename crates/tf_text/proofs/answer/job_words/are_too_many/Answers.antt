@@ -1,7 +1,7 @@
 use Rattle.std.proofs.Common.{sym, ◌∙◌, arith}
 use Rattle.std.proofs.lemmas.Result.{err_from_is_err_and}
 use Rattle.tf_text.proofs.Reading.{count_step, count_fails, count_end}
-use Rattle.tf_text.proofs.answer.reading.are_too_many.Goals as goal
+use Rattle.tf_text.proofs.answer.job_words.are_too_many.Goals as goal
 
 pub returns-in_err-run : goal.returns-in_err-run
 returns-in_err-run c =

@@ -2,7 +2,7 @@ use Rattle.std.proofs.Common.{◌≡◌, length}
 use Rattle.std.specs.List.{list_all}
 use Rattle.tf_words.specs.Words.{words}
 use Rattle.tf_text.specs.AnswerReading.{is_item}
-use Rattle.tf_text.proofs.answer.reading.are_items.Given as goal
+use Rattle.tf_text.proofs.answer.job_words.are_items.Given as goal
 
 -- the words so far are items
 abbrev pub invariant-loop-word : goal.invariant-loop-word

@@ -1,6 +1,6 @@
 use Rattle.std.proofs.Common.{◌≡◌, ◌++◌, ◌-◌}
 use Rattle.std.specs.List.{range_with_len}
-use Rattle.tf_text.proofs.answer.reading.push_run.Given as goal
+use Rattle.tf_text.proofs.answer.job_words.push_run.Given as goal
 
 -- the jobs so far are added
 abbrev pub invariant-loop-number : goal.invariant-loop-number
