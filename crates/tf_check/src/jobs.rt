@@ -27,7 +27,7 @@ pub(crate) fn judge_list<A: Allocator, B: Allocator>(
         return Err(BoundFault::OutOfMemory);
     };
     for job in jobs {
-        let place = job.get() as usize - 1;
+        let place = job.place();
         if place >= seen.len() {
             return Err(BoundFault::BadJob(*job));
         }

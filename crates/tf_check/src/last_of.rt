@@ -74,8 +74,8 @@ fn followed_by<A: Allocator, B: Allocator>(
         return Err(BoundFault::OutOfMemory);
     };
     for (before, after) in task.arcs() {
-        if set[after.get() as usize - 1] {
-            followed[before.get() as usize - 1] = true;
+        if set[after.place()] {
+            followed[before.place()] = true;
         }
     }
     Ok(followed)
@@ -96,7 +96,7 @@ fn cheapest_free<B: Allocator>(
 {
     let mut least: Option<i128> = None;
     for job in jobs {
-        if !followed[job.get() as usize - 1] {
+        if !followed[job.place()] {
             least = Some(lesser(least, price(task, *job, end as i64)));
         }
     }

@@ -70,7 +70,7 @@ impl<A: Allocator> Split<A> {
         let row = task.job(job);
         let is_early = row.first <= row.second;
         let is_late = row.second <= row.first;
-        let of_side = marks[job.get() as usize - 1];
+        let of_side = marks[job.place()];
         if self.first {
             if of_side {
                 is_early
@@ -91,7 +91,7 @@ impl<A: Allocator> Split<A> {
         ensures { result ≡ reaches_delta task.now self.now.side self.now.delta self.now.first job }
     {
         let row = task.job(job);
-        let of_side = marks[job.get() as usize - 1];
+        let of_side = marks[job.place()];
         if self.first {
             !of_side && reaches(row.first, self.delta)
         } else {
@@ -137,7 +137,7 @@ impl<A: Allocator> Split<A> {
         ensures { result ≡ counted task.now self.now.side job }
     {
         let row = task.job(job);
-        if marks[job.get() as usize - 1] {
+        if marks[job.place()] {
             row.first
         } else {
             row.second

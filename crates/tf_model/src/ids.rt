@@ -1,5 +1,5 @@
 //! The numbers of jobs and machines, from 1.
-ghost use Rattle.std.specs.Prelude.{◌≡◌, ℕ, ◌+◌, ◌^◌, ◌<◌, ◌≤◌, ◌↔◌, IsSome, IfSome};
+ghost use Rattle.std.specs.Prelude.{◌≡◌, ℕ, ◌+◌, ◌-◌, ◌^◌, ◌<◌, ◌≤◌, ◌↔◌, IsSome, IfSome};
 
 use std::marker::Model;
 
@@ -48,6 +48,14 @@ impl JobId {
     {
         self.number
     }
+
+    /// Its place in a list of all jobs, counted from 0.
+    pub fn place(self) -> usize
+        ensures value { result ≡ self - 1 }
+        ensures from_one { 0 < self }
+    {
+        self.number as usize - 1
+    }
 }
 
 /// The number of a machine, from 1.
@@ -67,6 +75,12 @@ impl Model for MachineId {
 }
 
 impl MachineId {
+    /// Machine 1.
+    pub const FIRST: MachineId = MachineId { number: 1 };
+
+    /// Machine 2.
+    pub const SECOND: MachineId = MachineId { number: 2 };
+
     /// The machine of that number: `None` exactly for 0.
     pub fn new(number: u32) -> Option<Self>
         ensures valid { IsSome result ↔ (0 < number) }
@@ -94,5 +108,23 @@ impl MachineId {
         ensures from_one { 0 < self }
     {
         self.number
+    }
+
+    /// Its place in a list of all machines, counted from 0.
+    pub fn place(self) -> usize
+        ensures value { result ≡ self - 1 }
+        ensures from_one { 0 < self }
+    {
+        self.number as usize - 1
+    }
+
+    /// The machine after it.
+    pub fn next(self) -> Self
+        requires { self + 1 < 2 ^ 32 }
+        ensures { result ≡ self + 1 }
+    {
+        MachineId {
+            number: self.number + 1,
+        }
     }
 }

@@ -119,7 +119,7 @@ impl<A: Allocator> Instance<A> {
         requires { job ≤ length self.now.jobs }
         ensures { slice_get self.now.jobs (job - 1) ≡ Some result.now }
     {
-        &self.jobs[job.get() as usize - 1]
+        &self.jobs[job.place()]
     }
 
     /// All jobs, in the order of their numbers.

@@ -127,7 +127,7 @@ impl<A: Allocator> Task<A> {
         ensures value { result ≡ job_data self.now job }
         ensures small { result.first + result.second ≤ limit }
     {
-        self.jobs.row(job.get() as usize - 1)
+        self.jobs.row(job.place())
     }
 
     /// The times of a job that is there: one for each machine of a shop, else one.

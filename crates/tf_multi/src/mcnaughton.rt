@@ -84,7 +84,7 @@ fn fill<A: Allocator + Copy, B: Allocator>(
 {
     let mut pieces = Vec::with_capacity(alloc, task.len() + task.machines() as usize)?;
     let mut front = Front {
-        machine: MachineId::at(0),
+        machine: MachineId::FIRST,
         at: 0,
     };
     for k in 0..task.len() {
@@ -113,7 +113,7 @@ fn place<A: Allocator, B: Allocator>(
     let time = task.time(job);
     let room = value - front.at;
     if room == 0 {
-        let machine = machine_after(front.machine);
+        let machine = front.machine.next();
         pieces.push(Piece::of(job, machine, 0, time))?;
         return Ok(Front { machine, at: time });
     }
@@ -126,15 +126,8 @@ fn place<A: Allocator, B: Allocator>(
         });
     }
     pieces.push(Piece::of(job, front.machine, front.at, value))?;
-    let machine = machine_after(front.machine);
+    let machine = front.machine.next();
     let rest = time - room;
     pieces.push(Piece::of(job, machine, 0, rest))?;
     Ok(Front { machine, at: rest })
-}
-
-fn machine_after(machine: MachineId) -> MachineId
-    requires { machine ≤ MOST_MACHINES }
-    ensures { result ≡ machine + 1 }
-{
-    MachineId::new(machine.get() + 1).unwrap()
 }

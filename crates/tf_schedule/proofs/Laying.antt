@@ -262,17 +262,17 @@ module _ (line : Piece → ℕ) (ps : List Piece) (j i s : ℕ) where
 -- ---- lists of the stops of the lines
 
 pub stop_read : (line : Piece → ℕ) (ps : List Piece) (stops : List ℕ) (n k : ℕ)
-    → HasStopsBy line ps stops → k ≡ n → 0 < n → n ≤ length stops
-    → get_or stops (k - 1) 0 ≡ line_stop line ps n
+    → HasStopsBy line ps stops → k ≡ n - 1 → 0 < n → n ≤ length stops
+    → get_or stops k 0 ≡ line_stop line ps n
 stop_read line ps stops n k has same low high =
-    let back : k - 1 + 1 ≡ n = omega arith in
-    has (k - 1) (omega arith) ∙ ap (line_stop line ps) back
+    let back : k + 1 ≡ n = omega arith in
+    has k (omega arith) ∙ ap (line_stop line ps) back
 
 -- where a and b are read from the lists
 pub start_is : (ps : List Piece) (frees readies : List ℕ) (o : Operation) (i j a b s : ℕ)
     → HasStopsBy machine_of ps frees → HasStopsBy job_of ps readies
-    → IsOperation (length readies) (length frees) o → i ≡ o.machine → j ≡ o.job
-    → a ≡ get_or frees (i - 1) a → b ≡ get_or readies (j - 1) b → s ≡ max a b
+    → IsOperation (length readies) (length frees) o → i ≡ o.machine - 1 → j ≡ o.job - 1
+    → a ≡ get_or frees i a → b ≡ get_or readies j b → s ≡ max a b
     → s ≡ start_after ps o
 start_is ps frees readies o i j a b s machines jobs known is_machine is_job is_a is_b is =
     let machine = known.machine in
@@ -282,8 +282,8 @@ start_is ps frees readies o i j a b s machines jobs known is_machine is_job is_a
       is,
       is_a,
       is_b,
-      get_or_default frees (i - 1) a 0 (omega arith),
-      get_or_default readies (j - 1) b 0 (omega arith),
+      get_or_default frees i a 0 (omega arith),
+      get_or_default readies j b 0 (omega arith),
       stop_read machine_of ps frees o.machine i machines is_machine machine.0 machine.1,
       stop_read job_of ps readies o.job j jobs is_job job.0 job.1,
     )
@@ -295,20 +295,20 @@ taken_step false g s x more e eq le is = absurd (cc)
 
 -- with one more piece, which stops at s
 pub stops_more : (line : Piece → ℕ) (ps : List Piece) (stops : List ℕ) (p : Piece) (n k s : ℕ)
-    → HasStopsBy line ps stops → line p ≡ n → k ≡ n → 0 < n → n ≤ length stops
+    → HasStopsBy line ps stops → line p ≡ n → k ≡ n - 1 → 0 < n → n ≤ length stops
     → line_stop line ps n ≤ s → stop_of p ≡ s
-    → HasStopsBy line (ps ++ p ∷ []) (set stops (k - 1) s)
-stops_more line ps stops p n k s has on same low high le stop h inside = elim (cases_eq h (k - 1)) [
+    → HasStopsBy line (ps ++ p ∷ []) (set stops k s)
+stops_more line ps stops p n k s has on same low high le stop h inside = elim (cases_eq h k) [
   | inl here ↦
       let at : h + 1 ≡ n = omega arith in
       let own : line_stop line (ps ++ p ∷ []) n ≡ s =
       taken_step (eqb (line p) n) (line_stop line ps n) s (stop_of p) _
       (grind (arith, nat_tests)) (line_stop_push line ps p n) le stop in
-      get_or-set_at stops (k - 1) h s 0 here (omega arith) ∙ sym own
+      get_or-set_at stops k h s 0 here (omega arith) ∙ sym own
       ∙ ap (line_stop line (ps ++ p ∷ [])) (sym at)
   | inr away ↦
-      get_or-set_other stops (k - 1) h s 0 away
-      ∙ has h (omega (arith, length-set stops (k - 1) s))
+      get_or-set_other stops k h s 0 away
+      ∙ has h (omega (arith, length-set stops k s))
       ∙ sym (other_line_step (eqb (line p) (h + 1)) (line_stop line ps (h + 1)) (stop_of p) _
       (grind (arith, nat_tests)) (line_stop_push line ps p (h + 1)))
 ]

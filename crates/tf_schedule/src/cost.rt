@@ -122,7 +122,7 @@ pub fn price<A: Allocator>(task: &Task<A>, job: JobId, c: i64) -> i128
 {
     let class = task.class();
     if class.is_costed() {
-        return i128::from(task.step_costs()[job.get() as usize - 1].value_at(c));
+        return i128::from(task.step_costs()[job.place()].value_at(c));
     }
     if class.is_due() {
         return i128::from(c) - i128::from(task.job(job).due);

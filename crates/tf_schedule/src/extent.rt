@@ -65,7 +65,7 @@ impl Extent {
 pub(crate) fn extent_at(extents: &[Extent], job: JobId) -> Extent
     ensures { result ≡ extent_at extents.now job }
 {
-    let k = job.get() as usize - 1;
+    let k = job.place();
     if k < extents.len() {
         extents[k]
     } else {
@@ -79,7 +79,7 @@ pub(crate) fn add_piece(extents: &mut [Extent], piece: &Piece)
     ensures added { extents.new ≡ with_piece extents.old piece.now }
     ensures from_one { 0 < piece.now.job }
 {
-    let k = piece.job.get() as usize - 1;
+    let k = piece.job.place();
     if k < extents.len() {
         extents[k] = extents[k].extended(piece);
     }

@@ -84,8 +84,8 @@ impl<A: Allocator + Copy> SemiActive<A> {
         if operation.time == 0 {
             return Ok(());
         }
-        let machine = operation.machine.get() as usize - 1;
-        let job = operation.job.get() as usize - 1;
+        let machine = operation.machine.place();
+        let job = operation.job.place();
         let start = self.machines_free[machine].max(self.jobs_free[job]);
         let stop = start + operation.time;
         let piece = Piece::of(operation.job, operation.machine, start, stop);

@@ -47,7 +47,7 @@ fn run_from<A: Allocator>(
         return Ok(start);
     }
     let end = start + time;
-    pieces.push(Piece::of(job, MachineId::at(0), start, end))?;
+    pieces.push(Piece::of(job, MachineId::FIRST, start, end))?;
     Ok(end)
 }
 

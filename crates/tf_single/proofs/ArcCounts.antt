@@ -12,11 +12,11 @@ use Rattle.tf_single.specs.ArcCounts.{AreCounts}
 use Rattle.tf_single.specs.Progress.{of_job}
 
 -- what the list has for a job of the task, read at the job's place
-pub read : (k : SchedulingTask) (list : List ℕ) (j number x : ℕ) → length list ≡ length k.jobs
-    → IsJob k j → number ≡ j → x ≡ get_or list (number - 1) x → x ≡ of_job list j
-read k list j number x len job same at =
-    at ∙ get_or_default list (number - 1) x 0 (omega (arith, len, same, job.0, job.1))
-    ∙ ap (λ n. get_or list (n - 1) 0) same
+pub read : (k : SchedulingTask) (list : List ℕ) (j place x : ℕ) → length list ≡ length k.jobs
+    → IsJob k j → place ≡ j - 1 → x ≡ get_or list place x → x ≡ of_job list j
+read k list j place x len job same at =
+    at ∙ get_or_default list place x 0 (omega (arith, len, same, job.0, job.1))
+    ∙ ap (λ n. get_or list n 0) same
 
 -- an arc more is one more for its job on that side
 counted_more : (k : SchedulingTask) (side : ℕ × ℕ → ℕ) (arcs : List (ℕ × ℕ)) (i : ℕ)
@@ -59,20 +59,20 @@ counted_more k side arcs i arc counts len job lt at so_far n is j its =
 
 -- the counts of one arc more, at the place where its job is counted; so many fit in a count
 pub record IsCounted (k : SchedulingTask) (side : ℕ × ℕ → ℕ) (arcs : List (ℕ × ℕ)) (i : ℕ)
-    (counts : List ℕ) (number x : ℕ) : Type 0 where
+    (counts : List ℕ) (place x : ℕ) : Type 0 where
   pub few : x < most_arcs
-  pub next : AreCounts k side (take (i + 1) arcs) (set counts (number - 1) (x + 1))
+  pub next : AreCounts k side (take (i + 1) arcs) (set counts place (x + 1))
 
 -- the next arc is counted on both sides
 module _ (k : SchedulingTask) (sound : IsSound k) (arcs : List (ℕ × ℕ)) (same : arcs ≡ k.arcs)
     (i : ℕ) (arc : ℕ × ℕ) (lt : i < length arcs) (at : arc ≡ get_or arcs i arc) where
   -- where its job on this side is counted
   next_counted : (side : ℕ × ℕ → ℕ) → IsJob k (side arc) → (counts : List ℕ)
-      → AreCounts k side (take i arcs) counts → (number x : ℕ) → number ≡ side arc
-      → x ≡ get_or counts (number - 1) x → IsCounted k side arcs i counts number x
-  next_counted side job counts are number x named read_at =
+      → AreCounts k side (take i arcs) counts → (place x : ℕ) → place ≡ side arc - 1
+      → x ≡ get_or counts place x → IsCounted k side arcs i counts place x
+  next_counted side job counts are place x named read_at =
       let now : x ≡ of_job counts (side arc) =
-      read k counts (side arc) number x are.len job named read_at in
+      read k counts (side arc) place x are.len job named read_at in
       record {
         few = omega (
           arith,
@@ -85,21 +85,21 @@ module _ (k : SchedulingTask) (sound : IsSound k) (arcs : List (ℕ × ℕ)) (sa
           sound.few_arcs,
         );
         next = record {
-          len = length-set counts (number - 1) (x + 1) ∙ are.len;
-          each = λ j its. ap (λ m. of_job (set counts (m - 1) (x + 1)) j) named
+          len = length-set counts place (x + 1) ∙ are.len;
+          each = λ j its. ap (λ m. of_job (set counts m (x + 1)) j) named
               ∙ counted_more k side arcs i arc counts are.len job lt at are.each (x + 1)
               (ap (λ y. y + 1) now) j its;
         };
       }
 
   pub next_from : (counts : List ℕ) → AreCounts k (λ a. a.0) (take i arcs) counts
-      → (number x : ℕ) → number ≡ arc.0 → x ≡ get_or counts (number - 1) x
-      → IsCounted k (λ a. a.0) arcs i counts number x
+      → (place x : ℕ) → place ≡ arc.0 - 1 → x ≡ get_or counts place x
+      → IsCounted k (λ a. a.0) arcs i counts place x
   next_from = next_counted (λ a. a.0) (arc_in_task k sound arcs same i arc lt at).0
 
   pub next_to : (counts : List ℕ) → AreCounts k (λ a. a.1) (take i arcs) counts
-      → (number x : ℕ) → number ≡ arc.1 → x ≡ get_or counts (number - 1) x
-      → IsCounted k (λ a. a.1) arcs i counts number x
+      → (place x : ℕ) → place ≡ arc.1 - 1 → x ≡ get_or counts place x
+      → IsCounted k (λ a. a.1) arcs i counts place x
   next_to = next_counted (λ a. a.1) (arc_in_task k sound arcs same i arc lt at).1
 
 -- before the first arc

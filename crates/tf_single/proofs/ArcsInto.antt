@@ -253,22 +253,22 @@ module _ (k : SchedulingTask) (n : ℕ) (ends froms : List ℕ) (arc : ℕ × �
   }
 
 -- the place is one of the list of all arcs; with the arc there one more is placed
-pub record IsNext (k : SchedulingTask) (n : ℕ) (ends froms : List ℕ) (from number place : ℕ)
+pub record IsNext (k : SchedulingTask) (n : ℕ) (ends froms : List ℕ) (from at place : ℕ)
     : Type 0 where
   pub room : place < length froms
-  pub next : ArePlaced k (n + 1) (set ends (number - 1) (place + 1)) (set froms place from)
+  pub next : ArePlaced k (n + 1) (set ends at (place + 1)) (set froms place from)
 
 -- so it is where the list of the arc's job ends so far
 pub next_place : (k : SchedulingTask) → IsSound k → (n : ℕ) (ends froms : List ℕ)
     → ArePlaced k n ends froms → (arcs : List (ℕ × ℕ)) → arcs ≡ k.arcs → (arc : ℕ × ℕ)
-    → n < length arcs → arc ≡ get_or arcs n arc → (number place : ℕ) → number ≡ arc.1
-    → place ≡ get_or ends (number - 1) place → IsNext k n ends froms arc.0 number place
-next_place k sound n ends froms placed arcs same arc lt is number place named at =
+    → n < length arcs → arc ≡ get_or arcs n arc → (at place : ℕ) → at ≡ arc.1 - 1
+    → place ≡ get_or ends at place → IsNext k n ends froms arc.0 at place
+next_place k sound n ends froms placed arcs same arc lt is at place named found =
     let its = arc_in_task k sound arcs same n arc lt is in
     let within : n < length k.arcs = omega (arith, lt, ap length same) in
     let own : arc ≡ get_or k.arcs n arc = is ∙ ap (λ xs. get_or xs n arc) same in
     let here : place ≡ of_job ends arc.1 =
-    read k ends arc.1 number place placed.jobs its.1 named at in
+    read k ends arc.1 at place placed.jobs its.1 named found in
     record {
       room = omega (arith, here, room k n ends froms arc placed within own its.0 its.1);
       next = rw (named, here) (placed_more k n ends froms arc placed within own its.0 its.1);

@@ -23,8 +23,8 @@ impl<A: Allocator + Copy> ArcCounts<A> {
         let mut successors = vec![in alloc; 0_u32; task.len()]?;
         let mut predecessors = vec![in alloc; 0_u32; task.len()]?;
         for (before, after) in task.arcs() {
-            successors[before.get() as usize - 1] += 1;
-            predecessors[after.get() as usize - 1] += 1;
+            successors[before.place()] += 1;
+            predecessors[after.place()] += 1;
         }
         Ok(ArcCounts {
             successors,

@@ -37,7 +37,7 @@ impl<A: Allocator + Copy> ArcsInto<A> {
         let mut ends = begins(task, predecessors);
         let mut froms = vec![in alloc; JobId::at(0); task.arcs().len()]?;
         for (from, to) in task.arcs() {
-            let job = to.get() as usize - 1;
+            let job = to.place();
             let place = ends[job];
             froms[place as usize] = *from;
             ends[job] = place + 1;
@@ -52,7 +52,7 @@ impl<A: Allocator + Copy> ArcsInto<A> {
         requires within { of_job self.now.ends.items job ≤ length self.now.froms.items }
         ensures { result.now ≡ list_of self.now.ends.items self.now.froms.items job }
     {
-        let place = job.get() as usize - 1;
+        let place = job.place();
         let begin = if place == 0 { 0 } else { self.ends[place - 1] };
         &self.froms[begin as usize..self.ends[place] as usize]
     }

@@ -174,7 +174,7 @@ impl<F: FreeJobs + Drop, A: Allocator + Copy> Open<F, A> {
         ensures kept { IfOk result (λ _. F.IsKept self.new.free task.now self.new.work) }
     {
         for before in arcs.predecessors(job) {
-            let place = before.get() as usize - 1;
+            let place = before.place();
             let left = self.counts[place] - 1;
             self.counts[place] = left;
             if left == 0 {

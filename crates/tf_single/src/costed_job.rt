@@ -50,7 +50,7 @@ impl CostedJob {
         ensures level { HasLevel task.now end self.new }
     {
         if self.level.since > end as i64 {
-            let cost = &costs[self.job.get() as usize - 1];
+            let cost = &costs[self.job.place()];
             self.level = cost.level_at(end as i64);
         }
         self.level.value

@@ -59,8 +59,8 @@ fn successors<A: Allocator, B: Allocator>(
 {
     let mut next: Vec<Option<JobId>, A> = vec![in alloc; None; task.len()]?;
     for (before, after) in task.arcs() {
-        if counts[after.get() as usize - 1] > 0 {
-            let place = before.get() as usize - 1;
+        if counts[after.place()] > 0 {
+            let place = before.place();
             next[place] = Some(smaller(next[place], *after));
         }
     }
@@ -93,7 +93,7 @@ fn walk<A: Allocator + Copy, B: Allocator>(
     let mut path = Vec::with_capacity(alloc, task.len())?;
     let mut job = first;
     'walk: loop {
-        let place = job.get() as usize - 1;
+        let place = job.place();
         if let Some(start) = places[place] {
             return Ok(JobList::new(path.as_slice()[start..].to_vec(alloc)?));
         }

@@ -76,7 +76,7 @@ fn last_window<A: Allocator, B: Allocator>(
     ensures value { IfOk result (λ found. window_bound task.now found.0.jobs ≡ Ok found.1) }
 {
     let latest = latest(task, ends);
-    let end = ends[latest.get() as usize - 1];
+    let end = ends[latest.place()];
     let start = stretch_start(task, pieces, task.due(latest), end);
     let jobs = jobs_within(alloc, task, ends, start, end)?;
     let window = Window {
@@ -97,7 +97,7 @@ fn completions<A: Allocator, B: Allocator>(
 {
     let mut ends = vec![in alloc; 0_u64; task.len()]?;
     for piece in pieces {
-        let place = piece.job.get() as usize - 1;
+        let place = piece.job.place();
         ends[place] = stop_of(piece).max(ends[place]);
     }
     Ok(ends)
@@ -142,7 +142,7 @@ fn lateness<B: Allocator>(task: &Task<B>, ends: &[u64], job: JobId) -> i64
     requires limit { of_job ends.now job ≤ limit }
     ensures { result ≡ lateness task.now ends.now job }
 {
-    ends[job.get() as usize - 1] as i64 - task.due(job)
+    ends[job.place()] as i64 - task.due(job)
 }
 
 // The least time from which on, up to `end`, only jobs due no later run, without idle time. A piece

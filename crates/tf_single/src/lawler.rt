@@ -131,7 +131,7 @@ fn taken_marks<A: Allocator, B: Allocator>(
 {
     let mut marks = vec![in alloc; false; task.len()]?;
     for job in taken {
-        marks[job.get() as usize - 1] = true;
+        marks[job.place()] = true;
     }
     Ok(marks)
 }

@@ -135,7 +135,7 @@ impl<A: Allocator> Machine<A> {
                 return Ok(());
             };
             let job = first.job.0;
-            let place = job.get() as usize - 1;
+            let place = job.place();
             let left = self.rest[place];
             let stop = until.min(self.now + left);
             run_on(&mut self.pieces, job, self.now, stop)?;
@@ -167,7 +167,7 @@ fn run_on<A: Allocator>(
     }
     pieces.push(Piece {
         job,
-        machine: MachineId::at(0),
+        machine: MachineId::FIRST,
         start: start as i64,
         stop: stop as i64,
     })?;

@@ -144,13 +144,6 @@ impl<'a> Lines<'a> {
         }
     }
 
-    /// The number of the first line that is left.
-    pub fn number_left(&self) -> u32
-        ensures { result ≡ number_left self.now }
-    {
-        self.number
-    }
-
     /// The first line that is kept, and the lines after it.
     pub fn split_first(&self) -> Option<(Line<'a>, Lines<'a>)>
         ensures lines { MatchOption result (lines_of self.now ≡ [])

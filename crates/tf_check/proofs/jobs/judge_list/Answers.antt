@@ -15,24 +15,24 @@ loop-job-preserved g c =
     let i = c.loop-job.job-index in
     let seen = c.loop-job.seen.items in
     let known : IsJob task c.job-item.result = (
-      omega (arith, c.get.ensures.value, c.get.ensures.from_one),
+      omega (arith, c.place-place.ensures.value, c.place-place.ensures.from_one),
       omega (
         arith,
-        c.get.ensures.value,
-        c.get.ensures.from_one,
+        c.place-place.ensures.value,
+        c.place-place.ensures.from_one,
         c.if-place-len.false,
         c.len-in-loop-job.ensures,
         c.loop-job.invariant.marks.len,
       ),
     ) in
-    let unmarked : get_or seen (c.get.result - 1) false ≡ false =
-    sym (subst (λ v. v ≡ get_or seen (c.get.result - 1) v) c.if-index.false c.index.ensures) in
+    let unmarked : get_or seen c.place-place.result false ≡ false =
+    sym (subst (λ v. v ≡ get_or seen c.place-place.result v) c.if-index.false c.index.ensures) in
     record {
       judged = judged_more task jobs i c.job-item.result c.loop-job-test.true c.job-item.is
           c.loop-job.invariant.judged known seen c.loop-job.invariant.marks
-          (ap (λ n. get_or seen (n - 1) false) (sym c.get.ensures.value) ∙ unmarked);
-      marks = subst (λ n. AreMarks task (set seen (n - 1) true) (take (i + 1) jobs))
-          (sym c.get.ensures.value)
+          (ap (λ n. get_or seen n false) (sym c.place-place.ensures.value) ∙ unmarked);
+      marks = subst (λ n. AreMarks task (set seen n true) (take (i + 1) jobs))
+          (sym c.place-place.ensures.value)
           (marks_more task jobs i c.job-item.result c.loop-job-test.true c.job-item.is known seen
           c.loop-job.invariant.marks);
     }

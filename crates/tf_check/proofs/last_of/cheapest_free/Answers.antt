@@ -10,7 +10,7 @@ use Rattle.tf_check.specs.Bound.{is_free}
 use Rattle.tf_check.specs.Free.{least_with}
 use Rattle.tf_check.proofs.Followed.{cheapest_more, cheapest_skips}
 use Rattle.tf_check.proofs.last_of.cheapest_free.Goals as goal
-use Rattle.tf_check.proofs.last_of.cheapest_free.Goals.{then-not-followed-get, else-not-followed-get}
+use Rattle.tf_check.proofs.last_of.cheapest_free.Goals.{then-not-followed-place, else-not-followed-place}
 
 pub loop-job-preserved : goal.loop-job-preserved
 loop-job-preserved g c =
@@ -22,13 +22,13 @@ loop-job-preserved g c =
     let lt : i < length xs = c.loop-job-test.true in
     let at : get_or xs i x ≡ x = sym c.job-item.is in
     let job : IsJob k x = subst (IsJob k) at (c.requires.known i x lt) in
-    let mark : get_or c.args.followed.now (c.get.result - 1) false ≡ not (is_free k xs x) =
-    ap (λ n. get_or c.args.followed.now (n - 1) false) c.get.ensures.value
+    let mark : get_or c.args.followed.now c.place.result false ≡ not (is_free k xs x) =
+    ap (λ n. get_or c.args.followed.now n false) c.place.ensures.value
     ∙ c.requires.followed.marked x job in
-    elim c.if-not-followed-get.branch [
-      | then-not-followed-get w ↦
+    elim c.if-not-followed-place.branch [
+      | then-not-followed-place w ↦
           let free : is_free k xs x ≡ true =
-          not-false (is_free k xs x) (sym mark ∙ w.if-not-followed-get.true) in
+          not-false (is_free k xs x) (sym mark ∙ w.if-not-followed-place.true) in
           let end : as_time (to_z w64 c.args.end) ≡ c.args.end =
           ap as_time (to_z_pos w64 c.args.end (omega (arith, c.requires.end))) in
           let fits : SFits w128 w.lesser.result = search rules in
@@ -39,9 +39,9 @@ loop-job-preserved g c =
           (to_z-of_z w128 w.price.result small ∙ w.price.ensures ∙ ap (price k x) end)
           ∙ ap (λ o. least_with o (f x)) c.loop-job.invariant)
           ∙ sym (cheapest_more f (is_free k xs) xs i x lt at free)
-      | else-not-followed-get w ↦
+      | else-not-followed-place w ↦
           let held : is_free k xs x ≡ false =
-          not-true (is_free k xs x) (sym mark ∙ w.if-not-followed-get.false) in
+          not-true (is_free k xs x) (sym mark ∙ w.if-not-followed-place.false) in
           w.least-is ∙ c.loop-job.invariant
           ∙ sym (cheapest_skips f (is_free k xs) xs i x lt at held)
     ]

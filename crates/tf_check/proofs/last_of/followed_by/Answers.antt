@@ -3,7 +3,7 @@ use Rattle.tf_model.specs.SchedulingTask.{SchedulingTask}
 use Rattle.tf_model.specs.Bounds.{stands_in}
 use Rattle.tf_check.proofs.Followed.{IsFollowedBy, arc_in_task, followed_none, followed_same, followed_more, followed_all}
 use Rattle.tf_check.proofs.last_of.followed_by.Goals as goal
-use Rattle.tf_check.proofs.last_of.followed_by.Goals.{then-set-get, else-set-get}
+use Rattle.tf_check.proofs.last_of.followed_by.Goals.{then-set-place, else-set-place}
 
 pub loop-before-init : goal.loop-before-init
 loop-before-init g c =
@@ -25,7 +25,7 @@ index_mut-requires g c =
       arith,
       its.0.0,
       its.0.1,
-      c.get-then-set-get.ensures.value,
+      c.place-then-set-place.ensures.value,
       c.loop-before.invariant.len,
       c.loop-before.followed.ok.0,
     )
@@ -40,18 +40,18 @@ loop-before-preserved g c =
     let marks = c.loop-before.followed.items in
     let its = arc_in_task k c.len.ensures.sound arcs c.arcs-before-items.ensures.value i arc
     c.loop-before-test.true c.loop-before-item.is in
-    let mark : get_or c.args.set.now (c.get.result - 1) false ≡ stands_in jobs arc.1 =
-    ap (λ n. get_or c.args.set.now (n - 1) false) c.get.ensures.value
+    let mark : get_or c.args.set.now c.place.result false ≡ stands_in jobs arc.1 =
+    ap (λ n. get_or c.args.set.now n false) c.place.ensures.value
     ∙ c.requires.marked arc.1 its.1 in
-    elim c.if-set-get.branch [
-      | then-set-get w ↦
+    elim c.if-set-place.branch [
+      | then-set-place w ↦
           let more = followed_more k jobs arcs i marks c.loop-before-test.true arc
-          (sym c.loop-before-item.is) c.loop-before.invariant (sym mark ∙ w.if-set-get.true)
+          (sym c.loop-before-item.is) c.loop-before.invariant (sym mark ∙ w.if-set-place.true)
           its.0 in
-          rw (w.followed-is, w.get-then-set-get.ensures.value) more
-      | else-set-get w ↦
+          rw (w.followed-is, w.place-then-set-place.ensures.value) more
+      | else-set-place w ↦
           let same = followed_same k jobs arcs i marks c.loop-before-test.true arc
-          (sym c.loop-before-item.is) c.loop-before.invariant (sym mark ∙ w.if-set-get.false) in
+          (sym c.loop-before-item.is) c.loop-before.invariant (sym mark ∙ w.if-set-place.false) in
           rw w.followed-is same
     ]
 

@@ -21,6 +21,6 @@ place-requires-clause-machine g c =
 
 pub place-requires-clause-filled : goal.place-requires-clause-filled
 place-requires-clause-filled g c =
-    let before : c.loop-k.k ≡ c.at-in-loop-k.result - 1 = omega arith in
+    let before : c.loop-k.k ≡ c.at.result - 1 = omega arith in
     subst (λ n. IsFilled c.args.value (time_of c.args.task.now) n c.loop-k.pieces.items
     c.loop-k.front.machine c.loop-k.front.at) before c.loop-k.invariant

@@ -6,7 +6,7 @@ use Rattle.tf_multi.proofs.mcnaughton.place.Goals as goal
 -- the machine is full
 pub returns-then-room-eq0 : goal.returns-then-room-eq0
 returns-then-room-eq0 g c =
-    rw (c.in_ok-push.ensures.items, c.of.ensures, c.machine_after-machine.ensures)
+    rw (c.in_ok-push.ensures.items, c.of.ensures, c.next-machine.ensures)
     (filled_next c.args.value _ c.args.job c.time-time.result c.requires.job.0
     (sym c.time-time.ensures.value) (omega (arith, c.time-time.ensures.value))
     (omega (arith, c.time-time.ensures.value)) (omega (arith, ints)) _ _ _ c.requires.filled
@@ -29,7 +29,7 @@ returns g c =
       c.in_ok-push-3.ensures.items,
       c.of-2.ensures,
       c.of-3.ensures,
-      c.machine_after-machine-2.ensures,
+      c.next-machine-2.ensures,
     )
     (filled_wraps c.args.value _ c.args.job c.time-time.result c.requires.job.0
     (sym c.time-time.ensures.value) (omega (arith, c.time-time.ensures.value))

@@ -18,25 +18,25 @@ returns-then-is_costed g c =
     ∙ c.if-is_costed.true in
     let fits : SFits w128 c.from.result = search rules in
     let small : SFits w64 c.value_at.result = search rules in
-    let inside : c.get.result - 1 < length c.step_costs.result.now =
+    let inside : c.place.result < length c.step_costs.result.now =
     omega (
       arith,
-      c.get.ensures.value,
+      c.place.ensures.value,
       c.requires.job,
       ap length c.step_costs.ensures.value,
       c.class-class.ensures.sound.costed costed,
     ) in
-    let steps : c.index-step_costs-get.result ≡ costs_of c.args.task.now c.args.job =
-    c.index-step_costs-get.is
-    ∙ get_or_default c.step_costs.result.now (c.get.result - 1) c.index-step_costs-get.result
+    let steps : c.index-step_costs-place.result ≡ costs_of c.args.task.now c.args.job =
+    c.index-step_costs-place.is
+    ∙ get_or_default c.step_costs.result.now c.place.result c.index-step_costs-place.result
     no_steps inside
-    ∙ ap (λ (xs : List Steps). get_or xs (c.get.result - 1) no_steps) c.step_costs.ensures.value
-    ∙ ap (λ n. get_or c.args.task.now.costs (n - 1) no_steps) c.get.ensures.value in
+    ∙ ap (λ (xs : List Steps). get_or xs c.place.result no_steps) c.step_costs.ensures.value
+    ∙ ap (λ n. get_or c.args.task.now.costs n no_steps) c.place.ensures.value in
     to_z-of_z w128 c.from.result fits
     ∙ c.from.ensures
     ∙ to_z-of_z w64 c.value_at.result small
     ∙ c.value_at.ensures.value
-    ∙ ap (λ (z : ℤ). step_value c.index-step_costs-get.result (as_time z))
+    ∙ ap (λ (z : ℤ). step_value c.index-step_costs-place.result (as_time z))
     (to_z-of_z w64 c.args.c c.ranges.c)
     ∙ ap (λ (s : Steps). step_value s (as_time c.args.c)) steps
     ∙ costed_price c.args.task.now c.args.job (as_time c.args.c) costed

@@ -5,14 +5,14 @@ use Rattle.tf_single.specs.Progress.{of_job}
 use Rattle.tf_check.proofs.Followed.{arc_in_task}
 use Rattle.tf_single.proofs.Found.{found_same, found_more, found_some, found_all}
 use Rattle.tf_single.proofs.cycle.successors.Goals as goal
-use Rattle.tf_single.proofs.cycle.successors.Goals.{then-counts-get-gt0, else-counts-get-gt0}
+use Rattle.tf_single.proofs.cycle.successors.Goals.{then-counts-place-gt0, else-counts-place-gt0}
 
-pub bounds-counts-get : goal.bounds-counts-get
-bounds-counts-get g c =
+pub bounds-counts-place : goal.bounds-counts-place
+bounds-counts-place g c =
     let its = arc_in_task c.args.task.now c.len.ensures.sound c.arcs-before-items.result.now
     c.arcs-before-items.ensures.value c.loop-before.before-index c.loop-before-item.result
     c.loop-before-test.true c.loop-before-item.is in
-    omega (arith, its.1.0, its.1.1, c.get.ensures.value, c.requires.len)
+    omega (arith, its.1.0, its.1.1, c.place.ensures.value, c.requires.len)
 
 pub index-requires : goal.index-requires
 index-requires g c =
@@ -23,7 +23,7 @@ index-requires g c =
       arith,
       its.0.0,
       its.0.1,
-      c.get-then-counts-get-gt0.ensures.value,
+      c.place-place.ensures.value,
       c.loop-before.invariant.len,
       c.loop-before.next.ok.0,
     )
@@ -37,7 +37,7 @@ index_mut-requires g c =
       arith,
       its.0.0,
       its.0.1,
-      c.get-then-counts-get-gt0.ensures.value,
+      c.place-place.ensures.value,
       c.loop-before.invariant.len,
       c.loop-before.next.ok.0,
     )
@@ -53,31 +53,31 @@ loop-before-preserved g c =
     let its = arc_in_task k c.len.ensures.sound arcs c.arcs-before-items.ensures.value i arc
     c.loop-before-test.true c.loop-before-item.is in
     let at : get_or arcs i arc ≡ arc = sym c.loop-before-item.is in
-    let left : get_or counts (c.get.result - 1) 0 ≡ of_job counts arc.1 =
-    ap (λ n. get_or counts (n - 1) 0) c.get.ensures.value in
-    elim c.if-counts-get-gt0.branch [
-      | then-counts-get-gt0 w ↦
+    let left : get_or counts c.place.result 0 ≡ of_job counts arc.1 =
+    ap (λ n. get_or counts n 0) c.place.ensures.value in
+    elim c.if-counts-place-gt0.branch [
+      | then-counts-place-gt0 w ↦
           let found : w.index.result.now ≡ get_or next (arc.0 - 1) None =
           w.index.ensures
-          ∙ get_or_default next (w.get-then-counts-get-gt0.result - 1) w.index.result.now None
+          ∙ get_or_default next w.place-place.result w.index.result.now None
           (omega (
             arith,
             c.loop-before.invariant.len,
-            w.get-then-counts-get-gt0.ensures.value,
+            w.place-place.ensures.value,
             its.0.0,
             its.0.1,
           ))
-          ∙ ap (λ n. get_or next (n - 1) None) w.get-then-counts-get-gt0.ensures.value in
+          ∙ ap (λ n. get_or next n None) w.place-place.ensures.value in
           let which : (w.smaller.result ≡ arc.1) ⊎
           (get_or next (arc.0 - 1) None ≡ Some w.smaller.result) =
           ⊎_elim (λ own. inl own) (λ before. inr (sym found ∙ before)) w.smaller.ensures in
           let more = found_more k counts arcs i next c.loop-before-test.true arc at
-          c.loop-before.invariant (omega (arith, left, w.if-counts-get-gt0.true)) its.0
+          c.loop-before.invariant (omega (arith, left, w.if-counts-place-gt0.true)) its.0
           w.smaller.result which in
-          rw (w.next-is, w.get-then-counts-get-gt0.ensures.value) more
-      | else-counts-get-gt0 w ↦
+          rw (w.next-is, w.place-place.ensures.value) more
+      | else-counts-place-gt0 w ↦
           let same = found_same k counts arcs i next c.loop-before-test.true arc at
-          c.loop-before.invariant (omega (arith, left, w.if-counts-get-gt0.false)) in
+          c.loop-before.invariant (omega (arith, left, w.if-counts-place-gt0.false)) in
           rw w.next-is same
     ]
 

@@ -7,19 +7,19 @@ use Rattle.tf_single.proofs.Walk.{AreMet, steps_push, steps_close, met_push}
 use Rattle.tf_single.proofs.cycle.walk.Goals as goal
 
 -- the place that is read for a job
-place_read : (places : List (Option ℕ)) (j n : ℕ) (found : Option ℕ) (start : ℕ) → n ≡ j
-    → n - 1 < length places → found ≡ get_or places (n - 1) found → found ≡ Some start
+place_read : (places : List (Option ℕ)) (j n : ℕ) (found : Option ℕ) (start : ℕ) → n ≡ j - 1
+    → n < length places → found ≡ get_or places n found → found ≡ Some start
     → get_or places (j - 1) None ≡ Some start
 place_read places j n found start same lt read is =
-    ap (λ m. get_or places (m - 1) None) (sym same)
-    ∙ sym (get_or_default places (n - 1) found None lt) ∙ sym read ∙ is
+    ap (λ m. get_or places m None) (sym same)
+    ∙ sym (get_or_default places n found None lt) ∙ sym read ∙ is
 
 pub offset_bounds-as_slice-start : goal.offset_bounds-as_slice-start
 offset_bounds-as_slice-start g c =
     let job = c.walk.invariant.job in
-    let at = place_read c.walk.places.items c.walk.job c.get.result c.index.result.now
-    c.in-Some.start c.get.ensures.value
-    (omega (arith, c.walk.invariant.len, c.get.ensures.value, job.0, job.1)) c.index.ensures
+    let at = place_read c.walk.places.items c.walk.job c.place-place.result c.index.result.now
+    c.in-Some.start c.place-place.ensures.value
+    (omega (arith, c.walk.invariant.len, c.place-place.ensures.value, job.0, job.1)) c.index.ensures
     c.in-Some.is in
     omega (
       arith,
@@ -31,9 +31,9 @@ offset_bounds-as_slice-start g c =
 pub slice_bounds-to_vec-count : goal.slice_bounds-to_vec-count
 slice_bounds-to_vec-count g c =
     let job = c.walk.invariant.job in
-    let at = place_read c.walk.places.items c.walk.job c.get.result c.index.result.now
-    c.in-Some.start c.get.ensures.value
-    (omega (arith, c.walk.invariant.len, c.get.ensures.value, job.0, job.1)) c.index.ensures
+    let at = place_read c.walk.places.items c.walk.job c.place-place.result c.index.result.now
+    c.in-Some.start c.place-place.ensures.value
+    (omega (arith, c.walk.invariant.len, c.place-place.ensures.value, job.0, job.1)) c.index.ensures
     c.in-Some.is in
     omega (
       arith,
@@ -44,9 +44,9 @@ slice_bounds-to_vec-count g c =
 pub slice_bounds-to_vec-start : goal.slice_bounds-to_vec-start
 slice_bounds-to_vec-start g c =
     let job = c.walk.invariant.job in
-    let at = place_read c.walk.places.items c.walk.job c.get.result c.index.result.now
-    c.in-Some.start c.get.ensures.value
-    (omega (arith, c.walk.invariant.len, c.get.ensures.value, job.0, job.1)) c.index.ensures
+    let at = place_read c.walk.places.items c.walk.job c.place-place.result c.index.result.now
+    c.in-Some.start c.place-place.ensures.value
+    (omega (arith, c.walk.invariant.len, c.place-place.ensures.value, job.0, job.1)) c.index.ensures
     c.in-Some.is in
     let within : c.in-Some.start ≤ length c.as_slice.result.now =
     omega (
@@ -60,9 +60,9 @@ pub returns-in-Some : goal.returns-in-Some
 returns-in-Some g c =
     let k : SchedulingTask = c.args.task.now in
     let job = c.walk.invariant.job in
-    let at = place_read c.walk.places.items c.walk.job c.get.result c.index.result.now
-    c.in-Some.start c.get.ensures.value
-    (omega (arith, c.walk.invariant.len, c.get.ensures.value, job.0, job.1)) c.index.ensures
+    let at = place_read c.walk.places.items c.walk.job c.place-place.result c.index.result.now
+    c.in-Some.start c.place-place.ensures.value
+    (omega (arith, c.walk.invariant.len, c.place-place.ensures.value, job.0, job.1)) c.index.ensures
     c.in-Some.is in
     let met = c.walk.invariant.met c.walk.job c.in-Some.start job at in
     let items : c.in_ok-to_vec.field-0.items ≡ drop c.in-Some.start c.walk.path.items =
@@ -85,8 +85,8 @@ walk-preserved g c =
     let path : List ℕ = c.walk.path.items in
     let job : IsJob k s = c.walk.invariant.job in
     let next : get_or c.args.next.now (s - 1) None ≡ Some x =
-    place_read c.args.next.now s c.get.result c.index-next-place.result x c.get.ensures.value
-    (omega (arith, c.requires.successors.len, c.get.ensures.value, job.0, job.1))
+    place_read c.args.next.now s c.place-place.result c.index-next-place.result x c.place-place.ensures.value
+    (omega (arith, c.requires.successors.len, c.place-place.ensures.value, job.0, job.1))
     c.index-next-place.is c.unwrap-job.ensures in
     let step = c.requires.successors.each s x job next in
     let arc : Contains k.arcs (s, x) = step.0 in
@@ -95,14 +95,14 @@ walk-preserved g c =
     (c.len.ensures.sound.arcs_in arc.0 (s, x) arc.1).1 in
     let size : length path ≡ c.len-in-walk.result =
     omega (arith, c.len-in-walk.ensures, c.walk.path.ok.0) in
-    let met : AreMet k (set places (c.get.result - 1) (Some c.len-in-walk.result))
+    let met : AreMet k (set places c.place-place.result (Some c.len-in-walk.result))
     (path ++ s ∷ []) =
-    subst (λ n. AreMet k (set places (n - 1) (Some c.len-in-walk.result)) (path ++ s ∷ []))
-    (sym c.get.ensures.value)
+    subst (λ n. AreMet k (set places n (Some c.len-in-walk.result)) (path ++ s ∷ []))
+    (sym c.place-place.ensures.value)
     (subst (λ n. AreMet k (set places (s - 1) (Some n)) (path ++ s ∷ [])) size
     (met_push k places path s c.walk.invariant.len job c.walk.invariant.met)) in
     rw c.in_ok-push.ensures.items (record {
-      len = length-set places (c.get.result - 1) (Some c.len-in-walk.result) ∙ c.walk.invariant.len;
+      len = length-set places c.place-place.result (Some c.len-in-walk.result) ∙ c.walk.invariant.len;
       job = known;
       next = step.1;
       steps = steps_push k path s x c.walk.invariant.steps arc;

@@ -15,7 +15,7 @@ stretch_start-start-requires-clause-turns g c =
 
 pub stretch_start-start-requires-clause-reached : goal.stretch_start-start-requires-clause-reached
 stretch_start-start-requires-clause-reached g c =
-    rw c.get.ensures.value
+    rw c.place.ensures.value
     (end_reached _ c.requires.sound c.requires.class _ c.requires.timeline _ c.requires.ends _
     c.latest-latest.ensures.job)
 
@@ -28,7 +28,7 @@ pub returns-clause-window : goal.returns-clause-window
 returns-clause-window g c =
     rw c.new.ensures
     (solved_window _ c.requires.sound c.requires.class _ c.requires.timeline _ c.requires.ends _
-    c.latest-latest.ensures _ (ap (λ n. get_or c.args.ends.now (n - 1) 0) c.get.ensures.value) _
+    c.latest-latest.ensures _ (ap (λ n. get_or c.args.ends.now n 0) c.place.ensures.value) _
     (rw (to_z-of_z w64 c.due.result (search rules), c.due.ensures) at c.stretch_start-start.ensures)
     _ c.in_ok-jobs.ensures)
 
@@ -36,6 +36,6 @@ pub returns-clause-value : goal.returns-clause-value
 returns-clause-value g c =
     rw (c.new.ensures, to_z-of_z w64 c.lateness.result (search rules), c.lateness.ensures)
     (solved_value _ c.requires.sound c.requires.class _ c.requires.timeline _ c.requires.ends _
-    c.latest-latest.ensures _ (ap (λ n. get_or c.args.ends.now (n - 1) 0) c.get.ensures.value) _
+    c.latest-latest.ensures _ (ap (λ n. get_or c.args.ends.now n 0) c.place.ensures.value) _
     (rw (to_z-of_z w64 c.due.result (search rules), c.due.ensures) at c.stretch_start-start.ensures)
     _ c.in_ok-jobs.ensures)

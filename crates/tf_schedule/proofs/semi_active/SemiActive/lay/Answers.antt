@@ -9,8 +9,8 @@ overflow_add-stop g c =
     let self = c.self.inside in
     let known = rw (← c.self.view_is) at c.requires.known in
     let start = start_is self.pieces.items self.machines_free.items self.jobs_free.items
-    c.args.operation c.get.result c.get-2.result _ _ _ c.self.invariant.machines_free
-    c.self.invariant.jobs_free known c.get.ensures.value c.get-2.ensures.value
+    c.args.operation c.place-machine.result c.place-job.result _ _ _ c.self.invariant.machines_free
+    c.self.invariant.jobs_free known c.place-machine.ensures.value c.place-job.ensures.value
     c.index.ensures c.index-2.ensures c.max-start.ensures in
     omega (arith, start, start_within self.pieces.items c.args.operation, rw (← c.self.view_is) at c.requires.within)
 
@@ -19,8 +19,8 @@ of-piece-requires g c =
     let self = c.self.inside in
     let known = rw (← c.self.view_is) at c.requires.known in
     let start = start_is self.pieces.items self.machines_free.items self.jobs_free.items
-    c.args.operation c.get.result c.get-2.result _ _ _ c.self.invariant.machines_free
-    c.self.invariant.jobs_free known c.get.ensures.value c.get-2.ensures.value
+    c.args.operation c.place-machine.result c.place-job.result _ _ _ c.self.invariant.machines_free
+    c.self.invariant.jobs_free known c.place-machine.ensures.value c.place-job.ensures.value
     c.index.ensures c.index-2.ensures c.max-start.ensures in
     let within : c.max-start.result + c.args.operation.time ≤ limit =
     omega (arith, start, start_within self.pieces.items c.args.operation, rw (← c.self.view_is) at c.requires.within) in
@@ -31,18 +31,18 @@ invariant_of-self-2 g c =
     let self = c.self.inside in
     let known = rw (← c.self.view_is) at c.requires.known in
     let start = start_is self.pieces.items self.machines_free.items self.jobs_free.items
-    c.args.operation c.get.result c.get-2.result _ _ _ c.self.invariant.machines_free
-    c.self.invariant.jobs_free known c.get.ensures.value c.get-2.ensures.value
+    c.args.operation c.place-machine.result c.place-job.result _ _ _ c.self.invariant.machines_free
+    c.self.invariant.jobs_free known c.place-machine.ensures.value c.place-job.ensures.value
     c.index.ensures c.index-2.ensures c.max-start.ensures in
     let machine = known.machine in
     let job = known.job in
     rw (c.in_ok-push.ensures.items, c.of-piece.ensures) (record {
       machines_free = stops_more machine_of self.pieces.items self.machines_free.items _
-          c.args.operation.machine c.get.result (c.max-start.result + c.args.operation.time)
-          c.self.invariant.machines_free refl c.get.ensures.value machine.0 machine.1
+          c.args.operation.machine c.place-machine.result (c.max-start.result + c.args.operation.time)
+          c.self.invariant.machines_free refl c.place-machine.ensures.value machine.0 machine.1
           (omega (arith, start)) (omega arith);
       jobs_free = stops_more job_of self.pieces.items self.jobs_free.items _
-          c.args.operation.job c.get-2.result (c.max-start.result + c.args.operation.time)
-          c.self.invariant.jobs_free refl c.get-2.ensures.value job.0 job.1
+          c.args.operation.job c.place-job.result (c.max-start.result + c.args.operation.time)
+          c.self.invariant.jobs_free refl c.place-job.ensures.value job.0 job.1
           (omega (arith, start)) (omega arith);
     })

@@ -18,7 +18,7 @@ overflow_add-index_mut g c =
     let counted = next_from c.args.task.now c.len.ensures.sound c.arcs-before-items.result.now
     c.arcs-before-items.ensures.value c.loop-before.before-index c.loop-before-item.result
     c.loop-before-test.true c.loop-before-item.is c.loop-before.successors.items
-    c.loop-before.invariant.successors c.get.result c.index_mut.result.now c.get.ensures.value
+    c.loop-before.invariant.successors c.place.result c.index_mut.result.now c.place.ensures.value
     c.index_mut.ensures.value in
     omega (arith, counted.few)
 
@@ -27,8 +27,8 @@ overflow_add-index_mut-in-loop-before g c =
     let counted = next_to c.args.task.now c.len.ensures.sound c.arcs-before-items.result.now
     c.arcs-before-items.ensures.value c.loop-before.before-index c.loop-before-item.result
     c.loop-before-test.true c.loop-before-item.is c.loop-before.predecessors.items
-    c.loop-before.invariant.predecessors c.get-in-loop-before.result
-    c.index_mut-in-loop-before.result.now c.get-in-loop-before.ensures.value
+    c.loop-before.invariant.predecessors c.place-in-loop-before.result
+    c.index_mut-in-loop-before.result.now c.place-in-loop-before.ensures.value
     c.index_mut-in-loop-before.ensures.value in
     omega (arith, counted.few)
 
@@ -39,12 +39,12 @@ loop-before-preserved g c =
     let from = next_from k c.len.ensures.sound arcs c.arcs-before-items.ensures.value
     c.loop-before.before-index c.loop-before-item.result c.loop-before-test.true
     c.loop-before-item.is c.loop-before.successors.items c.loop-before.invariant.successors
-    c.get.result c.index_mut.result.now c.get.ensures.value c.index_mut.ensures.value in
+    c.place.result c.index_mut.result.now c.place.ensures.value c.index_mut.ensures.value in
     let to = next_to k c.len.ensures.sound arcs c.arcs-before-items.ensures.value
     c.loop-before.before-index c.loop-before-item.result c.loop-before-test.true
     c.loop-before-item.is c.loop-before.predecessors.items c.loop-before.invariant.predecessors
-    c.get-in-loop-before.result c.index_mut-in-loop-before.result.now
-    c.get-in-loop-before.ensures.value c.index_mut-in-loop-before.ensures.value in
+    c.place-in-loop-before.result c.index_mut-in-loop-before.result.now
+    c.place-in-loop-before.ensures.value c.index_mut-in-loop-before.ensures.value in
     record { successors = from.next; predecessors = to.next }
 
 pub returns-clause-successors : goal.returns-clause-successors

@@ -13,7 +13,7 @@ index-place-requires g c =
       arith,
       its.1.0,
       its.1.1,
-      c.get.ensures.value,
+      c.place-job.ensures.value,
       c.loop-from.invariant.jobs,
       c.loop-from.ends.ok.0,
     )
@@ -27,7 +27,7 @@ index_mut-requires-in-loop-from g c =
       arith,
       its.1.0,
       its.1.1,
-      c.get.ensures.value,
+      c.place-job.ensures.value,
       c.loop-from.invariant.jobs,
       c.loop-from.ends.ok.0,
     )
@@ -37,8 +37,8 @@ index_mut-requires g c =
     let next = next_place c.args.task.now c.arcs.ensures.sound c.loop-from.from-index
     c.loop-from.ends.items c.loop-from.froms.items c.loop-from.invariant
     c.arcs-from-items.result.now c.arcs-from-items.ensures.value c.loop-from-item.result
-    c.loop-from-test.true c.loop-from-item.is c.get.result c.index-place.result.now
-    c.get.ensures.value c.index-place.ensures in
+    c.loop-from-test.true c.loop-from-item.is c.place-job.result c.index-place.result.now
+    c.place-job.ensures.value c.index-place.ensures in
     omega (arith, next.room, c.loop-from.froms.ok.0)
 
 pub overflow_add-place : goal.overflow_add-place
@@ -46,8 +46,8 @@ overflow_add-place g c =
     let next = next_place c.args.task.now c.arcs.ensures.sound c.loop-from.from-index
     c.loop-from.ends.items c.loop-from.froms.items c.loop-from.invariant
     c.arcs-from-items.result.now c.arcs-from-items.ensures.value c.loop-from-item.result
-    c.loop-from-test.true c.loop-from-item.is c.get.result c.index-place.result.now
-    c.get.ensures.value c.index-place.ensures in
+    c.loop-from-test.true c.loop-from-item.is c.place-job.result c.index-place.result.now
+    c.place-job.ensures.value c.index-place.ensures in
     omega (arith, next.room, c.loop-from.invariant.count, c.arcs.ensures.sound.few_arcs)
 
 pub loop-from-preserved : goal.loop-from-preserved
@@ -55,8 +55,8 @@ loop-from-preserved g c =
     let next = next_place c.args.task.now c.arcs.ensures.sound c.loop-from.from-index
     c.loop-from.ends.items c.loop-from.froms.items c.loop-from.invariant
     c.arcs-from-items.result.now c.arcs-from-items.ensures.value c.loop-from-item.result
-    c.loop-from-test.true c.loop-from-item.is c.get.result c.index-place.result.now
-    c.get.ensures.value c.index-place.ensures in
+    c.loop-from-test.true c.loop-from-item.is c.place-job.result c.index-place.result.now
+    c.place-job.ensures.value c.index-place.ensures in
     next.next
 
 pub returns : goal.returns

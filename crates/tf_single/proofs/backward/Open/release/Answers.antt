@@ -55,7 +55,7 @@ overflow_sub-left g c =
       some_left k c.loop-before.self.taken.items (pending list n) (pending list (n + 1)) counts
           (g.F.FreeJobs.jobs_of c.loop-before.self.free) b job
           (pending_less list n b c.loop-before-test.true c.before-item.is) now,
-      read k counts b c.get.result c.index.result.now now.len job c.get.ensures.value
+      read k counts b c.place-place.result c.index.result.now now.len job c.place-place.ensures.value
           c.index.ensures,
     )
 
@@ -73,14 +73,14 @@ loop-before-preserved g c =
     let free : List ℕ = g.F.FreeJobs.jobs_of c.loop-before.self.free in
     let left : ℕ = c.index.result.now - 1 in
     let less : left ≡ of_job counts b - 1 =
-    ap (λ m. m - 1) (read k counts b c.get.result c.index.result.now now.now.len job
-    c.get.ensures.value c.index.ensures) in
+    ap (λ m. m - 1) (read k counts b c.place-place.result c.index.result.now now.now.len job
+    c.place-place.ensures.value c.index.ensures) in
     let behind : (i : ℕ) → pending list n i ≡ cond (b == i) 1 0 + pending list (n + 1) i =
     pending_less list n b c.loop-before-test.true c.before-item.is in
     elim c.if-left-eq0.branch [
       | then-left-eq0+in_ok-add w ↦
           let others : List ℕ = g.F.FreeJobs.jobs_of w.add.new.self in
-          rw (w.self-is, c.get.ensures.value)
+          rw (w.self-is, c.place-place.ensures.value)
           (record {
             taken = now.taken;
             work = now.work;
@@ -94,7 +94,7 @@ loop-before-preserved g c =
             kept = w.in_ok-add.ensures.kept c.loop-before.self.work now.kept;
           })
       | else-left-eq0 w ↦
-          rw (w.self-is, c.get.ensures.value)
+          rw (w.self-is, c.place-place.ensures.value)
           (record {
             taken = now.taken;
             work = now.work;
