@@ -196,3 +196,14 @@ bound_by ByLoad k = load_bound k
 bound_by (ByMachine machine) k = machine_bound k machine
 bound_by (ByOneJob j) k = one_job_bound k j
 bound_by (ByRanks jobs) k = ranks_bound k jobs
+
+-- the bound of this kind is computed without memory
+abbrev pub takes_no_memory : Claim → Bool
+takes_no_memory ByPairs = false
+takes_no_memory (ByLastOf jobs) = false
+takes_no_memory (ByWindow jobs) = false
+takes_no_memory (BySplit side delta first) = false
+takes_no_memory ByLoad = true
+takes_no_memory (ByMachine machine) = true
+takes_no_memory (ByOneJob j) = true
+takes_no_memory (ByRanks jobs) = false

@@ -3,6 +3,7 @@ pub mod Claim
 pub mod Certificate
 pub mod Ratio
 pub mod KeyedJob
+pub mod Ranked
 pub mod Kinds
 pub mod Bound
 pub mod Accepted
@@ -12,6 +13,5 @@ pub mod Judgement
 pub mod Laws
 pub mod GoesBefore
 pub mod ByTime
-pub mod Ranked
 pub mod Free
 pub mod Sides

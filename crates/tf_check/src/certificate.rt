@@ -27,7 +27,8 @@ pub enum Certificate<A: Allocator = Global> {
 }
 
 impl<A: Allocator> Evidence for Certificate<A> {
-    ghost use Rattle.tf_check.specs.Bound.{bound_by};
+    ghost use Rattle.std.specs.Prelude.{◌≡◌, IsTrue};
+    ghost use Rattle.tf_check.specs.Bound.{bound_by, takes_no_memory, IsBoundOrNoMemory};
     ghost use Rattle.tf_check.specs.Certificate.{claim_of};
     ghost use Rattle.tf_check.specs.Laws.{bound_law};
 
@@ -39,7 +40,11 @@ impl<A: Allocator> Evidence for Certificate<A> {
         &self,
         alloc: B,
         task: &Task<C>,
-    ) -> Result<i128, BoundFault> {
+    ) -> Result<i128, BoundFault>
+        ensures bound { IsBoundOrNoMemory result (bound_by (claim_of self.now) task.now) }
+        ensures exact { IsTrue (takes_no_memory (claim_of self.now)) →
+            result ≡ bound_by (claim_of self.now) task.now }
+    {
         match self {
             Certificate::Pairs(pairs) => pairs.bound(alloc, task),
             Certificate::LastOf(last) => last.bound(alloc, task),
