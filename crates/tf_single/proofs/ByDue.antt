@@ -52,6 +52,32 @@ greatest_ranked least rs r x fits is greatest =
     (due_ge top.key q.key top.job q.job
     (pair_in_order least (get_or rs i 0) r (not_less (get_or rs i 0) r (greatest i 0 lt)))))
 
+-- none of the entries that are due as late has a greater number
+abbrev pub IsLastDue : List KeyedJob → KeyedJob → Type 0
+IsLastDue es x = All (λ e. e.key ≡ x.key → e.job ≤ x.job) es
+
+due_tie : (a b : ℤ) (m n : ℕ) → is_lt (ordering_then (int_cmp a b) (nat_cmp m n)) ≡ false
+    → b ≡ a → n ≤ m
+due_tie a b m n h same = grind (arith, nat_tests, ints)
+
+pub greatest_last : (es : List KeyedJob) (x : KeyedJob) → IsGreatest key_cmp es x → IsLastDue es x
+greatest_last es x greatest i e h =
+    due_tie x.key (get_or es i e).key x.job (get_or es i e).job (greatest i e h)
+
+pub ranked_last : (least : ℤ) (rs : List ℕ) (r : ℕ) (x : KeyedJob) → SFits w64 least
+    → x ≡ ranked (to_z w64 (of_z w64 least)) r → IsGreatest nat_cmp rs r
+    → IsLastDue (map (ranked least) rs) x
+ranked_last least rs r x fits is greatest =
+    subst (IsLastDue (map (ranked least) rs))
+    (sym (is ∙ ap (λ l. ranked l r) (to_z-of_z w64 least fits))) (λ i e h.
+    let lt : i < length rs = omega (arith, h, length-map rs (ranked least)) in
+    let q : KeyedJob = ranked least (get_or rs i 0) in
+    let top : KeyedJob = ranked least r in
+    subst (λ (d : KeyedJob). d.key ≡ top.key → d.job ≤ top.job)
+    (sym (get_or-map (ranked least) rs i 0 e lt))
+    (due_tie top.key q.key top.job q.job
+    (pair_in_order least (get_or rs i 0) r (not_less (get_or rs i 0) r (greatest i 0 lt)))))
+
 -- ---- due dates within a span
 
 -- those up to one job more, where the span is wider
@@ -103,6 +129,9 @@ late work key z small fits_key fits is =
     ∙ ap (λ e. pos (as_time e) -ℤ to_z w64 (of_z w64 key)) (to_z_pos w64 work (omega (arith, small)))
     ∙ ap (λ d. pos work -ℤ d) (to_z-of_z w64 key fits_key)
 
+same_left : (e a b : ℤ) → (e -ℤ b) ≡ (e -ℤ a) → b ≡ a
+same_left e a b same = omega (arith, ints)
+
 less_left : (e a b : ℤ) → b ≤ℤ a → (e -ℤ a) ≤ℤ (e -ℤ b)
 less_left e a b le = omega (arith, ints)
 
@@ -148,6 +177,21 @@ module _ (k : SchedulingTask) (es : List KeyedJob) (due : AreDue k es) (x : Keye
       ∙ ap (λ j. (job_data k j).due) its in
       subst (λ z. (pos end -ℤ x.key) ≤ℤ z) (ap (λ d. pos end -ℤ d) is ∙ due_price k i end due.class)
       (less_left (pos end) x.key e.key (latest at.0 x lt))
+
+  -- the greatest number among those that cost the same
+  pub latest_ties : IsLastDue es x → (end i : ℕ) → Contains (jobs_due es) i
+      → price k i end ≡ (pos end -ℤ x.key) → i ≤ x.job
+  latest_ties last end i at same =
+      let lt : at.0 < length es =
+      omega (arith, at.1, length-map es (λ (e : KeyedJob). e.job)) in
+      let e : KeyedJob = get_or es at.0 x in
+      let its : e.job ≡ i = sym (get_or-map (λ (d : KeyedJob). d.job) es at.0 x i lt)
+      ∙ at.2 in
+      let is : e.key ≡ (job_data k i).due = due.dues at.0 x lt
+      ∙ ap (λ j. (job_data k j).due) its in
+      subst (λ n. n ≤ x.job) its
+      (last at.0 x lt (same_left (pos end) x.key e.key
+      (ap (λ d. pos end -ℤ d) is ∙ due_price k i end due.class ∙ same)))
 
   pub others_due : AreDue k others
   others_due =

@@ -100,24 +100,31 @@ module _ (k : SchedulingTask) (sound : IsSound k) (taken counts free : List ℕ)
   -- the cheapest free job is the choice for last
   pub open_choice : (j end : ℕ) → Contains free j → end ≡ sum_by (time_of k) (rest_of k taken)
       → ((i : ℕ) → Contains free i → price k j end ≤ℤ price k i end)
+      → ((i : ℕ) → Contains free i → price k i end ≡ price k j end → i ≤ j)
       → IsLastChoice k (rest_of k taken) j
-  open_choice j end at work cheapest =
+  open_choice j end at work cheapest ties =
       let says = free_says j at in
       record {
         here = stands_says (rest_of k taken) j (in_rest k taken j says.0 ∙ ap not says.1);
         free = free_is k sound taken j
             ∙ eq-eqb (arcs_left k taken j) 0 (omega (arith, left_count j says.0, says.2));
         cheapest = λ i there free_one.
-            let job : IsJob k i =
-            All-contains (IsJob k) (rest_of k taken) i (rest_jobs k taken) there in
-            let left : stands_in taken i ≡ false =
-            not-true (stands_in taken i)
-            (sym (in_rest k taken i job) ∙ stands_from (rest_of k taken) i there) in
-            let no_arc : arcs_left k taken i ≡ 0 =
-            eqb-true (arcs_left k taken i) 0 (sym (free_is k sound taken i) ∙ free_one) in
-            subst (λ e. price k j e ≤ℤ price k i e) work
-            (cheapest i (free_has i job left (omega (arith, left_count i job, no_arc))));
+            subst (λ e. price k j e ≤ℤ price k i e) work (cheapest i (of_free i there free_one));
+        ties = λ i there free_one same. ties i (of_free i there free_one)
+            (subst (λ e. price k i e ≡ price k j e) (sym work) same);
       }
+    where
+      of_free : (i : ℕ) → Contains (rest_of k taken) i → is_free k (rest_of k taken) i ≡ true
+          → Contains free i
+      of_free i there free_one =
+          let job : IsJob k i =
+          All-contains (IsJob k) (rest_of k taken) i (rest_jobs k taken) there in
+          let left : stands_in taken i ≡ false =
+          not-true (stands_in taken i)
+          (sym (in_rest k taken i job) ∙ stands_from (rest_of k taken) i there) in
+          let no_arc : arcs_left k taken i ≡ 0 =
+          eqb-true (arcs_left k taken i) 0 (sym (free_is k sound taken i) ∙ free_one) in
+          free_has i job left (omega (arith, left_count i job, no_arc))
 
   -- ---- a free job is taken
   module _ (j : ℕ) (at : Contains free j) (others : List ℕ)

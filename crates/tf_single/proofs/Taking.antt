@@ -166,11 +166,12 @@ module _ (k : SchedulingTask) (sound : IsSound k) (taken counts free : List ℕ)
     step_cost = ap (price k j) at.left
 
     pub step_taken : ((i : ℕ) → Contains free i → price k j work ≤ℤ price k i work)
+        → ((i : ℕ) → Contains free i → price k i work ≡ price k j work → i ≤ j)
         → (fewer more : List ℕ) → IsOpen k (taken ++ j ∷ []) (λ _. 0) fewer more
         → AreTaken k (taken ++ j ∷ []) fewer more (work - time_of k j)
-    step_taken cheapest fewer more now = record {
+    step_taken cheapest ties fewer more now = record {
       chosen = chosen_more k taken j at.chosen step_job left
-          (open_choice k sound taken counts free at.now j work here at.left cheapest);
+          (open_choice k sound taken counts free at.now j work here at.left cheapest ties);
       now = now;
       left = omega (arith, step_work);
     }

@@ -1,5 +1,5 @@
 -- Orders that are built from the back, the last job first (Lawler 1973).
-use Rattle.std.specs.Prelude.{◌≡◌, ℕ, ◌<◌, ℤ, ◌≤ℤ◌, ◌<ℤ◌, not, true, List, length, take, slice_index, filter}
+use Rattle.std.specs.Prelude.{◌≡◌, ℕ, ◌<◌, ◌≤◌, ℤ, ◌≤ℤ◌, ◌<ℤ◌, not, true, List, length, take, slice_index, filter}
 use Rattle.std.specs.List.{All, Contains, sum_by}
 use Rattle.tf_model.specs.SchedulingTask.{SchedulingTask, IsJob, all_jobs, time_of}
 use Rattle.tf_model.specs.Bounds.{stands_in}
@@ -16,12 +16,15 @@ rest_of k taken = filter (λ j. not (stands_in taken j)) (all_jobs k)
 abbrev pub price_behind : SchedulingTask → List ℕ → ℕ → ℤ
 price_behind k jobs j = price k j (sum_by (time_of k) jobs)
 
--- the job is one of the list, has no successor in it, and is the cheapest such job for last
+-- the job is one of the list, has no successor in it, and is the cheapest such job for last, the
+-- greatest number among equals
 pub record IsLastChoice (k : SchedulingTask) (jobs : List ℕ) (j : ℕ) : Type 0 where
   pub here : Contains jobs j
   pub free : is_free k jobs j ≡ true
   pub cheapest : (i : ℕ) → Contains jobs i → is_free k jobs i ≡ true
       → price_behind k jobs j ≤ℤ price_behind k jobs i
+  pub ties : (i : ℕ) → Contains jobs i → is_free k jobs i ≡ true
+      → price_behind k jobs i ≡ price_behind k jobs j → i ≤ j
 
 -- what the job costs that is taken at this place
 abbrev pub step_price : SchedulingTask → List ℕ → ℕ → ℤ

@@ -1,9 +1,11 @@
 -- what a caller has to believe
+pub mod RunsByRatio
 pub mod EarliestDue
 pub mod LawlerFault
 pub mod Costs
--- within the crate
 pub mod Backward
+pub mod FromTheBack
+-- within the crate
 pub mod CostedJob
 pub mod Progress
 pub mod Agenda

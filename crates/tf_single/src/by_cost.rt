@@ -96,6 +96,9 @@ fn cheapest<B: Allocator, C: Cost>(
         ≡ price task.now (slice_index (jobs_of free.new) result.place) end }
     ensures cheapest { (k : ℕ) → k < length free.new
         → result.cost ≤ℤ price task.now (slice_index (jobs_of free.new) k) end }
+    ensures ties { (k : ℕ) → k < length free.new
+        → price task.now (slice_index (jobs_of free.new) k) end ≡ result.cost
+        → slice_index (jobs_of free.new) k ≤ slice_index (jobs_of free.new) result.place }
     ensures jobs { jobs_of free.new ≡ jobs_of free.old }
     ensures levels { All (HasLevel task.now end) free.new }
 {

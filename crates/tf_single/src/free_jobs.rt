@@ -54,5 +54,7 @@ pub(crate) trait FreeJobs {
         ensures cost { result.cost ≡ price task.now result.job work }
         ensures cheapest { (j : ℕ) → Contains (jobs_of self.old) j →
             result.cost ≤ℤ price task.now j work }
+        ensures ties { (j : ℕ) → Contains (jobs_of self.old) j →
+            price task.now j work ≡ result.cost → j ≤ result.job }
         ensures kept { (end : ℕ) → end ≤ work → IsKept self.new task.now end };
 }

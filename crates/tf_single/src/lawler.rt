@@ -11,6 +11,7 @@ ghost use Rattle.tf_check.specs.Free.{AreMarks};
 ghost use Rattle.tf_check.specs.Kinds.{takes_last_of};
 ghost use Rattle.tf_single.specs.Backward.{AreChosen, IsDearest, rest_of};
 ghost use Rattle.tf_single.specs.Costs.{AreCosts};
+ghost use Rattle.tf_single.specs.FromTheBack.{IsFromTheBack};
 ghost use Rattle.tf_single.specs.LawlerFault.{HoldsCycle};
 
 use crate::backward::{LastFirst, last_first};
@@ -48,6 +49,7 @@ pub fn lawler<A: Allocator + Copy, B: Allocator, C: Cost>(
     requires costs { AreCosts C.cost_at task.now costs.now }
     ensures schedule { IfOk result (λ a. IsSchedule a.pieces) }
     ensures accepted { IfOk result (IsAccepted task.now) }
+    ensures rule { IfOk result (λ a. IsFromTheBack task.now a.pieces a.certificate) }
     ensures cycle { IfErr result (HoldsCycle task.now) }
 {
     from_the_back(alloc, task, ByCost::new(alloc, task, costs)?)
@@ -67,6 +69,7 @@ pub fn lawler_by_due<A: Allocator + Copy, B: Allocator>(
     requires due { IsTrue (is_due task.now.class) }
     ensures schedule { IfOk result (λ a. IsSchedule a.pieces) }
     ensures accepted { IfOk result (IsAccepted task.now) }
+    ensures rule { IfOk result (λ a. IsFromTheBack task.now a.pieces a.certificate) }
     ensures cycle { IfErr result (HoldsCycle task.now) }
 {
     match near_due(task) {
@@ -86,6 +89,7 @@ fn from_the_back<A: Allocator + Copy, B: Allocator, F: FreeJobs + Drop>(
     requires kept { (work : ℕ) → work ≤ limit → F.IsKept free task.now work }
     ensures schedule { IfOk result (λ a. IsSchedule a.pieces) }
     ensures accepted { IfOk result (IsAccepted task.now) }
+    ensures rule { IfOk result (λ a. IsFromTheBack task.now a.pieces a.certificate) }
     ensures cycle { IfErr result (HoldsCycle task.now) }
 {
     let order = last_first(alloc, task, free)?;
@@ -106,6 +110,7 @@ fn answer_of<A: Allocator + Copy, B: Allocator>(
     requires dearest { IsDearest task.now order.jobs.items order.dearest }
     ensures schedule { IfOk result (λ a. IsSchedule a.pieces) }
     ensures accepted { IfOk result (IsAccepted task.now) }
+    ensures rule { IfOk result (λ a. IsFromTheBack task.now a.pieces a.certificate) }
 {
     let LastFirst { jobs, dearest } = order;
     let left = left_jobs(alloc, task, &jobs[..dearest.place])?;

@@ -4,6 +4,7 @@ ghost use Rattle.tf_model.specs.ClassTable.{is_single, is_sum};
 ghost use Rattle.tf_schedule.specs.Schedule.{IsSchedule};
 ghost use Rattle.tf_check.specs.Accepted.{IsAccepted};
 ghost use Rattle.tf_check.specs.Claim.{ByPairs};
+ghost use Rattle.tf_single.specs.RunsByRatio.{RunsByRatio};
 
 use std::alloc::Allocator;
 use tf_check::answer::Answer;
@@ -29,6 +30,7 @@ pub fn wspt<A: Allocator + Copy, B: Allocator>(
     ensures schedule { IfOk result (λ a. IsSchedule a.pieces) }
     ensures accepted { IfOk result (IsAccepted task.now) }
     ensures certificate { IfOk result (λ a. a.certificate ≡ ByPairs) }
+    ensures rule { IfOk result (λ a. RunsByRatio task.now a.pieces) }
 {
     let jobs = jobs_by_ratio(alloc, task)?;
     let value = weighted_completions(&jobs);

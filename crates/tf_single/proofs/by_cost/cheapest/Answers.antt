@@ -1,4 +1,4 @@
-use Rattle.std.proofs.Common.{◌≡◌, ◌<◌, length, refl, sym, ap, subst, ◌∙◌, arith, rules}
+use Rattle.std.proofs.Common.{◌≡◌, ℕ, ◌<◌, List, length, get_or, set, refl, sym, ap, subst, ◌∙◌, arith, rules}
 use Rattle.std.proofs.lemmas.Int.{ints, to_z-of_z}
 use Rattle.std.proofs.lemmas.List.{length-map}
 use Rattle.std.proofs.lemmas.List.Elements.{All-set}
@@ -7,8 +7,8 @@ use mir.Val.{SFits, to_z, of_z}
 use Rattle.tf_model.specs.Cost.{price}
 use Rattle.tf_model.specs.SchedulingTask.{IsJob}
 use Rattle.tf_single.specs.CostedJob.{HasLevel, jobs_of}
-use Rattle.tf_single.proofs.Cheapest.{cheapest_kept, cheapest_taken, job_read, jobs_kept}
-use Rattle.tf_single.proofs.by_cost.cheapest.Goals.{then-cost-least-2, else-cost-least-2+else-lt}
+use Rattle.tf_single.proofs.Cheapest.{cheapest_kept, cheapest_taken, job_at, job_read, jobs_kept, number_less, number_no_less}
+use Rattle.tf_single.proofs.by_cost.cheapest.Goals.{then-cost-least-2, then-cost-least-2-via-then-cost-least-2, then-cost-least-2-via-else-cost-least-2+then-lt, else-cost-least-2+else-lt}
 use Rattle.tf_single.proofs.by_cost.cheapest.Goals as goal
 
 pub cost_at-cost-requires-clause-job : goal.cost_at-cost-requires-clause-job
@@ -46,7 +46,9 @@ loop-k-preserved-then-cost-least g c =
       levels = All-set (HasLevel task c.args.end) free k c.cost_at-cost.new.self
           c.cost_at-cost.ensures.level c.loop-k.invariant.levels;
       cheapest = cheapest_kept task _ c.args.end k c.loop-k.place _ c.cost_at-cost.result
-          c.loop-k.invariant.cheapest is (omega (arith, ints, cost, c.if-cost-least.true));
+          c.loop-k.invariant.cheapest is (omega (arith, ints, cost, c.if-cost-least.true))
+          (λ same. absurd (omega (arith, ints, cost, c.if-cost-least.true, same)));
+      last = c.loop-k.invariant.last;
     }
 
 pub loop-k-preserved : goal.loop-k-preserved
@@ -62,6 +64,9 @@ loop-k-preserved g c =
     c.cost_at-cost.ensures.value
     ∙ ap (λ j. price task j c.args.end)
     (job_read free _ k c.index-free-k.result c.loop-k.invariant.jobs inside) in
+    let js : List ℕ = jobs_of (set c.args.free.now 0 c.cost_at-least.new.self) in
+    let own = job_at free js k c.cost_at-cost.new.self c.index-free-k.result
+    c.index-free-k-in-loop-k.result c.loop-k.invariant.jobs inside c.cost_at-cost.ensures.job in
     record {
       jobs = jobs_kept free _ k c.cost_at-cost.new.self c.index-free-k.result
           c.loop-k.invariant.jobs c.cost_at-cost.ensures.job;
@@ -76,9 +81,27 @@ loop-k-preserved g c =
               inside,
               length-map free (λ x. x.job),
               ap length c.loop-k.invariant.jobs,
-            )) is (omega (arith, ints, cost, c.if-cost-least.false)))
+            )) is (omega (arith, ints, cost, c.if-cost-least.false))
+            (λ same. elim w.then-cost-least-2.branch [
+              | then-cost-least-2-via-then-cost-least-2 v ↦
+                  absurd (omega (arith, ints, cost, v.if-cost-least-2.true, same))
+              | then-cost-least-2-via-else-cost-least-2+then-lt v ↦
+                  let less = number_less c.loop-k.last
+                  (get_or (set free k c.cost_at-cost.new.self) k c.index-free-k-in-loop-k.result).job
+                  v.lt.result v.lt.ensures v.if-lt.true in
+                  omega (arith, own, c.loop-k.invariant.last, less)
+            ]))
         | else-cost-least-2+else-lt w ↦ rw (w.place-is, w.least-is)
             (cheapest_kept task _ c.args.end k c.loop-k.place _ c.cost_at-cost.result
-            c.loop-k.invariant.cheapest is (omega (arith, ints, cost, w.if-cost-least-2.false)))
+            c.loop-k.invariant.cheapest is (omega (arith, ints, cost, w.if-cost-least-2.false))
+            (λ same.
+            let least = number_no_less c.loop-k.last
+            (get_or (set free k c.cost_at-cost.new.self) k c.index-free-k-in-loop-k.result).job
+            w.lt.result w.lt.ensures w.if-lt.false in
+            omega (arith, own, c.loop-k.invariant.last, least)))
+      ];
+      last = elim c.if-cost-least-2.branch [
+        | then-cost-least-2 w ↦ rw (w.place-is, w.last-is) own
+        | else-cost-least-2+else-lt w ↦ rw (w.place-is, w.last-is) c.loop-k.invariant.last
       ];
     }

@@ -1,4 +1,4 @@
-use Rattle.std.proofs.Common.{rules}
+use Rattle.std.proofs.Common.{refl, rules}
 use Rattle.std.proofs.lemmas.Int.{to_z-of_z}
 use mir.Syntax.{w64}
 use Rattle.tf_single.proofs.BackwardTimetable.{backward_turned}
@@ -43,3 +43,20 @@ returns-clause-accepted g c =
     )
     (chosen_accepted _ _ c.args.order.dearest c.requires.sound c.requires.class c.requires.chosen
     c.requires.all c.requires.dearest)
+
+pub returns-clause-rule : goal.returns-clause-rule
+returns-clause-rule g c = record {
+  taken = c.args.order.jobs.items;
+  chosen = c.requires.chosen;
+  all = c.requires.all;
+  are = rw (
+    c.new.ensures,
+    c.in_ok-pieces.ensures,
+    c.deref-2.ensures.value,
+    c.reversed-sequence.ensures,
+  )
+      refl;
+  dearest = c.args.order.dearest;
+  first = c.requires.dearest;
+  certificate = rw (c.new-2.ensures, c.in_ok-left.ensures, c.deref.ensures.value) refl;
+}

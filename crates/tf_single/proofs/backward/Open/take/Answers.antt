@@ -1,4 +1,4 @@
-use Rattle.std.proofs.Common.{◌≡◌, ℕ, ◌≤ℤ◌, List, [], ◌∷◌, ◌++◌, length, ◌∙◌, subst, arith}
+use Rattle.std.proofs.Common.{◌≡◌, ℕ, ◌≤ℤ◌, List, [], ◌∷◌, ◌++◌, length, sym, ◌∙◌, subst, arith}
 use Rattle.tf_model.specs.Cost.{price}
 use Rattle.tf_model.specs.SchedulingTask.{SchedulingTask}
 use Rattle.tf_single.specs.ArcsInto.{arcs_between}
@@ -73,4 +73,5 @@ returns-clause-now g c =
     (g.F.FreeJobs.jobs_of c.take_last-last.new.self) c.take_last-last.ensures.jobs
     (λ i at. subst (λ z. z ≤ℤ price k i work) c.take_last-last.ensures.cost
     (c.take_last-last.ensures.cheapest i at))
+    (λ i at same. c.take_last-last.ensures.ties i at (same ∙ sym c.take_last-last.ensures.cost))
     fewer more (subst (λ xs. IsOpen k xs (λ _. 0) fewer more) same c.in_ok-release.ensures.now))

@@ -1,7 +1,7 @@
 use Rattle.std.proofs.Common.{◌≡◌, ℕ, ◌≤ℤ◌, ◌<◌, ◌++◌, ◌∷◌, List, length, slice_index, slice_index_or, take, drop, refl, sym, ap, ◌∙◌, subst, arith, rules}
 use Rattle.std.proofs.lemmas.Int.{to_z-of_z}
 use mir.Syntax.{w64}
-use Rattle.std.specs.List.{swap_remove}
+use Rattle.std.specs.List.{swap_remove, Contains}
 use Rattle.std.specs.List.Sorted.{IsPermutation}
 use Rattle.std.proofs.Math.Seq.{take-append_seam}
 use Rattle.std.proofs.lemmas.List.{get_or_default, length-map}
@@ -47,23 +47,27 @@ returns g c =
     (IsPermutation-swap_remove free place found within value) in
     let at_place : found.job ≡ slice_index (jobs_of free) place =
     ap (λ x. x.job) value ∙ job_read free (jobs_of free) place found refl within in
+    let found_at : (j : ℕ) (at : Contains (jobs_of before) j)
+    → slice_index (jobs_of free) at.0 ≡ j = λ j at.
+    ap (λ js. slice_index js at.0) jobs ∙ get_or_default (jobs_of before) at.0 0 j at.1
+    ∙ at.2 in
+    let found_in : (j : ℕ) (at : Contains (jobs_of before) j) → at.0 < length free = λ j at.
+    omega (arith, at.1, ap length jobs, length-map free (λ x. x.job)) in
     rw (to_z-of_z w64 c.cheapest-cheapest.result.cost (search rules))
     (record {
       jobs = subst (λ js. IsPermutation js (found.job ∷ jobs_of rest)) jobs
           (IsPermutation-map (λ x. x.job) free (found ∷ rest) moved);
       cost = c.cheapest-cheapest.ensures.cost ∙ ap (λ j. price k j work) (sym at_place);
       cheapest = λ j at.
-          let here : slice_index (jobs_of free) at.0 ≡ j =
-          ap (λ js. slice_index js at.0) jobs ∙ get_or_default (jobs_of before) at.0 0 j at.1
-          ∙ at.2 in
-          let inside : at.0 < length free = omega (
-            arith,
-            at.1,
-            ap length jobs,
-            length-map free (λ x. x.job),
-          ) in
+          let here = found_at j at in
+          let inside = found_in j at in
           subst (λ z. c.cheapest-cheapest.result.cost ≤ℤ price k z work) here
           (c.cheapest-cheapest.ensures.cheapest at.0 inside);
+      ties = λ j at same.
+          let here = found_at j at in
+          let least : price k (slice_index (jobs_of free) at.0) work
+          ≡ c.cheapest-cheapest.result.cost = ap (λ z. price k z work) here ∙ same in
+          omega (arith, here, at_place, c.cheapest-cheapest.ensures.ties at.0 (found_in j at) least);
       kept = λ end le. (
         c.requires.kept.0,
         λ n d h e from to small.

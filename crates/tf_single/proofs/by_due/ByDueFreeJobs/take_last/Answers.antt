@@ -6,7 +6,7 @@ use Rattle.tf_model.specs.Whole.{IsWithin}
 use Rattle.tf_check.specs.declared.keyed_job.KeyedJob.{KeyedJob}
 use Rattle.tf_single.specs.ByDue.{HasDue}
 use Rattle.tf_single.specs.GreatestFirst.{entries}
-use Rattle.tf_single.proofs.ByDue.{greatest_latest, late, own_due, own_job, jobs_moved, latest_cost, latest_cheapest, others_due}
+use Rattle.tf_single.proofs.ByDue.{greatest_last, greatest_latest, late, own_due, own_job, jobs_moved, latest_cost, latest_cheapest, latest_ties, others_due}
 use Rattle.tf_single.proofs.by_due.ByDueFreeJobs.take_last.Goals as goal
 
 pub invariant_of-value_at : goal.invariant_of-value_at
@@ -51,3 +51,12 @@ returns-clause-cheapest g c = λ j at.
     (latest_cheapest c.args.arg2.now (entries c.args.self.now.jobs) c.requires.kept.0 x
     (entries c.pop-due.new.self) c.pop-due.ensures.moved
     (greatest_latest (entries c.args.self.now.jobs) x c.pop-due.ensures.greatest) c.args.work j at)
+
+pub returns-clause-ties : goal.returns-clause-ties
+returns-clause-ties g c = λ j at same.
+    let x : KeyedJob = c.pop-due.result in
+    latest_ties c.args.arg2.now (entries c.args.self.now.jobs) c.requires.kept.0 x
+    (entries c.pop-due.new.self) c.pop-due.ensures.moved
+    (greatest_last (entries c.args.self.now.jobs) x c.pop-due.ensures.greatest) c.args.work j at
+    (same ∙ late c.args.work x.key c.value_at.result c.requires.within (search rules) (search rules)
+    c.value_at.ensures.value)

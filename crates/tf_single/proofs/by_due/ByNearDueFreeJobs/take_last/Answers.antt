@@ -9,7 +9,7 @@ use Rattle.tf_check.specs.Ranked.{IsRank}
 use Rattle.tf_check.specs.declared.keyed_job.KeyedJob.{KeyedJob}
 use Rattle.tf_single.specs.ByDue.{HasDue, jobs_ranked}
 use Rattle.tf_single.specs.GreatestFirst.{entries}
-use Rattle.tf_single.proofs.ByDue.{greatest_ranked, late, ranks_moved, own_due, own_job, jobs_moved, latest_cost, latest_cheapest, others_due}
+use Rattle.tf_single.proofs.ByDue.{greatest_ranked, ranked_last, late, ranks_moved, own_due, own_job, jobs_moved, latest_cost, latest_cheapest, latest_ties, others_due}
 use Rattle.tf_single.proofs.by_due.ByNearDueFreeJobs.take_last.Goals as goal
 
 pub job_of-due-requires : goal.job_of-due-requires
@@ -83,3 +83,16 @@ returns-clause-cheapest g c = λ j at.
     (search rules) c.pop.ensures.moved c.job_of-due.ensures)
     (greatest_ranked least (entries c.args.self.now.ranks) c.pop.result x (search rules)
     c.job_of-due.ensures c.pop.ensures.greatest) c.args.work j at)
+
+pub returns-clause-ties : goal.returns-clause-ties
+returns-clause-ties g c = λ j at same.
+    let least = c.args.self.now.least in
+    let x : KeyedJob = c.job_of-due.result in
+    latest_ties c.args.arg2.now (jobs_ranked least c.args.self.now.ranks) c.requires.kept.due x
+    (jobs_ranked least c.pop.new.self)
+    (ranks_moved least (entries c.args.self.now.ranks) c.pop.result (entries c.pop.new.self) x
+    (search rules) c.pop.ensures.moved c.job_of-due.ensures)
+    (ranked_last least (entries c.args.self.now.ranks) c.pop.result x (search rules)
+    c.job_of-due.ensures c.pop.ensures.greatest) c.args.work j at
+    (same ∙ late c.args.work x.key c.value_at.result c.requires.within (search rules) (search rules)
+    c.value_at.ensures.value)
