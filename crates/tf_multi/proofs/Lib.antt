@@ -1,9 +1,11 @@
 pub mod Filling
+pub mod Wrapping
 pub mod Shortest
 pub mod Numbers
 pub mod Routes
 pub mod Fronts
 pub mod Leading
+pub mod Leader
 pub mod OpenShop
 pub mod FlowShop
 pub mod Turning

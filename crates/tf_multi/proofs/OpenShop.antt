@@ -2,7 +2,7 @@
 use Rattle.std.proofs.Common.{IsTrue, IsFalse, ◌≡◌, ◌≢◌, ◌⊎◌, ℕ, zero, suc, ◌+◌, ◌<◌, ◌≤◌, pos, Bool, true, false, not, cond, ◌&&◌, eqb, max, List, length, get_or, filter, Ok, refl, sym, ap, subst, ◌∙◌, arith, inl, inr}
 use Rattle.std.specs.List.{All, AllPairs, sum_by}
 use Rattle.std.specs.List.Sorted.{IsPermutation}
-use Rattle.std.proofs.lemmas.Bool.{cases_eq, cases_lt, false≢true}
+use Rattle.std.proofs.lemmas.Bool.{cases_eq, cases_lt, eq-eqb, ne_eqb, false≢true}
 use Rattle.std.proofs.lemmas.Bool.Decides.{nat_tests}
 use Rattle.std.proofs.lemmas.Int.{ints}
 use Rattle.std.proofs.lemmas.List.Sums.{sum_by-cons, sum_by-append}
@@ -21,11 +21,11 @@ use Rattle.tf_schedule.proofs.Counting.{sum_by-same, sum_single_in}
 use Rattle.tf_schedule.proofs.Drawing.{greatest_stop_le}
 use Rattle.tf_check.specs.Accepted.{IsAccepted}
 use Rattle.tf_check.specs.Bound.{bound_by}
-use Rattle.tf_check.specs.Claim.{Claim}
+use Rattle.tf_check.specs.Claim.{Claim, ByMachine, ByOneJob}
 use Rattle.tf_check.proofs.LaidAccepted.{laid_accepted}
 use Rattle.tf_schedule.specs.SemiActive.{machine_stop, laid, IsOperation}
 use Rattle.tf_multi.specs.TwoMachines.{time_at, first_machine, second_machine}
-use Rattle.tf_multi.specs.OpenShop.{is_early, IsLeader, is_in_group, followers, operations_led_by}
+use Rattle.tf_multi.specs.OpenShop.{is_early, IsLeader, is_in_group, followers, operations_led_by, machine_time, open_claim}
 use Rattle.tf_schedule.proofs.Laying.{IsLaid, Keeps, stop-le-line_stop}
 use Rattle.tf_multi.proofs.Fronts.{enclosed_fronts}
 use Rattle.tf_multi.proofs.Routes.{OnceEach, All-enclosed, differ_enclosed, sum_enclosed}
@@ -67,16 +67,28 @@ second_term i j x y p q t two value = elim (cases_eq i j) [
   | inr differ ↦ grind (arith, nat_tests)
 ]
 
--- the work of all jobs on a machine
-abbrev pub machine_total : SchedulingTask → ℕ → ℕ
-machine_total task i = sum_by (λ j. time_at task j i) (all_jobs task)
-
 either_total : (task : SchedulingTask) (r : ℕ) (e : Bool)
-    → max (max (machine_total task (first_machine e)) (machine_total task (second_machine e)))
+    → max (max (machine_time task (first_machine e)) (machine_time task (second_machine e)))
     (time_at task r (first_machine e) + time_at task r (second_machine e))
-    ≡ max (max (machine_total task 1) (machine_total task 2)) (time_of task r)
+    ≡ max (max (machine_time task 1) (machine_time task 2)) (time_of task r)
 either_total task r true = refl
 either_total task r false = omega arith
+
+-- ---- which certificate is given
+
+pub first_claim : (task : SchedulingTask) (l v : ℕ) → machine_time task 1 ≡ v
+    → ByMachine 1 ≡ open_claim task l v
+first_claim task l v is = rw (eq-eqb (machine_time task 1) v is) refl
+
+pub second_claim : (task : SchedulingTask) (l v : ℕ) → (machine_time task 1 ≡ v → ⊥)
+    → machine_time task 2 ≡ v → ByMachine 2 ≡ open_claim task l v
+second_claim task l v differs is =
+    rw (ne_eqb (machine_time task 1) v differs, eq-eqb (machine_time task 2) v is) refl
+
+pub job_claim : (task : SchedulingTask) (l v : ℕ) → (machine_time task 1 ≡ v → ⊥)
+    → (machine_time task 2 ≡ v → ⊥) → ByOneJob l ≡ open_claim task l v
+job_claim task l v differs neither =
+    rw (ne_eqb (machine_time task 1) v differs, ne_eqb (machine_time task 2) v neither) refl
 
 module _ (task : SchedulingTask) (sound : IsSound task) (shop : IsTrue (is_shop task.class))
     (any_order : IsFalse (is_flow task.class)) (r : ℕ) (leader : IsLeader task r) where
@@ -184,7 +196,7 @@ module _ (task : SchedulingTask) (sound : IsSound task) (shop : IsTrue (is_shop 
   led_machine_total : (i : ℕ) → time_at task r i +
       (sum_by (λ j. time_at task j i) (filter (is_in_group task r e) (all_jobs task)) + sum_by
       (λ j. time_at task j i) (filter (is_in_group task r (not e)) (all_jobs task)))
-      ≡ machine_total task i
+      ≡ machine_time task i
   led_machine_total i = omega (
     arith,
     sum_led task r leader.job e (λ j. time_at task j i),
@@ -194,7 +206,7 @@ module _ (task : SchedulingTask) (sound : IsSound task) (shop : IsTrue (is_shop 
   )
 
   -- no machine works longer than one of the two, or than the leader takes
-  pub led_stop : greatest_stop ps ≤ max (max (machine_total task 1) (machine_total task 2))
+  pub led_stop : greatest_stop ps ≤ max (max (machine_time task 1) (machine_time task 2))
       (time_of task r)
   led_stop =
       let fronts = enclosed_fronts (time_at task) x y (machines_differ e) r
@@ -204,11 +216,11 @@ module _ (task : SchedulingTask) (sound : IsSound task) (shop : IsTrue (is_shop 
       (all_ours_fast task r leader e refl) (all_theirs_fast task r leader e refl) in
       let on_first = led_machine_total x in
       let on_second = led_machine_total y in
-      let first : machine_stop ps x ≤ max (max (machine_total task x) (machine_total task y))
+      let first : machine_stop ps x ≤ max (max (machine_time task x) (machine_time task y))
       (time_at task r x + time_at task r y) = omega (arith, fronts.first) in
-      let second : machine_stop ps y ≤ max (max (machine_total task x) (machine_total task y))
+      let second : machine_stop ps y ≤ max (max (machine_time task x) (machine_time task y))
       (time_at task r x + time_at task r y) = omega (arith, fronts.second) in
-      greatest_stop_le ps (max (max (machine_total task 1) (machine_total task 2)) (time_of task r))
+      greatest_stop_le ps (max (max (machine_time task 1) (machine_time task 2)) (time_of task r))
       (λ k d h.
       let p = led_laid.placed k d h in
       elim (one_of_two e (get_or ps k d).machine p.machine.0 (omega (arith, p.machine.1, two))) [
@@ -231,7 +243,7 @@ module _ (task : SchedulingTask) (sound : IsSound task) (shop : IsTrue (is_shop 
     -- the greatest of the three bounds, where job l is a longest one, is a value that a
     -- certificate shows
     pub led_accepted : (l v : ℕ) → ((j : ℕ) → IsJob task j → time_of task j ≤ time_of task l)
-        → v ≡ max (max (machine_total task 1) (machine_total task 2)) (time_of task l)
+        → v ≡ max (max (machine_time task 1) (machine_time task 2)) (time_of task l)
         → (claim : Claim) → bound_by claim task ≡ Ok (pos v)
         → IsAccepted task (record { pieces = qs; value = pos v; certificate = claim })
     led_accepted l v longest is_value claim bounded =

@@ -1,9 +1,10 @@
 -- what a caller has to believe
 pub mod Longest
-pub mod Dealt
--- within the crate
+pub mod Wrapped
 pub mod Dealing
-pub mod Fill
+pub mod Dealt
 pub mod TwoMachines
 pub mod OpenShop
+-- within the crate
+pub mod Fill
 pub mod FlowShop

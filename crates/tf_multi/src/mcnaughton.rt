@@ -1,5 +1,5 @@
 //! Parallel machines with preemption.
-ghost use Rattle.std.specs.Prelude.{◌≡◌, ℕ, pos, ◌+◌, ◌-◌, ◌*◌, ◌^◌, ◌<◌, ◌≤◌, ◌≤ℤ◌, length, IfOk};
+ghost use Rattle.std.specs.Prelude.{◌≡◌, ℕ, pos, ◌+◌, ◌-◌, ◌*◌, ◌^◌, ◌<◌, ◌≤◌, ◌≤ℤ◌, List, ◌∷◌, ◌++◌, length, IfOk};
 ghost use Rattle.std.specs.List.{range_with_len, sum_by};
 ghost use Rattle.tf_model.specs.Bounds.{load_value};
 ghost use Rattle.tf_model.specs.Cost.{IsBest};
@@ -13,6 +13,7 @@ ghost use Rattle.tf_schedule.specs.Schedule.{IsSchedule};
 ghost use Rattle.tf_check.specs.Accepted.{IsAccepted};
 ghost use Rattle.tf_multi.specs.Fill.{IsFilled};
 ghost use Rattle.tf_multi.specs.Longest.{IsLoadOrLongest};
+ghost use Rattle.tf_multi.specs.Wrapped.{wrapped, AreWrapped};
 
 use crate::longest::first_longest;
 use std::alloc::Allocator;
@@ -44,6 +45,7 @@ pub fn mcnaughton<A: Allocator + Copy, B: Allocator>(
     ensures accepted { IfOk result (IsAccepted task.now) }
     ensures best { IfOk result (λ a. IsBest task.now (drawing task.now.machines a.pieces) a.value) }
     ensures certificate { IfOk result (λ a. IsLoadOrLongest task.now a.certificate) }
+    ensures rule { IfOk result (λ a. AreWrapped task.now a.pieces a.value) }
 {
     let longest = first_longest(task);
     let load = task.load();
@@ -78,9 +80,11 @@ fn fill<A: Allocator + Copy, B: Allocator>(
     requires worked { (j : ℕ) → IsJob task.now j → (0 < time_of task.now j)
         × (time_of task.now j ≤ value) }
     requires room { sum_by (time_of task.now) (all_jobs task.now) ≤ task.now.machines * value }
-    ensures { IfOk result (λ pieces.
+    ensures filled { IfOk result (λ pieces.
         (i : ℕ) × (t : ℕ)
         × IsFilled value (time_of task.now) (length task.now.jobs) pieces.items i t) }
+    ensures wrapped { IfOk result (λ pieces.
+        pieces.items ≡ wrapped value (time_of task.now) 1 0 (all_jobs task.now)) }
 {
     let mut pieces = Vec::with_capacity(alloc, task.len() + task.machines() as usize)?;
     let mut front = Front {
@@ -107,8 +111,11 @@ fn place<A: Allocator, B: Allocator>(
     requires machine { front.machine ≤ MOST_MACHINES }
     requires filled { IsFilled value (time_of task.now) (job - 1) pieces.old.items front.machine
         front.at }
-    ensures { IfOk result (λ next.
+    ensures filled { IfOk result (λ next.
         IsFilled value (time_of task.now) job pieces.new.items next.machine next.at) }
+    ensures wrapped { IfOk result (λ next. (js : List ℕ) →
+        pieces.old.items ++ wrapped value (time_of task.now) front.machine front.at (job ∷ js)
+        ≡ pieces.new.items ++ wrapped value (time_of task.now) next.machine next.at js) }
 {
     let time = task.time(job);
     let room = value - front.at;

@@ -6,7 +6,7 @@ ghost use Rattle.tf_model.specs.SchedulingTask.{IsJob, all_jobs};
 ghost use Rattle.tf_schedule.specs.Schedule.{IsSchedule};
 ghost use Rattle.tf_check.specs.Accepted.{IsAccepted};
 ghost use Rattle.tf_multi.specs.TwoMachines.{time_at, routed};
-ghost use Rattle.tf_multi.specs.OpenShop.{is_early, IsLeader, is_in_group};
+ghost use Rattle.tf_multi.specs.OpenShop.{is_early, goes_ahead, IsLeader, IsLed, is_in_group};
 ghost use Rattle.tf_multi.specs.OpenShop.{operations_led_by};
 
 use crate::longest::first_longest;
@@ -42,6 +42,7 @@ pub fn open_two<A: Allocator + Copy, B: Allocator>(
     requires any_order { IsFalse (is_flow task.now.class) }
     ensures schedule { IfOk result (λ a. IsSchedule a.pieces) }
     ensures accepted { IfOk result (IsAccepted task.now) }
+    ensures rule { IfOk result (λ a. IsLed task.now a.pieces a.certificate) }
 {
     let leader = leader(task);
     let operations = operations_led_by(alloc, task, leader)?;
@@ -87,8 +88,7 @@ fn leader<B: Allocator>(task: &Task<B>) -> JobId
 // Whether the lesser time of a job is greater than that of the other one, or the same where only
 // the job is early.
 fn goes_ahead(job: JobRow, other: JobRow) -> bool
-    ensures ahead { IsTrue result → min other.first other.second ≤ min job.first job.second }
-    ensures behind { IsFalse result → min job.first job.second ≤ min other.first other.second }
+    ensures { result ≡ goes_ahead job.first job.second other.first other.second }
 {
     let lesser = job.first.min(job.second);
     let other_lesser = other.first.min(other.second);

@@ -10,7 +10,7 @@ ghost use Rattle.tf_schedule.specs.Drawing.{greatest_stop};
 ghost use Rattle.tf_schedule.specs.Schedule.{IsSchedule};
 ghost use Rattle.tf_schedule.specs.SemiActive.{laid, with_operation};
 ghost use Rattle.tf_check.specs.Accepted.{IsAccepted};
-ghost use Rattle.tf_multi.specs.Dealt.{IsReverseRanks};
+ghost use Rattle.tf_multi.specs.Dealt.{AreDealt, IsReverseRanks};
 ghost use Rattle.tf_multi.specs.Dealing.{share, dealt};
 
 use std::alloc::Allocator;
@@ -41,6 +41,7 @@ pub fn spt<A: Allocator + Copy, B: Allocator>(
     ensures schedule { IfOk result (λ a. IsSchedule a.pieces) }
     ensures accepted { IfOk result (IsAccepted task.now) }
     ensures certificate { IfOk result (λ a. IsReverseRanks task.now a.certificate) }
+    ensures rule { IfOk result (λ a. AreDealt task.now a.pieces) }
 {
     // All jobs weigh the same, so that those of greater weight for their time are the shorter ones.
     let jobs = jobs_by_ratio(alloc, task)?;

@@ -30,7 +30,7 @@ returns-clause-draws g c =
     let room = value_room _ c.load-load.ensures.sound c.requires _ _ _ _ c.load-load.ensures.value
     c.first_longest-longest.ensures.job c.time.ensures.value c.max-value.ensures in
     rw c.new.ensures
-    (filled_draws _ c.load-load.ensures.sound c.requires _ _ _ _ room c.in_ok-pieces.ensures.2)
+    (filled_draws _ c.load-load.ensures.sound c.requires _ _ _ _ room c.in_ok-pieces.ensures.filled.2)
 
 pub returns-clause-accepted : goal.returns-clause-accepted
 returns-clause-accepted g c =
@@ -51,9 +51,20 @@ returns-clause-accepted g c =
           ∙ ap (λ n. Ok (pos n)) (omega arith))
     ] in
     rw (c.new.ensures, cast_value c.max-value.result within)
-    (filled_accepted _ c.load-load.ensures.sound c.requires _ _ _ _ room c.in_ok-pieces.ensures.2 _
+    (filled_accepted _ c.load-load.ensures.sound c.requires _ _ _ _ room c.in_ok-pieces.ensures.filled.2 _
     bounded)
 
 pub returns-clause-best : goal.returns-clause-best
 returns-clause-best g c =
     accepted-best_drawing _ _ c.load-load.ensures.sound (returns-clause-accepted g c)
+
+pub returns-clause-rule : goal.returns-clause-rule
+returns-clause-rule g c =
+    let within =
+    value_within _ c.load-load.ensures.sound c.requires _ _ _ _ c.load-load.ensures.value
+    c.first_longest-longest.ensures.job c.time.ensures.value c.max-value.ensures in
+    record {
+      length = c.max-value.result;
+      is_value = cast_value c.max-value.result within;
+      are = rw c.new.ensures c.in_ok-pieces.ensures.wrapped;
+    }
