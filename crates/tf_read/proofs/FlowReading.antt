@@ -1,19 +1,20 @@
 -- The reading of a flow shop, byte by byte.
-use Rattle.std.proofs.Common.{◌≡◌, ℕ, ◌+◌, ◌*◌, ◌<◌, ◌≤◌, ◌||◌, Bool, true, false, not, cond, eqb, ltb, List, [], ◌∷◌, ◌++◌, length, Option, Some, None, Result, Err, refl, sym, ap, subst, ◌∙◌, arith, inl, inr, append_assoc, mul-le-mul_left}
+use Rattle.std.proofs.Common.{◌≡◌, ◌≢◌, ℕ, ◌+◌, ◌*◌, ◌<◌, ◌≤◌, ◌||◌, Bool, true, false, not, cond, eqb, ltb, List, [], ◌∷◌, ◌++◌, length, Option, Some, None, Result, Ok, Err, refl, sym, ap, subst, ◌∙◌, arith, inl, inr, append_assoc, mul-le-mul_left}
 use Rattle.std.proofs.lemmas.Bool.{cases_Bool, lt-ltb, le-ltb, ne_eqb, false≢true}
 use Rattle.std.proofs.lemmas.List.{append-nil}
 use Rattle.std.proofs.lemmas.List.Folds.{list_all-append}
 use Rattle.tf_words.specs.Words.{Word, words, lines, words_from}
 use Rattle.tf_model.specs.Limit.{most_bytes, most_jobs, most_machines}
 use Rattle.tf_read.specs.declared.fault.ReadFault.{ReadFault}
-use Rattle.tf_read.specs.declared.fault.ReadFault.TheVariants.{TooLong, EndsEarly, NoInstance}
+use Rattle.tf_read.specs.declared.fault.ReadFault.TheVariants.{TooLong, EndsEarly, NoInstance, NoJobs, TooManyJobs, BadLine, BadPair, OutOfMemory}
 use Rattle.tf_read.specs.declared.heading.HeadingLine.{HeadingLine}
 use Rattle.tf_read.specs.declared.heading.HeadingLine.TheVariants as heading
 use Rattle.tf_read.specs.declared.sizes.SizesLine.{SizesLine}
 use Rattle.tf_read.specs.declared.sizes.SizesLine.TheVariants as sizes
+use Rattle.tf_model.specs.InstanceData.{InstanceData}
 use Rattle.tf_model.specs.Outcome.{◌>>=◌}
 use Rattle.tf_read.specs.Faults.{Fails, each_from}
-use Rattle.tf_read.specs.FlowShop.{are_machines, shop_number, shop_of, pairs_of, sized, sizes_in, from_sizes, is_name_line, from_heading, flow_shop}
+use Rattle.tf_read.specs.FlowShop.{IsOfPairs, are_machines, shop_number, shop_of, pairs_of, sized, sizes_in, from_sizes, is_name_line, from_heading, flow_shop}
 use Rattle.tf_read.specs.PresentLine.{AreOfLine}
 use Rattle.tf_read.specs.Heading.{HeadingShown}
 use Rattle.tf_read.specs.Sizes.{SizesShown, judged_sizes}
@@ -21,7 +22,7 @@ use Rattle.tf_read.specs.declared.word_feed.WordFeed.{WordFeed}
 use Rattle.tf_read.specs.Pairs.{Pairs, ReadsShop}
 use Rattle.tf_read.specs.Said.{Says}
 use Rattle.tf_read.specs.WordFeed.{HasFed}
-use Rattle.tf_read.specs.FlowStage.{WantsHeading, WantsSizes, ReadsPairs, HasEnded}
+use Rattle.tf_read.specs.FlowStage.{WantsHeading, WantsSizes, ReadsPairs, EndsBy, HasEnded}
 use Rattle.tf_read.proofs.FlowLines.{sizes_found, sizes_later, no_sizes, heading_found, heading_later, no_heading}
 use Rattle.tf_read.proofs.Progress.{all_of}
 use Rattle.tf_read.proofs.PresentLine.{line_over, line_last}
@@ -274,7 +275,52 @@ pairs_outcome name pair words fed h =
     ∙ ap (λ text. h.1 (words_from h.0 (lines text))) (append-nil h.2)
 
 pub ended_outcome : (name : List ℕ) (pair : Option (ℕ × ℕ)) (fault : ReadFault) (fed : List ℕ)
-    → HasEnded name pair fault fed → Fails fault (from_heading name pair 1 (lines fed))
+    → HasEnded name pair fault fed → EndsBy fault (from_heading name pair 1 (lines fed))
 ended_outcome name pair fault fed h =
-    subst (λ (text : List ℕ). Fails fault (from_heading name pair 1 (lines text))) (append-nil fed)
+    subst (λ (text : List ℕ). EndsBy fault (from_heading name pair 1 (lines text))) (append-nil fed)
     (h [])
+
+-- a fault but want of memory ends the reading, and so is one of the text
+pub ends_by : (fault : ReadFault) (r : Result InstanceData ReadFault) → fault ≢ OutOfMemory
+    → r ≡ Err fault → EndsBy fault r
+ends_by OutOfMemory r differs h = absurd (differs refl)
+ends_by _ r differs h = h
+
+pub ends_fault : (fault : ReadFault) (r : Result InstanceData ReadFault) → EndsBy fault r
+    → Fails fault r
+ends_fault OutOfMemory r h = tt
+ends_fault _ r h = h
+
+pub ends_wanting : (fault : ReadFault) (r : Result InstanceData ReadFault)
+    → fault ≡ OutOfMemory → EndsBy fault r → IsOfPairs r
+ends_wanting fault r is h = subst (λ e. EndsBy e r) is h
+
+-- the sizes are no want of memory
+pub sizes_fault : (pair : Option (ℕ × ℕ)) (line : ℕ) (sizes : ℕ × ℕ) (fault : ReadFault)
+    → judged_sizes pair line sizes ≡ Err fault → fault ≢ OutOfMemory
+sizes_fault pair line sizes fault h = elim (cases_Bool (eqb sizes.0 0)) [
+  | inl e ↦ let is : Err NoJobs ≡ Err fault = rw e at h in λ same. (let f : ⊥ = cc in f)
+  | inr e ↦ elim (cases_Bool (ltb most_jobs sizes.0)) [
+    | inl f ↦ let is : Err TooManyJobs ≡ Err fault = rw (e, f) at h in λ same. (let f : ⊥ = cc in f)
+    | inr f ↦ elim (cases_Bool (eqb sizes.1 0 || ltb most_machines sizes.1)) [
+      | inl g ↦ let is : Err (BadLine line) ≡ Err fault = rw (e, f, g) at h in λ same. (let f : ⊥ = cc in f)
+      | inr g ↦ elim (cases_Bool (not (are_machines sizes.1 pair))) [
+        | inl p ↦ let is : Err BadPair ≡ Err fault = rw (e, f, g, p) at h in λ same. (let f : ⊥ = cc in f)
+        | inr p ↦ let is : Ok sizes ≡ Err fault = rw (e, f, g, p) at h in λ same. (let f : ⊥ = cc in f)
+      ]
+    ]
+  ]
+]
+
+-- what is read behind the sizes is the outcome of pairs
+pub pairs_of_words : (name : List ℕ) (pair : Option (ℕ × ℕ)) (words : WordFeed Pairs)
+    (fed : List ℕ) → ReadsPairs name pair words fed
+    → IsOfPairs (from_heading name pair 1 (lines fed))
+pairs_of_words name pair words fed h =
+    let p : Pairs = words.judge in (
+      p.jobs,
+      p.machines,
+      p.pair,
+      words_from h.0 (lines h.2),
+      pairs_outcome name pair words fed h ∙ h.3.2.0 (words_from h.0 (lines h.2)),
+    )

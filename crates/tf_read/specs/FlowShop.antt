@@ -1,5 +1,5 @@
 -- Flow shop texts: the instance of a name that a text holds, or its first fault.
-use Rattle.std.specs.Prelude.{ℕ, ◌+◌, ◌*◌, ◌/◌, ◌%◌, Bool, true, not, ◌&&◌, ◌||◌, List, [], ◌∷◌, length, map, take, Option, Some, None, Result, Ok, Err, ℤ, pos, negsuc, codes, nat_lt, ◌==◌, if◌then◌else◌}
+use Rattle.std.specs.Prelude.{◌≡◌, ℕ, ◌+◌, ◌*◌, ◌/◌, ◌%◌, Bool, true, not, ◌&&◌, ◌||◌, List, [], ◌∷◌, length, map, take, Option, Some, None, Result, Ok, Err, ℤ, pos, negsuc, codes, nat_lt, ◌==◌, if◌then◌else◌}
 use Rattle.std.specs.List.{range_with_len}
 use Rattle.std.specs.Option.{option_map_or}
 use Rattle.std.specs.Str.{bytes_eq}
@@ -92,6 +92,11 @@ unfoldable pub pairs_of : ℕ → ℕ → Option (ℕ × ℕ) → List Word → 
 pairs_of jobs machines pair words =
     each_from (shop_number machines) 0 (take (2 * jobs * machines) words)
     >>= λ numbers. shop_of jobs machines pair numbers
+
+-- it is what words say of the pairs of some jobs on some machines
+abbrev pub IsOfPairs : Result InstanceData ReadFault → Type 0
+IsOfPairs outcome = (jobs : ℕ) × (machines : ℕ) × (pair : Option (ℕ × ℕ)) × (words : List Word)
+    × (outcome ≡ pairs_of jobs machines pair words)
 
 -- two machines that are there, and not the same
 abbrev pub are_machines : ℕ → Option (ℕ × ℕ) → Bool

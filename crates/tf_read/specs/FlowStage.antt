@@ -1,14 +1,15 @@
 -- Where the reading of a flow shop stands.
-use Rattle.std.specs.Prelude.{◌≡◌, ℕ, List, ◌++◌, Option}
+use Rattle.std.specs.Prelude.{◌≡◌, ℕ, List, ◌++◌, Option, Result, Err}
+use Rattle.tf_model.specs.InstanceData.{InstanceData}
 use Rattle.tf_words.specs.Words.{lines, words_from}
 use Rattle.tf_read.specs.declared.fault.ReadFault.{ReadFault}
 use Rattle.tf_read.specs.declared.heading.HeadingLine.{HeadingLine}
 use Rattle.tf_read.specs.declared.sizes.SizesLine.{SizesLine}
 use Rattle.tf_read.specs.declared.flow_stage.Stage.{Stage}
 use Rattle.tf_read.specs.declared.flow_stage.Stage.TheVariants.{Heading, Sizes, Pairs, Ended}
-use Rattle.tf_read.specs.Faults.{Fails}
+use Rattle.tf_read.specs.declared.fault.ReadFault.TheVariants.{OutOfMemory}
 use Rattle.tf_read.specs.declared.word_feed.WordFeed.{WordFeed}
-use Rattle.tf_read.specs.FlowShop.{from_sizes, from_heading}
+use Rattle.tf_read.specs.FlowShop.{IsOfPairs, from_sizes, from_heading}
 use Rattle.tf_read.specs.Pairs.{Pairs as PairsSoFar, ReadsShop}
 use Rattle.tf_read.specs.Said.{Says}
 use Rattle.tf_read.specs.WordFeed.{HasFed}
@@ -43,10 +44,15 @@ ReadsPairs name pair words fed = (first : ℕ) × (says : Says) × (behind : Lis
     → from_heading name pair 1 (lines (fed ++ more))
     ≡ says (words_from first (lines (behind ++ more))))
 
--- the outcome is settled, unless memory ran out
+-- the outcome is this fault; where memory ran out it is that of pairs
+abbrev pub EndsBy : ReadFault → Result InstanceData ReadFault → Type 0
+EndsBy OutOfMemory outcome = IsOfPairs outcome
+EndsBy fault outcome = outcome ≡ Err fault
+
+-- the outcome is settled, or memory ran out behind the sizes
 abbrev pub HasEnded : List ℕ → Option (ℕ × ℕ) → ReadFault → List ℕ → Type 0
 HasEnded name pair fault fed = (more : List ℕ)
-    → Fails fault (from_heading name pair 1 (lines (fed ++ more)))
+    → EndsBy fault (from_heading name pair 1 (lines (fed ++ more)))
 
 abbrev pub HasTakenShop : {A : Type 0} → List ℕ → Option (ℕ × ℕ) → Stage A → List ℕ → Type 0
 HasTakenShop name pair (Heading line shown) fed = WantsHeading name pair line shown fed

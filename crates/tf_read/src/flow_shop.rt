@@ -32,6 +32,7 @@ impl<'a, A: Allocator + Copy> FlowReader<'a, A> {
     ghost use Rattle.tf_model.specs.Limit.{most_bytes};
     ghost use Rattle.tf_read.specs.Said.{TextSays};
     ghost use Rattle.tf_read.specs.FlowReader.{HasFedShop};
+    ghost use Rattle.tf_read.specs.FlowShop.{IsOfPairs};
 
     /// The reader of the instance of this name, and of this pair of machines, if there is one. It
     /// takes no memory.
@@ -52,6 +53,9 @@ impl<'a, A: Allocator + Copy> FlowReader<'a, A> {
     pub fn into_numbers(self) -> Result<InstanceNumbers<A>, ReadFault>
         ensures given { (says : TextSays) (fed : List ℕ) → HasFedShop self.entry says fed →
             Gives (λ i. i) result (says fed) }
+        // Memory is wanting only where the heading and the sizes are over and are no fault.
+        ensures sized { (says : TextSays) (fed : List ℕ) → HasFedShop self.entry says fed →
+            result ≡ Err ReadFault.OutOfMemory → IsOfPairs (says fed) }
         // A text that is too long comes before a growth that was refused.
         ensures too_long { (says : TextSays) (fed : List ℕ) → HasFedShop self.entry says fed →
             most_bytes < length fed → result ≡ Err ReadFault.TooLong }
@@ -67,6 +71,8 @@ impl<'a, A: Allocator + Copy> FlowReader<'a, A> {
     pub fn finish(self) -> Result<Instance<A>, ReadFault>
         ensures given { (says : TextSays) (fed : List ℕ) → HasFedShop self.entry says fed →
             Gives (λ i. i) result (says fed) }
+        ensures sized { (says : TextSays) (fed : List ℕ) → HasFedShop self.entry says fed →
+            result ≡ Err ReadFault.OutOfMemory → IsOfPairs (says fed) }
         ensures too_long { (says : TextSays) (fed : List ℕ) → HasFedShop self.entry says fed →
             most_bytes < length fed → result ≡ Err ReadFault.TooLong }
     {

@@ -1,11 +1,11 @@
 //! Where the reading of a flow shop stands: at the heading, at the sizes, or at the pairs.
-ghost use Rattle.std.specs.Prelude.{◌≡◌, ℕ, ◌+◌, ◌^◌, ◌<◌, ◌≤◌, List, [], ◌∷◌, ◌++◌, length, take, Option};
+ghost use Rattle.std.specs.Prelude.{◌≡◌, ◌≢◌, ℕ, ◌+◌, ◌^◌, ◌<◌, ◌≤◌, List, [], ◌∷◌, ◌++◌, length, take, Option};
 ghost use Rattle.tf_words.specs.Words.{lines, words_from};
 ghost use Rattle.tf_read.specs.Faults.{Gives};
 ghost use Rattle.tf_read.specs.PresentLine.{AreOfLine};
 ghost use Rattle.tf_read.specs.Heading.{HeadingShown};
 ghost use Rattle.tf_read.specs.Sizes.{SizesShown};
-ghost use Rattle.tf_read.specs.FlowShop.{sized, from_sizes, from_heading};
+ghost use Rattle.tf_read.specs.FlowShop.{IsOfPairs, sized, from_sizes, from_heading};
 ghost use Rattle.tf_read.specs.FlowStage.{line_of, WantsHeading, WantsSizes, HasTakenShop};
 
 use crate::fault::ReadFault;
@@ -91,9 +91,10 @@ fn below_sizes<A: Allocator + Copy>(
 
 /// The fault of a text that ends on a line on which the heading was wanted.
 fn without_sizes(name: &[u8], shown: HeadingLine) -> ReadFault
-    ensures { (pair : Option (ℕ × ℕ)) (line : ℕ) (bytes : List ℕ) → AreOfLine bytes →
+    ensures fault { (pair : Option (ℕ × ℕ)) (line : ℕ) (bytes : List ℕ) → AreOfLine bytes →
         HeadingShown name.now bytes shown →
         from_heading name.now pair line (lines bytes) ≡ Err result }
+    ensures memory { result ≢ ReadFault.OutOfMemory }
 {
     if shown.is_heading(name) {
         ReadFault::EndsEarly
@@ -104,8 +105,9 @@ fn without_sizes(name: &[u8], shown: HeadingLine) -> ReadFault
 
 /// The fault of a text that ends on a line on which the sizes were wanted.
 fn without_pairs(pair: Option<(u32, u32)>, line: u32, shown: SizesLine) -> ReadFault
-    ensures { (bytes : List ℕ) → AreOfLine bytes → SizesShown bytes shown →
+    ensures fault { (bytes : List ℕ) → AreOfLine bytes → SizesShown bytes shown →
         from_sizes pair line (lines bytes) ≡ Err result }
+    ensures memory { result ≢ ReadFault.OutOfMemory }
 {
     match shown.sizes() {
         None => ReadFault::EndsEarly,
@@ -211,8 +213,11 @@ impl<A: Allocator + Copy> Stage<A> {
     /// The numbers of the instance, where the text ends here, or the first fault. It takes no
     /// memory.
     pub(crate) fn ended(self, wanted: &Wanted<'_>) -> Result<InstanceNumbers<A>, ReadFault>
-        ensures { (fed : List ℕ) → HasTakenShop wanted.now.name.now wanted.now.pair self fed →
+        ensures given { (fed : List ℕ) → HasTakenShop wanted.now.name.now wanted.now.pair self fed →
             Gives (λ i. i) result (from_heading wanted.now.name.now wanted.now.pair 1 (lines fed)) }
+        ensures wants { (fed : List ℕ) → HasTakenShop wanted.now.name.now wanted.now.pair self fed →
+            result ≡ Err ReadFault.OutOfMemory →
+            IsOfPairs (from_heading wanted.now.name.now wanted.now.pair 1 (lines fed)) }
     {
         match self {
             Stage::Heading(_, shown) => Err(without_sizes(wanted.name, shown)),
