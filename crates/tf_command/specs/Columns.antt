@@ -1,6 +1,6 @@
 -- How many columns a chart may have.
 use Rattle.std.specs.Prelude.{◌≤◌}
-use Rattle.tf_text.specs.declared.chart.TheConstants.{MOST_COLUMNS}
+use Rattle.tf_text.specs.Chart.{most_columns}
 use Rattle.tf_command.specs.declared.options.Drawing.{Drawing}
 use Rattle.tf_command.specs.declared.options.Drawing.TheVariants.{Chart, Picture}
 use Rattle.tf_command.specs.declared.options.Work.{Work as Asking}
@@ -10,7 +10,7 @@ use Rattle.tf_command.specs.declared.options.Asked.TheVariants.{Work}
 
 -- a chart has some columns, and no more than there is room for
 abbrev pub HasWidth : Drawing → Type 0
-HasWidth (Chart columns) = (1 ≤ columns) × (columns ≤ MOST_COLUMNS)
+HasWidth (Chart columns) = (1 ≤ columns) × (columns ≤ most_columns)
 HasWidth Picture = Unit {0}
 
 -- the same of what is asked for

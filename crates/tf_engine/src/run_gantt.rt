@@ -1,5 +1,6 @@
 //! Drawing an answer, from bytes to bytes.
 ghost use Rattle.std.specs.Prelude.{◌≤◌};
+ghost use Rattle.tf_text.specs.Chart.{most_columns};
 ghost use Rattle.tf_text.specs.Counted.{use_of};
 ghost use Rattle.tf_engine.specs.Devices.{LeavesDrawing};
 ghost use Rattle.tf_engine.specs.Drawing.{IsDrawingOf, IsChart};
@@ -10,7 +11,7 @@ use crate::schedule_said::schedule_said;
 use crate::sheet_read::sheet_read;
 use std::alloc::Allocator;
 use std::io::{Read, Write};
-use tf_text::chart::{MOST_COLUMNS, write_gantt};
+use tf_text::chart::write_gantt;
 use tf_text::counted::Counted;
 
 /// Reads an answer to its end and writes the chart of its schedule, in `columns` columns at most.
@@ -25,7 +26,7 @@ pub fn run_gantt<A: Allocator + Copy, R: Read, W: Write>(
     writer: &mut Counted<W>,
     columns: u32,
 ) -> Result<(), RunFault<A>>
-    requires columns { (1 ≤ columns) × (columns ≤ MOST_COLUMNS) }
+    requires columns { (1 ≤ columns) × (columns ≤ most_columns) }
     ensures outcome { IsDrawingOf (IsChart columns) (use_of R.remaining reader.old reader.new)
         (use_of W.contents writer.old writer.new) result }
     ensures devices { LeavesDrawing R.remaining reader.old reader.new writer.old writer.new

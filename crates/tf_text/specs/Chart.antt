@@ -6,6 +6,10 @@ use Rattle.std.specs.Fmt.{decimal}
 use Rattle.tf_schedule.specs.declared.piece.Piece.{Piece}
 use Rattle.tf_schedule.specs.Drawing.{job_at, greatest_stop}
 
+-- the most columns of a chart
+abbrev pub most_columns : ℕ
+most_columns = 1000
+
 -- the time that column c, counted from 0, shows: its own where there is a column for each time
 -- step, else times spread evenly
 abbrev pub column_time : ℕ → ℕ → ℕ → ℕ

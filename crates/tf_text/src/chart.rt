@@ -4,7 +4,7 @@ ghost use Rattle.std.specs.Prelude.{◌≡◌, ◌≤◌, ◌<◌, ◌+◌, ◌^
 ghost use Rattle.arrayvec.specs.ArrayVec.{array_vec_len};
 ghost use Rattle.tf_schedule.specs.Drawing.{greatest_stop, job_at};
 ghost use Rattle.tf_text.specs.Counted.{inner_of, has_failed, AppendsPrefix};
-ghost use Rattle.tf_text.specs.Chart.{column_time, cell_sign, cell_signs, machine_line, length_line, chart_text};
+ghost use Rattle.tf_text.specs.Chart.{most_columns, column_time, cell_sign, cell_signs, machine_line, length_line, chart_text};
 ghost use Rattle.std.specs.Io.KnownBytes.{Appends};
 
 use crate::counted::{Counted, Device};
@@ -38,7 +38,7 @@ pub fn write_gantt<A: Allocator, W: Write>(
     columns: u32,
 ) -> Result<(), Device>
     requires machines { (1 ≤ machines) × (machines ≤ most_machines) }
-    requires columns { (1 ≤ columns) × (columns ≤ MOST_COLUMNS) }
+    requires columns { (1 ≤ columns) × (columns ≤ most_columns) }
     ensures written { OnOk result (Appends (W.contents (inner_of writer.old))
         (W.contents (inner_of writer.new)) (chart_text schedule.now machines columns)) }
     ensures unfailed { OnOk result (has_failed writer.new ≡ false) }
@@ -83,7 +83,7 @@ fn machine_line<A: Allocator>(
     machine: MachineId,
 ) -> Line
     requires length { (length ≡ greatest_stop schedule.now) × (length < 2 ^ 63) }
-    requires columns { columns ≤ MOST_COLUMNS }
+    requires columns { columns ≤ most_columns }
     ensures { result.items ≡ machine_line schedule.now columns machine }
 {
     let mut line = Line::new();

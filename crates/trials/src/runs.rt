@@ -1,6 +1,6 @@
 //! What a run is asked for, and the runs on bytes.
 ghost use Rattle.std.specs.Prelude.{◌≤◌};
-ghost use Rattle.tf_text.specs.declared.chart.TheConstants.{MOST_COLUMNS};
+ghost use Rattle.tf_text.specs.Chart.{most_columns};
 
 use crate::examples::{Example, Given};
 use std::alloc::{AllocError, Allocator};
@@ -97,7 +97,7 @@ pub fn draw_into<A: Allocator + Copy>(
     columns: u32,
     out: &mut Vec<u8>,
 ) -> Result<(), RunFault<A>>
-    requires { (1 ≤ columns) × (columns ≤ MOST_COLUMNS) }
+    requires { (1 ≤ columns) × (columns ≤ most_columns) }
 {
     let mut answer = Counted::new(answer);
     let mut writer = Counted::new(out);
