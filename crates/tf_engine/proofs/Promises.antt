@@ -107,7 +107,7 @@ past_answer (Refuses (ByPieces fault)) h = refl
 past_answer (Refuses (ByNotation byte)) h = cc
 past_answer (Refuses (ByText fault)) h = cc
 past_answer (Refuses (ByTask refusal)) h = cc
-past_answer (Refuses (ByCycle jobs)) h = cc
+past_answer (Refuses (ByCycle jobs)) h = refl
 past_answer Fails h = cc
 past_answer Wants h = cc
 

@@ -1,6 +1,6 @@
 -- Checks, from what was read on.
 use Rattle.std.proofs.Common.{◌≡◌, ℕ, List, Option, Bool, true, Ok, Err, inr, refl}
-use Rattle.std.specs.Io.KnownBytes.{Appends}
+use Rattle.std.specs.Io.KnownBytes.{Appends, Keeps}
 use Rattle.tf_text.specs.declared.counted.Counted.{Counted}
 use Rattle.tf_text.specs.Counted.{AppendsPrefix, DeviceUse, use_of, unused}
 use Rattle.tf_engine.specs.declared.case.Case.{Case}
@@ -49,14 +49,15 @@ module _ (A T U : Type 0) (request : RequestData) (remaining : T → Option (Lis
 
       module _ (writer : DeviceUse) where
         -- nothing was written where memory was wanting
-        pub check_wanting : IsCheckOf {A = A} request (use_of remaining old new)
+        pub check_wanting : Keeps writer.before writer.after
+            → IsCheckOf {A = A} request (use_of remaining old new)
             (use_of giving before after) writer (Err OutOfMemory)
-        check_wanting = record {
+        check_wanting kept = record {
           text = had.text;
           is_all = had.is_all;
           answer_text = had.answer_text;
           is_whole_answer = had.is_whole_answer;
-          outcome = tt;
+          outcome = kept;
         }
 
         module _ (checked : Checked) (verdict : IsVerdict case.asked.task case.sheet checked) where

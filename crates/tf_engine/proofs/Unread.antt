@@ -1,6 +1,7 @@
 -- Runs that gave no answer.
 use Rattle.std.proofs.Common.{◌≡◌, ℕ, zero, suc, ◌+◌, ◌<◌, List, [], ◌∷◌, Option, None, Some, Ok, Err, IfSome, IsErrAnd, Result, length, refl, sym, ap, subst, inl, inr, Bool, true, arith}
 use Rattle.std.proofs.lemmas.Bool.{lt-ltb}
+use Rattle.std.specs.Io.KnownBytes.{Keeps}
 use Rattle.std.proofs.KnownBytes.{Keeps-refl}
 use Rattle.tf_model.specs.Limit.{most_bytes}
 use Rattle.tf_model.specs.declared.problem.Problem.{Problem}
@@ -75,18 +76,19 @@ pub part_stops : (Says : List ℕ → Type 0) (P Q : Refused → Type 0) (R : Ty
     (held : Option (List ℕ)) (writer : Bool)
     → ((refused : Refused) → P refused → Q refused)
     → (s : Stop) → StopsBy P s → Leaves Says Q R (unused held writer) s
-part_stops Says P Q R held writer more (Refuses refused) h = more refused h
+part_stops Says P Q R held writer more (Refuses refused) h = (more refused h, Keeps-refl held)
 part_stops Says P Q R held writer more Fails h = absurd h
-part_stops Says P Q R held writer more Wants h = tt
+part_stops Says P Q R held writer more Wants h = Keeps-refl held
 
 -- and so does a part that reads alone
 pub reading_stops : (Says : List ℕ → Type 0) (P Q : Refused → Type 0) (F R : Type 0)
     (held : Option (List ℕ)) (writer : Bool)
     → ((refused : Refused) → P refused → Q refused) → (F → R)
     → (s : Stop) → StopsReading P F s → Leaves Says Q R (unused held writer) s
-reading_stops Says P Q F R held writer more failed (Refuses refused) h = more refused h
+reading_stops Says P Q F R held writer more failed (Refuses refused) h =
+    (more refused h, Keeps-refl held)
 reading_stops Says P Q F R held writer more failed Fails h = inl (failed h, Keeps-refl held)
-reading_stops Says P Q F R held writer more failed Wants h = tt
+reading_stops Says P Q F R held writer more failed Wants h = Keeps-refl held
 
 -- ---- of a solving run
 
@@ -117,16 +119,17 @@ run_unasked A T request remaining old new held writer e h = record {
       (λ refused same. inl same) (λ failed. failed) (stop_of e) h.given;
 }
 
--- a prefix of the answer was written where the writer failed
+-- a prefix of the answer was written where the writer failed, and nothing where memory was wanting
 pub run_unwritten : (A : Type 0) (request : RequestData) (reader writer : DeviceUse)
     (text : List ℕ) (sheet : SheetData) (f : WriteFault)
     → IsTextOf reader.before text → IsSolved request text sheet
     → (f ≡ writes.Device → (writer.failed ≡ true)
     × AppendsPrefix writer.before writer.after (answer_text request.layout sheet))
+    → (f ≡ writes.OutOfMemory → Keeps writer.before writer.after)
     → IsRunOf request reader writer (Err (of_write {A = A} f))
-run_unwritten A request reader writer text sheet writes.OutOfMemory is solved prefix =
-    record { text = text; is_all = is; outcome = tt }
-run_unwritten A request reader writer text sheet writes.Device is solved prefix =
+run_unwritten A request reader writer text sheet writes.OutOfMemory is solved prefix kept =
+    record { text = text; is_all = is; outcome = kept refl }
+run_unwritten A request reader writer text sheet writes.Device is solved prefix kept =
     let (failed, written) = prefix refl in
     record {
       text = text;

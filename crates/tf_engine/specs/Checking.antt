@@ -65,8 +65,8 @@ HasReaderFailed request text instance answer =
     (instance.failed ≡ true) ⊎ (IsOk (task_for request text) × (answer.failed ≡ true))
 
 -- A check says its verdict in one line, or gives the one refusal. Where memory was wanting it gives
--- neither; where a reader failed nothing was written, and where the writer failed a prefix of the
--- line was.
+-- neither. Nothing was written then, nor after a refusal or where a reader failed; where the writer
+-- failed a prefix of the line was.
 abbrev pub CheckOutcome : {A : Type 0} → RequestData → List ℕ → List ℕ → DeviceUse → DeviceUse
     → DeviceUse → Result Checked (RunFault A) → Type 0
 CheckOutcome request text answer_text instance answer writer (Ok checked) =

@@ -45,8 +45,8 @@ IsRefusedDrawing text refused =
     ⊎ IsUndrawn text refused
 
 -- A drawing run writes what shows the sheet, or gives the one refusal. Where memory was wanting it
--- gives neither; where the reader failed nothing was written, and where the writer failed a prefix
--- of what shows the sheet was.
+-- gives neither. Nothing was written then, nor after a refusal or where the reader failed; where the
+-- writer failed a prefix of what shows the sheet was.
 abbrev pub DrawingOutcome : {A : Type 0} → (SheetData → List ℕ → Type 0) → List ℕ → DeviceUse
     → DeviceUse → Result (Unit {0}) (RunFault A) → Type 0
 DrawingOutcome Shows text reader writer (Ok _) =

@@ -48,11 +48,12 @@ is_of_answer (Refuses (ByAnswer fault)) = true
 is_of_answer _ = false
 
 -- a refusal that comes after the whole answer text was read: a fault of the text but that it is too
--- long, or of its pieces
+-- long, one of its pieces, or a cycle
 abbrev pub is_past_answer : Stop → Bool
 is_past_answer (Refuses (ByAnswer answers.TooLong)) = false
 is_past_answer (Refuses (ByAnswer fault)) = true
 is_past_answer (Refuses (ByPieces fault)) = true
+is_past_answer (Refuses (ByCycle jobs)) = true
 is_past_answer _ = false
 
 -- what is said only after the whole answer text was read
@@ -82,10 +83,12 @@ is_on_instance (Refuses (ByText fault)) = true
 is_on_instance (Refuses (ByTask refusal)) = true
 is_on_instance _ = false
 
--- a refusal for the sake of the answer text or of its pieces
+-- a refusal for the sake of the answer text or of its pieces, or one that comes after it was read: a
+-- cycle
 abbrev pub is_on_answer : Stop → Bool
 is_on_answer (Refuses (ByAnswer fault)) = true
 is_on_answer (Refuses (ByPieces fault)) = true
+is_on_answer (Refuses (ByCycle jobs)) = true
 is_on_answer _ = false
 
 -- how a run ends: by a stop, or with a value
@@ -113,7 +116,7 @@ abbrev pub ends_past_text : Option Stop → Bool
 ends_past_text None = true
 ends_past_text (Some s) = is_past_text s
 
--- it ends with a value, or for the answer's sake
+-- it ends with a value, for the answer's sake, or with a cycle
 abbrev pub ends_on_answer : Option Stop → Bool
 ends_on_answer None = true
 ends_on_answer (Some s) = is_on_answer s

@@ -15,10 +15,11 @@ use Rattle.tf_model.specs.Limit.{most_bytes}
 use Rattle.tf_engine.specs.declared.run_check.Checked.TheVariants.{Accepted}
 use Rattle.tf_engine.specs.Checking.{IsChecked}
 use Rattle.tf_engine.specs.Refusal.{problem_for, task_for}
+use Rattle.tf_engine.specs.Rules.{IsByRule}
 use Rattle.tf_engine.specs.Runs.{Leaves}
 
 -- a sheet with the request's problem, the task's sizes, and a best answer, whose certificate shows
--- that it is best
+-- that it is best, and which is that of the class's rule
 pub record IsSheetFor (request : RequestData) (k : SchedulingTask) (sheet : SheetData) : Type 0
   where
     pub problem : problem_for request.problem ≡ Ok sheet.problem
@@ -26,6 +27,7 @@ pub record IsSheetFor (request : RequestData) (k : SchedulingTask) (sheet : Shee
     pub machines : sheet.machines ≡ k.machines
     pub accepted : IsAccepted k sheet.answer
     pub best : IsBestAnswer k sheet.answer
+    pub rule : IsByRule k sheet.answer
     -- its numbers are in the ranges of an answer text
     pub readable : IsReadable request.layout sheet
 
@@ -56,8 +58,9 @@ IsRefusedRun request text refused =
     (task_for request text ≡ Err refused)
     ⊎ ((jobs : List ℕ) × (refused ≡ ByCycle jobs) × IsCyclic request text jobs)
 
--- A run answers in full, or gives the one refusal. Where memory was wanting it gives neither; where
--- the reader failed nothing was written, and where the writer failed a prefix of an answer was.
+-- A run answers in full, or gives the one refusal. Where memory was wanting it gives neither.
+-- Nothing was written then, nor after a refusal or where the reader failed; where the writer failed a
+-- prefix of an answer was.
 abbrev pub Outcome : {A : Type 0} → RequestData → List ℕ → DeviceUse → DeviceUse
     → Result (Unit {0}) (RunFault A) → Type 0
 Outcome request text reader writer (Ok _) =

@@ -4,6 +4,7 @@ pub mod RequestData
 pub mod Faults
 pub mod Refusal
 pub mod Solvers
+pub mod Rules
 pub mod Runs
 pub mod VerdictLine
 pub mod Checking

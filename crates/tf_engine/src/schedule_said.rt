@@ -1,8 +1,8 @@
 //! From a sheet to its schedule.
-ghost use Rattle.std.specs.Prelude.{◌≡◌, IfOk, IfErr};
+ghost use Rattle.std.specs.Prelude.{◌≡◌, ◌≢◌, IfOk, IfErr};
 ghost use Rattle.std.specs.List.Sorted.{IsPermutation};
 ghost use Rattle.tf_schedule.specs.Schedule.{IsSchedule};
-ghost use Rattle.tf_engine.specs.Faults.{stop_of};
+ghost use Rattle.tf_engine.specs.Faults.{Wants, stop_of};
 ghost use Rattle.tf_engine.specs.Drawing.{IsOfPieces};
 ghost use Rattle.tf_engine.specs.Parts.{StopsBy};
 
@@ -17,6 +17,7 @@ pub fn schedule_said<A: Allocator>(sheet: Sheet<A>) -> Result<Schedule<A>, RunFa
     ensures kept { IfOk result (λ s. IsPermutation sheet.answer.pieces s) }
     ensures schedule { IfOk result IsSchedule }
     ensures refused { IfErr result (λ e. StopsBy (IsOfPieces sheet.answer.pieces) (stop_of e)) }
+    ensures memory { IfErr result (λ e. stop_of e ≢ Wants) }
 {
     let Answer { pieces, .. } = sheet.into_answer();
     Ok(Schedule::new(pieces.into_vec())?)

@@ -3,6 +3,7 @@ ghost use Rattle.std.specs.Prelude.{◌≡◌, IfOk, IfErr};
 ghost use Rattle.tf_model.specs.Sound.{IsSound};
 ghost use Rattle.tf_engine.specs.declared.solve.SolveFault.TheVariants.{OutOfMemory as NoMemory};
 ghost use Rattle.tf_check.specs.Accepted.{IsAccepted, IsBestAnswer};
+ghost use Rattle.tf_engine.specs.Rules.{IsByRule};
 ghost use Rattle.tf_engine.specs.Solvers.{IsNotSolved, of_lawler};
 
 use std::alloc::{Allocator, Global};
@@ -62,6 +63,7 @@ pub fn solve<A: Allocator + Copy, B: Allocator>(
 ) -> Result<Answer<A>, SolveFault<A>>
     ensures accepted { IfOk result (IsAccepted task.now) }
     ensures best { IfOk result (IsBestAnswer task.now) }
+    ensures rule { IfOk result (IsByRule task.now) }
     ensures refused { IfErr result (IsNotSolved task.now) }
 {
     answer_of(alloc, task)
@@ -74,6 +76,7 @@ fn answer_of<A: Allocator + Copy, B: Allocator>(
 ) -> Result<Answer<A>, SolveFault<A>>
     ensures sound { IsSound task.now }
     ensures accepted { IfOk result (IsAccepted task.now) }
+    ensures rule { IfOk result (IsByRule task.now) }
     ensures refused { IfErr result (IsNotSolved task.now) }
 {
     match task.class() {

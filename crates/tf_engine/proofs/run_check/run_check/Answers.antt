@@ -1,5 +1,6 @@
 use Rattle.std.proofs.Common.{◌∙◌, refl, subst}
 use Rattle.std.specs.Io.KnownBytes.{Appends}
+use Rattle.std.proofs.KnownBytes.{Keeps-refl}
 use Rattle.tf_text.specs.Counted.{inner_of, AppendsPrefix}
 use Rattle.tf_engine.specs.Checking.{AcceptsUnlessStopped, IsCheckOf}
 use Rattle.tf_engine.specs.Devices.{LeavesCase}
@@ -27,7 +28,8 @@ pub returns-in_err-checked-clause-outcome : goal.returns-in_err-checked-clause-o
 returns-in_err-checked-clause-outcome g c =
     err_is (IsCheckOf c.args.request.now _ _ _) OutOfMemory _
     c.from_residual-in_err-checked.ensures.1
-    (check_wanting g.row.A.Denot _ _ c.args.request.now _ _ _ _ _ _ _ c.in_ok-case.ensures _)
+    (check_wanting g.row.A.Denot _ _ c.args.request.now _ _ _ _ _ _ _ c.in_ok-case.ensures _
+    (Keeps-refl _))
 
 pub returns-in_err-checked-clause-devices : goal.returns-in_err-checked-clause-devices
 returns-in_err-checked-clause-devices g c =
@@ -39,7 +41,8 @@ pub returns-in_err-line-clause-outcome : goal.returns-in_err-line-clause-outcome
 returns-in_err-line-clause-outcome g c =
     err_is (IsCheckOf c.args.request.now _ _ _) OutOfMemory _
     c.from_residual-in_err-line.ensures.1
-    (check_wanting g.row.A.Denot _ _ c.args.request.now _ _ _ _ _ _ _ c.in_ok-case.ensures _)
+    (check_wanting g.row.A.Denot _ _ c.args.request.now _ _ _ _ _ _ _ c.in_ok-case.ensures _
+    (Keeps-refl _))
 
 pub returns-in_err-line-clause-devices : goal.returns-in_err-line-clause-devices
 returns-in_err-line-clause-devices g c =

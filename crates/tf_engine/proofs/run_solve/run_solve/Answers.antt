@@ -1,5 +1,6 @@
-use Rattle.std.proofs.Common.{Err, ap, subst}
-use Rattle.std.specs.Io.KnownBytes.{Appends}
+use Rattle.std.proofs.Common.{Err, ap, subst, sym}
+use Rattle.std.specs.Io.KnownBytes.{Appends, Keeps}
+use Rattle.std.proofs.KnownBytes.{Keeps-refl}
 use Rattle.tf_text.specs.AnswerText.{answer_text}
 use Rattle.tf_text.specs.Counted.{inner_of, AppendsPrefix}
 use Rattle.tf_text.specs.declared.answer.layout.Layout.{Layout}
@@ -52,7 +53,10 @@ returns-in_err-write_answer-clause-outcome g c =
           (g.W.Write.contents (inner_of c.write_answer.new.writer))
           (answer_text layout c.in_ok-sheet.sheet))
           (ap (λ r. r.layout) c.request.view_is) (c.in_err-write_answer.ensures.prefix (ap Err e)),
-    )))
+    ))
+    (λ e. subst (λ w. Keeps (g.W.Write.contents (inner_of c.args.writer.now))
+    (g.W.Write.contents (inner_of w))) (sym (c.in_err-write_answer.ensures.memory (ap Err e)))
+    (Keeps-refl _)))
 
 pub returns-in_err-write_answer-clause-devices : goal.returns-in_err-write_answer-clause-devices
 returns-in_err-write_answer-clause-devices g c =

@@ -12,6 +12,7 @@ returns g c = λ text said. record {
     machines = c.machines.ensures.value;
     accepted = c.in_ok-answer.ensures.accepted;
     best = c.in_ok-answer.ensures.best;
+    rule = c.in_ok-answer.ensures.rule;
     readable = sheet_readable c.args.request.now c.args.asked.now.task _
         c.args.request.now.layout c.len.ensures.sound said.problem c.len.ensures.value
         c.machines.ensures.value c.in_ok-answer.ensures.accepted (search rules);
