@@ -1,6 +1,6 @@
 -- Evaluations, from what was read on.
 use Rattle.std.proofs.Common.{◌≡◌, ℕ, List, Option, Bool, true, false, Ok, Err, refl, inl, inr}
-use Rattle.std.specs.Io.KnownBytes.{Appends}
+use Rattle.std.specs.Io.KnownBytes.{Appends, Keeps}
 use Rattle.tf_text.specs.declared.counted.Counted.{Counted}
 use Rattle.tf_text.specs.Counted.{AppendsPrefix, DeviceUse, use_of, unused}
 use Rattle.tf_engine.specs.declared.case.Case.{Case}
@@ -51,31 +51,37 @@ module _ (A T U : Type 0) (detail : Detail) (request : RequestData)
   module _ (case : Case A) (had : ReadsCase request remaining old new giving before after (Ok case))
       (writer : DeviceUse) where
     -- nor where memory was wanting
-    pub evaluation_wanting : IsEvaluationOf {A = A} detail request (use_of remaining old new)
+    pub evaluation_wanting : Keeps writer.before writer.after
+        → IsEvaluationOf {A = A} detail request (use_of remaining old new)
         (use_of giving before after) writer (Err OutOfMemory)
-    evaluation_wanting = record {
+    evaluation_wanting kept = record {
       text = had.text;
       is_all = had.is_all;
       answer_text = had.answer_text;
       is_whole_answer = had.is_whole_answer;
-      outcome = tt;
+      outcome = kept;
     }
 
     -- nor where the arcs have a cycle
-    pub evaluation_unsolved : (f : SolveFault A) → IsNotSolved case.asked.task f
+    pub evaluation_unsolved : Keeps writer.before writer.after → (f : SolveFault A)
+        → IsNotSolved case.asked.task f
         → IsEvaluationOf detail request (use_of remaining old new) (use_of giving before after)
         writer (Err (of_solve f))
-    evaluation_unsolved solves.OutOfMemory cycle = evaluation_wanting
-    evaluation_unsolved (solves.Cycle jobs) cycle = record {
+    evaluation_unsolved kept solves.OutOfMemory cycle = evaluation_wanting kept
+    evaluation_unsolved kept (solves.Cycle jobs) cycle = record {
       text = had.text;
       is_all = had.is_all;
       answer_text = had.answer_text;
       is_whole_answer = had.is_whole_answer;
-      outcome = inr (inr (
-        jobs,
-        refl,
-        record { task = case.asked.task; meant = had.given.asked.meant; cycle = cycle },
-      ));
+      outcome = (
+        inr (
+          jobs,
+          refl,
+          rw had.given.said refl,
+          record { task = case.asked.task; meant = had.given.asked.meant; cycle = cycle },
+        ),
+        kept,
+      );
     }
 
     module _ (e : EvaluationData) (is : IsEvaluation detail case.asked.problem case.asked.task case.sheet e)

@@ -1,5 +1,5 @@
 -- What an evaluation of an answer text leaves behind.
-use Rattle.std.specs.Prelude.{◌≡◌, ℕ, ◌⊎◌, List, Result, Ok, Err}
+use Rattle.std.specs.Prelude.{◌≡◌, ℕ, ◌⊎◌, List, Result, Ok, Err, IsOk}
 use Rattle.std.specs.Io.KnownBytes.{Appends}
 use Rattle.tf_model.specs.declared.problem.Problem.{Problem}
 use Rattle.tf_model.specs.SchedulingTask.{SchedulingTask}
@@ -8,11 +8,11 @@ use Rattle.tf_text.specs.Input.{IsTextOf}
 use Rattle.tf_text.specs.AnswerText.{SheetData}
 use Rattle.tf_text.specs.AnswerReading.{answer_in}
 use Rattle.tf_engine.specs.declared.fault.RunFault.{RunFault}
-use Rattle.tf_engine.specs.Faults.{Refused, stop_of}
+use Rattle.tf_engine.specs.Faults.{Refused, ByCycle, stop_of}
 use Rattle.tf_engine.specs.RequestData.{RequestData}
 use Rattle.tf_engine.specs.Refusal.{problem_for, task_for}
 use Rattle.tf_engine.specs.Runs.{Leaves}
-use Rattle.tf_engine.specs.Headline.{IsRefusedRun}
+use Rattle.tf_engine.specs.Headline.{IsCyclic}
 use Rattle.tf_engine.specs.Checking.{IsRefusedCheck, HasReaderFailed}
 use Rattle.tf_evaluate.specs.declared.evaluation.Standing.{Standing}
 use Rattle.tf_evaluate.specs.declared.evaluation.Detail.{Detail}
@@ -40,13 +40,17 @@ abbrev pub SaysEvaluation : Detail → RequestData → List ℕ → List ℕ →
 SaysEvaluation detail request instance answer out =
     (e : EvaluationData) × IsEvaluated detail request instance answer e × (out ≡ evaluation_text e)
 
--- the refusal is one of a check, or there is a task whose arcs have a cycle
+-- the refusal is one of a check, or the answer text says a sheet, and these jobs are a cycle of the
+-- task's arcs
 abbrev pub IsRefusedEvaluation : RequestData → List ℕ → List ℕ → Refused → Type 0
 IsRefusedEvaluation request instance answer refused =
-    IsRefusedCheck request instance answer refused ⊎ IsRefusedRun request instance refused
+    IsRefusedCheck request instance answer refused
+    ⊎ ((jobs : List ℕ) × (refused ≡ ByCycle jobs) × IsOk (answer_in answer)
+    × IsCyclic request instance jobs)
 
--- An evaluation is written, or the one refusal is given. Where memory was wanting there is neither;
--- where a reader failed nothing was written, and where the writer failed a prefix of the text was.
+-- An evaluation is written, or the one refusal is given. Where memory was wanting there is neither.
+-- Nothing was written then, nor after a refusal or where a reader failed; where the writer failed a
+-- prefix of the text was.
 abbrev pub EvaluatingOutcome : {A : Type 0} → Detail → RequestData → List ℕ → List ℕ → DeviceUse
     → DeviceUse → DeviceUse → Result Standing (RunFault A) → Type 0
 EvaluatingOutcome detail request text answer_text instance answer writer (Ok standing) =

@@ -1,5 +1,6 @@
 use Rattle.std.proofs.Common.{◌∙◌, refl, subst}
 use Rattle.std.specs.Io.KnownBytes.{Appends}
+use Rattle.std.proofs.KnownBytes.{Keeps-refl}
 use Rattle.tf_text.specs.Counted.{inner_of, AppendsPrefix}
 use Rattle.tf_engine.specs.declared.fault.RunFault.TheVariants.{Device, OutOfMemory}
 use Rattle.tf_engine.specs.Devices.{LeavesCase}
@@ -28,7 +29,8 @@ returns-in_err-evaluation-clause-outcome g c =
     err_is (IsEvaluationOf c.args.detail c.args.request.now _ _ _)
     (of_solve c.in_err-evaluation.field-0.0) _ c.from_residual-in_err-evaluation.ensures.1
     (evaluation_unsolved g.row.A.Denot _ _ c.args.detail c.args.request.now _ _ _ _ _ _ _
-    c.in_ok-case.ensures _ c.in_err-evaluation.field-0.0 c.in_err-evaluation.ensures.refused)
+    c.in_ok-case.ensures _ (Keeps-refl _) c.in_err-evaluation.field-0.0
+    c.in_err-evaluation.ensures.refused)
 
 pub returns-in_err-evaluation-clause-devices : goal.returns-in_err-evaluation-clause-devices
 returns-in_err-evaluation-clause-devices g c =
@@ -43,7 +45,7 @@ returns-in_err-text-clause-outcome g c =
     err_is (IsEvaluationOf c.args.detail c.args.request.now _ _ _) OutOfMemory _
     c.from_residual-in_err-text.ensures.1
     (evaluation_wanting g.row.A.Denot _ _ c.args.detail c.args.request.now _ _ _ _ _ _ _
-    c.in_ok-case.ensures _)
+    c.in_ok-case.ensures _ (Keeps-refl _))
 
 pub returns-in_err-text-clause-devices : goal.returns-in_err-text-clause-devices
 returns-in_err-text-clause-devices g c =
