@@ -11,12 +11,14 @@ const MARGIN: &str = "    ";
 /// An explanation as it is written.
 #[derive(Drop)]
 pub struct Page {
+    pub alloc: Global,
     pub text: String,
 }
 
 impl Page {
     pub fn new(alloc: Global) -> Page {
         Page {
+            alloc,
             text: String::new(alloc),
         }
     }
@@ -34,7 +36,8 @@ impl Page {
         line: &SourceLine<'_>,
         word: Option<Word<'_>>,
     ) -> Result<(), AllocError> {
-        let title = source.title();
+        let title = source.title(self.alloc)?;
+        let title = title.as_str();
         let number = line.number;
         writeln!(self.text, "{title}, line {number}:")?;
         self.show(line.bytes)?;
@@ -73,10 +76,24 @@ impl Page {
         for byte in bytes.iter().take(start) {
             push_times(&mut self.text, ' ', width_of(*byte))?;
         }
-        let most = MOST_SHOWN.saturating_sub(start).min(len).max(1);
-        push_times(&mut self.text, '^', most)?;
+        let most = MOST_SHOWN.saturating_sub(start).min(len);
+        let mut columns: usize = 0;
+        for byte in bytes.iter().skip(start).take(most) {
+            columns = columns.saturating_add(width_of(*byte));
+        }
+        push_times(&mut self.text, '^', columns.max(1))?;
         self.text.push('\n')
     }
+}
+
+/// A name or an argument as it is printed: each byte that is no printable ASCII is escaped, as those
+/// of a text are, so that it can neither steer a terminal nor begin a line.
+pub fn escape(alloc: Global, text: &str) -> Result<String, AllocError> {
+    let mut escaped = String::new(alloc);
+    for byte in text.as_bytes() {
+        push_byte(&mut escaped, *byte)?;
+    }
+    Ok(escaped)
 }
 
 fn is_plain(byte: u8) -> bool {

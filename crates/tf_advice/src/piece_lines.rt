@@ -1,7 +1,7 @@
 //! The pieces of an answer, with their lines.
 use crate::page::Page;
-use crate::source::{Source, SourceLine, Word, words_of};
-use std::alloc::{AllocError, Global};
+use crate::source::{Front, Source, SourceLine, Word};
+use std::alloc::AllocError;
 use tf_words::number::{Number, number_of};
 use tf_words::word::is;
 
@@ -10,106 +10,104 @@ const MOST_PIECES: usize = 8;
 
 /// A line `piece`.
 #[derive(Clone, Copy, Debug)]
-pub struct PieceLine<'a> {
+struct PieceLine<'a> {
     line: SourceLine<'a>,
-    pub job: i64,
-    pub machine: i64,
-    pub start: i64,
-    pub stop: i64,
+    job: i64,
+    machine: i64,
+    start: i64,
+    stop: i64,
+}
+
+/// Which pieces of an answer are looked at.
+#[derive(Clone, Copy, Debug)]
+pub enum Pieces {
+    /// The one that has so many before it.
+    Behind(usize),
+    OfJob(u32),
+    /// Those of a job that are going on at a time.
+    OfJobAt(u32, i64),
+    /// Those on a machine that are going on at a time.
+    OnMachineAt(u32, i64),
+}
+
+impl Pieces {
+    // Whether a piece with so many before it is among them.
+    fn has(self, before: usize, piece: &PieceLine<'_>) -> bool {
+        match self {
+            Pieces::Behind(wanted) => before == wanted,
+            Pieces::OfJob(job) => piece.job == i64::from(job),
+            Pieces::OfJobAt(job, time) => piece.job == i64::from(job) && piece.covers(time),
+            Pieces::OnMachineAt(machine, time) => {
+                piece.machine == i64::from(machine) && piece.covers(time)
+            }
+        }
+    }
 }
 
 impl PieceLine<'_> {
-    /// Whether the piece is going on at a time.
-    pub fn covers(&self, time: i64) -> bool {
+    // Whether the piece is going on at a time.
+    fn covers(&self, time: i64) -> bool {
         self.start <= time && time < self.stop
     }
 }
 
-/// All pieces of an answer text.
-pub fn pieces_of<'a>(alloc: Global, source: &Source<'a>) -> Result<Vec<PieceLine<'a>>, AllocError> {
-    let mut pieces = Vec::new(alloc);
-    for (k, bytes) in source.text.split(|byte| *byte == b'\n').enumerate() {
-        let line = SourceLine {
-            number: k.saturating_add(1),
-            bytes,
-        };
-        let words = words_of(alloc, bytes)?;
-        if let Some(piece) = piece_in(line, words.as_slice()) {
-            pieces.push(piece)?;
-        }
-    }
-    Ok(pieces)
-}
-
-fn piece_in<'a>(line: SourceLine<'a>, words: &[Word<'a>]) -> Option<PieceLine<'a>> {
-    let [key, job, machine, start, stop] = words else {
+fn piece_in(line: SourceLine<'_>) -> Option<PieceLine<'_>> {
+    if !line.bytes.trim_ascii_start().starts_with(b"piece") {
         return None;
-    };
-    if !is(key.bytes, b"piece") {
+    }
+    let front = Front::new(line.bytes);
+    if front.len() != 5 || !is(front.word(0)?.bytes, b"piece") {
         return None;
     }
     Some(PieceLine {
         line,
-        job: value_in(job.bytes)?,
-        machine: value_in(machine.bytes)?,
-        start: value_in(start.bytes)?,
-        stop: value_in(stop.bytes)?,
+        job: value_in(front.word(1)?)?,
+        machine: value_in(front.word(2)?)?,
+        start: value_in(front.word(3)?)?,
+        stop: value_in(front.word(4)?)?,
     })
 }
 
-fn value_in(word: &[u8]) -> Option<i64> {
-    match number_of(word) {
+fn value_in(word: Word<'_>) -> Option<i64> {
+    match number_of(word.bytes) {
         Number::Value(value) => Some(value),
         _ => None,
     }
 }
 
 /// Lines of some of the pieces, those first that stand first.
-pub fn quote_pieces<'a>(
+pub fn quote_pieces(
     page: &mut Page,
-    source: &Source<'a>,
-    pieces: &[PieceLine<'a>],
+    source: &Source<'_>,
+    pieces: Pieces,
 ) -> Result<(), AllocError> {
-    for piece in pieces.iter().take(MOST_PIECES) {
-        page.quote(source, &piece.line, None)?;
-    }
-    if pieces.len() > MOST_PIECES {
-        page.say("And more pieces.")?;
+    let mut before: usize = 0;
+    let mut shown: usize = 0;
+    for (place, bytes) in source.text.split(|byte| *byte == b'\n').enumerate() {
+        let Some(piece) = piece_in(SourceLine::new(place, bytes)) else {
+            continue;
+        };
+        if pieces.has(before, &piece) {
+            if shown == MOST_PIECES {
+                return page.say("And more pieces.");
+            }
+            shown = shown.saturating_add(1);
+            page.quote(source, &piece.line, None)?;
+        }
+        before = before.saturating_add(1);
     }
     Ok(())
 }
 
-/// The pieces of a job.
-pub fn of_job<'a>(
-    alloc: Global,
-    source: &Source<'a>,
-    job: u32,
-) -> Result<Vec<PieceLine<'a>>, AllocError> {
-    let mut own = Vec::new(alloc);
-    for piece in &pieces_of(alloc, source)? {
-        if piece.job == i64::from(job) {
-            own.push(*piece)?;
-        }
-    }
-    Ok(own)
-}
-
-/// The pieces that are going on at a time on a machine, or, with a job, of that job.
-pub fn going_on<'a>(
-    alloc: Global,
-    source: &Source<'a>,
-    machine: Option<u32>,
-    job: Option<u32>,
-    time: i64,
-) -> Result<Vec<PieceLine<'a>>, AllocError> {
-    let mut going = Vec::new(alloc);
-    for piece in &pieces_of(alloc, source)? {
-        if piece.covers(time)
-            && machine.is_none_or(|machine| piece.machine == i64::from(machine))
-            && job.is_none_or(|job| piece.job == i64::from(job))
+/// How many time steps the pieces of a job are together.
+pub fn steps_of(source: &Source<'_>, job: u32) -> i64 {
+    let mut steps: i64 = 0;
+    for (place, bytes) in source.text.split(|byte| *byte == b'\n').enumerate() {
+        if let Some(piece) = piece_in(SourceLine::new(place, bytes))
+            && Pieces::OfJob(job).has(place, &piece)
         {
-            going.push(*piece)?;
+            steps = steps.saturating_add(piece.stop.saturating_sub(piece.start));
         }
     }
-    Ok(going)
+    steps
 }

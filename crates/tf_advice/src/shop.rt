@@ -1,6 +1,6 @@
 //! What is wrong with a flow shop file.
-use crate::page::{Page, push_word};
-use crate::source::{Source, Word, words_of};
+use crate::page::{Page, escape, push_word};
+use crate::source::{Front, Source, Word};
 use crate::tardiness::is_table;
 use std::alloc::{AllocError, Global};
 use tf_read::fault::ReadFault;
@@ -23,7 +23,7 @@ pub fn explain_shop(
         return page.quote_number(source, 1);
     }
     match *fault {
-        ReadFault::NoInstance => say_names(alloc, page, source, name),
+        ReadFault::NoInstance => say_names(page, source, name),
         ReadFault::NotAFlowShop(line) => {
             page.quote_number(source, line as usize)?;
             page.say(
@@ -53,19 +53,13 @@ pub fn explain_shop(
 }
 
 // The names of the instances that the file has.
-fn say_names(
-    alloc: Global,
-    page: &mut Page,
-    source: &Source<'_>,
-    name: &str,
-) -> Result<(), AllocError> {
+fn say_names(page: &mut Page, source: &Source<'_>, name: &str) -> Result<(), AllocError> {
     page.text.push_str("The file has no line \"instance ")?;
-    page.text.push_str(name)?;
+    page.text.push_str(escape(page.alloc, name)?.as_str())?;
     page.say("\".")?;
     let mut names: usize = 0;
     for line in source.text.split(|byte| *byte == b'\n') {
-        let words = words_of(alloc, line)?;
-        if let Some(found) = name_in(words.as_slice()) {
+        if let Some(found) = name_in(line) {
             names = names.saturating_add(1);
             if names <= MOST_NAMES {
                 page.text
@@ -81,10 +75,12 @@ fn say_names(
     }
 }
 
-fn name_in<'a>(words: &[Word<'a>]) -> Option<Word<'a>> {
-    match words {
-        [key, name] if is(key.bytes, b"instance") => Some(*name),
-        _ => None,
+fn name_in(line: &[u8]) -> Option<Word<'_>> {
+    let front = Front::new(line);
+    if front.len() == 2 && is(front.word(0)?.bytes, b"instance") {
+        front.word(1)
+    } else {
+        None
     }
 }
 

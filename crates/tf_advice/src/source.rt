@@ -1,7 +1,12 @@
 //! The texts that a run was over, by lines and words.
+use crate::page::escape;
 use std::alloc::{AllocError, Global};
+use tf_words::line::without_return;
 use tf_words::number::{Number, number_of};
-use tf_words::word::is_white;
+use tf_words::word::{first_word, is_white};
+
+/// The most words of a line that are looked at together.
+const MOST_WORDS: usize = 6;
 
 /// A text, and what the command line calls it.
 #[derive(Clone, Copy, Debug)]
@@ -16,6 +21,7 @@ pub struct Source<'a> {
 pub struct SourceLine<'a> {
     /// Its number, from 1.
     pub number: usize,
+    /// All of it, without a carriage return at its end.
     pub bytes: &'a [u8],
 }
 
@@ -29,11 +35,11 @@ pub struct Word<'a> {
 
 impl<'a> Source<'a> {
     /// What the source is called in a sentence.
-    pub fn title(&self) -> &'a str {
+    pub fn title(&self, alloc: Global) -> Result<String, AllocError> {
         if self.name == "-" {
-            "standard input"
+            String::from_str(alloc, "standard input")
         } else {
-            self.name
+            escape(alloc, self.name)
         }
     }
 
@@ -41,29 +47,23 @@ impl<'a> Source<'a> {
     pub fn line(&self, number: usize) -> Option<SourceLine<'a>> {
         let before = number.checked_sub(1)?;
         let bytes = self.text.split(|byte| *byte == b'\n').nth(before)?;
-        Some(SourceLine { number, bytes })
+        Some(SourceLine::new(before, bytes))
     }
 
-    /// The first line whose words begin with these.
-    pub fn line_beginning(
-        &self,
-        alloc: Global,
-        front: &[&[u8]],
-    ) -> Result<Option<SourceLine<'a>>, AllocError> {
-        for (k, bytes) in self.text.split(|byte| *byte == b'\n').enumerate() {
-            let words = words_of(alloc, bytes)?;
-            if begin_with(words.as_slice(), front) {
-                let number = k.saturating_add(1);
-                return Ok(Some(SourceLine { number, bytes }));
+    /// The first line whose words begin with these; a number may be written with leading zeros.
+    pub fn line_beginning(&self, front: &[&[u8]]) -> Option<SourceLine<'a>> {
+        for (place, bytes) in self.text.split(|byte| *byte == b'\n').enumerate() {
+            if begins_with(bytes, front) {
+                return Some(SourceLine::new(place, bytes));
             }
         }
-        Ok(None)
+        None
     }
 
     /// The line of a job in a table.
     pub fn job_line(&self, alloc: Global, job: u32) -> Result<Option<SourceLine<'a>>, AllocError> {
         let number = job.to_string(alloc)?;
-        self.line_beginning(alloc, &[b"job", number.as_bytes()])
+        Ok(self.line_beginning(&[b"job", number.as_bytes()]))
     }
 
     /// How many words the text has.
@@ -75,37 +75,106 @@ impl<'a> Source<'a> {
     }
 }
 
-/// The words of a line.
-pub fn words_of<'a>(alloc: Global, line: &'a [u8]) -> Result<Vec<Word<'a>>, AllocError> {
-    let mut words = Vec::new(alloc);
-    let mut start: usize = 0;
-    for bytes in line.split(|byte| is_white(*byte)) {
-        if !bytes.is_empty() {
-            words.push(Word { start, bytes })?;
+impl<'a> SourceLine<'a> {
+    /// A line of these bytes behind so many others.
+    pub fn new(before: usize, bytes: &'a [u8]) -> SourceLine<'a> {
+        SourceLine {
+            number: before.saturating_add(1),
+            bytes: without_return(bytes),
         }
-        start = start.saturating_add(bytes.len()).saturating_add(1);
     }
-    Ok(words)
+
+    /// The word of the line that has so many before it.
+    pub fn word(&self, before: usize) -> Option<Word<'a>> {
+        let mut start: usize = 0;
+        let mut place: usize = 0;
+        for bytes in self.bytes.split(|byte| is_white(*byte)) {
+            if !bytes.is_empty() {
+                if place == before {
+                    return Some(Word { start, bytes });
+                }
+                place = place.saturating_add(1);
+            }
+            start = start.saturating_add(bytes.len()).saturating_add(1);
+        }
+        None
+    }
 }
 
-/// Whether the first words are these; a number may be written with leading zeros.
-fn begin_with(words: &[Word<'_>], front: &[&[u8]]) -> bool {
-    words.len() >= front.len()
-        && words
-            .iter()
-            .zip(front.iter())
-            .all(|(word, wanted)| word.is(*wanted))
+/// The first words of a line, at most six of them.
+#[derive(Clone, Copy, Debug)]
+pub struct Front<'a> {
+    words: [Word<'a>; MOST_WORDS],
+    len: usize,
 }
 
-impl Word<'_> {
-    /// Whether the word is this one, or the same number.
-    fn is(&self, wanted: &[u8]) -> bool {
-        if self.bytes == wanted {
-            return true;
+impl<'a> Front<'a> {
+    pub fn new(line: &'a [u8]) -> Front<'a> {
+        let none = Word {
+            start: 0,
+            bytes: b"",
+        };
+        let mut front = Front {
+            words: [none; MOST_WORDS],
+            len: 0,
+        };
+        let mut start: usize = 0;
+        for bytes in line.split(|byte| is_white(*byte)) {
+            if !bytes.is_empty() && !front.push(Word { start, bytes }) {
+                break;
+            }
+            start = start.saturating_add(bytes.len()).saturating_add(1);
         }
-        match (number_of(self.bytes), number_of(wanted)) {
-            (Number::Value(one), Number::Value(other)) => one == other,
-            _ => false,
+        front
+    }
+
+    // Adds a word, and tells whether there was room.
+    fn push(&mut self, word: Word<'a>) -> bool {
+        let len = self.len;
+        match self.words.get_mut(len) {
+            None => false,
+            Some(place) => {
+                *place = word;
+                self.len = len.saturating_add(1);
+                true
+            }
         }
+    }
+
+    /// How many words there are, and six where there are more.
+    pub fn len(&self) -> usize {
+        self.len
+    }
+
+    /// The word that has so many before it.
+    pub fn word(&self, before: usize) -> Option<Word<'a>> {
+        if before < self.len {
+            self.words.get(before).copied()
+        } else {
+            None
+        }
+    }
+}
+
+/// Whether the first words of a line are these.
+fn begins_with(line: &[u8], front: &[&[u8]]) -> bool {
+    let mut rest = line;
+    for wanted in front {
+        match first_word(rest) {
+            Some((word, after)) if is_same(word, *wanted) => rest = after,
+            _ => return false,
+        }
+    }
+    true
+}
+
+/// Whether a word is this one, or the same number.
+fn is_same(word: &[u8], wanted: &[u8]) -> bool {
+    if word == wanted {
+        return true;
+    }
+    match (number_of(word), number_of(wanted)) {
+        (Number::Value(one), Number::Value(other)) => one == other,
+        _ => false,
     }
 }

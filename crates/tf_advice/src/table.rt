@@ -3,12 +3,12 @@ use crate::advice::{Advice, Cause};
 use crate::field::Named;
 use crate::number::fault_of_number;
 use crate::page::Page;
-use crate::source::{Source, SourceLine, Word, words_of};
-use std::alloc::{AllocError, Global};
+use crate::source::{Front, Source, SourceLine, Word};
+use std::alloc::AllocError;
 use tf_model::limit::MOST_MACHINES;
 use tf_words::digits::is_numeral;
 use tf_words::number::{Number, number_of};
-use tf_words::word::is;
+use tf_words::word::{is, is_white};
 
 /// The most slips that are told.
 const MOST_SLIPS: usize = 20;
@@ -35,7 +35,6 @@ enum Stage {
 /// The lines so far.
 #[derive(Drop)]
 struct Judge<'a> {
-    alloc: Global,
     stage: Stage,
     // the number of the last job
     jobs: i64,
@@ -43,23 +42,14 @@ struct Judge<'a> {
 }
 
 /// Tells all slips of a table, up to the most that are told, and whether there was one.
-pub fn explain_table(
-    alloc: Global,
-    page: &mut Page,
-    source: &Source<'_>,
-) -> Result<bool, AllocError> {
+pub fn explain_table(page: &mut Page, source: &Source<'_>) -> Result<bool, AllocError> {
     let mut judge = Judge {
-        alloc,
         stage: Stage::Heading,
         jobs: 0,
-        slips: Vec::new(alloc),
+        slips: Vec::new(page.alloc),
     };
     for (k, bytes) in source.text.split(|byte| *byte == b'\n').enumerate() {
-        let line = SourceLine {
-            number: k.saturating_add(1),
-            bytes,
-        };
-        judge.line(line)?;
+        judge.line(SourceLine::new(k, bytes))?;
         if judge.slips.len() > MOST_SLIPS {
             break;
         }
@@ -113,35 +103,35 @@ impl<'a> Judge<'a> {
 
     // One line more.
     fn line(&mut self, line: SourceLine<'a>) -> Result<(), AllocError> {
-        let words = words_of(self.alloc, line.bytes)?;
-        let Some(first) = words.first().copied() else {
+        let front = Front::new(line.bytes);
+        let Some(first) = front.word(0) else {
             return Ok(());
         };
         if first.bytes.starts_with(b"#") {
             return Ok(());
         }
         match self.stage {
-            Stage::Heading => self.heading(line, words.as_slice(), first),
+            Stage::Heading => self.heading(line, &front, first),
             Stage::Other => Ok(()),
-            _ => self.body(line, words.as_slice(), first),
+            _ => self.body(line, &front, first),
         }
     }
 
     fn heading(
         &mut self,
         line: SourceLine<'a>,
-        words: &[Word<'a>],
+        front: &Front<'a>,
         first: Word<'a>,
     ) -> Result<(), AllocError> {
         self.stage = Stage::Machines;
-        if is_heading(words) {
+        if is_heading(front) {
             return Ok(());
         }
         let cause = cause_of_heading(first.bytes);
         self.slip(line, Some(first), cause)?;
         match cause {
             Cause::IsAnswer | Cause::IsFlowShop | Cause::IsNumbers => self.stage = Stage::Other,
-            Cause::NoHeading => self.body(line, words, first)?,
+            Cause::NoHeading => self.body(line, front, first)?,
             _ => {}
         }
         Ok(())
@@ -151,13 +141,13 @@ impl<'a> Judge<'a> {
     fn body(
         &mut self,
         line: SourceLine<'a>,
-        words: &[Word<'a>],
+        front: &Front<'a>,
         first: Word<'a>,
     ) -> Result<(), AllocError> {
         match first.bytes {
-            b"machines" => self.machines(line, words, first),
-            b"job" => self.job(line, words, first),
-            b"prec" => self.arc(line, words, first),
+            b"machines" => self.machines(line, front, first),
+            b"job" => self.job(line, front, first),
+            b"prec" => self.arc(line, front, first),
             other => self.slip(line, Some(first), cause_of_other_line(other)),
         }
     }
@@ -165,30 +155,30 @@ impl<'a> Judge<'a> {
     fn machines(
         &mut self,
         line: SourceLine<'a>,
-        words: &[Word<'a>],
+        front: &Front<'a>,
         first: Word<'a>,
     ) -> Result<(), AllocError> {
         if self.stage != Stage::Machines {
             return self.slip(line, Some(first), Cause::MachinesPlace);
         }
         self.stage = Stage::Jobs;
-        let [_, count] = words else {
+        let (2, Some(count)) = (front.len(), front.word(1)) else {
             return self.slip(line, None, Cause::MachinesForm);
         };
         match number_of(count.bytes) {
             Number::Value(m) if 1 <= m && m <= i64::from(MOST_MACHINES) => Ok(()),
             Number::NotANumber => match fault_of_number(count.bytes) {
-                Some(cause) => self.slip(line, Some(*count), cause),
+                Some(cause) => self.slip(line, Some(count), cause),
                 None => Ok(()),
             },
-            _ => self.slip(line, Some(*count), Cause::MachinesRange),
+            _ => self.slip(line, Some(count), Cause::MachinesRange),
         }
     }
 
     fn job(
         &mut self,
         line: SourceLine<'a>,
-        words: &[Word<'a>],
+        front: &Front<'a>,
         first: Word<'a>,
     ) -> Result<(), AllocError> {
         if self.stage == Stage::Arcs {
@@ -197,7 +187,7 @@ impl<'a> Judge<'a> {
         self.stage = Stage::Jobs;
         let wanted = self.jobs.saturating_add(1);
         self.jobs = wanted;
-        let Some(number) = words.get(1).copied() else {
+        let Some(number) = front.word(1) else {
             return self.slip(line, None, Cause::NoJobNumber);
         };
         match number_of(number.bytes) {
@@ -217,14 +207,15 @@ impl<'a> Judge<'a> {
             }
             _ => return self.slip(line, Some(number), Cause::NoJobNumber),
         }
-        self.fields(line, words)
+        self.fields(line)
     }
 
-    fn fields(&mut self, line: SourceLine<'a>, words: &[Word<'a>]) -> Result<(), AllocError> {
+    fn fields(&mut self, line: SourceLine<'a>) -> Result<(), AllocError> {
         let mut named = Named::none();
-        for word in words.iter().skip(2) {
-            if let Some(cause) = named.add(word.bytes) {
-                return self.slip(line, Some(*word), cause);
+        let words = line.bytes.split(|byte| is_white(*byte));
+        for (place, word) in words.filter(|word| !word.is_empty()).enumerate().skip(2) {
+            if let Some(cause) = named.add(word) {
+                return self.slip(line, line.word(place), cause);
             }
         }
         if named.has_time() {
@@ -237,30 +228,30 @@ impl<'a> Judge<'a> {
     fn arc(
         &mut self,
         line: SourceLine<'a>,
-        words: &[Word<'a>],
+        front: &Front<'a>,
         first: Word<'a>,
     ) -> Result<(), AllocError> {
         if self.jobs == 0 {
             return self.slip(line, Some(first), Cause::ArcBeforeJobs);
         }
         self.stage = Stage::Arcs;
-        let [_, before, after] = words else {
+        let (3, Some(before), Some(after)) = (front.len(), front.word(1), front.word(2)) else {
             return self.slip(line, None, Cause::ArcForm);
         };
         for job in [before, after] {
             match number_of(job.bytes) {
                 Number::Value(k) if 1 <= k && k <= self.jobs => {}
-                Number::NotANumber => return self.slip(line, Some(*job), Cause::ArcForm),
-                _ => return self.slip(line, Some(*job), Cause::ArcStranger),
+                Number::NotANumber => return self.slip(line, Some(job), Cause::ArcForm),
+                _ => return self.slip(line, Some(job), Cause::ArcStranger),
             }
         }
         Ok(())
     }
 }
 
-fn is_heading(words: &[Word<'_>]) -> bool {
-    match words {
-        [first, second] => is(first.bytes, b"table") && is(second.bytes, b"1"),
+fn is_heading(front: &Front<'_>) -> bool {
+    match (front.len(), front.word(0), front.word(1)) {
+        (2, Some(first), Some(second)) => is(first.bytes, b"table") && is(second.bytes, b"1"),
         _ => false,
     }
 }

@@ -3,13 +3,13 @@ ghost use Rattle.std.specs.Prelude.{◌<◌};
 
 use crate::number::{fault_of_number, fault_of_size};
 use crate::page::Page;
-use crate::source::{Source, SourceLine, Word, words_of};
-use std::alloc::{AllocError, Global};
+use crate::source::{Source, SourceLine, Word};
+use std::alloc::AllocError;
 use tf_read::fault::ReadFault;
+use tf_words::word::is_white;
 
 /// What is wrong, where the file was read as instances of so many jobs.
 pub fn explain_tardiness(
-    alloc: Global,
     page: &mut Page,
     source: &Source<'_>,
     jobs: u32,
@@ -21,11 +21,11 @@ pub fn explain_tardiness(
     }
     match *fault {
         ReadFault::BadNumber(line) | ReadFault::NumberTooLarge(line) => {
-            quote_bad_word(alloc, page, source, line as usize, false)?;
+            quote_bad_word(page, source, line as usize, false)?;
             page.say("A weighted tardiness file has whole numbers alone.")
         }
         ReadFault::Negative(line) => {
-            quote_bad_word(alloc, page, source, line as usize, true)?;
+            quote_bad_word(page, source, line as usize, true)?;
             page.say("A negative number stands where a time or a weight is read.")?;
             page.say("Due dates alone may be negative, so the usual cause is a wrong --jobs.")?;
             say_counts(page, source, jobs)
@@ -49,7 +49,6 @@ pub fn is_table(source: &Source<'_>) -> bool {
 
 // The line with the first word of it that is at fault.
 fn quote_bad_word(
-    alloc: Global,
     page: &mut Page,
     source: &Source<'_>,
     number: usize,
@@ -58,7 +57,7 @@ fn quote_bad_word(
     let Some(line) = source.line(number) else {
         return Ok(());
     };
-    let word = bad_word(alloc, &line, is_size)?;
+    let word = bad_word(&line, is_size);
     page.quote(source, &line, word)?;
     match word.and_then(|word| fault_of_number(word.bytes)?.advice()) {
         Some(advice) => page.say(advice.wrong),
@@ -67,23 +66,20 @@ fn quote_bad_word(
 }
 
 /// The first word of a line that is no number, or that is negative where a size is wanted.
-fn bad_word<'a>(
-    alloc: Global,
-    line: &SourceLine<'a>,
-    is_size: bool,
-) -> Result<Option<Word<'a>>, AllocError> {
-    let words = words_of(alloc, line.bytes)?;
-    for word in &words {
-        let fault = if is_size {
-            fault_of_size(word.bytes)
-        } else {
-            fault_of_number(word.bytes)
-        };
-        if fault.is_some() {
-            return Ok(Some(*word));
-        }
-    }
-    Ok(None)
+fn bad_word<'a>(line: &SourceLine<'a>, is_size: bool) -> Option<Word<'a>> {
+    let place = line
+        .bytes
+        .split(|byte| is_white(*byte))
+        .filter(|word| !word.is_empty())
+        .position(|word| {
+            let fault = if is_size {
+                fault_of_size(word)
+            } else {
+                fault_of_number(word)
+            };
+            fault.is_some()
+        })?;
+    line.word(place)
 }
 
 /// Says so where the numbers of the file are not those of whole instances of this size.

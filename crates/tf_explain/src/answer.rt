@@ -1,13 +1,13 @@
 //! What is wrong with an answer text.
-use std::alloc::{AllocError, Global};
+use std::alloc::AllocError;
 use tf_advice::page::Page;
-use tf_advice::piece_lines::{going_on, pieces_of, quote_pieces};
-use tf_advice::source::{Source, words_of};
+use tf_advice::piece_lines::{Pieces, quote_pieces};
+use tf_advice::source::{Front, Source};
 use tf_advice::tardiness::is_table;
 use tf_model::limit::{LIMIT, MOST_BYTES, MOST_JOBS, MOST_MACHINES};
 use tf_schedule::schedule::PieceFault;
 use tf_text::answer::fault::AnswerFault;
-use tf_words::word::is;
+use tf_words::word::{first_word, is};
 
 /// In which order the lines of an answer stand.
 const ORDER: &str = "\
@@ -16,7 +16,6 @@ any number of lines piece, cert, end.";
 
 /// What is wrong with the text of an answer.
 pub(crate) fn explain_answer(
-    alloc: Global,
     page: &mut Page,
     source: &Source<'_>,
     fault: &AnswerFault,
@@ -24,19 +23,14 @@ pub(crate) fn explain_answer(
     if say_other_file(page, source)? {
         return Ok(());
     }
-    let title = source.title();
+    let title = source.title(page.alloc)?;
+    let title = title.as_str();
     match *fault {
         AnswerFault::TooLong => writeln!(page.text, "{title} has more than {MOST_BYTES} bytes."),
-        AnswerFault::BadLine(line) => explain_line(alloc, page, source, line as usize),
-        AnswerFault::NumberTooLarge(line) => {
-            page.quote_number(source, line as usize)?;
-            writeln!(
-                page.text,
-                "Jobs go up to {MOST_JOBS}, machines to {MOST_MACHINES}, times to {LIMIT}."
-            )
-        }
+        AnswerFault::BadLine(line) => explain_line(page, source, line as usize),
+        AnswerFault::NumberTooLarge(line) => explain_number(page, source, line as usize),
         AnswerFault::BadNotation => {
-            if let Some(line) = source.line_beginning(alloc, &[b"problem".as_slice()])? {
+            if let Some(line) = source.line_beginning(&[b"problem".as_slice()]) {
                 page.quote(source, &line, None)?;
             }
             page.say("Behind \"problem\" stands a three-field notation, as in \"problem 1||Lmax\".")
@@ -51,10 +45,28 @@ pub(crate) fn explain_answer(
     }
 }
 
+// Which numbers the line may have.
+fn explain_number(page: &mut Page, source: &Source<'_>, number: usize) -> Result<(), AllocError> {
+    let Some(line) = source.line(number) else {
+        return Ok(());
+    };
+    page.quote(source, &line, None)?;
+    if is(first_of(line.bytes), b"value") {
+        let (least, most) = (i64::MIN, i64::MAX);
+        writeln!(page.text, "A value is from {least} to {most}.")
+    } else {
+        writeln!(
+            page.text,
+            "Jobs go up to {MOST_JOBS}, machines to {MOST_MACHINES}, times to {LIMIT}."
+        )
+    }
+}
+
 // Whether the text is empty or another file, which is then said.
 fn say_other_file(page: &mut Page, source: &Source<'_>) -> Result<bool, AllocError> {
-    let title = source.title();
     if source.text.trim_ascii().is_empty() {
+        let title = source.title(page.alloc)?;
+        let title = title.as_str();
         writeln!(
             page.text,
             "{title} is empty: perhaps the run that wrote it was refused."
@@ -70,20 +82,30 @@ fn say_other_file(page: &mut Page, source: &Source<'_>) -> Result<bool, AllocErr
     Ok(false)
 }
 
-fn explain_line(
-    alloc: Global,
-    page: &mut Page,
-    source: &Source<'_>,
-    number: usize,
-) -> Result<(), AllocError> {
+fn explain_line(page: &mut Page, source: &Source<'_>, number: usize) -> Result<(), AllocError> {
     let Some(line) = source.line(number) else {
         return Ok(());
     };
     page.quote(source, &line, None)?;
-    let words = words_of(alloc, line.bytes)?;
-    let first = words.first().map_or(b"".as_slice(), |word| word.bytes);
-    page.say(form_of(first))?;
+    let first = first_of(line.bytes);
+    if is(first, b"cert") && source.line_beginning(&[b"answer", b"2"]).is_some() {
+        writeln!(
+            page.text,
+            "Behind the kind stand jobs from 1, or ranges that rise such as 1-8, and at most\n\
+             {MOST_JOBS} jobs in all, ranges counted in full."
+        )?;
+    } else {
+        page.say(form_of(first))?;
+    }
     page.say(ORDER)
+}
+
+// The first word of a line.
+fn first_of(line: &[u8]) -> &[u8] {
+    match first_word(line) {
+        Some((word, _)) => word,
+        None => b"",
+    }
 }
 
 // The form of a line that begins with this word.
@@ -101,43 +123,29 @@ fn form_of(first: &[u8]) -> &'static str {
 
 /// What is wrong with the pieces of an answer.
 pub(crate) fn explain_pieces(
-    alloc: Global,
     page: &mut Page,
     source: &Source<'_>,
     fault: &PieceFault,
 ) -> Result<(), AllocError> {
     match *fault {
         PieceFault::OutOfRange(piece) => {
-            quote_piece(alloc, page, source, piece)?;
+            quote_pieces(page, source, Pieces::Behind(piece.saturating_sub(1)))?;
             writeln!(
                 page.text,
                 "A piece starts at 0 or later, and stops at {LIMIT} at most."
             )
         }
         PieceFault::EmptyPiece(piece) => {
-            quote_piece(alloc, page, source, piece)?;
+            quote_pieces(page, source, Pieces::Behind(piece.saturating_sub(1)))?;
             page.say("A piece is \"piece JOB MACHINE START STOP\", and stops after its start.")
         }
         PieceFault::MachineTwice(machine, time) => {
             let machine = machine.get();
-            writeln!(page.text, "Machine {machine} has two jobs at time {time}:")?;
-            let going = going_on(alloc, source, Some(machine), None, time)?;
-            quote_pieces(page, source, going.as_slice())
+            writeln!(
+                page.text,
+                "Two pieces are on machine {machine} at time {time}:"
+            )?;
+            quote_pieces(page, source, Pieces::OnMachineAt(machine, time))
         }
-    }
-}
-
-// The piece of that number, from 1.
-fn quote_piece(
-    alloc: Global,
-    page: &mut Page,
-    source: &Source<'_>,
-    number: usize,
-) -> Result<(), AllocError> {
-    let pieces = pieces_of(alloc, source)?;
-    let before = number.saturating_sub(1);
-    match pieces.as_slice().get(before) {
-        Some(piece) => quote_pieces(page, source, &[*piece]),
-        None => Ok(()),
     }
 }

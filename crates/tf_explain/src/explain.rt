@@ -8,7 +8,7 @@ use std::alloc::{AllocError, Global};
 use std::io;
 use tf_advice::cycle::explain_cycle;
 use tf_advice::notation::explain_notation;
-use tf_advice::page::Page;
+use tf_advice::page::{Page, escape};
 use tf_advice::source::Source;
 use tf_advice::tardiness::explain_rest;
 use tf_advice::unused::explain_unused;
@@ -45,7 +45,8 @@ fn say_unused(
     let read = instance_in(alloc, &request.form, instance);
     match (class_in(problem), read) {
         (Some(class), Some(instance)) => {
-            explain_unused(page, problem, class, request.machines, &instance)
+            let problem = escape(alloc, problem)?;
+            explain_unused(page, problem.as_str(), class, request.machines, &instance)
         }
         _ => Ok(()),
     }
@@ -76,7 +77,7 @@ pub fn refused(
             explain_refusal(alloc, &mut page, request, instance, refusal)?;
         }
         RunFault::Cycle(jobs) => {
-            explain_cycle(alloc, &mut page, instance, jobs.as_slice())?;
+            explain_cycle(&mut page, instance, jobs.as_slice())?;
         }
         RunFault::Device => say_output(&mut page)?,
         RunFault::Answer(_) | RunFault::Pieces(_) | RunFault::OutOfMemory => {
@@ -100,8 +101,8 @@ pub fn not_drawn(
 ) -> Result<String, AllocError> {
     let mut page = Page::new(alloc);
     match fault {
-        RunFault::Answer(fault) => explain_answer(alloc, &mut page, answer, fault)?,
-        RunFault::Pieces(fault) => explain_pieces(alloc, &mut page, answer, fault)?,
+        RunFault::Answer(fault) => explain_answer(&mut page, answer, fault)?,
+        RunFault::Pieces(fault) => explain_pieces(&mut page, answer, fault)?,
         RunFault::Device => say_output(&mut page)?,
         _ => {}
     }
@@ -163,7 +164,8 @@ pub fn checked(
 /// There was no memory.
 pub fn not_read(alloc: Global, name: &str, error: &io::Error) -> Result<String, AllocError> {
     let mut page = Page::new(alloc);
-    let title = Source { name, text: b"" }.title();
+    let title = Source { name, text: b"" }.title(alloc)?;
+    let title = title.as_str();
     writeln!(page.text, "{title}: {error}")?;
     Ok(page.text)
 }

@@ -2,7 +2,7 @@
 use crate::instance::instance_in;
 use std::alloc::{AllocError, Global};
 use tf_advice::notation::explain_unsolved;
-use tf_advice::page::Page;
+use tf_advice::page::{Page, escape};
 use tf_advice::source::Source;
 use tf_engine::request::{Form, Request};
 use tf_model::class::{Class, class_of};
@@ -21,9 +21,10 @@ pub(crate) fn explain_refusal(
     source: &Source<'_>,
     refusal: &Refusal,
 ) -> Result<(), AllocError> {
-    let problem = request.problem.as_str();
+    let problem = escape(alloc, request.problem.as_str())?;
+    let problem = problem.as_str();
     match *refusal {
-        Refusal::NoSolver => explain_unsolved(alloc, page, problem),
+        Refusal::NoSolver => explain_unsolved(alloc, page, request.problem.as_str()),
         Refusal::TooManyJobs => {
             writeln!(
                 page.text,
@@ -32,17 +33,11 @@ pub(crate) fn explain_refusal(
         }
         Refusal::MachinesMissing => say_no_machines(page, problem),
         Refusal::MachinesDisagree => say_machines(alloc, page, request, source),
-        Refusal::MachineCount(m) => {
-            writeln!(
-                page.text,
-                "Shops are solved on two machines, and here are {m}."
-            )?;
-            page.say("Take two machines of a flow shop file with --pair, as in --pair 0,2.")
-        }
-        Refusal::WrongTimes(job) => say_times(alloc, page, request, source, job),
-        Refusal::MissingField(job, field) => say_field(alloc, page, request, source, job, field),
+        Refusal::MachineCount(m) => say_count(page, m),
+        Refusal::WrongTimes(job) => say_times(page, request, source, job),
+        Refusal::MissingField(job, field) => say_field(page, request, source, job, field),
         Refusal::ZeroTime(job) => {
-            quote_job(alloc, page, source, job)?;
+            quote_job(page, request, source, job)?;
             page.say("A time is at least 1, but for an operation of a shop.")?;
             page.say("Leave the job out, or count it as 1.")
         }
@@ -67,13 +62,30 @@ fn say_no_machines(page: &mut Page, problem: &str) -> Result<(), AllocError> {
     )
 }
 
+// Another number of machines than the two of a shop.
+fn say_count(page: &mut Page, machines: u32) -> Result<(), AllocError> {
+    writeln!(
+        page.text,
+        "Shops are solved on two machines, and here are {machines}."
+    )?;
+    if machines > 2 {
+        page.say("Take two machines of a flow shop file with --pair, as in --pair 0,2.")
+    } else {
+        page.say("On one machine the makespan is the same in every order without idle time.")
+    }
+}
+
+// The line of a job, where the instance is a table: other files have no line for each.
 fn quote_job(
-    alloc: Global,
     page: &mut Page,
+    request: &Request,
     source: &Source<'_>,
     job: JobId,
 ) -> Result<(), AllocError> {
-    match source.job_line(alloc, job.get())? {
+    if !matches!(request.form, Form::Table) {
+        return Ok(());
+    }
+    match source.job_line(page.alloc, job.get())? {
         Some(line) => page.quote(source, &line, None),
         None => Ok(()),
     }
@@ -95,7 +107,8 @@ fn say_machines(
     if let Some(m) = request.machines {
         writeln!(page.text, "    {m} by --machines")?;
     }
-    let title = source.title();
+    let title = source.title(alloc)?;
+    let title = title.as_str();
     let instance = instance_in(alloc, &request.form, source);
     if let Some(m) = instance.and_then(|instance| instance.machines()) {
         writeln!(page.text, "    {m} in {title}")?;
@@ -109,15 +122,17 @@ fn say_machines(
 }
 
 fn say_times(
-    alloc: Global,
     page: &mut Page,
     request: &Request,
     source: &Source<'_>,
     job: JobId,
 ) -> Result<(), AllocError> {
-    quote_job(alloc, page, source, job)?;
-    let problem = request.problem.as_str();
-    let is_shop = read(problem.as_bytes()).is_ok_and(|problem| problem.env.is_shop());
+    quote_job(page, request, source, job)?;
+    let is_shop = read(request.problem.as_str().as_bytes()).is_ok_and(|problem| problem
+        .env
+        .is_shop());
+    let problem = escape(page.alloc, request.problem.as_str())?;
+    let problem = problem.as_str();
     if is_shop {
         writeln!(
             page.text,
@@ -128,7 +143,12 @@ fn say_times(
             page.text,
             "{problem} is no shop: a job has one time, as in p=3."
         )?;
-        page.say("p=3,5 is two times of a shop, and not three and a half: all numbers are whole.")
+        match request.form {
+            Form::Table => page.say(
+                "p=3,5 is two times of a shop, and not three and a half: all numbers are whole.",
+            ),
+            _ => Ok(()),
+        }
     }
 }
 
@@ -152,28 +172,33 @@ fn lacks(job: &Job, field: Field) -> bool {
 }
 
 fn say_field(
-    alloc: Global,
     page: &mut Page,
     request: &Request,
     source: &Source<'_>,
     job: JobId,
     field: Field,
 ) -> Result<(), AllocError> {
-    quote_job(alloc, page, source, job)?;
-    let problem = request.problem.as_str();
+    quote_job(page, request, source, job)?;
+    let problem = escape(page.alloc, request.problem.as_str())?;
+    let problem = problem.as_str();
     let (letter, name) = letter_of(field);
     writeln!(
         page.text,
         "{problem} needs {letter} (the {name}) of each job."
     )?;
-    match instance_in(alloc, &request.form, source) {
-        Some(instance) => say_lacking(page, &instance, field),
+    match instance_in(page.alloc, &request.form, source) {
+        Some(instance) => say_lacking(page, &request.form, &instance, field),
         None => Ok(()),
     }
 }
 
 // How many jobs lack a field, and what to do if it is all of them.
-fn say_lacking(page: &mut Page, instance: &Instance, field: Field) -> Result<(), AllocError> {
+fn say_lacking(
+    page: &mut Page,
+    form: &Form,
+    instance: &Instance,
+    field: Field,
+) -> Result<(), AllocError> {
     let jobs = instance.len();
     let lacking = instance
         .jobs()
@@ -182,12 +207,18 @@ fn say_lacking(page: &mut Page, instance: &Instance, field: Field) -> Result<(),
         .count();
     let (letter, _) = letter_of(field);
     writeln!(page.text, "Jobs without {letter}: {lacking} of {jobs}.")?;
-    if lacking == jobs {
-        page.say(
-            "Or name a problem that the table has the fields for: \"threefield problems FILE\".",
-        )?;
+    if lacking < jobs {
+        return Ok(());
     }
-    Ok(())
+    page.say(match form {
+        Form::Table => {
+            "Or name a problem that the table has the fields for: \"threefield problems FILE\"."
+        }
+        Form::Wt { .. } => {
+            "A weighted tardiness file has times, weights and due dates, and no other field."
+        }
+        Form::Flow { .. } => "A flow shop file has times, and no other field.",
+    })
 }
 
 /// The class of a problem line, if it is of one.

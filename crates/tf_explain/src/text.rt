@@ -1,5 +1,6 @@
 //! What is wrong with the text of an instance.
 use std::alloc::{AllocError, Global};
+use tf_advice::advice::Place;
 use tf_advice::page::Page;
 use tf_advice::shop::explain_shop;
 use tf_advice::source::Source;
@@ -17,24 +18,30 @@ pub(crate) fn explain_text(
     form: &Form,
     fault: &ReadFault,
 ) -> Result<(), AllocError> {
-    if say_whole(page, source, fault)? {
+    if say_whole(page, source, form, fault)? {
         return Ok(());
     }
     match form {
         Form::Table => {
-            if !explain_table(alloc, page, source)? {
+            if !explain_table(page, source)? {
                 say_first(page, source, fault)?;
             }
             Ok(())
         }
-        Form::Wt { jobs, .. } => explain_tardiness(alloc, page, source, *jobs, fault),
+        Form::Wt { jobs, .. } => explain_tardiness(page, source, *jobs, fault),
         Form::Flow { name, .. } => explain_shop(alloc, page, source, name.as_str(), fault),
     }
 }
 
 // What is wrong with the text as a whole, if that is it.
-fn say_whole(page: &mut Page, source: &Source<'_>, fault: &ReadFault) -> Result<bool, AllocError> {
-    let title = source.title();
+fn say_whole(
+    page: &mut Page,
+    source: &Source<'_>,
+    form: &Form,
+    fault: &ReadFault,
+) -> Result<bool, AllocError> {
+    let title = source.title(page.alloc)?;
+    let title = title.as_str();
     if source.text.trim_ascii().is_empty() {
         writeln!(
             page.text,
@@ -50,9 +57,22 @@ fn say_whole(page: &mut Page, source: &Source<'_>, fault: &ReadFault) -> Result<
         _ => return Ok(false),
     }
     if matches!(fault, ReadFault::NoJobs) {
-        page.say("A job line is \"job 1 p=3\", with the fields that the problem needs.")?;
+        say_jobs(page, form)?;
     }
     Ok(true)
+}
+
+// How a text of this form has jobs.
+fn say_jobs(page: &mut Page, form: &Form) -> Result<(), AllocError> {
+    match form {
+        Form::Table => {
+            page.say("A job line is \"job 1 p=3\", with the fields that the problem needs.")
+        }
+        Form::Flow { .. } => {
+            page.say("The first of its two sizes is the number of jobs, and that is 0 here.")
+        }
+        Form::Wt { .. } => Ok(()),
+    }
 }
 
 // The line that was refused, where nothing more is known of it.
@@ -64,6 +84,10 @@ fn say_first(page: &mut Page, source: &Source<'_>, fault: &ReadFault) -> Result<
         | ReadFault::Negative(line)
         | ReadFault::BadCost(line)
         | ReadFault::BadArc(line) => page.quote_number(source, line as usize),
+        ReadFault::EndsEarly => {
+            page.say("The file has comments alone: the heading is missing.")?;
+            page.say(Place::Heading.allows())
+        }
         _ => Ok(()),
     }
 }

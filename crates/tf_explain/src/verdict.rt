@@ -1,23 +1,22 @@
 //! Why an answer was rejected.
 use crate::answer::explain_pieces;
 use crate::instance::instance_in;
+use crate::refusal::class_in;
 use std::alloc::{AllocError, Global};
-use tf_advice::page::Page;
-use tf_advice::piece_lines::{going_on, of_job, quote_pieces};
+use tf_advice::page::{Page, escape};
+use tf_advice::piece_lines::{Pieces, quote_pieces, steps_of};
 use tf_advice::source::Source;
-use tf_check::evidence::Evidence;
+use tf_check::answer::Answer;
 use tf_check::fault::BoundFault;
+use tf_check::judgement::{Fit, Judgement, judge_answer};
 use tf_check::verdict::Reason;
-use tf_engine::request::Request;
+use tf_engine::request::{Form, Request};
 use tf_engine::run_check::Checked;
 use tf_model::prepare::prepare;
 use tf_model::task::Task;
 use tf_notation::reading::read;
 use tf_notation::writing::notation_text;
-use tf_schedule::cost::cost;
 use tf_schedule::fit::Misfit;
-use tf_schedule::piece::Piece;
-use tf_schedule::schedule::Schedule;
 use tf_text::answer::reading::read_answer;
 use tf_text::answer::sheet::Sheet;
 
@@ -39,20 +38,34 @@ impl Case<'_> {
         prepare(self.alloc, &instance, &problem, request.machines).ok()
     }
 
+    // How the answer stands to the task.
+    fn judged(&self) -> Option<Judged> {
+        let task = self.task()?;
+        let Answer {
+            pieces,
+            value,
+            certificate,
+        } = self.sheet()?.into_answer();
+        let judgement = judge_answer(self.alloc, &task, pieces.into_vec(), &certificate).ok()?;
+        Some(Judged { value, judgement })
+    }
+
     // What the answer says.
     fn sheet(&self) -> Option<Sheet> {
         read_answer(self.alloc, self.answer.text).ok()
     }
 
     fn quote_certificate(&self, page: &mut Page) -> Result<(), AllocError> {
-        let key = [b"cert".as_slice()];
-        match self.answer.line_beginning(self.alloc, &key)? {
+        match self.answer.line_beginning(&[b"cert".as_slice()]) {
             Some(line) => page.quote(&self.answer, &line, None),
             None => Ok(()),
         }
     }
 
     fn quote_job(&self, page: &mut Page, job: u32) -> Result<(), AllocError> {
+        if !matches!(self.request.form, Form::Table) {
+            return Ok(());
+        }
         match self.instance.job_line(self.alloc, job)? {
             Some(line) => page.quote(&self.instance, &line, None),
             None => Ok(()),
@@ -60,9 +73,15 @@ impl Case<'_> {
     }
 
     fn quote_pieces_of(&self, page: &mut Page, job: u32) -> Result<(), AllocError> {
-        let pieces = of_job(self.alloc, &self.answer, job)?;
-        quote_pieces(page, &self.answer, pieces.as_slice())
+        quote_pieces(page, &self.answer, Pieces::OfJob(job))
     }
+}
+
+/// The value that an answer claims, and how the answer stands to its task.
+#[derive(Drop)]
+struct Judged {
+    value: i64,
+    judgement: Judgement,
 }
 
 /// Why the answer was rejected, if it was.
@@ -74,9 +93,7 @@ pub(crate) fn explain_verdict(
     match checked {
         Checked::Accepted => Ok(()),
         Checked::OtherTask => say_other_task(page, case),
-        Checked::Rejected(Reason::Pieces(fault)) => {
-            explain_pieces(case.alloc, page, &case.answer, fault)
-        }
+        Checked::Rejected(Reason::Pieces(fault)) => { explain_pieces(page, &case.answer, fault) }
         Checked::Rejected(Reason::Misfit(misfit)) => say_misfit(page, case, misfit),
         Checked::Rejected(Reason::WrongValue) => say_value(page, case),
         Checked::Rejected(Reason::Bound(fault)) => {
@@ -100,8 +117,8 @@ fn say_other_task(page: &mut Page, case: &Case<'_>) -> Result<(), AllocError> {
         )?;
     }
     if let Some(task) = case.task() {
-        let request = case.request;
-        let problem = request.problem.as_str();
+        let problem = escape(case.alloc, case.request.problem.as_str())?;
+        let problem = problem.as_str();
         let (jobs, machines) = (task.len(), task.machines());
         writeln!(
             page.text,
@@ -122,8 +139,7 @@ fn say_misfit(page: &mut Page, case: &Case<'_>, misfit: &Misfit) -> Result<(), A
         Misfit::JobTwice(job, time) => {
             let job = job.get();
             writeln!(page.text, "Job {job} is on two machines at time {time}:")?;
-            let going = going_on(case.alloc, &case.answer, None, Some(job), time)?;
-            quote_pieces(page, &case.answer, going.as_slice())
+            quote_pieces(page, &case.answer, Pieces::OfJobAt(job, time))
         }
         Misfit::WrongAmount(job) => say_amount(page, case, job.get()),
         Misfit::Broken(job) => {
@@ -159,21 +175,17 @@ fn say_sizes(page: &mut Page, case: &Case<'_>) -> Result<(), AllocError> {
 
 fn say_amount(page: &mut Page, case: &Case<'_>, job: u32) -> Result<(), AllocError> {
     case.quote_job(page, job)?;
-    let pieces = of_job(case.alloc, &case.answer, job)?;
-    let mut total: i64 = 0;
-    for piece in &pieces {
-        total = total.saturating_add(piece.stop.saturating_sub(piece.start));
-    }
+    let steps = steps_of(&case.answer, job);
     writeln!(
         page.text,
-        "The pieces of job {job} are {total} time steps together:"
+        "The pieces of job {job} are {steps} time steps together:"
     )?;
-    quote_pieces(page, &case.answer, pieces.as_slice())?;
+    case.quote_pieces_of(page, job)?;
     page.say("They have to be its time, in a shop that of each machine.")
 }
 
 fn say_order(page: &mut Page, case: &Case<'_>, before: u32, after: u32) -> Result<(), AllocError> {
-    if before == after {
+    if before == after && is_flow(case) {
         writeln!(
             page.text,
             "Job {before} is on machine 2 before it is over on machine 1:"
@@ -183,30 +195,26 @@ fn say_order(page: &mut Page, case: &Case<'_>, before: u32, after: u32) -> Resul
     let first = before.to_string(case.alloc)?;
     let second = after.to_string(case.alloc)?;
     let front = [b"prec".as_slice(), first.as_bytes(), second.as_bytes()];
-    if let Some(line) = case.instance.line_beginning(case.alloc, &front)? {
+    if let Some(line) = case.instance.line_beginning(&front) {
         page.quote(&case.instance, &line, None)?;
+    }
+    if before == after {
+        return page.say("This arc leads from a job to itself, so no schedule fits: take it out.");
     }
     writeln!(page.text, "Job {after} starts before job {before} is over:")?;
     case.quote_pieces_of(page, before)?;
     case.quote_pieces_of(page, after)
 }
 
-// What the answer's pieces cost.
-fn true_cost(case: &Case<'_>, task: &Task, sheet: &Sheet) -> Option<i128> {
-    let mut pieces: Vec<Piece> = Vec::new(case.alloc);
-    pieces
-        .extend_from_slice(sheet.answer.pieces.as_slice())
-        .ok()?;
-    let schedule = Schedule::new(pieces).ok()?;
-    Some(cost(task, &schedule))
+// Whether the problem is one of a flow shop.
+fn is_flow(case: &Case<'_>) -> bool {
+    class_in(case.request.problem.as_str()).is_some_and(|class| class.is_flow())
 }
 
 fn say_value(page: &mut Page, case: &Case<'_>) -> Result<(), AllocError> {
-    let (Some(task), Some(sheet)) = (case.task(), case.sheet()) else {
-        return Ok(());
-    };
-    let value = sheet.answer.value;
-    if let Some(cost) = true_cost(case, &task, &sheet) {
+    if let Some(Judged { value, judgement }) = case.judged()
+        && let Fit::Fits(cost) = judgement.fit
+    {
         writeln!(
             page.text,
             "The line \"value\" says {value}, and the pieces cost {cost}."
@@ -217,11 +225,9 @@ fn say_value(page: &mut Page, case: &Case<'_>) -> Result<(), AllocError> {
 
 fn say_gap(page: &mut Page, case: &Case<'_>) -> Result<(), AllocError> {
     case.quote_certificate(page)?;
-    let (Some(task), Some(sheet)) = (case.task(), case.sheet()) else {
-        return Ok(());
-    };
-    let value = sheet.answer.value;
-    if let Ok(bound) = sheet.answer.certificate.bound(case.alloc, &task) {
+    if let Some(Judged { value, judgement }) = case.judged()
+        && let Ok(bound) = judgement.bound
+    {
         let gap = i128::from(value).saturating_sub(bound);
         writeln!(
             page.text,
