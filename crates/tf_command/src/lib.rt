@@ -5,6 +5,7 @@
 pub mod commands;
 pub mod console;
 mod explained;
+mod gathered;
 pub mod options;
 mod recorded;
 pub mod report;

@@ -3,6 +3,7 @@ ghost use Rattle.std.specs.Prelude.{◌≡◌};
 ghost use Rattle.tf_command.specs.Statuses.{status_of, status_of_check, status_of_standing};
 ghost use Rattle.tf_command.specs.Ending.{status_of_run, status_of_checking, status_of_evaluating};
 
+use crate::gathered::Gathered;
 use std::alloc::Allocator;
 use std::io::Write;
 use tf_engine::fault::RunFault;
@@ -14,6 +15,12 @@ use tf_read::fault::ReadFault;
 use tf_schedule::schedule::PieceFault;
 use tf_text::answer::fault::AnswerFault;
 use tf_text::counted::Counted;
+
+/// The most bytes of a line that has a few words.
+const LINE: usize = 128;
+
+/// The most bytes of a line that one call writes.
+const BLOCK: usize = 64_000;
 
 /// Writes the line of a fault, as far as the writer takes it, and answers the exit status. It takes
 /// no memory.
@@ -111,9 +118,11 @@ pub fn say_device<W: Write>(writer: &mut Counted<W>) -> u8
 pub fn say_usage<W: Write>(writer: &mut Counted<W>, text: &str) -> u8
     ensures { result ≡ 5 }
 {
-    say(writer, "threefield: ");
-    say(writer, text);
-    say(writer, "\n");
+    let mut line = Gathered::<LINE>::new();
+    line.push(writer, "threefield: ");
+    line.push(writer, text);
+    line.push(writer, "\n");
+    line.write(writer);
     5
 }
 
@@ -216,49 +225,56 @@ fn field_name(field: Field) -> &'static str {
 fn say_refused<W: Write>(writer: &mut Counted<W>, said: &Said) -> u8
     ensures { result ≡ 2 }
 {
-    say(writer, "threefield: refused: ");
-    say_fault(writer, said);
+    say_fault(writer, "threefield: refused: ", said);
     2
 }
 
 fn say_answer_refused<W: Write>(writer: &mut Counted<W>, said: &Said) -> u8
     ensures { result ≡ 2 }
 {
-    say(writer, "threefield: refused: answer ");
-    say_fault(writer, said);
+    say_fault(writer, "threefield: refused: answer ", said);
     2
 }
 
 fn say_cycle<W: Write>(writer: &mut Counted<W>, jobs: &[JobId]) -> u8
     ensures { result ≡ 2 }
 {
-    say(writer, "threefield: refused: Cycle");
+    let mut line = Gathered::<BLOCK>::new();
+    line.push(writer, "threefield: refused: Cycle");
     for job in jobs {
-        say_number(writer, u64::from(job.get()));
+        push_number(&mut line, writer, u64::from(job.get()));
     }
-    say(writer, "\n");
+    line.push(writer, "\n");
+    line.write(writer);
     2
 }
 
-fn say_fault<W: Write>(writer: &mut Counted<W>, said: &Said) {
-    say(writer, said.name);
+fn say_fault<W: Write>(writer: &mut Counted<W>, front: &str, said: &Said) {
+    let mut line = Gathered::<LINE>::new();
+    line.push(writer, front);
+    line.push(writer, said.name);
     if let Some(number) = said.number {
-        say_number(writer, number);
+        push_number(&mut line, writer, number);
     }
     if let Some(number) = said.second {
-        say_number(writer, number);
+        push_number(&mut line, writer, number);
     }
     if let Some(field) = said.field {
-        say(writer, " ");
-        say(writer, field);
+        line.push(writer, " ");
+        line.push(writer, field);
     }
-    say(writer, "\n");
+    line.push(writer, "\n");
+    line.write(writer);
 }
 
-fn say_number<W: Write>(writer: &mut Counted<W>, number: u64) {
+fn push_number<W: Write, const ROOM: usize>(
+    line: &mut Gathered<ROOM>,
+    writer: &mut Counted<W>,
+    number: u64,
+) {
     let mut digits = itoa::Buffer::new();
-    say(writer, " ");
-    say(writer, digits.format(number));
+    line.push(writer, " ");
+    line.push(writer, digits.format(number));
 }
 
 // After a failure the writer is left alone.
