@@ -135,7 +135,8 @@ First steps: threefield solve -p \"1||Lmax\" TABLE, and with --explain where it
              threefield problems lists what is solved.
 
 Exit status: 0 done, 1 rejected, 2 refused, 3 want of memory,
-             4 a file or a device failed, 5 the command line is wrong.";
+             4 a file or a device failed, 5 the command line is wrong,
+             6 evaluated, and another schedule costs less.";
 
 const ABOUT_SOLVE: &str = "\
 Example: threefield solve -p \"P2|prmp|Cmax\" examples/table.txt
