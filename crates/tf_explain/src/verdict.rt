@@ -63,7 +63,8 @@ impl Case<'_> {
     }
 
     fn quote_job(&self, page: &mut Page, job: u32) -> Result<(), AllocError> {
-        if !matches!(self.request.form, Form::Table) {
+        let request = self.request;
+        if !matches!(request.form, Form::Table) {
             return Ok(());
         }
         match self.instance.job_line(self.alloc, job)? {
@@ -117,7 +118,8 @@ fn say_other_task(page: &mut Page, case: &Case<'_>) -> Result<(), AllocError> {
         )?;
     }
     if let Some(task) = case.task() {
-        let problem = escape(case.alloc, case.request.problem.as_str())?;
+        let request = case.request;
+        let problem = escape(case.alloc, request.problem.as_str())?;
         let problem = problem.as_str();
         let (jobs, machines) = (task.len(), task.machines());
         writeln!(
@@ -208,7 +210,8 @@ fn say_order(page: &mut Page, case: &Case<'_>, before: u32, after: u32) -> Resul
 
 // Whether the problem is one of a flow shop.
 fn is_flow(case: &Case<'_>) -> bool {
-    class_in(case.request.problem.as_str()).is_some_and(|class| class.is_flow())
+    let request = case.request;
+    class_in(request.problem.as_str()).is_some_and(|class| class.is_flow())
 }
 
 fn say_value(page: &mut Page, case: &Case<'_>) -> Result<(), AllocError> {
