@@ -1,0 +1,207 @@
+#!/usr/bin/env python3
+"""Runs the program on damaged command lines and texts, and looks for an outcome that no document allows.
+
+    python3 bench/fuzz.py PROGRAM SEED COUNT [PROCESSES]
+
+The seeds are the sessions of crates/sessions/data: their command lines and texts. Each case damages one of them, by bytes,
+words, lines and numbers, and is run twice where its command has --explain: without the option and with it. COUNT is the
+number of runs; four processes share them unless PROCESSES says otherwise. A case is made from SEED and its number alone, so
+it can be run again. What is looked for:
+
+- a status that is not among the documented ones of its command, a signal, or no end within LIMIT seconds;
+- a byte on standard output with status 2, 3 or 5;
+- a control byte other than a line feed, or a byte that is not ASCII, on standard error;
+- another status or another standard output with --explain than without it;
+- a picture that is no well-formed XML.
+"""
+import collections
+import glob
+import multiprocessing
+import os
+import random
+import subprocess
+import sys
+import tempfile
+import xml.etree.ElementTree as ElementTree
+
+HERE = os.path.dirname(os.path.abspath(__file__))
+SESSIONS = os.path.join(HERE, "..", "crates", "sessions", "data", "*.txt")
+LIMIT = 60
+
+STATUSES = {
+    "solve": {0, 2, 3, 4, 5},
+    "check": {0, 1, 2, 3, 4, 5},
+    "evaluate": {0, 1, 2, 3, 4, 5, 6},
+    "gantt": {0, 2, 3, 4, 5},
+    "problems": {0, 2, 3, 4, 5},
+}
+OTHERWISE = {0, 5}  # help, the version, and what is no command
+EXPLAINS = ("solve", "check", "evaluate", "gantt")
+
+NUMBERS = [b"0", b"1", b"-1", b"2", b"007", b"1000", b"1001", b"100000", b"100001", b"200001", b"2147483648", b"4294967295",
+           b"4294967296", b"4000000000000000000", b"4000000000000000001", b"-4000000000000000000", b"9223372036854775807",
+           b"9223372036854775808", b"-9223372036854775808", b"18446744073709551616", b"9" * 400, b"+5", b"1.5", b"1,5", b"1e3"]
+WORDS = [b"job", b"prec", b"machines", b"piece", b"cert", b"end", b"value", b"problem", b"jobs", b"answer", b"table", b"instance",
+         b"p=", b"p=3", b"p=3,4", b"w=2", b"d=-5", b"r=9", b"h=0,5:10", b"h=5,3:4", b"1-3", b"3-1", b"last", b"window", b"ranks",
+         b"split", b"pairs", b"load", b"#", b"+++", b"=", b"-", b"", b"\xc3\xa4", b"\xff\xfe", b"\x1b[31m", b"\x00", b"\r", b"\t"]
+PROBLEMS = [b"1||sumC", b"1||sumwC", b"1||Lmax", b"1|prec|Lmax", b"1|rj,prmp|Lmax", b"1||hmax", b"1|prec,prmp|hmax", b"P||sumC",
+            b"P2|prmp|Cmax", b"F2||Cmax", b"O2||Cmax", b"F3||Cmax", b"J||Cmax", b"1||sumU", b"", b"1|\x1b[2J|Lmax", b"1||Lm\xc3\xa4x"]
+OPTIONS = [[b"--explain"], [b"--certificate"], [b"--svg"], [b"-c", b"7"], [b"--columns", b"0"], [b"--machines", b"2"],
+           [b"--format", b"wt", b"--jobs", b"3"], [b"--format", b"flow", b"--name", b"demo"], [b"--pair", b"0,1"], [b"--answer", b"1"],
+           [b"--index", b"2"], [b"--help"], [b"--"], [b"--n\xc3\xb6"], [b"--a\x1b[31m"], [b"-"], [b"n\xc3\xb6\nthreefield: accepted"]]
+
+Case = collections.namedtuple("Case", "words texts")
+Outcome = collections.namedtuple("Outcome", "status written said")
+
+
+def words_of(line):
+    """The words of a command line: between blanks, or between double quotes."""
+    words = []
+    for place, part in enumerate(line.split('"')):
+        words += [part] if place % 2 else part.split()
+    return [word.encode() for word in words]
+
+
+def seeds():
+    """The command lines of all sessions, each with the texts that there are when it is run."""
+    cases = []
+    for path in sorted(glob.glob(SESSIONS)):
+        texts, name = {}, None
+        with open(path, encoding="utf-8", newline="") as session:
+            lines = session.read().split("\n")
+        for line in lines:
+            if line.startswith("file "):
+                name, _, other = line[5:].partition(" from ")
+                texts[name] = list(texts.get(other, []))
+            elif line == "<" or line.startswith("< "):
+                texts[name].append(line[2:])
+            elif line.split("< ")[0].isdigit() and "< " in line:
+                place, _, text = line.partition("< ")
+                texts[name][int(place) - 1] = text
+            elif line.startswith("$ threefield"):
+                made = {key: ("\n".join(value) + "\n").encode() for key, value in texts.items()}
+                cases.append(Case(words_of(line[len("$ threefield"):]), made))
+    return cases
+
+
+def damaged(rng, text):
+    """A text with at most three damages."""
+    for _ in range(rng.choice([0, 0, 1, 1, 1, 3])):
+        how, at = rng.randrange(8), rng.randrange(len(text) + 1)
+        if how == 0:
+            text = text[:at] + bytes([rng.randrange(256)]) + text[at + rng.randrange(2):]
+        elif how == 1:
+            text = text[:at] + text[at + rng.choice([1, 2, 10, 10**9]):]
+        elif how == 2:
+            lines = text.split(b"\n")
+            one, other = rng.randrange(len(lines)), rng.randrange(len(lines))
+            lines[one], lines[other] = lines[other], lines[one]
+            text = b"\n".join(lines)
+        elif how == 3:
+            lines = text.split(b"\n")
+            at = rng.randrange(len(lines))
+            lines[at:at + 1] = lines[at:at + 1] * rng.choice([0, 2, 2, 30])
+            text = b"\n".join(lines)
+        elif how == 4:
+            text = text.replace(b"\n", b"\r\n") if rng.randrange(2) else text.replace(b" ", b"\t ")
+        else:
+            words = text.split(b" ")
+            at = rng.randrange(len(words))
+            tail = b"\n" + words[at].split(b"\n", 1)[1] if b"\n" in words[at] else b""
+            words[at] = rng.choice(NUMBERS if how < 7 else WORDS) + tail
+            text = b" ".join(words)
+    return text
+
+
+def case_of(seeds_of, seed, number):
+    """The case of that number: words and texts of a seed, damaged."""
+    rng = random.Random(f"{seed}:{number}")
+    words, texts = rng.choice(seeds_of)
+    texts = {name: text for name, text in texts.items() if name.encode() in words}
+    words = list(words)
+    if b"-p" in words and rng.randrange(4) == 0:
+        at = words.index(b"-p") + 1
+        words[at:at + 1] = [rng.choice(PROBLEMS)]
+    if rng.randrange(5) == 0:
+        at = rng.randrange(len(words) + 1)
+        words[at:at] = rng.choice(OPTIONS)
+    if rng.randrange(12) == 0 and words:
+        words[rng.randrange(len(words))] = rng.choice(NUMBERS + WORDS + PROBLEMS)
+    if rng.randrange(25) == 0 and words:
+        del words[rng.randrange(len(words))]
+    words = [word.replace(b"\0", b"") for word in words]
+    return Case(words, {name: damaged(rng, text) for name, text in texts.items()})
+
+
+def run(program, words, folder, given):
+    try:
+        done = subprocess.run([program, *words], cwd=folder, input=given, capture_output=True, timeout=LIMIT)
+    except subprocess.TimeoutExpired:
+        return Outcome(None, b"", b"")
+    return Outcome(done.returncode, done.stdout, done.stderr)
+
+
+def faults(words, plain, told):
+    """What no document allows."""
+    allowed = STATUSES.get(words[0].decode("latin-1"), OTHERWISE) if words else OTHERWISE
+    for name, outcome in (("without --explain", plain), ("with --explain", told)):
+        if outcome is None:
+            continue
+        if outcome.status is None or outcome.status not in allowed:
+            yield f"{name}: status {outcome.status}"
+        if outcome.status in (2, 3, 5) and outcome.written:
+            yield f"{name}: status {outcome.status} and {len(outcome.written)} bytes on standard output"
+        if any(byte != 10 and not 32 <= byte < 127 for byte in outcome.said):
+            yield f"{name}: a raw byte on standard error: {outcome.said!r}"
+    if told is not None and (told.status, told.written) != (plain.status, plain.written):
+        yield f"status {plain.status} without --explain and {told.status} with it, or another output"
+    if plain.status == 0 and plain.written.startswith(b"<"):
+        try:
+            ElementTree.fromstring(plain.written)
+        except ElementTree.ParseError as error:
+            yield f"no well-formed XML: {error}"
+
+
+def runs_of(part):
+    """Runs the cases of a part; how many runs there were, how often each status, and the faults."""
+    program, seed, numbers = part
+    known, made, statuses, found = seeds(), 0, collections.Counter(), []
+    with tempfile.TemporaryDirectory() as folder:
+        for number in numbers:
+            case = case_of(known, seed, number)
+            for name, text in case.texts.items():
+                with open(os.path.join(folder, name), "wb") as file:
+                    file.write(text)
+            given = case.texts.get("-", b"")
+            plain = run(program, case.words, folder, given)
+            told = None
+            if case.words and case.words[0].decode("latin-1") in EXPLAINS and b"--explain" not in case.words:
+                told = run(program, [case.words[0], b"--explain", *case.words[1:]], folder, given)
+            made += 1 + (told is not None)
+            statuses[plain.status] += 1
+            found += [(number, fault, case) for fault in faults(case.words, plain, told)]
+            for name in case.texts:
+                os.remove(os.path.join(folder, name))
+    return made, statuses, found
+
+
+def main(program, seed, count, processes="4"):
+    program, count = os.path.abspath(program), int(count)
+    cases = count * 10 // 19  # nineteen runs for ten cases, since most have two
+    parts = [(program, seed, range(start, min(start + 250, cases))) for start in range(0, cases, 250)]
+    made, statuses, failed = 0, collections.Counter(), 0
+    with multiprocessing.Pool(int(processes)) as pool:
+        for runs, seen, found in pool.imap_unordered(runs_of, parts):
+            made += runs
+            statuses += seen
+            for number, fault, case in found:
+                failed += 1
+                if failed <= 20:
+                    print(f"case {number} of seed {seed}: {fault}\n  words {case.words}\n  texts {case.texts}", flush=True)
+    shares = ", ".join(f"{status}: {seen}" for status, seen in sorted(statuses.items(), key=str))
+    print(f"{made} runs over {cases} cases of seed {seed}; statuses {shares}; faults: {failed}")
+    return failed > 0
+
+
+if __name__ == "__main__":
+    sys.exit(main(*sys.argv[1:]))
