@@ -72,7 +72,7 @@ pub(crate) fn flow_task_read<A: Allocator + Copy, R: Read>(
 
 /// The numbers of the instance of this number of a weighted tardiness file that the reader's text
 /// is.
-fn wt_read<A: Allocator + Copy, R: Read>(
+pub fn wt_read<A: Allocator + Copy, R: Read>(
     alloc: A,
     jobs: u32,
     index: u32,
@@ -87,7 +87,7 @@ fn wt_read<A: Allocator + Copy, R: Read>(
 
 /// The numbers of the instance of this name of a flow shop file that the reader's text is, for a
 /// pair of machines.
-fn flow_read<A: Allocator + Copy, R: Read>(
+pub fn flow_read<A: Allocator + Copy, R: Read>(
     alloc: A,
     name: &[u8],
     pair: Option<(u32, u32)>,

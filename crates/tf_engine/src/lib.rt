@@ -3,7 +3,7 @@
 
 pub mod case;
 pub mod fault;
-mod form_read;
+pub mod form_read;
 pub mod request;
 pub mod run_check;
 pub mod run_gantt;
