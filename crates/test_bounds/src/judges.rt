@@ -1,0 +1,77 @@
+//! What certificates bound, worked by hand.
+use crate::tasks::{Sample, numbers, task_of};
+use std::alloc::Global;
+use std::test::Fail;
+use tf_bound::certificate::BoundCertificate;
+use tf_model::ids::JobId;
+
+/// The kinds of certificates, in the order of their words. Machines count from 0.
+#[derive(Clone, Copy)]
+enum Kind {
+    Machine(usize),
+    Window,
+    Crowd(u32),
+    OneJob,
+    Multipliers(u64),
+    Prices(u64),
+}
+
+// A task, a kind with its numbers or jobs, and the bound, if it is not refused.
+type Case = (Sample, Kind, &'static [u64], Option<i128>);
+
+const CASES: &[Case] = &[
+    (Sample::Tardy, Kind::Multipliers(2), &[2, 1, 3], Some(3)),
+    (Sample::Tardy, Kind::Multipliers(2), &[0, 0, 0], Some(0)),
+    (Sample::Tardy, Kind::Multipliers(2), &[3, 1, 3], None),
+    (Sample::Flow, Kind::Machine(1), &[2, 3], Some(8)),
+    (Sample::Flow, Kind::Machine(1), &[2, 2], None),
+    (Sample::Flow, Kind::Machine(1), &[2, 4], None),
+    (Sample::Released, Kind::Window, &[3], Some(1)),
+    (Sample::Released, Kind::Prices(1), &[1], None),
+    (Sample::Fours, Kind::Window, &[1, 2, 3], Some(6)),
+    (Sample::Fours, Kind::OneJob, &[1], Some(4)),
+    (Sample::Fours, Kind::Crowd(1), &[1, 2, 3], Some(8)),
+    (Sample::Fours, Kind::Crowd(2), &[1, 2, 3], None),
+    (Sample::Late, Kind::Prices(1), &[1], Some(2)),
+    (Sample::Late, Kind::Prices(1), &[0], Some(0)),
+    (Sample::Late, Kind::Prices(1), &[5], Some(0)),
+    (Sample::Late, Kind::Prices(0), &[1], None),
+];
+
+// The jobs of these numbers.
+fn jobs_of(alloc: Global, values: &[u64]) -> Result<Vec<JobId>, Fail> {
+    let mut jobs = Vec::new(alloc);
+    for value in values {
+        jobs.push(JobId::at((value.saturating_sub(1) % 10) as usize))?;
+    }
+    Ok(jobs)
+}
+
+fn certificate(alloc: Global, kind: Kind, values: &[u64]) -> Result<BoundCertificate, Fail> {
+    let jobs = jobs_of(alloc, values)?;
+    let given = numbers(alloc, values)?;
+    Ok(match kind {
+        Kind::Machine(machine) => BoundCertificate::Machine { machine, jobs },
+        Kind::Window => BoundCertificate::Window { jobs },
+        Kind::Crowd(h) => BoundCertificate::Crowd { h, jobs },
+        Kind::OneJob => BoundCertificate::OneJob { job: JobId::at(0) },
+        Kind::Multipliers(q) => BoundCertificate::Multipliers {
+            machine: 0,
+            q,
+            numerators: given,
+        },
+        Kind::Prices(q) => BoundCertificate::Prices { q, rows: given },
+    })
+}
+
+#[test]
+fn each_kind_bounds_what_was_worked_by_hand(rt: HostRuntime) -> Result<(), Fail> {
+    for (sample, kind, values, bound) in CASES {
+        let task = task_of(rt.alloc(), *sample)?;
+        let found = certificate(rt.alloc(), *kind, values)?
+            .bound(rt.alloc(), &task)
+            .ok();
+        assert!(rt; found == *bound);
+    }
+    Ok(())
+}

@@ -1,0 +1,87 @@
+//! Small tasks whose optima are known.
+use std::alloc::Global;
+use std::test::Fail;
+use tf_bound::task::{ProblemJob, ProblemTask};
+use tf_model::problem::{Env, Goal, Problem};
+
+/// The tasks.
+#[derive(Clone, Copy, Debug, PartialEq, Eq)]
+pub enum Sample {
+    /// `1||sumwT`, of optimum 3.
+    Tardy,
+    /// `F3|prmu|Cmax` with a time 0, of optimum 9.
+    Flow,
+    /// `1|rj|Lmax`, of optimum 1.
+    Released,
+    /// `P2||Cmax`: three jobs of time 4, of optimum 8.
+    Fours,
+    /// `1||sumU`: three jobs of time 2 that are due at 2, of optimum 2.
+    Late,
+}
+
+// Its environment, objective and number of machines.
+fn frame(sample: Sample) -> (Env, Goal, u32) {
+    match sample {
+        Sample::Tardy => (Env::Single, Goal::SumWT, 1),
+        Sample::Flow => (Env::Flow, Goal::Cmax, 3),
+        Sample::Released => (Env::Single, Goal::Lmax, 1),
+        Sample::Fours => (Env::Parallel, Goal::Cmax, 2),
+        Sample::Late => (Env::Single, Goal::SumU, 1),
+    }
+}
+
+// The processing times, weight, release date and due date of each job.
+type Row = (&'static [u64], u64, u64, i64);
+
+const TARDY: &[Row] = &[(&[2], 1, 0, 3), (&[1], 2, 0, 5), (&[3], 2, 0, 3)];
+
+const FLOW: &[Row] = &[
+    (&[0, 1, 1], 1, 0, 0),
+    (&[2, 2, 1], 1, 0, 0),
+    (&[3, 3, 1], 1, 0, 0),
+];
+
+const RELEASED: &[Row] = &[(&[4], 1, 0, 10), (&[2], 1, 1, 4), (&[1], 1, 8, 8)];
+
+const FOURS: &[Row] = &[(&[4], 1, 0, 0), (&[4], 1, 0, 0), (&[4], 1, 0, 0)];
+
+const LATE: &[Row] = &[(&[2], 1, 0, 2), (&[2], 1, 0, 2), (&[2], 1, 0, 2)];
+
+fn rows_of(sample: Sample) -> &'static [Row] {
+    match sample {
+        Sample::Tardy => TARDY,
+        Sample::Flow => FLOW,
+        Sample::Released => RELEASED,
+        Sample::Fours => FOURS,
+        Sample::Late => LATE,
+    }
+}
+
+/// A copy of the numbers.
+pub fn numbers(alloc: Global, values: &[u64]) -> Result<Vec<u64>, Fail> {
+    let mut all = Vec::new(alloc);
+    for value in values {
+        all.push(*value)?;
+    }
+    Ok(all)
+}
+
+/// The task.
+pub fn task_of(alloc: Global, sample: Sample) -> Result<ProblemTask, Fail> {
+    let (env, goal, machines) = frame(sample);
+    let problem = Problem {
+        release: sample == Sample::Released,
+        prmu: sample == Sample::Flow,
+        ..Problem::plain(env, goal)
+    };
+    let mut jobs = Vec::new(alloc);
+    for (times, weight, release, due) in rows_of(sample) {
+        jobs.push(ProblemJob {
+            times: numbers(alloc, times)?,
+            weight: *weight,
+            release: *release,
+            due: *due,
+        })?;
+    }
+    Ok(ProblemTask::new(problem, machines, jobs, Vec::new(alloc))?)
+}

@@ -1,0 +1,10 @@
+use Rattle.std.proofs.Common.{◌≡◌, ◌*◌, ◌≤◌, sum_by, take}
+use Rattle.tf_model.specs.Limit.{limit}
+use Rattle.tf_problem.specs.ProblemData.{problem_time}
+use Rattle.tf_bound.proofs.alike.work_of.Given as goal
+
+abbrev pub invariant-loop-job : goal.invariant-loop-job
+invariant-loop-job g l = record {
+  value : l.work ≡ sum_by (problem_time l.task) (take l.job-index l.jobs);
+  small : l.work ≤ l.job-index * limit;
+}

@@ -1,0 +1,15 @@
+use Rattle.std.proofs.Common.{◌≡◌, ℕ, ◌≤◌, length, All}
+use Rattle.tf_model.specs.Limit.{limit}
+use Rattle.tf_problem.specs.ProblemBounds.{numerator}
+use Rattle.tf_bound.specs.Prices.{IsCheapestFor, IsPaidFor}
+use Rattle.tf_bound.proofs.prices.cheapest_prices.Given as goal
+
+abbrev pub invariant-loop-k : goal.invariant-loop-k
+invariant-loop-k g l = record {
+  len : length l.cheapest.items ≡ l.k;
+  cheapest : (j : ℕ) → 1 ≤ j → j ≤ l.k
+      → IsCheapestFor l.task l.q l.prices j (numerator l.cheapest.items j);
+  reached : (j : ℕ) → 1 ≤ j → j ≤ l.k
+      → IsPaidFor l.task l.q l.prices j (numerator l.cheapest.items j);
+  small : All (λ x. x ≤ limit) l.cheapest.items;
+}

@@ -1,0 +1,22 @@
+use Rattle.std.proofs.Common.{arith}
+use Rattle.tf_bound.specs.Sized.{IsSizedJob, work}
+use Rattle.tf_bound.proofs.Steps.{all_next, sum_next}
+use Rattle.tf_bound.proofs.task.all_work.Goals as goal
+
+pub loop-place-preserved : goal.loop-place-preserved
+loop-place-preserved g c =
+    let jobs = c.args.jobs.now in
+    let i = c.loop-place.place in
+    let job = c.index-jobs-place.result in
+    let told = c.in-Some.ensures in
+    record {
+      sized = all_next (IsSizedJob c.args.shop c.args.machines) jobs i job c.loop-place-test.true
+          c.index-jobs-place.is c.loop-place.invariant.sized told.sized;
+      value = omega (
+        arith,
+        c.loop-place.invariant.value,
+        told.value,
+        sum_next work jobs i job c.loop-place-test.true c.index-jobs-place.is,
+      );
+      small = omega (arith, c.if-work-all.false, c.loop-place.invariant.small);
+    }

@@ -1,0 +1,4 @@
+pub mod Sized
+pub mod RowSums
+pub mod Prices
+pub mod Certified

@@ -1,0 +1,39 @@
+-- What every task satisfies at run time: it is sound, and its numbers and totals are within the limits.
+use Rattle.std.specs.Prelude.{◌≡◌, ℕ, ◌+◌, ◌≤◌, Bool, sum, length, IsTrue, IsFalse}
+use Rattle.std.specs.List.{All, sum_by}
+use Rattle.tf_model.specs.ClassTable.{is_single_env, is_shop_env}
+use Rattle.tf_model.specs.Limit.{limit, most_jobs, most_machines}
+use Rattle.tf_model.specs.Whole.{IsWithin}
+use Rattle.tf_problem.specs.ProblemData.{ProblemData, ProblemJobData, IsProblemJob, is_covered, is_job_shop}
+
+-- the time of a job on all machines together
+abbrev pub work : ProblemJobData → ℕ
+work x = sum x.times
+
+-- the time of all jobs
+abbrev pub all_work : ProblemData → ℕ
+all_work k = sum_by work k.jobs
+
+-- A job has one time, in a shop one for each machine, and some time in all. Its numbers are within
+-- the limit.
+pub record IsSizedJob (shop : Bool) (machines : ℕ) (x : ProblemJobData) : Type 0 where
+  pub one_time : IsFalse shop → length x.times ≡ 1
+  pub shop_times : IsTrue shop → length x.times ≡ machines
+  pub some_time : 1 ≤ work x
+  pub weight : x.weight ≤ limit
+  pub release : x.release ≤ limit
+  pub due : IsWithin x.due
+
+pub record IsSized (k : ProblemData) : Type 0 where
+  pub covered : IsTrue (is_covered k.problem)
+  pub no_routes : IsFalse (is_job_shop k.problem.env)
+  pub some_job : 1 ≤ length k.jobs
+  pub few_jobs : length k.jobs ≤ most_jobs
+  pub some_machine : 1 ≤ k.machines
+  pub few_machines : k.machines ≤ most_machines
+  pub single : IsTrue (is_single_env k.problem.env) → k.machines ≡ 1
+  pub jobs : All (IsSizedJob (is_shop_env k.problem.env) k.machines) k.jobs
+  pub arcs_in : All (λ arc. IsProblemJob k arc.0 × IsProblemJob k arc.1) k.arcs
+  -- all the work, and the work after any release date
+  pub total : all_work k ≤ limit
+  pub horizon : All (λ x. x.release + all_work k ≤ limit) k.jobs

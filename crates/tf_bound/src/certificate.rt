@@ -1,0 +1,74 @@
+//! Certificates of lower bounds, of every kind, and their judge.
+ghost use Rattle.std.specs.Prelude.{IfOk};
+ghost use Rattle.tf_problem.specs.ProblemCost.{IsLowerBound};
+ghost use Rattle.tf_bound.specs.Certified.{IsBoundBy};
+
+use crate::alike::{crowd_bound, one_job_bound, window_bound};
+use crate::fault::BoundFault;
+use crate::machine::machine_bound;
+use crate::multipliers::multipliers_bound;
+use crate::prices::prices_bound;
+use crate::task::ProblemTask;
+use std::alloc::{Allocator, Global};
+use tf_model::ids::JobId;
+
+/// What shows that no timetable of a task costs less than a number. Machines count from 0.
+#[derive(Drop)]
+pub enum BoundCertificate<A: Allocator = Global> {
+    /// Some jobs on one machine.
+    Machine {
+        machine: usize,
+        jobs: Vec<JobId, A>,
+    },
+    /// Some jobs, on one machine or on identical ones.
+    Window {
+        jobs: Vec<JobId, A>,
+    },
+    /// More than `h` jobs for each machine.
+    Crowd {
+        h: u32,
+        jobs: Vec<JobId, A>,
+    },
+    /// One job.
+    OneJob {
+        job: JobId,
+    },
+    /// Numerators over q, job by job.
+    Multipliers {
+        machine: usize,
+        q: u64,
+        numerators: Vec<u64, A>,
+    },
+    /// Prices of the unit rows from 0 on, over q.
+    Prices {
+        q: u64,
+        rows: Vec<u64, A>,
+    },
+}
+
+impl<A: Allocator> BoundCertificate<A> {
+    /// Its value on a task. No timetable that fits the task costs less.
+    pub fn bound<B: Allocator + Copy, C: Allocator>(
+        &self,
+        alloc: B,
+        task: &ProblemTask<C>,
+    ) -> Result<i128, BoundFault>
+        ensures value { IfOk result (IsBoundBy task.now self.now) }
+        ensures bound { IfOk result (IsLowerBound task.now) }
+    {
+        match self {
+            BoundCertificate::Machine { machine, jobs } => {
+                machine_bound(alloc, task, *machine, jobs)
+            }
+            BoundCertificate::Window { jobs } => window_bound(alloc, task, jobs),
+            BoundCertificate::Crowd { h, jobs } => crowd_bound(alloc, task, *h, jobs),
+            BoundCertificate::OneJob { job } => one_job_bound(task, *job),
+            BoundCertificate::Multipliers {
+                machine,
+                q,
+                numerators,
+            } => multipliers_bound(alloc, task, *machine, numerators, *q),
+            BoundCertificate::Prices { q, rows } => prices_bound(alloc, task, *q, rows),
+        }
+    }
+}

@@ -1,0 +1,12 @@
+//! Tasks of any problem at run time, and the judges of certificates of lower bounds.
+#![tactic(auto)]
+
+pub mod alike;
+pub mod certificate;
+pub mod fault;
+mod jobs;
+pub mod machine;
+pub mod multipliers;
+pub mod prices;
+pub mod row_sums;
+pub mod task;

@@ -1,0 +1,206 @@
+//! The bound of a sum by prices of the rows: each job at its cheapest start, less what all machines
+//! can take in.
+ghost use Rattle.std.specs.Prelude.{◌≡◌, ℕ, ◌+◌, ◌*◌, ◌≤◌, ℤ, pos, ◌-ℤ◌, length, sum, max, IfOk, IfSome, IsTrue, IsFalse};
+ghost use Rattle.std.specs.List.{All};
+ghost use Rattle.tf_model.specs.ClassTable.{is_shop_env};
+ghost use Rattle.tf_model.specs.Limit.{limit};
+ghost use Rattle.tf_model.specs.Whole.{IsWithin};
+ghost use Rattle.tf_problem.specs.ProblemData.{IsProblemJob, problem_release};
+ghost use Rattle.tf_problem.specs.ProblemCost.{IsLowerBound};
+ghost use Rattle.tf_problem.specs.ProblemBounds.{is_alike, is_sum_goal, numerator, start_price, share_up, AreCheapest};
+ghost use Rattle.tf_bound.specs.RowSums.{AreSums, late_steps};
+ghost use Rattle.tf_bound.specs.Prices.{IsCheapestFor, IsPaidFor, IsPricesBound, is_by_unit};
+
+use crate::fault::BoundFault;
+use crate::row_sums::{Cheapest, cheapest_start, late_steps, sum_rows};
+use crate::task::ProblemTask;
+use std::alloc::Allocator;
+use tf_model::ids::JobId;
+use tf_model::limit::LIMIT;
+use tf_model::memory::OutOfMemory;
+use tf_model::problem::{Env, Goal};
+use tf_problem::laws::{cheapest_law, prices_law};
+
+/// Whether prices bound a problem: a sum over jobs that are not preempted, where each has one
+/// time.
+pub fn takes_prices<A: Allocator>(task: &ProblemTask<A>) -> bool
+    ensures alike { IsTrue result → IsTrue (is_alike task.now.problem.env) }
+    ensures one_time { IsTrue result → IsFalse (is_shop_env task.now.problem.env) }
+    ensures whole { IsTrue result → IsFalse task.now.problem.prmp }
+    ensures sum { IsTrue result → IsTrue (is_sum_goal task.now.problem.goal) }
+{
+    let problem = task.problem();
+    let alike = matches!(problem.env, Env::Single | Env::Parallel);
+    let greatest = matches!(problem.goal, Goal::Cmax | Goal::Lmax | Goal::Hmax);
+    alike && !problem.prmp && !greatest
+}
+
+/// Whether the objective counts late jobs.
+pub fn is_by_unit(goal: Goal) -> bool
+    ensures { result ≡ is_by_unit goal }
+{
+    matches!(goal, Goal::SumU | Goal::SumWU)
+}
+
+/// The cheapest start of a job, where what it costs is within the limit.
+pub fn cheapest_of<A: Allocator>(
+    task: &ProblemTask<A>,
+    q: u64,
+    prices: &[u64],
+    sums: &[u64],
+    job: JobId,
+) -> Option<Cheapest>
+    requires job { IsProblemJob task.now job }
+    requires one_time { IsFalse (is_shop_env task.now.problem.env) }
+    requires goal { IsTrue (is_sum_goal task.now.problem.goal) }
+    requires sums { AreSums prices.now sums.now }
+    ensures cheapest { IfSome result (λ found.
+        IsCheapestFor task.now q prices.now job found.price) }
+    ensures reached { IfSome result (λ found. IsPaidFor task.now q prices.now job found.price) }
+    ensures small { IfSome result (λ found. found.price ≤ limit) }
+{
+    let release = task.release(job);
+    let time = task.time(job);
+    let due = task.due(job);
+    let last = release.max(prices.len() as u64);
+    if last > LIMIT as u64 - time {
+        return None;
+    }
+    let by_unit = is_by_unit(task.problem().goal);
+    let slope = slope_within(by_unit, q, task.weight(job), due, last + time)?;
+    Some(cheapest_start(prices, sums, release, time, by_unit, slope, due))
+}
+
+// The weight of a job times q, where what it costs at `end` is within the limit.
+fn slope_within(by_unit: bool, q: u64, weight: u64, due: i64, end: u64) -> Option<u64>
+    requires end { end ≤ limit }
+    requires weight { weight ≤ limit }
+    requires due { IsWithin due }
+    ensures slope { IfSome result (λ slope. slope ≡ q * weight) }
+    ensures small { IfSome result (λ slope. slope * late_steps by_unit due end ≤ limit) }
+{
+    let slope = q.checked_mul(weight)?;
+    let late = late_steps(by_unit, due, end);
+    if u128::from(slope) * u128::from(late) > LIMIT as u128 {
+        return None;
+    }
+    Some(slope)
+}
+
+// What each job costs at its cheapest start, job by job.
+fn cheapest_prices<A: Allocator, B: Allocator>(
+    alloc: A,
+    task: &ProblemTask<B>,
+    q: u64,
+    prices: &[u64],
+    sums: &[u64],
+) -> Result<Vec<u64, A>, BoundFault>
+    requires one_time { IsFalse (is_shop_env task.now.problem.env) }
+    requires goal { IsTrue (is_sum_goal task.now.problem.goal) }
+    requires sums { AreSums prices.now sums.now }
+    ensures cheapest { IfOk result (λ v. AreCheapest task.now q prices.now v.items) }
+    ensures reached { IfOk result (λ v. (j : ℕ) → IsProblemJob task.now j
+        → IsPaidFor task.now q prices.now j (numerator v.items j)) }
+    ensures len { IfOk result (λ v. length v.items ≡ length task.now.jobs) }
+    ensures small { IfOk result (λ v. All (λ x. x ≤ limit) v.items) }
+{
+    cheapest_law();
+    let Ok(mut cheapest) = Vec::with_capacity(alloc, task.len()) else {
+        return Err(BoundFault::OutOfMemory);
+    };
+    for k in 0..task.len() {
+        let Some(found) = cheapest_of(task, q, prices, sums, JobId::at(k)) else {
+            return Err(BoundFault::TooLarge);
+        };
+        let Ok(()) = cheapest.push(found.price) else {
+            return Err(BoundFault::OutOfMemory);
+        };
+    }
+    Ok(cheapest)
+}
+
+// All of them together.
+fn total_of(prices: &[u64]) -> u128
+    requires few { length prices.now ≤ 100000 }
+    requires small { All (λ x. x ≤ limit) prices.now }
+    ensures value { result ≡ sum prices.now }
+    ensures small { result ≤ 100000 * limit }
+{
+    let mut total: u128 = 0;
+    for price in prices {
+        total += u128::from(*price);
+    }
+    total
+}
+
+// A number over q, rounded up, and 0 where it is negative.
+pub(crate) fn share_up(number: i128, q: u64) -> i128
+    requires { 1 ≤ q }
+    ensures { result ≡ share_up number q }
+{
+    if number <= 0 {
+        0
+    } else {
+        (number as u128).div_ceil(u128::from(q)) as i128
+    }
+}
+
+// What the jobs cost, less all prices on each machine, over q.
+fn prices_value(machines: u32, all: u64, cheapest: &[u64], q: u64) -> i128
+    requires few { length cheapest.now ≤ 100000 }
+    requires small { All (λ x. x ≤ limit) cheapest.now }
+    requires some { 1 ≤ q }
+    ensures { result ≡ share_up (pos (sum cheapest.now) -ℤ pos (machines * all)) q }
+{
+    let taken = i128::from(machines) * i128::from(all);
+    share_up(total_of(cheapest) as i128 - taken, q)
+}
+
+/// The bound by the prices of the rows from 0 on, which are over q. It takes memory for the rows
+/// and for the jobs.
+pub fn prices_bound<A: Allocator + Copy, B: Allocator>(
+    alloc: A,
+    task: &ProblemTask<B>,
+    q: u64,
+    prices: &[u64],
+) -> Result<i128, BoundFault>
+    ensures value { IfOk result (IsPricesBound task.now q prices.now) }
+    ensures bound { IfOk result (IsLowerBound task.now) }
+{
+    if !takes_prices(task) {
+        return Err(BoundFault::OtherKind);
+    }
+    if q == 0 {
+        return Err(BoundFault::NoDenominator);
+    }
+    let Ok(mut sums) = vec![in alloc; 0_u64; prices.len() + 1] else {
+        return Err(BoundFault::OutOfMemory);
+    };
+    bound_with(alloc, task, q, prices, &mut sums)
+}
+
+// The bound, with room for the sums of the prices.
+fn bound_with<A: Allocator, B: Allocator>(
+    alloc: A,
+    task: &ProblemTask<B>,
+    q: u64,
+    prices: &[u64],
+    sums: &mut [u64],
+) -> Result<i128, BoundFault>
+    requires alike { IsTrue (is_alike task.now.problem.env) }
+    requires one_time { IsFalse (is_shop_env task.now.problem.env) }
+    requires whole { IsFalse task.now.problem.prmp }
+    requires goal { IsTrue (is_sum_goal task.now.problem.goal) }
+    requires some { 1 ≤ q }
+    requires sums { length sums.old ≡ length prices.now + 1 }
+    ensures value { IfOk result (IsPricesBound task.now q prices.now) }
+    ensures bound { IfOk result (IsLowerBound task.now) }
+{
+    if !sum_rows(prices, sums) {
+        return Err(BoundFault::TooLarge);
+    }
+    let cheapest = cheapest_prices(alloc, task, q, prices, sums)?;
+    prices_law();
+    let all = sums[prices.len()];
+    Ok(prices_value(task.machines(), all, &cheapest, q))
+}

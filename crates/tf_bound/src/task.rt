@@ -1,0 +1,381 @@
+//! A task of any problem, as it is written.
+ghost use Rattle.std.specs.Prelude.{◌≡◌, ◌+◌, ◌≤◌, sum, IfOk, IfSome, IsTrue, IsFalse};
+ghost use Rattle.std.specs.List.{All, sum_by};
+ghost use Rattle.tf_model.specs.ClassTable.{is_single_env, is_flow_env};
+ghost use Rattle.tf_model.specs.Limit.{limit};
+ghost use Rattle.tf_problem.specs.ProblemData.{is_covered, is_job_shop};
+ghost use Rattle.tf_bound.specs.Sized.{IsSizedJob, work};
+
+use crate::fault::TaskFault;
+use std::alloc::{Allocator, Global};
+use std::marker::Model;
+use tf_model::ids::JobId;
+use tf_model::limit::{LIMIT, MOST_JOBS, MOST_MACHINES};
+use tf_model::problem::{Env, Goal, Problem};
+
+/// A job: one time, or in a shop one for each machine, from the first on.
+#[derive(Drop)]
+pub struct ProblemJob<A: Allocator = Global> {
+    /// In time steps.
+    pub times: Vec<u64, A>,
+    pub weight: u64,
+    /// In time steps: the job does not start before.
+    pub release: u64,
+    /// In time steps.
+    pub due: i64,
+}
+
+impl<A: Allocator> Model for ProblemJob<A> {
+    ghost use Rattle.std.specs.Prelude.{[]};
+    ghost use Rattle.tf_problem.specs.ProblemData.{ProblemJobData};
+
+    ghost Value = { ProblemJobData };
+
+    ghost view = { λ j.
+        record {
+          times = j.times.items;
+          route = [];
+          weight = j.weight;
+          release = j.release;
+          due = j.due;
+        } };
+}
+
+/// The problem, its machines, jobs and arcs, within the limits. What the problem's conditions and
+/// objective do not name is not looked at.
+#[derive(Drop)]
+pub struct ProblemTask<A: Allocator = Global> {
+    problem: Problem,
+    machines: u32,
+    jobs: Vec<ProblemJob<A>, A>,
+    arcs: Vec<(JobId, JobId), A>,
+}
+
+impl<A: Allocator> Model for ProblemTask<A> {
+    ghost use Rattle.tf_problem.specs.ProblemData.{ProblemData};
+    ghost use Rattle.tf_bound.specs.Sized.{IsSized};
+
+    ghost Value = { ProblemData };
+
+    ghost view = { λ t.
+        record {
+          problem = t.problem;
+          machines = t.machines;
+          jobs = t.jobs.items;
+          arcs = t.arcs.items;
+        } };
+
+    ghost invariant = { λ t. IsSized
+        (record {
+          problem = t.problem;
+          machines = t.machines;
+          jobs = t.jobs.items;
+          arcs = t.arcs.items;
+        }) };
+}
+
+// Whether the definitions speak of the problem; job shops, whose routes a job would have to name,
+// are left out.
+fn is_taken(problem: &Problem) -> bool
+    ensures covered { IsTrue result → IsTrue (is_covered problem.now) }
+    ensures no_routes { IsTrue result → IsFalse (is_job_shop problem.now.env) }
+{
+    let env = !matches!(problem.env, Env::Uniform | Env::Unrelated | Env::JobShop);
+    let goal = !matches!(problem.goal, Goal::Hmax);
+    env && goal && !problem.block && !problem.rcrc
+}
+
+fn is_single(env: Env) -> bool
+    ensures { result ≡ is_single_env env }
+{
+    matches!(env, Env::Single)
+}
+
+fn is_flow(env: Env) -> bool
+    ensures { result ≡ is_flow_env env }
+{
+    matches!(env, Env::Flow)
+}
+
+// The sum of times that is within the limit.
+fn total_of(times: &[u64]) -> u64
+    requires { sum times.now ≤ limit }
+    ensures { result ≡ sum times.now }
+{
+    times.iter().sum()
+}
+
+// The sum of the times, where it is within the limit.
+fn work_of(times: &[u64]) -> Option<u64>
+    ensures value { IfSome result (λ work. work ≡ sum times.now) }
+    ensures small { IfSome result (λ work. work ≤ limit) }
+{
+    let mut work: u64 = 0;
+    for time in times {
+        if *time > LIMIT as u64 - work {
+            return None;
+        }
+        work += *time;
+    }
+    Some(work)
+}
+
+// The time of a job whose numbers are as the problem asks.
+fn sized_work<A: Allocator>(shop: bool, machines: u32, job: &ProblemJob<A>) -> Option<u64>
+    ensures sized { IfSome result (λ _. IsSizedJob shop machines job.now) }
+    ensures value { IfSome result (λ time. time ≡ work job.now) }
+    ensures small { IfSome result (λ time. time ≤ limit) }
+{
+    let asked = if shop { machines as usize } else { 1 };
+    if job.times.len() != asked {
+        return None;
+    }
+    let limit = LIMIT as u64;
+    if job.weight > limit || job.release > limit || job.due < -LIMIT || job.due > LIMIT {
+        return None;
+    }
+    let work = work_of(&job.times)?;
+    if work == 0 {
+        return None;
+    }
+    Some(work)
+}
+
+// The time of all jobs, each of which is as the problem asks.
+fn all_work<A: Allocator>(
+    shop: bool,
+    machines: u32,
+    jobs: &[ProblemJob<A>],
+) -> Result<u64, TaskFault>
+    ensures sized { IfOk result (λ _. All (IsSizedJob shop machines) jobs.now) }
+    ensures value { IfOk result (λ all. all ≡ sum_by work jobs.now) }
+    ensures small { IfOk result (λ all. all ≤ limit) }
+{
+    let mut all: u64 = 0;
+    for (place, job) in jobs.iter().enumerate() {
+        let Some(work) = sized_work(shop, machines, job) else {
+            return Err(TaskFault::Times(place));
+        };
+        if work > LIMIT as u64 - all {
+            return Err(TaskFault::TooLarge);
+        }
+        all += work;
+    }
+    Ok(all)
+}
+
+// Whether all the work after any release date is within the limit.
+fn is_within<A: Allocator>(jobs: &[ProblemJob<A>], all: u64) -> bool
+    requires { all ≤ limit }
+    ensures { IsTrue result → All (λ x. x.release + all ≤ limit) jobs.now }
+{
+    jobs.iter().all(|job| job.release <= LIMIT as u64 - all)
+}
+
+// Whether each arc is between two of so many jobs.
+fn are_in(arcs: &[(JobId, JobId)], jobs: usize) -> bool
+    ensures { IsTrue result → All
+        (λ arc. ((1 ≤ arc.0) × (arc.0 ≤ jobs)) × ((1 ≤ arc.1) × (arc.1 ≤ jobs))) arcs.now }
+{
+    for (before, after) in arcs {
+        if before.get() as usize > jobs || after.get() as usize > jobs {
+            return false;
+        }
+    }
+    true
+}
+
+impl<A: Allocator> ProblemTask<A> {
+    ghost use Rattle.std.specs.Prelude.{◌≡◌, ◌*◌, ◌-◌, ◌<◌, ◌≤◌, length, IfOk, IsTrue, IsFalse};
+    ghost use Rattle.tf_model.specs.ClassTable.{is_shop_env};
+    ghost use Rattle.tf_model.specs.Limit.{limit};
+    ghost use Rattle.tf_model.specs.Whole.{IsWithin};
+    ghost use Rattle.tf_problem.specs.ProblemData.{IsProblemJob, problem_job, problem_time, problem_time_on, problem_release, problem_weight, problem_due};
+    ghost use Rattle.tf_problem.specs.ProblemBounds.{is_by_machine, head, problem_work, tail};
+    ghost use Rattle.tf_bound.specs.Sized.{IsSized};
+
+    /// The task of these parts, or the first fault of the problem, the machines, the jobs and the
+    /// arcs.
+    pub fn new(
+        problem: Problem,
+        machines: u32,
+        jobs: Vec<ProblemJob<A>, A>,
+        arcs: Vec<(JobId, JobId), A>,
+    ) -> Result<Self, TaskFault>
+        ensures { IfOk result (λ task. task
+            ≡ record {
+              problem = problem;
+              machines = machines;
+              jobs = jobs.items;
+              arcs = arcs.items;
+            }) }
+    {
+        if !is_taken(&problem) {
+            return Err(TaskFault::NotCovered);
+        }
+        if jobs.is_empty() || jobs.len() > MOST_JOBS {
+            return Err(TaskFault::Jobs);
+        }
+        if machines == 0 || machines > MOST_MACHINES {
+            return Err(TaskFault::Machines);
+        }
+        if is_single(problem.env) && machines != 1 {
+            return Err(TaskFault::Machines);
+        }
+        let all = all_work(problem.env.is_shop(), machines, &jobs)?;
+        if !is_within(&jobs, all) {
+            return Err(TaskFault::TooLarge);
+        }
+        if !are_in(&arcs, jobs.len()) {
+            return Err(TaskFault::Arc);
+        }
+        Ok(ProblemTask {
+            problem,
+            machines,
+            jobs,
+            arcs,
+        })
+    }
+
+    /// The problem.
+    pub fn problem(&self) -> Problem
+        ensures value { result ≡ self.now.problem }
+        ensures sized { IsSized self.now }
+    {
+        self.problem
+    }
+
+    /// The number of its machines.
+    pub fn machines(&self) -> u32
+        ensures value { result ≡ self.now.machines }
+        ensures sized { IsSized self.now }
+    {
+        self.machines
+    }
+
+    /// The number of its jobs, at least 1.
+    pub fn len(&self) -> usize
+        ensures value { result ≡ length self.now.jobs }
+        ensures sized { IsSized self.now }
+    {
+        self.jobs.len()
+    }
+
+    /// What is known of a job that is there.
+    pub fn job(&self, job: JobId) -> &ProblemJob<A>
+        requires { IsProblemJob self.now job }
+        ensures value { result.now ≡ problem_job self.now job }
+        ensures sized { IsSized self.now }
+    {
+        &self.jobs[job.place()]
+    }
+
+    /// The times of a job that is there: one, or in a shop one for each machine.
+    pub fn times(&self, job: JobId) -> &[u64]
+        requires { IsProblemJob self.now job }
+        ensures value { result.now ≡ (problem_job self.now job).times }
+        ensures sized { IsSized self.now }
+    {
+        &self.job(job).times
+    }
+
+    /// The time of a job that is there, in a shop on all machines together.
+    pub fn work(&self, job: JobId) -> u64
+        requires { IsProblemJob self.now job }
+        ensures value { result ≡ problem_work self.now job }
+        ensures small { result ≤ limit }
+    {
+        total_of(self.times(job))
+    }
+
+    /// The time of a job that is there, where each has one.
+    pub fn time(&self, job: JobId) -> u64
+        requires job { IsProblemJob self.now job }
+        requires one { IsFalse (is_shop_env self.now.problem.env) }
+        ensures value { result ≡ problem_time self.now job }
+        ensures small { result ≤ limit }
+    {
+        self.job(job).times[0]
+    }
+
+    /// The release date of a job that is there, 0 where the problem has none.
+    pub fn release(&self, job: JobId) -> u64
+        requires { IsProblemJob self.now job }
+        ensures value { result ≡ problem_release self.now job }
+        ensures small { result ≤ limit }
+    {
+        if self.problem.release {
+            self.job(job).release
+        } else {
+            0
+        }
+    }
+
+    /// The weight of a job that is there, 1 where the objective has none.
+    pub fn weight(&self, job: JobId) -> u64
+        requires { IsProblemJob self.now job }
+        ensures value { result ≡ problem_weight self.now job }
+        ensures small { result ≤ limit }
+    {
+        match self.problem.goal {
+            Goal::SumWC | Goal::SumWT | Goal::SumWU => self.job(job).weight,
+            _ => 1,
+        }
+    }
+
+    /// The due date of a job that is there, 0 where the objective has none.
+    pub fn due(&self, job: JobId) -> i64
+        requires { IsProblemJob self.now job }
+        ensures value { result ≡ problem_due self.now job }
+        ensures small { IsWithin result }
+    {
+        match self.problem.goal {
+            Goal::Lmax | Goal::SumT | Goal::SumWT | Goal::SumU | Goal::SumWU => self.job(job).due,
+            _ => 0,
+        }
+    }
+
+    /// The time of a job that is there on a machine, counted from 0.
+    pub fn time_on(&self, machine: usize, job: JobId) -> u64
+        requires machine { machine < self.now.machines }
+        requires env { IsTrue (is_by_machine self.now.problem.env) }
+        requires job { IsProblemJob self.now job }
+        ensures value { result ≡ problem_time_on self.now job machine }
+        ensures small { result ≤ limit }
+    {
+        self.job(job).times[machine]
+    }
+
+    /// Before this time the job is not on the machine, counted from 0: its release date, and in a
+    /// flow shop its time on the machines before.
+    pub fn head(&self, machine: usize, job: JobId) -> u64
+        requires machine { machine < self.now.machines }
+        requires env { IsTrue (is_by_machine self.now.problem.env) }
+        requires job { IsProblemJob self.now job }
+        ensures value { result ≡ head self.now machine job }
+        ensures small { result ≤ 2 * limit }
+    {
+        let release = self.release(job);
+        if is_flow(self.problem().env) {
+            release + total_of(&self.times(job)[..machine])
+        } else {
+            release
+        }
+    }
+
+    /// So much later than on the machine, counted from 0, a job completes at least: in a flow shop
+    /// its time on the machines after.
+    pub fn tail(&self, machine: usize, job: JobId) -> u64
+        requires machine { machine < self.now.machines }
+        requires env { IsTrue (is_by_machine self.now.problem.env) }
+        requires job { IsProblemJob self.now job }
+        ensures value { result ≡ tail self.now machine job }
+        ensures small { result ≤ limit }
+    {
+        if is_flow(self.problem().env) {
+            total_of(&self.times(job)[machine + 1..])
+        } else {
+            0
+        }
+    }
+}

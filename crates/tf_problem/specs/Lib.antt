@@ -1,0 +1,9 @@
+-- what a caller has to believe
+pub mod ProblemData
+pub mod FitsProblem
+pub mod ProblemCost
+pub mod Relaxed
+pub mod ProblemBounds
+pub mod Agreement
+pub mod Pushed
+pub mod ProblemLaws

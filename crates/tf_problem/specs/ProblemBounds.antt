@@ -1,0 +1,149 @@
+-- The numbers that bound the task of a problem from below.
+use Rattle.std.specs.Prelude.{Bool, true, false, ◌||◌, ◌==◌, ℕ, ◌-◌, ◌+◌, ℤ, pos, negsuc, ◌+ℤ◌, ◌-ℤ◌, ◌*ℤ◌, ◌*◌, ◌≤◌, sum, take, drop, List, [], ◌∷◌, slice_index, if◌then◌else◌}
+use Rattle.std.specs.Int.{div_ceil}
+use Rattle.std.specs.List.{sum_by}
+use Rattle.tf_model.specs.declared.problem.Goal.{Goal}
+use Rattle.tf_model.specs.declared.problem.Goal.TheVariants as goals
+use Rattle.tf_model.specs.declared.problem.Env.{Env}
+use Rattle.tf_model.specs.ClassTable.{is_single_env, is_parallel_env, is_shop_env}
+use Rattle.tf_model.specs.Cost.{greatest}
+use Rattle.tf_model.specs.Bounds.{pairs_value}
+use Rattle.tf_check.specs.Bound.{least_number, least}
+use Rattle.tf_problem.specs.ProblemData.{ProblemData, IsProblemJob, problem_jobs, problem_time, problem_time_on, time_over, problem_release, problem_due, route_of}
+use Rattle.tf_problem.specs.Relaxed.{weighed_task}
+use Rattle.tf_problem.specs.ProblemCost.{penalty}
+
+-- ---- kinds of problems
+
+-- the objectives that are the maximum completion time or lateness
+abbrev pub is_max_goal : Goal → Bool
+is_max_goal goals.Cmax = true
+is_max_goal goals.Lmax = true
+is_max_goal _ = false
+
+-- the sums of completion times or of tardiness
+abbrev pub is_tardy_goal : Goal → Bool
+is_tardy_goal goals.SumC = true
+is_tardy_goal goals.SumWC = true
+is_tardy_goal goals.SumT = true
+is_tardy_goal goals.SumWT = true
+is_tardy_goal _ = false
+
+-- the objectives that are sums over the jobs
+abbrev pub is_sum_goal : Goal → Bool
+is_sum_goal goals.Cmax = false
+is_sum_goal goals.Lmax = false
+is_sum_goal goals.Hmax = false
+is_sum_goal _ = true
+
+-- one machine, or a shop: a job has a processing time for each machine
+abbrev pub is_by_machine : Env → Bool
+is_by_machine e = is_single_env e || is_shop_env e
+
+-- one machine, or identical machines in parallel: a job has one processing time
+abbrev pub is_alike : Env → Bool
+is_alike e = is_single_env e || is_parallel_env e
+
+-- ---- where each job has one time, and one job anywhere
+
+-- of some jobs, the least release date and their time, shared out among the machines, less the
+-- greatest due date
+abbrev pub window_value : ProblemData → List ℕ → ℤ
+window_value k jobs =
+    pos (least_number (problem_release k) jobs + div_ceil (sum_by (problem_time k) jobs) k.machines)
+    -ℤ greatest (problem_due k) jobs
+
+-- of some jobs, the least release date and h + 1 times the least time, less the greatest due date
+abbrev pub crowd_value : ProblemData → ℕ → List ℕ → ℤ
+crowd_value k h jobs =
+    pos (least_number (problem_release k) jobs + (h + 1) * least_number (problem_time k) jobs)
+    -ℤ greatest (problem_due k) jobs
+
+-- the time of a job, in a shop on all machines together
+abbrev pub problem_work : ProblemData → ℕ → ℕ
+problem_work k j =
+    if is_shop_env k.problem.env then time_over k j 0 k.machines else problem_time k j
+
+-- the release date of a job and its time, less its due date
+abbrev pub one_job_value : ProblemData → ℕ → ℤ
+one_job_value k j = pos (problem_release k j + problem_work k j) -ℤ problem_due k j
+
+-- ---- one machine, or one of a shop
+
+-- the machines of a route before a machine
+abbrev pub before : ℕ → List ℕ → List ℕ
+before a [] = []
+before a (b ∷ route) = if b == a then [] else b ∷ before a route
+
+-- the machines of a route behind a machine
+abbrev pub behind : ℕ → List ℕ → List ℕ
+behind a [] = []
+behind a (b ∷ route) = if b == a then route else behind a route
+
+-- The head of a job on a machine: no row before has the job there. It is the job's release date and
+-- its time on the machines of its route before this one.
+abbrev pub head : ProblemData → ℕ → ℕ → ℕ
+head k a j = problem_release k j + sum_by (problem_time_on k j) (before a (route_of k j))
+
+-- The tail of a job behind a machine: so much later at least it completes. It is its time on the
+-- machines of its route behind this one.
+abbrev pub tail : ProblemData → ℕ → ℕ → ℕ
+tail k a j = sum_by (problem_time_on k j) (behind a (route_of k j))
+
+-- of some jobs, the least head on a machine, their time on it, and the least of what each then still
+-- has to go, less its due date
+abbrev pub machine_value : ProblemData → ℕ → List ℕ → ℤ
+machine_value k a jobs =
+    pos (least_number (head k a) jobs + sum_by (λ j. problem_time_on k j a) jobs)
+    +ℤ least (λ j. pos (tail k a j) -ℤ problem_due k j) jobs
+
+-- the least head on machine a and the least tail behind machine b, of all jobs
+abbrev pub pair_margin : ProblemData → ℕ → ℕ → ℕ
+pair_margin k a b = least_number (head k a) (problem_jobs k) + least_number (tail k b) (problem_jobs k)
+
+-- ---- multipliers
+
+-- the sum of f along the list
+abbrev pub int_sum : (ℕ → ℤ) → List ℕ → ℤ
+int_sum f [] = pos 0
+int_sum f (j ∷ jobs) = f j +ℤ int_sum f jobs
+
+-- a number divided by q and rounded up, 0 where it is negative
+abbrev pub share_up : ℤ → ℕ → ℤ
+share_up (pos n) q = pos (div_ceil n q)
+share_up (negsuc n) q = pos 0
+
+-- the multiplier of a job, by its numerators in the order of the jobs
+abbrev pub numerator : List ℕ → ℕ → ℕ
+numerator v j = slice_index v (j - 1)
+
+-- The least sum of completions on machine a, weighted by the numerators, and for each job what it
+-- waits for the machine and has to go behind it, less its due date, as often; all over the
+-- denominator q.
+abbrev pub multiplier_value : ProblemData → ℕ → List ℕ → ℕ → ℤ
+multiplier_value k a v q =
+    share_up (pos (pairs_value (weighed_task k a (numerator v)))
+    +ℤ int_sum (λ j. pos (numerator v j)
+    *ℤ (pos (least_number (head k a) (problem_jobs k) + tail k a j) -ℤ problem_due k j)) (problem_jobs k)) q
+
+-- ---- prices
+
+-- the prices of n rows from row s on; a row past the end of the list has price 0
+abbrev pub price_of_rows : List ℕ → ℕ → ℕ → ℕ
+price_of_rows prices s n = sum (take n (drop s prices))
+
+-- what job j costs if it starts in row s and is not preempted: q times what it adds to the
+-- objective, and the prices of its rows
+abbrev pub start_price : ProblemData → ℕ → List ℕ → ℕ → ℕ → ℕ
+start_price k q prices j s =
+    q * penalty k.problem.goal k j (s + problem_time k j) + price_of_rows prices s (problem_time k j)
+
+-- the number for each job is at most its price, whenever it starts after its release date
+abbrev pub AreCheapest : ProblemData → ℕ → List ℕ → List ℕ → Type 0
+AreCheapest k q prices cheapest = (j : ℕ) → IsProblemJob k j → (s : ℕ) → problem_release k j ≤ s
+    → numerator cheapest j ≤ start_price k q prices j s
+
+-- what the jobs cost at least, less all prices on each machine, over q
+abbrev pub prices_value : ProblemData → ℕ → List ℕ → List ℕ → ℤ
+prices_value k q prices cheapest =
+    share_up (pos (sum_by (numerator cheapest) (problem_jobs k)) -ℤ pos (k.machines * sum prices)) q

@@ -1,0 +1,65 @@
+//! The laws by which a number bounds the task of a problem: each call does nothing, and its
+//! contract is the law.
+ghost use Rattle.tf_problem.specs.ProblemData.{ProblemData, IsProblemSound};
+ghost use Rattle.tf_problem.specs.ProblemLaws.{CertificateLaw, BestLaw, RelaxationLaw, PushedLaw, WindowLaw, CrowdLaw, OneJobLaw, MachineLaw, MultiplierLaw, PricesLaw, CheapestLaw};
+ghost use Rattle.tf_problem.specs.Agreement.{AgreementLaw};
+
+/// A lower bound that a certificate gives of a relaxed task is one of the task.
+pub fn certificate_law()
+    ensures { CertificateLaw }
+{}
+
+/// The minimum cost of a relaxed task is a lower bound of the task.
+pub fn best_law()
+    ensures { BestLaw }
+{}
+
+/// The tasks of classes that relax the task of a problem.
+pub fn relaxation_law()
+    ensures { (k : ProblemData) → IsProblemSound k → RelaxationLaw k }
+{}
+
+/// Release dates and due dates that follow from precedence constraints.
+pub fn pushed_law()
+    ensures { PushedLaw }
+{}
+
+/// A lower bound by some jobs that have one processing time each.
+pub fn window_law()
+    ensures { WindowLaw }
+{}
+
+/// A lower bound by more than h jobs for each machine, where none is preempted.
+pub fn crowd_law()
+    ensures { CrowdLaw }
+{}
+
+/// A lower bound by one job.
+pub fn one_job_law()
+    ensures { OneJobLaw }
+{}
+
+/// A lower bound by some jobs on one machine.
+pub fn machine_law()
+    ensures { MachineLaw }
+{}
+
+/// A lower bound by multipliers on one machine (Potts and Van Wassenhove 1985).
+pub fn multiplier_law()
+    ensures { MultiplierLaw }
+{}
+
+/// A lower bound by prices of the rows, for any sum over jobs that are not preempted.
+pub fn prices_law()
+    ensures { PricesLaw }
+{}
+
+/// The starts among which a job's cheapest is found, for the prices.
+pub fn cheapest_law()
+    ensures { CheapestLaw }
+{}
+
+/// On a problem of a class the task of the problem means what the class's task means.
+pub fn agreement_law()
+    ensures { AgreementLaw }
+{}

@@ -1,0 +1,11 @@
+-- What is known of a bound that a search found.
+use Rattle.std.specs.Prelude.{ℕ}
+use Rattle.tf_problem.specs.ProblemData.{ProblemData}
+use Rattle.tf_problem.specs.ProblemCost.{IsLowerBound}
+use Rattle.tf_bound.specs.Certified.{IsBoundBy}
+use Rattle.tf_search.specs.declared.strongest.Found.{Found}
+
+-- the certificate has the value, and no timetable that fits costs less
+pub record IsFound {A : Type 0} (k : ProblemData) (found : Found A) : Type 0 where
+  pub value : IsBoundBy k found.certificate found.value
+  pub bound : IsLowerBound k found.value

@@ -1,0 +1,11 @@
+//! Searches for certificates of lower bounds.
+//!
+//! Nothing is promised of what they find: the judges of `tf_bound` compute what it bounds.
+#![tactic(auto)]
+
+pub mod machine_search;
+pub mod multiplier_search;
+pub mod price_search;
+mod ranked;
+pub mod sequence;
+pub mod strongest;

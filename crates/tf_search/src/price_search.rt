@@ -1,0 +1,437 @@
+//! A search for good prices of the rows: steps against the rows that the cheapest starts fill
+//! unevenly, from the prices that a sequence of the jobs suggests.
+//!
+//! Nothing is promised of the prices: the judge computes what they bound.
+ghost use Rattle.std.specs.Prelude.{◌≡◌, ◌+◌, ◌<◌, ◌≤◌, length, IfOk, IfSome, IsTrue, IsFalse};
+ghost use Rattle.std.specs.List.{All};
+ghost use Rattle.tf_model.specs.ClassTable.{is_shop_env};
+ghost use Rattle.tf_problem.specs.ProblemData.{IsProblemJob};
+ghost use Rattle.tf_problem.specs.ProblemCost.{IsLowerBound};
+ghost use Rattle.tf_problem.specs.ProblemBounds.{is_sum_goal};
+ghost use Rattle.tf_bound.specs.RowSums.{AreSums};
+
+use crate::sequence::{Placed, best_order, place_all};
+use std::alloc::{Allocator, Global};
+use tf_bound::fault::BoundFault;
+use tf_bound::prices::{cheapest_of, is_by_unit, prices_bound, takes_prices};
+use tf_bound::row_sums::sum_rows;
+use tf_bound::task::ProblemTask;
+use tf_model::ids::JobId;
+
+/// The denominator of the prices that are found.
+pub const DENOMINATOR: u64 = 1_000;
+
+/// The most rows that are priced.
+pub const MOST_ROWS: u64 = 10_000_000;
+
+// What a direction of 1 is written as.
+const UNIT: i64 = 1_024;
+
+// What the step's length is over.
+const LENGTH: i64 = 65_536;
+
+// How long the steps are, over LENGTH, how many without a better value shorten them, and how many
+// there were.
+#[derive(Clone, Copy)]
+struct Pace {
+    length: i64,
+    patience: u32,
+    waited: u32,
+}
+
+impl Pace {
+    // Long steps from prices 0 for numbers of late jobs, and shorter ones from a suggestion.
+    fn new(by_unit: bool) -> Pace {
+        if by_unit {
+            Pace {
+                length: LENGTH,
+                patience: 60,
+                waited: 0,
+            }
+        } else {
+            Pace {
+                length: LENGTH / 2,
+                patience: 15,
+                waited: 0,
+            }
+        }
+    }
+
+    // The pace after one step more.
+    fn after(self, is_better: bool) -> Pace {
+        let waited = if is_better {
+            0
+        } else {
+            self.waited.saturating_add(1)
+        };
+        if waited < self.patience {
+            return Pace { waited, ..self };
+        }
+        Pace {
+            length: self.length.saturating_mul(4) / 5,
+            waited: 0,
+            ..self
+        }
+    }
+}
+
+// What a search writes: the prices, their sums, how many more jobs than before each row has at their
+// cheapest starts, the direction of the steps, and the best prices.
+#[derive(Drop)]
+struct Tables<A: Allocator> {
+    rows: Vec<u64, A>,
+    sums: Vec<u64, A>,
+    counts: Vec<i64, A>,
+    direction: Vec<i64, A>,
+    best: Vec<u64, A>,
+}
+
+/// Prices of the rows from 0 on, over q.
+#[derive(Drop)]
+pub struct Prices<A: Allocator = Global> {
+    pub q: u64,
+    pub rows: Vec<u64, A>,
+}
+
+/// Prices, what they bound, and what the sequence cost from which they were found.
+#[derive(Drop)]
+pub struct PriceBound<A: Allocator = Global> {
+    pub prices: Prices<A>,
+    pub value: i128,
+    pub target: u64,
+}
+
+/// The bound by prices that so many steps find.
+pub fn price_bound<A: Allocator + Copy, B: Allocator>(
+    alloc: A,
+    task: &ProblemTask<B>,
+    steps: u32,
+) -> Result<PriceBound<A>, BoundFault>
+    ensures { IfOk result (λ found. IsLowerBound task.now found.value) }
+{
+    if !takes_prices(task) {
+        return Err(BoundFault::OtherKind);
+    }
+    let (order, target) = best_order(alloc, task)?;
+    let prices = search_prices(alloc, task, &order, target, steps)?;
+    let value = prices_bound(alloc, task, prices.q, &prices.rows)?;
+    Ok(PriceBound {
+        prices,
+        value,
+        target,
+    })
+}
+
+/// The prices of the most that so many steps find. `order` is a sequence of all jobs, and `target`
+/// what it costs.
+pub fn search_prices<A: Allocator + Copy, B: Allocator>(
+    alloc: A,
+    task: &ProblemTask<B>,
+    order: &[JobId],
+    target: u64,
+    steps: u32,
+) -> Result<Prices<A>, BoundFault>
+    requires { All (IsProblemJob task.now) order.now }
+{
+    if !takes_prices(task) {
+        return Err(BoundFault::OtherKind);
+    }
+    let placed = place_all(alloc, task, order)?;
+    let Some(horizon) = horizon_of(&placed) else {
+        return Err(BoundFault::TooLarge);
+    };
+    let mut tables = tables_for(alloc, task, &placed, horizon)?;
+    improve(task, target, steps, &mut tables);
+    let Tables {
+        rows: _,
+        sums: _,
+        counts: _,
+        direction: _,
+        best,
+    } = tables;
+    Ok(Prices {
+        q: DENOMINATOR,
+        rows: best,
+    })
+}
+
+// The tables at the beginning of a search.
+fn tables_for<A: Allocator + Copy, B: Allocator>(
+    alloc: A,
+    task: &ProblemTask<B>,
+    placed: &[Placed],
+    horizon: usize,
+) -> Result<Tables<A>, BoundFault>
+    requires jobs { All (λ p. IsProblemJob task.now p.job) placed.now }
+    requires few { horizon ≤ 10000000 }
+{
+    let mut rows = zeros(alloc, horizon)?;
+    if !is_by_unit(task.problem().goal) {
+        suggest(alloc, task, placed, &mut rows)?;
+    }
+    Ok(Tables {
+        rows,
+        sums: zeros(alloc, horizon + 1)?,
+        counts: signed_zeros(alloc, horizon + 1)?,
+        direction: signed_zeros(alloc, horizon)?,
+        best: zeros(alloc, horizon)?,
+    })
+}
+
+// When the last job completes, where that is not too late.
+fn horizon_of(placed: &[Placed]) -> Option<usize>
+    ensures { IfSome result (λ rows. rows ≤ 10000000) }
+{
+    let mut horizon: u64 = 0;
+    for job in placed {
+        horizon = horizon.max(job.end);
+    }
+    if horizon > MOST_ROWS {
+        return None;
+    }
+    Some(horizon as usize)
+}
+
+fn zeros<A: Allocator>(alloc: A, len: usize) -> Result<Vec<u64, A>, BoundFault>
+    ensures { IfOk result (λ v. length v.items ≡ len) }
+{
+    let Ok(zeros) = vec![in alloc; 0_u64; len] else {
+        return Err(BoundFault::OutOfMemory);
+    };
+    Ok(zeros)
+}
+
+fn signed_zeros<A: Allocator>(alloc: A, len: usize) -> Result<Vec<i64, A>, BoundFault>
+    ensures { IfOk result (λ v. length v.items ≡ len) }
+{
+    let Ok(zeros) = vec![in alloc; 0_i64; len] else {
+        return Err(BoundFault::OutOfMemory);
+    };
+    Ok(zeros)
+}
+
+// The prices that a timetable suggests: on each machine they fall along a late job by its weight,
+// and stay along the others. They are shared out among the machines.
+fn suggest<A: Allocator + Copy, B: Allocator>(
+    alloc: A,
+    task: &ProblemTask<B>,
+    placed: &[Placed],
+    rows: &mut [u64],
+) -> Result<(), BoundFault>
+    requires { All (λ p. IsProblemJob task.now p.job) placed.now }
+{
+    let machines = u64::from(task.machines());
+    // Of each machine, the first row that has its price, and that price.
+    let Ok(mut from) = vec![in alloc; rows.len(); task.machines() as usize] else {
+        return Err(BoundFault::OutOfMemory);
+    };
+    let mut level = zeros(alloc, task.machines() as usize)?;
+    for job in placed.iter().rev() {
+        let late = i128::from(job.end) > i128::from(task.due(job.job));
+        let rise = if late {
+            task.weight(job.job).saturating_mul(DENOMINATOR)
+        } else {
+            0
+        };
+        if job.machine < level.len() && job.machine < from.len() {
+            let share = Share {
+                level: level[job.machine],
+                rise,
+                to: from[job.machine],
+                machines,
+            };
+            share.fill(rows, job);
+            level[job.machine] = level[job.machine].saturating_add(rise);
+            from[job.machine] = job.start as usize;
+        }
+    }
+    Ok(())
+}
+
+// What one machine adds to the prices from the start of a job on, up to row `to`: `level` where the
+// job completes, and `rise` more where it starts, divided by the number of machines.
+#[derive(Clone, Copy)]
+struct Share {
+    level: u64,
+    rise: u64,
+    to: usize,
+    machines: u64,
+}
+
+impl Share {
+    fn fill(self, rows: &mut [u64], job: &Placed) {
+        let time = u128::from(job.end.saturating_sub(job.start));
+        if time == 0 || self.machines == 0 {
+            return;
+        }
+        for row in (job.start as usize)..self.to.min(rows.len()) {
+            let left = u128::from(job.end.saturating_sub(row as u64));
+            let part = u128::from(self.rise).saturating_mul((2 * left).saturating_sub(1));
+            let rise = u64::try_from(part / (2 * time)).unwrap_or(u64::MAX);
+            let price = self.level.saturating_add(rise) / self.machines;
+            rows[row] = rows[row].saturating_add(price);
+        }
+    }
+}
+
+// Takes so many steps, and keeps the prices of the greatest value.
+fn improve<A: Allocator, B: Allocator>(
+    task: &ProblemTask<B>,
+    target: u64,
+    steps: u32,
+    tables: &mut Tables<A>,
+)
+    requires one_time { IsFalse (is_shop_env task.now.problem.env) }
+    requires goal { IsTrue (is_sum_goal task.now.problem.goal) }
+{
+    let goal = i128::from(target) * i128::from(DENOMINATOR);
+    let mut pace = Pace::new(is_by_unit(task.problem().goal));
+    let mut most: i128 = -1;
+    for _ in 0..steps {
+        let Some(value) = valued(task, tables) else {
+            return;
+        };
+        if value > most {
+            tables.keep();
+        }
+        pace = pace.after(value > most);
+        most = most.max(value);
+        let gap = goal.saturating_sub(value);
+        if gap <= 0 || pace.length == 0 || !tables.advance(task.machines(), gap, pace.length) {
+            return;
+        }
+    }
+}
+
+impl<A: Allocator> Tables<A> {
+    // Keeps the prices as the best ones.
+    fn keep(&mut self) {
+        if self.best.len() == self.rows.len() {
+            self.best.copy_from_slice(&self.rows);
+        }
+    }
+
+    // Takes a step, where there is a direction.
+    fn advance(&mut self, machines: u32, gap: i128, length: i64) -> bool {
+        if self.counts.len() != self.rows.len() + 1 || self.direction.len() != self.rows.len() {
+            return false;
+        }
+        let machines = i64::from(machines);
+        let norm = turn(&self.rows, &self.counts, machines, &mut self.direction);
+        if norm == 0 || self.direction.len() != self.rows.len() {
+            return false;
+        }
+        step(
+            &mut self.rows,
+            &self.direction,
+            factor_of(gap, length, norm),
+        );
+        true
+    }
+}
+
+// The value of the prices, where their sums are within the limit.
+fn valued<A: Allocator, B: Allocator>(task: &ProblemTask<B>, tables: &mut Tables<A>) -> Option<i128>
+    requires one_time { IsFalse (is_shop_env task.now.problem.env) }
+    requires goal { IsTrue (is_sum_goal task.now.problem.goal) }
+{
+    let rows = tables.rows.len();
+    if tables.sums.len() != rows + 1 || tables.counts.len() != rows + 1 {
+        return None;
+    }
+    value_in(task, &tables.rows, &mut tables.sums, &mut tables.counts)
+}
+
+fn value_in<B: Allocator>(
+    task: &ProblemTask<B>,
+    rows: &[u64],
+    sums: &mut [u64],
+    counts: &mut [i64],
+) -> Option<i128>
+    requires one_time { IsFalse (is_shop_env task.now.problem.env) }
+    requires goal { IsTrue (is_sum_goal task.now.problem.goal) }
+    requires sums { length sums.old ≡ length rows.now + 1 }
+    requires counts { length counts.old ≡ length rows.now + 1 }
+{
+    if !sum_rows(rows, sums) {
+        return None;
+    }
+    value_at(task, rows, sums, counts)
+}
+
+// The value of prices, and how many more jobs than before each row has at their cheapest starts.
+fn value_at<B: Allocator>(
+    task: &ProblemTask<B>,
+    rows: &[u64],
+    sums: &[u64],
+    counts: &mut [i64],
+) -> Option<i128>
+    requires one_time { IsFalse (is_shop_env task.now.problem.env) }
+    requires goal { IsTrue (is_sum_goal task.now.problem.goal) }
+    requires sums { AreSums rows.now sums.now }
+    requires counts { length counts.old ≡ length rows.now + 1 }
+{
+    for count in counts.iter_mut() {
+        *count = 0;
+    }
+    let last = rows.len() as u64;
+    let mut value: i128 = 0;
+    for k in 0..task.len() {
+        let job = JobId::at(k);
+        let found = cheapest_of(task, DENOMINATOR, rows, sums, job)?;
+        value = value.saturating_add(i128::from(found.price));
+        let start = found.start.min(last) as usize;
+        let end = found.start.saturating_add(task.time(job)).min(last) as usize;
+        counts[start] = counts[start].saturating_add(1);
+        counts[end] = counts[end].saturating_sub(1);
+    }
+    let all = i128::from(task.machines()) * i128::from(sums[rows.len()]);
+    Some(value.saturating_sub(all))
+}
+
+// The new direction: a tenth of how many jobs too many a row has, and nine tenths of the old one.
+// The sum of its squares.
+fn turn(rows: &[u64], counts: &[i64], machines: i64, direction: &mut [i64]) -> u128
+    requires counts { length counts.now ≡ length rows.now + 1 }
+    requires direction { length direction.old ≡ length rows.now }
+{
+    let mut jobs: i64 = 0;
+    let mut norm: u128 = 0;
+    for row in 0..rows.len() {
+        jobs = jobs.saturating_add(counts[row]);
+        let here = jobs.saturating_sub(machines).saturating_mul(UNIT);
+        let turned = here.saturating_add(direction[row].saturating_mul(9)) / 10;
+        let kept = if turned < 0 && rows[row] == 0 {
+            0
+        } else {
+            turned
+        };
+        direction[row] = kept;
+        let size = u128::from(kept.unsigned_abs());
+        norm = norm.saturating_add(size.saturating_mul(size));
+    }
+    norm
+}
+
+// By how much a direction of 1 changes a price, over LENGTH.
+fn factor_of(gap: i128, length: i64, norm: u128) -> i64
+    requires { 0 < norm }
+{
+    let reach = (gap.unsigned_abs()).saturating_mul(u128::from(length.unsigned_abs()));
+    let factor = reach.saturating_mul(u128::from(UNIT.unsigned_abs()) / 10) / norm;
+    i64::try_from(factor).unwrap_or(i64::MAX)
+}
+
+// Changes each price along the direction; none gets negative.
+fn step(rows: &mut [u64], direction: &[i64], factor: i64)
+    requires { length direction.now ≡ length rows.old }
+{
+    for row in 0..rows.len() {
+        let change = direction[row].saturating_mul(factor) / LENGTH;
+        rows[row] = if change < 0 {
+            rows[row].saturating_sub(change.unsigned_abs())
+        } else {
+            rows[row].saturating_add(change.unsigned_abs())
+        };
+    }
+}

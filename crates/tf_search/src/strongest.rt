@@ -1,0 +1,283 @@
+//! The strongest of the lower bounds that judges and searches give of a task.
+ghost use Rattle.std.specs.Prelude.{◌≡◌, ◌⊎◌, IfOk, IfSome, IsFalse};
+ghost use Rattle.tf_model.specs.ClassTable.{is_shop_env};
+ghost use Rattle.tf_search.specs.Strongest.{IsFound};
+
+use crate::machine_search::search_machines;
+use crate::multiplier_search::multiplier_bound;
+use crate::price_search::search_prices;
+use crate::ranked::{Rank, crowd_front, jobs_by_rank, window_front};
+use crate::sequence::best_order;
+use std::alloc::{Allocator, Global};
+use tf_bound::certificate::BoundCertificate;
+use tf_bound::fault::BoundFault;
+use tf_bound::task::ProblemTask;
+use tf_model::ids::JobId;
+use tf_model::memory::OutOfMemory;
+use tf_model::problem::{Env, Goal};
+
+// The most jobs of which a sequence is searched, which takes the square of their number.
+const MOST_SEQUENCED: usize = 5_000;
+
+// How many visits of a row by a job the steps of a search for prices may take, where the caller
+// does not say how many steps it takes.
+const MOST_VISITS: u64 = 1_000_000_000;
+
+// The steps that a search for prices takes at most, where the caller does not say how many.
+const USUAL_STEPS: u64 = 300;
+
+/// A certificate of a task, and its value.
+#[derive(Drop)]
+pub struct Found<A: Allocator = Global> {
+    pub value: i128,
+    pub certificate: BoundCertificate<A>,
+}
+
+/// The strongest bound that is found. None where each certificate that was tried has a number
+/// beyond the limit.
+pub fn strongest<A: Allocator + Copy, B: Allocator>(
+    alloc: A,
+    task: &ProblemTask<B>,
+    steps: Option<u32>,
+) -> Result<Option<Found<A>>, OutOfMemory>
+    ensures { IfOk result (λ best. IfSome best (IsFound task.now)) }
+{
+    match task.problem().goal {
+        Goal::Cmax | Goal::Lmax => of_maximum(alloc, task),
+        _ => of_sum(alloc, task, steps),
+    }
+}
+
+// The value of a certificate, where the judge accepts it.
+fn judged<A: Allocator + Copy, B: Allocator>(
+    alloc: A,
+    task: &ProblemTask<B>,
+    certificate: BoundCertificate<A>,
+) -> Result<Option<Found<A>>, OutOfMemory>
+    ensures { IfOk result (λ best. IfSome best (IsFound task.now)) }
+{
+    match certificate.bound(alloc, task) {
+        Ok(value) => Ok(Some(Found { value, certificate })),
+        Err(BoundFault::OutOfMemory) => Err(OutOfMemory),
+        Err(_) => Ok(None),
+    }
+}
+
+// The one of the greater value.
+fn better<A: Allocator>(one: Option<Found<A>>, other: Option<Found<A>>) -> Option<Found<A>>
+    ensures { (result ≡ one) ⊎ (result ≡ other) }
+{
+    match (one, other) {
+        (Some(one), Some(other)) => {
+            if one.value < other.value {
+                Some(other)
+            } else {
+                Some(one)
+            }
+        }
+        (Some(one), None) => Some(one),
+        (None, other) => other,
+    }
+}
+
+// What a search found, and none where it was refused.
+fn searched<T: Drop>(outcome: Result<T, BoundFault>) -> Result<Option<T>, OutOfMemory> {
+    match outcome {
+        Ok(found) => Ok(Some(found)),
+        Err(BoundFault::OutOfMemory) => Err(OutOfMemory),
+        Err(_) => Ok(None),
+    }
+}
+
+// The makespan or the maximum lateness: one job, one machine, and on parallel machines windows and
+// crowds.
+fn of_maximum<A: Allocator + Copy, B: Allocator>(
+    alloc: A,
+    task: &ProblemTask<B>,
+) -> Result<Option<Found<A>>, OutOfMemory>
+    ensures { IfOk result (λ best. IfSome best (IsFound task.now)) }
+{
+    let job = longest_job(task);
+    let mut best = judged(alloc, task, BoundCertificate::OneJob { job })?;
+    if matches!(task.problem().env, Env::Parallel) {
+        let found = by_window(alloc, task, Rank::LastReleased)?;
+        best = better(best, found);
+        let found = by_window(alloc, task, Rank::FirstDue)?;
+        best = better(best, found);
+        let found = by_crowd(alloc, task)?;
+        best = better(best, found);
+    } else {
+        let found = by_machine(alloc, task)?;
+        best = better(best, found);
+    }
+    Ok(best)
+}
+
+// The job that completes latest after its due date, if it runs alone.
+fn longest_job<B: Allocator>(task: &ProblemTask<B>) -> JobId {
+    let mut longest = JobId::at(0);
+    let mut most = i128::MIN;
+    for k in 0..task.len() {
+        let job = JobId::at(k);
+        let end = i128::from(task.release(job)) + i128::from(task.work(job));
+        let late = end - i128::from(task.due(job));
+        if late > most {
+            most = late;
+            longest = job;
+        }
+    }
+    longest
+}
+
+fn by_window<A: Allocator + Copy, B: Allocator>(
+    alloc: A,
+    task: &ProblemTask<B>,
+    rank: Rank,
+) -> Result<Option<Found<A>>, OutOfMemory>
+    ensures { IfOk result (λ best. IfSome best (IsFound task.now)) }
+{
+    let mut jobs = jobs_by_rank(alloc, task, rank)?;
+    let len = window_front(task, &jobs);
+    jobs.truncate(len);
+    judged(alloc, task, BoundCertificate::Window { jobs })
+}
+
+fn by_crowd<A: Allocator + Copy, B: Allocator>(
+    alloc: A,
+    task: &ProblemTask<B>,
+) -> Result<Option<Found<A>>, OutOfMemory>
+    ensures { IfOk result (λ best. IfSome best (IsFound task.now)) }
+{
+    let mut jobs = jobs_by_rank(alloc, task, Rank::Longest)?;
+    let (h, len) = crowd_front(task, &jobs);
+    jobs.truncate(len);
+    judged(alloc, task, BoundCertificate::Crowd { h, jobs })
+}
+
+fn by_machine<A: Allocator + Copy, B: Allocator>(
+    alloc: A,
+    task: &ProblemTask<B>,
+) -> Result<Option<Found<A>>, OutOfMemory>
+    ensures { IfOk result (λ best. IfSome best (IsFound task.now)) }
+{
+    let Some(Some(set)) = searched(search_machines(alloc, task))? else {
+        return Ok(None);
+    };
+    let certificate = BoundCertificate::Machine {
+        machine: set.machine,
+        jobs: set.jobs,
+    };
+    judged(alloc, task, certificate)
+}
+
+// A sum: multipliers, and without preemption prices.
+fn of_sum<A: Allocator + Copy, B: Allocator>(
+    alloc: A,
+    task: &ProblemTask<B>,
+    steps: Option<u32>,
+) -> Result<Option<Found<A>>, OutOfMemory>
+    ensures { IfOk result (λ best. IfSome best (IsFound task.now)) }
+{
+    let mut best = by_weights(alloc, task)?;
+    if !task.problem().env.is_shop() && task.len() <= MOST_SEQUENCED {
+        let found = by_multipliers(alloc, task)?;
+        best = better(best, found);
+        let found = by_prices(alloc, task, steps)?;
+        best = better(best, found);
+    }
+    Ok(best)
+}
+
+// The weights themselves as multipliers, on the best machine.
+fn by_weights<A: Allocator + Copy, B: Allocator>(
+    alloc: A,
+    task: &ProblemTask<B>,
+) -> Result<Option<Found<A>>, OutOfMemory>
+    ensures { IfOk result (λ best. IfSome best (IsFound task.now)) }
+{
+    let mut best: Option<Found<A>> = None;
+    for machine in 0..task.machines() as usize {
+        let certificate = BoundCertificate::Multipliers {
+            machine,
+            q: 1,
+            numerators: weights(alloc, task)?,
+        };
+        let found = judged(alloc, task, certificate)?;
+        best = better(best, found);
+    }
+    Ok(best)
+}
+
+fn weights<A: Allocator, B: Allocator>(
+    alloc: A,
+    task: &ProblemTask<B>,
+) -> Result<Vec<u64, A>, OutOfMemory> {
+    let mut weights = Vec::with_capacity(alloc, task.len())?;
+    for k in 0..task.len() {
+        weights.push(task.weight(JobId::at(k)))?;
+    }
+    Ok(weights)
+}
+
+fn by_multipliers<A: Allocator + Copy, B: Allocator>(
+    alloc: A,
+    task: &ProblemTask<B>,
+) -> Result<Option<Found<A>>, OutOfMemory>
+    ensures { IfOk result (λ best. IfSome best (IsFound task.now)) }
+{
+    let Some(found) = searched(multiplier_bound(alloc, task))? else {
+        return Ok(None);
+    };
+    let certificate = BoundCertificate::Multipliers {
+        machine: 0,
+        q: found.q,
+        numerators: found.multipliers,
+    };
+    judged(alloc, task, certificate)
+}
+
+fn by_prices<A: Allocator + Copy, B: Allocator>(
+    alloc: A,
+    task: &ProblemTask<B>,
+    steps: Option<u32>,
+) -> Result<Option<Found<A>>, OutOfMemory>
+    requires { IsFalse (is_shop_env task.now.problem.env) }
+    ensures { IfOk result (λ best. IfSome best (IsFound task.now)) }
+{
+    let steps = steps_for(task, steps);
+    if steps == 0 {
+        return Ok(None);
+    }
+    let (order, target) = match best_order(alloc, task) {
+        Ok(best) => best,
+        Err(BoundFault::OutOfMemory) => return Err(OutOfMemory),
+        Err(_) => return Ok(None),
+    };
+    let Some(prices) = searched(search_prices(alloc, task, &order, target, steps))? else {
+        return Ok(None);
+    };
+    let certificate = BoundCertificate::Prices {
+        q: prices.q,
+        rows: prices.rows,
+    };
+    judged(alloc, task, certificate)
+}
+
+// The steps that a search for prices takes: those that were asked for, or as many as a moderate
+// number of visits allows.
+fn steps_for<B: Allocator>(task: &ProblemTask<B>, steps: Option<u32>) -> u32
+    requires { IsFalse (is_shop_env task.now.problem.env) }
+{
+    if let Some(steps) = steps {
+        return steps;
+    }
+    let mut work: u64 = 0;
+    let mut last: u64 = 0;
+    for k in 0..task.len() {
+        work = work.saturating_add(task.time(JobId::at(k)));
+        last = last.max(task.release(JobId::at(k)));
+    }
+    let rows = last.saturating_add(work / u64::from(task.machines()).max(1));
+    let visits = rows.saturating_mul(task.len() as u64).max(1);
+    (MOST_VISITS / visits).min(USUAL_STEPS) as u32
+}
