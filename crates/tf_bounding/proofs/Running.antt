@@ -1,0 +1,74 @@
+-- Runs that bound a problem, from what was read on.
+use Rattle.std.proofs.Common.{◌≡◌, ℕ, List, Option, Bool, true, Ok, Err, length, refl, inr}
+use Rattle.std.specs.Io.KnownBytes.{Appends}
+use Rattle.tf_problem.specs.ProblemData.{ProblemData}
+use Rattle.tf_model.specs.declared.prepare.Refusal.TheVariants.{TotalTooLarge}
+use Rattle.tf_text.specs.declared.counted.Counted.{Counted}
+use Rattle.tf_text.specs.Counted.{AppendsPrefix, DeviceUse, has_failed, use_of, unused}
+use Rattle.tf_engine.specs.declared.fault.RunFault.{RunFault}
+use Rattle.tf_engine.specs.declared.fault.RunFault.TheVariants.{Device, OutOfMemory}
+use Rattle.tf_engine.specs.Faults.{ByTask, stop_of}
+use Rattle.tf_engine.specs.RequestData.{RequestData}
+use Rattle.tf_engine.proofs.Unread.{part_stops, reading_stops}
+use Rattle.tf_search.specs.declared.strongest.Found.{Found}
+use Rattle.tf_search.specs.Strongest.{IsFound}
+use Rattle.tf_bounding.specs.BoundText.{bound_text}
+use Rattle.tf_bounding.specs.RunBounding.{IsUnfound, SaysBound, IsRefusedBound, IsBoundingOf, ReadsProblemTask}
+
+module _ (A T : Type 0) (request : RequestData) (remaining : T → Option (List ℕ))
+    (old new : Counted T) where
+  -- nothing was written where no task was read
+  pub unasked : (held : Option (List ℕ)) (writer : Bool) (e : RunFault A)
+      → ReadsProblemTask request remaining old new (Err e)
+      → IsBoundingOf request (use_of remaining old new) (unused held writer) (Err e)
+  unasked held writer e had = record {
+    text = had.text;
+    is_all = had.is_all;
+    outcome = reading_stops (SaysBound A request had.text) (IsRefusedBound request had.text)
+        (IsRefusedBound request had.text) (has_failed new ≡ true) (has_failed new ≡ true) held
+        writer (λ refused h. h) (λ failed. failed) (stop_of e) had.given;
+  }
+
+  module _ (k : ProblemData) (had : ReadsProblemTask {A = A} request remaining old new (Ok k)) where
+    -- nor where no bound was found
+    pub unfound : (held : Option (List ℕ)) (writer : Bool) (e : RunFault A) → IsUnfound (stop_of e)
+        → IsBoundingOf request (use_of remaining old new) (unused held writer) (Err e)
+    unfound held writer e h = record {
+      text = had.text;
+      is_all = had.is_all;
+      outcome = part_stops (SaysBound A request had.text)
+          (λ refused. refused ≡ ByTask TotalTooLarge) (IsRefusedBound request had.text)
+          (has_failed new ≡ true) held writer (λ refused same. inr (same, (k, had.given)))
+          (stop_of e) h;
+    }
+
+    module _ (writer : DeviceUse) where
+      -- nor where memory was wanting
+      pub wanting : IsBoundingOf {A = A} request (use_of remaining old new) writer
+          (Err OutOfMemory)
+      wanting = record { text = had.text; is_all = had.is_all; outcome = tt }
+
+      module _ (found : Found A) (is : IsFound k found) where
+        abbrev out : List ℕ
+        out = bound_text k (length k.jobs) found.value found.certificate
+
+        says : SaysBound A request had.text out
+        says = (found, record { task = k; meant = had.given; is = is; written = refl })
+
+        -- a prefix of the bound was written where the writer failed
+        pub cut_off : writer.failed ≡ true → AppendsPrefix writer.before writer.after out
+            → IsBoundingOf {A = A} request (use_of remaining old new) writer (Err Device)
+        cut_off failed prefix = record {
+          text = had.text;
+          is_all = had.is_all;
+          outcome = inr (failed, (out, says, prefix));
+        }
+
+        -- it was written
+        pub said : Appends writer.before writer.after out
+            → IsBoundingOf {A = A} request (use_of remaining old new) writer (Ok tt)
+        said written = record {
+          text = had.text;
+          is_all = had.is_all;
+          outcome = (out, says, written);
+        }

@@ -1,0 +1,37 @@
+-- The text of a lower bound.
+use Rattle.std.specs.Prelude.{ℕ, ℤ, ◌+◌, List, [], ◌∷◌, ◌++◌, map, codes}
+use Rattle.std.specs.List.{flat_map}
+use Rattle.std.specs.Fmt.{decimal, signed_decimal}
+use Rattle.tf_notation.specs.Canonical.{canonical}
+use Rattle.tf_text.specs.AnswerText.{line_text}
+use Rattle.tf_problem.specs.ProblemData.{ProblemData}
+use Rattle.tf_bound.specs.declared.certificate.BoundCertificate.{BoundCertificate}
+use Rattle.tf_bound.specs.declared.certificate.BoundCertificate.TheVariants.{Machine, Window, Crowd, OneJob, Multipliers, Prices}
+
+-- The words of a certificate: its kind, its numbers, and its jobs or numerators. Machines count
+-- from 1. Prices are those of the rows from 0 on.
+abbrev pub certificate_words : {A : Type 0} → BoundCertificate A → List (List ℕ)
+certificate_words (Machine machine jobs) =
+    codes "machine" ∷ decimal (machine + 1) ∷ map decimal jobs.items
+certificate_words (Window jobs) = codes "window" ∷ map decimal jobs.items
+certificate_words (Crowd h jobs) = codes "crowd" ∷ decimal h ∷ map decimal jobs.items
+certificate_words (OneJob job) = codes "job" ∷ decimal job ∷ []
+certificate_words (Multipliers machine q numerators) =
+    codes "multipliers" ∷ decimal (machine + 1) ∷ decimal q ∷ map decimal numerators.items
+certificate_words (Prices q rows) = codes "prices" ∷ decimal q ∷ map decimal rows.items
+
+-- all lines: a heading, the problem, the sizes of the task, the value and the certificate
+abbrev pub bound_lines : {A : Type 0} → ProblemData → ℕ → ℤ → BoundCertificate A
+    → List (List (List ℕ))
+bound_lines k jobs value certificate =
+    (codes "bound" ∷ codes "1" ∷ [])
+    ∷ (codes "problem" ∷ canonical k.problem ∷ [])
+    ∷ (codes "jobs" ∷ decimal jobs ∷ [])
+    ∷ (codes "machines" ∷ decimal k.machines ∷ [])
+    ∷ (codes "value" ∷ signed_decimal value ∷ [])
+    ∷ certificate_words certificate
+    ∷ (codes "end" ∷ []) ∷ []
+
+-- the text of a bound of a task
+unfoldable pub bound_text : {A : Type 0} → ProblemData → ℕ → ℤ → BoundCertificate A → List ℕ
+bound_text k jobs value certificate = flat_map line_text (bound_lines k jobs value certificate)

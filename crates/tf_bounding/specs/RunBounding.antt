@@ -1,0 +1,92 @@
+-- What a run that bounds a problem leaves behind.
+use Rattle.std.specs.Prelude.{◌≡◌, ℕ, ◌⊎◌, true, List, length, Option, Some, Result, Ok, Err, MatchResult, if◌then◌else◌}
+use Rattle.std.specs.Io.KnownBytes.{Appends}
+use Rattle.tf_model.specs.Outcome.{◌>>=◌}
+use Rattle.tf_model.specs.declared.problem.Problem.{Problem}
+use Rattle.tf_model.specs.declared.prepare.Refusal.TheVariants.{NoSolver, TotalTooLarge}
+use Rattle.tf_notation.specs.Reading.{notation}
+use Rattle.tf_text.specs.declared.counted.Counted.{Counted}
+use Rattle.tf_text.specs.Counted.{DeviceUse, inner_of, has_failed}
+use Rattle.tf_text.specs.Input.{IsTextOf}
+use Rattle.tf_problem.specs.ProblemData.{ProblemData}
+use Rattle.tf_engine.specs.declared.fault.RunFault.{RunFault}
+use Rattle.tf_engine.specs.Faults.{Refused, ByNotation, ByTask, Stop, stop_of, end_of}
+use Rattle.tf_engine.specs.Parts.{instance_said, StopsBy, StopsReading}
+use Rattle.tf_engine.specs.Refusal.{refused_by}
+use Rattle.tf_engine.specs.RequestData.{RequestData}
+use Rattle.tf_engine.specs.Runs.{Leaves}
+use Rattle.tf_engine.specs.Devices.{LeavesInstance}
+use Rattle.tf_search.specs.declared.strongest.Found.{Found}
+use Rattle.tf_search.specs.Strongest.{IsFound}
+use Rattle.tf_prepare.specs.Preparing.{is_bounded, prepared_in}
+use Rattle.tf_bounding.specs.BoundText.{bound_text}
+
+-- the problem, of which some kind of certificate bounds the tasks
+abbrev pub problem_in : List ℕ → Result Problem Refused
+problem_in text =
+    refused_by ByNotation (notation text)
+    >>= λ problem. if is_bounded problem then Ok problem else Err (ByTask NoSolver)
+
+-- the task of a problem and a text, or the first refusal but that of totals
+abbrev pub problem_task_in : RequestData → Problem → List ℕ → Result ProblemData Refused
+problem_task_in request problem text =
+    instance_said request.form text
+    >>= λ instance. refused_by ByTask (prepared_in instance problem request.machines)
+
+-- the task of a request and a text: notation, problem, the text's first fault, and then the first
+-- reason why the instance is no task of the problem
+abbrev pub problem_task_for : RequestData → List ℕ → Result ProblemData Refused
+problem_task_for request text =
+    problem_in request.problem >>= λ problem. problem_task_in request problem text
+
+-- `out` is the text of a certificate and its value for the task that the request and the text mean;
+-- no timetable that fits the task costs less
+pub record Bounds {A : Type 0} (request : RequestData) (text out : List ℕ) (found : Found A)
+    : Type 0 where
+  pub task : ProblemData
+  pub meant : problem_task_for request text ≡ Ok task
+  pub is : IsFound task found
+  pub written : out ≡ bound_text task (length task.jobs) found.value found.certificate
+
+abbrev pub SaysBound : Type 0 → RequestData → List ℕ → List ℕ → Type 0
+SaysBound A request text out = (found : Found A) × Bounds request text out found
+
+-- the refusal is the one of the definitions, or nothing else is refused and a total of the task or of
+-- each certificate is beyond the limit
+abbrev pub IsRefusedBound : RequestData → List ℕ → Refused → Type 0
+IsRefusedBound request text refused =
+    (problem_task_for request text ≡ Err refused)
+    ⊎ ((refused ≡ ByTask TotalTooLarge)
+    × ((task : ProblemData) × (problem_task_for request text ≡ Ok task)))
+
+-- why no bound is found: memory was wanting, or each certificate has a number beyond the limit
+abbrev pub IsUnfound : Stop → Type 0
+IsUnfound = StopsBy (λ refused. refused ≡ ByTask TotalTooLarge)
+
+-- A part that reads an instance gives the task that its text means, which is all bytes of the reader
+-- up to its end where they are known, or the one refusal.
+pub record ReadsProblemTask {A T : Type 0} (request : RequestData) (remaining : T → Option (List ℕ))
+    (old new : Counted T) (result : Result ProblemData (RunFault A)) : Type 0 where
+  pub text : List ℕ
+  pub is_all : IsTextOf (remaining (inner_of old)) text
+  pub given : MatchResult result (λ k. problem_task_for request text ≡ Ok k)
+      (λ e. StopsReading (IsRefusedBound request text) (has_failed new ≡ true) (stop_of e))
+  pub reader : LeavesInstance (problem_in request.problem) remaining old new (end_of result)
+
+-- A bound is written, or the one refusal is given. Where memory was wanting there is neither; where
+-- the reader failed nothing was written, and where the writer failed a prefix of the text was.
+abbrev pub BoundingOutcome : {A : Type 0} → RequestData → List ℕ → DeviceUse → DeviceUse
+    → Result (Unit {0}) (RunFault A) → Type 0
+BoundingOutcome {A = A} request text reader writer (Ok _) =
+    (out : List ℕ) × SaysBound A request text out × Appends writer.before writer.after out
+BoundingOutcome {A = A} request text reader writer (Err e) =
+    Leaves (SaysBound A request text) (IsRefusedBound request text) (reader.failed ≡ true) writer
+    (stop_of e)
+
+-- The outcome is that of a text, which is all bytes of the reader up to its end where they are
+-- known.
+pub record IsBoundingOf {A : Type 0} (request : RequestData) (reader writer : DeviceUse)
+    (result : Result (Unit {0}) (RunFault A)) : Type 0 where
+  pub text : List ℕ
+  pub is_all : IsTextOf reader.before text
+  pub outcome : BoundingOutcome request text reader writer result

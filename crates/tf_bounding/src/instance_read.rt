@@ -1,0 +1,97 @@
+//! From a problem line and a reader of an instance to the task of any problem.
+ghost use Rattle.std.specs.Prelude.{◌≡◌};
+ghost use Rattle.tf_engine.specs.FormData.{InTable, form_of};
+ghost use Rattle.tf_engine.specs.Parts.{GivesProblem, ReadsTo, instance_said};
+ghost use Rattle.tf_prepare.specs.Preparing.{is_bounded};
+ghost use Rattle.tf_bounding.specs.RunBounding.{problem_in, ReadsProblemTask};
+
+use std::alloc::Allocator;
+use std::io::Read;
+use tf_bound::task::ProblemTask;
+use tf_engine::fault::RunFault;
+use tf_engine::form_read::{flow_read, wt_read};
+use tf_engine::request::{Form, Request};
+use tf_model::instance::Instance;
+use tf_model::prepare::Refusal;
+use tf_model::problem::{Env, Goal, Problem};
+use tf_notation::reading::read;
+use tf_prepare::prepare::prepare_problem;
+use tf_read::job_table::read_table;
+use tf_text::counted::Counted;
+use tf_text::input::read_all;
+
+// Whether some kind of certificate bounds the tasks of a problem.
+fn is_bounded(problem: &Problem) -> bool
+    ensures { result ≡ is_bounded problem.now }
+{
+    let uncovered = matches!(problem.env, Env::Uniform | Env::Unrelated | Env::JobShop)
+        || matches!(problem.goal, Goal::Hmax)
+        || problem.block
+        || problem.rcrc;
+    if uncovered {
+        return false;
+    }
+    match problem.goal {
+        Goal::Cmax | Goal::Lmax => true,
+        Goal::SumC | Goal::SumWC | Goal::SumT | Goal::SumWT => {
+            !matches!(problem.env, Env::Parallel) || !problem.prmp
+        }
+        _ => matches!(problem.env, Env::Single | Env::Parallel) && !problem.prmp,
+    }
+}
+
+/// The task of a request and of the instance that the reader's text holds.
+pub(crate) fn task_read<A: Allocator + Copy, B: Allocator, R: Read>(
+    alloc: A,
+    request: &Request<B>,
+    reader: &mut Counted<R>,
+) -> Result<ProblemTask<A>, RunFault<A>>
+    ensures { ReadsProblemTask request.now R.remaining reader.old reader.new result }
+{
+    let problem = problem_in(request.problem.as_str())?;
+    let instance = instance_read(alloc, &request.form, reader)?;
+    let task = prepare_problem(alloc, &instance, &problem, request.machines)?;
+    Ok(task)
+}
+
+// The problem of a line, of which some kind of certificate bounds the tasks.
+fn problem_in<A: Allocator>(text: &str) -> Result<Problem, RunFault<A>>
+    ensures { GivesProblem result (problem_in text.now) }
+{
+    let problem = read(text.as_bytes())?;
+    if !is_bounded(&problem) {
+        return Err(RunFault::Task(Refusal::NoSolver));
+    }
+    Ok(problem)
+}
+
+// The instance that the reader's text of this form holds.
+fn instance_read<A: Allocator + Copy, B: Allocator, R: Read>(
+    alloc: A,
+    form: &Form<B>,
+    reader: &mut Counted<R>,
+) -> Result<Instance<A>, RunFault<A>>
+    ensures { ReadsTo (instance_said (form_of form.now)) R.remaining reader.old reader.new result }
+{
+    match form {
+        Form::Table => table_read(alloc, reader),
+        Form::Wt { jobs, index } => {
+            let numbers = wt_read(alloc, *jobs, *index, reader)?;
+            Ok(numbers.into_instance(alloc))
+        }
+        Form::Flow { name, pair } => {
+            let numbers = flow_read(alloc, name.as_str().as_bytes(), *pair, reader)?;
+            Ok(numbers.into_instance(alloc))
+        }
+    }
+}
+
+fn table_read<A: Allocator + Copy, R: Read>(
+    alloc: A,
+    reader: &mut Counted<R>,
+) -> Result<Instance<A>, RunFault<A>>
+    ensures { ReadsTo (instance_said InTable) R.remaining reader.old reader.new result }
+{
+    let text = read_all(alloc, reader)?;
+    Ok(read_table(alloc, text.as_slice())?)
+}

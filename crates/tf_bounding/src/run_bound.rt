@@ -1,0 +1,59 @@
+//! A lower bound of a problem and an instance, from bytes to bytes.
+ghost use Rattle.tf_text.specs.Counted.{use_of};
+ghost use Rattle.tf_engine.specs.Devices.{LeavesRun};
+ghost use Rattle.std.specs.Prelude.{MatchResult};
+ghost use Rattle.tf_engine.specs.Faults.{end_of, stop_of};
+ghost use Rattle.tf_search.specs.Strongest.{IsFound};
+ghost use Rattle.tf_bounding.specs.RunBounding.{IsBoundingOf, IsUnfound, problem_in};
+
+use crate::instance_read::task_read;
+use crate::writing::bound_bytes;
+use std::alloc::Allocator;
+use std::io::{Read, Write};
+use tf_bound::task::ProblemTask;
+use tf_engine::fault::RunFault;
+use tf_engine::request::Request;
+use tf_model::prepare::Refusal;
+use tf_search::strongest::{Found, strongest};
+use tf_text::counted::Counted;
+
+/// Reads an instance to its end, searches for the strongest lower bound of its task, and writes the
+/// bound with its certificate.
+///
+/// The refusals come in the order of [`tf_engine::run_solve::run_solve`]: notation, a problem that no
+/// kind of certificate bounds, reading the input, its text, the rest of what makes no task. After a
+/// refusal nothing was written, unless it is [`RunFault::Device`], after which a prefix of the bound
+/// may have been.
+pub fn run_bound<A: Allocator + Copy, B: Allocator, R: Read, W: Write>(
+    alloc: A,
+    request: &Request<B>,
+    steps: Option<u32>,
+    reader: &mut Counted<R>,
+    writer: &mut Counted<W>,
+) -> Result<(), RunFault<A>>
+    ensures outcome { IsBoundingOf request.now (use_of R.remaining reader.old reader.new)
+        (use_of W.contents writer.old writer.new) result }
+    ensures devices { LeavesRun (problem_in request.now.problem) R.remaining reader.old reader.new
+        writer.old writer.new (end_of result) }
+{
+    let task = task_read(alloc, request, reader)?;
+    let found = found_for(alloc, &task, steps)?;
+    let text = bound_bytes(alloc, &task, &found)?;
+    writer.push_all(text.as_slice())?;
+    Ok(())
+}
+
+// The strongest bound that is found, or the refusal where each certificate that was tried has a
+// number beyond the limit.
+fn found_for<A: Allocator + Copy, B: Allocator>(
+    alloc: A,
+    task: &ProblemTask<B>,
+    steps: Option<u32>,
+) -> Result<Found<A>, RunFault<A>>
+    ensures { MatchResult result (IsFound task.now) (λ e. IsUnfound (stop_of e)) }
+{
+    match strongest(alloc, task, steps)? {
+        Some(found) => Ok(found),
+        None => Err(RunFault::Task(Refusal::TotalTooLarge)),
+    }
+}

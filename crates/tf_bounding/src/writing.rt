@@ -1,0 +1,142 @@
+//! Texts of bounds, written.
+ghost use Rattle.std.specs.Prelude.{◌≡◌, ◌∷◌, ◌++◌, codes, length, map, IfOk, OnOk};
+ghost use Rattle.std.specs.List.{flat_map};
+ghost use Rattle.tf_text.specs.AnswerText.{line_text};
+ghost use Rattle.std.specs.Fmt.{decimal};
+ghost use Rattle.tf_bounding.specs.BoundText.{certificate_words, bound_text};
+
+use std::alloc::Allocator;
+use tf_bound::certificate::BoundCertificate;
+use tf_bound::task::ProblemTask;
+use tf_model::ids::JobId;
+use tf_model::memory::OutOfMemory;
+use tf_notation::writing::notation_text;
+use tf_search::strongest::Found;
+use tf_text::answer::writing::{push_number, push_number_line};
+
+/// The text of a bound of a task, each line ended by a line feed.
+pub(crate) fn bound_bytes<A: Allocator + Copy, B: Allocator, C: Allocator>(
+    alloc: A,
+    task: &ProblemTask<B>,
+    found: &Found<C>,
+) -> Result<Vec<u8, A>, OutOfMemory>
+    ensures { IfOk result (λ text. text.items
+        ≡ bound_text task.now (length task.now.jobs) found.now.value found.now.certificate) }
+{
+    let notation = notation_text(alloc, &task.problem())?;
+    let mut text = Vec::from_slice(alloc, b"bound 1\nproblem ")?;
+    text.extend_from_slice(notation.as_bytes())?;
+    text.push(b'\n')?;
+    push_number_line(&mut text, b"jobs", task.len() as u64)?;
+    push_number_line(&mut text, b"machines", task.machines())?;
+    push_number_line(&mut text, b"value", found.value)?;
+    push_certificate(&mut text, &found.certificate)?;
+    text.extend_from_slice(b"end\n")?;
+    Ok(text)
+}
+
+fn push_jobs<A: Allocator>(text: &mut Vec<u8, A>, jobs: &[JobId]) -> Result<(), OutOfMemory>
+    ensures { OnOk result (text.new.items
+        ≡ text.old.items ++ flat_map (λ word. 32 ∷ word) (map decimal jobs.now)) }
+{
+    for job in jobs {
+        push_number(text, job.get())?;
+    }
+    Ok(())
+}
+
+fn push_numbers<A: Allocator>(text: &mut Vec<u8, A>, numbers: &[u64]) -> Result<(), OutOfMemory>
+    ensures { OnOk result (text.new.items
+        ≡ text.old.items ++ flat_map (λ word. 32 ∷ word) (map decimal numbers.now)) }
+{
+    for number in numbers {
+        push_number(text, *number)?;
+    }
+    Ok(())
+}
+
+// Adds a line of a word and jobs.
+fn push_listed<A: Allocator>(
+    text: &mut Vec<u8, A>,
+    word: &[u8],
+    jobs: &[JobId],
+) -> Result<(), OutOfMemory>
+    ensures { OnOk result (text.new.items
+        ≡ text.old.items ++ line_text (word.now ∷ map decimal jobs.now)) }
+{
+    text.extend_from_slice(word)?;
+    push_jobs(text, jobs)?;
+    text.push(b'\n')?;
+    Ok(())
+}
+
+// Adds a line of a word, a number and jobs.
+fn push_counted<A: Allocator>(
+    text: &mut Vec<u8, A>,
+    word: &[u8],
+    number: u128,
+    jobs: &[JobId],
+) -> Result<(), OutOfMemory>
+    ensures { OnOk result (text.new.items
+        ≡ text.old.items ++ line_text (word.now ∷ decimal number ∷ map decimal jobs.now)) }
+{
+    text.extend_from_slice(word)?;
+    push_number(text, number)?;
+    push_jobs(text, jobs)?;
+    text.push(b'\n')?;
+    Ok(())
+}
+
+// Adds the line of multipliers on a machine, counted from 1.
+fn push_multipliers<A: Allocator>(
+    text: &mut Vec<u8, A>,
+    machine: u128,
+    q: u64,
+    numerators: &[u64],
+) -> Result<(), OutOfMemory>
+    ensures { OnOk result (text.new.items ≡ text.old.items ++ line_text
+        (codes "multipliers" ∷ decimal machine ∷ decimal q ∷ map decimal numerators.now)) }
+{
+    text.extend_from_slice(b"multipliers")?;
+    push_number(text, machine)?;
+    push_number(text, q)?;
+    push_numbers(text, numerators)?;
+    text.push(b'\n')?;
+    Ok(())
+}
+
+// Adds the line of prices.
+fn push_prices<A: Allocator>(text: &mut Vec<u8, A>, q: u64, rows: &[u64]) -> Result<(), OutOfMemory>
+    ensures { OnOk result (text.new.items ≡ text.old.items ++ line_text
+        (codes "prices" ∷ decimal q ∷ map decimal rows.now)) }
+{
+    text.extend_from_slice(b"prices")?;
+    push_number(text, q)?;
+    push_numbers(text, rows)?;
+    text.push(b'\n')?;
+    Ok(())
+}
+
+// Adds the line of a certificate.
+fn push_certificate<A: Allocator, C: Allocator>(
+    text: &mut Vec<u8, A>,
+    certificate: &BoundCertificate<C>,
+) -> Result<(), OutOfMemory>
+    ensures { OnOk result (text.new.items
+        ≡ text.old.items ++ line_text (certificate_words certificate.now)) }
+{
+    match certificate {
+        BoundCertificate::Machine { machine, jobs } => {
+            push_counted(text, b"machine", *machine as u128 + 1, jobs)
+        }
+        BoundCertificate::Window { jobs } => push_listed(text, b"window", jobs),
+        BoundCertificate::Crowd { h, jobs } => push_counted(text, b"crowd", u128::from(*h), jobs),
+        BoundCertificate::OneJob { job } => push_number_line(text, b"job", job.get()),
+        BoundCertificate::Multipliers {
+            machine,
+            q,
+            numerators,
+        } => push_multipliers(text, *machine as u128 + 1, *q, numerators),
+        BoundCertificate::Prices { q, rows } => push_prices(text, *q, rows),
+    }
+}

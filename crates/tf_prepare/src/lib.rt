@@ -1,0 +1,4 @@
+//! From an instance and any problem to the task of the problem.
+#![tactic(auto)]
+
+pub mod prepare;

@@ -1,0 +1,253 @@
+//! From an instance and any problem to a task, or to the first refusal.
+ghost use Rattle.std.specs.Prelude.{◌≡◌, ◌<◌, ◌≤◌, [], if◌then◌else◌, length, map, position, IfOk, IfErr};
+ghost use Rattle.std.specs.Option.{ForSome};
+ghost use Rattle.tf_model.specs.Whole.{as_time};
+ghost use Rattle.tf_model.specs.Prepare.{agreed};
+ghost use Rattle.tf_prepare.specs.Preparing.{uses_weight, uses_due, machines_in, has_wrong_times_in, lacking_in, missing_in, has_no_time, jobs_refusal_in, times_of, job_in, task_in, prepared_in, PreparesIn, IsOfSize};
+
+use std::alloc::{AllocError, Allocator};
+use tf_bound::task::{ProblemJob, ProblemTask};
+use tf_model::ids::JobId;
+use tf_model::instance::Instance;
+use tf_model::job::{Job, Times};
+use tf_model::limit::{MOST_JOBS, MOST_MACHINES};
+use tf_model::prepare::{Field, Refusal};
+use tf_model::problem::{Env, Goal, Problem};
+
+/// The task of an instance and a problem: the fields that the problem uses, with the number of
+/// machines that the notation, the argument or the instance gives. Otherwise the first refusal,
+/// each kind over all jobs before the next kind, with the smallest job; totals come last.
+pub fn prepare_problem<A: Allocator + Copy, B: Allocator>(
+    alloc: A,
+    instance: &Instance<B>,
+    problem: &Problem,
+    machines: Option<u32>,
+) -> Result<ProblemTask<A>, Refusal>
+    ensures { PreparesIn result (prepared_in instance.now problem.now machines) }
+{
+    let machines = machines_in(problem, machines, instance.machines())?;
+    if let Some(refusal) = jobs_refusal(problem, instance.jobs()) {
+        return Err(refusal);
+    }
+    assemble(alloc, problem, machines, instance)
+}
+
+// Whether the objective uses weights.
+fn uses_weight(goal: Goal) -> bool
+    ensures { result ≡ uses_weight goal }
+{
+    matches!(goal, Goal::SumWC | Goal::SumWT | Goal::SumWU)
+}
+
+// Whether the objective uses due dates.
+fn uses_due(goal: Goal) -> bool
+    ensures { result ≡ uses_due goal }
+{
+    matches!(
+        goal,
+        Goal::Lmax | Goal::SumT | Goal::SumWT | Goal::SumU | Goal::SumWU
+    )
+}
+
+// The machine count that two places give, each perhaps none.
+fn agreed(one: Option<u32>, other: Option<u32>) -> Result<Option<u32>, Refusal>
+    ensures { result ≡ agreed one other }
+{
+    match (one, other) {
+        (None, other) => Ok(other),
+        (one, None) => Ok(one),
+        (Some(m), Some(n)) if m == n => Ok(Some(m)),
+        _ => Err(Refusal::MachinesDisagree),
+    }
+}
+
+// The number of machines: a single machine ignores all that is given.
+fn machines_in(
+    problem: &Problem,
+    argument: Option<u32>,
+    instance: Option<u32>,
+) -> Result<u32, Refusal>
+    ensures { result ≡ machines_in problem.now argument instance }
+{
+    if matches!(problem.env, Env::Single) {
+        return Ok(1);
+    }
+    let count = agreed(problem.count, argument)?;
+    let Some(m) = agreed(count, instance)? else {
+        return Err(Refusal::MachinesMissing);
+    };
+    if m == 0 || m > MOST_MACHINES || (problem.env.is_shop() && m != 2) {
+        return Err(Refusal::MachineCount(m));
+    }
+    Ok(m)
+}
+
+fn has_wrong_times<A: Allocator>(problem: &Problem, job: &Job<A>) -> bool
+    ensures { result ≡ has_wrong_times_in problem.now job.now }
+{
+    let has_two = match job.times {
+        Times::One(_) => false,
+        Times::Two(_, _) => true,
+    };
+    has_two != problem.env.is_shop()
+}
+
+fn wrong_times_at<A: Allocator>(problem: &Problem, jobs: &[Job<A>]) -> Option<usize>
+    ensures value { result ≡ position (has_wrong_times_in problem.now) jobs.now }
+    ensures within { ForSome result (λ k. k < length jobs.now) }
+{
+    jobs.iter().position(|job| has_wrong_times(problem, job))
+}
+
+// The first field that the problem uses and the job lacks.
+fn lacking<A: Allocator>(problem: &Problem, job: &Job<A>) -> Option<Field>
+    ensures { result ≡ lacking_in problem.now job.now }
+{
+    if uses_weight(problem.goal) && job.weight.is_none() {
+        return Some(Field::Weight);
+    }
+    if problem.release && job.release.is_none() {
+        return Some(Field::Release);
+    }
+    if uses_due(problem.goal) && job.due.is_none() {
+        return Some(Field::Due);
+    }
+    None
+}
+
+fn first_missing<A: Allocator>(problem: &Problem, jobs: &[Job<A>]) -> Option<Refusal>
+    requires { length jobs.now ≤ MOST_JOBS }
+    ensures { result ≡ missing_in problem.now 1 jobs.now }
+{
+    for (k, job) in jobs.iter().enumerate() {
+        if let Some(field) = lacking(problem, job) {
+            return Some(Refusal::MissingField(JobId::at(k), field));
+        }
+    }
+    None
+}
+
+fn has_no_time<A: Allocator>(job: &Job<A>) -> bool
+    ensures { result ≡ has_no_time job.now }
+{
+    match job.times {
+        Times::One(time) => time < 1,
+        Times::Two(first, second) => first < 1 && second < 1,
+    }
+}
+
+fn no_time_at<A: Allocator>(jobs: &[Job<A>]) -> Option<usize>
+    ensures value { result ≡ position has_no_time jobs.now }
+    ensures within { ForSome result (λ k. k < length jobs.now) }
+{
+    jobs.iter().position(|job| has_no_time(job))
+}
+
+// The first refusal for the jobs' sake.
+fn jobs_refusal<A: Allocator>(problem: &Problem, jobs: &[Job<A>]) -> Option<Refusal>
+    requires { length jobs.now ≤ MOST_JOBS }
+    ensures { result ≡ jobs_refusal_in problem.now jobs.now }
+{
+    if let Some(place) = wrong_times_at(problem, jobs) {
+        return Some(Refusal::WrongTimes(JobId::at(place)));
+    }
+    if let Some(refusal) = first_missing(problem, jobs) {
+        return Some(refusal);
+    }
+    match no_time_at(jobs) {
+        Some(place) => Some(Refusal::ZeroTime(JobId::at(place))),
+        None => None,
+    }
+}
+
+// A number that is not negative.
+fn as_time(number: i64) -> u64
+    ensures { result ≡ as_time number }
+{
+    number.max(0) as u64
+}
+
+fn times_of<A: Allocator>(alloc: A, times: Times) -> Result<Vec<u64, A>, AllocError>
+    ensures { IfOk result (λ all. all.items ≡ times_of times) }
+{
+    match times {
+        Times::One(time) => Vec::from_slice(alloc, &[as_time(time)]),
+        Times::Two(first, second) => Vec::from_slice(alloc, &[as_time(first), as_time(second)]),
+    }
+}
+
+// What the problem uses of a job, and what is neutral for the rest.
+fn job_in<A: Allocator, B: Allocator>(
+    alloc: A,
+    problem: &Problem,
+    job: &Job<B>,
+) -> Result<ProblemJob<A>, AllocError>
+    ensures { IfOk result (λ x. x ≡ job_in problem.now job.now) }
+{
+    let times = times_of(alloc, job.times)?;
+    Ok(ProblemJob {
+        times,
+        weight: if uses_weight(problem.goal) {
+            as_time(job.weight.unwrap_or(0))
+        } else {
+            1
+        },
+        release: if problem.release {
+            as_time(job.release.unwrap_or(0))
+        } else {
+            0
+        },
+        due: if uses_due(problem.goal) {
+            job.due.unwrap_or(0)
+        } else {
+            0
+        },
+    })
+}
+
+fn jobs_in<A: Allocator + Copy, B: Allocator>(
+    alloc: A,
+    problem: &Problem,
+    jobs: &[Job<B>],
+) -> Result<Vec<ProblemJob<A>, A>, AllocError>
+    ensures { IfOk result (λ rows. rows.items ≡ map (job_in problem.now) jobs.now) }
+{
+    let mut rows = Vec::with_capacity(alloc, jobs.len())?;
+    for job in jobs {
+        rows.push(job_in(alloc, problem, job)?)?;
+    }
+    Ok(rows)
+}
+
+// The arcs, where the problem uses them.
+fn arcs_in<A: Allocator>(
+    alloc: A,
+    problem: &Problem,
+    arcs: &[(JobId, JobId)],
+) -> Result<Vec<(JobId, JobId), A>, AllocError>
+    ensures { IfOk result (λ kept. kept.items ≡ (if problem.now.prec then arcs.now else [])) }
+{
+    if problem.prec {
+        Vec::from_slice(alloc, arcs)
+    } else {
+        Ok(Vec::new(alloc))
+    }
+}
+
+// The task of what was accepted, or the total that is beyond the limit.
+fn assemble<A: Allocator + Copy, B: Allocator>(
+    alloc: A,
+    problem: &Problem,
+    machines: u32,
+    instance: &Instance<B>,
+) -> Result<ProblemTask<A>, Refusal>
+    ensures ok { IfOk result (λ task. task ≡ task_in problem.now machines instance.now) }
+    ensures err { IfErr result IsOfSize }
+{
+    let jobs = jobs_in(alloc, problem, instance.jobs())?;
+    let arcs = arcs_in(alloc, problem, instance.arcs())?;
+    match ProblemTask::new(*problem, machines, jobs, arcs) {
+        Ok(task) => Ok(task),
+        Err(_) => Err(Refusal::TotalTooLarge),
+    }
+}
