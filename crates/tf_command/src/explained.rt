@@ -112,9 +112,12 @@ impl Ended<'_> {
         errors: &mut Counted<E>,
     ) {
         if let Some(told) = Told::of_both(instance, answer) {
-            let explanation = match run {
-                Ok(_) => Ok(String::new(self.alloc)),
-                Err(fault) => told.refused(self.alloc, fault, self.request),
+            let explanation = match (run, &told.answer) {
+                (Ok(Standing::Unfit), Some(answer)) => {
+                    explain::unfit(self.alloc, self.request, &told.instance, answer)
+                }
+                (Err(fault), _) => told.refused(self.alloc, fault, self.request),
+                _ => Ok(String::new(self.alloc)),
             };
             tell_behind(self.telling, explanation, errors);
         }

@@ -3,7 +3,7 @@ use crate::answer::{explain_answer, explain_pieces};
 use crate::instance::instance_in;
 use crate::refusal::{class_in, explain_refusal};
 use crate::text::explain_text;
-use crate::verdict::{Case, explain_verdict};
+use crate::verdict::{Case, explain_unfit, explain_verdict};
 use std::alloc::{AllocError, Global};
 use std::io;
 use tf_advice::cycle::explain_cycle;
@@ -109,7 +109,7 @@ pub fn not_drawn(
     Ok(page.text)
 }
 
-// All texts were read before the run, so the device that failed was that of the output.
+// A source that failed is named before, so the device was that of the output.
 fn say_output(page: &mut Page) -> Result<(), AllocError> {
     page.say("Standard output failed: the disk is full, or who reads it has gone.")
 }
@@ -154,6 +154,28 @@ pub fn checked(
         answer: *answer,
     };
     explain_verdict(&mut page, &case, checked)?;
+    Ok(page.text)
+}
+
+/// Why an answer that was evaluated does not fit.
+///
+/// # Errors
+///
+/// There was no memory.
+pub fn unfit(
+    alloc: Global,
+    request: &Request,
+    instance: &Source<'_>,
+    answer: &Source<'_>,
+) -> Result<String, AllocError> {
+    let mut page = Page::new(alloc);
+    let case = Case {
+        alloc,
+        request,
+        instance: *instance,
+        answer: *answer,
+    };
+    explain_unfit(&mut page, &case)?;
     Ok(page.text)
 }
 

@@ -11,7 +11,7 @@ use tf_check::fault::BoundFault;
 use tf_check::judgement::{Fit, Judgement, judge_answer};
 use tf_check::verdict::Reason;
 use tf_engine::request::{Form, Request};
-use tf_engine::run_check::Checked;
+use tf_engine::run_check::{Checked, is_for};
 use tf_model::prepare::prepare;
 use tf_model::task::Task;
 use tf_notation::reading::read;
@@ -41,13 +41,19 @@ impl Case<'_> {
     // How the answer stands to the task.
     fn judged(&self) -> Option<Judged> {
         let task = self.task()?;
+        let sheet = self.sheet()?;
+        let is_its = is_for(&task, &sheet);
         let Answer {
             pieces,
             value,
             certificate,
-        } = self.sheet()?.into_answer();
+        } = sheet.into_answer();
         let judgement = judge_answer(self.alloc, &task, pieces.into_vec(), &certificate).ok()?;
-        Some(Judged { value, judgement })
+        Some(Judged {
+            is_its,
+            value,
+            judgement,
+        })
     }
 
     // What the answer says.
@@ -78,9 +84,10 @@ impl Case<'_> {
     }
 }
 
-/// The value that an answer claims, and how the answer stands to its task.
+/// Whether an answer is for its task, the value that it claims, and how it stands to the task.
 #[derive(Drop)]
 struct Judged {
+    is_its: bool,
     value: i64,
     judgement: Judgement,
 }
@@ -102,6 +109,28 @@ pub(crate) fn explain_verdict(
             say_bound_fault(page, fault)
         }
         Checked::Rejected(Reason::BoundBelowValue) => say_gap(page, case),
+    }
+}
+
+/// Why the pieces of an answer do not fit, or which task the answer is for.
+pub(crate) fn explain_unfit(page: &mut Page, case: &Case<'_>) -> Result<(), AllocError> {
+    let Some(
+        Judged {
+            is_its,
+            judgement,
+            ..
+        },
+    ) = case.judged()
+    else {
+        return Ok(());
+    };
+    if !is_its {
+        return say_other_task(page, case);
+    }
+    match &judgement.fit {
+        Fit::NoSchedule(fault) => explain_pieces(page, &case.answer, fault),
+        Fit::Misfit(misfit) => say_misfit(page, case, misfit),
+        Fit::Fits(_) => Ok(()),
     }
 }
 
@@ -215,7 +244,13 @@ fn is_flow(case: &Case<'_>) -> bool {
 }
 
 fn say_value(page: &mut Page, case: &Case<'_>) -> Result<(), AllocError> {
-    if let Some(Judged { value, judgement }) = case.judged()
+    if let Some(
+        Judged {
+            value,
+            judgement,
+            ..
+        },
+    ) = case.judged()
         && let Fit::Fits(cost) = judgement.fit
     {
         writeln!(
@@ -228,7 +263,13 @@ fn say_value(page: &mut Page, case: &Case<'_>) -> Result<(), AllocError> {
 
 fn say_gap(page: &mut Page, case: &Case<'_>) -> Result<(), AllocError> {
     case.quote_certificate(page)?;
-    if let Some(Judged { value, judgement }) = case.judged()
+    if let Some(
+        Judged {
+            value,
+            judgement,
+            ..
+        },
+    ) = case.judged()
         && let Ok(bound) = judgement.bound
     {
         let gap = i128::from(value).saturating_sub(bound);
