@@ -13,8 +13,8 @@ import re
 import subprocess
 import sys
 
-PAGES = ["README.md", "docs/usage.md", "docs/answers.md", "docs/evaluating.md", "docs/pictures.md", "examples/README.md",
-         "examples/certificates/README.md"]
+PAGES = ["README.md", "docs/usage.md", "docs/answers.md", "docs/evaluating.md", "docs/bounds.md", "docs/pictures.md",
+         "examples/README.md", "examples/certificates/README.md"]
 LEFT_OUT = re.compile(r"^(export |.*\brt (try|run|ci)\b)")
 
 

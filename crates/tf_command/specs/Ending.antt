@@ -13,6 +13,7 @@ use Rattle.tf_picture.specs.Picture.{IsPicture}
 use Rattle.tf_evaluate.specs.declared.evaluation.Detail.{Detail}
 use Rattle.tf_evaluate.specs.declared.evaluation.Standing.{Standing}
 use Rattle.tf_evaluate.specs.RunEvaluating.{IsEvaluationOf}
+use Rattle.tf_bounding.specs.RunBounding.{IsBoundingOf}
 use Rattle.tf_command.specs.declared.options.Drawing.{Drawing}
 use Rattle.tf_command.specs.declared.options.Drawing.TheVariants.{Chart, Picture}
 use Rattle.tf_command.specs.Statuses.{status_of, status_of_check, status_of_standing}
@@ -36,6 +37,12 @@ pub record EndsSolving (request : RequestData) (instance writer : DeviceUse) (st
   where
     pub run : Result (Unit {0}) (RunFault Global)
     pub outcome : IsRunOf request instance writer run
+    pub ends : status ≡ status_of_run run
+
+pub record EndsBounding (request : RequestData) (instance writer : DeviceUse) (status : ℕ) : Type 0
+  where
+    pub run : Result (Unit {0}) (RunFault Global)
+    pub outcome : IsBoundingOf request instance writer run
     pub ends : status ≡ status_of_run run
 
 pub record EndsChecking (request : RequestData) (instance answer writer : DeviceUse) (status : ℕ)

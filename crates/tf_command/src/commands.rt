@@ -1,7 +1,7 @@
 //! The commands, over whatever gives and takes bytes.
 ghost use Rattle.tf_command.specs.Asking.{requested};
 ghost use Rattle.tf_command.specs.Columns.{HasWidth, IsSized};
-ghost use Rattle.tf_command.specs.Ending.{EndsSolving, EndsChecking, EndsEvaluating, EndsDrawing, drawn_as};
+ghost use Rattle.tf_command.specs.Ending.{EndsSolving, EndsBounding, EndsChecking, EndsEvaluating, EndsDrawing, drawn_as};
 ghost use Rattle.tf_engine.specs.Drawing.{IsDrawingOf};
 ghost use Rattle.std.specs.Prelude.{◌≡◌};
 ghost use Rattle.tf_command.specs.Recorded.{bytes_left};
@@ -16,6 +16,7 @@ use crate::source::Sources;
 use std::alloc::Global;
 use std::io::{Read, Write};
 use tf_advice::solved::solved_problems;
+use tf_bounding::run_bound::run_bound;
 use tf_engine::fault::RunFault;
 use tf_engine::run_check::run_check;
 use tf_engine::run_gantt::run_gantt;
@@ -54,6 +55,10 @@ fn ended<S: Sources, W: Write, E: Write>(
         Work::Solve(options, layout) => {
             let mut instance = open(console, sources, options.input, options.telling.explain)?;
             Ok(solve(console, options, *layout, &mut instance))
+        }
+        Work::Bound(options, steps) => {
+            let mut instance = open(console, sources, options.input, options.telling.explain)?;
+            Ok(bound(console, options, *steps, &mut instance))
         }
         Work::Check(options, answer) => {
             let mut instance = open(console, sources, options.input, options.telling.explain)?;
@@ -122,6 +127,32 @@ fn solve<R: Read, W: Write, E: Write>(
         return say_memory(&mut console.errors);
     };
     let run = run_solve(alloc, &request, instance, &mut console.writer);
+    let status = end_run(&run, &mut console.errors);
+    let ended = Ended {
+        alloc,
+        telling: options.telling,
+        request: &request,
+    };
+    ended.tell_solved(&run, instance.inner(), &mut console.errors);
+    status
+}
+
+/// Prints a lower bound, and gives the exit status.
+fn bound<R: Read, W: Write, E: Write>(
+    console: &mut Console<W, E>,
+    options: &Options<'_>,
+    steps: Option<u32>,
+    instance: &mut Counted<Recorded<'_, R>>,
+) -> u8
+    ensures { EndsBounding (requested options.now Layout.Two)
+        (use_of (bytes_left R.remaining) instance.old instance.new)
+        (use_of W.contents console.old.writer console.new.writer) result }
+{
+    let alloc = console.alloc;
+    let Ok(request) = options.request(alloc, Layout::Two) else {
+        return say_memory(&mut console.errors);
+    };
+    let run = run_bound(alloc, &request, steps, instance, &mut console.writer);
     let status = end_run(&run, &mut console.errors);
     let ended = Ended {
         alloc,

@@ -102,6 +102,8 @@ pub enum Drawing {
 pub enum Work<'a> {
     /// Solve, and print the answer in this version.
     Solve(Options<'a>, Layout),
+    /// Print a lower bound, after so many steps of the search for prices where they are given.
+    Bound(Options<'a>, Option<u32>),
     /// Judge the answer of this name.
     Check(Options<'a>, &'a str),
     /// Tell how good an answer is.
@@ -144,6 +146,12 @@ Example: threefield solve -p \"P2|prmp|Cmax\" examples/table.txt
 Exit status: 0 answered, 2 refused, 3 want of memory,
              4 a file or a device failed, 5 the command line is wrong.";
 
+const ABOUT_BOUND: &str = "\
+Example: threefield bound -p \"P2||Cmax\" examples/table.txt
+
+Exit status: 0 bounded, 2 refused, 3 want of memory,
+             4 a file or a device failed, 5 the command line is wrong.";
+
 const ABOUT_CHECK: &str = "\
 Example: threefield check -p \"P2|prmp|Cmax\" examples/table.txt answer.txt
 
@@ -171,6 +179,9 @@ Example: threefield problems examples/all_fields.txt
 Exit status: 0 listed, 2 the table is refused, 3 want of memory,
              4 a file or a device failed, 5 the command line is wrong.";
 
+/// The most steps of the search for prices.
+const MOST_STEPS: u32 = 1_000_000;
+
 static FORMATS: [&str; 3] = ["table", "wt", "flow"];
 
 static VERSIONS: [&str; 2] = ["1", "2"];
@@ -185,6 +196,7 @@ pub fn command<'a>(alloc: Global) -> Result<Command<'a>, AllocError> {
         .subcommand_required(true)
         .arg_required_else_help(true)
         .subcommand(solve_command(alloc)?)?
+        .subcommand(bound_command(alloc)?)?
         .subcommand(check_command(alloc)?)?
         .subcommand(evaluate_command(alloc)?)?
         .subcommand(gantt_command(alloc)?)?
@@ -203,6 +215,18 @@ fn solve_command<'a>(alloc: Global) -> Result<Command<'a>, AllocError> {
         .about("Prints a best schedule, and a certificate that none is better")
         .after_help(ABOUT_SOLVE)
         .arg(version)
+}
+
+fn bound_command<'a>(alloc: Global) -> Result<Command<'a>, AllocError> {
+    let steps = Arg::new(alloc, "steps")
+        .long("steps")
+        .value_name("N")
+        .help("The steps of the search for prices, 1 to 1000000")
+        .allow_negative_numbers(true);
+    with_options(alloc, Command::new(alloc, "bound"))?
+        .about("Prints a lower bound of an NP-hard problem, and its certificate")
+        .after_help(ABOUT_BOUND)
+        .arg(steps)
 }
 
 fn check_command<'a>(alloc: Global) -> Result<Command<'a>, AllocError> {
@@ -351,6 +375,9 @@ pub fn understand<'a>(command: Command<'a>, words: &'a [String]) -> Asked<'a>
     if name == "solve" {
         return Asked::Work(Work::Solve(options, layout_in(given)));
     }
+    if name == "bound" {
+        return bound_in(given, options);
+    }
     match given.get_str("ANSWER") {
         None => Asked::NoMemory,
         Some(answer) => {
@@ -374,6 +401,19 @@ fn layout_in(given: &ArgMatches<'_>) -> Layout {
     match given.get_str("answer") {
         Some("1") => Layout::One,
         _ => Layout::Two,
+    }
+}
+
+// A lower bound, after so many steps where they are given.
+fn bound_in<'a>(given: &ArgMatches<'_>, options: Options<'a>) -> Asked<'a>
+    ensures { HasColumns result }
+{
+    let Some(word) = given.get_str("steps") else {
+        return Asked::Work(Work::Bound(options, None));
+    };
+    match number_within(word, 1, MOST_STEPS) {
+        Some(steps) => Asked::Work(Work::Bound(options, Some(steps))),
+        None => Asked::Unfit("--steps takes a number from 1 to 1000000"),
     }
 }
 
