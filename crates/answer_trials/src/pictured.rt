@@ -114,25 +114,33 @@ end
 #[test]
 fn a_writer_that_fails_has_a_prefix(rt: HostRuntime) -> Result<(), Fail> {
     for call in 1..100u64 {
-        let failure = Failure {
-            call,
-            way: Way::Error,
-            heals: true,
-        };
-        let mut source = Source::new(IDLE.answer);
-        let mut sink = Sink::new(rt.alloc()).by(17).failing(failure);
-        let mut answer = Counted::new(&mut source);
-        let mut writer = Counted::new(&mut sink);
-        let result = run_picture(rt.alloc(), &mut answer, &mut writer);
-        ensure(result == Err(RunFault::Device), "no device fault")?;
-        ensure(sink.calls() == call, "it was called again")?;
-        ensure(
-            sink.taken().len() as u64 == (call - 1) * 17,
-            "another prefix",
-        )?;
-        ensure(IDLE.picture.starts_with(sink.taken()), "no prefix")?;
+        ensure(has_prefix(&rt, call), "no prefix, or called again")?;
     }
     Ok(())
+}
+
+/// Where this call of the writer fails, 17 bytes were taken in each call before it.
+fn has_prefix(rt: &HostRuntime, call: u64) -> bool {
+    let failure = Failure {
+        call,
+        way: Way::Error,
+        heals: true,
+    };
+    let mut sink = Sink::new(rt.alloc()).by(17).failing(failure);
+    let outcome = picture_on(rt, &mut sink);
+    let taken = sink.taken();
+    outcome == Err(RunFault::Device)
+        && sink.calls() == call
+        && (taken.len() as u64 / 17).checked_add(1) == Some(call)
+        && taken.len() % 17 == 0
+        && IDLE.picture.starts_with(taken)
+}
+
+fn picture_on(rt: &HostRuntime, sink: &mut Sink) -> Result<(), RunFault> {
+    let mut source = Source::new(IDLE.answer);
+    let mut answer = Counted::new(&mut source);
+    let mut writer = Counted::new(sink);
+    run_picture(rt.alloc(), &mut answer, &mut writer)
 }
 
 fn pictures_on(

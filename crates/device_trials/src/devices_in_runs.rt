@@ -93,7 +93,23 @@ fn calls_by_five(text: &[u8]) -> u64 {
     text.len().div_ceil(5) as u64 + 1
 }
 
-const READER_WAYS: [Way; 2] = [Way::Error, Way::Interruption];
+/// The ways in which one call of a reader fails, call after call: 4 for each call.
+fn reader_failure(number: u64) -> Failure {
+    Failure {
+        call: number / 4 + 1,
+        way: if number % 2 == 0 {
+            Way::Error
+        } else {
+            Way::Interruption
+        },
+        heals: number % 4 < 2,
+    }
+}
+
+/// How many failures `reader_failure` numbers for a text by 5 bytes a call.
+fn reader_failures(text: &[u8]) -> u64 {
+    calls_by_five(text).saturating_mul(4)
+}
 
 /// The run is refused, the reader was called up to its failure, and nothing was written.
 fn is_cut_off<T: PartialEq + Drop>(
@@ -119,21 +135,20 @@ fn solving_is_cut_off(
     is_cut_off(result, &source, failure, &sink)
 }
 
-/// An instance of each form, where each call of its reader fails in turn.
-fn solving_by_reads(rt: &HostRuntime) -> Result<(), Fail> {
-    for example in [FOURS, SECOND_OF_TWO, TWO_OF_THREE] {
-        let request = request_for(rt, &example, Layout::Two)?;
-        for before in 0..calls_by_five(example.instance) {
-            let call = before + 1;
-            for way in READER_WAYS {
-                for heals in [false, true] {
-                    let failure = Failure { call, way, heals };
-                    solving_is_cut_off(rt, &request, example.instance, failure)?;
-                }
-            }
-        }
+/// An example, where each call of its reader fails in turn.
+fn example_by_reads(rt: &HostRuntime, example: &Example) -> Result<(), Fail> {
+    let request = request_for(rt, example, Layout::Two)?;
+    for number in 0..reader_failures(example.instance) {
+        solving_is_cut_off(rt, &request, example.instance, reader_failure(number))?;
     }
     Ok(())
+}
+
+/// An instance of each form.
+fn solving_by_reads(rt: &HostRuntime) -> Result<(), Fail> {
+    example_by_reads(rt, &FOURS)?;
+    example_by_reads(rt, &SECOND_OF_TWO)?;
+    example_by_reads(rt, &TWO_OF_THREE)
 }
 
 /// Where the first reader of a check fails, the second one is not called.
@@ -169,20 +184,18 @@ fn checking_by_reads(rt: &HostRuntime) -> Result<(), Fail> {
     let request = request_for(rt, &FOURS, Layout::One)?;
     for layout in LAYOUTS {
         let answer = answer_in(rt, &FOURS, layout)?;
-        for before in 0..calls_by_five(FOURS.instance) {
-            let call = before + 1;
-            for way in READER_WAYS {
-                let heals = call % 2 == 0;
-                checking_is_cut_off_at_once(rt, &request, &answer, Failure { call, way, heals })?;
-            }
-        }
-        for before in 0..calls_by_five(&answer) {
-            let call = before + 1;
-            for way in READER_WAYS {
-                let heals = call % 2 == 0;
-                checking_is_cut_off(rt, &request, &answer, Failure { call, way, heals })?;
-            }
-        }
+        answer_by_reads(rt, &request, &answer)?;
+    }
+    Ok(())
+}
+
+/// Each call of the two readers of a check of this answer fails in turn.
+fn answer_by_reads(rt: &HostRuntime, request: &Request, answer: &[u8]) -> Result<(), Fail> {
+    for number in 0..reader_failures(FOURS.instance) {
+        checking_is_cut_off_at_once(rt, request, answer, reader_failure(number))?;
+    }
+    for number in 0..reader_failures(answer) {
+        checking_is_cut_off(rt, request, answer, reader_failure(number))?;
     }
     Ok(())
 }
@@ -197,13 +210,8 @@ fn drawing_is_cut_off(rt: &HostRuntime, answer: &[u8], failure: Failure) -> Resu
 fn drawing_by_reads(rt: &HostRuntime) -> Result<(), Fail> {
     for layout in LAYOUTS {
         let answer = answer_in(rt, &FOURS, layout)?;
-        for before in 0..calls_by_five(&answer) {
-            let call = before + 1;
-            for way in READER_WAYS {
-                for heals in [false, true] {
-                    drawing_is_cut_off(rt, &answer, Failure { call, way, heals })?;
-                }
-            }
+        for number in 0..reader_failures(&answer) {
+            drawing_is_cut_off(rt, &answer, reader_failure(number))?;
         }
     }
     Ok(())
@@ -216,7 +224,25 @@ fn a_run_is_refused_where_any_read_fails(rt: HostRuntime) -> Result<(), Fail> {
     drawing_by_reads(&rt)
 }
 
-const WRITER_WAYS: [Way; 3] = [Way::Error, Way::Interruption, Way::NoByte];
+/// The ways in which one call of a writer fails, call after call: 6 for each call.
+fn writer_failure(number: u64) -> Failure {
+    Failure {
+        call: number / 6 + 1,
+        way: if number % 3 == 0 {
+            Way::Error
+        } else if number % 3 == 1 {
+            Way::Interruption
+        } else {
+            Way::NoByte
+        },
+        heals: number % 6 < 3,
+    }
+}
+
+/// How many failures `writer_failure` numbers for a text that is written byte by byte.
+fn writer_failures(text: &[u8]) -> u64 {
+    (text.len() as u64).saturating_mul(6)
+}
 
 /// The run is refused, the writer was called up to its failure, and took a byte in each call before.
 fn is_cut_short<T: PartialEq + Drop>(
@@ -248,13 +274,8 @@ fn solving_by_writes(rt: &HostRuntime) -> Result<(), Fail> {
     for layout in LAYOUTS {
         let request = request_for(rt, &FOURS, layout)?;
         let wanted = answer_in(rt, &FOURS, layout)?;
-        for call in 1..wanted.len() as u64 + 1 {
-            for way in WRITER_WAYS {
-                for heals in [false, true] {
-                    let failure = Failure { call, way, heals };
-                    solving_is_cut_short(rt, &request, &wanted, failure)?;
-                }
-            }
+        for number in 0..writer_failures(&wanted) {
+            solving_is_cut_short(rt, &request, &wanted, writer_failure(number))?;
         }
     }
     Ok(())
@@ -277,12 +298,8 @@ fn checking_by_writes(rt: &HostRuntime) -> Result<(), Fail> {
     let request = request_for(rt, &FOURS, Layout::One)?;
     for layout in LAYOUTS {
         let answer = answer_in(rt, &FOURS, layout)?;
-        for call in 1..10 {
-            for way in WRITER_WAYS {
-                for heals in [false, true] {
-                    checking_is_cut_short(rt, &request, &answer, Failure { call, way, heals })?;
-                }
-            }
+        for number in 0..writer_failures(b"accepted\n") {
+            checking_is_cut_short(rt, &request, &answer, writer_failure(number))?;
         }
     }
     Ok(())
@@ -298,12 +315,8 @@ fn drawing_is_cut_short(rt: &HostRuntime, answer: &[u8], failure: Failure) -> Re
 fn drawing_by_writes(rt: &HostRuntime) -> Result<(), Fail> {
     for layout in LAYOUTS {
         let answer = answer_in(rt, &FOURS, layout)?;
-        for call in 1..FOURS.chart.len() as u64 + 1 {
-            for way in WRITER_WAYS {
-                for heals in [false, true] {
-                    drawing_is_cut_short(rt, &answer, Failure { call, way, heals })?;
-                }
-            }
+        for number in 0..writer_failures(FOURS.chart) {
+            drawing_is_cut_short(rt, &answer, writer_failure(number))?;
         }
     }
     Ok(())

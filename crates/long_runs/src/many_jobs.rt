@@ -72,19 +72,37 @@ fn refuses(rt: &HostRuntime, problem: &str, table: &[u8], fault: RunFault) -> Re
 #[test]
 fn at_most_2_000_jobs_have_costs_and_100_000_are_in_a_table(rt: HostRuntime) -> Result<(), Fail> {
     let head = "problem 1||hmax\njobs 2000\nmachines 1\nvalue 0\n";
-    let wanted = in_order(&rt, Layout::Two, head, 2_000, b"cert last 1-2000")?;
-    answers(&rt, "1||hmax", Layout::Two, &table_of(&rt, 2_000)?, &wanted)?;
-    let more = table_of(&rt, 2_001)?;
-    refuses(&rt, "1||hmax", &more, RunFault::Task(Refusal::TooManyJobs))?;
+    has_answer(&rt, "1||hmax", 2_000, head, b"cert last 1-2000")?;
+    has_too_many(&rt, "1||hmax", 2_001, RunFault::Task(Refusal::TooManyJobs))?;
     let head = "problem 1||sumC\njobs 2001\nmachines 1\nvalue 2003001\n";
-    let wanted = in_order(&rt, Layout::Two, head, 2_001, b"cert pairs")?;
-    answers(&rt, "1||sumC", Layout::Two, &more, &wanted)?;
-    let most = table_of(&rt, 100_000)?;
+    has_answer(&rt, "1||sumC", 2_001, head, b"cert pairs")?;
     let head = "problem 1||sumC\njobs 100000\nmachines 1\nvalue 5000050000\n";
-    let wanted = in_order(&rt, Layout::Two, head, 100_000, b"cert pairs")?;
-    answers(&rt, "1||sumC", Layout::Two, &most, &wanted)?;
-    let too_many = RunFault::Text(ReadFault::TooManyJobs);
-    refuses(&rt, "1||sumC", &table_of(&rt, 100_001)?, too_many)
+    has_answer(&rt, "1||sumC", 100_000, head, b"cert pairs")?;
+    has_too_many(
+        &rt,
+        "1||sumC",
+        100_001,
+        RunFault::Text(ReadFault::TooManyJobs),
+    )
+}
+
+/// A table of so many jobs of time 1 is answered with them in their order.
+fn has_answer(
+    rt: &HostRuntime,
+    problem: &str,
+    jobs: u32,
+    head: &str,
+    certificate: &[u8],
+) -> Result<(), Fail> {
+    let wanted = in_order(rt, Layout::Two, head, jobs, certificate)?;
+    let table = table_of(rt, jobs)?;
+    answers(rt, problem, Layout::Two, &table, &wanted)
+}
+
+/// A table of so many jobs is refused.
+fn has_too_many(rt: &HostRuntime, problem: &str, jobs: u32, fault: RunFault) -> Result<(), Fail> {
+    let table = table_of(rt, jobs)?;
+    refuses(rt, problem, &table, fault)
 }
 
 /// The certificate's line that names each of so many jobs.
@@ -196,23 +214,28 @@ fn hundred_late_jobs(rt: &HostRuntime) -> Result<Vec<u8>, AllocError> {
 #[test]
 fn the_last_of_125_instances_is_found(rt: HostRuntime) -> Result<(), Fail> {
     let text = many_instances(&rt)?;
+    let wanted = hundred_late_jobs(&rt)?;
     let mut out = Vec::new(rt.alloc());
-    let last = Given::Tardiness {
-        jobs: 100,
-        index: 125,
-    };
-    let last = request(&rt, "1||Lmax", last, Layout::Two)?;
-    let result = solve_into(rt.alloc(), &last, &text, &mut out);
-    ensure(result == Ok(()), "refused")?;
-    ensure(out == hundred_late_jobs(&rt)?, "another answer")?;
-    let mut none = Vec::new(rt.alloc());
-    let next = Given::Tardiness {
-        jobs: 100,
-        index: 126,
-    };
-    let next = request(&rt, "1||Lmax", next, Layout::Two)?;
-    let result = solve_into(rt.alloc(), &next, &text, &mut none);
-    let fault = RunFault::Text(ReadFault::NoInstance);
-    ensure(result == Err(fault), "another outcome")?;
-    ensure(none.is_empty(), "something was written")
+    ensure(solved_of(&rt, 125, &text, &mut out)? == Ok(()), "refused")?;
+    ensure(out == wanted, "another answer")?;
+    ensure(is_past_the_last(&rt, &text)?, "another outcome")
+}
+
+/// What a run answers that is asked for the instance of this number of 100 jobs.
+fn solved_of(
+    rt: &HostRuntime,
+    index: u32,
+    text: &[u8],
+    out: &mut Vec<u8>,
+) -> Result<Result<(), RunFault>, AllocError> {
+    let given = Given::Tardiness { jobs: 100, index };
+    let request = request(rt, "1||Lmax", given, Layout::Two)?;
+    Ok(solve_into(rt.alloc(), &request, text, out))
+}
+
+/// There is no instance 126, and nothing is written.
+fn is_past_the_last(rt: &HostRuntime, text: &[u8]) -> Result<bool, AllocError> {
+    let mut out = Vec::new(rt.alloc());
+    let result = solved_of(rt, 126, text, &mut out)?;
+    Ok(result == Err(RunFault::Text(ReadFault::NoInstance)) && out.is_empty())
 }

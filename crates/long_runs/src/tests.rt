@@ -32,14 +32,20 @@ fn answers(rt: &HostRuntime, request: &Request, instance: &[u8]) -> Result<Vec<u
     let mut answer = Vec::new(rt.alloc());
     let solved = solve_into(rt.alloc(), request, instance, &mut answer);
     ensure(solved == Ok(()), "not solved")?;
-    let mut line = Vec::new(rt.alloc());
-    let checked = check_into(rt.alloc(), request, instance, &answer, &mut line);
-    ensure(checked == Ok(Checked::Accepted), "not checked")?;
-    ensure(line.as_slice() == b"accepted\n".as_slice(), "rejected")?;
-    let mut chart = Vec::new(rt.alloc());
-    let drawn = draw_into(rt.alloc(), &answer, 72, &mut chart);
-    ensure(drawn == Ok(()), "not drawn")?;
+    ensure(is_accepted(rt, request, instance, &answer), "not accepted")?;
+    ensure(is_drawn(rt, &answer), "not drawn")?;
     Ok(answer)
+}
+
+fn is_accepted(rt: &HostRuntime, request: &Request, instance: &[u8], answer: &[u8]) -> bool {
+    let mut line = Vec::new(rt.alloc());
+    let checked = check_into(rt.alloc(), request, instance, answer, &mut line);
+    checked == Ok(Checked::Accepted) && line.as_slice() == b"accepted\n".as_slice()
+}
+
+fn is_drawn(rt: &HostRuntime, answer: &[u8]) -> bool {
+    let mut chart = Vec::new(rt.alloc());
+    draw_into(rt.alloc(), answer, 72, &mut chart) == Ok(())
 }
 
 /// So many jobs are answered under each of the problems in each version.

@@ -151,16 +151,53 @@ impl Lent {
             _ => Err(self.fails()),
         }
     }
+
+    fn has_small_certificate(&self) -> bool {
+        matches!(
+            &self.answer.certificate,
+            Certificate::Load(_) | Certificate::Machine(_) | Certificate::OneJob(_)
+        )
+    }
+
+    fn growths_of_preparing(&self, rt: &HostRuntime) -> Result<u64, Fail> {
+        let prepares = |heap: &Refusing<Global>| self.prepares(rt, heap);
+        refuse_each_growth(rt, prepares)
+    }
+
+    fn growths_of_solving(&self, rt: &HostRuntime) -> Result<u64, Fail> {
+        let solves = |heap: &Refusing<Global>| self.solves(rt, heap);
+        refuse_each_growth(rt, solves)
+    }
+
+    fn growths_of_checking(&self, rt: &HostRuntime) -> Result<u64, Fail> {
+        let checks = |heap: &Refusing<Global>| self.checks(heap);
+        refuse_each_growth(rt, checks)
+    }
+
+    fn growths_of_checking_owned(&self, rt: &HostRuntime) -> Result<u64, Fail> {
+        let checks = |heap: &Refusing<Global>| self.checks_owned(rt, heap);
+        refuse_each_growth(rt, checks)
+    }
+
+    fn growths_of_judging(&self, rt: &HostRuntime) -> Result<u64, Fail> {
+        let pieces = self.answer.pieces.as_slice().to_vec(rt.alloc())?;
+        let schedule = Schedule::new(pieces).ok().ok_or("no schedule")?;
+        let judges = |heap: &Refusing<Global>| self.judges(heap, &schedule);
+        refuse_each_growth(rt, judges)
+    }
+
+    fn growths_of_bounding(&self, rt: &HostRuntime) -> Result<u64, Fail> {
+        let bounds = |heap: &Refusing<Global>| self.bounds(heap);
+        refuse_each_growth(rt, bounds)
+    }
 }
 
 #[test]
 fn preparing_and_solving_answer_whatever_growth_is_refused(rt: HostRuntime) -> Result<(), Fail> {
     for example in WORKED.iter() {
         let lent = lend(&rt, example)?;
-        let prepares = |heap: &Refusing<Global>| lent.prepares(&rt, heap);
-        ensure(refuse_each_growth(&rt, prepares)? > 0, example.name)?;
-        let solves = |heap: &Refusing<Global>| lent.solves(&rt, heap);
-        ensure(refuse_each_growth(&rt, solves)? > 0, example.name)?;
+        ensure(lent.growths_of_preparing(&rt)? > 0, example.name)?;
+        ensure(lent.growths_of_solving(&rt)? > 0, example.name)?;
     }
     Ok(())
 }
@@ -170,35 +207,29 @@ fn preparing_and_solving_answer_whatever_growth_is_refused(rt: HostRuntime) -> R
 fn judging_answers_whatever_growth_is_refused(rt: HostRuntime) -> Result<(), Fail> {
     for example in WORKED.iter() {
         let lent = lend(&rt, example)?;
-        let checks = |heap: &Refusing<Global>| lent.checks(heap);
-        let growths = refuse_each_growth(&rt, checks)?;
-        let checks_owned = |heap: &Refusing<Global>| lent.checks_owned(&rt, heap);
-        let growths_owned = refuse_each_growth(&rt, checks_owned)?;
         let copies = u64::from(!lent.answer.pieces.as_slice().is_empty());
-        ensure(
-            growths.checked_sub(growths_owned) == Some(copies),
-            example.name,
-        )?;
-        let pieces = lent.answer.pieces.as_slice().to_vec(rt.alloc())?;
-        let schedule = Schedule::new(pieces).ok().ok_or("no schedule")?;
-        let judges = |heap: &Refusing<Global>| lent.judges(heap, &schedule);
-        ensure(refuse_each_growth(&rt, judges)? > 0, example.name)?;
+        let saved = lent
+            .growths_of_checking(&rt)?
+            .checked_sub(lent.growths_of_checking_owned(&rt)?);
+        ensure(saved == Some(copies), example.name)?;
+        ensure(lent.growths_of_judging(&rt)? > 0, example.name)?;
     }
     Ok(())
 }
 
-/// The bounds of `load`, `machine` and `job` take no memory, and those of the other kinds do.
+/// The bounds of `load`, `machine` and `job` take no memory. Those of the other kinds do, and are out
+/// of memory where their first growth is refused.
 #[test]
 fn certificates_bound_whatever_growth_is_refused(rt: HostRuntime) -> Result<(), Fail> {
     for example in WORKED.iter() {
         let lent = lend(&rt, example)?;
-        let bounds = |heap: &Refusing<Global>| lent.bounds(heap);
-        let growths = refuse_each_growth(&rt, bounds)?;
-        let is_small = matches!(
-            &lent.answer.certificate,
-            Certificate::Load(_) | Certificate::Machine(_) | Certificate::OneJob(_)
-        );
-        ensure((growths == 0) == is_small, example.name)?;
+        let is_small = lent.has_small_certificate();
+        ensure(
+            (lent.growths_of_bounding(&rt)? == 0) == is_small,
+            example.name,
+        )?;
+        let first = lent.bounds(&Refusing::new(rt.alloc(), 0))?;
+        ensure((first == Ended::Answered) == is_small, example.name)?;
     }
     Ok(())
 }

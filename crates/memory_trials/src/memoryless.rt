@@ -142,14 +142,23 @@ fn a_task_is_refused_before_any_growth(rt: HostRuntime) -> Result<(), Fail> {
     ];
     for (problem, lines, refusal) in refused {
         let text = format!(in rt.alloc(); "table 1\n{lines}\n")?;
-        let instance = read_table(rt.alloc(), text.as_bytes())?;
-        let problem = read(problem.as_bytes())?;
-        let heap = Refusing::new(rt.alloc(), 0);
-        let prepared = prepare(&heap, &instance, &problem, None);
-        ensure(prepared.err() == Some(refusal), "another refusal")?;
-        ensure(!heap.has_refused(), "a growth")?;
+        is_refused_at_once(&rt, problem, text.as_bytes(), refusal)?;
     }
     Ok(())
+}
+
+/// The task of this table is refused so, and asks for no growth.
+fn is_refused_at_once(
+    rt: &HostRuntime,
+    problem: &str,
+    table: &[u8],
+    refusal: Refusal,
+) -> Result<(), Fail> {
+    let problem = read(problem.as_bytes())?;
+    let instance = read_table(rt.alloc(), table)?;
+    let heap = Refusing::new(rt.alloc(), 0);
+    let is_so = prepare(&heap, &instance, &problem, None).err() == Some(refusal);
+    ensure(is_so && !heap.has_refused(), "another refusal, or a growth")
 }
 
 #[test]

@@ -1,6 +1,6 @@
 //! Readers of OR-Library files, whole and in pieces.
 use refusing::Refusing;
-use std::alloc::Allocator;
+use std::alloc::{Allocator, Global};
 use std::test::Fail;
 use tf_model::instance::Instance;
 use tf_model::job::{Job, Times};
@@ -63,6 +63,12 @@ const FIRST_AND_LAST: [Fields; 2] = [
     (Times::Two(2, 5), None, None),
 ];
 
+/// The demo on all its three machines, of which two are kept.
+const FIRST_TWO: [Fields; 2] = [
+    (Times::Two(4, 9), None, None),
+    (Times::Two(2, 9), None, None),
+];
+
 /// Numbers of jobs and indices for which the file has no instance.
 const ABSENT: [(u32, u32, ReadFault); 5] = [
     (3, 0, ReadFault::NoInstance),
@@ -80,13 +86,26 @@ fn a_file_without_the_instance_is_refused(rt: HostRuntime) -> Result<(), Fail> {
         feed_bytes(&mut reader, TARDINESS);
         is_fault(&reader.finish(), fault)?;
     }
+    let (without_last, _) = TARDINESS.split_at(TARDINESS.len() - 2);
+    is_fault(&second_by_bytes(&rt, without_last)?, ReadFault::EndsEarly)?;
     // readers that are fed nothing
-    is_fault(
-        &WtReader::new(rt.alloc(), 3, 1)?.finish(),
-        ReadFault::NoInstance,
-    )?;
+    is_fault(&second_by_bytes(&rt, b"")?, ReadFault::NoInstance)?;
     let reader = FlowReader::new(rt.alloc(), b"demo", None);
     is_fault(&reader.finish(), ReadFault::NoInstance)
+}
+
+/// The second instance of three jobs, of a text that is fed byte by byte.
+fn second_by_bytes(rt: &HostRuntime, text: &[u8]) -> Result<Read<Global>, ReadFault> {
+    let mut reader = WtReader::new(rt.alloc(), 3, 2)?;
+    feed_bytes(&mut reader, text);
+    Ok(reader.finish())
+}
+
+/// The demo of the shop, fed byte by byte.
+fn demo_by_bytes(rt: &HostRuntime, pair: Option<(u32, u32)>) -> Read<Global> {
+    let mut reader = FlowReader::new(rt.alloc(), b"demo", pair);
+    feed_bytes(&mut reader, SHOP);
+    reader.finish()
 }
 
 /// Feeds a text in three pieces, cut at these places.
@@ -115,17 +134,14 @@ fn a_file_may_come_in_any_pieces(rt: HostRuntime) -> Result<(), Fail> {
             is_instance(&reader.finish(), None, &SECOND)?;
         }
     }
-    let mut reader = WtReader::new(rt.alloc(), 3, 2)?;
-    feed_bytes(&mut reader, TARDINESS);
-    is_instance(&reader.finish(), None, &SECOND)?;
+    is_instance(&second_by_bytes(&rt, TARDINESS)?, None, &SECOND)?;
     for first in 0..SHOP.len() {
         let mut reader = FlowReader::new(rt.alloc(), b"demo", Some((0, 2)));
         feed_cut(&mut reader, SHOP, first, first.saturating_add(3));
         is_instance(&reader.finish(), Some(2), &FIRST_AND_LAST)?;
     }
-    let mut reader = FlowReader::new(rt.alloc(), b"demo", Some((0, 2)));
-    feed_bytes(&mut reader, SHOP);
-    is_instance(&reader.finish(), Some(2), &FIRST_AND_LAST)
+    is_instance(&demo_by_bytes(&rt, Some((0, 2))), Some(2), &FIRST_AND_LAST)?;
+    is_instance(&demo_by_bytes(&rt, None), Some(3), &FIRST_TWO)
 }
 
 /// Feeds as many bytes as a text may have, all blanks.

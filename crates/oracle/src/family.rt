@@ -4,7 +4,7 @@ use std::alloc::{AllocError, Global};
 use tf_model::ids::JobId;
 
 /// Which arcs there may be.
-#[derive(Clone, Copy, Debug, PartialEq, Eq)]
+#[derive(Clone, Copy, PartialEq, Eq)]
 pub enum Arcs {
     /// None.
     Absent,

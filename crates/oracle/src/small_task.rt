@@ -2,7 +2,7 @@
 use tf_model::ids::JobId;
 
 /// What the jobs run on.
-#[derive(Clone, Copy, Debug, PartialEq, Eq)]
+#[derive(Clone, Copy, PartialEq, Eq)]
 pub enum Machines {
     /// One machine.
     Single,
@@ -15,7 +15,7 @@ pub enum Machines {
 }
 
 /// What is to be least.
-#[derive(Clone, Copy, Debug, PartialEq, Eq)]
+#[derive(Clone, Copy, PartialEq, Eq)]
 pub enum Objective {
     /// The greatest completion time.
     Makespan,
@@ -30,7 +30,7 @@ pub enum Objective {
 }
 
 /// A machine environment, conditions and an objective.
-#[derive(Clone, Copy, Debug, PartialEq, Eq)]
+#[derive(Clone, Copy, PartialEq, Eq)]
 pub struct Kind {
     pub machines: Machines,
     /// Whether jobs have release dates.
@@ -54,7 +54,7 @@ impl Kind {
 }
 
 /// What completing costs, by the time.
-#[derive(Clone, Copy, Debug, PartialEq, Eq)]
+#[derive(Clone, Copy, PartialEq, Eq)]
 pub enum Cost {
     /// 1 at each time.
     Flat,
@@ -96,7 +96,7 @@ impl Cost {
 }
 
 /// A job. Its times are counts of time steps.
-#[derive(Clone, Copy, Debug, PartialEq, Eq)]
+#[derive(Clone, Copy, PartialEq, Eq)]
 pub struct SmallJob {
     pub id: JobId,
     /// The time, or in a shop the time on machine 1.
@@ -130,7 +130,7 @@ impl SmallJob {
 }
 
 /// Jobs, numbered from 1, and arcs between them.
-#[derive(Debug, Drop)]
+#[derive(Drop)]
 pub struct SmallTask {
     pub kind: Kind,
     pub jobs: Vec<SmallJob>,

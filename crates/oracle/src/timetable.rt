@@ -12,7 +12,7 @@ use tf_model::ids::JobId;
 pub type Cell = Option<JobId>;
 
 /// A timetable: what each machine does in each time step.
-#[derive(Debug, Drop)]
+#[derive(Drop)]
 pub struct Timetable {
     // Machine by machine, each from time 0 on.
     cells: Vec<Cell>,

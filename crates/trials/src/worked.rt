@@ -42,15 +42,51 @@ fn solves_on(
     ended(result, &out, wanted, example.name)
 }
 
+/// Solves the example with each growth refused.
+fn is_solved(
+    rt: &HostRuntime,
+    request: &Request,
+    example: &Example,
+    wanted: &[u8],
+) -> Result<(), Fail> {
+    let call = |heap: &Refusing<Global>| solves_on(rt, heap, request, example, wanted);
+    let growths = refuse_each_growth(rt, call)?;
+    ensure(growths > 3, example.name)
+}
+
+/// Accepts the example's answer with each growth refused.
+fn is_accepted(
+    rt: &HostRuntime,
+    request: &Request,
+    example: &Example,
+    answer: &[u8],
+) -> Result<(), Fail> {
+    let call = |heap: &Refusing<Global>| accepts_on(rt, heap, request, example, answer);
+    let growths = refuse_each_growth(rt, call)?;
+    ensure(growths > 3, example.name)
+}
+
+/// Draws the example's answer with each growth refused.
+fn is_drawn(rt: &HostRuntime, example: &Example, answer: &[u8]) -> Result<(), Fail> {
+    let call = |heap: &Refusing<Global>| draws_on(rt, heap, example, answer);
+    let growths = refuse_each_growth(rt, call)?;
+    ensure(growths > 0, example.name)
+}
+
+/// An example through the three runs.
+fn passes(rt: &HostRuntime, example: &Example, layout: Layout) -> Result<(), Fail> {
+    let request = request_for(rt, example, layout)?;
+    let answer = answer_in(rt, example, layout)?;
+    is_solved(rt, &request, example, &answer)?;
+    is_accepted(rt, &request, example, &answer)?;
+    is_drawn(rt, example, &answer)
+}
+
 #[test]
-fn each_is_solved_whatever_growth_is_refused(rt: HostRuntime) -> Result<(), Fail> {
+fn each_passes_the_runs_whatever_growth_is_refused(rt: HostRuntime) -> Result<(), Fail> {
     for example in WORKED.iter() {
         for layout in LAYOUTS {
-            let request = request_for(&rt, example, layout)?;
-            let wanted = answer_in(&rt, example, layout)?;
-            let call = |heap: &Refusing<Global>| solves_on(&rt, heap, &request, example, &wanted);
-            let growths = refuse_each_growth(&rt, call)?;
-            ensure(growths > 3, example.name)?;
+            passes(&rt, example, layout)?;
         }
     }
     Ok(())
@@ -68,20 +104,6 @@ fn accepts_on(
     ended(result, &out, b"accepted\n", example.name)
 }
 
-#[test]
-fn each_is_accepted_whatever_growth_is_refused(rt: HostRuntime) -> Result<(), Fail> {
-    for example in WORKED.iter() {
-        for layout in LAYOUTS {
-            let request = request_for(&rt, example, layout)?;
-            let answer = answer_in(&rt, example, layout)?;
-            let call = |heap: &Refusing<Global>| accepts_on(&rt, heap, &request, example, &answer);
-            let growths = refuse_each_growth(&rt, call)?;
-            ensure(growths > 3, example.name)?;
-        }
-    }
-    Ok(())
-}
-
 fn draws_on(
     rt: &HostRuntime,
     heap: &Refusing<Global>,
@@ -91,17 +113,4 @@ fn draws_on(
     let mut out = Vec::with_capacity(rt.alloc(), 2_000)?;
     let result = draw_into(heap, answer, 72, &mut out);
     ended(result, &out, example.chart, example.name)
-}
-
-#[test]
-fn each_is_drawn_whatever_growth_is_refused(rt: HostRuntime) -> Result<(), Fail> {
-    for example in WORKED.iter() {
-        for layout in LAYOUTS {
-            let answer = answer_in(&rt, example, layout)?;
-            let call = |heap: &Refusing<Global>| draws_on(&rt, heap, example, &answer);
-            let growths = refuse_each_growth(&rt, call)?;
-            ensure(growths > 0, example.name)?;
-        }
-    }
-    Ok(())
 }

@@ -40,14 +40,6 @@ pub fn counts(tasks: u64, timetables: u64, fitting: u64, bounds: u64) -> Tally {
     }
 }
 
-fn is_accepted(
-    rt: &(impl Abort + AllocGlobal),
-    task: &Task,
-    answer: &Answer,
-) -> Result<bool, Fail> {
-    Ok(check(rt.alloc(), task, answer)? == Verdict::Accepted)
-}
-
 // Each job precedes the next by an arc, and the last precedes the first.
 fn is_cycle(task: &SmallTask, jobs: &[JobId]) -> bool {
     let next = jobs.iter().skip(1).chain(jobs.iter().take(1));
@@ -58,35 +50,15 @@ fn is_cycle(task: &SmallTask, jobs: &[JobId]) -> bool {
             .all(|arc| task.arcs.contains(&(*arc.0, *arc.1)))
 }
 
-/// The program's answer to the task; some pieces and a certificate where arcs form a cycle.
-fn answer(
-    rt: &(impl Abort + AllocGlobal),
-    small: &SmallTask,
-    task: &Task,
-    least: Option<i64>,
-) -> Result<Answer, Fail> {
-    match solve(rt.alloc(), task) {
-        Ok(answer) => {
-            assert_eq!(rt; Some(answer.value), least, "{small:?}");
-            Ok(answer)
-        }
-        Err(SolveFault::Cycle(jobs)) => {
-            assert!(rt;
-                least.is_none() && is_cycle(small, jobs.as_slice()),
-                "{small:?}"
-            );
-            let mut last = Vec::new(rt.alloc());
-            last.push(JobId::new(1).ok_or("a job")?)?;
-            Ok(Answer {
-                pieces: pieces_of(rt.alloc(), &Timetable::first_of(rt.alloc(), small, 1)?)?,
-                value: 0,
-                certificate: Certificate::LastOf(LastOf {
-                    jobs: JobList::new(last),
-                }),
-            })
-        }
-        Err(SolveFault::OutOfMemory) => Err(Fail::new("want of memory")),
-    }
+/// Some pieces, and a certificate that names job 1.
+fn any_answer(rt: &(impl Abort + AllocGlobal), small: &SmallTask) -> Result<Answer, AllocError> {
+    let jobs = JobList::new(vec![in rt.alloc(); JobId::at(0)]?);
+    let timetable = Timetable::first_of(rt.alloc(), small, 1)?;
+    Ok(Answer {
+        pieces: pieces_of(rt.alloc(), &timetable)?,
+        value: 0,
+        certificate: Certificate::LastOf(LastOf { jobs }),
+    })
 }
 
 /// Which timetables are looked at.
@@ -114,59 +86,100 @@ impl Timetables {
     }
 }
 
-/// The checker accepts the answer's certificate with those timetables alone that fit and cost
-/// least, and at no lesser value.
-fn timetables_are_judged(
-    rt: &(impl Abort + AllocGlobal),
-    timetables: Timetables,
-    small: &SmallTask,
-    task: &Task,
+/// A small task, and the least cost of a timetable that fits it.
+#[derive(Drop)]
+struct Trial<'a> {
+    small: &'a SmallTask,
+    task: Task,
     least: Option<i64>,
-    answer: &mut Answer,
-    tally: &mut Tally,
-) -> Result<(), Fail> {
-    let mut timetable = timetables.first_of(rt.alloc(), small)?;
-    for _ in 0..u64::MAX {
-        let cost = timetable.cost(small);
-        let fits = timetable.fits(small);
-        answer.pieces = pieces_of(rt.alloc(), &timetable)?;
-        answer.value = cost;
-        let is_best = fits && least == Some(cost);
-        assert_eq!(rt;
-            is_accepted(rt, task, answer)?,
-            is_best,
-            "{small:?} {timetable:?}"
-        );
-        if is_best {
-            answer.value = cost.saturating_sub(1);
-            assert!(rt; !is_accepted(rt, task, answer)?, "{small:?} {timetable:?}");
-        }
-        tally.timetables = tally.timetables.saturating_add(1);
-        tally.fitting = tally.fitting.saturating_add(u64::from(fits));
-        if !timetables.advance(&mut timetable, small) {
-            break;
-        }
-    }
-    Ok(())
+    /// Which task of its family it is, counted from 0.
+    number: u64,
 }
 
-/// No certificate gives a bound that a timetable beats.
-fn bounds_hold(
-    rt: &(impl Abort + AllocGlobal),
-    small: &SmallTask,
-    task: &Task,
-    least: Option<i64>,
-    certificates: &[Certificate],
-    tally: &mut Tally,
-) -> Result<(), Fail> {
-    for (place, certificate) in certificates.iter().enumerate() {
-        if let Ok(bound) = certificate.bound(rt.alloc(), task) {
-            let holds = least.is_none_or(|least| bound <= i128::from(least));
-            assert!(rt; holds, "certificate {place} of {small:?}");
-            tally.bounds = tally.bounds.saturating_add(1);
+impl Trial<'_> {
+    /// Ends the test where this is not so, and names the task.
+    fn holds(&self, rt: &impl Abort, is_so: bool) {
+        assert!(rt; is_so, "task {}", self.number);
+    }
+
+    fn is_accepted(&self, rt: &(impl Abort + AllocGlobal), answer: &Answer) -> Result<bool, Fail> {
+        Ok(check(rt.alloc(), &self.task, answer)? == Verdict::Accepted)
+    }
+
+    /// The program's answer to the task; some pieces and a certificate where arcs form a cycle.
+    fn answer(&self, rt: &(impl Abort + AllocGlobal)) -> Result<Answer, Fail> {
+        match solve(rt.alloc(), &self.task) {
+            Ok(answer) => {
+                self.holds(rt, Some(answer.value) == self.least);
+                Ok(answer)
+            }
+            Err(SolveFault::Cycle(jobs)) => {
+                let is_so = self.least.is_none() && is_cycle(self.small, jobs.as_slice());
+                self.holds(rt, is_so);
+                Ok(any_answer(rt, self.small)?)
+            }
+            Err(SolveFault::OutOfMemory) => Err(Fail::new("want of memory")),
         }
     }
-    Ok(())
+
+    /// The checker accepts the answer's certificate with those timetables alone that fit and cost
+    /// least, and at no lesser value.
+    fn timetables_are_judged(
+        &self,
+        rt: &(impl Abort + AllocGlobal),
+        timetables: Timetables,
+        answer: &mut Answer,
+        tally: &mut Tally,
+    ) -> Result<(), Fail> {
+        let mut timetable = timetables.first_of(rt.alloc(), self.small)?;
+        for _ in 0..u64::MAX {
+            let cost = timetable.cost(self.small);
+            let fits = timetable.fits(self.small);
+            answer.pieces = pieces_of(rt.alloc(), &timetable)?;
+            self.is_judged(rt, answer, cost, fits)?;
+            tally.timetables = tally.timetables.saturating_add(1);
+            tally.fitting = tally.fitting.saturating_add(u64::from(fits));
+            if !timetables.advance(&mut timetable, self.small) {
+                break;
+            }
+        }
+        Ok(())
+    }
+
+    /// The answer is accepted at this cost where it fits and no timetable costs less, and then not
+    /// at a lesser value.
+    fn is_judged(
+        &self,
+        rt: &(impl Abort + AllocGlobal),
+        answer: &mut Answer,
+        cost: i64,
+        fits: bool,
+    ) -> Result<(), Fail> {
+        let is_best = fits && self.least == Some(cost);
+        answer.value = cost;
+        self.holds(rt, self.is_accepted(rt, answer)? == is_best);
+        if is_best {
+            answer.value = cost.saturating_sub(1);
+            self.holds(rt, !self.is_accepted(rt, answer)?);
+        }
+        Ok(())
+    }
+
+    /// No certificate gives a bound that a timetable beats.
+    fn bounds_hold(
+        &self,
+        rt: &(impl Abort + AllocGlobal),
+        certificates: &[Certificate],
+        tally: &mut Tally,
+    ) {
+        for certificate in certificates {
+            if let Ok(bound) = certificate.bound(rt.alloc(), &self.task) {
+                let is_below = self.least.is_none_or(|least| bound <= i128::from(least));
+                self.holds(rt, is_below);
+                tally.bounds = tally.bounds.saturating_add(1);
+            }
+        }
+    }
 }
 
 fn examine(
@@ -176,16 +189,16 @@ fn examine(
     certificates: &[Certificate],
     tally: &mut Tally,
 ) -> Result<(), Fail> {
-    let least = least_cost(rt.alloc(), small)?;
-    let task = task_of(rt.alloc(), small)?;
-    let mut answer = answer(rt, small, &task, least)?;
-    assert_eq!(rt;
-        is_accepted(rt, &task, &answer)?,
-        least.is_some(),
-        "{small:?}"
-    );
-    timetables_are_judged(rt, timetables, small, &task, least, &mut answer, tally)?;
-    bounds_hold(rt, small, &task, least, certificates, tally)?;
+    let trial = Trial {
+        small,
+        task: task_of(rt.alloc(), small)?,
+        least: least_cost(rt.alloc(), small)?,
+        number: tally.tasks,
+    };
+    let mut answer = trial.answer(rt)?;
+    trial.holds(rt, trial.is_accepted(rt, &answer)? == trial.least.is_some());
+    trial.timetables_are_judged(rt, timetables, &mut answer, tally)?;
+    trial.bounds_hold(rt, certificates, tally);
     tally.tasks = tally.tasks.saturating_add(1);
     Ok(())
 }
@@ -208,7 +221,7 @@ fn examine_all(
             }
         }
     }
-    assert_eq!(rt; tally, wanted);
+    assert!(rt; tally == wanted, "{tally:?}");
     Ok(())
 }
 

@@ -4,7 +4,8 @@ use crate::devices::{Sink, Source};
 use crate::examples::Given;
 use crate::examples::files::{SHOP, TARDINESS};
 use crate::examples::parallel::FOURS;
-use crate::runs::{ensure, request_table};
+use crate::runs::ensure;
+use std::alloc::AllocError;
 use std::test::Fail;
 use tf_engine::fault::RunFault;
 use tf_engine::run_solve::run_solve;
@@ -52,19 +53,28 @@ end
 
 #[test]
 fn texts_may_have_returns_tabs_and_leading_zeros(rt: HostRuntime) -> Result<(), Fail> {
-    let request = request_table(&rt, FOURS.problem)?;
     for table in TABLES {
-        answers(&rt, &request, table, FOURS.answer)?;
+        reads(&rt, FOURS.problem, Given::Table, table, FOURS.answer)?;
     }
     let second = Given::Tardiness { jobs: 3, index: 2 };
-    let request = asked(&rt, "P2|prmp|Cmax", second)?;
-    answers(&rt, &request, RETURNS, SECOND)?;
+    reads(&rt, "P2|prmp|Cmax", second, RETURNS, SECOND)?;
     let demo = Given::FlowShop {
         name: "demo",
         pair: None,
     };
-    let request = asked(&rt, "P|prmp|Cmax", demo)?;
-    answers(&rt, &request, ONE_MACHINE, ONE_AFTER_ANOTHER)
+    reads(&rt, "P|prmp|Cmax", demo, ONE_MACHINE, ONE_AFTER_ANOTHER)
+}
+
+/// The instance of this form is read, and answered so in version 1.
+fn reads(
+    rt: &HostRuntime,
+    problem: &str,
+    given: Given,
+    text: &[u8],
+    answer: &[u8],
+) -> Result<(), Fail> {
+    let request = asked(rt, problem, given)?;
+    answers(rt, &request, text, answer)
 }
 
 /// The demo with the machines of the second job in another order.
@@ -121,18 +131,31 @@ const ABSENT: [(Given, &[u8], ReadFault); 7] = [
     ),
 ];
 
-/// A reader of one byte a call.
+/// What a run over a reader of one byte a call answers.
+fn outcome_by_bytes(
+    rt: &HostRuntime,
+    given: Given,
+    text: &[u8],
+    sink: &mut Sink,
+) -> Result<Result<(), RunFault>, AllocError> {
+    let request = asked(rt, "1||Lmax", given)?;
+    let mut reader = Counted::new(Source::new(text).by(1));
+    let mut writer = Counted::new(sink);
+    Ok(run_solve(rt.alloc(), &request, &mut reader, &mut writer))
+}
+
+/// The text is refused by this fault, and nothing is written.
+fn refuses(rt: &HostRuntime, given: Given, text: &[u8], fault: ReadFault) -> Result<(), Fail> {
+    let mut sink = Sink::new(rt.alloc());
+    let outcome = outcome_by_bytes(rt, given, text, &mut sink)?;
+    ensure(outcome == Err(RunFault::Text(fault)), "another outcome")?;
+    ensure(sink.calls() == 0, "something was written")
+}
+
 #[test]
 fn an_instance_that_a_file_does_not_have_is_refused(rt: HostRuntime) -> Result<(), Fail> {
     for (given, text, fault) in ABSENT {
-        let request = asked(&rt, "1||Lmax", given)?;
-        let mut reader = Counted::new(Source::new(text).by(1));
-        let mut sink = Sink::new(rt.alloc());
-        let mut writer = Counted::new(&mut sink);
-        let result = run_solve(rt.alloc(), &request, &mut reader, &mut writer);
-        ensure(result == Err(RunFault::Text(fault)), "another outcome")?;
-        drop(writer);
-        ensure(sink.calls() == 0, "something was written")?;
+        refuses(&rt, given, text, fault)?;
     }
     Ok(())
 }
