@@ -3,7 +3,7 @@
 
     python3 bench/fuzz.py PROGRAM SEED COUNT [PROCESSES]
 
-The seeds are the sessions of crates/sessions/data: their command lines and texts. Each case damages one of them, by bytes,
+The seeds are the sessions of crates/test_sessions/data: their command lines and texts. Each case damages one of them, by bytes,
 words, lines and numbers, and is run twice where its command has --explain: without the option and with it. COUNT is the
 number of runs; four processes share them unless PROCESSES says otherwise. A case is made from SEED and its number alone, so
 it can be run again. What is looked for:
@@ -25,7 +25,7 @@ import tempfile
 import xml.etree.ElementTree as ElementTree
 
 HERE = os.path.dirname(os.path.abspath(__file__))
-SESSIONS = os.path.join(HERE, "..", "crates", "sessions", "data", "*.txt")
+SESSIONS = os.path.join(HERE, "..", "crates", "test_sessions", "data", "*.txt")
 LIMIT = 60
 
 STATUSES = {

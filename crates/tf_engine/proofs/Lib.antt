@@ -8,4 +8,3 @@ pub mod AcceptedAlone
 pub mod Devices
 pub mod SheetRead
 pub mod CaseRead
-pub mod Promises

@@ -3,13 +3,13 @@ mod damaged;
 
 use std::alloc::AllocError;
 use std::test::Fail;
+use test_runs::devices::{Failure, Source, Way};
+use test_runs::examples::parallel::FOURS;
+use test_runs::runs::{check_into, request_table};
 use tf_engine::fault::RunFault;
 use tf_engine::run_check::{Checked, run_check};
 use tf_read::fault::ReadFault;
 use tf_text::counted::Counted;
-use trials::devices::{Failure, Source, Way};
-use trials::examples::parallel::FOURS;
-use trials::runs::{check_into, request_table};
 
 /// What a check answers, and what it writes.
 fn check_texts(

@@ -2,6 +2,9 @@
 use refusing::Refusing;
 use std::alloc::Allocator;
 use std::test::Fail;
+use test_runs::devices::{Sink, Source};
+use test_runs::examples::parallel::FOURS;
+use test_runs::runs::{ensure, request_table};
 use tf_engine::fault::RunFault;
 use tf_engine::request::Request;
 use tf_engine::run_check::{Checked, run_check};
@@ -14,9 +17,6 @@ use tf_read::flow_shop::FlowReader;
 use tf_read::job_table::read_table;
 use tf_text::counted::Counted;
 use tf_words::feed::Feed;
-use trials::devices::{Sink, Source};
-use trials::examples::parallel::FOURS;
-use trials::runs::{ensure, request_table};
 
 /// Problems that are refused, with the byte of the fault where it is one of the notation.
 const REFUSED: [(&str, Option<usize>); 11] = [

@@ -2,6 +2,11 @@
 use refusing::Refusing;
 use std::alloc::Global;
 use std::test::Fail;
+use test_runs::devices::{Failure, Sink, Source, Way};
+use test_runs::examples::files::{SECOND_OF_TWO, SHOP, TARDINESS, TWO_OF_THREE};
+use test_runs::examples::parallel::FOURS;
+use test_runs::examples::{Example, Given, WORKED, answer_in};
+use test_runs::runs::{LAYOUTS, ensure, request, request_for};
 use tf_engine::fault::RunFault;
 use tf_engine::request::Request;
 use tf_engine::run_check::{Checked, run_check};
@@ -10,11 +15,6 @@ use tf_engine::run_solve::run_solve;
 use tf_read::fault::ReadFault;
 use tf_text::answer::layout::Layout;
 use tf_text::counted::Counted;
-use trials::devices::{Failure, Sink, Source, Way};
-use trials::examples::files::{SECOND_OF_TWO, SHOP, TARDINESS, TWO_OF_THREE};
-use trials::examples::parallel::FOURS;
-use trials::examples::{Example, Given, WORKED, answer_in};
-use trials::runs::{LAYOUTS, ensure, request, request_for};
 
 fn solve(
     rt: &HostRuntime,

@@ -2,13 +2,13 @@
 use refusing::Refusing;
 use std::alloc::{Allocator, Global};
 use std::test::Fail;
+use test_runs::devices::{Failure, Sink, Source, Way};
+use test_runs::examples::{WORKED, answer_in};
+use test_runs::growths::{Ended, refuse_each_growth};
+use test_runs::runs::{LAYOUTS, ensure};
 use tf_engine::fault::RunFault;
 use tf_picture::run_picture::run_picture;
 use tf_text::counted::Counted;
-use trials::devices::{Failure, Sink, Source, Way};
-use trials::examples::{WORKED, answer_in};
-use trials::growths::{Ended, refuse_each_growth};
-use trials::runs::{LAYOUTS, ensure};
 
 mod texts;
 

@@ -2,20 +2,20 @@
 use refusing::Refusing;
 use std::alloc::{AllocError, Allocator, Global};
 use std::test::Fail;
+use test_runs::devices::{Failure, Sink, Source, Way};
+use test_runs::examples::latest::{BROKEN_OFF, COSTS, DUE_ARC, EQUAL_DUE, TWO_ARCS};
+use test_runs::examples::parallel::{DEALT, FOURS, ONE_LONG, ONES};
+use test_runs::examples::shops::{FLOW, FLOW_ZEROS, OPEN};
+use test_runs::examples::sums::{NO_WEIGHT, RATIOS, SHORTEST};
+use test_runs::examples::{Example, WORKED, answer_in, with_line};
+use test_runs::growths::{Ended, refuse_each_growth};
+use test_runs::runs::{LAYOUTS, ensure, request_for, request_table};
 use tf_engine::fault::RunFault;
 use tf_engine::request::Request;
 use tf_evaluate::evaluation::{Detail, Standing};
 use tf_evaluate::run_evaluate::run_evaluate;
 use tf_text::answer::layout::Layout;
 use tf_text::counted::Counted;
-use trials::devices::{Failure, Sink, Source, Way};
-use trials::examples::latest::{BROKEN_OFF, COSTS, DUE_ARC, EQUAL_DUE, TWO_ARCS};
-use trials::examples::parallel::{DEALT, FOURS, ONE_LONG, ONES};
-use trials::examples::shops::{FLOW, FLOW_ZEROS, OPEN};
-use trials::examples::sums::{NO_WEIGHT, RATIOS, SHORTEST};
-use trials::examples::{Example, WORKED, answer_in, with_line};
-use trials::growths::{Ended, refuse_each_growth};
-use trials::runs::{LAYOUTS, ensure, request_for, request_table};
 
 /// Evaluates an answer text.
 fn evaluate_into<A: Allocator + Copy>(

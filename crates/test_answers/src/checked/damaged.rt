@@ -1,12 +1,12 @@
 //! An answer text with each of its bytes replaced.
 use super::check_texts;
 use std::test::Fail;
+use test_runs::examples::headed;
+use test_runs::examples::parallel::FOURS;
+use test_runs::runs::{LAYOUTS, ensure};
 use tf_check::certificate::Certificate;
 use tf_engine::run_check::Checked;
 use tf_text::answer::reading::read_answer;
-use trials::examples::headed;
-use trials::examples::parallel::FOURS;
-use trials::runs::{LAYOUTS, ensure};
 
 /// Whether the text says the pieces, the value and the certificate for three jobs of 4.
 fn says_the_same(rt: &HostRuntime, text: &[u8]) -> Result<bool, Fail> {

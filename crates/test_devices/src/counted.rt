@@ -1,9 +1,9 @@
 //! Readers and writers that remember a failure.
 use std::test::Fail;
+use test_runs::devices::{Failure, Sink, Source, Way};
+use test_runs::runs::ensure;
 use tf_text::counted::{Counted, Device};
 use tf_text::input::{InputFault, read_all};
-use trials::devices::{Failure, Sink, Source, Way};
-use trials::runs::ensure;
 
 const TEXT: &[u8] = b"answer 1\nproblem P2|prmp|Cmax\n";
 

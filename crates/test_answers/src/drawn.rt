@@ -1,6 +1,6 @@
 //! A chart of as many columns as there may be.
 use std::test::Fail;
-use trials::runs::{draw_into, ensure};
+use test_runs::runs::{draw_into, ensure};
 
 /// The chart of two jobs that share the greatest length, in a thousand columns.
 fn half_and_half(rt: &HostRuntime) -> Result<Vec<u8>, Fail> {

@@ -2,6 +2,9 @@
 use refusing::Refusing;
 use std::alloc::{Allocator, Global};
 use std::test::Fail;
+use test_runs::examples::{Example, Given, WORKED};
+use test_runs::growths::{Ended, refuse_each_growth};
+use test_runs::runs::ensure;
 use tf_check::answer::Answer;
 use tf_check::certificate::Certificate;
 use tf_check::check::{check, check_owned};
@@ -26,9 +29,6 @@ use tf_text::answer::reading::read_answer;
 use tf_text::answer::sheet::Sheet;
 use tf_text::answer::writing::write_answer;
 use tf_text::counted::Counted;
-use trials::examples::{Example, Given, WORKED};
-use trials::growths::{Ended, refuse_each_growth};
-use trials::runs::ensure;
 
 /// What an example lends to a call.
 #[derive(Drop)]

@@ -1,11 +1,11 @@
 //! Random jobs of each class, and files beside tables of the same jobs.
 use crate::drawn::{Drawn, Machines};
 use std::test::Fail;
+use test_runs::examples::Given;
+use test_runs::runs::{LAYOUTS, check_into, draw_into, ensure, request, solve_into};
 use tf_engine::request::Request;
 use tf_engine::run_check::Checked;
 use tf_text::answer::layout::Layout;
-use trials::examples::Given;
-use trials::runs::{LAYOUTS, check_into, draw_into, ensure, request, solve_into};
 
 /// Classes of one machine with as many jobs as there may be.
 const SINGLE: [&str; 9] = [

@@ -1,6 +1,10 @@
 //! Texts of as many bytes as there may be, of one more, and without an end.
 use std::alloc::AllocError;
 use std::test::Fail;
+use test_runs::devices::{Sink, Source};
+use test_runs::examples::Given;
+use test_runs::examples::parallel::FOURS;
+use test_runs::runs::{ensure, request, request_for};
 use tf_engine::fault::RunFault;
 use tf_engine::run_check::run_check;
 use tf_engine::run_gantt::run_gantt;
@@ -9,10 +13,6 @@ use tf_read::fault::ReadFault;
 use tf_text::answer::fault::AnswerFault;
 use tf_text::answer::layout::Layout;
 use tf_text::counted::Counted;
-use trials::devices::{Sink, Source};
-use trials::examples::Given;
-use trials::examples::parallel::FOURS;
-use trials::runs::{ensure, request, request_for};
 
 /// The greatest number of bytes of a text.
 const MOST: usize = 67_108_864;

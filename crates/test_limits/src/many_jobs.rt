@@ -3,12 +3,12 @@ ghost use Rattle.std.specs.Prelude.{◌≤◌};
 
 use std::alloc::AllocError;
 use std::test::Fail;
+use test_runs::examples::Given;
+use test_runs::runs::{ensure, request, solve_into};
 use tf_engine::fault::RunFault;
 use tf_model::prepare::Refusal;
 use tf_read::fault::ReadFault;
 use tf_text::answer::layout::Layout;
-use trials::examples::Given;
-use trials::runs::{ensure, request, solve_into};
 
 /// A table of so many jobs of time 1 which are due at once.
 fn table_of(rt: &HostRuntime, jobs: u32) -> Result<Vec<u8>, AllocError> {

@@ -2,14 +2,14 @@
 use refusing::Refusing;
 use std::alloc::{Allocator, Global};
 use std::test::Fail;
+use test_runs::examples::files::{SHOP, TARDINESS};
+use test_runs::runs::ensure;
 use tf_model::instance::Instance;
 use tf_model::job::{Job, Times};
 use tf_read::fault::ReadFault;
 use tf_read::flow_shop::FlowReader;
 use tf_read::weighted_tardiness::{WtReader, read_wt};
 use tf_words::feed::Feed;
-use trials::examples::files::{SHOP, TARDINESS};
-use trials::runs::ensure;
 
 type Read<A> = Result<Instance<A>, ReadFault>;
 
