@@ -1,6 +1,7 @@
 -- Runs that bound a problem, from what was read on.
 use Rattle.std.proofs.Common.{◌≡◌, ℕ, List, Option, Bool, true, Ok, Err, length, refl, inr}
 use Rattle.std.specs.Io.KnownBytes.{Appends}
+use Rattle.std.proofs.KnownBytes.{Keeps-refl}
 use Rattle.tf_problem.specs.ProblemData.{ProblemData}
 use Rattle.tf_model.specs.declared.prepare.Refusal.TheVariants.{TotalTooLarge}
 use Rattle.tf_text.specs.declared.counted.Counted.{Counted}
@@ -42,12 +43,14 @@ module _ (A T : Type 0) (request : RequestData) (remaining : T → Option (List 
           (stop_of e) h;
     }
 
-    module _ (writer : DeviceUse) where
-      -- nor where memory was wanting
-      pub wanting : IsBoundingOf {A = A} request (use_of remaining old new) writer
-          (Err OutOfMemory)
-      wanting = record { text = had.text; is_all = had.is_all; outcome = tt }
+    -- nor where memory was wanting
+    pub wanting : (held : Option (List ℕ)) (writer : Bool)
+        → IsBoundingOf {A = A} request (use_of remaining old new) (unused held writer)
+        (Err OutOfMemory)
+    wanting held writer =
+        record { text = had.text; is_all = had.is_all; outcome = Keeps-refl held }
 
+    module _ (writer : DeviceUse) where
       module _ (found : Found A) (is : IsFound k found) where
         abbrev out : List ℕ
         out = bound_text k (length k.jobs) found.value found.certificate

@@ -73,8 +73,9 @@ pub record ReadsProblemTask {A T : Type 0} (request : RequestData) (remaining : 
       (λ e. StopsReading (IsRefusedBound request text) (has_failed new ≡ true) (stop_of e))
   pub reader : LeavesInstance (problem_in request.problem) remaining old new (end_of result)
 
--- A bound is written, or the one refusal is given. Where memory was wanting there is neither; where
--- the reader failed nothing was written, and where the writer failed a prefix of the text was.
+-- A bound is written, or the one refusal is given. Where memory was wanting there is neither. Nothing
+-- was written then, nor after a refusal or where the reader failed; where the writer failed a prefix
+-- of the text was.
 abbrev pub BoundingOutcome : {A : Type 0} → RequestData → List ℕ → DeviceUse → DeviceUse
     → Result (Unit {0}) (RunFault A) → Type 0
 BoundingOutcome {A = A} request text reader writer (Ok _) =

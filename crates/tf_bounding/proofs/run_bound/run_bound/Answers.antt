@@ -38,7 +38,7 @@ pub returns-in_err-text-clause-outcome : goal.returns-in_err-text-clause-outcome
 returns-in_err-text-clause-outcome g c =
     err_is (IsBoundingOf c.args.request.now _ _) OutOfMemory _
     c.from_residual-in_err-text.ensures.1
-    (wanting g.row.A.Denot _ c.args.request.now _ _ _ _ c.in_ok-task.ensures _)
+    (wanting g.row.A.Denot _ c.args.request.now _ _ _ _ c.in_ok-task.ensures _ _)
 
 pub returns-in_err-text-clause-devices : goal.returns-in_err-text-clause-devices
 returns-in_err-text-clause-devices g c =
