@@ -1,4 +1,5 @@
 use Rattle.std.proofs.Common.{Err}
+use Rattle.std.proofs.KnownBytes.{Keeps-refl}
 use Rattle.tf_text.specs.Counted.{inner_of}
 use Rattle.tf_engine.specs.declared.fault.RunFault.TheVariants.{OutOfMemory}
 use Rattle.tf_engine.proofs.Unread.{text_for}
@@ -16,7 +17,7 @@ returns-in_default g c =
         is_all = is;
         answer_text = said;
         is_whole_answer = is_said;
-        outcome = tt;
+        outcome = Keeps-refl _;
       };
       ends = c.say_memory.ensures;
     }
