@@ -15,7 +15,7 @@ within k now sound view j place h at row read =
       sound.total,
       term-le-all_jobs k (time_of k) j job,
       ap (λ (d : JobData). d.first + d.second)
-      (subst (λ p. slice_index_or k.jobs p no_job ≡ row) at (read no_job)),
+          (subst (λ p. slice_index_or k.jobs p no_job ≡ row) at (read no_job)),
     )
 
 pub returns-clause-small : goal.returns-clause-small
