@@ -1,5 +1,5 @@
 -- What a run that bounds a problem leaves behind.
-use Rattle.std.specs.Prelude.{◌≡◌, ℕ, ◌⊎◌, true, List, length, Option, Some, Result, Ok, Err, MatchResult, if◌then◌else◌}
+use Rattle.std.specs.Prelude.{◌≡◌, ℕ, ◌⊎◌, true, List, length, Option, Result, Ok, Err, MatchResult, if◌then◌else◌}
 use Rattle.std.specs.Io.KnownBytes.{Appends}
 use Rattle.tf_model.specs.Outcome.{◌>>=◌}
 use Rattle.tf_model.specs.declared.problem.Problem.{Problem}

@@ -3,7 +3,7 @@ use Rattle.std.specs.Io.KnownBytes.{Appends}
 use Rattle.tf_text.specs.Counted.{inner_of, AppendsPrefix}
 use Rattle.tf_engine.specs.declared.fault.RunFault.TheVariants.{Device, OutOfMemory}
 use Rattle.tf_engine.specs.Devices.{LeavesRun}
-use Rattle.tf_engine.specs.Faults.{Fails, Wants, stop_of}
+use Rattle.tf_engine.specs.Faults.{Wants, stop_of}
 use Rattle.tf_engine.proofs.Devices.{instance_sound, instance_later, stopped, cut, wrote}
 use Rattle.tf_engine.proofs.Unread.{err_is, err_ends}
 use Rattle.tf_bounding.specs.RunBounding.{IsBoundingOf}
