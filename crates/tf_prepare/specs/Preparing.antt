@@ -6,7 +6,7 @@ use Rattle.tf_model.specs.Limit.{most_machines}
 use Rattle.tf_model.specs.Outcome.{◌>>=◌, unless}
 use Rattle.tf_model.specs.Whole.{as_time}
 use Rattle.tf_model.specs.JobFields.{JobFields}
-use Rattle.tf_model.specs.InstanceData.{InstanceData, any_time, first_with}
+use Rattle.tf_model.specs.InstanceData.{InstanceData, first_with}
 use Rattle.tf_model.specs.ClassTable.{is_single_env, is_shop_env}
 use Rattle.tf_model.specs.Prepare.{agreed, given, has_two, first_time, second_time}
 use Rattle.tf_model.specs.declared.problem.Problem.{Problem}

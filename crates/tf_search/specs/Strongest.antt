@@ -1,5 +1,4 @@
 -- What is known of a bound that a search found.
-use Rattle.std.specs.Prelude.{ℕ}
 use Rattle.tf_problem.specs.ProblemData.{ProblemData}
 use Rattle.tf_problem.specs.ProblemCost.{IsLowerBound}
 use Rattle.tf_bound.specs.Certified.{IsBoundBy}
