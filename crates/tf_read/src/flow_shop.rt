@@ -53,7 +53,8 @@ impl<'a, A: Allocator + Copy> FlowReader<'a, A> {
     pub fn into_numbers(self) -> Result<InstanceNumbers<A>, ReadFault>
         ensures given { (says : TextSays) (fed : List ℕ) → HasFedShop self.entry says fed →
             Gives (λ i. i) result (says fed) }
-        // Memory is wanting only where the heading and the sizes are over and are no fault.
+        // Memory is wanting only where the text says what some pairs of times say, or ends early:
+        // there is a heading, and its sizes are no fault.
         ensures sized { (says : TextSays) (fed : List ℕ) → HasFedShop self.entry says fed →
             result ≡ Err ReadFault.OutOfMemory → IsOfPairs (says fed) }
         // A text that is too long comes before a growth that was refused.
