@@ -184,27 +184,23 @@ fn what_is_printed_is_best(rt: HostRuntime) -> Result<(), Fail> {
         for layout in LAYOUTS {
             let request = request_for(&rt, example, Layout::One)?;
             let answer = answer_in(&rt, example, layout)?;
+            let mut out = Vec::new(rt.alloc());
+            let result = evaluate_into(
+                rt.alloc(),
+                &request,
+                Detail::Summary,
+                example.instance,
+                &answer,
+                &mut out,
+            );
+            ensure(result == Ok(Standing::Best), example.name)?;
             ensure(
-                is_best(&rt, &request, example.instance, &answer),
+                has_line(&out, b"fits") && has_line(&out, b"gap 0"),
                 example.name,
             )?;
         }
     }
     Ok(())
-}
-
-/// The answer is evaluated as best.
-fn is_best(rt: &HostRuntime, request: &Request, instance: &[u8], answer: &[u8]) -> bool {
-    let mut out = Vec::new(rt.alloc());
-    let result = evaluate_into(
-        rt.alloc(),
-        request,
-        Detail::Summary,
-        instance,
-        answer,
-        &mut out,
-    );
-    result == Ok(Standing::Best) && has_line(&out, b"fits") && has_line(&out, b"gap 0")
 }
 
 /// An evaluation: how good the answer is, and what is written.
@@ -214,58 +210,49 @@ struct Evaluated {
     written: Vec<u8>,
 }
 
-/// What is evaluated: an answer to a case, under a request, in this detail.
-#[derive(Clone, Copy)]
-struct Asked<'a> {
-    request: &'a Request,
+fn evaluate(
+    rt: &HostRuntime,
+    request: &Request,
     detail: Detail,
-    case: &'a Case,
-    answer: &'a [u8],
+    case: &Case,
+    answer: &[u8],
+) -> Result<Evaluated, Fail> {
+    let mut written = Vec::new(rt.alloc());
+    let instance = case.example.instance;
+    match evaluate_into(rt.alloc(), request, detail, instance, answer, &mut written) {
+        Ok(standing) => Ok(Evaluated { standing, written }),
+        Err(_) => Err(Fail::new(case.example.name)),
+    }
 }
 
-impl Asked<'_> {
-    fn evaluate_into<A: Allocator + Copy>(
-        &self,
-        alloc: A,
-        out: &mut Vec<u8>,
-    ) -> Result<Standing, RunFault<A>> {
-        let instance = self.case.example.instance;
-        evaluate_into(alloc, self.request, self.detail, instance, self.answer, out)
-    }
-
-    fn name(&self) -> &'static str {
-        self.case.example.name
-    }
-
-    fn evaluate(&self, rt: &HostRuntime) -> Result<Evaluated, Fail> {
-        let mut written = Vec::new(rt.alloc());
-        match self.evaluate_into(rt.alloc(), &mut written) {
-            Ok(standing) => Ok(Evaluated { standing, written }),
-            Err(_) => Err(Fail::new(self.name())),
+fn evaluates_on(
+    rt: &HostRuntime,
+    heap: &Refusing<Global>,
+    request: &Request,
+    detail: Detail,
+    case: &Case,
+    answer: &[u8],
+    wanted: &Evaluated,
+) -> Result<Ended, Fail> {
+    let mut out = Vec::with_capacity(rt.alloc(), 2_000)?;
+    match evaluate_into(
+        heap,
+        request,
+        detail,
+        case.example.instance,
+        answer,
+        &mut out,
+    ) {
+        Ok(standing) => {
+            ensure(standing == wanted.standing, case.example.name)?;
+            ensure(out == wanted.written, case.example.name)?;
+            Ok(Ended::Answered)
         }
-    }
-
-    fn evaluates_on(
-        &self,
-        rt: &HostRuntime,
-        heap: &Refusing<Global>,
-        wanted: &Evaluated,
-    ) -> Result<Ended, Fail> {
-        let mut out = Vec::with_capacity(rt.alloc(), 2_000)?;
-        match self.evaluate_into(heap, &mut out) {
-            Ok(standing) if standing == wanted.standing && out == wanted.written => {
-                Ok(Ended::Answered)
-            }
-            Err(RunFault::OutOfMemory) if out.is_empty() => Ok(Ended::OutOfMemory),
-            _ => Err(Fail::new(self.name())),
+        Err(RunFault::OutOfMemory) => {
+            ensure(out.is_empty(), case.example.name)?;
+            Ok(Ended::OutOfMemory)
         }
-    }
-
-    /// The same is evaluated whatever growth is refused.
-    fn is_evaluated_alike(&self, rt: &HostRuntime) -> Result<(), Fail> {
-        let wanted = self.evaluate(rt)?;
-        let call = |heap: &Refusing<Global>| self.evaluates_on(rt, heap, &wanted);
-        ensure(refuse_each_growth(rt, call)? > 3, self.name())
+        Err(_) => Err(Fail::new(case.example.name)),
     }
 }
 
@@ -275,13 +262,11 @@ fn each_case_is_evaluated_alike_whatever_growth_is_refused(rt: HostRuntime) -> R
         let request = request_for(&rt, &case.example, Layout::One)?;
         let answer = answer_of(&rt, case)?;
         for detail in [Detail::Summary, Detail::WithArithmetic] {
-            let asked = Asked {
-                request: &request,
-                detail,
-                case,
-                answer: &answer,
-            };
-            asked.is_evaluated_alike(&rt)?;
+            let wanted = evaluate(&rt, &request, detail, case, &answer)?;
+            let call = |heap: &Refusing<Global>| evaluates_on(
+                &rt, heap, &request, detail, case, &answer, &wanted,
+            );
+            ensure(refuse_each_growth(&rt, call)? > 3, case.example.name)?;
         }
     }
     Ok(())
