@@ -1,7 +1,5 @@
 //! Faults, and the line and the exit status that each gets.
 use std::alloc::AllocError;
-use std::io;
-use std::io::Write;
 use std::test::Fail;
 use tf_command::report::report;
 use tf_engine::fault::RunFault;
@@ -102,39 +100,4 @@ fn a_writer_without_room_gets_a_prefix(rt: HostRuntime) -> Result<(), Fail> {
     is_cut_short(&line, 2, b"threefield: refused: BadLine 2\n")?;
     is_cut_short(&RunFault::OutOfMemory, 3, b"threefield: want of memory\n")?;
     is_cut_short(&RunFault::Device, 4, b"threefield: device fault\n")
-}
-
-/// A writer that counts its calls.
-#[derive(Drop)]
-struct Calls {
-    made: usize,
-}
-
-impl Write for Calls {
-    fn write(&mut self, buf: &[u8]) -> io::Result<usize> {
-        self.made = self.made.saturating_add(1);
-        Ok(buf.len())
-    }
-
-    fn flush(&mut self) -> io::Result<()> {
-        Ok(())
-    }
-}
-
-/// So lines of programs that run side by side do not mix in a log.
-#[test]
-fn one_call_writes_a_line(rt: HostRuntime) -> Result<(), Fail> {
-    let jobs = vec![in rt.alloc(); JobId::at(2), JobId::at(11)]?;
-    let faults = [
-        RunFault::Cycle(JobList::new(jobs)),
-        RunFault::Text(ReadFault::BadLine(2)),
-        RunFault::Answer(AnswerFault::NumberTooLarge(7)),
-        RunFault::OutOfMemory,
-    ];
-    for fault in &faults {
-        let mut writer = Counted::new(Calls { made: 0 });
-        report(fault, &mut writer);
-        assert_eq!(rt; writer.inner().made, 1);
-    }
-    Ok(())
 }
