@@ -261,6 +261,14 @@ impl<A: Allocator> ProblemTask<A> {
         self.jobs.len()
     }
 
+    /// The arcs: of each, the first job is over before the second starts.
+    pub fn arcs(&self) -> &[(JobId, JobId)]
+        ensures value { result.now ≡ self.now.arcs }
+        ensures sized { IsSized self.now }
+    {
+        &self.arcs
+    }
+
     /// What is known of a job that is there.
     pub fn job(&self, job: JobId) -> &ProblemJob<A>
         requires { IsProblemJob self.now job }

@@ -133,7 +133,7 @@ pub fn price<A: Allocator>(task: &Task<A>, job: JobId, c: i64) -> i128
 // ---- the weighted sum of the completions
 
 // How many jobs are summed up in one walk over the pieces.
-const BLOCK: usize = 16_384;
+const BLOCK: usize = 4_096;
 
 fn total_cost<A: Allocator>(task: &Task<A>, pieces: &[Piece]) -> i128
     requires task { IsSound task.now }
@@ -199,7 +199,7 @@ fn with_block<A: Allocator>(
     requires class { IsTrue (is_sum task.now.class) }
     requires sound { All IsPiece pieces.now }
     requires first { first ≤ length task.now.jobs }
-    requires few { length stops.now ≤ 16384 }
+    requires few { length stops.now ≤ 4096 }
     requires stops { HasStops (known_pieces task.now pieces.now) first stops.now }
     requires total { total ≡ total_to task.now (known_pieces task.now pieces.now) first }
     ensures { result

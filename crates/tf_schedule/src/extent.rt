@@ -9,7 +9,7 @@ use tf_model::limit::LIMIT;
 
 /// What the pieces of a job on a lane come to.
 #[derive(Clone, Copy)]
-pub(crate) struct Extent {
+pub struct Extent {
     /// In time steps; `u64::MAX` where it is more.
     pub work: u64,
     /// The first start and the last stop: `LIMIT` and 0 where the job has no piece.
@@ -54,7 +54,7 @@ impl Extent {
     }
 
     /// Whether the job works without a gap, and on one machine.
-    pub(crate) fn is_solid(self) -> bool
+    pub fn is_solid(self) -> bool
         ensures { IsTrue result ↔ IsSolid self }
     {
         self.stop.saturating_sub(self.start) == self.work && self.highest <= self.lowest

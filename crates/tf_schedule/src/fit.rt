@@ -227,8 +227,8 @@ fn first_unmet<A: Allocator, B: Allocator>(
     None
 }
 
-// The first arc whose first job is not over before the second starts.
-fn first_out_of_order<A: Allocator>(
+/// The first arc whose first job is not over before the second starts.
+pub fn first_out_of_order<A: Allocator>(
     arcs: &[(JobId, JobId)],
     lanes: &Lanes<A>,
 ) -> Option<(JobId, JobId)>
@@ -243,9 +243,9 @@ fn first_out_of_order<A: Allocator>(
     None
 }
 
-// A piece at whose start its job runs in two places: the smallest such job, and its first such
-// time. There is none where the pieces of each job are apart.
-fn first_in_two_places<A: Allocator>(
+/// A piece at whose start its job runs in two places: the smallest such job, and its first such
+/// time. There is none where the pieces of each job are apart.
+pub fn first_in_two_places<A: Allocator>(
     alloc: A,
     pieces: &[Piece],
     are_apart: bool,

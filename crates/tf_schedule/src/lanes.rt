@@ -69,7 +69,7 @@ impl<A: Allocator> Lanes<A> {
     }
 
     /// The extent of a job on the first lane.
-    pub(crate) fn first(&self, job: JobId) -> Extent
+    pub fn first(&self, job: JobId) -> Extent
         ensures { result ≡ extent_at self.now.first job }
     {
         extent_at(&self.first, job)
@@ -132,7 +132,7 @@ fn empty_lanes<A: Allocator + Copy>(
 
 /// When and where each of the jobs works, and whether each piece lies before or after all earlier
 /// ones of its job: then no job runs in two places. Pieces of other jobs are left out.
-pub(crate) fn lanes_of<A: Allocator + Copy>(
+pub fn lanes_of<A: Allocator + Copy>(
     alloc: A,
     jobs: usize,
     is_shop: bool,

@@ -2,7 +2,7 @@
 #![tactic(auto)]
 
 pub mod cost;
-mod extent;
+pub mod extent;
 pub mod fit;
 pub mod judge;
 pub mod lanes;

@@ -17,7 +17,7 @@ use thiserror::Error;
 const CHUNK: usize = 4096;
 
 /// One that is kept, by so many.
-const LARGE_CHUNK: usize = 65_536;
+const LARGE_CHUNK: usize = 16_384;
 
 /// Why a text was not read.
 #[derive(Clone, Copy, Debug, PartialEq, Eq, Error)]

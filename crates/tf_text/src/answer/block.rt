@@ -9,7 +9,7 @@ use crate::counted::{Counted, Device};
 use std::io::Write;
 use tf_schedule::piece::Piece;
 
-const BLOCK: usize = 65_536;
+const BLOCK: usize = 16_384;
 
 // So many pieces have room in a block.
 const MANY: usize = BLOCK / ROOM;

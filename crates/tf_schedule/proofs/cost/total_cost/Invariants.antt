@@ -6,7 +6,7 @@ use Rattle.tf_schedule.proofs.cost.total_cost.Given as goal
 abbrev pub invariant-loop-first : goal.invariant-loop-first
 invariant-loop-first g l = record {
   sum : l.total ≡ total_to l.task (known_pieces l.task l.pieces) (min (length l.task.jobs) l.first);
-  near : l.first ≤ length l.task.jobs + 16384;
+  near : l.first ≤ length l.task.jobs + 4096;
 }
 
 abbrev pub decreases-loop-first : goal.decreases-loop-first

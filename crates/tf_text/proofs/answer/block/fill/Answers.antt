@@ -6,7 +6,7 @@ use Rattle.tf_text.proofs.answer.block.fill.Goals as goal
 pub loop-piece-init : goal.loop-piece-init
 loop-piece-init c =
     let pieces = c.args.pieces.now in
-    let long : length c.args.block.now ≤ 65536 = omega (arith, c.told-block) in
+    let long : length c.args.block.now ≤ 16384 = omega (arith, c.told-block) in
     record {
       within = omega arith;
       room = omega (arith, c.requires);

@@ -9,10 +9,10 @@ pub returns-in_err-push_all-clause-prefix : goal.returns-in_err-push_all-clause-
 returns-in_err-push_all-clause-prefix g c =
     let (done, parts, written) = c.loop-rest.invariant.written in
     let cut = c.split_at.ensures in
-    let long : length c.fill-from.new.block ≡ 65536 = omega (arith, c.fill-from.array_long) in
+    let long : length c.fill-from.new.block ≡ 16384 = omega (arith, c.fill-from.array_long) in
     let bytes = subst (AppendsPrefix (g.W.Write.contents (inner_of c.loop-rest.writer))
     (g.W.Write.contents (inner_of c.push_all.new.self)))
-    (end_text c.fill-from.new.block _ 65536 c.fill-from.result long c.fill-from.ensures.lines)
+    (end_text c.fill-from.new.block _ 16384 c.fill-from.result long c.fill-from.ensures.lines)
     c.in_err-push_all.ensures.prefix in
     on_err _ (block_prefix _ _ _ c.args.pieces.now done _ _
     (cut_rest _ _ _ _ _ _ parts cut.front cut.back) written bytes)
@@ -21,10 +21,10 @@ pub loop-rest-preserved : goal.loop-rest-preserved
 loop-rest-preserved g c =
     let (done, parts, written) = c.loop-rest.invariant.written in
     let cut = c.split_at.ensures in
-    let long : length c.fill-from.new.block ≡ 65536 = omega (arith, c.fill-from.array_long) in
+    let long : length c.fill-from.new.block ≡ 16384 = omega (arith, c.fill-from.array_long) in
     let bytes = subst (Appends (g.W.Write.contents (inner_of c.loop-rest.writer))
     (g.W.Write.contents (inner_of c.push_all.new.self)))
-    (end_text c.fill-from.new.block _ 65536 c.fill-from.result long c.fill-from.ensures.lines)
+    (end_text c.fill-from.new.block _ 16384 c.fill-from.result long c.fill-from.ensures.lines)
     c.in_ok-push_all.ensures.written in
     record {
       written = (
