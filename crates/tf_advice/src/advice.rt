@@ -1,5 +1,9 @@
 //! Causes of faults in job tables, each with what is wrong and how to mend it.
 
+/// What may have happened where one kind of text stands in the place of another.
+pub const EXCHANGED: &str =
+    "A command that takes both takes INPUT first and ANSWER second: perhaps they are exchanged.";
+
 /// What a person may have done.
 #[derive(Clone, Copy, Debug, PartialEq, Eq)]
 pub enum Cause {
@@ -7,6 +11,7 @@ pub enum Cause {
     IsAnswer,
     IsFlowShop,
     IsNumbers,
+    IsSpreadsheet,
     NoHeading,
     OtherHeading,
     HeadingAgain,
@@ -71,7 +76,7 @@ impl Place {
                 "A job line is \"job K p=T\" with any of w= d= r= h=, and K counts up from 1."
             }
             Place::Arc => {
-                "An arc is \"prec A B\", behind the last job: job A is over before job B starts."
+                "An arc is \"prec A B\", after the last job: job A is completed before job B starts."
             }
         }
     }
@@ -98,7 +103,7 @@ impl Cause {
 }
 
 /// All advice, in the order of the causes.
-pub static ADVICE: [Advice; 41] = [
+pub static ADVICE: [Advice; 42] = [
     Advice {
         cause: Cause::ByteOrderMark,
         place: Place::Heading,
@@ -109,7 +114,7 @@ pub static ADVICE: [Advice; 41] = [
         cause: Cause::IsAnswer,
         place: Place::Heading,
         wrong: "This is an answer text, and an instance is wanted here.",
-        mend: "\"check\" takes INPUT first and ANSWER second; perhaps they are exchanged.",
+        mend: EXCHANGED,
     },
     Advice {
         cause: Cause::IsFlowShop,
@@ -122,6 +127,12 @@ pub static ADVICE: [Advice; 41] = [
         place: Place::Heading,
         wrong: "This looks like a weighted tardiness file of OR-Library: it begins with a number.",
         mend: "Add --format wt --jobs N, with the number of jobs of one instance.",
+    },
+    Advice {
+        cause: Cause::IsSpreadsheet,
+        place: Place::Heading,
+        wrong: "This looks like a file of a spreadsheet, and not like a job table.",
+        mend: "Below a line \"table 1\" write a line such as \"job 1 p=3 d=4\" for each of its rows.",
     },
     Advice {
         cause: Cause::NoHeading,
@@ -138,7 +149,7 @@ pub static ADVICE: [Advice; 41] = [
     Advice {
         cause: Cause::HeadingAgain,
         place: Place::Line,
-        wrong: "The heading stands here again.",
+        wrong: "The heading is repeated here.",
         mend: "A file holds one table: leave this line out.",
     },
     Advice {
@@ -174,14 +185,14 @@ pub static ADVICE: [Advice; 41] = [
     Advice {
         cause: Cause::JobOneWord,
         place: Place::Job,
-        wrong: "There is no blank between \"job\" and its number.",
+        wrong: "There is no space between \"job\" and its number.",
         mend: "Write two words, as in \"job 1\".",
     },
     Advice {
         cause: Cause::UnknownLine,
         place: Place::Line,
         wrong: "No line of a job table begins with this word.",
-        mend: "Put \"#\" before it if it is a remark.",
+        mend: "Put \"#\" before it if it is a comment.",
     },
     Advice {
         cause: Cause::NoJobNumber,
@@ -210,19 +221,19 @@ pub static ADVICE: [Advice; 41] = [
     Advice {
         cause: Cause::JobAfterArc,
         place: Place::Arc,
-        wrong: "This job stands behind an arc.",
-        mend: "Move all lines \"prec\" behind the last job.",
+        wrong: "This job comes after a precedence constraint.",
+        mend: "Move all lines \"prec\" after the last job.",
     },
     Advice {
         cause: Cause::BlankInField,
         place: Place::Job,
-        wrong: "There is a blank next to a \"=\" or a \",\", so one field is two words or more.",
+        wrong: "There is a space next to a \"=\" or a \",\", so one field is two words or more.",
         mend: "Write each field as one word, as in p=3 or p=3,4.",
     },
     Advice {
         cause: Cause::Remark,
         place: Place::Job,
-        wrong: "A remark may not stand behind a job.",
+        wrong: "A comment cannot follow a job on its line.",
         mend: "Give the remark a line of its own, with \"#\" first.",
     },
     Advice {
@@ -235,18 +246,18 @@ pub static ADVICE: [Advice; 41] = [
         cause: Cause::LongName,
         place: Place::Job,
         wrong: "A field is named by one lower case letter.",
-        mend: "p= is the time, w= the weight, d= the due date, r= the release date, h= the cost.",
+        mend: "p= is the processing time, w= the weight, d= the due date, r= the release date, h= the cost.",
     },
     Advice {
         cause: Cause::UnknownField,
         place: Place::Job,
         wrong: "There is no such field.",
-        mend: "p= is the time, w= the weight, d= the due date, r= the release date, h= the cost.",
+        mend: "p= is the processing time, w= the weight, d= the due date, r= the release date, h= the cost.",
     },
     Advice {
         cause: Cause::FieldTwice,
         place: Place::Job,
-        wrong: "This field stands twice in its line.",
+        wrong: "This field occurs twice in its line.",
         mend: "Leave one of them out.",
     },
     Advice {
@@ -288,7 +299,7 @@ pub static ADVICE: [Advice; 41] = [
     Advice {
         cause: Cause::Unit,
         place: Place::Job,
-        wrong: "A number has no unit behind it.",
+        wrong: "A number has no unit.",
         mend: "Write digits alone; all times are in one unit of your choice.",
     },
     Advice {
@@ -330,19 +341,19 @@ pub static ADVICE: [Advice; 41] = [
     Advice {
         cause: Cause::ArcBeforeJobs,
         place: Place::Arc,
-        wrong: "This arc stands before the first job.",
-        mend: "Move all lines \"prec\" behind the last job.",
+        wrong: "This precedence constraint comes before the first job.",
+        mend: "Move all lines \"prec\" after the last job.",
     },
     Advice {
         cause: Cause::ArcForm,
         place: Place::Arc,
-        wrong: "An arc has two numbers of jobs, and this line has others.",
-        mend: "Write one line for each arc, as in \"prec 1 3\".",
+        wrong: "A precedence constraint has two numbers of jobs, and this line has others.",
+        mend: "Write one line for each precedence constraint, as in \"prec 1 3\".",
     },
     Advice {
         cause: Cause::ArcStranger,
         place: Place::Arc,
-        wrong: "The arc names a job that the table does not have.",
+        wrong: "The precedence constraint names a job that the table does not have.",
         mend: "Correct the number, or add the job's line.",
     },
 ];

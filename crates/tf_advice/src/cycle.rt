@@ -25,9 +25,9 @@ pub fn explain_cycle(
 ) -> Result<(), AllocError> {
     let is_one = jobs.len() == 1;
     page.say(if is_one {
-        "This arc leads from a job to itself, so the job can never start:"
+        "This precedence constraint makes a job wait for itself, so it can never start:"
     } else {
-        "These arcs lead in a circle, so none of their jobs can be the first:"
+        "These precedence constraints form a cycle, so none of their jobs can start:"
     })?;
     let mut arcs = first_arcs(page.alloc, jobs)?;
     find_lines(source, &mut arcs);
@@ -37,9 +37,9 @@ pub fn explain_cycle(
         }
     }
     page.say(if is_one {
-        "Take it out."
+        "Delete it."
     } else {
-        "Take one of them out."
+        "Delete one of them."
     })
 }
 

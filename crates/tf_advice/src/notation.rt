@@ -3,7 +3,7 @@ use crate::page::Page;
 use crate::solved::{CLASSES, push_class};
 use std::alloc::{AllocError, Global};
 use strsim::osa_distance;
-use tf_model::problem::{Env, Problem};
+use tf_model::problem::{Env, Goal, Problem};
 use tf_notation::reading::read;
 
 /// What a field may say.
@@ -27,6 +27,82 @@ static OBJECTIVES: [&str; 9] = [
 static ENVIRONMENTS: [&str; 7] = ["1", "P", "Q", "R", "F", "O", "J"];
 
 static NOTHING: [&str; 0] = [];
+
+/// A word of the literature that is not read, and what to write for it.
+#[derive(Clone, Copy)]
+struct Hint {
+    word: &'static str,
+    advice: &'static str,
+}
+
+const PREC: &str = "Chains and trees are precedence constraints: write \"prec\".";
+
+const WEIGHTED: &str = "Write 1||hmax, and the weighted lateness of each job as its cost h=.";
+
+const EQUAL_TIMES: &str = "Equal processing times are no condition: give each job the same p=.";
+
+const DEADLINES: &str = "Due dates are no condition: give each job its d=.";
+
+const SETUPS: &str = "Setup times are not read.";
+
+static HINTS: [Hint; 14] = [
+    Hint {
+        word: "Tmax",
+        advice: "Tmax is 0 or Lmax, whichever is greater: a schedule with minimum Lmax minimizes it.",
+    },
+    Hint {
+        word: "wLmax",
+        advice: WEIGHTED,
+    },
+    Hint {
+        word: "wTmax",
+        advice: WEIGHTED,
+    },
+    Hint {
+        word: "p_j",
+        advice: EQUAL_TIMES,
+    },
+    Hint {
+        word: "pj",
+        advice: EQUAL_TIMES,
+    },
+    Hint {
+        word: "d_j",
+        advice: DEADLINES,
+    },
+    Hint {
+        word: "dj",
+        advice: DEADLINES,
+    },
+    Hint {
+        word: "s_jk",
+        advice: SETUPS,
+    },
+    Hint {
+        word: "sjk",
+        advice: SETUPS,
+    },
+    Hint {
+        word: "tree",
+        advice: PREC,
+    },
+    Hint {
+        word: "intree",
+        advice: PREC,
+    },
+    Hint {
+        word: "outtree",
+        advice: PREC,
+    },
+    Hint {
+        word: "chain",
+        advice: PREC,
+    },
+    Hint {
+        word: "chains",
+        advice: PREC,
+    },
+];
 
 /// The most edits by which a word is taken for another.
 const MOST_EDITS: usize = 2;
@@ -53,16 +129,17 @@ impl Expected {
     fn allows(self) -> &'static str {
         match self {
             Expected::Environment => {
-                "Here stands the environment: 1, P, Q, R, F, O or J, as in P or P2."
+                "The environment is expected here: 1, P, Q, R, F, O or J, as in P or P2."
             }
-            Expected::Bar => "Here stands \"|\": a notation is ENVIRONMENT|CONDITIONS|OBJECTIVE.",
+            Expected::Bar =>
+                "\"|\" is expected here: a notation is ENVIRONMENT|CONDITIONS|OBJECTIVE.",
             Expected::Condition => {
-                "Here stand conditions, as rj, prec, prmp, with commas between them."
+                "Conditions are expected here, such as rj,prec,prmp, separated by commas."
             }
             Expected::Objective => {
-                "Here stands the objective, such as Cmax, Lmax, hmax, sumC or sumwC."
+                "The objective is expected here, such as Cmax, Lmax, hmax, sumC or sumwC."
             }
-            Expected::End => "Here the notation is over: nothing stands behind the objective.",
+            Expected::End => "Nothing may follow the objective.",
         }
     }
 
@@ -90,7 +167,10 @@ pub fn explain_notation(
     page.mark(text, byte, word.len())?;
     let expected = Expected::at(text, byte);
     page.say(expected.allows())?;
-    say_nearest(alloc, page, expected, word)?;
+    match hint_for(text, byte, word) {
+        Some(advice) => page.say(advice)?,
+        None => say_nearest(alloc, page, expected, word)?,
+    }
     if text.contains(&b'/') {
         page.say("Fields are divided by \"|\" and not by \"/\", as in \"1||Lmax\".")?;
     }
@@ -100,9 +180,29 @@ pub fn explain_notation(
     Ok(())
 }
 
-/// The word at which the text goes on from that byte.
+// What to write for a sign or a word that the literature uses and that is not read.
+fn hint_for(text: &[u8], byte: usize, word: &[u8]) -> Option<&'static str> {
+    let rest = text.get(byte..).unwrap_or(&[]);
+    if rest.starts_with("Σ".as_bytes()) || rest.starts_with("∑".as_bytes()) {
+        return Some("Write \"sum\" for the sign, as in sumC or sumwC.");
+    }
+    if rest.first().is_some_and(|byte| *byte >= 128) {
+        return Some("Write ASCII characters only, with plain spaces and quotes.");
+    }
+    if text.contains(&b'\\') || text.contains(&b'{') {
+        return Some("LaTeX is not read: write Cmax, Lmax, sumC or sumwC.");
+    }
+    let hint = HINTS.iter().find(|hint| hint.word.as_bytes() == word)?;
+    Some(hint.advice)
+}
+
+/// The word at which the text goes on from that byte, or the bytes there that are no ASCII.
 fn word_at(text: &[u8], byte: usize) -> &[u8] {
     let rest = text.get(byte..).unwrap_or(&[]);
+    let signs = rest.iter().take_while(|byte| **byte >= 128).count();
+    if signs > 0 {
+        return rest.get(..signs).unwrap_or(&[]);
+    }
     rest.split(|byte| !byte.is_ascii_alphanumeric() && *byte != b'_')
         .next()
         .unwrap_or(&[])
@@ -145,7 +245,7 @@ fn say_nearest(
     match expected.words().get(place) {
         None => Ok(()),
         Some(known) if *known == word => {
-            writeln!(page.text, "\"{known}\" stands here for the second time.")
+            writeln!(page.text, "\"{known}\" occurs here a second time.")
         }
         Some(known) if edits == 0 => {
             writeln!(
@@ -189,7 +289,12 @@ fn reason_of(asked: &Problem) -> Option<&'static str> {
     }
     match asked.env {
         Env::JobShop => Some("Job shops are not solved."),
-        Env::Uniform | Env::Unrelated => Some("Machines in parallel are solved if all are alike."),
+        Env::Uniform | Env::Unrelated => {
+            Some("Parallel machines are solved only if they are identical.")
+        }
+        Env::Parallel if asked.goal == Goal::Cmax && !asked.prmp => Some(
+            "Without preemption this is NP-hard. The value of P|prmp|Cmax is a lower bound on it.",
+        ),
         _ if asked.release && !asked.prmp => {
             Some("Release dates are solved on one machine with preemption, as 1|rj,prmp|Lmax.")
         }

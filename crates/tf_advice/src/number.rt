@@ -25,13 +25,13 @@ fn cause_of_no_number(word: &[u8]) -> Cause {
         Cause::BlankInField
     } else if word.starts_with(b"+") {
         Cause::PlusSign
-    } else if is_among(word, b".") {
+    } else if is_among(word, b".") && word.iter().filter(|byte| **byte == b'.').count() == 1 {
         Cause::DecimalPoint
     } else if is_among(word, b",") {
         Cause::DecimalComma
     } else if is_among(word, b"'_") {
         Cause::Thousands
-    } else if begins_with_digit(word) {
+    } else if has_unit(word) {
         Cause::Unit
     } else {
         Cause::NotANumber
@@ -45,6 +45,14 @@ fn is_among(word: &[u8], marks: &[u8]) -> bool {
         && word.iter().all(|byte| byte.is_ascii_digit() || *byte == b'-' || marks.contains(byte))
 }
 
-fn begins_with_digit(word: &[u8]) -> bool {
-    word.first().is_some_and(|byte| byte.is_ascii_digit())
+// Whether the word is digits and then letters.
+fn has_unit(word: &[u8]) -> bool {
+    match word.iter().position(|byte| !byte.is_ascii_digit()) {
+        Some(digits) if digits > 0 => {
+            word.iter()
+                .skip(digits)
+                .all(|byte| byte.is_ascii_alphabetic())
+        }
+        _ => false,
+    }
 }

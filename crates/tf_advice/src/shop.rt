@@ -38,7 +38,7 @@ pub fn explain_shop(
         }
         ReadFault::BadNumber(line) | ReadFault::NumberTooLarge(line) => {
             page.quote_number(source, line as usize)?;
-            page.say("Behind the sizes stand whole numbers alone: machine and time in turn.")
+            page.say("After the sizes come whole numbers only: machine and time in turn.")
         }
         ReadFault::Negative(line) => {
             page.quote_number(source, line as usize)?;

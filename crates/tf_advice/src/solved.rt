@@ -30,7 +30,7 @@ pub static CLASSES: [Class; 19] = [
 ];
 
 /// What the columns of the list are.
-const HEADING: &str = "PROBLEM          NEEDS        WHAT IS LEAST, AND WHERE\n";
+const HEADING: &str = "PROBLEM          NEEDS        OBJECTIVE, MACHINES\n";
 
 /// The notation of a class.
 fn notation_of(alloc: Global, class: Class) -> Result<String, AllocError> {
@@ -72,9 +72,9 @@ fn meaning_of(class: Class) -> &'static str {
     } else if class.is_sum() {
         "sum of completion times"
     } else if class.is_due() {
-        "greatest lateness"
+        "maximum lateness"
     } else if class.is_costed() {
-        "greatest cost"
+        "maximum cost"
     } else {
         "makespan"
     }

@@ -130,7 +130,9 @@ impl<'a> Judge<'a> {
         let cause = cause_of_heading(first.bytes);
         self.slip(line, Some(first), cause)?;
         match cause {
-            Cause::IsAnswer | Cause::IsFlowShop | Cause::IsNumbers => self.stage = Stage::Other,
+            Cause::IsAnswer | Cause::IsFlowShop | Cause::IsNumbers | Cause::IsSpreadsheet => {
+                self.stage = Stage::Other;
+            }
             Cause::NoHeading => self.body(line, front, first)?,
             _ => {}
         }
@@ -267,6 +269,8 @@ fn cause_of_heading(first: &[u8]) -> Cause {
         Cause::IsNumbers
     } else if is(first, b"job") || is(first, b"machines") {
         Cause::NoHeading
+    } else if first.iter().any(|byte| matches!(byte, b',' | b';')) {
+        Cause::IsSpreadsheet
     } else {
         Cause::OtherHeading
     }
@@ -277,7 +281,7 @@ fn cause_of_other_line(first: &[u8]) -> Cause {
         Cause::HeadingAgain
     } else if first.starts_with(b"machines=") {
         Cause::MachinesOneWord
-    } else if first.starts_with(b"job") {
+    } else if first.starts_with(b"job") && first.iter().any(|byte| byte.is_ascii_digit()) {
         Cause::JobOneWord
     } else if first.iter().any(|byte| byte.is_ascii_uppercase()) {
         Cause::UpperCase

@@ -25,14 +25,14 @@ pub fn explain_unused(
     if arcs > 0 && !class.is_ordered() {
         writeln!(
             page.text,
-            "Not part of {notation}: arcs (lines \"prec\": {arcs})."
+            "{notation} ignores precedence constraints (lines \"prec\": {arcs})."
         )?;
     }
     let given = machines.or(instance.machines());
     if class.is_single() && given.is_some_and(|m| m != 1) {
         writeln!(
             page.text,
-            "Not part of {notation}: the number of machines; it has one."
+            "{notation} ignores the number of machines: it has one machine."
         )?;
     }
     Ok(())
@@ -50,6 +50,6 @@ fn note(
     }
     writeln!(
         page.text,
-        "Not part of {notation}: {field} (jobs that have it: {jobs})."
+        "{notation} ignores {field} (jobs that have it: {jobs})."
     )
 }

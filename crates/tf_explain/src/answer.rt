@@ -1,5 +1,6 @@
 //! What is wrong with an answer text.
 use std::alloc::AllocError;
+use tf_advice::advice::EXCHANGED;
 use tf_advice::page::Page;
 use tf_advice::piece_lines::{Pieces, quote_pieces};
 use tf_advice::source::{Front, Source};
@@ -13,6 +14,15 @@ use tf_words::word::{first_word, is};
 const ORDER: &str = "\
 The lines of an answer stand in this order: answer 2, problem, jobs, machines, value,
 any number of lines piece, cert, end.";
+
+/// The lines that stand once each, before the pieces.
+static FRONT: [&str; 5] = [
+    "answer 2",
+    "problem NOTATION",
+    "jobs N",
+    "machines M",
+    "value V",
+];
 
 /// What is wrong with the text of an answer.
 pub(crate) fn explain_answer(
@@ -76,7 +86,7 @@ fn say_other_file(page: &mut Page, source: &Source<'_>) -> Result<bool, AllocErr
     if is_table(source) {
         page.quote_number(source, 1)?;
         page.say("This is a job table, and an answer text is wanted here.")?;
-        page.say("\"check\" takes INPUT first and ANSWER second; perhaps they are exchanged.")?;
+        page.say(EXCHANGED)?;
         return Ok(true);
     }
     Ok(false)
@@ -88,16 +98,30 @@ fn explain_line(page: &mut Page, source: &Source<'_>, number: usize) -> Result<(
     };
     page.quote(source, &line, None)?;
     let first = first_of(line.bytes);
-    if is(first, b"cert") && source.line_beginning(&[b"answer", b"2"]).is_some() {
+    if let Some(wanted) = wanted_at(source, number) {
+        writeln!(page.text, "Here a line \"{wanted}\" is wanted.")?;
+    } else if is(first, b"end") && source.line_beginning(&[b"cert".as_slice()]).is_none() {
+        page.say("The line \"cert\" is missing: it stands before the line \"end\".")?;
+    } else if is(first, b"cert") && source.line_beginning(&[b"answer", b"2"]).is_some() {
         writeln!(
             page.text,
-            "Behind the kind stand jobs from 1, or ranges that rise such as 1-8, and at most\n\
+            "After the kind come jobs from 1, or ranges that rise such as 1-8, and at most\n\
              {MOST_JOBS} jobs in all, ranges counted in full."
         )?;
     } else {
         page.say(form_of(first))?;
     }
     page.say(ORDER)
+}
+
+// Which of the lines that stand once each at the front is wanted in the place of this one.
+fn wanted_at(source: &Source<'_>, number: usize) -> Option<&'static str> {
+    let lines = source.text.split(|byte| *byte == b'\n');
+    let before = lines
+        .take(number.saturating_sub(1))
+        .filter(|line| first_word(line).is_some_and(|(word, _)| !word.starts_with(b"#")))
+        .count();
+    FRONT.get(before).copied()
 }
 
 // The first word of a line.
@@ -113,7 +137,7 @@ fn form_of(first: &[u8]) -> &'static str {
     if is(first, b"piece") {
         "A piece is \"piece JOB MACHINE START STOP\", four whole numbers, before the line \"cert\"."
     } else if is(first, b"cert") {
-        "Behind the kind stand jobs from 1; a range such as 1-8 needs the heading \"answer 2\"."
+        "After the kind come jobs from 1; a range such as 1-8 needs the heading \"answer 2\"."
     } else if is(first, b"end") {
         "The line \"end\" stands alone and last."
     } else {

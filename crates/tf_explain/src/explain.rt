@@ -111,7 +111,7 @@ pub fn not_drawn(
 
 // A source that failed is named before, so the device was that of the output.
 fn say_output(page: &mut Page) -> Result<(), AllocError> {
-    page.say("Standard output failed: the disk is full, or who reads it has gone.")
+    page.say("Standard output failed: the disk is full, or the reader closed the pipe.")
 }
 
 /// What is wrong with a job table by itself.

@@ -217,7 +217,7 @@ fn say_lacking(
         Form::Wt { .. } => {
             "A weighted tardiness file has times, weights and due dates, and no other field."
         }
-        Form::Flow { .. } => "A flow shop file has times, and no other field.",
+        Form::Flow { .. } => "A flow shop file has processing times, and no other field.",
     })
 }
 

@@ -53,7 +53,10 @@ fn say_whole(
         ReadFault::TooLong => writeln!(page.text, "{title} has more than {MOST_BYTES} bytes.")?,
         ReadFault::NoJobs => writeln!(page.text, "{title} has no job.")?,
         ReadFault::TooManyJobs => writeln!(page.text, "{title} has more than {MOST_JOBS} jobs.")?,
-        ReadFault::TooManyArcs => writeln!(page.text, "{title} has more than {MOST_ARCS} arcs.")?,
+        ReadFault::TooManyArcs => writeln!(
+            page.text,
+            "{title} has more than {MOST_ARCS} precedence constraints."
+        )?,
         _ => return Ok(false),
     }
     if matches!(fault, ReadFault::NoJobs) {

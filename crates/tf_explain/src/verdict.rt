@@ -219,7 +219,7 @@ fn say_order(page: &mut Page, case: &Case<'_>, before: u32, after: u32) -> Resul
     if before == after && is_flow(case) {
         writeln!(
             page.text,
-            "Job {before} is on machine 2 before it is over on machine 1:"
+            "Job {before} is on machine 2 before it is completed on machine 1:"
         )?;
         return case.quote_pieces_of(page, before);
     }
@@ -230,9 +230,14 @@ fn say_order(page: &mut Page, case: &Case<'_>, before: u32, after: u32) -> Resul
         page.quote(&case.instance, &line, None)?;
     }
     if before == after {
-        return page.say("This arc leads from a job to itself, so no schedule fits: take it out.");
+        return page.say(
+            "This precedence constraint makes a job wait for itself, so no schedule fits: delete it.",
+        );
     }
-    writeln!(page.text, "Job {after} starts before job {before} is over:")?;
+    writeln!(
+        page.text,
+        "Job {after} starts before job {before} is completed:"
+    )?;
     case.quote_pieces_of(page, before)?;
     case.quote_pieces_of(page, after)
 }
@@ -282,7 +287,7 @@ fn say_gap(page: &mut Page, case: &Case<'_>) -> Result<(), AllocError> {
             "costs less than {bound}, so a gap of {gap} is left."
         )?;
     }
-    page.say("Either a better schedule exists, or another certificate shows that none does:")?;
+    page.say("Either a better schedule exists, or another certificate proves this one optimal:")?;
     page.say("the lines \"value\" and \"cert\" of \"threefield solve\" tell which.")
 }
 
@@ -299,7 +304,7 @@ fn say_bound_fault(page: &mut Page, fault: &BoundFault) -> Result<(), AllocError
         }
         BoundFault::Repeated(job) => {
             let job = job.get();
-            writeln!(page.text, "Job {job} stands twice in the certificate.")
+            writeln!(page.text, "Job {job} occurs twice in the certificate.")
         }
         BoundFault::EmptySet => page.say("The certificate names no job."),
         BoundFault::Condition(job) => {
