@@ -20,7 +20,7 @@ fn an_output_that_fails_is_named_with_its_reason(rt: HostRuntime) -> Result<(), 
         text: b"table 1\njob 1 p=3\n",
     };
     let told = explain::refused(rt.alloc(), &RunFault::Device, &request, &jobs, None)?;
-    let output = "Standard output failed: the disk is full, or who reads it has gone.\n";
+    let output = "Standard output failed: the disk is full, or the reader closed the pipe.\n";
     assert_eq!(rt; told.as_str(), output);
     Ok(())
 }

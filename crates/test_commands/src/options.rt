@@ -72,7 +72,7 @@ enum Answered {
 fn are_answered(rt: &HostRuntime, lines: &[&'static str], wanted: Answered) -> Result<(), Fail> {
     for line in lines {
         let words = words(rt, line)?;
-        let answered = match understand(command(rt.alloc())?, words.as_slice()) {
+        let answered = match understand(command(rt.alloc())?, words.as_slice(), false) {
             Asked::Unfit(_) => Answered::Unfit,
             Asked::Misused(_) => Answered::Misused,
             Asked::Help(_) => Answered::Help,
@@ -168,7 +168,7 @@ fn is_asked(wanted: Solved, options: &Options<'_>, layout: Layout) -> bool {
 fn a_line_asks_to_solve_an_instance(rt: HostRuntime) -> Result<(), Fail> {
     for (line, wanted) in SOLVED {
         let words = words(&rt, line)?;
-        match understand(command(rt.alloc())?, words.as_slice()) {
+        match understand(command(rt.alloc())?, words.as_slice(), false) {
             Asked::Work(Work::Solve(options, layout)) => {
                 ensure(is_asked(wanted, &options, layout), line)?;
             }
@@ -193,7 +193,7 @@ const DRAWN: [(&str, Drawing); 5] = [
 #[test]
 fn a_line_asks_to_check_or_to_draw_an_answer(rt: HostRuntime) -> Result<(), Fail> {
     let check = words(&rt, "check --problem P||sumC - answer")?;
-    match understand(command(rt.alloc())?, check.as_slice()) {
+    match understand(command(rt.alloc())?, check.as_slice(), false) {
         Asked::Work(Work::Check(options, answer)) => {
             ensure(options.input == "-" && answer == "answer", "other files")?;
         }
@@ -201,7 +201,7 @@ fn a_line_asks_to_check_or_to_draw_an_answer(rt: HostRuntime) -> Result<(), Fail
     }
     for (line, wanted) in DRAWN {
         let words = words(&rt, line)?;
-        match understand(command(rt.alloc())?, words.as_slice()) {
+        match understand(command(rt.alloc())?, words.as_slice(), false) {
             Asked::Work(
                 Work::Gantt {
                     answer,

@@ -3,6 +3,7 @@ use crate::texts::Texts;
 use std::alloc::{AllocError, Global};
 use tf_command::commands::perform;
 use tf_command::console::Console;
+use tf_command::misuse::say_misuse;
 use tf_command::options::{Asked, command, understand};
 use tf_command::report::{say_memory, say_usage};
 use tf_text::counted::Counted;
@@ -25,16 +26,13 @@ pub fn run(alloc: Global, line: &str, texts: Texts<'_>) -> Result<Ended, AllocEr
         writer: Counted::new(&mut written),
         errors: Counted::new(&mut said),
     };
-    let status = match understand(command(alloc)?, words.as_slice()) {
+    let status = match understand(command(alloc)?, words.as_slice(), false) {
         Asked::Work(work) => perform(&mut console, &texts, &work),
         Asked::Help(text) => {
             let _ = console.writer.push_all(text.to_string(alloc)?.as_bytes());
             0
         }
-        Asked::Misused(text) => {
-            let _ = console.errors.push_all(text.to_string(alloc)?.as_bytes());
-            5
-        }
+        Asked::Misused(_) => say_misuse(alloc, words.as_slice(), &mut console.errors),
         Asked::Unfit(text) => say_usage(&mut console.errors, text),
         Asked::NoMemory => say_memory(&mut console.errors),
     };

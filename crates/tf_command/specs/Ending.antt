@@ -1,6 +1,6 @@
--- How a command ends: after a run of what was asked for, with the status of what the run gave.
-use Rattle.std.specs.Prelude.{◌≡◌, ℕ, List, Result, Ok, Err}
-use Rattle.std.specs.declared.alloc.Global.{Global}
+-- How a command ends: after a run of what was asked for, with the status of what the run gave, and
+-- with its line on standard error. A is the allocator that the run took its memory from.
+use Rattle.std.specs.Prelude.{◌≡◌, ℕ, Bool, false, List, [], Option, Result, Ok, Err}
 use Rattle.tf_text.specs.Counted.{DeviceUse}
 use Rattle.tf_engine.specs.declared.fault.RunFault.{RunFault}
 use Rattle.tf_engine.specs.declared.run_check.Checked.{Checked}
@@ -16,7 +16,10 @@ use Rattle.tf_evaluate.specs.RunEvaluating.{IsEvaluationOf}
 use Rattle.tf_bounding.specs.RunBounding.{IsBoundingOf}
 use Rattle.tf_command.specs.declared.options.Drawing.{Drawing}
 use Rattle.tf_command.specs.declared.options.Drawing.TheVariants.{Chart, Picture}
+use Rattle.tf_text.specs.declared.counted.Counted.{Counted}
 use Rattle.tf_command.specs.Statuses.{status_of, status_of_check, status_of_standing}
+use Rattle.tf_command.specs.FaultLine.{fault_line}
+use Rattle.tf_command.specs.Wrote.{Wrote}
 
 -- after a run: 0 where it gave an answer, and otherwise the status of its fault
 abbrev pub status_of_run : {A : Type 0} → Result (Unit {0}) (RunFault A) → ℕ
@@ -33,36 +36,52 @@ abbrev pub status_of_evaluating : {A : Type 0} → Result Standing (RunFault A) 
 status_of_evaluating (Ok standing) = status_of_standing standing
 status_of_evaluating (Err fault) = status_of fault
 
-pub record EndsSolving (request : RequestData) (instance writer : DeviceUse) (status : ℕ) : Type 0
-  where
-    pub run : Result (Unit {0}) (RunFault Global)
-    pub outcome : IsRunOf request instance writer run
-    pub ends : status ≡ status_of_run run
+-- the line on standard error: that of the fault, where there is one
+abbrev pub line_of : {X A : Type 0} → Result X (RunFault A) → List ℕ
+line_of (Ok x) = []
+line_of (Err fault) = fault_line fault
 
-pub record EndsBounding (request : RequestData) (instance writer : DeviceUse) (status : ℕ) : Type 0
-  where
-    pub run : Result (Unit {0}) (RunFault Global)
-    pub outcome : IsBoundingOf request instance writer run
-    pub ends : status ≡ status_of_run run
+-- where nothing is to be explained, standard error gets this line and nothing else
+abbrev pub SaysLine : {E : Type 0} → (E → Option (List ℕ)) → Bool → Counted E → Counted E → List ℕ
+    → Type 0
+SaysLine contents explain old new line = explain ≡ false → Wrote contents old new line
 
-pub record EndsChecking (request : RequestData) (instance answer writer : DeviceUse) (status : ℕ)
-    : Type 0 where
-  pub run : Result Checked (RunFault Global)
+pub record EndsSolving (A : Type 0) (request : RequestData) (instance writer : DeviceUse)
+    (says : List ℕ → Type 0) (status : ℕ) : Type 0 where
+  pub run : Result (Unit {0}) (RunFault A)
+  pub outcome : IsRunOf request instance writer run
+  pub ends : status ≡ status_of_run run
+  pub said : says (line_of run)
+
+pub record EndsBounding (A : Type 0) (request : RequestData) (instance writer : DeviceUse)
+    (says : List ℕ → Type 0) (status : ℕ) : Type 0 where
+  pub run : Result (Unit {0}) (RunFault A)
+  pub outcome : IsBoundingOf request instance writer run
+  pub ends : status ≡ status_of_run run
+  pub said : says (line_of run)
+
+pub record EndsChecking (A : Type 0) (request : RequestData) (instance answer writer : DeviceUse)
+    (says : List ℕ → Type 0) (status : ℕ) : Type 0 where
+  pub run : Result Checked (RunFault A)
   pub outcome : IsCheckOf request instance answer writer run
   pub ends : status ≡ status_of_checking run
+  pub said : says (line_of run)
 
 -- what such a drawing is
 abbrev pub drawn_as : Drawing → SheetData → List ℕ → Type 0
 drawn_as (Chart columns) = IsChart columns
 drawn_as Picture = IsPicture
 
-pub record EndsDrawing (drawing : Drawing) (answer writer : DeviceUse) (status : ℕ) : Type 0 where
-  pub run : Result (Unit {0}) (RunFault Global)
+pub record EndsDrawing (A : Type 0) (drawing : Drawing) (answer writer : DeviceUse)
+    (says : List ℕ → Type 0) (status : ℕ) : Type 0 where
+  pub run : Result (Unit {0}) (RunFault A)
   pub outcome : IsDrawingOf (drawn_as drawing) answer writer run
   pub ends : status ≡ status_of_run run
+  pub said : says (line_of run)
 
-pub record EndsEvaluating (detail : Detail) (request : RequestData)
-    (instance answer writer : DeviceUse) (status : ℕ) : Type 0 where
-  pub run : Result Standing (RunFault Global)
+pub record EndsEvaluating (A : Type 0) (detail : Detail) (request : RequestData)
+    (instance answer writer : DeviceUse) (says : List ℕ → Type 0) (status : ℕ) : Type 0 where
+  pub run : Result Standing (RunFault A)
   pub outcome : IsEvaluationOf detail request instance answer writer run
   pub ends : status ≡ status_of_evaluating run
+  pub said : says (line_of run)

@@ -1,11 +1,13 @@
 //! The commands, over whatever gives and takes bytes.
+ghost use Rattle.std.specs.declared.alloc.Global.{Global};
 ghost use Rattle.tf_command.specs.Asking.{requested};
 ghost use Rattle.tf_command.specs.Columns.{HasWidth, IsSized};
-ghost use Rattle.tf_command.specs.Ending.{EndsSolving, EndsBounding, EndsChecking, EndsEvaluating, EndsDrawing, drawn_as};
+ghost use Rattle.tf_command.specs.Ending.{EndsSolving, EndsBounding, EndsChecking, EndsEvaluating, EndsDrawing, SaysLine, drawn_as};
 ghost use Rattle.tf_engine.specs.Drawing.{IsDrawingOf};
-ghost use Rattle.std.specs.Prelude.{◌≡◌};
+ghost use Rattle.std.specs.Prelude.{◌≡◌, ◌⊎◌, None, Some, IfSome, IfOk, IfErr, true, codes};
+ghost use Rattle.tf_command.specs.Performing.{EndsListing, EndsOver, Performs};
 ghost use Rattle.tf_command.specs.Recorded.{bytes_left};
-ghost use Rattle.tf_text.specs.Counted.{use_of};
+ghost use Rattle.tf_text.specs.Counted.{inner_of, use_of};
 
 use crate::console::Console;
 use crate::explained::{Ended, tell, tell_drawn};
@@ -30,61 +32,166 @@ use tf_text::answer::layout::Layout;
 use tf_text::counted::Counted;
 use tf_text::input::read_all;
 
-/// Does what is asked for, once all files that it names are open, and tells the exit status.
+/// A text that was opened.
+type Opened<'a, S> = Counted<Recorded<'a, <S as Sources>::Source>>;
+
+/// Does what is asked for, once all files that it names are open, and gives the exit status.
 pub fn perform<S: Sources, W: Write, E: Write>(
     console: &mut Console<W, E>,
     sources: &S,
     work: &Work<'_>,
 ) -> u8
     requires { IsSized work.now }
-{
-    match ended(console, sources, work) {
-        Ok(status) | Err(status) => status,
-    }
-}
-
-/// The status of what is asked for, or that where a file was not opened.
-fn ended<S: Sources, W: Write, E: Write>(
-    console: &mut Console<W, E>,
-    sources: &S,
-    work: &Work<'_>,
-) -> Result<u8, u8>
-    requires { IsSized work.now }
+    ensures { Performs (S.text_of sources.now) work.now
+        (use_of W.contents console.old.writer console.new.writer)
+        (λ explain. SaysLine E.contents explain console.old.errors console.new.errors) result }
 {
     match work {
-        Work::Solve(options, layout) => {
-            let mut instance = open(console, sources, options.input, options.telling.explain)?;
-            Ok(solve(console, options, *layout, &mut instance))
-        }
-        Work::Bound(options, steps) => {
-            let mut instance = open(console, sources, options.input, options.telling.explain)?;
-            Ok(bound(console, options, *steps, &mut instance))
-        }
-        Work::Check(options, answer) => {
-            let mut instance = open(console, sources, options.input, options.telling.explain)?;
-            let mut answer = open(console, sources, answer, options.telling.explain)?;
-            Ok(check(console, options, &mut instance, &mut answer))
-        }
-        Work::Evaluate(evaluating) => {
-            let options = &evaluating.options;
-            let mut instance = open(console, sources, options.input, options.telling.explain)?;
-            let mut answer = open(console, sources, evaluating.answer, options.telling.explain)?;
-            Ok(evaluate(console, evaluating, &mut instance, &mut answer))
-        }
+        Work::Solve(options, layout) => solve_named(console, sources, options, *layout),
+        Work::Bound(options, steps) => bound_named(console, sources, options, *steps),
+        Work::Check(options, answer) => check_named(console, sources, options, answer),
+        Work::Evaluate(evaluating) => evaluate_named(console, sources, evaluating),
         Work::Gantt {
             answer,
             drawing,
             explain,
-        } => {
-            let mut answer = open(console, sources, answer, *explain)?;
-            Ok(gantt(console, *drawing, &mut answer))
-        }
-        Work::Problems(None) => Ok(list(console, None)),
-        Work::Problems(Some(name)) => {
-            let mut table = open(console, sources, name, true)?;
-            Ok(list_for(console, &mut table))
-        }
+        } => draw_named(console, sources, answer, *drawing, *explain),
+        Work::Problems(None) => list(console, None),
+        Work::Problems(Some(name)) => list_named(console, sources, name),
     }
+}
+
+/// Solves the instance of that name.
+fn solve_named<S: Sources, W: Write, E: Write>(
+    console: &mut Console<W, E>,
+    sources: &S,
+    options: &Options<'_>,
+    layout: Layout,
+) -> u8
+    ensures { Performs (S.text_of sources.now) (Work.Solve options.now layout)
+        (use_of W.contents console.old.writer console.new.writer)
+        (λ explain. SaysLine E.contents explain console.old.errors console.new.errors) result }
+{
+    match open(console, sources, options.input, options.telling.explain) {
+        Ok(mut instance) => solve(console, options, layout, &mut instance),
+        Err(status) => status,
+    }
+}
+
+/// Bounds the instance of that name.
+fn bound_named<S: Sources, W: Write, E: Write>(
+    console: &mut Console<W, E>,
+    sources: &S,
+    options: &Options<'_>,
+    steps: Option<u32>,
+) -> u8
+    ensures { Performs (S.text_of sources.now) (Work.Bound options.now steps)
+        (use_of W.contents console.old.writer console.new.writer)
+        (λ explain. SaysLine E.contents explain console.old.errors console.new.errors) result }
+{
+    match open(console, sources, options.input, options.telling.explain) {
+        Ok(mut instance) => bound(console, options, steps, &mut instance),
+        Err(status) => status,
+    }
+}
+
+/// Judges the answer of that name.
+fn check_named<S: Sources, W: Write, E: Write>(
+    console: &mut Console<W, E>,
+    sources: &S,
+    options: &Options<'_>,
+    answer: &str,
+) -> u8
+    ensures { Performs (S.text_of sources.now) (Work.Check options.now answer.entry)
+        (use_of W.contents console.old.writer console.new.writer)
+        (λ explain. SaysLine E.contents explain console.old.errors console.new.errors) result }
+{
+    match open_both(console, sources, options, answer) {
+        Ok((mut instance, mut answer)) => check(console, options, &mut instance, &mut answer),
+        Err(status) => status,
+    }
+}
+
+/// Evaluates the answer of that name.
+fn evaluate_named<S: Sources, W: Write, E: Write>(
+    console: &mut Console<W, E>,
+    sources: &S,
+    evaluating: &Evaluating<'_>,
+) -> u8
+    ensures { Performs (S.text_of sources.now) (Work.Evaluate evaluating.now)
+        (use_of W.contents console.old.writer console.new.writer)
+        (λ explain. SaysLine E.contents explain console.old.errors console.new.errors) result }
+{
+    match open_both(console, sources, &evaluating.options, evaluating.answer) {
+        Ok((mut instance, mut answer)) => {
+            evaluate(console, evaluating, &mut instance, &mut answer)
+        }
+        Err(status) => status,
+    }
+}
+
+/// Draws the answer of that name.
+fn draw_named<S: Sources, W: Write, E: Write>(
+    console: &mut Console<W, E>,
+    sources: &S,
+    answer: &str,
+    drawing: Drawing,
+    explain: bool,
+) -> u8
+    requires { HasWidth drawing }
+    ensures { EndsOver (S.text_of sources.now) answer.now
+        (use_of W.contents console.old.writer console.new.writer)
+        (SaysLine E.contents explain console.old.errors console.new.errors) result
+        (λ reader. EndsDrawing Global drawing reader
+        (use_of W.contents console.old.writer console.new.writer)
+        (SaysLine E.contents explain console.old.errors console.new.errors) result) }
+{
+    match open(console, sources, answer, explain) {
+        Ok(mut answer) => gantt(console, drawing, explain, &mut answer),
+        Err(status) => status,
+    }
+}
+
+/// Lists the problems that the table of that name has the fields for.
+fn list_named<S: Sources, W: Write, E: Write>(
+    console: &mut Console<W, E>,
+    sources: &S,
+    name: &str,
+) -> u8
+    ensures { EndsOver (S.text_of sources.now) name.now
+        (use_of W.contents console.old.writer console.new.writer)
+        (SaysLine E.contents true console.old.errors console.new.errors) result
+        (λ _. EndsListing (use_of W.contents console.old.writer console.new.writer) result) }
+{
+    match open(console, sources, name, true) {
+        Ok(mut table) => list_for(console, &mut table),
+        Err(status) => status,
+    }
+}
+
+/// Opens an instance and an answer, the instance first.
+fn open_both<'a, S: Sources, W: Write, E: Write>(
+    console: &mut Console<W, E>,
+    sources: &S,
+    options: &Options<'a>,
+    answer: &'a str,
+) -> Result<(Opened<'a, S>, Opened<'a, S>), u8>
+    ensures opened { IfOk result (λ r. (IfSome (S.text_of sources.now options.now.input.now)
+        (λ text. bytes_left S.Source.remaining (inner_of r.0) ≡ Some text))
+        × (IfSome (S.text_of sources.now answer.now)
+        (λ text. bytes_left S.Source.remaining (inner_of r.1) ≡ Some text))) }
+    ensures unopened { IfErr result (λ status. (status ≡ 4)
+        × ((S.text_of sources.now options.now.input.now ≡ None)
+        ⊎ (S.text_of sources.now answer.now ≡ None))) }
+    ensures unwritten { console.new.writer ≡ console.old.writer }
+    ensures unsaid { IfOk result (λ _. console.new.errors ≡ console.old.errors) }
+    ensures said { IfErr result (λ _. SaysLine E.contents options.now.telling.explain
+        console.old.errors console.new.errors (codes "threefield: device fault\n")) }
+{
+    let explain = options.telling.explain;
+    let instance = open(console, sources, options.input, explain)?;
+    let answer = open(console, sources, answer, explain)?;
+    Ok((instance, answer))
 }
 
 /// Opens the text of that name, which is kept where it is to be explained. Where it cannot be
@@ -94,7 +201,16 @@ fn open<'a, S: Sources, W: Write, E: Write>(
     sources: &S,
     name: &'a str,
     explain: bool,
-) -> Result<Counted<Recorded<'a, S::Source>>, u8> {
+) -> Result<Opened<'a, S>, u8>
+    ensures opened { IfOk result (λ source. IfSome (S.text_of sources.now name.now)
+        (λ text. bytes_left S.Source.remaining (inner_of source) ≡ Some text)) }
+    ensures unopened { IfErr result (λ status. (status ≡ 4)
+        × (S.text_of sources.now name.now ≡ None)) }
+    ensures unwritten { console.new.writer ≡ console.old.writer }
+    ensures unsaid { IfOk result (λ _. console.new.errors ≡ console.old.errors) }
+    ensures said { IfErr result (λ _. SaysLine E.contents explain console.old.errors
+        console.new.errors (codes "threefield: device fault\n")) }
+{
     match sources.open(name) {
         Ok(source) => {
             let kept = explain.then(|| Vec::new(console.alloc));
@@ -118,9 +234,11 @@ fn solve<R: Read, W: Write, E: Write>(
     layout: Layout,
     instance: &mut Counted<Recorded<'_, R>>,
 ) -> u8
-    ensures { EndsSolving (requested options.now layout)
+    ensures { EndsSolving Global (requested options.now layout)
         (use_of (bytes_left R.remaining) instance.old instance.new)
-        (use_of W.contents console.old.writer console.new.writer) result }
+        (use_of W.contents console.old.writer console.new.writer)
+        (SaysLine E.contents options.now.telling.explain console.old.errors console.new.errors)
+        result }
 {
     let alloc = console.alloc;
     let Ok(request) = options.request(alloc, layout) else {
@@ -128,12 +246,14 @@ fn solve<R: Read, W: Write, E: Write>(
     };
     let run = run_solve(alloc, &request, instance, &mut console.writer);
     let status = end_run(&run, &mut console.errors);
-    let ended = Ended {
-        alloc,
-        telling: options.telling,
-        request: &request,
-    };
-    ended.tell_solved(&run, instance.inner(), &mut console.errors);
+    if options.telling.explain {
+        let ended = Ended {
+            alloc,
+            telling: options.telling,
+            request: &request,
+        };
+        ended.tell_solved(&run, instance.inner(), &mut console.errors);
+    }
     status
 }
 
@@ -144,9 +264,11 @@ fn bound<R: Read, W: Write, E: Write>(
     steps: Option<u32>,
     instance: &mut Counted<Recorded<'_, R>>,
 ) -> u8
-    ensures { EndsBounding (requested options.now Layout.Two)
+    ensures { EndsBounding Global (requested options.now Layout.Two)
         (use_of (bytes_left R.remaining) instance.old instance.new)
-        (use_of W.contents console.old.writer console.new.writer) result }
+        (use_of W.contents console.old.writer console.new.writer)
+        (SaysLine E.contents options.now.telling.explain console.old.errors console.new.errors)
+        result }
 {
     let alloc = console.alloc;
     let Ok(request) = options.request(alloc, Layout::Two) else {
@@ -154,12 +276,14 @@ fn bound<R: Read, W: Write, E: Write>(
     };
     let run = run_bound(alloc, &request, steps, instance, &mut console.writer);
     let status = end_run(&run, &mut console.errors);
-    let ended = Ended {
-        alloc,
-        telling: options.telling,
-        request: &request,
-    };
-    ended.tell_solved(&run, instance.inner(), &mut console.errors);
+    if options.telling.explain {
+        let ended = Ended {
+            alloc,
+            telling: options.telling,
+            request: &request,
+        };
+        ended.tell_solved(&run, instance.inner(), &mut console.errors);
+    }
     status
 }
 
@@ -170,10 +294,12 @@ fn check<R: Read, S: Read, W: Write, E: Write>(
     instance: &mut Counted<Recorded<'_, R>>,
     answer: &mut Counted<Recorded<'_, S>>,
 ) -> u8
-    ensures { EndsChecking (requested options.now Layout.Two)
+    ensures { EndsChecking Global (requested options.now Layout.Two)
         (use_of (bytes_left R.remaining) instance.old instance.new)
         (use_of (bytes_left S.remaining) answer.old answer.new)
-        (use_of W.contents console.old.writer console.new.writer) result }
+        (use_of W.contents console.old.writer console.new.writer)
+        (SaysLine E.contents options.now.telling.explain console.old.errors console.new.errors)
+        result }
 {
     let alloc = console.alloc;
     let Ok(request) = options.request(alloc, Layout::Two) else {
@@ -181,12 +307,14 @@ fn check<R: Read, S: Read, W: Write, E: Write>(
     };
     let run = run_check(alloc, &request, instance, answer, &mut console.writer);
     let status = end_check(&run, &mut console.errors);
-    let ended = Ended {
-        alloc,
-        telling: options.telling,
-        request: &request,
-    };
-    ended.tell_checked(&run, instance.inner(), answer.inner(), &mut console.errors);
+    if options.telling.explain {
+        let ended = Ended {
+            alloc,
+            telling: options.telling,
+            request: &request,
+        };
+        ended.tell_checked(&run, instance.inner(), answer.inner(), &mut console.errors);
+    }
     status
 }
 
@@ -197,10 +325,13 @@ fn evaluate<R: Read, S: Read, W: Write, E: Write>(
     instance: &mut Counted<Recorded<'_, R>>,
     answer: &mut Counted<Recorded<'_, S>>,
 ) -> u8
-    ensures { EndsEvaluating evaluating.now.detail (requested evaluating.now.options Layout.Two)
+    ensures { EndsEvaluating Global evaluating.now.detail
+        (requested evaluating.now.options Layout.Two)
         (use_of (bytes_left R.remaining) instance.old instance.new)
         (use_of (bytes_left S.remaining) answer.old answer.new)
-        (use_of W.contents console.old.writer console.new.writer) result }
+        (use_of W.contents console.old.writer console.new.writer)
+        (SaysLine E.contents evaluating.now.options.telling.explain console.old.errors
+        console.new.errors) result }
 {
     let alloc = console.alloc;
     let Ok(request) = evaluating.options.request(alloc, Layout::Two) else {
@@ -216,12 +347,14 @@ fn evaluate<R: Read, S: Read, W: Write, E: Write>(
         &mut console.writer,
     );
     let status = end_evaluation(&run, &mut console.errors);
-    let ended = Ended {
-        alloc,
-        telling: evaluating.options.telling,
-        request: &request,
-    };
-    ended.tell_evaluated(&run, instance.inner(), answer.inner(), &mut console.errors);
+    if evaluating.options.telling.explain {
+        let ended = Ended {
+            alloc,
+            telling: evaluating.options.telling,
+            request: &request,
+        };
+        ended.tell_evaluated(&run, instance.inner(), answer.inner(), &mut console.errors);
+    }
     status
 }
 
@@ -229,16 +362,20 @@ fn evaluate<R: Read, S: Read, W: Write, E: Write>(
 fn gantt<R: Read, W: Write, E: Write>(
     console: &mut Console<W, E>,
     drawing: Drawing,
+    explain: bool,
     answer: &mut Counted<Recorded<'_, R>>,
 ) -> u8
     requires { HasWidth drawing }
-    ensures { EndsDrawing drawing
+    ensures { EndsDrawing Global drawing
         (use_of (bytes_left R.remaining) answer.old answer.new)
-        (use_of W.contents console.old.writer console.new.writer) result }
+        (use_of W.contents console.old.writer console.new.writer)
+        (SaysLine E.contents explain console.old.errors console.new.errors) result }
 {
     let run = draw(console.alloc, drawing, answer, &mut console.writer);
     let status = end_run(&run, &mut console.errors);
-    tell_drawn(&run, answer.inner(), &mut console.errors, console.alloc);
+    if explain {
+        tell_drawn(&run, answer.inner(), &mut console.errors, console.alloc);
+    }
     status
 }
 
@@ -263,7 +400,9 @@ fn draw<R: Read, W: Write>(
 fn list_for<R: Read, W: Write, E: Write>(
     console: &mut Console<W, E>,
     table: &mut Counted<Recorded<'_, R>>,
-) -> u8 {
+) -> u8
+    ensures { EndsListing (use_of W.contents console.old.writer console.new.writer) result }
+{
     let alloc = console.alloc;
     let fault = match table_in(alloc, table) {
         Ok(instance) => return list(console, Some(&instance)),
@@ -286,7 +425,9 @@ fn table_in<R: Read>(alloc: Global, table: &mut Counted<R>) -> Result<Instance, 
 }
 
 /// Lists the problems that are solved, with an instance those that it has the fields for.
-fn list<W: Write, E: Write>(console: &mut Console<W, E>, instance: Option<&Instance>) -> u8 {
+fn list<W: Write, E: Write>(console: &mut Console<W, E>, instance: Option<&Instance>) -> u8
+    ensures { EndsListing (use_of W.contents console.old.writer console.new.writer) result }
+{
     let Ok(text) = solved_problems(console.alloc, instance) else {
         return say_memory(&mut console.errors);
     };

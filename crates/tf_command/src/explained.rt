@@ -1,5 +1,5 @@
 //! What is said, in plain words, of a run that has ended.
-use crate::options::Telling;
+use crate::options::{Idle, Telling};
 use crate::recorded::Recorded;
 use std::alloc::{AllocError, Global};
 use std::io;
@@ -146,10 +146,30 @@ fn tell_behind<E: Write>(
     explanation: Result<String, AllocError>,
     errors: &mut Counted<E>,
 ) {
-    if let Some(text) = telling.idle {
-        let _ = errors.push_all(text.as_bytes());
-    }
+    tell_idle(telling.idle, errors);
     tell(explanation, errors);
+}
+
+fn tell_idle<E: Write>(idle: Idle, errors: &mut Counted<E>) {
+    let options = [
+        (
+            idle.jobs,
+            "--jobs belongs to --format wt, and is ignored here.\n",
+        ),
+        (
+            idle.name,
+            "--name belongs to --format flow, and is ignored here.\n",
+        ),
+        (
+            idle.pair,
+            "--pair belongs to --format flow, and is ignored here.\n",
+        ),
+    ];
+    for (is_idle, text) in options {
+        if is_idle {
+            let _ = errors.push_all(text.as_bytes());
+        }
+    }
 }
 
 /// Says what is explained, if there was memory for it.

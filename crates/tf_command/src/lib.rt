@@ -6,6 +6,7 @@ pub mod commands;
 pub mod console;
 mod explained;
 mod gathered;
+pub mod misuse;
 pub mod options;
 mod recorded;
 pub mod report;

@@ -1,8 +1,10 @@
 //! The command line.
-ghost use Rattle.std.specs.Prelude.{◌≡◌, ◌≤◌, IfOk, IfErr};
+ghost use Rattle.clap.specs.Words.{first_value, found_of};
+ghost use Rattle.std.specs.Prelude.{◌≡◌, ◌≤◌, Some, codes, IfOk, IfErr};
 ghost use Rattle.tf_engine.specs.FormData.{form_of};
 ghost use Rattle.tf_command.specs.Asking.{form_asked, requested};
 ghost use Rattle.tf_command.specs.Columns.{HasColumns};
+ghost use Rattle.tf_command.specs.Matched.{AreOptionsBy, IsFormBy, layout_by};
 ghost use Rattle.tf_command.specs.OptionNumber.{numeral_in};
 
 use clap::error::ErrorKind;
@@ -31,8 +33,15 @@ pub struct Options<'a> {
 #[derive(Clone, Copy, Debug)]
 pub struct Telling {
     pub explain: bool,
-    /// An option that the form of the instance does not use.
-    pub idle: Option<&'static str>,
+    pub idle: Idle,
+}
+
+/// The options that were given, and that the form of the instance does not use.
+#[derive(Clone, Copy, Debug)]
+pub struct Idle {
+    pub jobs: bool,
+    pub name: bool,
+    pub pair: bool,
 }
 
 /// The form of the instance, with what that form needs.
@@ -186,6 +195,9 @@ static FORMATS: [&str; 3] = ["table", "wt", "flow"];
 
 static VERSIONS: [&str; 2] = ["1", "2"];
 
+// When an explanation is given: where standard error is a terminal, always or never.
+static EXPLAINED: [&str; 3] = ["auto", "always", "never"];
+
 /// The program's commands.
 pub fn command<'a>(alloc: Global) -> Result<Command<'a>, AllocError> {
     Command::new(alloc, "threefield")
@@ -212,7 +224,7 @@ fn solve_command<'a>(alloc: Global) -> Result<Command<'a>, AllocError> {
         .hide_possible_values(true)
         .default_value("2");
     with_options(alloc, Command::new(alloc, "solve"))?
-        .about("Prints a best schedule, and a certificate that none is better")
+        .about("Prints an optimal schedule, and a certificate that proves it")
         .after_help(ABOUT_SOLVE)
         .arg(version)
 }
@@ -242,7 +254,7 @@ fn evaluate_command<'a>(alloc: Global) -> Result<Command<'a>, AllocError> {
         .help("Writes the certificate's arithmetic as well, step by step")
         .action(ArgAction::SetTrue);
     with_options(alloc, Command::new(alloc, "evaluate"))?
-        .about("Tells how good an answer is, job by job, and its gap to the best")
+        .about("Reports how far an answer is from the optimum, job by job")
         .after_help(ABOUT_EVALUATE)
         .arg(certificate)?
         .arg(answer(alloc))
@@ -290,8 +302,14 @@ fn problems_command<'a>(alloc: Global) -> Result<Command<'a>, AllocError> {
 fn explain<'a>(alloc: Global) -> Arg<'a> {
     Arg::new(alloc, "explain")
         .long("explain")
-        .help("Says in plain words what is wrong, and how to mend it")
-        .action(ArgAction::SetTrue)
+        .value_name("WHEN")
+        .help("Explains what is wrong: auto (on a terminal), always, never")
+        .num_args(0..=1)
+        .require_equals(true)
+        .value_parser(EXPLAINED.as_slice())
+        .hide_possible_values(true)
+        .default_missing_value("always")
+        .default_value("auto")
 }
 
 // The command with what names a problem and an instance.
@@ -306,7 +324,7 @@ fn with_options<'a>(alloc: Global, command: Command<'a>) -> Result<Command<'a>, 
         .short('f')
         .long("format")
         .value_name("FORM")
-        .help("Form of INPUT: table, wt or flow")
+        .help("Format of INPUT: table, wt or flow")
         .value_parser(FORMATS.as_slice())
         .hide_possible_values(true)
         .default_value("table");
@@ -346,13 +364,13 @@ fn with_form_options<'a>(alloc: Global, command: Command<'a>) -> Result<Command<
     let pair = Arg::new(alloc, "pair")
         .long("pair")
         .value_name("I,K")
-        .help("With flow: the two machines that count, from 0")
+        .help("With flow: the two machines to use, from 0")
         .allow_hyphen_values(true);
     command.arg(jobs)?.arg(index)?.arg(name)?.arg(pair)
 }
 
-/// What the words ask for.
-pub fn understand<'a>(command: Command<'a>, words: &'a [String]) -> Asked<'a>
+/// What the words ask for. With `--explain=auto`, the default, it is explained on a terminal.
+pub fn understand<'a>(command: Command<'a>, words: &'a [String], on_terminal: bool) -> Asked<'a>
     ensures { HasColumns result }
 {
     let matches = match command.try_get_matches_from(words) {
@@ -363,12 +381,12 @@ pub fn understand<'a>(command: Command<'a>, words: &'a [String]) -> Asked<'a>
         return Asked::NoMemory;
     };
     if name == "gantt" {
-        return gantt_in(given);
+        return gantt_in(given, on_terminal);
     }
     if name == "problems" {
         return Asked::Work(Work::Problems(given.get_str("FILE")));
     }
-    let options = match options_in(given) {
+    let options = match options_in(given, on_terminal) {
         Ok(options) => options,
         Err(asked) => return asked,
     };
@@ -397,7 +415,9 @@ pub fn understand<'a>(command: Command<'a>, words: &'a [String]) -> Asked<'a>
 }
 
 // The version of the answer text: 2, unless 1 is asked for.
-fn layout_in(given: &ArgMatches<'_>) -> Layout {
+fn layout_in(given: &ArgMatches<'_>) -> Layout
+    ensures { result ≡ layout_by (first_value (found_of given.now) (codes "answer")) }
+{
     match given.get_str("answer") {
         Some("1") => Layout::One,
         _ => Layout::Two,
@@ -426,7 +446,7 @@ fn detail_in(given: &ArgMatches<'_>) -> Detail {
     }
 }
 
-fn gantt_in<'a>(given: &ArgMatches<'a>) -> Asked<'a>
+fn gantt_in<'a>(given: &ArgMatches<'a>, on_terminal: bool) -> Asked<'a>
     ensures { HasColumns result }
 {
     let (Some(answer), Some(word)) = (given.get_str("ANSWER"), given.get_str("columns")) else {
@@ -443,13 +463,14 @@ fn gantt_in<'a>(given: &ArgMatches<'a>) -> Asked<'a>
     Asked::Work(Work::Gantt {
         answer,
         drawing,
-        explain: given.get_flag("explain"),
+        explain: is_explained(given, on_terminal),
     })
 }
 
 // What names the problem and the instance, or what is asked for in place of it.
-fn options_in<'a>(given: &ArgMatches<'a>) -> Result<Options<'a>, Asked<'a>>
-    ensures { IfErr result HasColumns }
+fn options_in<'a>(given: &ArgMatches<'a>, on_terminal: bool) -> Result<Options<'a>, Asked<'a>>
+    ensures columns { IfErr result HasColumns }
+    ensures given { IfOk result (AreOptionsBy (first_value (found_of given.now))) }
 {
     let (Some(problem), Some(input)) = (given.get_str("problem"), given.get_str("INPUT")) else {
         return Err(Asked::NoMemory);
@@ -468,30 +489,36 @@ fn options_in<'a>(given: &ArgMatches<'a>) -> Result<Options<'a>, Asked<'a>>
         machines,
         input,
         telling: Telling {
-            explain: given.get_flag("explain"),
+            explain: is_explained(given, on_terminal),
             idle: idle_in(given, &form),
         },
     })
 }
 
-// An option that was given, and that the form does not use.
-fn idle_in(given: &ArgMatches<'_>, form: &FormOption<'_>) -> Option<&'static str> {
+// Whether what is wrong is explained.
+fn is_explained(given: &ArgMatches<'_>, on_terminal: bool) -> bool {
+    match given.get_str("explain") {
+        Some("always") => true,
+        Some("never") => false,
+        _ => on_terminal,
+    }
+}
+
+// The options that were given, and that the form does not use.
+fn idle_in(given: &ArgMatches<'_>, form: &FormOption<'_>) -> Idle {
     let is_wt = matches!(form, FormOption::Wt { .. });
     let is_flow = matches!(form, FormOption::Flow { .. });
-    if given.contains_id("jobs") && !is_wt {
-        Some("--jobs is of --format wt alone, and does not count here.\n")
-    } else if given.contains_id("name") && !is_flow {
-        Some("--name is of --format flow alone, and does not count here.\n")
-    } else if given.contains_id("pair") && !is_flow {
-        Some("--pair is of --format flow alone, and does not count here.\n")
-    } else {
-        None
+    Idle {
+        jobs: given.contains_id("jobs") && !is_wt,
+        name: given.contains_id("name") && !is_flow,
+        pair: given.contains_id("pair") && !is_flow,
     }
 }
 
 // The form that was chosen. The options of the others are not looked at.
 fn form_in<'a>(given: &ArgMatches<'a>) -> Result<FormOption<'a>, Asked<'a>>
-    ensures { IfErr result HasColumns }
+    ensures columns { IfErr result HasColumns }
+    ensures given { IfOk result (IsFormBy (first_value (found_of given.now))) }
 {
     let Some(format) = given.get_str("format") else {
         return Err(Asked::NoMemory);
@@ -506,7 +533,9 @@ fn form_in<'a>(given: &ArgMatches<'a>) -> Result<FormOption<'a>, Asked<'a>>
 }
 
 fn wt_in<'a>(given: &ArgMatches<'a>) -> Result<FormOption<'a>, Asked<'a>>
-    ensures { IfErr result HasColumns }
+    requires { first_value (found_of given.now) (codes "format") ≡ Some (codes "wt") }
+    ensures columns { IfErr result HasColumns }
+    ensures given { IfOk result (IsFormBy (first_value (found_of given.now))) }
 {
     let jobs = given
         .get_str("jobs")
@@ -522,7 +551,9 @@ fn wt_in<'a>(given: &ArgMatches<'a>) -> Result<FormOption<'a>, Asked<'a>>
 }
 
 fn flow_in<'a>(given: &ArgMatches<'a>) -> Result<FormOption<'a>, Asked<'a>>
-    ensures { IfErr result HasColumns }
+    requires { first_value (found_of given.now) (codes "format") ≡ Some (codes "flow") }
+    ensures columns { IfErr result HasColumns }
+    ensures given { IfOk result (IsFormBy (first_value (found_of given.now))) }
 {
     let Some(name) = given.get_str("name") else {
         return Err(Asked::Unfit("--format flow needs --name"));

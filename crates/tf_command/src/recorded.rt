@@ -21,7 +21,9 @@ pub struct Recorded<'a, R> {
 
 impl<'a, R> Recorded<'a, R> {
     /// A source of which nothing was read.
-    pub fn new(name: &'a str, inner: R, kept: Option<Vec<u8>>) -> Recorded<'a, R> {
+    pub fn new(name: &'a str, inner: R, kept: Option<Vec<u8>>) -> Recorded<'a, R>
+        ensures { result.inner ≡ inner }
+    {
         Recorded {
             name,
             inner,

@@ -1,9 +1,16 @@
 //! What the program says of a run that gave no answer.
-ghost use Rattle.std.specs.Prelude.{◌≡◌};
+ghost use Rattle.std.specs.Prelude.{◌≡◌, ◌∷◌, ◌++◌, [], codes, map};
+ghost use Rattle.std.specs.Fmt.{decimal};
+ghost use Rattle.tf_text.specs.AnswerText.{line_text};
+ghost use Rattle.tf_engine.specs.VerdictLine.{piece_fault_words};
+ghost use Rattle.tf_command.specs.FaultLine.{answer_fault_words, fault_line, field_word, read_fault_words, refusal_words, refused_line};
+ghost use Rattle.tf_command.specs.Said.{said_words};
+ghost use Rattle.tf_command.specs.Wrote.{Wrote};
 ghost use Rattle.tf_command.specs.Statuses.{status_of, status_of_check, status_of_standing};
-ghost use Rattle.tf_command.specs.Ending.{status_of_run, status_of_checking, status_of_evaluating};
+ghost use Rattle.tf_command.specs.Ending.{line_of, status_of_run, status_of_checking, status_of_evaluating};
 
-use crate::gathered::Gathered;
+use crate::gathered::{Gathered, send};
+use itoa::Buffer;
 use std::alloc::Allocator;
 use std::io::Write;
 use tf_engine::fault::RunFault;
@@ -22,23 +29,29 @@ const LINE: usize = 128;
 /// The most bytes of a line that one call writes.
 const BLOCK: usize = 64_000;
 
-/// Writes the line of a fault, as far as the writer takes it, and answers the exit status. It takes
-/// no memory.
+/// Writes the line of a fault, as far as the writer takes it, and gives the exit status. It takes no
+/// memory.
 pub fn report<A: Allocator, W: Write>(fault: &RunFault<A>, writer: &mut Counted<W>) -> u8
-    ensures { result ≡ status_of fault.now }
+    ensures status { result ≡ status_of fault.now }
+    ensures line { Wrote W.contents writer.old writer.new (fault_line fault.now) }
 {
     match fault {
         RunFault::Notation(fault) => {
-            say_refused(writer, &Said::counted("NotationFault", fault.byte as u64))
+            say(
+                writer,
+                REFUSED,
+                Said::One(b"NotationFault", fault.byte as u64),
+            );
         }
-        RunFault::Text(fault) => say_refused(writer, &said_of_text(fault)),
-        RunFault::Task(refusal) => say_refused(writer, &said_of_task(refusal)),
+        RunFault::Text(fault) => say(writer, REFUSED, said_of_text(fault)),
+        RunFault::Task(refusal) => say(writer, REFUSED, said_of_task(refusal)),
         RunFault::Cycle(jobs) => say_cycle(writer, jobs.as_slice()),
-        RunFault::Answer(fault) => say_answer_refused(writer, &said_of_answer(fault)),
-        RunFault::Pieces(fault) => say_answer_refused(writer, &said_of_pieces(fault)),
-        RunFault::OutOfMemory => say_memory(writer),
-        RunFault::Device => say_device(writer),
+        RunFault::Answer(fault) => say(writer, ANSWER_REFUSED, said_of_answer(fault)),
+        RunFault::Pieces(fault) => say(writer, ANSWER_REFUSED, said_of_pieces(fault)),
+        RunFault::OutOfMemory => return say_memory(writer),
+        RunFault::Device => return say_device(writer),
     }
+    2
 }
 
 /// The exit status of a check that said its verdict.
@@ -64,7 +77,8 @@ pub fn status_of_standing(standing: &Standing) -> u8
 
 /// Ends a run that wrote an answer or a drawing, or none: reports why, and answers the exit status.
 pub fn end_run<A: Allocator, W: Write>(run: &Result<(), RunFault<A>>, writer: &mut Counted<W>) -> u8
-    ensures { result ≡ status_of_run run.now }
+    ensures status { result ≡ status_of_run run.now }
+    ensures line { Wrote W.contents writer.old writer.new (line_of run.now) }
 {
     match run {
         Ok(()) => 0,
@@ -77,7 +91,8 @@ pub fn end_check<A: Allocator, W: Write>(
     run: &Result<Checked, RunFault<A>>,
     writer: &mut Counted<W>,
 ) -> u8
-    ensures { result ≡ status_of_checking run.now }
+    ensures status { result ≡ status_of_checking run.now }
+    ensures line { Wrote W.contents writer.old writer.new (line_of run.now) }
 {
     match run {
         Ok(checked) => status_of_check(checked),
@@ -90,7 +105,8 @@ pub fn end_evaluation<A: Allocator, W: Write>(
     run: &Result<Standing, RunFault<A>>,
     writer: &mut Counted<W>,
 ) -> u8
-    ensures { result ≡ status_of_evaluating run.now }
+    ensures status { result ≡ status_of_evaluating run.now }
+    ensures line { Wrote W.contents writer.old writer.new (line_of run.now) }
 {
     match run {
         Ok(standing) => status_of_standing(standing),
@@ -100,17 +116,19 @@ pub fn end_evaluation<A: Allocator, W: Write>(
 
 /// Says that there was no memory.
 pub fn say_memory<W: Write>(writer: &mut Counted<W>) -> u8
-    ensures { result ≡ 3 }
+    ensures status { result ≡ 3 }
+    ensures line { Wrote W.contents writer.old writer.new (codes "threefield: want of memory\n") }
 {
-    say(writer, "threefield: want of memory\n");
+    send(writer, b"threefield: want of memory\n");
     3
 }
 
 /// Says that a device failed.
 pub fn say_device<W: Write>(writer: &mut Counted<W>) -> u8
-    ensures { result ≡ 4 }
+    ensures status { result ≡ 4 }
+    ensures line { Wrote W.contents writer.old writer.new (codes "threefield: device fault\n") }
 {
-    say(writer, "threefield: device fault\n");
+    send(writer, b"threefield: device fault\n");
     4
 }
 
@@ -118,166 +136,161 @@ pub fn say_device<W: Write>(writer: &mut Counted<W>) -> u8
 pub fn say_usage<W: Write>(writer: &mut Counted<W>, text: &str) -> u8
     ensures { result ≡ 5 }
 {
-    let mut line = Gathered::<LINE>::new();
-    line.push(writer, "threefield: ");
-    line.push(writer, text);
-    line.push(writer, "\n");
-    line.write(writer);
+    say_line(writer, b"threefield: ", text.as_bytes(), &[]);
     5
 }
 
+const REFUSED: &[u8] = b"threefield: refused: ";
+
+const ANSWER_REFUSED: &[u8] = b"threefield: refused: answer ";
+
 // A fault by its name and its arguments.
 #[derive(Clone, Copy)]
-struct Said {
-    name: &'static str,
-    number: Option<u64>,
-    second: Option<u64>,
-    field: Option<&'static str>,
+enum Said {
+    Name(&'static [u8]),
+    One(&'static [u8], u64),
+    Two(&'static [u8], u64, i64),
+    Field(&'static [u8], u64, &'static [u8]),
 }
 
-impl Said {
-    fn named(name: &'static str) -> Said {
-        Said {
-            name,
-            number: None,
-            second: None,
-            field: None,
-        }
-    }
-
-    fn counted(name: &'static str, number: u64) -> Said {
-        Said {
-            number: Some(number),
-            ..Said::named(name)
-        }
-    }
-}
-
-fn said_of_text(fault: &ReadFault) -> Said {
+fn said_of_text(fault: &ReadFault) -> Said
+    ensures { said_words result ≡ read_fault_words fault.now }
+{
     match *fault {
-        ReadFault::TooLong => Said::named("TooLong"),
-        ReadFault::BadNumber(line) => Said::counted("BadNumber", u64::from(line)),
-        ReadFault::NumberTooLarge(line) => Said::counted("NumberTooLarge", u64::from(line)),
-        ReadFault::Negative(line) => Said::counted("Negative", u64::from(line)),
-        ReadFault::EndsEarly => Said::named("EndsEarly"),
-        ReadFault::NoInstance => Said::named("NoInstance"),
-        ReadFault::NotAFlowShop(line) => Said::counted("NotAFlowShop", u64::from(line)),
-        ReadFault::BadPair => Said::named("BadPair"),
-        ReadFault::BadLine(line) => Said::counted("BadLine", u64::from(line)),
-        ReadFault::BadCost(line) => Said::counted("BadCost", u64::from(line)),
-        ReadFault::NoJobs => Said::named("NoJobs"),
-        ReadFault::TooManyJobs => Said::named("TooManyJobs"),
-        ReadFault::TooManyArcs => Said::named("TooManyArcs"),
-        ReadFault::BadArc(line) => Said::counted("BadArc", u64::from(line)),
-        ReadFault::OutOfMemory => Said::named("OutOfMemory"),
+        ReadFault::TooLong => Said::Name(b"TooLong"),
+        ReadFault::BadNumber(line) => Said::One(b"BadNumber", u64::from(line)),
+        ReadFault::NumberTooLarge(line) => Said::One(b"NumberTooLarge", u64::from(line)),
+        ReadFault::Negative(line) => Said::One(b"Negative", u64::from(line)),
+        ReadFault::EndsEarly => Said::Name(b"EndsEarly"),
+        ReadFault::NoInstance => Said::Name(b"NoInstance"),
+        ReadFault::NotAFlowShop(line) => Said::One(b"NotAFlowShop", u64::from(line)),
+        ReadFault::BadPair => Said::Name(b"BadPair"),
+        ReadFault::BadLine(line) => Said::One(b"BadLine", u64::from(line)),
+        ReadFault::BadCost(line) => Said::One(b"BadCost", u64::from(line)),
+        ReadFault::NoJobs => Said::Name(b"NoJobs"),
+        ReadFault::TooManyJobs => Said::Name(b"TooManyJobs"),
+        ReadFault::TooManyArcs => Said::Name(b"TooManyArcs"),
+        ReadFault::BadArc(line) => Said::One(b"BadArc", u64::from(line)),
+        ReadFault::OutOfMemory => Said::Name(b"OutOfMemory"),
     }
 }
 
-fn said_of_answer(fault: &AnswerFault) -> Said {
-    match *fault {
-        AnswerFault::TooLong => Said::named("TooLong"),
-        AnswerFault::BadLine(line) => Said::counted("BadLine", u64::from(line)),
-        AnswerFault::NumberTooLarge(line) => Said::counted("NumberTooLarge", u64::from(line)),
-        AnswerFault::BadNotation => Said::named("BadNotation"),
-        AnswerFault::EndsEarly => Said::named("EndsEarly"),
-        AnswerFault::OutOfMemory => Said::named("OutOfMemory"),
-    }
-}
-
-fn said_of_pieces(fault: &PieceFault) -> Said {
-    match *fault {
-        PieceFault::OutOfRange(piece) => Said::counted("OutOfRange", piece as u64),
-        PieceFault::EmptyPiece(piece) => Said::counted("EmptyPiece", piece as u64),
-        PieceFault::MachineTwice(machine, time) => Said {
-            second: Some(time.unsigned_abs()),
-            ..Said::counted("MachineTwice", u64::from(machine.get()))
-        },
-    }
-}
-
-fn said_of_task(refusal: &Refusal) -> Said {
+fn said_of_task(refusal: &Refusal) -> Said
+    ensures { said_words result ≡ refusal_words refusal.now }
+{
     match *refusal {
-        Refusal::NoSolver => Said::named("NoSolver"),
-        Refusal::TooManyJobs => Said::named("TooManyJobs"),
-        Refusal::MachinesMissing => Said::named("MachinesMissing"),
-        Refusal::MachinesDisagree => Said::named("MachinesDisagree"),
-        Refusal::MachineCount(m) => Said::counted("MachineCount", u64::from(m)),
-        Refusal::WrongTimes(job) => Said::counted("WrongTimes", u64::from(job.get())),
-        Refusal::MissingField(job, field) => Said {
-            field: Some(field_name(field)),
-            ..Said::counted("MissingField", u64::from(job.get()))
-        },
-        Refusal::ZeroTime(job) => Said::counted("ZeroTime", u64::from(job.get())),
-        Refusal::TotalTooLarge => Said::named("TotalTooLarge"),
-        Refusal::OutOfMemory => Said::named("OutOfMemory"),
+        Refusal::NoSolver => Said::Name(b"NoSolver"),
+        Refusal::TooManyJobs => Said::Name(b"TooManyJobs"),
+        Refusal::MachinesMissing => Said::Name(b"MachinesMissing"),
+        Refusal::MachinesDisagree => Said::Name(b"MachinesDisagree"),
+        Refusal::MachineCount(m) => Said::One(b"MachineCount", u64::from(m)),
+        Refusal::WrongTimes(job) => Said::One(b"WrongTimes", u64::from(job.get())),
+        Refusal::MissingField(job, field) => {
+            Said::Field(b"MissingField", u64::from(job.get()), field_name(field))
+        }
+        Refusal::ZeroTime(job) => Said::One(b"ZeroTime", u64::from(job.get())),
+        Refusal::TotalTooLarge => Said::Name(b"TotalTooLarge"),
+        Refusal::OutOfMemory => Said::Name(b"OutOfMemory"),
     }
 }
 
-fn field_name(field: Field) -> &'static str {
+fn field_name(field: Field) -> &'static [u8]
+    ensures { result.now ≡ field_word field }
+{
     match field {
-        Field::Weight => "weight",
-        Field::Due => "due",
-        Field::Release => "release",
-        Field::Cost => "cost",
+        Field::Weight => b"weight",
+        Field::Due => b"due",
+        Field::Release => b"release",
+        Field::Cost => b"cost",
     }
 }
 
-fn say_refused<W: Write>(writer: &mut Counted<W>, said: &Said) -> u8
-    ensures { result ≡ 2 }
+fn said_of_answer(fault: &AnswerFault) -> Said
+    ensures { said_words result ≡ answer_fault_words fault.now }
 {
-    say_fault(writer, "threefield: refused: ", said);
-    2
-}
-
-fn say_answer_refused<W: Write>(writer: &mut Counted<W>, said: &Said) -> u8
-    ensures { result ≡ 2 }
-{
-    say_fault(writer, "threefield: refused: answer ", said);
-    2
-}
-
-fn say_cycle<W: Write>(writer: &mut Counted<W>, jobs: &[JobId]) -> u8
-    ensures { result ≡ 2 }
-{
-    let mut line = Gathered::<BLOCK>::new();
-    line.push(writer, "threefield: refused: Cycle");
-    for job in jobs {
-        push_number(&mut line, writer, u64::from(job.get()));
+    match *fault {
+        AnswerFault::TooLong => Said::Name(b"TooLong"),
+        AnswerFault::BadLine(line) => Said::One(b"BadLine", u64::from(line)),
+        AnswerFault::NumberTooLarge(line) => Said::One(b"NumberTooLarge", u64::from(line)),
+        AnswerFault::BadNotation => Said::Name(b"BadNotation"),
+        AnswerFault::EndsEarly => Said::Name(b"EndsEarly"),
+        AnswerFault::OutOfMemory => Said::Name(b"OutOfMemory"),
     }
-    line.push(writer, "\n");
-    line.write(writer);
-    2
 }
 
-fn say_fault<W: Write>(writer: &mut Counted<W>, front: &str, said: &Said) {
+fn said_of_pieces(fault: &PieceFault) -> Said
+    ensures { said_words result ≡ piece_fault_words fault.now }
+{
+    match *fault {
+        PieceFault::OutOfRange(piece) => Said::One(b"OutOfRange", piece as u64),
+        PieceFault::EmptyPiece(piece) => Said::One(b"EmptyPiece", piece as u64),
+        PieceFault::MachineTwice(machine, time) => {
+            Said::Two(b"MachineTwice", u64::from(machine.get()), time)
+        }
+    }
+}
+
+// Writes the line of a fault.
+fn say<W: Write>(writer: &mut Counted<W>, front: &[u8], said: Said)
+    ensures { Wrote W.contents writer.old writer.new (front.now ++ line_text (said_words said)) }
+{
+    match said {
+        Said::Name(name) => say_line(writer, front, name, &[]),
+        Said::One(name, number) => {
+            let mut digits = Buffer::new();
+            say_line(writer, front, name, &[digits.format(number).as_bytes()]);
+        }
+        Said::Two(name, number, time) => {
+            let mut first = Buffer::new();
+            let mut second = Buffer::new();
+            let first = first.format(number).as_bytes();
+            say_line(
+                writer,
+                front,
+                name,
+                &[first, second.format(time).as_bytes()],
+            );
+        }
+        Said::Field(name, number, field) => {
+            let mut digits = Buffer::new();
+            say_line(
+                writer,
+                front,
+                name,
+                &[digits.format(number).as_bytes(), field],
+            );
+        }
+    }
+}
+
+// A line of a name and words, behind what stands at its front.
+fn say_line<W: Write>(writer: &mut Counted<W>, front: &[u8], name: &[u8], words: &[&[u8]])
+    ensures { Wrote W.contents writer.old writer.new
+        (front.now ++ line_text (name.now ∷ map (λ word. word.now) words.now)) }
+{
     let mut line = Gathered::<LINE>::new();
     line.push(writer, front);
-    line.push(writer, said.name);
-    if let Some(number) = said.number {
-        push_number(&mut line, writer, number);
+    line.push(writer, name);
+    for word in words {
+        line.push(writer, b" ");
+        line.push(writer, word);
     }
-    if let Some(number) = said.second {
-        push_number(&mut line, writer, number);
-    }
-    if let Some(field) = said.field {
-        line.push(writer, " ");
-        line.push(writer, field);
-    }
-    line.push(writer, "\n");
+    line.push(writer, b"\n");
     line.write(writer);
 }
 
-fn push_number<W: Write, const ROOM: usize>(
-    line: &mut Gathered<ROOM>,
-    writer: &mut Counted<W>,
-    number: u64,
-) {
-    let mut digits = itoa::Buffer::new();
-    line.push(writer, " ");
-    line.push(writer, digits.format(number));
-}
-
-// After a failure the writer is left alone.
-fn say<W: Write>(writer: &mut Counted<W>, text: &str) {
-    let _ = writer.push_all(text.as_bytes());
+// The line of a cycle, written in blocks where it is longer than one.
+fn say_cycle<W: Write>(writer: &mut Counted<W>, jobs: &[JobId])
+    ensures { Wrote W.contents writer.old writer.new
+        (refused_line (codes "Cycle" ∷ map decimal jobs.now)) }
+{
+    let mut line = Gathered::<BLOCK>::new();
+    line.push(writer, b"threefield: refused: Cycle");
+    for job in jobs {
+        let mut digits = Buffer::new();
+        line.push(writer, b" ");
+        line.push(writer, digits.format(job.get()).as_bytes());
+    }
+    line.push(writer, b"\n");
+    line.write(writer);
 }

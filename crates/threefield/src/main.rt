@@ -6,9 +6,11 @@ mod files;
 use files::Files;
 use std::alloc::AllocError;
 use std::io;
+use std::io::IsTerminal;
 use std::process::ExitCode;
 use tf_command::commands::perform;
 use tf_command::console::Console;
+use tf_command::misuse::say_misuse;
 use tf_command::options::{Asked, command, understand};
 use tf_command::report::{say_device, say_memory, say_usage};
 use tf_text::counted::Counted;
@@ -32,7 +34,7 @@ fn program(rt: &HostRuntime) -> u8 {
     let Ok(command) = command(rt.alloc()) else {
         return say_memory(&mut errors);
     };
-    match understand(command, words.as_slice()) {
+    match understand(command, words.as_slice(), rt.stderr().is_terminal()) {
         Asked::Work(work) => {
             let mut console = Console {
                 alloc: rt.alloc(),
@@ -45,9 +47,7 @@ fn program(rt: &HostRuntime) -> u8 {
             Ok(()) => 0,
             Err(_) => say_device(&mut errors),
         },
-        Asked::Misused(text) => match text.print(rt) {
-            Ok(()) | Err(_) => 5,
-        },
+        Asked::Misused(_) => say_misuse(rt.alloc(), words.as_slice(), &mut errors),
         Asked::Unfit(text) => say_usage(&mut errors, text),
         Asked::NoMemory => say_memory(&mut errors),
     }

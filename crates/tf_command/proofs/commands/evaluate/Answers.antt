@@ -19,5 +19,6 @@ returns-in_default g c =
         is_whole_answer = is_said;
         outcome = Keeps-refl _;
       };
-      ends = c.say_memory.ensures;
+      ends = c.say_memory.ensures.status;
+      said = λ _. c.say_memory.ensures.line;
     }

@@ -12,5 +12,6 @@ returns-in_default g c =
     record {
       run = Err OutOfMemory;
       outcome = record { text = text; is_all = is; outcome = Keeps-refl _ };
-      ends = c.say_memory.ensures;
+      ends = c.say_memory.ensures.status;
+      said = λ _. c.say_memory.ensures.line;
     }

@@ -1,0 +1,74 @@
+-- What the program does of what is asked for: which run over which texts ends how.
+use Rattle.std.specs.Prelude.{◌≡◌, ◌⊎◌, ℕ, Bool, true, List, Option, None, Some, IfSome, codes}
+use Rattle.std.specs.declared.alloc.Global.{Global}
+use Rattle.std.specs.Io.KnownBytes.{Keeps}
+use Rattle.tf_text.specs.Counted.{DeviceUse}
+use Rattle.tf_text.specs.declared.answer.layout.Layout.TheVariants.{Two}
+use Rattle.tf_command.specs.declared.options.Work.{Work as Asking}
+use Rattle.tf_command.specs.declared.options.Work.TheVariants.{Solve, Bound, Check, Evaluate, Gantt, Problems}
+use Rattle.tf_command.specs.Asking.{requested}
+use Rattle.tf_command.specs.Ending.{EndsSolving, EndsBounding, EndsChecking, EndsDrawing, EndsEvaluating}
+
+-- the bytes of the text of each name, where they are known
+abbrev pub Texts : Type 0
+Texts = List ℕ → Option (List ℕ)
+
+-- the text of this name was read, from its first byte on
+abbrev pub ReadsNamed : Texts → List ℕ → DeviceUse → Type 0
+ReadsNamed texts name reader = IfSome (texts name) (λ text. reader.before ≡ Some text)
+
+-- the text of this name, whose bytes are not known, was not opened, and nothing was written
+pub record IsNotOpened (texts : Texts) (name : List ℕ) (writer : DeviceUse) (says : List ℕ → Type 0)
+    (status : ℕ) : Type 0 where
+  pub unknown : texts name ≡ None
+  pub unwritten : Keeps writer.before writer.after
+  pub ends : status ≡ 4
+  pub said : says (codes "threefield: device fault\n")
+
+-- the text of this name was opened and read as `Ends` says, or it was not opened
+abbrev pub EndsOver : Texts → List ℕ → DeviceUse → (List ℕ → Type 0) → ℕ
+    → (DeviceUse → Type 0) → Type 0
+EndsOver texts name writer says status Ends =
+    IsNotOpened texts name writer says status
+    ⊎ ((reader : DeviceUse) × ReadsNamed texts name reader × Ends reader)
+
+-- the same of two texts, of which the first is opened first
+abbrev pub EndsOverBoth : Texts → List ℕ → List ℕ → DeviceUse → (List ℕ → Type 0) → ℕ
+    → (DeviceUse → DeviceUse → Type 0) → Type 0
+EndsOverBoth texts first second writer says status Ends =
+    IsNotOpened texts first writer says status ⊎ IsNotOpened texts second writer says status
+    ⊎ ((reader : DeviceUse) × (other : DeviceUse) × ReadsNamed texts first reader
+    × ReadsNamed texts second other × Ends reader other)
+
+-- a list was written, or nothing where a table was refused or memory was wanting
+abbrev pub EndsListing : DeviceUse → ℕ → Type 0
+EndsListing writer status =
+    (status ≡ 0) ⊎ (status ≡ 4)
+    ⊎ (((status ≡ 2) ⊎ (status ≡ 3)) × Keeps writer.before writer.after)
+
+-- what is asked for is done over the texts that it names, and ends with this line on standard error
+-- and this status
+abbrev pub Performs : Texts → Asking → DeviceUse → (Bool → List ℕ → Type 0) → ℕ → Type 0
+Performs texts (Solve options layout) writer says status =
+    let said = says options.telling.explain in
+    EndsOver texts options.input.now writer said status
+    (λ instance. EndsSolving Global (requested options layout) instance writer said status)
+Performs texts (Bound options steps) writer says status =
+    let said = says options.telling.explain in
+    EndsOver texts options.input.now writer said status
+    (λ instance. EndsBounding Global (requested options Two) instance writer said status)
+Performs texts (Check options answer) writer says status =
+    let said = says options.telling.explain in
+    EndsOverBoth texts options.input.now answer.now writer said status
+    (λ instance other. EndsChecking Global (requested options Two) instance other writer said status)
+Performs texts (Evaluate evaluating) writer says status =
+    let said = says evaluating.options.telling.explain in
+    EndsOverBoth texts evaluating.options.input.now evaluating.answer.now writer said status
+    (λ instance other. EndsEvaluating Global evaluating.detail (requested evaluating.options Two)
+    instance other writer said status)
+Performs texts (Gantt answer drawing explain) writer says status =
+    EndsOver texts answer.now writer (says explain) status
+    (λ reader. EndsDrawing Global drawing reader writer (says explain) status)
+Performs texts (Problems None) writer says status = EndsListing writer status
+Performs texts (Problems (Some table)) writer says status =
+    EndsOver texts table.now writer (says true) status (λ _. EndsListing writer status)
