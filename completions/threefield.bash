@@ -1,0 +1,30 @@
+# Completions of threefield for bash: source this file, or put it into a folder that bash-completion reads.
+_threefield() {
+    local word=${COMP_WORDS[COMP_CWORD]} before=${COMP_WORDS[COMP_CWORD - 1]} command=${COMP_WORDS[1]}
+    local instance="--problem --format --jobs --index --name --pair --machines --explain --help"
+    if [ "$COMP_CWORD" -eq 1 ]; then
+        COMPREPLY=($(compgen -W "solve bound check evaluate gantt problems help --help --version" -- "$word"))
+        return
+    fi
+    case $before in
+    --format | -f) COMPREPLY=($(compgen -W "table wt flow" -- "$word")); return ;;
+    --answer) COMPREPLY=($(compgen -W "1 2" -- "$word")); return ;;
+    esac
+    if [[ $word != -* ]]; then
+        if [ "$command" = help ]; then
+            COMPREPLY=($(compgen -W "solve bound check evaluate gantt problems" -- "$word"))
+        else
+            COMPREPLY=($(compgen -f -- "$word"))
+        fi
+        return
+    fi
+    case $command in
+    solve) COMPREPLY=($(compgen -W "$instance --answer" -- "$word")) ;;
+    bound) COMPREPLY=($(compgen -W "$instance --steps" -- "$word")) ;;
+    check) COMPREPLY=($(compgen -W "$instance" -- "$word")) ;;
+    evaluate) COMPREPLY=($(compgen -W "$instance --certificate" -- "$word")) ;;
+    gantt) COMPREPLY=($(compgen -W "--columns --svg --explain --help" -- "$word")) ;;
+    problems) COMPREPLY=($(compgen -W "--help" -- "$word")) ;;
+    esac
+}
+complete -o filenames -F _threefield threefield
