@@ -1,0 +1,215 @@
+#!/usr/bin/env python3
+"""Measures how strong the printed lower bounds are: their gaps to a heuristic, with seconds and memory.
+
+    python3 bench/bounds.py PROGRAM [STEPS]
+
+The instances are made here, from fixed seeds. Weighted tardiness: 125 instances of 40 jobs by the published recipe of
+OR-Library's files (processing times 1 to 100, weights 1 to 10, due dates from P(1 - TF - RDD/2) to P(1 - TF + RDD/2)). One machine
+with release dates: 20 instances of 30 jobs. Three machines: 40 instances each of 10, 15, 20 and 50 jobs, times 20 to 100. The
+heuristics are short and plain: a priority rule, then the best of all insertions and exchanges until none helps, from several
+starts. A gap is the heuristic's cost less the bound, in percent of the cost; where both are equal the schedule is proved optimal.
+"""
+import os
+import random
+import resource
+import subprocess
+import sys
+import tempfile
+import time
+
+RANGES = (0.2, 0.4, 0.6, 0.8, 1.0)
+
+
+class Measured:
+    """What one run of the program gave: the value, the seconds, and the most memory in MB of any run so far."""
+
+    def __init__(self, words, text):
+        with tempfile.NamedTemporaryFile("w", suffix=".txt", delete=False) as file:
+            file.write(text)
+        start = time.monotonic()
+        done = subprocess.run([*words, file.name], capture_output=True, text=True, check=False)
+        self.seconds = time.monotonic() - start
+        os.unlink(file.name)
+        if done.returncode != 0:
+            raise SystemExit(f"{' '.join(words)}: status {done.returncode}: {done.stderr}")
+        fields = dict(line.split(" ", 1) for line in done.stdout.splitlines() if " " in line)
+        self.value = int(fields["value"])
+        self.memory = resource.getrusage(resource.RUSAGE_CHILDREN).ru_maxrss / 1024
+
+
+def table(jobs):
+    """A job table of dictionaries from a field's letter to its number."""
+    lines = [f"job {k} " + " ".join(f"{key}={value}" for key, value in job.items()) for k, job in enumerate(jobs, 1)]
+    return "\n".join(["table 1", *lines, ""])
+
+
+def descent(order, cost):
+    """The order after the best insertions and exchanges, as long as one helps, and its cost."""
+    best = cost(order)
+    improved = True
+    while improved:
+        improved = False
+        for i in range(len(order)):
+            for j in range(len(order)):
+                if i == j:
+                    continue
+                moved = order[:i] + order[i + 1:]
+                moved.insert(j, order[i])
+                swapped = order[:]
+                swapped[i], swapped[j] = swapped[j], swapped[i]
+                for other in (moved, swapped):
+                    value = cost(other)
+                    if value < best:
+                        order, best, improved = other, value, True
+    return order, best
+
+
+def tardiness_of(jobs):
+    """The total weighted tardiness of an order."""
+    triples = [(job["p"], job["w"], job["d"]) for job in jobs]
+
+    def cost(order):
+        at = total = 0
+        for k in order:
+            p, w, d = triples[k]
+            at += p
+            if at > d:
+                total += w * (at - d)
+        return total
+    return cost
+
+
+def urgent_order(jobs):
+    """The order by apparent tardiness cost: at each time the job whose weighted ratio, less its slack, is greatest."""
+    mean = sum(job["p"] for job in jobs) / len(jobs)
+    left, order, at = set(range(len(jobs))), [], 0
+    while left:
+        def index(k):
+            job = jobs[k]
+            slack = max(job["d"] - job["p"] - at, 0)
+            return job["w"] / job["p"] * 2.718281828 ** (-slack / (2 * mean))
+        k = max(left, key=index)
+        left.remove(k)
+        order.append(k)
+        at += jobs[k]["p"]
+    return order
+
+
+def best_tardiness(jobs, draw):
+    cost = tardiness_of(jobs)
+    order, best = descent(urgent_order(jobs), cost)
+    for _ in range(3):
+        kicked = order[:]
+        for _ in range(4):
+            i, j = draw.randrange(len(jobs)), draw.randrange(len(jobs))
+            kicked[i], kicked[j] = kicked[j], kicked[i]
+        kicked, value = descent(kicked, cost)
+        if value < best:
+            order, best = kicked, value
+    return best
+
+
+def lateness_of(jobs):
+    def cost(order):
+        at, worst = 0, None
+        for k in order:
+            job = jobs[k]
+            at = max(at, job["r"]) + job["p"]
+            worst = at - job["d"] if worst is None else max(worst, at - job["d"])
+        return worst
+    return cost
+
+
+def released_order(jobs):
+    """Schrage's rule: of the released jobs the one that is due first."""
+    left, order, at = set(range(len(jobs))), [], 0
+    while left:
+        at = max(at, min(jobs[k]["r"] for k in left))
+        k = min((k for k in left if jobs[k]["r"] <= at), key=lambda k: jobs[k]["d"])
+        left.remove(k)
+        order.append(k)
+        at += jobs[k]["p"]
+    return order
+
+
+def best_makespan(times, machines, draw):
+    """The longest processing times first, then moves and exchanges between the longest machine and the others."""
+    loads = [[] for _ in range(machines)]
+    for p in sorted(times, reverse=True):
+        min(loads, key=sum).append(p)
+    for _ in range(20_000):
+        long, other = max(loads, key=sum), draw.choice(loads)
+        if long is other:
+            continue
+        p, q = draw.choice(long), draw.choice([0, *other])
+        if 0 < p - q < sum(long) - sum(other):
+            long.remove(p)
+            other.append(p)
+            if q:
+                other.remove(q)
+                long.append(q)
+    return max(map(sum, loads))
+
+
+def gap(cost, bound):
+    return 100 * (cost - bound) / cost if cost > 0 else 0.0
+
+
+def row(name, gaps, seconds):
+    mean, proved = sum(gaps) / len(gaps), sum(g == 0 for g in gaps)
+    print(f"| {name} | {len(gaps)} | {mean:.2f} | {max(gaps):.2f} | {proved} | {sum(seconds) / len(seconds):.3f} |", flush=True)
+
+
+def weighted_tardiness(program, steps, draw):
+    words = [program, "bound", "-p", "1||sumwT", *(["--steps", steps] if steps else [])]
+    for factor in RANGES:
+        gaps, seconds = [], []
+        for spread in RANGES:
+            for _ in range(5):
+                times = [draw.randint(1, 100) for _ in range(40)]
+                total = sum(times)
+                low, high = int(total * (1 - factor - spread / 2)), int(total * (1 - factor + spread / 2))
+                jobs = [{"p": p, "w": draw.randint(1, 10), "d": max(draw.randint(low, high), 0)} for p in times]
+                run = Measured(words, table(jobs))
+                gaps.append(gap(best_tardiness(jobs, draw), run.value))
+                seconds.append(run.seconds)
+        row(f"`1\\|\\|sumwT`, 40 jobs, tardiness factor {factor}", gaps, seconds)
+    return run.memory
+
+
+def released(program, draw):
+    for spread in (18, 25):
+        gaps, seconds = [], []
+        for _ in range(20):
+            n = 30
+            jobs = [{"p": draw.randint(1, 50), "r": draw.randint(1, n * spread), "d": n * spread - draw.randint(1, n * spread)}
+                    for _ in range(n)]
+            run = Measured([program, "bound", "-p", "1|rj|Lmax"], table(jobs))
+            best = descent(released_order(jobs), lateness_of(jobs))[1]
+            gaps.append(gap(best + n * spread, run.value + n * spread))
+            seconds.append(run.seconds)
+        row(f"`1\\|rj\\|Lmax`, 30 jobs, dates to {30 * spread}", gaps, seconds)
+    return run.memory
+
+
+def parallel(program, draw):
+    for n in (10, 15, 20, 50):
+        gaps, seconds = [], []
+        for _ in range(40):
+            times = [draw.randint(20, 100) for _ in range(n)]
+            run = Measured([program, "bound", "-p", "P3||Cmax"], table([{"p": p} for p in times]))
+            gaps.append(gap(best_makespan(times, 3, draw), run.value))
+            seconds.append(run.seconds)
+        row(f"`P3\\|\\|Cmax`, {n} jobs", gaps, seconds)
+    return run.memory
+
+
+def main(program, steps=None):
+    draw = random.Random(20261126)
+    print("| Instances | Number | Mean gap, percent | Greatest gap | Proved optimal | Seconds each |\n|---|---|---|---|---|---|")
+    memory = max(released(program, draw), parallel(program, draw), weighted_tardiness(program, steps, draw))
+    print(f"\nAt most {memory:.0f} MB.")
+
+
+if __name__ == "__main__":
+    main(*sys.argv[1:])
