@@ -1,4 +1,4 @@
-//! Causes of faults in job tables, each with what is wrong and how to mend it.
+//! Causes of faults in job tables, each with what is wrong and how to fix it.
 
 /// What may have happened where one kind of text stands in the place of another.
 pub const EXCHANGED: &str =
@@ -82,7 +82,7 @@ impl Place {
     }
 }
 
-/// What is wrong, and how to mend it.
+/// What is wrong, and how to fix it.
 #[derive(Clone, Copy, Debug)]
 pub struct Advice {
     /// What the person may have done.
@@ -91,8 +91,8 @@ pub struct Advice {
     pub place: Place,
     /// What is wrong, in a sentence.
     pub wrong: &'static str,
-    /// How to mend it, in a sentence.
-    pub mend: &'static str,
+    /// How to fix it, in a sentence.
+    pub fix: &'static str,
 }
 
 impl Cause {
@@ -108,252 +108,252 @@ pub static ADVICE: [Advice; 42] = [
         cause: Cause::ByteOrderMark,
         place: Place::Heading,
         wrong: "The file begins with a byte order mark, which an editor wrote.",
-        mend: "Save the file as UTF-8 without a byte order mark.",
+        fix: "Save the file as UTF-8 without a byte order mark.",
     },
     Advice {
         cause: Cause::IsAnswer,
         place: Place::Heading,
         wrong: "This is an answer text, and an instance is wanted here.",
-        mend: EXCHANGED,
+        fix: EXCHANGED,
     },
     Advice {
         cause: Cause::IsFlowShop,
         place: Place::Heading,
         wrong: "This looks like a flow shop file of OR-Library, and not like a job table.",
-        mend: "Add --format flow --name NAME.",
+        fix: "Add --format flow --name NAME.",
     },
     Advice {
         cause: Cause::IsNumbers,
         place: Place::Heading,
         wrong: "This looks like a weighted tardiness file of OR-Library: it begins with a number.",
-        mend: "Add --format wt --jobs N, with the number of jobs of one instance.",
+        fix: "Add --format wt --jobs N, with the number of jobs of one instance.",
     },
     Advice {
         cause: Cause::IsSpreadsheet,
         place: Place::Heading,
         wrong: "This looks like a file of a spreadsheet, and not like a job table.",
-        mend: "Below a line \"table 1\" write a line such as \"job 1 p=3 d=4\" for each of its rows.",
+        fix: "Below a line \"table 1\" write a line such as \"job 1 p=3 d=4\" for each of its rows.",
     },
     Advice {
         cause: Cause::NoHeading,
         place: Place::Heading,
         wrong: "The heading is missing.",
-        mend: "Put a line \"table 1\" above this one.",
+        fix: "Put a line \"table 1\" above this one.",
     },
     Advice {
         cause: Cause::OtherHeading,
         place: Place::Heading,
         wrong: "This is not the heading of a job table.",
-        mend: "Write \"table 1\" in lower case, with nothing behind it.",
+        fix: "Write \"table 1\" in lower case, with nothing behind it.",
     },
     Advice {
         cause: Cause::HeadingAgain,
         place: Place::Line,
         wrong: "The heading is repeated here.",
-        mend: "A file holds one table: leave this line out.",
+        fix: "A file holds one table: leave this line out.",
     },
     Advice {
         cause: Cause::MachinesOneWord,
         place: Place::Machines,
         wrong: "There is a \"=\" between machines and its number.",
-        mend: "Write two words, as in \"machines 2\".",
+        fix: "Write two words, as in \"machines 2\".",
     },
     Advice {
         cause: Cause::MachinesForm,
         place: Place::Machines,
         wrong: "This line has two words: machines and a number.",
-        mend: "Write it as in \"machines 2\".",
+        fix: "Write it as in \"machines 2\".",
     },
     Advice {
         cause: Cause::MachinesRange,
         place: Place::Machines,
         wrong: "The number of machines is below 1 or above 1000.",
-        mend: "Correct the number, or leave the line out and use --machines.",
+        fix: "Correct the number, or leave the line out and use --machines.",
     },
     Advice {
         cause: Cause::MachinesPlace,
         place: Place::Machines,
         wrong: "The line \"machines\" stands too late, or twice.",
-        mend: "Move it above the first job, and leave one of two out.",
+        fix: "Move it above the first job, and leave one of two out.",
     },
     Advice {
         cause: Cause::UpperCase,
         place: Place::Line,
         wrong: "Upper and lower case differ here.",
-        mend: "Write the word in lower case.",
+        fix: "Write the word in lower case.",
     },
     Advice {
         cause: Cause::JobOneWord,
         place: Place::Job,
         wrong: "There is no space between \"job\" and its number.",
-        mend: "Write two words, as in \"job 1\".",
+        fix: "Write two words, as in \"job 1\".",
     },
     Advice {
         cause: Cause::UnknownLine,
         place: Place::Line,
         wrong: "No line of a job table begins with this word.",
-        mend: "Put \"#\" before it if it is a comment.",
+        fix: "Put \"#\" before it if it is a comment.",
     },
     Advice {
         cause: Cause::NoJobNumber,
         place: Place::Job,
         wrong: "The number of the job is missing or is no number.",
-        mend: "Write it behind \"job\"; a job is named by a number alone.",
+        fix: "Write it behind \"job\"; a job is named by a number alone.",
     },
     Advice {
         cause: Cause::JobZero,
         place: Place::Job,
         wrong: "Jobs count from 1, and not from 0.",
-        mend: "Add 1 to the number of each job, and to those of all arcs.",
+        fix: "Add 1 to the number of each job, and to those of all arcs.",
     },
     Advice {
         cause: Cause::LeadingZero,
         place: Place::Job,
         wrong: "The number of a job is written without leading zeros.",
-        mend: "Write 1 in place of 01.",
+        fix: "Write 1 in place of 01.",
     },
     Advice {
         cause: Cause::JobOrder,
         place: Place::Job,
         wrong: "The jobs are out of their order, or one of them is missing.",
-        mend: "Sort the lines by their numbers, and leave no number out.",
+        fix: "Sort the lines by their numbers, and leave no number out.",
     },
     Advice {
         cause: Cause::JobAfterArc,
         place: Place::Arc,
         wrong: "This job comes after a precedence constraint.",
-        mend: "Move all lines \"prec\" after the last job.",
+        fix: "Move all lines \"prec\" after the last job.",
     },
     Advice {
         cause: Cause::BlankInField,
         place: Place::Job,
         wrong: "There is a space next to a \"=\" or a \",\", so one field is two words or more.",
-        mend: "Write each field as one word, as in p=3 or p=3,4.",
+        fix: "Write each field as one word, as in p=3 or p=3,4.",
     },
     Advice {
         cause: Cause::Remark,
         place: Place::Job,
         wrong: "A comment cannot follow a job on its line.",
-        mend: "Give the remark a line of its own, with \"#\" first.",
+        fix: "Give the remark a line of its own, with \"#\" first.",
     },
     Advice {
         cause: Cause::NoEquals,
         place: Place::Job,
         wrong: "This word is no field: it has no \"=\".",
-        mend: "Write the field's letter, \"=\" and its value, as in p=3.",
+        fix: "Write the field's letter, \"=\" and its value, as in p=3.",
     },
     Advice {
         cause: Cause::LongName,
         place: Place::Job,
         wrong: "A field is named by one lower case letter.",
-        mend: "p= is the processing time, w= the weight, d= the due date, r= the release date, h= the cost.",
+        fix: "p= is the processing time, w= the weight, d= the due date, r= the release date, h= the cost.",
     },
     Advice {
         cause: Cause::UnknownField,
         place: Place::Job,
         wrong: "There is no such field.",
-        mend: "p= is the processing time, w= the weight, d= the due date, r= the release date, h= the cost.",
+        fix: "p= is the processing time, w= the weight, d= the due date, r= the release date, h= the cost.",
     },
     Advice {
         cause: Cause::FieldTwice,
         place: Place::Job,
         wrong: "This field occurs twice in its line.",
-        mend: "Leave one of them out.",
+        fix: "Leave one of them out.",
     },
     Advice {
         cause: Cause::ManyTimes,
         place: Place::Job,
         wrong: "p= takes one number, or two in a shop.",
-        mend: "Write p=3, or p=3,4 for the times on machines 1 and 2.",
+        fix: "Write p=3, or p=3,4 for the times on machines 1 and 2.",
     },
     Advice {
         cause: Cause::NoTime,
         place: Place::Job,
         wrong: "The job has no processing time.",
-        mend: "Add p= and the time.",
+        fix: "Add p= and the time.",
     },
     Advice {
         cause: Cause::DecimalPoint,
         place: Place::Job,
         wrong: "All numbers are whole, and this one has a decimal point.",
-        mend: "Take a finer unit, such as minutes in place of hours.",
+        fix: "Take a finer unit, such as minutes in place of hours.",
     },
     Advice {
         cause: Cause::DecimalComma,
         place: Place::Job,
         wrong: "All numbers are whole, and this one has a comma.",
-        mend: "Take a finer unit, such as minutes in place of hours.",
+        fix: "Take a finer unit, such as minutes in place of hours.",
     },
     Advice {
         cause: Cause::PlusSign,
         place: Place::Job,
         wrong: "A number has no \"+\" before it.",
-        mend: "Leave the \"+\" out.",
+        fix: "Leave the \"+\" out.",
     },
     Advice {
         cause: Cause::Thousands,
         place: Place::Job,
         wrong: "A number is of digits alone, without marks between them.",
-        mend: "Write 1000 in place of 1'000 or 1_000.",
+        fix: "Write 1000 in place of 1'000 or 1_000.",
     },
     Advice {
         cause: Cause::Unit,
         place: Place::Job,
         wrong: "A number has no unit.",
-        mend: "Write digits alone; all times are in one unit of your choice.",
+        fix: "Write digits alone; all times are in one unit of your choice.",
     },
     Advice {
         cause: Cause::NotANumber,
         place: Place::Job,
         wrong: "A whole number is wanted here.",
-        mend: "Write digits alone, with \"-\" before them if the number is negative.",
+        fix: "Write digits alone, with \"-\" before them if the number is negative.",
     },
     Advice {
         cause: Cause::TooLarge,
         place: Place::Job,
         wrong: "The number is above 4000000000000000000.",
-        mend: "Take a coarser unit of time, or a smaller one of cost.",
+        fix: "Take a coarser unit of time, or a smaller one of cost.",
     },
     Advice {
         cause: Cause::Negative,
         place: Place::Job,
         wrong: "Times, weights and release dates are at least 0.",
-        mend: "Due dates and costs alone may be negative.",
+        fix: "Due dates and costs alone may be negative.",
     },
     Advice {
         cause: Cause::StepForm,
         place: Place::Job,
         wrong: "A cost is a base and then steps TIME:VALUE, each with one colon.",
-        mend: "Write it as in h=0,5:10,9:20: 0 at first, 10 from time 5 on, 20 from time 9 on.",
+        fix: "Write it as in h=0,5:10,9:20: 0 at first, 10 from time 5 on, 20 from time 9 on.",
     },
     Advice {
         cause: Cause::TimesNotRising,
         place: Place::Job,
         wrong: "The times of a cost have to rise.",
-        mend: "Sort the steps by their times, and give each time once.",
+        fix: "Sort the steps by their times, and give each time once.",
     },
     Advice {
         cause: Cause::CostFalls,
         place: Place::Job,
         wrong: "A cost may not fall: no value is below the one before it, the base among them.",
-        mend: "Correct the values; costs that fall with time are not solved.",
+        fix: "Correct the values; costs that fall with time are not solved.",
     },
     Advice {
         cause: Cause::ArcBeforeJobs,
         place: Place::Arc,
         wrong: "This precedence constraint comes before the first job.",
-        mend: "Move all lines \"prec\" after the last job.",
+        fix: "Move all lines \"prec\" after the last job.",
     },
     Advice {
         cause: Cause::ArcForm,
         place: Place::Arc,
         wrong: "A precedence constraint has two numbers of jobs, and this line has others.",
-        mend: "Write one line for each precedence constraint, as in \"prec 1 3\".",
+        fix: "Write one line for each precedence constraint, as in \"prec 1 3\".",
     },
     Advice {
         cause: Cause::ArcStranger,
         place: Place::Arc,
         wrong: "The precedence constraint names a job that the table does not have.",
-        mend: "Correct the number, or add the job's line.",
+        fix: "Correct the number, or add the job's line.",
     },
 ];

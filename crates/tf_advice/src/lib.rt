@@ -1,4 +1,4 @@
-//! Plain words on texts: which line is wrong and how to mend it, what a problem line means, which
+//! Plain words on texts: which line is wrong and how to fix it, what a problem line means, which
 //! problems are solved. It looks at the texts again and decides nothing.
 #![tactic(auto)]
 

@@ -66,7 +66,7 @@ fn say_slips(page: &mut Page, source: &Source<'_>, slips: &[Slip<'_>]) -> Result
         page.quote(source, &slip.line, slip.word)?;
         if let Some(advice) = slip.cause.advice() {
             page.say(advice.wrong)?;
-            page.say(advice.mend)?;
+            page.say(advice.fix)?;
         }
     }
     if slips.len() > MOST_SLIPS {

@@ -52,7 +52,7 @@ fn say_unused(
     }
 }
 
-/// What is wrong and how to mend it, where a run over an instance, and perhaps an answer, was
+/// What is wrong and how to fix it, where a run over an instance, and perhaps an answer, was
 /// refused.
 ///
 /// # Errors

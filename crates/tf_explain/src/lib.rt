@@ -1,4 +1,4 @@
-//! Plain words on a run that is over: what is wrong with what was read, and how to mend it. It
+//! Plain words on a run that is over: what is wrong with what was read, and how to fix it. It
 //! looks at the texts again and decides nothing. [`explain`] has a call for each way in which a run
 //! ends.
 #![tactic(auto)]
