@@ -1,5 +1,5 @@
 //! The problems that are solved, and what each needs of an instance.
-use std::alloc::{AllocError, Global};
+use std::alloc::{AllocError, Allocator};
 use tf_model::class::Class;
 use tf_model::instance::Instance;
 use tf_model::job::{Job, Times};
@@ -33,7 +33,7 @@ pub static CLASSES: [Class; 19] = [
 const HEADING: &str = "PROBLEM          NEEDS        OBJECTIVE, MACHINES\n";
 
 /// The notation of a class.
-fn notation_of(alloc: Global, class: Class) -> Result<String, AllocError> {
+fn notation_of<A: Allocator + Copy>(alloc: A, class: Class) -> Result<String<A>, AllocError> {
     match notation_text(alloc, &class.notation()) {
         Ok(text) => Ok(text),
         Err(_) => Err(AllocError),
@@ -99,7 +99,10 @@ fn machines_of(class: Class) -> &'static str {
 /// # Errors
 ///
 /// There was no memory.
-pub fn solved_problems(alloc: Global, instance: Option<&Instance>) -> Result<String, AllocError> {
+pub fn solved_problems<A: Allocator + Copy, B: Allocator>(
+    alloc: A,
+    instance: Option<&Instance<B>>,
+) -> Result<String<A>, AllocError> {
     let mut text = String::from_str(alloc, HEADING)?;
     for class in &CLASSES {
         if instance.is_none_or(|instance| has_fields(*class, instance)) {
@@ -110,7 +113,11 @@ pub fn solved_problems(alloc: Global, instance: Option<&Instance>) -> Result<Str
 }
 
 /// A line for one problem.
-pub fn push_class(alloc: Global, text: &mut String, class: Class) -> Result<(), AllocError> {
+pub fn push_class<A: Allocator + Copy>(
+    alloc: A,
+    text: &mut String<A>,
+    class: Class,
+) -> Result<(), AllocError> {
     let notation = notation_of(alloc, class)?;
     let notation = notation.as_str();
     let needs = needs_of(class);
@@ -128,7 +135,7 @@ pub fn push_class(alloc: Global, text: &mut String, class: Class) -> Result<(), 
 }
 
 /// Whether an instance has the fields that a class uses, and no more jobs than it allows.
-fn has_fields(class: Class, instance: &Instance) -> bool {
+fn has_fields<B: Allocator>(class: Class, instance: &Instance<B>) -> bool {
     if class.is_costed() && instance.len() > MOST_COSTED_JOBS {
         return false;
     }
@@ -141,7 +148,7 @@ fn has_fields(class: Class, instance: &Instance) -> bool {
         .all(|job| has_fields_of_job(class, job))
 }
 
-fn has_fields_of_job(class: Class, job: &Job) -> bool {
+fn has_fields_of_job<B: Allocator>(class: Class, job: &Job<B>) -> bool {
     let times = match job.times {
         Times::One(time) => !class.is_shop() && time > 0,
         Times::Two(_, _) => class.is_shop(),

@@ -15,7 +15,7 @@ use crate::options::{Drawing, Evaluating, Options, Work};
 use crate::recorded::Recorded;
 use crate::report::{end_check, end_evaluation, end_run, report, say_device, say_memory};
 use crate::source::Sources;
-use std::alloc::Global;
+use std::alloc::{Allocator, Global};
 use std::io::{Read, Write};
 use tf_advice::solved::solved_problems;
 use tf_bounding::run_bound::run_bound;
@@ -380,12 +380,12 @@ fn gantt<R: Read, W: Write, E: Write>(
 }
 
 /// Draws an answer.
-fn draw<R: Read, W: Write>(
-    alloc: Global,
+pub fn draw<A: Allocator + Copy, R: Read, W: Write>(
+    alloc: A,
     drawing: Drawing,
     answer: &mut Counted<R>,
     writer: &mut Counted<W>,
-) -> Result<(), RunFault>
+) -> Result<(), RunFault<A>>
     requires { HasWidth drawing }
     ensures { IsDrawingOf (drawn_as drawing) (use_of R.remaining answer.old answer.new)
         (use_of W.contents writer.old writer.new) result }
@@ -419,7 +419,10 @@ fn list_for<R: Read, W: Write, E: Write>(
 }
 
 /// The instance of a job table.
-fn table_in<R: Read>(alloc: Global, table: &mut Counted<R>) -> Result<Instance, RunFault> {
+pub fn table_in<A: Allocator + Copy, R: Read>(
+    alloc: A,
+    table: &mut Counted<R>,
+) -> Result<Instance<A>, RunFault<A>> {
     let text = read_all(alloc, table)?;
     Ok(read_table(alloc, text.as_slice())?)
 }

@@ -9,7 +9,7 @@ ghost use Rattle.tf_command.specs.OptionNumber.{numeral_in};
 
 use clap::error::ErrorKind;
 use clap::{Arg, ArgAction, ArgMatches, Command, Error};
-use std::alloc::{AllocError, Global};
+use std::alloc::{AllocError, Allocator, Global};
 use tf_engine::request::{Form, Request};
 use tf_engine::text::Text;
 use tf_evaluate::evaluation::Detail;
@@ -60,7 +60,7 @@ pub enum FormOption<'a> {
 
 impl FormOption<'_> {
     // The form of an instance text.
-    fn form(&self, alloc: Global) -> Result<Form, AllocError>
+    fn form<A: Allocator>(&self, alloc: A) -> Result<Form<A>, AllocError>
         ensures { IfOk result (λ form. form_of form ≡ form_asked self.now) }
     {
         match *self {
@@ -76,7 +76,11 @@ impl FormOption<'_> {
 
 impl Options<'_> {
     /// What a run is asked for, with an answer in this version.
-    pub fn request(&self, alloc: Global, layout: Layout) -> Result<Request, AllocError>
+    pub fn request<A: Allocator + Copy>(
+        &self,
+        alloc: A,
+        layout: Layout,
+    ) -> Result<Request<A>, AllocError>
         ensures { IfOk result (λ request. request ≡ requested self.now layout) }
     {
         Ok(Request {
@@ -189,7 +193,7 @@ Exit status: 0 listed, 2 the table is refused, 3 want of memory,
              4 a file or a device failed, 5 the command line is wrong.";
 
 /// The most steps of the search for prices.
-const MOST_STEPS: u32 = 1_000_000;
+pub const MOST_STEPS: u32 = 1_000_000;
 
 static FORMATS: [&str; 3] = ["table", "wt", "flow"];
 
