@@ -1,0 +1,453 @@
+-- The conditions on jobs, from the tables of extents to the timetable that the pieces draw and back,
+-- and the misfits that they find.
+use Rattle.std.proofs.Common.{◌≡◌, ℕ, ◌+◌, ◌-◌, ◌<◌, ◌≤◌, min, ℤ, pos, ◌≤ℤ◌, Bool, true, false, not, List, length, get_or, Option, None, Some, Result, Ok, Err, IfOk, MatchOption, refl, sym, ap, subst, ◌∙◌, arith, IsTrue}
+use mir.Val.{SFits, to_z, of_z}
+use mir.Syntax.{w64}
+use Rattle.std.specs.Bool.{IsFalse}
+use Rattle.std.specs.List.{All, AllPairs, range_with_len}
+use Rattle.std.proofs.lemmas.Bool.{false≢true}
+use Rattle.std.proofs.lemmas.Int.{to_z-of_z}
+use Rattle.std.proofs.lemmas.List.FromFn.{length-range_with_len, get_or-range_with_len}
+use Rattle.tf_model.specs.Limit.{limit}
+use Rattle.tf_model.specs.ClassTable.{is_shop_env, is_flow_env}
+use Rattle.tf_model.specs.declared.problem.Problem.{Problem}
+use Rattle.tf_model.specs.declared.problem.Env.{Env}
+use Rattle.tf_model.specs.declared.problem.Env.TheVariants.{Flow, JobShop}
+use Rattle.tf_model.specs.Timetable.{Timetable}
+use Rattle.tf_model.specs.Feasible.{EachJob, IsKept}
+use Rattle.tf_problem.specs.ProblemData.{ProblemData, IsProblemJob, problem_job, no_problem_job, is_job_shop, route_by}
+use Rattle.tf_problem.specs.FitsProblem.{FitsProblem, HasProblemTime, IsProblemUnbroken, IsOnRoute, VisitsFirst, IsInOneOrder}
+use Rattle.tf_bound.specs.Sized.{IsSized}
+use Rattle.tf_schedule.specs.declared.piece.Piece.{Piece}
+use Rattle.tf_schedule.specs.declared.extent.Extent.{Extent}
+use Rattle.tf_schedule.specs.declared.fit.Misfit.TheVariants.{JobTwice, WrongAmount, Broken, TooEarly, OutOfOrder}
+use Rattle.tf_schedule.specs.Piece.{as_time, job_of, machine_of}
+use Rattle.tf_schedule.specs.Amounts.{work, pieces_on, greatest_by, least_by, start_of}
+use Rattle.tf_schedule.specs.Claims.{JobsOnce}
+use Rattle.tf_schedule.specs.Condition.{StartsAfter}
+use Rattle.tf_schedule.specs.Drawing.{Draws, drawing, stop_of}
+use Rattle.tf_schedule.specs.Extent.{most_work, most_machine, extent_at, extent_of, IsSolid}
+use Rattle.tf_schedule.specs.Lanes.{LanesData, HasLanes}
+use Rattle.tf_schedule.specs.Misfit.{IsSmallestNot, IsFirstNot, IsFirstTwice}
+use Rattle.tf_schedule.specs.Schedule.{IsSchedule, IsFirstClashBy}
+use Rattle.tf_schedule.proofs.Busy.{busy_piece, greatest_le}
+use Rattle.tf_schedule.proofs.Drawing.{cells_of-drawing, once-drawing, width-drawing, jobs-drawing, single_place-drawing}
+use Rattle.tf_schedule.proofs.Extents.{work_exact}
+use Rattle.tf_schedule.proofs.Fitting.{never_both}
+use Rattle.tf_schedule.proofs.Transport.{smallest_by, all_by, first_by}
+use Rattle.tf_fit.specs.declared.condition.Condition.{Condition}
+use Rattle.tf_fit.specs.declared.condition.Condition.TheVariants.{Amount, Unbroken, Released, OnRoute, WithoutWait}
+use Rattle.tf_fit.specs.declared.misfit.ProblemMisfit.{ProblemMisfit}
+use Rattle.tf_fit.specs.declared.misfit.ProblemMisfit.TheVariants.{OffRoute, NoOneOrder, Waits}
+use Rattle.tf_fit.specs.Condition.{is_asked, IsGapless, IsMet, Holds}
+use Rattle.tf_fit.specs.Operation.{first_operation, extent_behind, IsWithin}
+use Rattle.tf_fit.specs.ProblemJudged.{IsJudgedBy}
+use Rattle.tf_fit.specs.Tables.{HasOperations, AreTabled}
+use Rattle.tf_fit.specs.ProblemMisfit.{IsKnownTo, AllOnce, AllFull, AllUnbroken, AllReleased, AllKept, HasFirstPlain, HasFirstMisfit}
+use Rattle.tf_fit.proofs.Drawn.{on_machines, sound_on, once_on}
+use Rattle.tf_fit.proofs.Alone.{units, released_to, released_from, waitless_to, waitless_from, one_machine_to, one_machine_from, no_gap_to, gapless_from, kept_to, kept_from}
+use Rattle.tf_fit.proofs.OnMachines.{units_on, GaplessOn, no_gap_on_to, no_gap_on_from, visits_to, visits_from}
+
+not_true : (b : Bool) → not b ≡ true → b ≡ false
+not_true true e = cc
+not_true false e = refl
+
+-- only a flow shop has the routes of one
+is_flow : (e : Env) → is_flow_env e ≡ true → e ≡ Flow
+is_flow Flow h = refl
+is_flow _ h = absurd (false≢true h)
+
+flow_shop : (e : Env) → is_flow_env e ≡ true → is_shop_env e ≡ true
+flow_shop Flow h = refl
+flow_shop _ h = absurd (false≢true h)
+
+module _ (k : ProblemData) (sized : IsSized k) (ps : List Piece) (schedule : IsSchedule ps)
+    (known : All (IsKnownTo k) ps) (once : JobsOnce ps) where
+  abbrev n : ℕ
+  n = length k.jobs
+
+  abbrev m : ℕ
+  m = k.machines
+
+  abbrev rows : Timetable
+  rows = drawing k.machines ps
+
+  within : All (IsWithin n m) ps
+  within = known
+
+  small : m ≤ limit
+  small = omega (arith, sized.few_machines)
+
+  few : All (λ p. p.machine ≤ most_machine) ps
+  few i d h = omega (arith, sized.few_machines, (known i d h).1.1)
+
+  pub all_once : AllOnce k rows
+  all_once j low high =
+      single_place-drawing m ps schedule.none_twice (on_machines n m ps schedule within) once j low
+
+  -- where there are no routes, all are kept
+  no_route : IsFalse (is_flow_env k.problem.env) → (j : ℕ) → IsOnRoute k rows j
+  no_route other j = by k.problem.env refl
+    where
+      by : (e : Env) → k.problem.env ≡ e → AllPairs (VisitsFirst rows j) (route_by e k j)
+      by Flow e = absurd (false≢true (sym other ∙ ap is_flow_env e))
+      by JobShop e = absurd (false≢true (sym sized.no_routes ∙ ap is_job_shop e))
+      by _ e = λ a b d lt in'. absurd (omega arith)
+
+  module _ (jobs operations : LanesData) (has : HasLanes false (length k.jobs) ps jobs)
+      (has_each : IsTrue (is_shop_env k.problem.env)
+      → HasOperations (length k.jobs) k.machines ps operations) where
+    module _ (j : ℕ) (low : 1 ≤ j) (high : j ≤ length k.jobs) where
+      only : extent_at jobs.first j ≡ extent_of ps j
+      only = has.first j low high
+
+      exact : min (work ps j) most_work ≡ work ps j
+      exact = work_exact ps j schedule.sound once
+
+      exact_on : (i : ℕ) → min (work (pieces_on i ps) j) most_work ≡ work (pieces_on i ps) j
+      exact_on i = work_exact (pieces_on i ps) j (sound_on n m ps schedule within i)
+          (once_on n m ps schedule within once i)
+
+      work_is : (extent_at jobs.first j).work ≡ work ps j
+      work_is = ap (λ (e : Extent). e.work) only ∙ exact
+
+      gap_is : IsGapless (extent_at jobs.first j)
+          → greatest_by stop_of ps j - least_by start_of ps j ≡ work ps j
+      gap_is gapless = subst IsGapless only gapless ∙ exact
+
+      is_gap : greatest_by stop_of ps j - least_by start_of ps j ≡ work ps j
+          → IsGapless (extent_at jobs.first j)
+      is_gap whole = subst IsGapless (sym only) (whole ∙ sym exact)
+
+      module _ (shop : IsTrue (is_shop_env k.problem.env)) where
+        abbrev behind : ℕ → Extent
+        behind = extent_behind operations (first_operation k.machines j)
+
+        work_on_is : (i : ℕ) → i < k.machines → (behind i).work ≡ work (pieces_on (i + 1) ps) j
+        work_on_is i on = (has_each shop j i low high on).work ∙ exact_on (i + 1)
+
+        gap_on_is : (i : ℕ) → i < k.machines → IsGapless (behind i)
+            → GaplessOn n m ps schedule within once j low i
+        gap_on_is i on gapless =
+            let is = has_each shop j i low high on in
+            omega (arith, gapless, is.start, is.stop, work_on_is i on)
+
+        is_gap_on : (i : ℕ) → i < k.machines → GaplessOn n m ps schedule within once j low i
+            → IsGapless (behind i)
+        is_gap_on i on gapless =
+            let is = has_each shop j i low high on in
+            omega (arith, gapless, is.start, is.stop, work_on_is i on)
+
+        times_len : length (problem_job k j).times ≡ k.machines
+        times_len = (sized.jobs (j - 1) no_problem_job (omega (arith, low, high))).shop_times shop
+
+      -- ---- amounts
+
+      amount_to : IsMet Amount k jobs operations j → HasProblemTime k rows j
+      amount_to met = record {
+        in_all = λ plain. units n m small ps schedule within once j low ∙ sym work_is ∙ met.plain plain;
+        on_each = λ shop i on. units_on n m ps schedule within once j low i on
+            ∙ sym (work_on_is shop i on) ∙ met.in_shop shop i (omega (arith, on, times_len shop));
+      }
+
+      amount_from : HasProblemTime k rows j → IsMet Amount k jobs operations j
+      amount_from amount = record {
+        plain = λ plain. work_is ∙ sym (units n m small ps schedule within once j low)
+            ∙ amount.in_all plain;
+        in_shop = λ shop i lt. let on : i < k.machines = omega (arith, lt, times_len shop) in
+            work_on_is shop i on ∙ sym (units_on n m ps schedule within once j low i on)
+            ∙ amount.on_each shop i on;
+      }
+
+      -- ---- gaps
+
+      solid_one : IsSolid (extent_at jobs.first j)
+          → greatest_by machine_of ps j ≤ least_by machine_of ps j
+      solid_one solid = let is = subst IsSolid only solid in omega (arith, is.1)
+
+      unbroken_to : (s : Bool) → is_shop_env k.problem.env ≡ s
+          → IsMet Unbroken k jobs operations j → IsProblemUnbroken k rows j
+      unbroken_to true shop met = record {
+        no_gap = no_gap_on_to n m ps schedule within once j low
+            (λ i on. gap_on_is shop i on (met.in_shop shop i on));
+        one_machine = λ plain. absurd (never_both (is_shop_env k.problem.env) shop plain);
+      }
+      unbroken_to false plain met =
+          let solid = met.plain plain in
+          record {
+            no_gap = no_gap_to n m small ps schedule within once j low
+                (gap_is solid.0) (solid_one solid);
+            one_machine = λ _. one_machine_to n m small ps schedule within once j low
+                (solid_one solid);
+          }
+
+      solid_from : greatest_by stop_of ps j - least_by start_of ps j ≡ work ps j
+          → greatest_by machine_of ps j ≤ least_by machine_of ps j → IsSolid (extent_of ps j)
+      solid_from whole one =
+          (whole ∙ sym exact, omega (arith, one, greatest_le machine_of ps j most_machine few))
+
+      unbroken_from : IsProblemUnbroken k rows j → IsMet Unbroken k jobs operations j
+      unbroken_from unbroken = record {
+        plain = λ plain.
+            let one = unbroken.one_machine plain in
+            subst IsSolid (sym only)
+            (solid_from (gapless_from n m small ps schedule within once j low unbroken.no_gap one)
+            (one_machine_from n m small ps schedule within once j low one));
+        in_shop = λ shop i on. is_gap_on shop i on
+            (no_gap_on_from n m ps schedule within once j low i on (unbroken.no_gap i));
+      }
+
+      -- ---- routes
+
+      route_to : IsTrue (is_flow_env k.problem.env) → IsMet OnRoute k jobs operations j
+          → IsOnRoute k rows j
+      route_to flow met =
+          subst (λ e. AllPairs (VisitsFirst rows j) (route_by e k j))
+          (sym (is_flow k.problem.env flow)) pairs
+        where
+          shop : IsTrue (is_shop_env k.problem.env)
+          shop = flow_shop k.problem.env flow
+
+          visits : (a b : ℕ) → a < b → b < k.machines → VisitsFirst rows j a b
+          visits a b lt on =
+              let first = has_each shop j a low high (omega (arith, lt, on)) in
+              let second = has_each shop j b low high on in
+              visits_to n m ps schedule within once j low a b
+              (omega (arith, met a b lt on, first.stop, second.start))
+
+          pairs : AllPairs (VisitsFirst rows j) (range_with_len 0 k.machines)
+          pairs a b d lt in' =
+              let on : b < k.machines = omega (arith, in', length-range_with_len 0 k.machines) in
+              let at_a : get_or (range_with_len 0 k.machines) a d ≡ a =
+              get_or-range_with_len 0 k.machines a d (omega (arith, lt, on)) ∙ omega arith in
+              let at_b : get_or (range_with_len 0 k.machines) b d ≡ b =
+              get_or-range_with_len 0 k.machines b d on ∙ omega arith in
+              subst (λ x. VisitsFirst rows j x (get_or (range_with_len 0 k.machines) b d)) (sym at_a)
+              (subst (λ y. VisitsFirst rows j a y) (sym at_b) (visits a b lt on))
+
+      route_from : IsTrue (is_flow_env k.problem.env) → IsOnRoute k rows j
+          → IsMet OnRoute k jobs operations j
+      route_from flow on_route a b lt on =
+          let shop = flow_shop k.problem.env flow in
+          let pairs : AllPairs (VisitsFirst rows j) (range_with_len 0 k.machines) =
+          subst (λ e. AllPairs (VisitsFirst rows j) (route_by e k j))
+          (is_flow k.problem.env flow) on_route in
+          let at_a : get_or (range_with_len 0 k.machines) a 0 ≡ a =
+          get_or-range_with_len 0 k.machines a 0 (omega (arith, lt, on)) ∙ omega arith in
+          let at_b : get_or (range_with_len 0 k.machines) b 0 ≡ b =
+          get_or-range_with_len 0 k.machines b 0 on ∙ omega arith in
+          let visits : VisitsFirst rows j a b =
+          subst (λ y. VisitsFirst rows j a y) at_b
+          (subst (λ x. VisitsFirst rows j x (get_or (range_with_len 0 k.machines) b 0)) at_a
+          (pairs a b 0 lt (omega (arith, on, length-range_with_len 0 k.machines)))) in
+          let first = has_each shop j a low high (omega (arith, lt, on)) in
+          let second = has_each shop j b low high on in
+          omega (
+            arith,
+            first.stop,
+            second.start,
+            visits_from n m ps schedule within once j low a b (omega (arith, lt, on)) on visits,
+          )
+
+      -- ---- every condition
+
+      to : (c : Condition) → IsTrue (is_asked c k.problem) → IsMet c k jobs operations j
+          → Holds c k rows j
+      to Amount asked met = amount_to met
+      to Unbroken asked met = unbroken_to (is_shop_env k.problem.env) refl met
+      to Released asked met =
+          released_to n m small ps schedule within once j low (problem_job k j).release
+          (subst (λ (e : Extent). (problem_job k j).release ≤ e.start) only met)
+      to OnRoute asked met = route_to asked met
+      to WithoutWait asked met = waitless_to n m small ps schedule within once j low (gap_is met)
+
+      from : (c : Condition) → IsTrue (is_asked c k.problem) → Holds c k rows j
+          → IsMet c k jobs operations j
+      from Amount asked amount = amount_from amount
+      from Unbroken asked unbroken = unbroken_from unbroken
+      from Released asked released =
+          subst (λ (e : Extent). (problem_job k j).release ≤ e.start) (sym only)
+          (released_from n m small ps schedule within once j low (problem_job k j).release
+          (sized.jobs (j - 1) no_problem_job (omega (arith, low, high))).release released)
+      from OnRoute asked on_route = route_from asked on_route
+      from WithoutWait asked waitless =
+          is_gap (waitless_from n m small ps schedule within once j low waitless)
+
+    abbrev pub AllMet : Condition → Type 0
+    AllMet c = IsTrue (is_asked c k.problem) → EachJob (length k.jobs) (IsMet c k jobs operations)
+
+    abbrev pub FirstUnmet : Condition → ℕ → Type 0
+    FirstUnmet c j = IsTrue (is_asked c k.problem)
+        × IsSmallestNot (length k.jobs) (IsMet c k jobs operations) j
+
+    each : (c : Condition) → AllMet c → IsTrue (is_asked c k.problem)
+        → EachJob (length k.jobs) (Holds c k rows)
+    each c all asked j low high = to j low high c asked (all asked j low high)
+
+    smallest : (c : Condition) (j : ℕ) → FirstUnmet c j
+        → IsSmallestNot (length k.jobs) (Holds c k rows) j
+    smallest c j (asked, first) =
+        smallest_by (length k.jobs) (IsMet c k jobs operations) (Holds c k rows)
+        (λ i low high. to i low high c asked) (λ i low high. from i low high c asked) j first
+
+    -- ---- arcs
+
+    abbrev IsArc : ℕ × ℕ → Type 0
+    IsArc arc = IsProblemJob k arc.0 × IsProblemJob k arc.1
+
+    after_to : (arc : ℕ × ℕ) → IsArc arc → StartsAfter jobs arc → IsKept rows arc
+    after_to (a, b) arc after =
+        kept_to n m ps schedule within a b arc.0.0 arc.1.0
+        (subst (λ (e : Extent). greatest_by stop_of ps a ≤ e.start) (only b arc.1.0 arc.1.1)
+        (subst (λ (e : Extent). e.stop ≤ (extent_at jobs.first b).start) (only a arc.0.0 arc.0.1)
+        after))
+
+    after_from : (arc : ℕ × ℕ) → IsArc arc → IsKept rows arc → StartsAfter jobs arc
+    after_from (a, b) arc kept =
+        subst (λ (e : Extent). e.stop ≤ (extent_at jobs.first b).start) (sym (only a arc.0.0 arc.0.1))
+        (subst (λ (e : Extent). greatest_by stop_of ps a ≤ e.start) (sym (only b arc.1.0 arc.1.1))
+        (kept_from n m ps schedule within a b kept))
+
+    pub all_kept : All (StartsAfter jobs) k.arcs → All (IsKept rows) k.arcs
+    all_kept = all_by IsArc (StartsAfter jobs) (IsKept rows) k.arcs sized.arcs_in after_to
+
+    pub first_not_kept : (arc : ℕ × ℕ) → IsFirstNot (StartsAfter jobs) k.arcs arc
+        → IsFirstNot (IsKept rows) k.arcs arc
+    first_not_kept = first_by IsArc (StartsAfter jobs) (IsKept rows) k.arcs sized.arcs_in after_to
+        after_from
+
+    -- ---- the misfits of every class
+
+    pub wrong_amount : (j : ℕ) → FirstUnmet Amount j → HasFirstPlain k ps (WrongAmount j)
+    wrong_amount j first = (known, all_once, smallest Amount j first)
+
+    module _ (done : AllMet Amount) where
+      all_full : AllFull k rows
+      all_full = (all_once, each Amount done refl)
+
+      pub broken : (j : ℕ) → FirstUnmet Unbroken j → HasFirstPlain k ps (Broken j)
+      broken j first =
+          (known, all_full, not_true k.problem.prmp first.0, smallest Unbroken j first)
+
+      module _ (unbroken : AllMet Unbroken) where
+        all_unbroken : AllUnbroken k rows
+        all_unbroken = (all_full, λ may. each Unbroken unbroken (ap not may))
+
+        pub too_early : (j : ℕ) → FirstUnmet Released j → HasFirstPlain k ps (TooEarly j)
+        too_early j first = (known, all_unbroken, first.0, smallest Released j first)
+
+        module _ (released : AllMet Released) where
+          all_released : AllReleased k rows
+          all_released = (all_unbroken, each Released released)
+
+          pub out_of_order : (a b : ℕ) → IsTrue k.problem.prec
+              → IsFirstNot (StartsAfter jobs) k.arcs (a, b) → HasFirstPlain k ps (OutOfOrder a b)
+          out_of_order a b asked first =
+              (known, all_released, asked, first_not_kept (a, b) first)
+
+          pub kept_in_order : (IsTrue k.problem.prec → All (StartsAfter jobs) k.arcs)
+              → AllKept k rows
+          kept_in_order kept = (all_released, λ asked. all_kept (kept asked))
+
+    -- ---- and of problems
+
+    module _ (kept : AllKept k rows) where
+      pub off_route : (j : ℕ) → FirstUnmet OnRoute j → HasFirstMisfit k ps (OffRoute j)
+      off_route j first = (known, kept, smallest OnRoute j first)
+
+      module _ (routes : AllMet OnRoute) where
+        all_routes : EachJob (length k.jobs) (IsOnRoute k rows)
+        all_routes j low high = by (is_flow_env k.problem.env) refl
+          where
+            by : (b : Bool) → is_flow_env k.problem.env ≡ b → IsOnRoute k rows j
+            by true flow = each OnRoute routes flow j low high
+            by false other = no_route other j
+
+        pub no_one_order : IsTrue k.problem.prmu → (¬ (IsInOneOrder k rows))
+            → HasFirstMisfit k ps NoOneOrder
+        no_one_order asked never = (known, (kept, all_routes), asked, never)
+
+        module _ (ordered : IsTrue k.problem.prmu → IsInOneOrder k rows) where
+          pub waits : (j : ℕ) → FirstUnmet WithoutWait j → HasFirstMisfit k ps (Waits j)
+          waits j first =
+              (known, ((kept, all_routes), ordered), first.0, smallest WithoutWait j first)
+
+          pub fits_problem : AllMet WithoutWait → FitsProblem k rows
+          fits_problem waitless = record {
+            width = width-drawing m ps;
+            jobs_only = jobs-drawing m ps n (λ i d h. (known i d h).0.1);
+            single_place = kept.0.0.0.0;
+            amount = kept.0.0.0.1;
+            unbroken = kept.0.0.1;
+            released = kept.0.1;
+            in_order = kept.1;
+            on_route = all_routes;
+            one_order = ordered;
+            without_wait = each WithoutWait waitless;
+          }
+
+-- ---- a job in two places, at a time that was stored in 64 bits
+
+module _ (k : ProblemData) (ps : List Piece) (schedule : IsSchedule ps)
+    (known : All (IsKnownTo k) ps) where
+  twice_in_drawing : (j t : ℕ) → IsFirstClashBy job_of ps j t
+      → IsFirstTwice (drawing k.machines ps) j t
+  twice_in_drawing j t first =
+      let on = λ (i : ℕ) (d : Piece) (h : i < length ps). (known i d h).1 in
+      let (i, p, h, read, works) = busy_piece ps j t (omega (arith, first.here)) in
+      let job : 1 ≤ p.job = subst (λ (q : Piece). 1 ≤ q.job) read (known i p h).0.0 in
+      let some : 0 < j = omega (arith, works.job, job) in
+      record {
+        job = some;
+        here = omega
+            (arith, first.here, cells_of-drawing k.machines ps j t schedule.none_twice on some);
+        smaller_job =
+            λ n low less. once-drawing k.machines ps schedule.none_twice on n low
+            (λ u. first.smaller n u less);
+        earlier = λ u lt. omega (
+          arith,
+          first.earlier u lt,
+          cells_of-drawing k.machines ps j u schedule.none_twice on some,
+        );
+      }
+
+  pub twice_stored : (j : ℕ) (z : ℤ) → (pos 0 ≤ℤ z) × IsFirstClashBy job_of ps j (as_time z)
+      → SFits w64 z → HasFirstPlain k ps (JobTwice j (to_z w64 (of_z w64 z)))
+  twice_stored j z first fits =
+      subst (λ (y : ℤ). HasFirstPlain k ps (JobTwice j y)) (sym (to_z-of_z w64 z fits))
+      (known, first.0, twice_in_drawing j (as_time z) first.1)
+
+-- ---- tests
+
+pub no_prec : (p q : Problem) → not p.prec ≡ true → p ≡ q → q.prec ≡ true → ⊥
+no_prec p q none same asked =
+    false≢true (sym (ap (λ (x : Problem). not x.prec) same ∙ ap not asked) ∙ none)
+
+pub is_prec : (p q : Problem) → not p.prec ≡ false → p ≡ q → q.prec ≡ true
+is_prec p q some same = sym (ap (λ (x : Problem). x.prec) same) ∙ not_false p.prec some
+  where
+    not_false : (b : Bool) → not b ≡ false → b ≡ true
+    not_false true e = refl
+    not_false false e = cc
+
+pub tabled : (k : ProblemData) (ps : List Piece) (jobs operations : LanesData) → IsSchedule ps
+    → All (IsKnownTo k) ps → JobsOnce ps → HasLanes false (length k.jobs) ps jobs
+    → (IsTrue (is_shop_env k.problem.env) → HasOperations (length k.jobs) k.machines ps operations)
+    → AreTabled k ps jobs operations
+tabled k ps jobs operations schedule known once has has_each = record {
+  schedule = schedule;
+  known = known;
+  once = once;
+  of_jobs = has;
+  of_operations = has_each;
+}
+
+-- where the pieces draw rows, a judgement of the rows is one of the pieces
+pub judged : {E : Type 0} (k : ProblemData) (ps : List Piece)
+    → Draws k.machines ps (drawing k.machines ps) → (r : Result (Option ProblemMisfit) E)
+    → IfOk r (λ found. MatchOption found (FitsProblem k (drawing k.machines ps))
+    (HasFirstMisfit k ps))
+    → IfOk r (IsJudgedBy k ps)
+judged k ps draws (Ok None) fits = record { draws = draws; fits = fits }
+judged k ps draws (Ok (Some misfit)) first = first
+judged k ps draws (Err e) none = none

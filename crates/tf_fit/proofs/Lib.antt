@@ -1,0 +1,7 @@
+mod Drawn
+mod Alone
+mod OnMachines
+mod Tables
+mod Judging
+mod Orders
+mod Costs
