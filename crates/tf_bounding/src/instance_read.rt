@@ -41,7 +41,7 @@ fn is_bounded(problem: &Problem) -> bool
 }
 
 /// The task of a request and of the instance that the reader's text holds.
-pub(crate) fn task_read<A: Allocator + Copy, B: Allocator, R: Read>(
+pub fn task_read<A: Allocator + Copy, B: Allocator, R: Read>(
     alloc: A,
     request: &Request<B>,
     reader: &mut Counted<R>,

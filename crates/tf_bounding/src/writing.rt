@@ -117,8 +117,8 @@ fn push_prices<A: Allocator>(text: &mut Vec<u8, A>, q: u64, rows: &[u64]) -> Res
     Ok(())
 }
 
-// Adds the line of a certificate.
-fn push_certificate<A: Allocator, C: Allocator>(
+/// Adds the line of a certificate.
+pub fn push_certificate<A: Allocator, C: Allocator>(
     text: &mut Vec<u8, A>,
     certificate: &BoundCertificate<C>,
 ) -> Result<(), OutOfMemory>

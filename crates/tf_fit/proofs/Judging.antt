@@ -444,10 +444,10 @@ tabled k ps jobs operations schedule known once has has_each = record {
 
 -- where the pieces draw rows, a judgement of the rows is one of the pieces
 pub judged : {E : Type 0} (k : ProblemData) (ps : List Piece)
-    → Draws k.machines ps (drawing k.machines ps) → (r : Result (Option ProblemMisfit) E)
+    → All (IsKnownTo k) ps → Draws k.machines ps (drawing k.machines ps) → (r : Result (Option ProblemMisfit) E)
     → IfOk r (λ found. MatchOption found (FitsProblem k (drawing k.machines ps))
     (HasFirstMisfit k ps))
     → IfOk r (IsJudgedBy k ps)
-judged k ps draws (Ok None) fits = record { draws = draws; fits = fits }
-judged k ps draws (Ok (Some misfit)) first = first
-judged k ps draws (Err e) none = none
+judged k ps known draws (Ok None) fits = record { known = known; draws = draws; fits = fits }
+judged k ps known draws (Ok (Some misfit)) first = first
+judged k ps known draws (Err e) none = none

@@ -1,15 +1,17 @@
 -- How a schedule stands to the task of a problem.
 use Rattle.std.specs.Prelude.{Bool, List, Option, None, Some, IsTrue, IsFalse}
+use Rattle.std.specs.List.{All}
 use Rattle.tf_model.specs.Timetable.{Timetable}
 use Rattle.tf_problem.specs.ProblemData.{ProblemData}
 use Rattle.tf_problem.specs.FitsProblem.{FitsProblem, IsInOneOrder}
 use Rattle.tf_schedule.specs.declared.piece.Piece.{Piece}
 use Rattle.tf_schedule.specs.Drawing.{Draws, drawing}
 use Rattle.tf_fit.specs.declared.misfit.ProblemMisfit.{ProblemMisfit}
-use Rattle.tf_fit.specs.ProblemMisfit.{HasFirstMisfit}
+use Rattle.tf_fit.specs.ProblemMisfit.{IsKnownTo, HasFirstMisfit}
 
 -- the pieces draw rows that fit the task
 pub record FitsBy (k : ProblemData) (ps : List Piece) : Type 0 where
+  pub known : All (IsKnownTo k) ps
   pub draws : Draws k.machines ps (drawing k.machines ps)
   pub fits : FitsProblem k (drawing k.machines ps)
 

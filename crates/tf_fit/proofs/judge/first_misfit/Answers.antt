@@ -32,7 +32,7 @@ problem_misfit-requires-clause-kept g c = c.in_default-plain_misfit.ensures c.ar
 
 pub returns : goal.returns
 returns g c =
-    judged c.args.task.now c.args.pieces.now
+    judged c.args.task.now c.args.pieces.now c.in_default.ensures
     (draws_drawing c.args.task.now.machines c.args.pieces.now c.requires.schedule.none_twice
     (λ i d h. (c.in_default.ensures i d h).0.0) (λ i d h. (c.in_default.ensures i d h).1))
     c.problem_misfit.result c.problem_misfit.ensures

@@ -1,0 +1,81 @@
+-- How an answer stands to the task of a problem.
+use Rattle.std.proofs.Common.{◌≡◌, ◌<◌, Bool, true, false, cond, ℤ, ◌≤ℤ◌, List, Option, None, Some, IfSome, refl, sym, subst, ◌∙◌, arith}
+use Rattle.std.specs.List.{All}
+use Rattle.std.specs.List.Sorted.{IsPermutation}
+use Rattle.std.proofs.lemmas.Bool.Decides.{Decides-int_eq}
+use Rattle.std.specs.Ordering.{int_eq}
+use Rattle.std.proofs.lemmas.List.Sorted.{All-permutation, IsPermutation-sym}
+use Rattle.tf_problem.specs.ProblemData.{ProblemData}
+use Rattle.tf_problem.specs.ProblemCost.{problem_cost, IsLowerBound}
+use Rattle.tf_schedule.specs.declared.piece.Piece.{Piece}
+use Rattle.tf_schedule.specs.Piece.{machine_of}
+use Rattle.tf_schedule.specs.Schedule.{IsPiece, IsSchedule, NoneTwice}
+use Rattle.tf_schedule.specs.Drawing.{drawing, IsOnMachine}
+use Rattle.tf_schedule.proofs.Permuted.{drawing_permutation, draws_drawing}
+use Rattle.tf_schedule.proofs.Scan.{claims_permutation}
+use Rattle.tf_fit.specs.CostBy.{IsCostOrBeyond}
+use Rattle.tf_fit.specs.ProblemJudged.{FitsBy}
+use Rattle.tf_search.specs.declared.strongest.Found.{Found}
+use Rattle.tf_search.specs.Strongest.{IsFound}
+use Rattle.tf_text.specs.AnswerText.{SheetData}
+use Rattle.tf_assess.specs.declared.assessment.ProblemFit.{ProblemFit}
+use Rattle.tf_assess.specs.declared.assessment.ProblemFit.TheVariants.{Fits, NoSchedule, Misfit}
+use Rattle.tf_assess.specs.Assessing.{bound_in, standing_by, assessed_of, DrawsProblem, IsProblemJudged, HasProblemFit, HasAssessed}
+
+-- from the schedule to the pieces that it sorts
+draws_problem : (k : ProblemData) (ps qs : List Piece) → IsPermutation ps qs → IsSchedule qs
+    → FitsBy k qs → DrawsProblem k ps (drawing k.machines qs)
+draws_problem k ps qs kept schedule fits =
+    let back = IsPermutation-sym ps qs kept in
+    let once : NoneTwice ps =
+    λ n t. omega (arith, claims_permutation machine_of ps qs n t kept, schedule.none_twice n t) in
+    let numbered : All (λ p. 0 < p.job) ps =
+    All-permutation (λ p. 0 < p.job) qs ps back fits.draws.numbered in
+    let on : All (IsOnMachine k.machines) ps =
+    All-permutation (IsOnMachine k.machines) qs ps back fits.draws.on_machines in
+    let same : drawing k.machines qs ≡ drawing k.machines ps =
+    sym (drawing_permutation k.machines qs ps schedule.none_twice back) in
+    record {
+      pieces = All-permutation IsPiece qs ps back schedule.sound;
+      draws = rw same (draws_drawing k.machines ps once numbered on);
+      fits = fits.fits;
+    }
+
+pub fits_judged : (k : ProblemData) (ps qs : List Piece) → IsPermutation ps qs → IsSchedule qs
+    → FitsBy k qs → (value : Option ℤ)
+    → IsCostOrBeyond value (problem_cost k (drawing k.machines qs))
+    → IsProblemJudged k ps (Fits value)
+fits_judged k ps qs kept schedule fits value costs =
+    (drawing k.machines qs, draws_problem k ps qs kept schedule fits, costs)
+
+-- ---- what a schedule comes to
+
+module _ (k : ProblemData) (sheet : SheetData) where
+  standing_at : (value bound : ℤ) → HasProblemFit k sheet (Some (Fits (Some value)))
+      → IsLowerBound k bound → (b : Bool) → (b ≡ true → value ≡ bound)
+      → HasAssessed k sheet (standing_by (cond b (Some value) None))
+  standing_at value bound (is, (rows, draws, costs)) least true equal = (
+    is,
+    rows,
+    draws,
+    record {
+      fits = draws.fits;
+      value = refl;
+      least = λ other fits. subst (λ (z : ℤ). z ≤ℤ problem_cost k other)
+          (sym (equal refl) ∙ costs) (least other fits);
+    },
+  )
+  standing_at value bound (is, (rows, draws, costs)) least false equal = (is, rows, draws)
+
+  -- what follows of the fit and the bound
+  pub standing_is : {A : Type 0} (fit : Option ProblemFit) (bound : Option (Found A))
+      → HasProblemFit k sheet fit → IfSome bound (IsFound k)
+      → HasAssessed k sheet (assessed_of fit (bound_in bound))
+  standing_is None bound h found = tt
+  standing_is (Some (NoSchedule fault)) bound h found = tt
+  standing_is (Some (Misfit misfit)) bound h found = tt
+  standing_is (Some (Fits None)) bound (is, (rows, draws, costs)) found = (is, rows, draws)
+  standing_is (Some (Fits (Some value))) None (is, (rows, draws, costs)) found = (is, rows, draws)
+  standing_is (Some (Fits (Some value))) (Some bound) h found =
+      standing_at value bound.value h found.bound (int_eq value bound.value)
+      (Decides-int_eq value bound.value).0

@@ -1,0 +1,4 @@
+mod Assessing
+mod Reading
+mod Running
+mod Written

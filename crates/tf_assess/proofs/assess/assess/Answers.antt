@@ -1,0 +1,24 @@
+use Rattle.std.proofs.Common.{rules, ◌≡◌, SFits, w64, ap, sym, ◌∙◌}
+use Rattle.std.proofs.lemmas.Int.{to_z-of_z}
+use Rattle.tf_check.specs.Claim.{AnswerData}
+use Rattle.tf_assess.specs.Assessing.{HasProblemFit}
+use Rattle.tf_assess.proofs.Assessing.{standing_is}
+use Rattle.tf_assess.proofs.assess.assess.Goals as goal
+
+pub returns : goal.returns
+returns g c =
+    let k = c.args.task.now in
+    let pieces : c.args.sheet.answer.pieces ≡ c.into_vec.result.items =
+    sym (c.into_vec.ensures
+    ∙ ap (λ (a : AnswerData). a.pieces) (c.pieces.view_is ∙ c.into_answer.ensures)) in
+    let fit : HasProblemFit k c.args.sheet c.in_ok-fit.fit =
+    c.in_ok-fit.ensures c.args.sheet pieces c.is_for-is_its.ensures in
+    let fits : SFits w64 c.pieces.inside.value = search rules in
+    record {
+      fit = fit;
+      claimed = to_z-of_z w64 c.pieces.inside.value fits
+          ∙ ap (λ (a : AnswerData). a.value) (c.pieces.view_is ∙ c.into_answer.ensures);
+      bound = c.in_ok-bound.ensures;
+      standing = standing_is k c.args.sheet c.in_ok-fit.fit c.in_ok-bound.bound fit
+          c.in_ok-bound.ensures;
+    }

@@ -1,0 +1,35 @@
+use Rattle.std.proofs.Common.{◌≡◌, [], ◌∷◌, ◌++◌, codes, ℤ, Option, ap, ◌∙◌, rules}
+use Rattle.std.specs.List.{flat_map}
+use Rattle.std.specs.Fmt.{signed_decimal}
+use Rattle.tf_text.specs.AnswerText.{line_text}
+use Rattle.tf_assess.specs.Assessing.{value_in, bound_in, best_in}
+use Rattle.tf_assess.specs.AssessmentText.{fit_words, number_lines, gap_lines}
+use Rattle.tf_assess.proofs.Written.{judged_written}
+use Rattle.tf_assess.proofs.writing.push_judged.Goals as goal
+
+pub returns : goal.returns
+returns g c =
+    let a = c.args.assessment.now in
+    let fit : c.push_fit.new.text.items ≡ c.args.text.now.items ++ line_text (fit_words a.fit) =
+    search rules in
+    let claimed : c.push_number_line.new.text.items ≡ c.push_fit.new.text.items
+    ++ line_text (codes "claimed" ∷ signed_decimal a.claimed ∷ []) = search rules in
+    let value : c.push_some.new.text.items ≡ c.push_number_line.new.text.items
+    ++ flat_map line_text (number_lines (codes "value") (value_in a.fit)) =
+    c.in_ok-push_some.ensures
+    ∙ ap (λ (v : Option ℤ). c.push_number_line.new.text.items
+    ++ flat_map line_text (number_lines (codes "value") v)) c.value.ensures in
+    let best : c.push_some-2.new.text.items ≡ c.push_some.new.text.items
+    ++ flat_map line_text
+    (number_lines (codes "best") (best_in (value_in a.fit) (bound_in a.bound))) =
+    c.in_ok-push_some-2.ensures
+    ∙ ap (λ (v : Option ℤ). c.push_some.new.text.items
+    ++ flat_map line_text (number_lines (codes "best") v)) c.best.ensures in
+    let gap : c.push_gap.new.text.items ≡ c.push_some-2.new.text.items
+    ++ flat_map line_text (gap_lines (value_in a.fit) (bound_in a.bound)) =
+    c.in_ok-push_gap.ensures
+    ∙ ap (λ (v : Option ℤ). c.push_some-2.new.text.items
+    ++ flat_map line_text (gap_lines v c.bound_value.result)) c.value-2.ensures
+    ∙ ap (λ (b : Option ℤ). c.push_some-2.new.text.items
+    ++ flat_map line_text (gap_lines (value_in a.fit) b)) c.bound_value.ensures in
+    judged_written _ a _ _ _ _ _ _ _ fit claimed value best gap c.in_ok-push_bound.ensures

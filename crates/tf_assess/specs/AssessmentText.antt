@@ -1,0 +1,71 @@
+-- The text of an assessment.
+use Rattle.std.specs.Prelude.{ℕ, ℤ, ◌-ℤ◌, unsigned_abs, List, [], ◌∷◌, ◌++◌, codes, Option, None, Some}
+use Rattle.std.specs.List.{flat_map}
+use Rattle.std.specs.Fmt.{decimal, signed_decimal}
+use Rattle.tf_notation.specs.Canonical.{canonical}
+use Rattle.tf_problem.specs.ProblemData.{ProblemData}
+use Rattle.tf_text.specs.AnswerText.{line_text}
+use Rattle.tf_engine.specs.VerdictLine.{piece_fault_words, misfit_words}
+use Rattle.tf_fit.specs.declared.misfit.ProblemMisfit.{ProblemMisfit}
+use Rattle.tf_fit.specs.declared.misfit.ProblemMisfit.TheVariants.{Plain, OffRoute, NoOneOrder, Waits}
+use Rattle.tf_search.specs.declared.strongest.Found.{Found}
+use Rattle.tf_bounding.specs.BoundText.{certificate_words}
+use Rattle.tf_assess.specs.declared.assessment.ProblemFit.{ProblemFit}
+use Rattle.tf_assess.specs.declared.assessment.ProblemFit.TheVariants.{Fits, NoSchedule, Misfit}
+use Rattle.tf_assess.specs.declared.assessment.Assessment.{Assessment}
+use Rattle.tf_assess.specs.Assessing.{value_in, bound_in, best_in}
+
+-- a misfit by its name and its arguments
+abbrev pub problem_misfit_words : ProblemMisfit → List (List ℕ)
+problem_misfit_words (Plain misfit) = misfit_words misfit
+problem_misfit_words (OffRoute job) = codes "OffRoute" ∷ decimal job ∷ []
+problem_misfit_words NoOneOrder = codes "NoOneOrder" ∷ []
+problem_misfit_words (Waits job) = codes "Waits" ∷ decimal job ∷ []
+
+-- `fits`, or `misfit` and why
+abbrev pub fit_words : Option ProblemFit → List (List ℕ)
+fit_words None = codes "misfit" ∷ codes "OtherTask" ∷ []
+fit_words (Some (Fits value)) = codes "fits" ∷ []
+fit_words (Some (NoSchedule fault)) = codes "misfit" ∷ piece_fault_words fault
+fit_words (Some (Misfit misfit)) = codes "misfit" ∷ problem_misfit_words misfit
+
+-- a line of a number that may be missing
+abbrev pub number_lines : List ℕ → Option ℤ → List (List (List ℕ))
+number_lines name None = []
+number_lines name (Some number) = (name ∷ signed_decimal number ∷ []) ∷ []
+
+-- by how much the value is above the bound
+abbrev pub gap_lines : Option ℤ → Option ℤ → List (List (List ℕ))
+gap_lines (Some value) (Some bound) =
+    (codes "gap" ∷ decimal (unsigned_abs (value -ℤ bound)) ∷ []) ∷ []
+gap_lines _ _ = []
+
+-- the bound and its certificate
+abbrev pub bound_lines : {A : Type 0} → Option (Found A) → List (List (List ℕ))
+bound_lines None = []
+bound_lines (Some found) =
+    (codes "bound" ∷ signed_decimal found.value ∷ []) ∷ certificate_words found.certificate ∷ []
+
+-- how the pieces fit, what is claimed, the cost, the least cost where it is known, the gap and the
+-- bound
+abbrev pub judged_lines : {A : Type 0} → Assessment A → List (List (List ℕ))
+judged_lines a =
+    fit_words a.fit
+    ∷ (codes "claimed" ∷ signed_decimal a.claimed ∷ [])
+    ∷ (number_lines (codes "value") (value_in a.fit)
+    ++ (number_lines (codes "best") (best_in (value_in a.fit) (bound_in a.bound))
+    ++ (gap_lines (value_in a.fit) (bound_in a.bound) ++ bound_lines a.bound)))
+
+-- all lines
+abbrev pub assessment_lines : {A : Type 0} → ProblemData → ℕ → Assessment A
+    → List (List (List ℕ))
+assessment_lines k jobs a =
+    (codes "evaluation" ∷ codes "1" ∷ [])
+    ∷ (codes "problem" ∷ canonical k.problem ∷ [])
+    ∷ (codes "jobs" ∷ decimal jobs ∷ [])
+    ∷ (codes "machines" ∷ decimal k.machines ∷ [])
+    ∷ (judged_lines a ++ (codes "end" ∷ []) ∷ [])
+
+-- the text of an assessment of an answer to a task
+unfoldable pub assessment_text : {A : Type 0} → ProblemData → ℕ → Assessment A → List ℕ
+assessment_text k jobs a = flat_map line_text (assessment_lines k jobs a)

@@ -1,0 +1,4 @@
+-- what a caller has to believe
+pub mod Assessing
+pub mod AssessmentText
+pub mod RunAssessing

@@ -1,0 +1,94 @@
+-- What an assessment of an answer text leaves behind.
+use Rattle.std.specs.Prelude.{◌≡◌, ℕ, ◌⊎◌, true, List, length, Option, Result, Ok, Err, IsOk, MatchResult}
+use Rattle.std.specs.Io.KnownBytes.{Appends}
+use Rattle.tf_problem.specs.ProblemData.{ProblemData}
+use Rattle.tf_text.specs.declared.counted.Counted.{Counted}
+use Rattle.tf_text.specs.Counted.{DeviceUse, inner_of, use_of}
+use Rattle.tf_text.specs.Input.{IsTextOf}
+use Rattle.tf_text.specs.AnswerText.{SheetData}
+use Rattle.tf_text.specs.AnswerReading.{answer_in}
+use Rattle.tf_engine.specs.declared.fault.RunFault.{RunFault}
+use Rattle.tf_engine.specs.Faults.{Refused, stop_of, end_of}
+use Rattle.tf_engine.specs.Parts.{StopsReading, IsOfAnswer}
+use Rattle.tf_engine.specs.RequestData.{RequestData}
+use Rattle.tf_engine.specs.Runs.{Leaves}
+use Rattle.tf_engine.specs.Devices.{LeavesBoth}
+use Rattle.tf_bounding.specs.RunBounding.{problem_in, problem_task_for, IsRefusedBound}
+use Rattle.tf_assess.specs.declared.assessment.Assessed.{Assessed}
+use Rattle.tf_assess.specs.declared.assessment.Assessment.{Assessment}
+use Rattle.tf_assess.specs.declared.case_read.ProblemCase.{ProblemCase}
+use Rattle.tf_assess.specs.Assessing.{bound_in, assessed_of, IsAssessment}
+use Rattle.tf_assess.specs.AssessmentText.{assessment_text}
+
+-- the request and the instance text mean a task, the answer text says a sheet, and this is how it
+-- stands to the task
+pub record IsAssessed {A : Type 0} (request : RequestData) (instance answer out : List ℕ)
+    (a : Assessment A) : Type 0 where
+  pub task : ProblemData
+  pub meant : problem_task_for request instance ≡ Ok task
+  pub sheet : SheetData
+  pub said : answer_in answer ≡ Ok sheet
+  pub is : IsAssessment task sheet a
+  pub written : out ≡ assessment_text task (length task.jobs) a
+
+-- a text that says the assessment
+abbrev pub SaysAssessment : Type 0 → RequestData → List ℕ → List ℕ → List ℕ → Type 0
+SaysAssessment A request instance answer out =
+    (a : Assessment A) × IsAssessed request instance answer out a
+
+-- the refusal is one of a bound, or there is a task and the answer text is at fault
+abbrev pub IsRefusedAssessment : RequestData → List ℕ → List ℕ → Refused → Type 0
+IsRefusedAssessment request instance answer refused =
+    IsRefusedBound request instance refused
+    ⊎ (IsOk (problem_task_for request instance) × IsOfAnswer answer refused)
+
+-- the instance's reader failed, or there is a task and the answer's reader failed
+abbrev pub HasProblemReaderFailed : RequestData → List ℕ → DeviceUse → DeviceUse → Type 0
+HasProblemReaderFailed request text instance answer =
+    (instance.failed ≡ true) ⊎ (IsOk (problem_task_for request text) × (answer.failed ≡ true))
+
+-- An assessment is written, or the one refusal is given. Where memory was wanting there is neither.
+-- Nothing was written then, nor after a refusal or where a reader failed; where the writer failed a
+-- prefix of the text was.
+abbrev pub AssessingOutcome : {A : Type 0} → RequestData → List ℕ → List ℕ → DeviceUse → DeviceUse
+    → DeviceUse → Result Assessed (RunFault A) → Type 0
+AssessingOutcome {A = A} request text answer_text instance answer writer (Ok assessed) =
+    (out : List ℕ) × (a : Assessment A) × IsAssessed request text answer_text out a
+    × (assessed ≡ assessed_of a.fit (bound_in a.bound)) × Appends writer.before writer.after out
+AssessingOutcome {A = A} request text answer_text instance answer writer (Err e) =
+    Leaves (SaysAssessment A request text answer_text) (IsRefusedAssessment request text answer_text)
+    (HasProblemReaderFailed request text instance answer) writer (stop_of e)
+
+-- The outcome is that of two texts, which are all bytes of the readers up to their ends where they
+-- are known.
+pub record IsAssessmentOf {A : Type 0} (request : RequestData) (instance answer writer : DeviceUse)
+    (result : Result Assessed (RunFault A)) : Type 0 where
+  pub text : List ℕ
+  pub is_all : IsTextOf instance.before text
+  pub answer_text : List ℕ
+  pub is_whole_answer : IsTextOf answer.before answer_text
+  pub outcome : AssessingOutcome request text answer_text instance answer writer result
+
+-- ---- reading
+
+-- what both texts say
+pub record IsProblemCase {A : Type 0} (request : RequestData) (instance answer : List ℕ)
+    (case : ProblemCase A) : Type 0 where
+  pub meant : problem_task_for request instance ≡ Ok case.task
+  pub said : answer_in answer ≡ Ok case.sheet
+
+-- A part that reads an instance and an answer gives what both texts say, which are all bytes of the
+-- readers up to their ends where they are known, or the one refusal.
+pub record ReadsProblemCase {A T U : Type 0} (request : RequestData)
+    (remaining : T → Option (List ℕ)) (old new : Counted T) (giving : U → Option (List ℕ))
+    (before after : Counted U) (result : Result (ProblemCase A) (RunFault A)) : Type 0 where
+  pub text : List ℕ
+  pub is_all : IsTextOf (remaining (inner_of old)) text
+  pub answer_text : List ℕ
+  pub is_whole_answer : IsTextOf (giving (inner_of before)) answer_text
+  pub given : MatchResult result (IsProblemCase request text answer_text)
+      (λ e. StopsReading (IsRefusedAssessment request text answer_text)
+      (HasProblemReaderFailed request text (use_of remaining old new)
+      (use_of giving before after)) (stop_of e))
+  pub readers : LeavesBoth (problem_in request.problem) remaining old new giving before after
+      (end_of result)

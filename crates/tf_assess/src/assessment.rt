@@ -1,0 +1,85 @@
+//! What an assessment says.
+use std::alloc::{Allocator, Global};
+use tf_fit::misfit::ProblemMisfit;
+use tf_schedule::schedule::PieceFault;
+use tf_search::strongest::Found;
+
+/// How the pieces of an answer stand to the task of a problem.
+#[derive(Debug, Drop, PartialEq, Eq)]
+pub enum ProblemFit {
+    /// They draw a timetable that fits, and this is what it costs: none where that is 2^127 or more.
+    Fits(Option<i128>),
+    /// They make no schedule.
+    NoSchedule(PieceFault),
+    /// The schedule does not fit.
+    Misfit(ProblemMisfit),
+}
+
+/// What a schedule comes to.
+#[derive(Clone, Copy, Debug, Drop, PartialEq, Eq)]
+pub enum Assessed {
+    /// It fits and costs the bound, so none that fits costs less.
+    Best,
+    /// It fits, and the bound does not show whether one that fits costs less.
+    Unproved,
+    /// It does not fit, or is for another task.
+    Unfit,
+}
+
+/// An answer, as it stands to the task of a problem.
+#[derive(Drop)]
+pub struct Assessment<A: Allocator = Global> {
+    /// How the pieces stand to the task; `None` for an answer to another task.
+    pub fit: Option<ProblemFit>,
+    /// The value that the answer claims.
+    pub claimed: i64,
+    /// The strongest lower bound that was found. None where each certificate that was tried has a
+    /// number beyond the limit.
+    pub bound: Option<Found<A>>,
+}
+
+impl<A: Allocator> Assessment<A> {
+    ghost use Rattle.std.specs.Prelude.{◌≡◌};
+    ghost use Rattle.tf_assess.specs.Assessing.{value_in, bound_in, best_in, assessed_of};
+
+    /// What the schedule costs, if it fits.
+    pub fn value(&self) -> Option<i128>
+        ensures { result ≡ value_in self.now.fit }
+    {
+        match &self.fit {
+            Some(ProblemFit::Fits(value)) => *value,
+            _ => None,
+        }
+    }
+
+    /// The lower bound.
+    pub fn bound_value(&self) -> Option<i128>
+        ensures { result ≡ bound_in self.now.bound }
+    {
+        match &self.bound {
+            Some(found) => Some(found.value),
+            None => None,
+        }
+    }
+
+    /// The least cost of a timetable that fits, where the schedule shows it.
+    pub fn best(&self) -> Option<i128>
+        ensures { result ≡ best_in (value_in self.now.fit) (bound_in self.now.bound) }
+    {
+        match (self.value(), self.bound_value()) {
+            (Some(value), Some(bound)) if value == bound => Some(value),
+            _ => None,
+        }
+    }
+
+    /// What the schedule comes to.
+    pub fn assessed(&self) -> Assessed
+        ensures { result ≡ assessed_of self.now.fit (bound_in self.now.bound) }
+    {
+        match (&self.fit, self.best()) {
+            (Some(ProblemFit::Fits(_)), Some(_)) => Assessed::Best,
+            (Some(ProblemFit::Fits(_)), None) => Assessed::Unproved,
+            _ => Assessed::Unfit,
+        }
+    }
+}

@@ -1,0 +1,8 @@
+//! How an answer to a problem without a solver stands to its task, from bytes to bytes.
+#![tactic(auto)]
+
+pub mod assess;
+pub mod assessment;
+mod case_read;
+pub mod run_assess;
+mod writing;

@@ -1,0 +1,45 @@
+//! Assessing somebody's answer to a problem without a solver, from bytes to bytes.
+ghost use Rattle.tf_text.specs.Counted.{use_of};
+ghost use Rattle.tf_engine.specs.Devices.{LeavesCase};
+ghost use Rattle.tf_engine.specs.Faults.{end_of};
+ghost use Rattle.tf_bounding.specs.RunBounding.{problem_in};
+ghost use Rattle.tf_assess.specs.RunAssessing.{IsAssessmentOf};
+
+use crate::assess::assess;
+use crate::assessment::Assessed;
+use crate::case_read::{ProblemCase, problem_case_read};
+use crate::writing::assessment_bytes;
+use std::alloc::Allocator;
+use std::io::{Read, Write};
+use tf_engine::fault::RunFault;
+use tf_engine::request::Request;
+use tf_text::counted::Counted;
+
+/// Reads an instance and an answer to their ends, and writes how the answer stands to the task of
+/// the problem, with the strongest lower bound that is found.
+///
+/// The refusals come in the order of [`tf_engine::run_check::run_check`]: notation, a problem that
+/// no kind of certificate bounds, reading the instance, its text, the rest of what makes no task,
+/// reading the answer and its first fault. After a refusal nothing was written, unless it is
+/// [`RunFault::Device`], after which a prefix of the assessment may have been.
+pub fn run_assess<A: Allocator + Copy, B: Allocator, R: Read, S: Read, W: Write>(
+    alloc: A,
+    request: &Request<B>,
+    steps: Option<u32>,
+    instance: &mut Counted<R>,
+    answer: &mut Counted<S>,
+    writer: &mut Counted<W>,
+) -> Result<Assessed, RunFault<A>>
+    ensures outcome { IsAssessmentOf request.now (use_of R.remaining instance.old instance.new)
+        (use_of S.remaining answer.old answer.new) (use_of W.contents writer.old writer.new)
+        result }
+    ensures devices { LeavesCase (problem_in request.now.problem) R.remaining instance.old
+        instance.new S.remaining answer.old answer.new writer.old writer.new (end_of result) }
+{
+    let case = problem_case_read(alloc, request, instance, answer)?;
+    let ProblemCase { task, sheet } = case;
+    let assessment = assess(alloc, &task, sheet, steps)?;
+    let text = assessment_bytes(alloc, &task, &assessment)?;
+    writer.push_all(text.as_slice())?;
+    Ok(assessment.assessed())
+}

@@ -1,0 +1,155 @@
+//! Assessments, written.
+ghost use Rattle.std.specs.Prelude.{◌≡◌, [], ◌∷◌, ◌++◌, length, IfOk, OnOk};
+ghost use Rattle.std.specs.List.{flat_map, join_with_byte};
+ghost use Rattle.std.specs.Fmt.{decimal};
+ghost use Rattle.tf_text.specs.AnswerText.{line_text};
+ghost use Rattle.tf_assess.specs.AssessmentText.{problem_misfit_words, fit_words, number_lines, gap_lines, bound_lines, judged_lines, assessment_text};
+
+use crate::assessment::{Assessment, ProblemFit};
+use std::alloc::Allocator;
+use tf_bound::task::ProblemTask;
+use tf_bounding::writing::push_certificate;
+use tf_engine::verdict_line::{push_misfit, push_piece_fault};
+use tf_fit::misfit::ProblemMisfit;
+use tf_model::ids::JobId;
+use tf_model::memory::OutOfMemory;
+use tf_notation::writing::notation_text;
+use tf_search::strongest::Found;
+use tf_text::answer::writing::{push_number, push_number_line};
+
+/// The text of an assessment of an answer to a task, each line ended by a line feed.
+pub(crate) fn assessment_bytes<A: Allocator + Copy, B: Allocator, M: Allocator>(
+    alloc: A,
+    task: &ProblemTask<B>,
+    assessment: &Assessment<M>,
+) -> Result<Vec<u8, A>, OutOfMemory>
+    ensures { IfOk result (λ text. text.items
+        ≡ assessment_text task.now (length task.now.jobs) assessment.now) }
+{
+    let notation = notation_text(alloc, &task.problem())?;
+    let mut text = Vec::from_slice(alloc, b"evaluation 1\nproblem ")?;
+    text.extend_from_slice(notation.as_bytes())?;
+    text.push(b'\n')?;
+    push_number_line(&mut text, b"jobs", task.len() as u64)?;
+    push_number_line(&mut text, b"machines", task.machines())?;
+    push_judged(&mut text, assessment)?;
+    text.extend_from_slice(b"end\n")?;
+    Ok(text)
+}
+
+// How the pieces fit, and the numbers.
+fn push_judged<A: Allocator, M: Allocator>(
+    text: &mut Vec<u8, A>,
+    assessment: &Assessment<M>,
+) -> Result<(), OutOfMemory>
+    ensures { OnOk result (text.new.items
+        ≡ text.old.items ++ flat_map line_text (judged_lines assessment.now)) }
+{
+    push_fit(text, &assessment.fit)?;
+    push_number_line(text, b"claimed", assessment.claimed)?;
+    push_some(text, b"value", assessment.value())?;
+    push_some(text, b"best", assessment.best())?;
+    push_gap(text, assessment.value(), assessment.bound_value())?;
+    push_bound(text, &assessment.bound)?;
+    Ok(())
+}
+
+// `fits`, or `misfit` and why.
+fn push_fit<A: Allocator>(
+    text: &mut Vec<u8, A>,
+    fit: &Option<ProblemFit>,
+) -> Result<(), OutOfMemory>
+    ensures { OnOk result (text.new.items ≡ text.old.items ++ line_text (fit_words fit.now)) }
+{
+    match fit {
+        Some(ProblemFit::Fits(_)) => text.extend_from_slice(b"fits\n")?,
+        None => text.extend_from_slice(b"misfit OtherTask\n")?,
+        Some(ProblemFit::NoSchedule(fault)) => {
+            text.extend_from_slice(b"misfit ")?;
+            push_piece_fault(text, fault)?;
+            text.push(b'\n')?;
+        }
+        Some(ProblemFit::Misfit(misfit)) => {
+            text.extend_from_slice(b"misfit ")?;
+            push_problem_misfit(text, misfit)?;
+            text.push(b'\n')?;
+        }
+    }
+    Ok(())
+}
+
+// A misfit by its name and its arguments.
+fn push_problem_misfit<A: Allocator>(
+    text: &mut Vec<u8, A>,
+    misfit: &ProblemMisfit,
+) -> Result<(), OutOfMemory>
+    ensures { OnOk result (text.new.items
+        ≡ text.old.items ++ join_with_byte 32 (problem_misfit_words misfit.now)) }
+{
+    match misfit {
+        ProblemMisfit::Plain(misfit) => push_misfit(text, misfit)?,
+        ProblemMisfit::OffRoute(job) => push_named(text, b"OffRoute", *job)?,
+        ProblemMisfit::NoOneOrder => text.extend_from_slice(b"NoOneOrder")?,
+        ProblemMisfit::Waits(job) => push_named(text, b"Waits", *job)?,
+    }
+    Ok(())
+}
+
+// A misfit of a job.
+fn push_named<A: Allocator>(
+    text: &mut Vec<u8, A>,
+    name: &[u8],
+    job: JobId,
+) -> Result<(), OutOfMemory>
+    ensures { OnOk result
+        (text.new.items ≡ text.old.items ++ join_with_byte 32 (name.now ∷ decimal job ∷ [])) }
+{
+    text.extend_from_slice(name)?;
+    push_number(text, job.get())
+}
+
+// A line of a number that may be missing.
+fn push_some<A: Allocator>(
+    text: &mut Vec<u8, A>,
+    name: &[u8],
+    number: Option<i128>,
+) -> Result<(), OutOfMemory>
+    ensures { OnOk result
+        (text.new.items ≡ text.old.items ++ flat_map line_text (number_lines name.now number)) }
+{
+    match number {
+        Some(number) => push_number_line(text, name, number),
+        None => Ok(()),
+    }
+}
+
+fn push_gap<A: Allocator>(
+    text: &mut Vec<u8, A>,
+    value: Option<i128>,
+    bound: Option<i128>,
+) -> Result<(), OutOfMemory>
+    ensures { OnOk result
+        (text.new.items ≡ text.old.items ++ flat_map line_text (gap_lines value bound)) }
+{
+    match (value, bound) {
+        (Some(value), Some(bound)) => push_number_line(text, b"gap", value.abs_diff(bound)),
+        _ => Ok(()),
+    }
+}
+
+// The bound and its certificate.
+fn push_bound<A: Allocator, M: Allocator>(
+    text: &mut Vec<u8, A>,
+    bound: &Option<Found<M>>,
+) -> Result<(), OutOfMemory>
+    ensures { OnOk result
+        (text.new.items ≡ text.old.items ++ flat_map line_text (bound_lines bound.now)) }
+{
+    match bound {
+        Some(found) => {
+            push_number_line(text, b"bound", found.value)?;
+            push_certificate(text, &found.certificate)
+        }
+        None => Ok(()),
+    }
+}
