@@ -2,3 +2,4 @@
 pub mod Assessing
 pub mod AssessmentText
 pub mod RunAssessing
+pub mod RunRating

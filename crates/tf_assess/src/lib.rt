@@ -5,4 +5,5 @@ pub mod assess;
 pub mod assessment;
 mod case_read;
 pub mod run_assess;
+pub mod run_rate;
 mod writing;

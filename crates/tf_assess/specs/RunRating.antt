@@ -1,0 +1,43 @@
+-- What an evaluation of an answer to any problem leaves behind.
+use Rattle.std.specs.Prelude.{◌≡◌, ℕ, Bool, false, List, is_some, Result, Ok, Err, IsTrue, IsFalse}
+use Rattle.tf_model.specs.declared.problem.Problem.{Problem}
+use Rattle.tf_model.specs.ClassTable.{class_of}
+use Rattle.tf_notation.specs.Reading.{notation}
+use Rattle.tf_text.specs.Counted.{DeviceUse}
+use Rattle.tf_engine.specs.declared.fault.RunFault.{RunFault}
+use Rattle.tf_engine.specs.RequestData.{RequestData}
+use Rattle.tf_evaluate.specs.declared.evaluation.Detail.{Detail}
+use Rattle.tf_evaluate.specs.declared.evaluation.Standing.{Standing}
+use Rattle.tf_evaluate.specs.declared.evaluation.Standing.TheVariants as standings
+use Rattle.tf_evaluate.specs.RunEvaluating.{IsEvaluationOf}
+use Rattle.tf_assess.specs.declared.assessment.Assessed.{Assessed}
+use Rattle.tf_assess.specs.declared.assessment.Assessed.TheVariants.{Best, Unproved, Unfit}
+use Rattle.tf_assess.specs.RunAssessing.{IsAssessmentOf}
+
+-- whether the problem of a line is of a class, which has a solver
+abbrev pub is_solved_by : Result Problem ℕ → Bool
+is_solved_by (Ok problem) = is_some (class_of problem)
+is_solved_by (Err byte) = false
+
+abbrev pub is_solved : List ℕ → Bool
+is_solved text = is_solved_by (notation text)
+
+-- what a schedule comes to, told as of a problem that is solved: a schedule that is not proved to be
+-- best counts as one that is beaten
+abbrev pub standing_as : Assessed → Standing
+standing_as Best = standings.Best
+standing_as Unproved = standings.Beaten
+standing_as Unfit = standings.Unfit
+
+abbrev pub rated : {A : Type 0} → Result Assessed (RunFault A) → Result Standing (RunFault A)
+rated (Ok assessed) = Ok (standing_as assessed)
+rated (Err fault) = Err fault
+
+-- An answer to a problem of a class is evaluated, and one to another problem is assessed.
+pub record IsRatingOf {A : Type 0} (detail : Detail) (request : RequestData)
+    (instance answer writer : DeviceUse) (result : Result Standing (RunFault A)) : Type 0 where
+  pub solved : IsTrue (is_solved request.problem)
+      → IsEvaluationOf detail request instance answer writer result
+  pub unsolved : IsFalse (is_solved request.problem)
+      → (run : Result Assessed (RunFault A)) × IsAssessmentOf request instance answer writer run
+      × (result ≡ rated run)

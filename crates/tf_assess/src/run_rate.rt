@@ -1,0 +1,59 @@
+//! Evaluating somebody's answer to any problem, from bytes to bytes.
+ghost use Rattle.std.specs.Prelude.{◌≡◌};
+ghost use Rattle.tf_text.specs.Counted.{use_of};
+ghost use Rattle.tf_assess.specs.RunRating.{IsRatingOf, is_solved, rated};
+
+use crate::assessment::Assessed;
+use crate::run_assess::run_assess;
+use std::alloc::Allocator;
+use std::io::{Read, Write};
+use tf_engine::fault::RunFault;
+use tf_engine::request::Request;
+use tf_evaluate::evaluation::{Detail, Standing};
+use tf_evaluate::run_evaluate::run_evaluate;
+use tf_model::class::class_of;
+use tf_notation::reading::read;
+use tf_text::counted::Counted;
+
+/// Evaluates an answer to a problem of a class as [`run_evaluate`] does, and assesses one to another
+/// problem as [`run_assess`] does, of which the detail is not looked at. The search for prices takes
+/// the usual number of steps.
+pub fn run_rate<A: Allocator + Copy, B: Allocator, R: Read, S: Read, W: Write>(
+    alloc: A,
+    request: &Request<B>,
+    detail: Detail,
+    instance: &mut Counted<R>,
+    answer: &mut Counted<S>,
+    writer: &mut Counted<W>,
+) -> Result<Standing, RunFault<A>>
+    ensures { IsRatingOf detail request.now (use_of R.remaining instance.old instance.new)
+        (use_of S.remaining answer.old answer.new) (use_of W.contents writer.old writer.new)
+        result }
+{
+    if is_solved(request.problem.as_str()) {
+        return run_evaluate(alloc, request, detail, instance, answer, writer);
+    }
+    rated(run_assess(alloc, request, None, instance, answer, writer))
+}
+
+// What is told of an assessment.
+fn rated<A: Allocator>(run: Result<Assessed, RunFault<A>>) -> Result<Standing, RunFault<A>>
+    ensures { result ≡ rated run }
+{
+    match run {
+        Ok(Assessed::Best) => Ok(Standing::Best),
+        Ok(Assessed::Unproved) => Ok(Standing::Beaten),
+        Ok(Assessed::Unfit) => Ok(Standing::Unfit),
+        Err(fault) => Err(fault),
+    }
+}
+
+// Whether the problem of a line is of a class.
+fn is_solved(text: &str) -> bool
+    ensures { result ≡ is_solved text.now }
+{
+    match read(text.as_bytes()) {
+        Ok(problem) => class_of(&problem).is_some(),
+        Err(_) => false,
+    }
+}
