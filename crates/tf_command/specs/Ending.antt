@@ -12,7 +12,7 @@ use Rattle.tf_engine.specs.Drawing.{IsDrawingOf, IsChart}
 use Rattle.tf_picture.specs.Picture.{IsPicture}
 use Rattle.tf_evaluate.specs.declared.evaluation.Detail.{Detail}
 use Rattle.tf_evaluate.specs.declared.evaluation.Standing.{Standing}
-use Rattle.tf_evaluate.specs.RunEvaluating.{IsEvaluationOf}
+use Rattle.tf_assess.specs.RunRating.{IsRatingOf}
 use Rattle.tf_bounding.specs.RunBounding.{IsBoundingOf}
 use Rattle.tf_command.specs.declared.options.Drawing.{Drawing}
 use Rattle.tf_command.specs.declared.options.Drawing.TheVariants.{Chart, Picture}
@@ -82,6 +82,6 @@ pub record EndsDrawing (A : Type 0) (drawing : Drawing) (answer writer : DeviceU
 pub record EndsEvaluating (A : Type 0) (detail : Detail) (request : RequestData)
     (instance answer writer : DeviceUse) (says : List ℕ → Type 0) (status : ℕ) : Type 0 where
   pub run : Result Standing (RunFault A)
-  pub outcome : IsEvaluationOf detail request instance answer writer run
+  pub outcome : IsRatingOf detail request instance answer writer run
   pub ends : status ≡ status_of_evaluating run
   pub said : says (line_of run)

@@ -18,12 +18,12 @@ use crate::source::Sources;
 use std::alloc::{Allocator, Global};
 use std::io::{Read, Write};
 use tf_advice::solved::solved_problems;
+use tf_assess::run_rate::run_rate;
 use tf_bounding::run_bound::run_bound;
 use tf_engine::fault::RunFault;
 use tf_engine::run_check::run_check;
 use tf_engine::run_gantt::run_gantt;
 use tf_engine::run_solve::run_solve;
-use tf_evaluate::run_evaluate::run_evaluate;
 use tf_explain::explain;
 use tf_model::instance::Instance;
 use tf_picture::run_picture::run_picture;
@@ -338,7 +338,7 @@ fn evaluate<R: Read, S: Read, W: Write, E: Write>(
         return say_memory(&mut console.errors);
     };
     let detail = evaluating.detail;
-    let run = run_evaluate(
+    let run = run_rate(
         alloc,
         &request,
         detail,

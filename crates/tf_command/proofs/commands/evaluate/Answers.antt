@@ -1,4 +1,4 @@
-use Rattle.std.proofs.Common.{Err}
+use Rattle.std.proofs.Common.{Err, refl}
 use Rattle.std.proofs.KnownBytes.{Keeps-refl}
 use Rattle.tf_text.specs.Counted.{inner_of}
 use Rattle.tf_engine.specs.declared.fault.RunFault.TheVariants.{OutOfMemory}
@@ -13,11 +13,24 @@ returns-in_default g c =
     record {
       run = Err OutOfMemory;
       outcome = record {
-        text = text;
-        is_all = is;
-        answer_text = said;
-        is_whole_answer = is_said;
-        outcome = Keeps-refl _;
+        solved = λ _. record {
+          text = text;
+          is_all = is;
+          answer_text = said;
+          is_whole_answer = is_said;
+          outcome = Keeps-refl _;
+        };
+        unsolved = λ _. (
+          Err OutOfMemory,
+          record {
+            text = text;
+            is_all = is;
+            answer_text = said;
+            is_whole_answer = is_said;
+            outcome = Keeps-refl _;
+          },
+          refl,
+        );
       };
       ends = c.say_memory.ensures.status;
       said = λ _. c.say_memory.ensures.line;
