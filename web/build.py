@@ -1,0 +1,161 @@
+#!/usr/bin/env python3
+"""Packs the page's sources and the solver's module into one file, web/threefield.html.
+
+    web/build.py MODULE.wasm             writes web/threefield.html
+    web/build.py --check MODULE.wasm     says whether that file is what the sources and the module give
+    web/build.py --check                 the same for the sources alone, with the module that the file holds
+
+Each module of the sources becomes a function that returns what it exports, in an order in which each comes after those
+that it imports. A policy in the page's head allows this one script, this one style and a worker, and no network.
+"""
+import base64
+import hashlib
+import re
+import sys
+import zlib
+from pathlib import Path
+
+HERE = Path(__file__).resolve().parent
+SOURCES = HERE / "src"
+PAGE = HERE / "threefield.html"
+MOST_BYTES = 800_000
+
+IMPORT = re.compile(r'^import (\{[^}]*\}|\* as \w+) from "\./(\w+)\.js";\n', re.MULTILINE)
+EXPORT = re.compile(r"^export (?=(?:async )?(?:function\*?|const|class) (\w+))", re.MULTILINE)
+MODULE_IN_PAGE = re.compile(r'(<script type="text/plain" id="module-bytes">)([^<]*)(</script>)')
+
+
+def read(folder, name):
+    return (folder / name).read_text(encoding="utf-8")
+
+
+def modules_of(folder, entry):
+    """The names of the modules that `entry` needs, itself last, each after those that it imports."""
+    order, under_way = [], []
+
+    def visit(name):
+        if name in order:
+            return
+        if name in under_way:
+            sys.exit(f"build.py: {' imports '.join([*under_way, name])}: a cycle")
+        under_way.append(name)
+        for _, other in IMPORT.findall(read(folder, f"{name}.js")):
+            visit(other)
+        under_way.pop()
+        order.append(name)
+
+    visit(entry)
+    return order
+
+
+def wrapped(folder, name):
+    """A module as a function that is called at once and returns the exports."""
+    text = read(folder, f"{name}.js")
+    imports = []
+    for what, other in IMPORT.findall(text):
+        target = what.removeprefix("* as ")
+        imports.append(f"const {' '.join(target.split())} = in_{other};\n")
+    body = IMPORT.sub("", text)
+    names = EXPORT.findall(body)
+    body = EXPORT.sub("", body)
+    if re.search(r"^(import|export)\b", body, re.MULTILINE):
+        sys.exit(f"build.py: {name}.js imports or exports in a form that this script does not know")
+    returned = f"return {{ {', '.join(names)} }};\n" if names else ""
+    return f"const in_{name} = (() => {{\n{''.join(imports)}{body}{returned}}})();\n"
+
+
+def script(folder, entry):
+    """The script of `entry` and all that it imports."""
+    parts = [wrapped(folder, name) for name in modules_of(folder, entry)]
+    text = '"use strict";\n(() => {\n' + "\n".join(parts) + "})();\n"
+    for mark in ("</script", "<!--"):
+        if mark in text:
+            sys.exit(f"build.py: {mark} stands in a source of {entry}.js, and would end the script in the page")
+    return text
+
+
+def digest(text):
+    return "'sha256-" + base64.b64encode(hashlib.sha256(text.encode()).digest()).decode() + "'"
+
+
+def policy(main, style):
+    return "; ".join([
+        "default-src 'none'",
+        f"script-src {digest(main)} 'wasm-unsafe-eval'",
+        f"style-src {digest(style)}",
+        "worker-src blob:",
+        "img-src blob:",
+        "base-uri 'none'",
+        "form-action 'none'",
+    ])
+
+
+def packed(module):
+    deflate = zlib.compressobj(9, zlib.DEFLATED, -15)
+    return base64.b64encode(deflate.compress(module) + deflate.flush()).decode()
+
+
+def unpacked(text):
+    return zlib.decompress(base64.b64decode(text), -15)
+
+
+def page(folder, module_text):
+    """The whole page, with the packed module as it is given."""
+    main, style = script(folder, "main"), read(folder, "style.css")
+    text = read(folder, "index.html")
+    for mark, value in (
+        ("/*POLICY*/", policy(main, style)),
+        ("/*STYLE*/", style),
+        ("/*MODULE*/", module_text),
+        ("/*WORKER*/", script(folder, "worker")),
+        ("/*SCRIPT*/", main),
+    ):
+        if text.count(mark) != 1:
+            sys.exit(f"build.py: {mark} has to stand once in index.html")
+        text = text.replace(mark, value)
+    return text
+
+
+def module_in(text):
+    """The packed module that a page holds."""
+    found = MODULE_IN_PAGE.search(text)
+    if not found:
+        sys.exit(f"build.py: {PAGE.name} holds no module")
+    return found.group(2)
+
+
+def check(module):
+    """Whether the page in the repository is what the sources and the module give.
+
+    Versions of zlib pack differently, so the module is compared unpacked, and all the rest byte for byte.
+    """
+    there = PAGE.read_text(encoding="utf-8")
+    kept = module_in(there)
+    inside = unpacked(kept)
+    if module is not None and inside != module:
+        sys.exit(f"build.py: {PAGE.name} holds another module")
+    if page(SOURCES, kept) != there:
+        sys.exit(f"build.py: {PAGE.name} is not what the sources give")
+    which = "the sources and the module" if module is not None else "the sources; its module was not compared"
+    print(f"{PAGE.name} is what {which} give; sha256 of the module: {hashlib.sha256(inside).hexdigest()}")
+
+
+def main(words):
+    checks = words[:1] == ["--check"]
+    files = words[1:] if checks else words
+    if len(files) > 1 or not (checks or files):
+        sys.exit(__doc__)
+    module = Path(files[0]).read_bytes() if files else None
+    if checks:
+        check(module)
+        return
+    text = page(SOURCES, packed(module))
+    size = len(text.encode())
+    if size > MOST_BYTES:
+        sys.exit(f"build.py: the page has {size} bytes, more than {MOST_BYTES}")
+    PAGE.write_text(text, encoding="utf-8")
+    print(f"{PAGE.name}: {size} bytes, its module {len(module)} bytes unpacked")
+
+
+if __name__ == "__main__":
+    main(sys.argv[1:])

@@ -1,0 +1,71 @@
+// The form of the calendar's settings.
+
+import { STEPS, WEEKDAYS, lengthText, momentText } from "./calendar.js";
+import { html } from "./svg.js";
+
+export class CalendarView {
+  /** @param {import("./store.js").Store} store */
+  constructor(store) {
+    this.store = store;
+    this.fields = [...document.querySelectorAll("[data-setting]")];
+    this.notes = document.getElementById("calendar-notes");
+    this.words = document.getElementById("calendar-words");
+    this.details = document.getElementById("calendar");
+    document.getElementById("step").append(...STEPS.map(({ id, words }) => new Option(words, id)));
+    this.days = [1, 2, 3, 4, 5, 6, 0].map((day) => {
+      const check = html("input", { type: "checkbox", value: day, change: () => this.edit() });
+      document.getElementById("weekdays").append(html("label", {}, check, ` ${WEEKDAYS[day]}`));
+      return check;
+    });
+    for (const field of this.fields) field.addEventListener("input", () => this.edit(field));
+  }
+
+  edit(field = null) {
+    const settings = { ...this.store.state.settings };
+    for (const { dataset, value } of this.fields) {
+      settings[dataset.setting] = dataset.setting === "dayFirst" ? value === "true" : value;
+    }
+    settings.days = this.days.filter((check) => check.checked)
+      .map((check) => Number(check.value)).sort();
+    if (settings.step !== "plain" && settings.start === "") settings.start = today();
+    this.store.change({ settings }, field && `setting ${field.dataset.setting}`);
+  }
+
+  /** Shows the state's settings in the form. */
+  draw() {
+    const { settings } = this.store.state;
+    for (const field of this.fields) {
+      const value = String(settings[field.dataset.setting]);
+      if (field.value !== value) field.value = value;
+      const isStep = field.dataset.setting === "step";
+      field.closest("label").hidden = settings.step === "plain" && !isStep;
+    }
+    document.getElementById("weekdays").hidden = settings.step === "plain";
+    for (const check of this.days) check.checked = settings.days.includes(Number(check.value));
+  }
+
+  /** Shows the calendar that the settings made, or what is wrong with them. */
+  show(calendar, faults) {
+    const { settings } = this.store.state;
+    this.words.textContent = settings.step === "plain" ? "none; all times are plain numbers"
+      : !calendar ? "needs to be corrected"
+        : `from ${momentText(calendar, 0, false)} in steps of ${calendar.stepWords}, `
+          + `${lengthText(calendar, calendar.dayMinutes / calendar.stepMinutes)} a day`;
+    if (faults.length > 0) this.details.open = true;
+    this.notes.replaceChildren(...faults.map(({ field, message }) => html("p",
+      { class: "fault", id: `fault-${field}` }, message)));
+    for (const field of this.fields) {
+      const isWrong = faults.some((fault) => fault.field === field.dataset.setting);
+      if (isWrong) field.setAttribute("aria-describedby", `fault-${field.dataset.setting}`);
+      else field.removeAttribute("aria-describedby");
+      field.toggleAttribute("aria-invalid", isWrong);
+    }
+  }
+}
+
+/** Today by the clock of the browser, as 2025-03-03. */
+export function today() {
+  const now = new Date();
+  const two = (number) => String(number).padStart(2, "0");
+  return `${now.getFullYear()}-${two(now.getMonth() + 1)}-${two(now.getDate())}`;
+}

@@ -1,0 +1,343 @@
+// The Gantt chart of a plan as SVG: a window of time, perhaps folded into several lines.
+
+import { dayStarts, lengthText, momentText } from "./calendar.js";
+import { lateness } from "./plan.js";
+import { fitted, svg, textWidth } from "./svg.js";
+
+const TEXT = 12;
+const AXIS = 24;
+const LANE = 13;
+const GAP = 12;
+const ROW_HEIGHTS = [[8, 36], [25, 26], [60, 18], [Infinity, 11]];
+const SIZES = Array.from({ length: 42 }, (_, k) => [1, 2, 5][k % 3] * 10 ** Math.floor(k / 3));
+const DENSE = 2.5;
+const ROOM_FOR_NAME = 48;
+const ROOM_FOR_MARK = 12;
+const MOST_LINKS = 300;
+
+/**
+ * What of a plan is drawn, and how.
+ * @typedef {object} View
+ * @property {number} from @property {number} to the window in time steps
+ * @property {number} lines into how many lines it is folded
+ * @property {number} width in pixels
+ * @property {boolean} marks whether due and release dates are marked
+ */
+
+/**
+ * Draws a plan.
+ * @param {object} plan as `makePlan` gives it
+ * @param {View} view
+ * @param {number} scale by which everything is larger, the text too
+ * @returns {SVGElement} bars have the attribute data-job, the place of their job
+ */
+export function drawChart(plan, view, scale = 1) {
+  const width = view.width / scale;
+  const frame = frameOf(plan, { ...view, width });
+  const chart = svg("svg", {
+    class: "chart", width: view.width, height: frame.height * scale,
+    viewBox: `0 0 ${width} ${frame.height}`,
+    "font-family": 'system-ui, "DejaVu Sans", sans-serif', "font-size": TEXT,
+  }, patterns());
+  const span = (view.to - view.from) / view.lines;
+  for (let line = 0; line < view.lines; line++) {
+    const from = view.from + line * span;
+    chart.append(drawLine(plan, frame, { from, to: from + span, top: line * frame.lineHeight }));
+  }
+  return chart;
+}
+
+/** The number of lines at which a name fits into most bars, within reason. */
+export function goodLines(plan, from, to, width) {
+  const share = (to - from) / Math.max(1, plan.length);
+  const bars = plan.order.length / plan.machines * share;
+  const wanted = Math.ceil(bars * ROOM_FOR_NAME / width);
+  const most = Math.max(1, Math.floor(12 / plan.machines));
+  return Math.max(1, Math.min(wanted, most, 8, Math.floor(to - from)));
+}
+
+function frameOf(plan, view) {
+  const [, row] = ROW_HEIGHTS.find(([most]) => plan.machines <= most);
+  const share = (view.to - view.from) / Math.max(1, plan.length) / view.lines / plan.machines;
+  const hasMarks = view.marks && row >= 18 && plan.jobs.length * share * ROOM_FOR_MARK < view.width
+    && plan.jobs.some((job) => job.due !== null || job.hasRelease && plan.usesRelease);
+  const labels = plan.machines.toString().length * 8 + (view.width < 500 ? 16 : 62);
+  const rowHeight = row + (hasMarks ? LANE : 0) + 4;
+  const lineHeight = AXIS + plan.machines * rowHeight + GAP;
+  return {
+    row, rowHeight, lineHeight, hasMarks, left: labels, right: 14, isNarrow: view.width < 500,
+    width: view.width, height: lineHeight * view.lines,
+    pixels: (view.width - labels - 14) / ((view.to - view.from) / view.lines),
+  };
+}
+
+function patterns() {
+  const hatch = (id, lines) => svg("pattern", {
+    id, width: 7, height: 7, patternUnits: "userSpaceOnUse", patternTransform: "rotate(45)",
+  }, lines);
+  return svg("defs", {},
+    hatch("idle", svg("path", { class: "hatch", d: "M0 0V7", "stroke-width": 2 })),
+    hatch("many", [svg("rect", { class: "many", width: 7, height: 7 }),
+      svg("path", { class: "many-line", d: "M2 0V7M5.5 0V7", "stroke-width": 1.5 })]));
+}
+
+/** One line of the chart: an axis, and a row for each machine. */
+function drawLine(plan, frame, line) {
+  const x = (step) => frame.left + (step - line.from) * frame.pixels;
+  const group = svg("g", { transform: `translate(0 ${line.top})` });
+  group.append(drawAxis(plan, frame, line, x));
+  for (let machine = 1; machine <= plan.machines; machine++) {
+    const top = AXIS + (machine - 1) * frame.rowHeight;
+    group.append(drawRow(plan, frame, { ...line, machine, top, x }));
+  }
+  if (plan.isPreempted) group.append(drawLinks(plan, frame, line, x));
+  return group;
+}
+
+// ---- the axis ----
+
+function drawAxis(plan, frame, line, x) {
+  const bottom = frame.lineHeight - GAP;
+  const group = svg("g", { class: "axis" });
+  const most = Math.max(2, Math.floor((frame.width - frame.left) / (plan.calendar ? 96 : 64)));
+  const end = Math.min(line.to, plan.length);
+  const hasEnd = plan.length >= line.from && plan.length <= line.to + 1e-9 && plan.length > 0;
+  const endWords = hasEnd ? momentText(plan.calendar, plan.length, true) : "";
+  const endWidth = textWidth(endWords, TEXT, true);
+  const endLeft = hasEnd
+    ? Math.min(x(plan.length) + endWidth / 2, frame.width - 2) - endWidth : Infinity;
+  let free = -Infinity;
+  for (const { step } of ticks(plan.calendar, line.from, line.to, frame.width / 16)) {
+    if (step > end) continue;
+    group.append(svg("path", { class: "grid", d: `M${round(x(step))} ${AXIS - 4}V${bottom}` }));
+  }
+  for (const { step, words } of ticks(plan.calendar, line.from, line.to, most)) {
+    if (step > end) continue;
+    const half = textWidth(words, TEXT) / 2;
+    const middle = Math.max(x(step), half + 2);
+    if (middle - half < free || middle + half > Math.min(endLeft - 6, frame.width)) continue;
+    group.append(svg("text", { x: round(middle), y: AXIS - 8, "text-anchor": "middle" }, words));
+    free = middle + half + 8;
+  }
+  if (hasEnd) {
+    group.append(
+      svg("path", { class: "end", d: `M${round(x(plan.length))} ${AXIS - 6}V${bottom}` }),
+      svg("text", { class: "end-text", x: round(endLeft), y: AXIS - 8 }, endWords));
+  }
+  return group;
+}
+
+/** Where the axis has its lines: working days, or round numbers of steps. */
+function ticks(calendar, from, to, most) {
+  if (calendar) {
+    const days = dayStarts(calendar, from, to, most);
+    if (days.length >= 2) return days;
+  }
+  const size = SIZES.find((each) => (to - from) / each <= most);
+  const found = [];
+  for (let step = Math.ceil(from / size) * size; step <= to; step += size) {
+    found.push({ step, words: momentText(calendar, step, false) });
+  }
+  return found;
+}
+
+// ---- one machine ----
+
+function drawRow(plan, frame, row) {
+  const group = svg("g", { transform: `translate(0 ${row.top})` });
+  const label = frame.isNarrow || frame.row < 18 ? String(row.machine) : `Machine ${row.machine}`;
+  const left = row.x(row.from);
+  const right = row.x(Math.min(row.to, Math.max(plan.length, row.from)));
+  group.append(
+    svg("text", { class: "label", x: frame.left - 6, y: frame.row / 2 + 4, "text-anchor": "end" },
+      frame.row < 14 && row.machine % 5 !== 1 ? "" : label),
+    svg("rect", { class: "ground", x: round(left), width: round(right - left), height: frame.row }),
+    svg("rect", { class: "idle", x: round(left), width: round(right - left), height: frame.row,
+      fill: "url(#idle)" }));
+  const [first, last] = plan.rows[row.machine - 1];
+  const { start, stop } = plan.schedule;
+  let k = firstAfter(plan, first, last, row.from);
+  let free = row.from;
+  while (k < last && start[plan.order[k]] < row.to) {
+    const piece = plan.order[k];
+    drawIdle(group, plan, frame, row, free, start[piece]);
+    const next = drawDense(group, plan, frame, row, k, last);
+    if (next === k) drawBar(group, plan, frame, row, piece);
+    k = Math.max(next, k + 1);
+    free = stop[plan.order[k - 1]];
+  }
+  drawIdle(group, plan, frame, row, free, Math.min(row.to, plan.length));
+  if (frame.hasMarks) drawMarks(group, plan, frame, row);
+  return group;
+}
+
+/** The first place of a machine's pieces that stops after a time. */
+function firstAfter(plan, first, last, time) {
+  let low = first;
+  let high = last;
+  while (low < high) {
+    const middle = (low + high) >> 1;
+    if (plan.schedule.stop[plan.order[middle]] > time) high = middle;
+    else low = middle + 1;
+  }
+  return low;
+}
+
+function drawIdle(group, plan, frame, row, from, to) {
+  const start = Math.max(from, row.from);
+  const words = `idle ${lengthText(plan.calendar, Math.round(to - start))}`;
+  const room = (Math.min(to, row.to) - start) * frame.pixels;
+  if (frame.row < 18 || room < textWidth(words, 11) + 10) return;
+  group.append(svg("text", { class: "idle-text", x: round(row.x(start) + room / 2),
+    y: frame.row / 2 + 4, "text-anchor": "middle", "font-size": 11 }, words));
+}
+
+/** Draws pieces that are too narrow to be told apart as one bar, and gives the place after them. */
+function drawDense(group, plan, frame, row, k, last) {
+  const { start, stop } = plan.schedule;
+  const width = (place) => (stop[plan.order[place]] - start[plan.order[place]]) * frame.pixels;
+  let next = k;
+  let end = start[plan.order[k]];
+  while (next < last && width(next) < DENSE && start[plan.order[next]] < row.to
+    && (start[plan.order[next]] - end) * frame.pixels < DENSE / 2) {
+    end = stop[plan.order[next]];
+    next++;
+  }
+  if (next <= k + 1) return k;
+  const from = Math.max(start[plan.order[k]], row.from);
+  const left = row.x(from);
+  const right = row.x(Math.min(end, row.to));
+  group.append(svg("rect", { class: "many-frame", x: round(left), width: round(right - left),
+    height: frame.row, fill: "url(#many)" }, svg("title", {}, `${next - k} pieces: zoom in`)));
+  return next;
+}
+
+function drawBar(group, plan, frame, row, piece) {
+  const { schedule, calendar } = plan;
+  const job = schedule.job[piece] - 1;
+  const [start, stop] = [schedule.start[piece], schedule.stop[piece]];
+  const left = row.x(Math.max(start, row.from));
+  const width = Math.max(1, row.x(Math.min(stop, row.to)) - left);
+  const late = lateness(plan, job);
+  const isLate = late !== null && late > 0;
+  const inset = width > 8 ? 0.75 : 0;
+  const bar = svg("rect", {
+    class: `bar fill${plan.colour[job] ?? 0}${isLate ? " late" : ""}${width < 6 ? " thin" : ""}`,
+    "data-job": job,
+    x: round(left + inset), y: 0.75, width: round(width - 2 * inset), height: frame.row - 1.5,
+    rx: width > 8 ? 2 : 0,
+  }, svg("title", {}, barTitle(plan, job, row.machine, start, stop)));
+  group.append(bar);
+  if (isLate && width > 3) {
+    group.append(svg("rect", { class: "late-edge", x: round(left + inset), y: frame.row - 5,
+      width: round(width - 2 * inset), height: 4.25 }));
+  }
+  if (frame.row < 14) return;
+  const size = frame.row < 20 ? 10 : TEXT;
+  const lateWords = isLate ? ` +${lengthText(calendar, late)}` : "";
+  const words = barWords(plan, job, size, width - 6, lateWords);
+  if (words === "") return;
+  group.append(svg("text", { class: "name", x: round(left + width / 2), y: frame.row / 2 + 4,
+    "text-anchor": "middle", "font-size": size }, words));
+}
+
+/** What stands in a bar: the name and how late it is, or as much of it as has room. */
+function barWords(plan, job, size, room, late) {
+  if (room < 6) return "";
+  const { name, row } = plan.jobs[job] ?? { name: `job ${job + 1}`, row: job };
+  if (late && textWidth(name + late, size) <= room) return name + late;
+  const words = fitted(name, size, room);
+  if (words.length >= Math.min(name.length, 8)) return words;
+  const numbers = [`#${row + 1}`, String(row + 1)];
+  return numbers.find((number) => textWidth(number, size) <= room) ?? "";
+}
+
+function barTitle(plan, job, machine, start, stop) {
+  const { calendar } = plan;
+  const at = plan.jobs[job];
+  const late = at ? lateness(plan, job) : null;
+  const due = late === null ? "" : momentText(calendar, at.due, true);
+  const isReleased = at?.hasRelease && plan.usesRelease;
+  const words = [
+    `${at?.name ?? `job ${job + 1}`}, machine ${machine}: ${momentText(calendar, start, false)} to `
+      + `${momentText(calendar, stop, true)} (${lengthText(calendar, stop - start)})`,
+    isReleased ? `released ${momentText(calendar, at.release, false)}` : null,
+    late === null ? null : `due ${due}: ${latenessWords(calendar, late)}`,
+  ];
+  return words.filter(Boolean).join("\n");
+}
+
+/** Lateness in words: "2 h late", "on time" or "3 h early". */
+export function latenessWords(calendar, late) {
+  if (late === 0) return "just on time";
+  return `${lengthText(calendar, Math.abs(late))} ${late > 0 ? "late" : "early"}`;
+}
+
+// ---- due and release dates ----
+
+/** Marks the due and release dates of the jobs of a machine in a lane below its row. */
+function drawMarks(group, plan, frame, row) {
+  const [first, last] = plan.rows[row.machine - 1];
+  const marked = new Set();
+  const marks = [];
+  for (let k = first; k < last; k++) {
+    const job = plan.schedule.job[plan.order[k]] - 1;
+    const at = plan.jobs[job];
+    if (!at || marked.has(job) || plan.machine[job] !== row.machine) continue;
+    marked.add(job);
+    const isHere = (step) => step >= row.from && step <= row.to;
+    if (at.due !== null && isHere(at.due)) marks.push({ step: at.due, job, isDue: true });
+    const isReleased = plan.usesRelease && at.hasRelease && isHere(at.release);
+    if (isReleased) marks.push({ step: at.release, job, isDue: false });
+  }
+  if (marks.length * ROOM_FOR_MARK > frame.width) return;
+  marks.sort((a, b) => a.step - b.step).forEach((mark, k) => {
+    const next = k + 1 < marks.length ? row.x(marks[k + 1].step) - 6 : frame.width;
+    drawMark(group, plan, frame, row, mark, next);
+  });
+}
+
+/** Draws a triangle, and beside it the name where it has room before the next mark. */
+function drawMark(group, plan, frame, row, { step, job, isDue }, next) {
+  const { name } = plan.jobs[job];
+  const x = row.x(step);
+  const y = frame.row + 3;
+  const shape = isDue ? `M${round(x - 4)} ${y}H${round(x + 4)}L${round(x)} ${y + 8}Z`
+    : `M${round(x - 4)} ${y + 8}H${round(x + 4)}L${round(x)} ${y}Z`;
+  const isLate = isDue && lateness(plan, job) > 0;
+  const words = `${name}: ${isDue ? "due" : "released"} ${momentText(plan.calendar, step, isDue)}`;
+  group.append(svg("path", {
+    class: `mark ${isDue ? "due" : "release"} fill${plan.colour[job]}${isLate ? " late" : ""}`,
+    "data-job": job, d: shape,
+  }, svg("title", {}, words)));
+  const label = fitted(name, 10, Math.min(90, next - x - 8));
+  if (label === "") return;
+  group.append(svg("text", { class: "mark-text", x: round(x + 6), y: y + 8, "font-size": 10 },
+    label));
+}
+
+/** Joins the pieces of preempted jobs by thin lines. */
+function drawLinks(plan, frame, line, x) {
+  const { schedule } = plan;
+  const group = svg("g", { class: "links" });
+  const lastPiece = new Map();
+  const byTime = [...plan.order].filter((piece) => plan.pieces[schedule.job[piece] - 1] > 1)
+    .sort((a, b) => schedule.start[a] - schedule.start[b]);
+  let drawn = 0;
+  for (const piece of byTime) {
+    const before = lastPiece.get(schedule.job[piece]);
+    lastPiece.set(schedule.job[piece], piece);
+    if (before === undefined || drawn >= MOST_LINKS) continue;
+    const [from, to] = [schedule.stop[before], schedule.start[piece]];
+    if (from < line.from || to > line.to) continue;
+    const y = (each) => AXIS + (schedule.machine[each] - 1) * frame.rowHeight + frame.row - 4;
+    if (from === to && y(before) === y(piece)) continue;
+    group.append(svg("path", { d: `M${round(x(from))} ${y(before)}L${round(x(to))} ${y(piece)}` }));
+    drawn++;
+  }
+  return group;
+}
+
+function round(number) {
+  return Math.round(number * 100) / 100;
+}

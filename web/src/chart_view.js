@@ -1,0 +1,142 @@
+// The chart on the page: its window of time, zoom by buttons, keys and the mouse, and printing.
+
+import { drawChart, goodLines, latenessWords } from "./chart.js";
+import { lengthText, momentText } from "./calendar.js";
+import { lateness } from "./plan.js";
+import { html } from "./svg.js";
+
+const PRINT_WIDTH = 1020;
+const KEYS = { "+": "in", "=": "in", "-": "out", "−": "out", 0: "all", ArrowLeft: "left",
+  ArrowRight: "right" };
+
+export class ChartView {
+  constructor() {
+    this.frame = document.getElementById("chart-frame");
+    this.details = document.getElementById("chart-details");
+    this.lines = document.getElementById("lines");
+    this.marks = document.getElementById("marks");
+    this.plan = null;
+    for (const button of document.querySelectorAll("[data-zoom]")) {
+      button.addEventListener("click", () => this.zoom(button.dataset.zoom));
+    }
+    this.frame.addEventListener("keydown", (event) => this.key(event));
+    this.frame.addEventListener("wheel", (event) => this.wheel(event), { passive: false });
+    this.frame.addEventListener("click", (event) => this.point(event.target));
+    for (const input of [this.lines, this.marks]) {
+      input.addEventListener("change", () => this.draw());
+    }
+    new ResizeObserver(() => this.resize()).observe(this.frame);
+    window.addEventListener("beforeprint", () => this.draw(PRINT_WIDTH));
+    window.addEventListener("afterprint", () => this.draw());
+  }
+
+  /** Shows a plan; the window stays where it is if the plan before was as long. */
+  show(plan) {
+    if (plan.length !== this.plan?.length) {
+      this.from = 0;
+      this.to = Math.max(1, plan.length);
+    }
+    this.plan = plan;
+    this.details.textContent = "";
+    this.draw();
+    this.drawLegend();
+  }
+
+  resize() {
+    if (this.plan && Math.abs(this.frame.clientWidth - this.drawnWidth) > 1) this.draw();
+  }
+
+  draw(width = null) {
+    if (!this.plan) return;
+    this.drawnWidth = width ?? Math.max(280, this.frame.clientWidth);
+    const scale = width ? 1 : parseFloat(getComputedStyle(document.documentElement).fontSize) / 16;
+    const chosen = Number(this.lines.value);
+    const lines = Math.min(Math.max(1, Math.floor(this.to - this.from)),
+      chosen || goodLines(this.plan, this.from, this.to, this.drawnWidth / scale));
+    this.chart = drawChart(this.plan, { from: this.from, to: this.to, lines,
+      width: this.drawnWidth, marks: this.marks.checked }, scale);
+    this.frame.replaceChildren(this.chart);
+    this.frame.setAttribute("aria-label", this.describe());
+  }
+
+  describe() {
+    const { plan } = this;
+    const words = `Gantt chart of ${plan.jobs.length} jobs on ${plan.machines} `
+      + `${plan.machines === 1 ? "machine" : "machines"}, from `
+      + `${momentText(plan.calendar, Math.round(this.from), false)} to `
+      + `${momentText(plan.calendar, Math.round(this.to), true)}. `;
+    return `${words}The list below says the same in words. Keys: plus and minus zoom, arrows move.`;
+  }
+
+  // ---- the window ----
+
+  zoom(how, around = 0.5) {
+    const size = this.to - this.from;
+    if (how === "all") this.look(0, this.plan.length);
+    else if (how === "in" || how === "out") {
+      const next = size * (how === "in" ? 0.5 : 2);
+      const middle = this.from + size * around;
+      this.look(middle - next * around, middle + next * (1 - around));
+    } else this.look(this.from + size * (how === "left" ? -0.25 : 0.25),
+      this.to + size * (how === "left" ? -0.25 : 0.25));
+  }
+
+  /** Looks at a window of time, within the plan and at least four steps wide. */
+  look(from, to) {
+    const length = Math.max(1, this.plan.length);
+    const size = Math.min(Math.max(to - from, Math.min(4, length)), length);
+    this.from = Math.min(Math.max(0, from), length - size);
+    this.to = this.from + size;
+    this.draw();
+  }
+
+  key(event) {
+    const how = KEYS[event.key];
+    if (!how || !this.plan || event.ctrlKey || event.metaKey || event.altKey) return;
+    event.preventDefault();
+    this.zoom(how);
+  }
+
+  /** The wheel zooms while Ctrl is held, around the mouse. */
+  wheel(event) {
+    if (!event.ctrlKey || !this.plan) return;
+    event.preventDefault();
+    const box = this.frame.getBoundingClientRect();
+    this.zoom(event.deltaY < 0 ? "in" : "out", (event.clientX - box.left) / box.width);
+  }
+
+  /** Tells of the job that was clicked. */
+  point(target) {
+    const place = target.closest("[data-job]")?.dataset.job;
+    if (place === undefined || !this.plan.jobs[place]) return;
+    this.pointAt(Number(place));
+  }
+
+  pointAt(job) {
+    const { plan } = this;
+    const { calendar } = plan;
+    const late = lateness(plan, job);
+    this.details.textContent = `${plan.jobs[job].name}: `
+      + `${momentText(calendar, plan.start[job], false)} to `
+      + `${momentText(calendar, plan.completion[job], true)}, `
+      + `${lengthText(calendar, plan.jobs[job].time)} of work`
+      + (plan.isPreempted && plan.pieces[job] > 1 ? ` in ${plan.pieces[job]} pieces` : "")
+      + (late === null ? "." : `; due ${momentText(calendar, plan.jobs[job].due, true)}, `
+        + `${latenessWords(calendar, late)}.`);
+    for (const bar of this.frame.querySelectorAll("[data-job]")) {
+      bar.classList.toggle("chosen", Number(bar.dataset.job) === job);
+    }
+  }
+
+  drawLegend() {
+    const { plan } = this;
+    const hasLate = plan.jobs.some((_, job) => lateness(plan, job) > 0);
+    const item = (kind, words) => html("span", { class: "key" },
+      html("span", { class: `swatch ${kind}` }), ` ${words}`);
+    const place = document.getElementById("legend");
+    place.replaceChildren(item("swatch-idle", "idle"),
+      ...(hasLate ? [item("swatch-late", "late job")] : []),
+      ...(plan.jobs.some((job) => job.due !== null) ? [html("span", {}, "▼ due")] : []),
+      ...(plan.usesRelease ? [html("span", {}, "▲ released")] : []));
+  }
+}

@@ -1,0 +1,162 @@
+// Opens and saves: files of every kind that the page knows, and links that carry the whole state.
+
+import { isJobTable, namedText, readTable } from "./table.js";
+import { decodeText } from "./spreadsheet.js";
+import { chartAsFile, planAsCsv, saveFile } from "./saving.js";
+import { LONGEST_LINK, packText, readState, unpackText, writeState } from "./state.js";
+
+const LARGEST_FILE = 67108864;
+const MARK = "#plan=";
+
+export class Files {
+  /** @param {object} page `store`, `notify`, `importView`, `judgeView`, and what is shown now */
+  constructor(page) {
+    this.page = page;
+    this.input = document.getElementById("file");
+    this.input.addEventListener("change", () => this.openChosen());
+    document.getElementById("open").addEventListener("click", () => this.choose());
+    document.getElementById("import-open").addEventListener("click", () => this.choose());
+    document.getElementById("link").addEventListener("click", () => this.copyLink());
+    for (const button of document.querySelectorAll("[data-save]")) {
+      button.addEventListener("click", () => this.save(button.dataset.save));
+    }
+    document.addEventListener("dragover", (event) => event.preventDefault());
+    document.addEventListener("drop", (event) => this.drop(event));
+    document.addEventListener("paste", (event) => this.paste(event));
+    window.addEventListener("hashchange", () => this.openLink());
+  }
+
+  // ---- opening ----
+
+  choose() {
+    this.input.value = "";
+    this.input.click();
+  }
+
+  openChosen() {
+    const [file] = this.input.files;
+    if (file) this.openFile(file);
+  }
+
+  drop(event) {
+    const [file] = event.dataTransfer?.files ?? [];
+    if (!file) return;
+    event.preventDefault();
+    this.openFile(file);
+  }
+
+  async openFile(file) {
+    if (file.size > LARGEST_FILE) {
+      this.page.notify(`“${file.name}” is larger than 64 MB, which is more than the solver reads.`);
+      return;
+    }
+    this.openText(decodeText(new Uint8Array(await file.arrayBuffer())), file.name);
+  }
+
+  /** Opens a text by what it is: everything of this page, a job table, an answer, or cells. */
+  openText(text, name = "The text") {
+    const { store, notify, importView, judgeView } = this.page;
+    const { dialog } = importView;
+    if (/^\s*\{/.test(text)) {
+      const state = readState(text);
+      if (state) store.replace(state);
+      notify(state ? `${name} was opened.` : `${name} is not a file that this page saved.`);
+    } else if (isJobTable(text)) {
+      dialog.close();
+      this.openTable(text, name);
+    } else if (/^\s*(#[^\n]*\n\s*)*answer\s+[12]\s/.test(text)) {
+      dialog.close();
+      judgeView.open(text);
+    } else if (dialog.open) importView.setText(text);
+    else importView.open(text);
+  }
+
+  openTable(text, name) {
+    const { rows, machines, faults } = readTable(text);
+    const { store } = this.page;
+    const hasTimes2 = rows.some((row) => row.time2 !== "");
+    store.change({ rows, kept: null, ...(machines ? { machines } : {}),
+      settings: { ...store.state.settings, step: "plain" } });
+    this.page.notify(`${name}: ${rows.length} jobs were read.${hasTimes2 ? " They have two times, "
+      + "so choose a flow shop or an open shop." : ""} ${faults.slice(0, 3).join(" ")}`);
+  }
+
+  /** Cells that are pasted outside a field, or several of them into a field of the table. */
+  paste(event) {
+    const text = event.clipboardData?.getData("text/plain") ?? "";
+    const { target } = event;
+    const isField = target.closest?.("input, textarea, select, dialog");
+    const isCell = target.closest?.("#jobs-table") && /\t|\n./.test(text);
+    if (text === "" || isField && !isCell) return;
+    event.preventDefault();
+    this.openText(text);
+  }
+
+  /** Opens the state that the address carries, if there is one. */
+  async openLink() {
+    if (!location.hash.startsWith(MARK)) return false;
+    const text = await unpackText(location.hash.slice(MARK.length));
+    const state = text === null ? null : readState(text);
+    if (state) this.page.store.replace(state);
+    this.page.notify(state ? "The plan of the link was opened."
+      : "The link is damaged or was cut off, so its plan can't be opened.");
+    return state !== null;
+  }
+
+  // ---- saving ----
+
+  async copyLink() {
+    const packed = await packText(writeState(this.page.store.state));
+    const address = `${location.href.split("#")[0]}${MARK}${packed}`;
+    if (address.length > LONGEST_LINK) {
+      const letters = address.length.toLocaleString("en");
+      this.page.notify(`The plan is too long for a link (${letters} letters): save everything on `
+        + "this page as a file and send that.");
+      return;
+    }
+    history.replaceState(null, "", `${MARK}${packed}`);
+    this.page.store.isSaved = true;
+    try {
+      await navigator.clipboard.writeText(address);
+      this.page.notify("The link is copied. Whoever has this page opens the whole plan with it.");
+    } catch {
+      this.page.notify("The link stands in the address bar now: copy it from there.");
+    }
+  }
+
+  save(kind) {
+    document.getElementById("save-menu").open = false;
+    const { store, notify, now, shown, askPicture } = this.page;
+    const name = fileName(store.state.title);
+    if (kind === "state") {
+      saveFile(`${name}.json`, writeState(store.state), "application/json");
+      store.isSaved = true;
+    } else if (kind === "table") {
+      if (!now) return notify("There is no job table yet: the jobs have to be corrected first.");
+      saveFile(`${name}-table.txt`, namedText(now.table), "text/plain");
+    } else if (!shown) notify("There is no plan yet, so there is nothing to save.");
+    else if (kind === "answer") saveFile(`${name}-answer.txt`, shown.answer, "text/plain");
+    else if (kind === "csv") {
+      const delimiter = this.page.importView.delimiter === ";" ? ";" : ",";
+      saveFile(`${name}.csv`, planAsCsv(shown.plan, delimiter), "text/csv");
+    } else if (kind === "chart") {
+      const { chart } = this.page.planView.chart;
+      saveFile(`${name}.svg`, chartAsFile(chart, chartRules(), store.state.title || "Plan"),
+        "image/svg+xml");
+    } else askPicture((bytes) => saveFile(`${name}-solver.svg`, bytes, "image/svg+xml"));
+    return undefined;
+  }
+}
+
+/** The rules of the chart for the light page, from the style of this page. */
+function chartRules() {
+  return [...document.styleSheets[0].cssRules]
+    .filter((rule) => rule.selectorText?.startsWith(".chart"))
+    .map((rule) => rule.cssText).join("\n");
+}
+
+function fileName(title) {
+  const plain = title.normalize("NFKD").replace(/[^\w -]+/g, "").trim().replace(/\s+/g, "-");
+  return plain.slice(0, 60).toLowerCase() || "plan";
+}
+

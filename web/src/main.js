@@ -1,0 +1,285 @@
+// The page: keeps state, solver and views together.
+
+import { makeCalendar } from "./calendar.js";
+import { CalendarView } from "./calendar_view.js";
+import { EXAMPLE_TITLES, exampleState } from "./examples.js";
+import { Files } from "./files.js";
+import { ImportView } from "./import_view.js";
+import { JudgeView } from "./judge_view.js";
+import { keepPlan, makePlan } from "./plan.js";
+import { PlanView, startOfText } from "./plan_view.js";
+import { PrecedenceView } from "./precedence_view.js";
+import { columnsUsed, describe, needsMachines, readNotation } from "./problems.js";
+import { ProblemView } from "./problem_view.js";
+import { explainRefusal } from "./refusals.js";
+import { RowsView } from "./rows_view.js";
+import { Solving } from "./solving.js";
+import { emptyState } from "./state.js";
+import { Store } from "./store.js";
+import { html } from "./svg.js";
+import { FIELDS, RowReader, makeTable } from "./table.js";
+
+const REST = 150;
+const PATIENCE = 400;
+const UNKNOWN = new Set(FIELDS.filter((field) => field !== "time2"));
+const WELCOME = "Paste your jobs from a spreadsheet, type them into the table, or choose an example. "
+  + "The plan is made as you type.";
+
+class Page {
+  constructor() {
+    this.store = new Store(emptyState());
+    this.version = 0;
+    this.now = null;
+    this.shown = null;
+    this.problemView = new ProblemView(this.store);
+    this.calendarView = new CalendarView(this.store);
+    this.rowsView = new RowsView(this.store);
+    this.notify = (message) => this.showNotice(message);
+    this.importView = new ImportView(this.store, this.notify);
+    this.precedenceView = new PrecedenceView(this.store, () => this.now?.table);
+    this.planView = new PlanView({
+      keep: () => this.store.change({ kept: keepPlan(this.shown.plan) }),
+      forget: () => this.store.change({ kept: null }),
+    });
+    this.judgeView = new JudgeView({
+      request: () => this.now, ownAnswer: () => this.shown?.answer ?? null,
+      ask: (request) => this.solving.ask(request),
+    });
+    this.askPicture = (then) => this.picture(then);
+    this.files = new Files(this);
+    this.store.listen((state, before) => this.changed(state, before));
+    this.listen();
+  }
+
+  listen() {
+    const at = (id) => document.getElementById(id);
+    EXAMPLE_TITLES.forEach((title, number) => at("example").append(new Option(title, number)));
+    at("example").addEventListener("change", () => {
+      if (at("example").value !== "") this.store.replace(exampleState(Number(at("example").value)));
+      at("example").value = "";
+    });
+    at("paste").addEventListener("click", () => this.importView.open());
+    at("undo").addEventListener("click", () => this.store.undo());
+    at("print").addEventListener("click", () => window.print());
+    at("title").addEventListener("input", () =>
+      this.store.change({ title: at("title").value }, "title"));
+    document.addEventListener("click", (event) => {
+      if (!at("save-menu").contains(event.target)) at("save-menu").open = false;
+    });
+    window.addEventListener("beforeunload", (event) => {
+      if (!this.store.isSaved && this.store.state.rows.length > 0) event.preventDefault();
+    });
+  }
+
+  /** Loads the module, and opens the link's plan or an empty table. */
+  async start() {
+    const text = (id) => document.getElementById(id).textContent;
+    this.solving = new Solving(text("worker-source"), text("module-bytes"),
+      (loaded) => this.moduleLoaded(loaded));
+    for (const view of [this.problemView, this.calendarView, this.rowsView]) view.draw();
+    if (!(await this.files.openLink())) this.update();
+  }
+
+  moduleLoaded({ loaded, message }) {
+    if (loaded) return;
+    this.cannotRun = "This browser can't run the solver: it has no 64-bit WebAssembly memory. "
+      + "Chrome and Edge from version 133 and Firefox from version 134 have it. Jobs can be "
+      + `edited, opened and saved here all the same. (${message})`;
+    this.planView.showMessage(this.cannotRun);
+  }
+
+  showNotice(message) {
+    const place = document.getElementById("notice");
+    place.hidden = message === "";
+    place.replaceChildren(message, " ", html("button", { type: "button", class: "link",
+      click: () => this.showNotice("") }, "Close"));
+  }
+
+  // ---- a change, and what follows from it ----
+
+  changed(state, before) {
+    if (state.rows !== before.rows && !this.rowsView.isTyping) this.rowsView.draw();
+    const isOther = (...fields) => fields.some((field) => state[field] !== before[field]);
+    if (isOther("problem", "machines")) this.problemView.draw();
+    if (isOther("settings")) this.calendarView.draw();
+    const title = document.getElementById("title");
+    if (title.value !== state.title) title.value = state.title;
+    document.getElementById("undo").disabled = !this.store.canUndo;
+    if (isOther("rows", "problem", "machines", "settings")) {
+      this.version++;
+      clearTimeout(this.timer);
+      this.timer = setTimeout(() => this.update(), REST);
+    } else if (isOther("kept")) this.showPlan();
+    this.showPrintHead();
+  }
+
+  /** Makes the job table of the state, and asks the solver for a plan. */
+  async update() {
+    const version = ++this.version;
+    const { state } = this.store;
+    this.now = null;
+    const calendar = this.calendarOf(state.settings);
+    if (calendar === undefined) return this.wait("The calendar has to be corrected first.");
+    const problem = readNotation(state.problem);
+    const used = problem ? columnsUsed(problem) : UNKNOWN;
+    this.rowsView.setUsed(used);
+    const table = await makeTable(state.rows, this.readerOf(calendar, used), async () => {
+      await new Promise((resolve) => setTimeout(resolve));
+      return version === this.version;
+    });
+    if (!table || version !== this.version) return undefined;
+    const instance = new TextEncoder().encode(table.text);
+    const machines = readMachines(state, problem);
+    this.showTable(table, instance, machines);
+    if (table.jobs.length === 0) return this.wait(WELCOME, true);
+    if (table.faults.length > 0) return this.wait("Some rows have to be corrected first.");
+    if (machines.fault) return this.wait("The number of machines has to be corrected first.");
+    return this.solve(version, { table, calendar, problem: state.problem, request: {
+      problem: state.problem, machines: machines.count, format: { kind: "table" }, instance } });
+  }
+
+  showTable(table, instance, machines) {
+    this.rowsView.setFindings(table);
+    document.getElementById("table-text").textContent = startOfText(instance);
+    const faults = machines.fault ? [{ isFault: true, message: machines.fault }] : [];
+    this.problemView.show(faults, table);
+  }
+
+  /** Says why there is no plan now. */
+  wait(message, isEmpty = false) {
+    if (isEmpty) this.planView.clear();
+    this.shown = null;
+    this.planView.showMessage(this.cannotRun ?? message);
+  }
+
+  async solve(version, now) {
+    this.now = now;
+    if (this.cannotRun) return this.wait(this.cannotRun);
+    const reply = await this.patiently("Solving …", { ...now.request, kind: "plan" });
+    if (version !== this.version) return undefined;
+    if (!reply) return this.wait("Stopped. Any change solves again.");
+    if (reply.status !== 0) return this.refused(version, reply);
+    const plan = makePlan(now.table, reply.schedule, reply.evaluation, now.calendar);
+    this.shown = { plan, evaluation: reply.evaluation, answer: reply.answer };
+    this.showPlan();
+    document.getElementById("engine").textContent = `Solved and evaluated in `
+      + `${Math.round(reply.milliseconds)} ms.`;
+    return undefined;
+  }
+
+  /** Asks, and where it takes a while says so with a button that stops it. */
+  async patiently(words, request) {
+    const timer = setTimeout(() => this.planView.showMessage(words, html("button",
+      { type: "button", click: () => this.solving.stop() }, "Stop")), PATIENCE);
+    const reply = await this.solving.ask(request);
+    clearTimeout(timer);
+    return reply;
+  }
+
+  showPlan() {
+    if (!this.shown) return;
+    const { plan, evaluation, answer } = this.shown;
+    this.planView.show(plan, evaluation, this.store.state.kept, answer);
+    this.showPrintHead();
+  }
+
+  // ---- refusals ----
+
+  refused(version, reply) {
+    const { table, problem } = this.now;
+    const refusals = explainRefusal(reply, table, problem);
+    const rows = refusals.filter((each) => each.place === "row");
+    if (rows.length > 0) {
+      this.rowsView.setFindings({ faults: rows, notes: table.notes });
+      return this.wait("Some rows have to be corrected first.");
+    }
+    const [first] = refusals;
+    if (first.code === "NoSolver") return this.bound(version);
+    const isProblem = first.place === "problem" || first.place === "machines";
+    if (isProblem) this.problemView.show([{ isFault: true, message: first.message }], table);
+    return this.wait(first.message);
+  }
+
+  /** A problem without an exact method: a lower bound. */
+  async bound(version) {
+    this.shown = null;
+    this.planView.clear();
+    const known = readNotation(this.now.problem);
+    const reply = await this.patiently("Searching for a lower bound …",
+      { ...this.now.request, kind: "bound" });
+    if (version !== this.version) return undefined;
+    if (!reply) return this.wait("Stopped. Any change searches again.");
+    if (reply.status !== 0) return this.boundRefused(reply);
+    const { value, certificate } = reply.bound;
+    this.planView.showMessage(`${this.now.problem}: no exact method is here, so there is no plan.`,
+      html("p", { class: "value" }, html("span", { class: "proved" }, "proved lower bound"),
+        "Every schedule has at least the value ", html("strong", {}, value), "."),
+      html("p", {}, known ? `${describe(known)}. ` : "",
+        "If your own schedule has this value, it is optimal."),
+      html("details", {}, html("summary", {}, "The certificate of the bound"),
+        html("pre", { tabindex: 0 }, certificate.slice(0, 2000))));
+    return undefined;
+  }
+
+  boundRefused(reply) {
+    const { table, problem } = this.now;
+    const refusals = explainRefusal(reply, table, problem);
+    const rows = refusals.filter((each) => each.place === "row");
+    if (rows.length > 0) this.rowsView.setFindings({ faults: rows, notes: table.notes });
+    const message = refusals[0].code === "NoSolver"
+      ? `${problem} has neither an exact method nor a lower bound here.` : refusals[0].message;
+    return this.wait(message);
+  }
+
+  // ---- what is remembered from one change to the next ----
+
+  /** The calendar of the settings; null for plain numbers, undefined where they are at fault. */
+  calendarOf(settings) {
+    if (this.settings !== settings) {
+      this.settings = settings;
+      this.made = makeCalendar(settings);
+    }
+    this.calendarView.show(this.made.calendar, this.made.faults);
+    return this.made.faults.length > 0 ? undefined : this.made.calendar;
+  }
+
+  readerOf(calendar, used) {
+    const known = this.reader;
+    if (!known || known.calendar !== calendar || [...known.used].join() !== [...used].join()) {
+      this.reader = new RowReader(calendar, used);
+    }
+    return this.reader;
+  }
+
+  async picture(then) {
+    const reply = await this.solving.ask({ kind: "picture", answer: this.shown.answer });
+    if (reply?.status === 0) then(reply.output);
+    else this.notify("The solver could not draw its picture.");
+  }
+
+  /** What stands above the plan in print. */
+  showPrintHead() {
+    const { title, problem } = this.store.state;
+    const known = readNotation(problem);
+    let place = document.getElementById("print-head");
+    if (!place) {
+      place = html("div", { id: "print-head", class: "print" });
+      document.getElementById("plan").prepend(place);
+    }
+    place.replaceChildren(html("p", { class: "print-title" }, title || "Plan"),
+      html("p", {}, `${known ? describe(known) : ""} (${problem}). Printed `
+        + `${new Date().toLocaleDateString("en-GB", { dateStyle: "long" })}.`));
+  }
+}
+
+/** The number of machines for the module: null where the notation has it. */
+function readMachines(state, problem) {
+  if (!problem || !needsMachines(problem)) return { count: null };
+  const text = state.machines.trim();
+  const count = Number(text);
+  if (/^\d{1,4}$/.test(text) && count >= 1 && count <= 1000) return { count };
+  return { fault: text === "" ? "Say how many machines there are: 1 to 1,000."
+    : `“${text}” is not a number of machines: they are 1 to 1,000.` };
+}
+
+new Page().start();

@@ -1,0 +1,139 @@
+// A plan: the schedule that the module made, by job and by machine, with what the page adds to it.
+
+/** How many letters of colours the chart has; neighbours on a machine never share one. */
+export const COLOURS = 8;
+
+/**
+ * Makes a plan.
+ * @param {object} table as `makeTable` gives it
+ * @param {import("./answer.js").Schedule} schedule
+ * @param {object} evaluation as `readEvaluation` gives it, of the same schedule
+ * @param {?object} calendar
+ */
+export function makePlan(table, schedule, evaluation, calendar) {
+  const count = table.jobs.length;
+  const order = sortedPieces(schedule);
+  const pieces = new Uint32Array(count);
+  const machine = new Uint32Array(count);
+  for (const place of order) {
+    const job = schedule.job[place] - 1;
+    if (!(job >= 0 && job < count)) continue;
+    if (pieces[job]++ === 0) machine[job] = schedule.machine[place];
+  }
+  return {
+    jobs: table.jobs, index: table.index, calendar, schedule, order, pieces, machine,
+    machines: schedule.machines,
+    rows: machineRows(schedule, order),
+    colour: colourJobs(schedule, order, count),
+    start: evaluation.start, completion: evaluation.completion, counts: evaluation.counts,
+    usesRelease: /\|.*\br_?j\b.*\|/.test(schedule.problem),
+    isPreempted: !/^\s*[FOJ]/.test(schedule.problem) && pieces.some((each) => each > 1),
+    length: schedule.stop.reduce((most, stop) => Math.max(most, stop), 0),
+    value: schedule.value, problem: schedule.problem,
+  };
+}
+
+/** The places of the pieces by machine and start. */
+function sortedPieces({ machine, start }) {
+  const order = Uint32Array.from(machine, (_, place) => place);
+  const isSorted = order.every((place) => place === 0 || machine[place - 1] < machine[place]
+    || machine[place - 1] === machine[place] && start[place - 1] <= start[place]);
+  return isSorted ? order
+    : order.sort((a, b) => machine[a] - machine[b] || start[a] - start[b]);
+}
+
+/** For each machine from 1 the first and the last place of its pieces in the order. */
+function machineRows({ machine, machines }, order) {
+  const rows = Array.from({ length: machines }, () => [0, 0]);
+  for (let k = 0; k < order.length; k++) {
+    const row = rows[machine[order[k]] - 1];
+    if (!row) continue;
+    if (row[1] === 0) row[0] = k;
+    row[1] = k + 1;
+  }
+  return rows;
+}
+
+/** A colour for each job that none of its neighbours on a machine has, where there are enough. */
+function colourJobs({ job, machine }, order, count) {
+  const colour = new Int8Array(count).fill(-1);
+  const before = new Map();
+  for (let k = 1; k < order.length; k++) {
+    const [a, b] = [order[k - 1], order[k]];
+    if (machine[a] !== machine[b] || job[a] === job[b]) continue;
+    for (const [one, other] of [[job[a], job[b]], [job[b], job[a]]]) {
+      if (!before.has(one)) before.set(one, []);
+      before.get(one).push(other);
+    }
+  }
+  let next = 0;
+  for (const place of order) {
+    const own = job[place] - 1;
+    if (!(own >= 0 && own < count) || colour[own] >= 0) continue;
+    const taken = new Set((before.get(own + 1) ?? []).map((other) => colour[other - 1]));
+    let tried = 0;
+    while (taken.has(next) && tried++ < COLOURS) next = (next + 1) % COLOURS;
+    colour[own] = next;
+    next = (next + 1) % COLOURS;
+  }
+  return colour;
+}
+
+/** How late a job is in time steps, negative where it is early, and null without a due date. */
+export function lateness(plan, job) {
+  const due = plan.jobs[job].due;
+  return due === null ? null : plan.completion[job] - due;
+}
+
+/**
+ * What the plan comes to by the usual measures. The page computes them from the schedule.
+ * @returns {{words: string, steps: ?number, number: ?string}[]} a length of time or a number
+ */
+export function measures(plan) {
+  const { jobs, completion } = plan;
+  const lates = jobs.map((_, job) => lateness(plan, job));
+  const dated = lates.filter((late) => late !== null);
+  const found = [{ words: "Makespan", steps: plan.length }];
+  if (dated.length > 0) {
+    const tardy = dated.filter((late) => late > 0);
+    found.push(
+      { words: "Late jobs", number: `${tardy.length} of ${dated.length}` },
+      { words: "Maximum lateness", steps: dated.reduce((a, b) => Math.max(a, b), -Infinity) },
+      { words: "Total tardiness", steps: tardy.reduce((sum, late) => sum + late, 0) },
+    );
+  }
+  const sum = completion.reduce((total, each) => total + each, 0);
+  found.push({ words: "Mean completion time", steps: Math.round(sum / Math.max(1, jobs.length)) });
+  return found.filter((each) => !(Math.abs(each.steps) > Number.MAX_SAFE_INTEGER));
+}
+
+/** What is remembered of a plan that is kept, to compare later ones with. */
+export function keepPlan(plan) {
+  return {
+    problem: plan.problem, value: plan.value,
+    ids: plan.jobs.map((job) => job.id), names: plan.jobs.map((job) => job.name),
+    start: [...plan.start], completion: [...plan.completion],
+  };
+}
+
+/**
+ * Compares a plan with one that was kept.
+ * @returns {{moved: Map<number, number>, added: number[], gone: string[]}} by job: by how many
+ *   steps it is completed later, jobs that are new, and names of those that are no longer there
+ */
+export function comparePlans(kept, plan) {
+  const before = new Map(kept.ids.map((id, place) => [id, place]));
+  const moved = new Map();
+  const added = [];
+  plan.jobs.forEach((job, place) => {
+    const old = before.get(job.id);
+    before.delete(job.id);
+    if (old === undefined) {
+      added.push(place);
+      return;
+    }
+    const by = plan.completion[place] - kept.completion[old];
+    if (by !== 0 || kept.start[old] !== plan.start[place]) moved.set(place, by);
+  });
+  return { moved, added, gone: [...before.values()].map((place) => kept.names[place]) };
+}

@@ -1,0 +1,114 @@
+// Precedence by names: the column "after" of a row names the jobs that have to be completed first.
+
+const MOST_COMPARED = 3000;
+
+/**
+ * Cuts the text of the column "after" into names: between semicolons, or between commas where the
+ * text has no semicolon and is no name itself. A name in quotes may hold either.
+ * @param {string} text
+ * @param {(name: string) => boolean} isName
+ */
+export function splitNames(text, isName) {
+  const whole = text.trim();
+  if (whole === "") return [];
+  if (isName(whole)) return [whole];
+  const marked = cut(whole, ";");
+  return (marked.length > 1 ? marked : cut(whole, ",")).map(unquoted).filter((name) => name !== "");
+}
+
+function cut(text, mark) {
+  const parts = [""];
+  let isQuoted = false;
+  for (const letter of text) {
+    if (letter === '"') isQuoted = !isQuoted;
+    if (letter === mark && !isQuoted) parts.push("");
+    else parts[parts.length - 1] += letter;
+  }
+  return parts;
+}
+
+function unquoted(text) {
+  const found = /^\s*"(.*)"\s*$/s.exec(text);
+  return (found ? found[1].replace(/""/g, '"') : text).trim();
+}
+
+/** A name as it is written in the column "after": in quotes where it holds a mark. */
+export function quoteName(name) {
+  return /[;,"]/.test(name) ? `"${name.replace(/"/g, '""')}"` : name;
+}
+
+/** The jobs by their names; a name that several jobs have stands with all of them. */
+export class NameIndex {
+  /** @param {{name: string}[]} jobs in the order of the table */
+  constructor(jobs) {
+    this.jobs = jobs;
+    this.byName = new Map();
+    jobs.forEach((job, place) => {
+      const known = this.byName.get(job.name);
+      if (known === undefined) this.byName.set(job.name, place);
+      else if (typeof known === "number") this.byName.set(job.name, [known, place]);
+      else known.push(place);
+    });
+  }
+
+  has(name) {
+    return this.byName.has(name);
+  }
+
+  /** The places of the jobs of this name. */
+  places(name) {
+    const found = this.byName.get(name);
+    return found === undefined ? [] : [found].flat();
+  }
+
+  /**
+   * Finds the job that a name or "#" and a row's number means.
+   * @returns {{place: number}|{fault: string}}
+   */
+  find(name) {
+    const numbered = /^#(\d+)$/.exec(name);
+    if (numbered && !this.has(name)) {
+      const place = this.jobs.findIndex((job) => job.row + 1 === Number(numbered[1]));
+      return place < 0 ? { fault: `There is no job in row ${numbered[1]}.` } : { place };
+    }
+    const places = this.places(name);
+    if (places.length === 1) return { place: places[0] };
+    if (places.length > 1) {
+      const rows = places.slice(0, 4).map((place) => this.jobs[place].row + 1);
+      return { fault: `“${name}” is the name of several jobs, in rows ${rows.join(", ")}. `
+        + `Write #${rows[0]} to mean the one in row ${rows[0]}.` };
+    }
+    const near = this.nearest(name);
+    return { fault: `There is no job called “${name}”.${near ? ` Is “${near}” meant?` : ""}` };
+  }
+
+  nearest(name) {
+    if (this.jobs.length > MOST_COMPARED) return null;
+    const wanted = name.toLowerCase();
+    let best = null;
+    let least = Math.max(1, Math.floor(name.length / 3)) + 1;
+    for (const each of this.byName.keys()) {
+      const distance = editDistance(wanted, each.toLowerCase(), least);
+      if (distance < least) {
+        best = each;
+        least = distance;
+      }
+    }
+    return best;
+  }
+}
+
+/** The least number of letters to change, add or take out, or `limit` where it is no less. */
+function editDistance(a, b, limit) {
+  if (Math.abs(a.length - b.length) >= limit) return limit;
+  let row = Array.from({ length: b.length + 1 }, (_, place) => place);
+  for (let i = 1; i <= a.length; i++) {
+    const next = [i];
+    for (let j = 1; j <= b.length; j++) {
+      const change = row[j - 1] + (a[i - 1] === b[j - 1] ? 0 : 1);
+      next.push(Math.min(change, row[j] + 1, next[j - 1] + 1));
+    }
+    row = next;
+  }
+  return Math.min(limit, row[b.length]);
+}

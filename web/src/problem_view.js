@@ -1,0 +1,124 @@
+// Chooses the problem: in words, or in three-field notation, which say the same.
+
+import * as problems from "./problems.js";
+import { html } from "./svg.js";
+import { FIELD_WORDS } from "./table.js";
+
+const OTHER = "other";
+
+export class ProblemView {
+  /** @param {import("./store.js").Store} store */
+  constructor(store) {
+    this.store = store;
+    this.at = (id) => document.getElementById(id);
+    this.checks = [...document.querySelectorAll("[data-condition]")];
+    this.notes = this.at("problem-notes");
+    this.at("environment").append(
+      ...problems.ENVIRONMENTS.map(({ id, words }) => new Option(words, id)),
+      new Option("Other, in notation", OTHER));
+    for (const select of ["environment", "objective"]) {
+      this.at(select).addEventListener("change", () => this.choose());
+    }
+    for (const check of this.checks) check.addEventListener("change", () => this.choose());
+    this.at("notation").addEventListener("input", () =>
+      this.store.change({ problem: this.at("notation").value }, "notation"));
+    this.at("machines").addEventListener("input", () =>
+      this.store.change({ machines: this.at("machines").value }, "machines"));
+  }
+
+  /** Makes the notation of what was chosen in words. */
+  choose() {
+    const environment = this.at("environment").value;
+    if (environment === OTHER) {
+      this.at("notation").focus();
+      return;
+    }
+    const chosen = this.checks.filter((each) => each.checked).map((each) => each.dataset.condition);
+    const problem = {
+      environment, objective: this.at("objective").value,
+      count: problems.isShop({ environment }) ? 2 : null,
+      conditions: ["rj", "prec", "prmp"].filter((id) => chosen.includes(id)),
+    };
+    const { machines } = this.store.state;
+    const isMissing = problems.needsMachines(problem) && machines.trim() === "";
+    this.store.change({ problem: problems.writeNotation(problem),
+      machines: isMissing ? "2" : machines });
+  }
+
+  /** Shows the state's problem in all the fields. */
+  draw() {
+    const { problem: text, machines } = this.store.state;
+    const problem = problems.readNotation(text);
+    const set = (id, value) => {
+      if (this.at(id).value !== value) this.at(id).value = value;
+    };
+    set("notation", text);
+    set("machines", machines);
+    const isKnown = problems.ENVIRONMENTS.some((each) => each.id === problem?.environment);
+    set("environment", isKnown ? problem.environment : OTHER);
+    this.drawObjectives(problem);
+    for (const check of this.checks) {
+      check.checked = Boolean(problem?.conditions.includes(check.dataset.condition));
+    }
+    this.at("machines-label").hidden = !problem || !problems.needsMachines(problem);
+  }
+
+  /** Offers the objectives; those without an exact method here are marked. */
+  drawObjectives(problem) {
+    const options = problems.OBJECTIVES.map(({ id, words }) => {
+      const name = problem && problems.classOf({ ...problem, objective: id });
+      const isSolved = !problem || problems.SOLVED.has(name);
+      return new Option(words + (isSolved ? "" : " (lower bound only)"), id);
+    });
+    this.at("objective").replaceChildren(...options);
+    if (problem) this.at("objective").value = problem.objective;
+  }
+
+  /**
+   * Shows what is to be said of the problem.
+   * @param {{isFault: boolean, message: string}[]} findings
+   * @param {?object} table
+   */
+  show(findings, table) {
+    const problem = problems.readNotation(this.store.state.problem);
+    const name = problem && problems.classOf(problem);
+    const lines = findings.map(({ isFault, message }) =>
+      html("p", { class: isFault ? "fault" : "note" }, message));
+    this.at("notation").toggleAttribute("aria-invalid", findings.some((each) => each.isFault));
+    if (problem && problems.SOLVED.has(name)) {
+      lines.unshift(html("p", {}, html("strong", {}, name), ` is solved exactly: `
+        + `${problems.SOLVED.get(name)}.`));
+    } else if (problem) lines.unshift(...this.unsolved(problem, name));
+    const unused = problem && table ? unusedWords(problem, table) : "";
+    if (unused) lines.push(html("p", { class: "note" }, unused));
+    this.notes.replaceChildren(...lines);
+  }
+
+  unsolved(problem, name) {
+    const buttons = problems.nearestSolved(problem).map((near) => html("button", {
+      type: "button", class: "link", title: problems.describe(near),
+      click: () => this.store.change({ problem: problems.writeNotation(near) }),
+    }, problems.writeNotation(near)));
+    const nearest = buttons.flatMap((button, k) => [k === 0 ? " Solved, and near to it: " : ", ",
+      button]);
+    return [html("p", { class: "note" }, html("strong", {}, name),
+      " has no exact method here: only a lower bound is computed.", nearest)];
+  }
+}
+
+/** What the table has and the problem ignores. */
+function unusedWords(problem, table) {
+  const used = problems.columnsUsed(problem);
+  const counts = {
+    weight: table.jobs.filter((job) => job.weight !== null).length,
+    release: table.jobs.filter((job) => job.hasRelease).length,
+    cost: table.jobs.filter((job) => job.hasCost).length,
+    after: table.arcs.length,
+  };
+  const words = { weight: "weights", release: "release dates", cost: "cost functions",
+    after: "precedence constraints" };
+  const unused = Object.entries(counts).filter(([field, count]) => count > 0 && !used.has(field))
+    .map(([field, count]) => `${words[field] ?? FIELD_WORDS[field]} (${count})`);
+  return unused.length === 0 ? ""
+    : `This problem ignores what the table says of ${unused.join(", ")}.`;
+}

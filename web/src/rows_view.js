@@ -1,0 +1,202 @@
+// The planner's table: rows of inputs, and under each row what is wrong with it.
+
+import { Pager, PAGE } from "./pager.js";
+import { html } from "./svg.js";
+import { FIELDS, FIELD_WORDS, newRow } from "./table.js";
+
+const HINTS = { name: "", time: "3", time2: "2", weight: "1", due: "", release: "", cost: "0,5:10",
+  after: "names, with ; between" };
+const ALWAYS = ["name", "time"];
+const COLUMNS = Object.keys(FIELD_WORDS);
+const MOST_LISTED = 5;
+
+export class RowsView {
+  /**
+   * @param {import("./store.js").Store} store
+   * @param {(place: number) => void} onFocus told of the row in which the cursor is
+   */
+  constructor(store) {
+    this.store = store;
+    this.table = document.getElementById("jobs-table");
+    this.head = this.table.tHead;
+    this.body = this.table.tBodies[0];
+    this.notes = document.getElementById("row-notes");
+    this.allColumns = document.getElementById("all-columns");
+    this.pager = new Pager(document.getElementById("jobs-pager"), "Jobs", () => this.draw());
+    this.used = new Set(FIELDS);
+    this.findings = { faults: [], notes: [] };
+    this.body.addEventListener("input", (event) => this.edit(event.target));
+    this.body.addEventListener("keydown", (event) => this.move(event));
+    this.allColumns.addEventListener("change", () => this.draw());
+  }
+
+  /** Shows these columns as used by the problem. */
+  setUsed(used) {
+    const columns = this.columns().join();
+    this.used = used;
+    if (this.columns().join() !== columns) this.draw();
+    else this.drawHead();
+  }
+
+  columns() {
+    if (this.allColumns.checked) return COLUMNS;
+    const { rows } = this.store.state;
+    return COLUMNS.filter((field) => ALWAYS.includes(field) || this.used.has(field)
+      || field === "due" && rows.some((row) => row.due !== ""));
+  }
+
+  /** Draws the page of rows anew. */
+  draw() {
+    const { rows } = this.store.state;
+    this.shown = this.columns();
+    this.pager.show(rows.length);
+    this.drawHead();
+    const lines = [];
+    for (let place = this.pager.first; place < this.pager.end; place++) {
+      lines.push(this.line(rows[place], place));
+    }
+    if (this.pager.end === rows.length) lines.push(this.line(newRow(), rows.length));
+    this.body.replaceChildren(...lines);
+    this.drawFindings();
+  }
+
+  drawHead() {
+    const unused = (field) => html("span", { class: "unused" },
+      field === "due" ? " (shown only)" : " (not used)");
+    const heads = (this.shown ?? []).map((field) => html("th", { scope: "col" },
+      FIELD_WORDS[field], this.used.has(field) ? null : unused(field)));
+    this.head.replaceChildren(html("tr", {}, html("th", { scope: "col" }, "#"), heads,
+      html("th", {}, html("span", { class: "visually-hidden" }, "Delete"))));
+  }
+
+  line(row, place) {
+    const isNew = place === this.store.state.rows.length;
+    const cells = this.shown.map((field) => html("td", {}, html("input", {
+      "aria-label": `${FIELD_WORDS[field]}, row ${place + 1}`, "data-field": field,
+      value: row[field], placeholder: isNew ? HINTS[field] : "", class: `in-${field}`,
+      autocomplete: "off", spellcheck: "false",
+    })));
+    const remove = html("button", { type: "button", class: "remove", title: "Delete this row",
+      "aria-label": `Delete row ${place + 1}`, hidden: isNew,
+      click: () => this.remove(place) }, "✕");
+    return html("tr", { "data-place": place, class: isNew ? "new" : "" },
+      html("th", { scope: "row" }, isNew ? "+" : String(place + 1)), cells, html("td", {}, remove));
+  }
+
+  edit(input) {
+    const line = input.closest("tr");
+    const place = Number(line.dataset.place);
+    const rows = [...this.store.state.rows];
+    const isNew = place === rows.length;
+    const before = rows[place] ?? newRow();
+    rows[place] = { ...before, [input.dataset.field]: input.value };
+    this.isTyping = true;
+    this.store.change({ rows }, `row ${rows[place].id} ${input.dataset.field}`);
+    this.isTyping = false;
+    if (isNew) this.becomeRow(line, place);
+  }
+
+  /** The empty last line has become a row: it gets its number, and another empty line follows. */
+  becomeRow(line, place) {
+    line.classList.remove("new");
+    line.querySelector("th").textContent = String(place + 1);
+    line.querySelector("button").hidden = false;
+    for (const input of line.querySelectorAll("input")) input.placeholder = "";
+    const isPageFull = (place + 1) % PAGE === 0;
+    this.pager.show(place + 1);
+    if (!isPageFull) line.after(this.line(newRow(), place + 1));
+  }
+
+  remove(place) {
+    this.store.change({ rows: this.store.state.rows.filter((_, each) => each !== place) });
+    const next = this.body.querySelector(`tr[data-place="${place}"] input`);
+    (next ?? this.body.querySelector("tr:last-child input"))?.focus();
+  }
+
+  /** Enter and the arrows go up and down. */
+  move(event) {
+    const step = { Enter: 1, ArrowDown: 1, ArrowUp: -1 }[event.key];
+    const field = event.target.dataset?.field;
+    if (!step || !field || event.isComposing) return;
+    event.preventDefault();
+    const place = Number(event.target.closest("tr").dataset.place) + step;
+    this.focus(place, field);
+  }
+
+  /** Puts the cursor into a field; turns the page where it is on another. */
+  focus(place, field) {
+    const { rows } = this.store.state;
+    if (place < 0 || place > rows.length) return;
+    if (place < this.pager.first || place >= this.pager.first + PAGE) {
+      this.pager.turnTo(Math.min(place, rows.length - 1));
+      this.draw();
+    }
+    if (field && !this.shown.includes(field)) {
+      this.allColumns.checked = true;
+      this.draw();
+    }
+    const input = this.body.querySelector(
+      `tr[data-place="${place}"] input[data-field="${field ?? "name"}"]`);
+    input?.focus();
+    input?.select();
+  }
+
+  /** Shows what is wrong with rows and what is to be noted, under each row and in short above. */
+  setFindings(findings) {
+    this.findings = findings;
+    this.drawFindings();
+  }
+
+  drawFindings() {
+    for (const old of this.body.querySelectorAll("tr.found")) old.remove();
+    for (const input of this.body.querySelectorAll("[aria-describedby]")) {
+      input.removeAttribute("aria-describedby");
+      input.removeAttribute("aria-invalid");
+      input.classList.remove("noted");
+    }
+    const { faults, notes } = this.findings;
+    const seen = [...faults.map((each) => ({ ...each, isFault: true })), ...notes]
+      .filter((each) => each.row >= this.pager.first && each.row < this.pager.end);
+    seen.forEach((finding, number) => this.drawFinding(finding, `found-${number}`));
+    this.notes.replaceChildren(...this.summary());
+  }
+
+  drawFinding({ row, field, message, isFault }, id) {
+    const line = this.body.querySelector(`tr[data-place="${row}"]`);
+    if (!line) return;
+    const input = line.querySelector(`input[data-field="${field}"]`);
+    input?.setAttribute("aria-describedby", id);
+    if (isFault) input?.setAttribute("aria-invalid", "true");
+    else input?.classList.add("noted");
+    let after = line;
+    while (after.nextElementSibling?.classList.contains("found")) after = after.nextElementSibling;
+    const words = field ? `${FIELD_WORDS[field]}: ${message}` : message;
+    after.after(html("tr", { class: `found ${isFault ? "fault" : "note"}` }, html("td"),
+      html("td", { colspan: this.shown.length + 1, id }, words)));
+  }
+
+  /** The first faults, each with a button that leads to its row. */
+  summary() {
+    const { faults, notes } = this.findings;
+    const general = faults.filter((each) => each.row === null);
+    const inRows = faults.filter((each) => each.row !== null);
+    const lines = general.map((each) => html("p", { class: "fault" }, each.message));
+    if (inRows.length > 0) {
+      const rows = new Set(inRows.map((each) => each.row)).size;
+      const links = inRows.slice(0, MOST_LISTED).map((each) => html("button", {
+        type: "button", class: "link", click: () => this.focus(each.row, each.field),
+      }, `row ${each.row + 1}${each.field ? ", " + FIELD_WORDS[each.field] : ""}`));
+      lines.push(html("p", { class: "fault" },
+        rows === 1 ? "One row needs to be corrected: " : `${rows} rows need to be corrected: `,
+        links.flatMap((link, k) => k === 0 ? [link] : ["; ", link]),
+        inRows.length > MOST_LISTED ? ` and ${inRows.length - MOST_LISTED} more` : ""));
+    }
+    if (notes.length > 0) {
+      const link = html("button", { type: "button", class: "link",
+        click: () => this.focus(notes[0].row, notes[0].field) }, `row ${notes[0].row + 1}`);
+      lines.push(html("p", { class: "note" }, notes.length === 1 ? "One thing to note, in "
+        : `${notes.length} things to note, the first in `, link, "."));
+    }
+    return lines;
+  }
+}

@@ -1,0 +1,80 @@
+// Asks the worker that holds the module: one request at a time, and of each kind only the latest.
+
+const LONG = 1500;
+
+export class Solving {
+  /**
+   * @param {string} source the worker's script
+   * @param {string} module the packed module
+   * @param {(state: {loaded: boolean, message?: string}) => void} onLoaded
+   */
+  constructor(source, module, onLoaded) {
+    this.address = URL.createObjectURL(new Blob([source], { type: "text/javascript" }));
+    this.module = module;
+    this.onLoaded = onLoaded;
+    this.waiting = new Map();
+    this.running = null;
+    this.start();
+  }
+
+  start() {
+    this.isLoaded = false;
+    this.worker = new Worker(this.address);
+    this.worker.onmessage = ({ data }) => this.receive(data);
+    this.worker.onerror = (event) => {
+      event.preventDefault();
+      this.onLoaded({ loaded: false, message: event.message });
+    };
+    this.worker.postMessage({ module: this.module });
+  }
+
+  /**
+   * Asks for a run. A later request of the same kind takes the place of one that still waits.
+   * @param {object} request `kind` and what the worker needs for it
+   * @returns {Promise<?object>} the reply, or null where the request was given up
+   */
+  ask(request) {
+    return new Promise((resolve) => {
+      this.waiting.get(request.kind)?.resolve(null);
+      this.waiting.set(request.kind, { request, resolve });
+      if (this.running && this.isObsolete(request)) this.stop();
+      this.next();
+    });
+  }
+
+  /** Whether the run under way is not worth waiting for: a search, or a long run of this kind. */
+  isObsolete(request) {
+    const { kind } = this.running.request;
+    const isLong = performance.now() - this.running.begun > LONG;
+    return kind === "bound" && request.kind !== "problems" || kind === request.kind && isLong;
+  }
+
+  /** Gives up the run under way. */
+  stop() {
+    if (!this.running) return;
+    this.worker.terminate();
+    this.running.resolve(null);
+    this.running = null;
+    this.start();
+  }
+
+  next() {
+    if (!this.isLoaded || this.running || this.waiting.size === 0) return;
+    const [kind, entry] = this.waiting.entries().next().value;
+    this.waiting.delete(kind);
+    this.running = { ...entry, begun: performance.now() };
+    this.worker.postMessage(entry.request);
+  }
+
+  receive(data) {
+    if (data.loaded !== undefined) {
+      this.isLoaded = data.loaded;
+      this.onLoaded(data);
+    } else if (this.running) {
+      const { resolve } = this.running;
+      this.running = null;
+      resolve(data);
+    }
+    this.next();
+  }
+}

@@ -1,0 +1,119 @@
+// The whole state of the page as a text: in a file, or packed into a link.
+
+import { STEPS, defaultSettings } from "./calendar.js";
+import { FIELDS, newRow } from "./table.js";
+
+const MOST_ROWS = 200000;
+const MOST_TEXT = 64e6;
+
+/** The longest link that is made; browsers and mail programs cut longer ones. */
+export const LONGEST_LINK = 16000;
+
+/**
+ * @typedef {object} State
+ * @property {string} title @property {string} problem the notation @property {string} machines
+ * @property {object} settings of the calendar @property {object[]} rows @property {?object} kept
+ */
+
+/** @returns {State} */
+export function emptyState() {
+  return { title: "", problem: "1||Lmax", machines: "", settings: defaultSettings(), rows: [],
+    kept: null };
+}
+
+/** Writes a state as JSON; rows are lists of texts in the order of FIELDS, after their identity. */
+export function writeState(state) {
+  const rows = state.rows.map((row) => [row.id, ...FIELDS.map((field) => row[field])]);
+  return JSON.stringify({ threefield: 1, ...state, rows });
+}
+
+/**
+ * Reads a state that anybody may have written: what is not of its type is left at its default.
+ * @param {string} text
+ * @returns {?State} null where the text is no state
+ */
+export function readState(text) {
+  let data;
+  try {
+    data = text.length > MOST_TEXT ? null : JSON.parse(text);
+  } catch {
+    return null;
+  }
+  if (data?.threefield !== 1 || !Array.isArray(data.rows) || data.rows.length > MOST_ROWS) {
+    return null;
+  }
+  const state = emptyState();
+  for (const field of ["title", "problem", "machines"]) {
+    state[field] = textOr(data[field], state[field]);
+  }
+  state.settings = readSettings(data.settings);
+  state.rows = data.rows.filter(Array.isArray).map((row) => newRow(
+    Object.fromEntries(FIELDS.map((field, place) => [field, textOr(row[place + 1], "")])),
+    Number.isSafeInteger(row[0]) && row[0] > 0 ? row[0] : undefined));
+  state.kept = readKept(data.kept);
+  return state;
+}
+
+function textOr(value, otherwise) {
+  return typeof value === "string" && value.length <= 100000 ? value : otherwise;
+}
+
+function readSettings(data) {
+  const settings = defaultSettings();
+  if (typeof data !== "object" || data === null) return settings;
+  if (STEPS.some((step) => step.id === data.step)) settings.step = data.step;
+  for (const field of ["start", "startTime", "hours", "off"]) {
+    settings[field] = textOr(data[field], settings[field]);
+  }
+  if (Array.isArray(data.days)) {
+    settings.days = [0, 1, 2, 3, 4, 5, 6].filter((day) => data.days.includes(day));
+  }
+  if (typeof data.dayFirst === "boolean") settings.dayFirst = data.dayFirst;
+  if (["min", "h", "d"].includes(data.plain)) settings.plain = data.plain;
+  return settings;
+}
+
+function readKept(data) {
+  if (typeof data !== "object" || data === null) return null;
+  const lists = ["ids", "names", "start", "completion"].map((field) => data[field]);
+  if (!lists.every((list) => Array.isArray(list) && list.length === lists[0].length)) return null;
+  const [ids, names, start, completion] = lists;
+  if (![ids, start, completion].flat().every(Number.isFinite)) return null;
+  return { ids, names: names.map((name) => textOr(name, "")), start, completion,
+    problem: textOr(data.problem, ""), value: textOr(data.value, "") };
+}
+
+/** Packs a text into letters that may stand in a link: deflated, base64 with - and _. */
+export async function packText(text) {
+  const stream = new Blob([text]).stream().pipeThrough(new CompressionStream("deflate-raw"));
+  const bytes = new Uint8Array(await new Response(stream).arrayBuffer());
+  let letters = "";
+  for (let at = 0; at < bytes.length; at += 8192) {
+    letters += String.fromCharCode(...bytes.subarray(at, at + 8192));
+  }
+  return btoa(letters).replace(/\+/g, "-").replace(/\//g, "_").replace(/=+$/, "");
+}
+
+/** Unpacks what `packText` packed, or gives null. */
+export async function unpackText(packed) {
+  try {
+    const letters = atob(packed.replace(/-/g, "+").replace(/_/g, "/"));
+    const bytes = Uint8Array.from(letters, (letter) => letter.charCodeAt(0));
+    const stream = new Blob([bytes]).stream().pipeThrough(new DecompressionStream("deflate-raw"));
+    return await readLimited(stream.getReader());
+  } catch {
+    return null;
+  }
+}
+
+/** A packed text may be a bomb: reading stops above the most that a state may have. */
+async function readLimited(reader) {
+  const decoder = new TextDecoder();
+  let text = "";
+  for (;;) {
+    const { done, value } = await reader.read();
+    if (done) return text + decoder.decode();
+    text += decoder.decode(value, { stream: true });
+    if (text.length > MOST_TEXT) return null;
+  }
+}

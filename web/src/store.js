@@ -1,0 +1,56 @@
+// Holds the state, tells who listens of each change, and goes back.
+
+const MOST_STEPS_BACK = 100;
+
+export class Store {
+  /** @param {import("./state.js").State} state */
+  constructor(state) {
+    this.state = state;
+    this.past = [];
+    this.lastKey = null;
+    this.listeners = [];
+    this.isSaved = true;
+  }
+
+  /** Calls `listener(state, before)` after each change. */
+  listen(listener) {
+    this.listeners.push(listener);
+  }
+
+  /**
+   * Changes parts of the state.
+   * @param {object} patch
+   * @param {?string} key changes of one key that follow one another are one step back
+   */
+  change(patch, key = null) {
+    if (key === null || key !== this.lastKey) {
+      this.past.push(this.state);
+      if (this.past.length > MOST_STEPS_BACK) this.past.shift();
+    }
+    this.lastKey = key;
+    this.isSaved = false;
+    this.become({ ...this.state, ...patch });
+  }
+
+  /** Takes a whole state, from a file or an example. */
+  replace(state) {
+    this.change(state);
+    this.isSaved = true;
+  }
+
+  undo() {
+    if (this.past.length === 0) return;
+    this.lastKey = null;
+    this.become(this.past.pop());
+  }
+
+  get canUndo() {
+    return this.past.length > 0;
+  }
+
+  become(state) {
+    const before = this.state;
+    this.state = state;
+    for (const listener of this.listeners) listener(state, before);
+  }
+}

@@ -1,0 +1,45 @@
+// Makes elements of SVG and HTML. Texts only ever become text nodes and attributes, never markup.
+
+const SVG = "http://www.w3.org/2000/svg";
+
+/** An SVG element with these attributes and children; a string is a text node. */
+export function svg(tag, attributes = {}, ...children) {
+  return filled(document.createElementNS(SVG, tag), attributes, children);
+}
+
+/** An HTML element with these attributes and children; a string is a text node. */
+export function html(tag, attributes = {}, ...children) {
+  return filled(document.createElement(tag), attributes, children);
+}
+
+function filled(element, attributes, children) {
+  for (const [name, value] of Object.entries(attributes)) {
+    if (value === false || value === null || value === undefined) continue;
+    if (typeof value === "function") element.addEventListener(name, value);
+    else element.setAttribute(name, value === true ? "" : value);
+  }
+  element.append(...children.flat().filter((child) => child !== null && child !== undefined));
+  return element;
+}
+
+let canvas = null;
+
+/** The width of a text in pixels, in the font of the chart. */
+export function textWidth(text, size, isBold = false) {
+  canvas ??= document.createElement("canvas").getContext("2d");
+  canvas.font = `${isBold ? "bold " : ""}${size}px system-ui, "DejaVu Sans", sans-serif`;
+  return canvas.measureText(text).width;
+}
+
+/** A text cut so that it has room, with … where something is left out; "" where nothing has. */
+export function fitted(text, size, room) {
+  if (textWidth(text, size) <= room) return text;
+  let low = 0;
+  let high = Math.min(text.length, 200);
+  while (low < high) {
+    const middle = Math.ceil((low + high) / 2);
+    if (textWidth(`${text.slice(0, middle)}…`, size) <= room) low = middle;
+    else high = middle - 1;
+  }
+  return low >= 2 ? `${text.slice(0, low)}…` : "";
+}

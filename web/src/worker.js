@@ -1,0 +1,75 @@
+// Runs the module beside the page, so that the page never waits for it.
+
+import { buffersOf, readAnswer, readBound, readEvaluation } from "./answer.js";
+import { loadSolver } from "./solver.js";
+
+let solver = null;
+
+/** Unpacks the module: base64 of its bytes, deflated. */
+async function unpack(text) {
+  const packed = Uint8Array.from(atob(text), (letter) => letter.charCodeAt(0));
+  const stream = new Blob([packed]).stream().pipeThrough(new DecompressionStream("deflate-raw"));
+  return new Uint8Array(await new Response(stream).arrayBuffer());
+}
+
+/** Solves, and evaluates what was solved for the arithmetic of the certificate. */
+function plan(request) {
+  const solved = solver.run({ ...request, command: "solve", answerVersion: 2 });
+  const { status, errors } = solved;
+  if (status !== 0) return { status, errors };
+  const answer = solved.output;
+  const schedule = readAnswer(answer);
+  const evaluated = solver.run({ ...request, command: "evaluate", answer, certificate: true });
+  if (evaluated.status !== 0) return { status: evaluated.status, errors: evaluated.errors };
+  return { status, errors, answer, schedule,
+    evaluation: readEvaluation(evaluated.output, schedule.jobs) };
+}
+
+/** Checks and evaluates anybody's answer, and draws it. */
+function judge(request) {
+  const checked = solver.run({ ...request, command: "check" });
+  const evaluated = solver.run({ ...request, command: "evaluate", certificate: true });
+  const drawn = solver.run({ ...request, command: "picture" });
+  const text = (reply) => new TextDecoder().decode(reply.output);
+  return {
+    status: checked.status, errors: checked.errors, verdict: text(checked).trim(),
+    evaluation: evaluated.output.length > 0 ? readEvaluation(evaluated.output, 0) : null,
+    evaluated: { status: evaluated.status, errors: evaluated.errors },
+    picture: drawn.status === 0 && drawn.output.length < 5e6 ? drawn.output : null,
+  };
+}
+
+function bound(request) {
+  const found = solver.run({ ...request, command: "bound", steps: null });
+  const { status, errors } = found;
+  return status === 0 ? { status, errors, bound: readBound(found.output) } : { status, errors };
+}
+
+/** One command as it is: of `picture` and `problems`. */
+function plain(request) {
+  const { status, errors, output } = solver.run({ ...request, command: request.kind });
+  return { status, errors, output };
+}
+
+const KINDS = { plan, judge, bound, picture: plain, problems: plain };
+
+onmessage = async ({ data }) => {
+  if (data.module !== undefined) {
+    try {
+      solver = await loadSolver(await unpack(data.module));
+      postMessage({ loaded: true });
+    } catch (error) {
+      postMessage({ loaded: false, message: String(error) });
+    }
+    return;
+  }
+  const begun = performance.now();
+  let reply;
+  try {
+    reply = KINDS[data.kind](data);
+  } catch (error) {
+    reply = { status: 4, errors: `the module stopped: ${error}` };
+  }
+  reply.milliseconds = performance.now() - begun;
+  postMessage(reply, buffersOf(reply.schedule, reply.evaluation));
+};
