@@ -31,12 +31,8 @@ class Browser:
                                         stderr=subprocess.DEVNULL, stdout=subprocess.DEVNULL)
         os.close(read_end)
         os.close(write_end)
-        self.last, self.buffer, self.session, self.problems, self.requests = 0, b"", None, [], []
-        target = self.call("Target.createTarget", url="about:blank")["targetId"]
-        self.session = self.call("Target.attachToTarget", targetId=target, flatten=True)["sessionId"]
-        for domain in ("Page", "Runtime", "Log", "Network"):
-            self.call(f"{domain}.enable")
-        self.call("Browser.setDownloadBehavior", behavior="allow", downloadPath=str(self.downloads))
+        self.last, self.buffer, self.problems, self.requests = 0, b"", [], []
+        self.session = self.context = None
 
     def close(self):
         try:
@@ -51,10 +47,10 @@ class Browser:
     def call(self, method, **parameters):
         self.last += 1
         message = {"id": self.last, "method": method, "params": parameters}
-        if self.session and not method.startswith(("Target.", "Browser.")):
+        if self.session and not method.startswith(("Target.", "Browser.", "SystemInfo.")):
             message["sessionId"] = self.session
         os.write(self.write_to, json.dumps(message).encode() + b"\0")
-        deadline = time.monotonic() + 60
+        deadline = time.monotonic() + 20
         while True:
             answer = self.receive(deadline)
             if answer.get("id") == self.last:
@@ -89,10 +85,21 @@ class Browser:
 
     # ---- the page ----
 
-    def open(self, address):
-        self.call("Page.navigate", url="about:blank")
+    def open(self, address, width=1400, height=1000):
+        """Opens an address in a page of its own; the page before is closed without being asked."""
+        if self.context:
+            self.call("Target.disposeBrowserContext", browserContextId=self.context)
+        self.session = None
+        self.context = self.call("Target.createBrowserContext")["browserContextId"]
+        target = self.call("Target.createTarget", url="about:blank", browserContextId=self.context)["targetId"]
+        self.session = self.call("Target.attachToTarget", targetId=target, flatten=True)["sessionId"]
+        for domain in ("Page", "Runtime", "Log", "Network"):
+            self.call(f"{domain}.enable")
+        self.call("Browser.setDownloadBehavior", behavior="allow", downloadPath=str(self.downloads),
+                  browserContextId=self.context)
+        self.size(width, height)
         self.call("Page.navigate", url=address)
-        self.wait("document.readyState === 'complete'")
+        self.wait(f"location.href === {json.dumps(address)} && document.readyState === 'complete'")
 
     def run(self, script):
         """Runs a script in the page and gives its value; a promise is awaited."""
@@ -106,8 +113,12 @@ class Browser:
         """Waits until a condition holds in the page."""
         deadline = time.monotonic() + seconds
         while time.monotonic() < deadline:
-            if self.run(f"Boolean({condition})"):
-                return
+            try:
+                if self.run(f"Boolean({condition})"):
+                    return
+            except RuntimeError as error:
+                if "ontext" not in str(error):  # the page is just being left
+                    raise
             time.sleep(0.02)
         raise TimeoutError(f"not true within {seconds} s: {condition}")
 

@@ -13,6 +13,7 @@ const SIZES = Array.from({ length: 42 }, (_, k) => [1, 2, 5][k % 3] * 10 ** Math
 const DENSE = 2.5;
 const ROOM_FOR_NAME = 48;
 const ROOM_FOR_MARK = 12;
+const ROOM_FOR_IDLE = 30;
 const MOST_LINKS = 300;
 
 /**
@@ -185,9 +186,10 @@ function firstAfter(plan, first, last, time) {
 
 function drawIdle(group, plan, frame, row, from, to) {
   const start = Math.max(from, row.from);
-  const words = `idle ${lengthText(plan.calendar, Math.round(to - start))}`;
   const room = (Math.min(to, row.to) - start) * frame.pixels;
-  if (frame.row < 18 || room < textWidth(words, 11) + 10) return;
+  if (frame.row < 18 || room < ROOM_FOR_IDLE) return;
+  const words = `idle ${lengthText(plan.calendar, Math.round(to - start))}`;
+  if (room < textWidth(words, 11) + 10) return;
   group.append(svg("text", { class: "idle-text", x: round(row.x(start) + room / 2),
     y: frame.row / 2 + 4, "text-anchor": "middle", "font-size": 11 }, words));
 }

@@ -134,7 +134,7 @@ export class ChartView {
     const item = (kind, words) => html("span", { class: "key" },
       html("span", { class: `swatch ${kind}` }), ` ${words}`);
     const place = document.getElementById("legend");
-    place.replaceChildren(item("swatch-idle", "idle"),
+    place.replaceChildren(...(plan.hasIdle ? [item("swatch-idle", "idle")] : []),
       ...(hasLate ? [item("swatch-late", "late job")] : []),
       ...(plan.jobs.some((job) => job.due !== null) ? [html("span", {}, "▼ due")] : []),
       ...(plan.usesRelease ? [html("span", {}, "▲ released")] : []));

@@ -1,10 +1,10 @@
 // The dialog in which cells of a spreadsheet become rows of the table.
 
-import { dayNumber, readDate } from "./calendar.js";
+import { STEPS, dayNumber, makeCalendar, readDate, readDuration } from "./calendar.js";
 import { today } from "./calendar_view.js";
 import { readNotation, writeNotation } from "./problems.js";
 import {
-  hasMonthFirst, looksLikeDates, readCells, readColumns, rowsOfCells,
+  hasMonthFirst, needCalendar, readCells, readColumns, rowsOfCells,
 } from "./spreadsheet.js";
 import { html } from "./svg.js";
 import { FIELDS, FIELD_WORDS, newRow } from "./table.js";
@@ -90,33 +90,36 @@ export class ImportView {
   finish(replaces) {
     const rows = rowsOfCells(this.cells, this.columns).map((values) => newRow(values));
     const { state } = this.store;
-    const patch = { rows: replaces ? rows : [...state.rows, ...rows], ...this.guesses() };
+    const patch = { rows: replaces ? rows : [...state.rows, ...rows], ...this.guesses(rows) };
     if (replaces) Object.assign(patch, { kept: null, title: "" });
     this.dialog.close();
     this.store.change(patch);
     const hints = [`${rows.length} ${rows.length === 1 ? "job was" : "jobs were"} read.`];
     if (patch.settings?.step && state.settings.step === "plain") {
-      hints.push(`The table has dates, so the plan starts on ${patch.settings.start} and counts in `
-        + "hours. Change that under “Calendar”.");
+      const { words } = STEPS.find((step) => step.id === patch.settings.step);
+      hints.push(`There are dates or units, so the plan starts on ${patch.settings.start} and `
+        + `counts in steps of ${words}. Change that under “Calendar”.`);
     }
-    if (patch.problem) hints.push("It has precedence, so the problem has it now.");
+    if (patch.problem) {
+      hints.push("Jobs come after others, so the problem has precedence constraints now.");
+    }
     this.notify(hints.join(" "));
   }
 
   /** What the cells suggest: a calendar where there are dates, precedence where there are names. */
-  guesses() {
-    const { fields } = this.columns;
+  guesses(rows) {
     const { state } = this.store;
     const patch = {};
-    if (looksLikeDates(this.cells)) {
+    if (needCalendar(rows)) {
       const dayFirst = hasMonthFirst(this.cells) ? false : state.settings.dayFirst;
-      const isPlain = state.settings.step === "plain";
-      patch.settings = { ...state.settings, dayFirst,
-        ...(isPlain ? { step: "60", start: this.firstDay(dayFirst) } : {}) };
+      patch.settings = { ...state.settings, dayFirst };
+      if (state.settings.step === "plain") {
+        patch.settings.start = this.firstDay(dayFirst);
+        patch.settings.step = longestStep(patch.settings, rows);
+      }
     }
-    const after = fields.indexOf("after");
-    const hasAfter = after >= 0 && this.cells.slice(1).some((row) => row[after]);
     const problem = readNotation(state.problem);
+    const hasAfter = rows.some((row) => row.after !== "");
     if (hasAfter && ["1||Lmax", "1||hmax"].includes(problem && writeNotation(problem))) {
       patch.problem = `1|prec|${problem.objective}`;
     }
@@ -136,4 +139,13 @@ export class ImportView {
     }
     return first.text;
   }
+}
+
+/** The longest time step of at most an hour of which all processing times are whole numbers. */
+function longestStep(settings, rows) {
+  const times = rows.slice(0, 5000).flatMap((row) => [row.time, row.time2]).filter(Boolean);
+  return ["60", "30", "15", "10", "5", "1"].find((step) => {
+    const { calendar } = makeCalendar({ ...settings, step });
+    return calendar && times.every((time) => readDuration(calendar, time).fault === undefined);
+  }) ?? "60";
 }

@@ -22,6 +22,11 @@ export class JudgeView {
     });
   }
 
+  /** Forgets a judgement, which was of other jobs or another problem. */
+  clear() {
+    this.at("judgement").replaceChildren();
+  }
+
   /** Opens the part of the page with an answer text, and judges it. */
   open(text) {
     this.at("judge").open = true;

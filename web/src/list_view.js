@@ -47,7 +47,7 @@ export class ListView {
       name: (a, b) => alphabet.compare(plan.jobs[a].name, plan.jobs[b].name),
       row: () => 0,
     }[this.sort.value];
-    const all = Array.from(plan.jobs, (_, job) => job);
+    const all = Uint32Array.from(plan.jobs, (_, job) => job);
     const shown = this.lateOnly.checked ? all.filter((job) => late(job) > 0) : all;
     this.order = shown.sort((a, b) => by(a, b) || a - b);
     this.draw();
@@ -66,7 +66,7 @@ export class ListView {
     this.table.tHead.replaceChildren(html("tr", {},
       heads.map((words) => html("th", { scope: "col" }, words))));
     this.table.tBodies[0].replaceChildren(
-      ...this.order.slice(first, end).map((job) => this.line(job, hasDue, hasCounts)));
+      ...Array.from(this.order.subarray(first, end), (job) => this.line(job, hasDue, hasCounts)));
   }
 
   line(job, hasDue, hasCounts) {

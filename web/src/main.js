@@ -22,8 +22,8 @@ import { FIELDS, RowReader, makeTable } from "./table.js";
 const REST = 150;
 const PATIENCE = 400;
 const UNKNOWN = new Set(FIELDS.filter((field) => field !== "time2"));
-const WELCOME = "Paste your jobs from a spreadsheet, type them into the table, or choose an example. "
-  + "The plan is made as you type.";
+const WELCOME = "Paste your jobs from a spreadsheet, type them into the table, or choose an "
+  + "example. The plan is made as you type.";
 
 class Page {
   constructor() {
@@ -107,6 +107,7 @@ class Page {
     document.getElementById("undo").disabled = !this.store.canUndo;
     if (isOther("rows", "problem", "machines", "settings")) {
       this.version++;
+      this.judgeView.clear();
       clearTimeout(this.timer);
       this.timer = setTimeout(() => this.update(), REST);
     } else if (isOther("kept")) this.showPlan();

@@ -27,6 +27,8 @@ export function makePlan(table, schedule, evaluation, calendar) {
     colour: colourJobs(schedule, order, count),
     start: evaluation.start, completion: evaluation.completion, counts: evaluation.counts,
     usesRelease: /\|.*\br_?j\b.*\|/.test(schedule.problem),
+    hasIdle: schedule.stop.reduce((sum, stop, piece) => sum + stop - schedule.start[piece], 0)
+      < schedule.machines * schedule.stop.reduce((most, stop) => Math.max(most, stop), 0),
     isPreempted: !/^\s*[FOJ]/.test(schedule.problem) && pieces.some((each) => each > 1),
     length: schedule.stop.reduce((most, stop) => Math.max(most, stop), 0),
     value: schedule.value, problem: schedule.problem,
@@ -56,27 +58,42 @@ function machineRows({ machine, machines }, order) {
 
 /** A colour for each job that none of its neighbours on a machine has, where there are enough. */
 function colourJobs({ job, machine }, order, count) {
-  const colour = new Int8Array(count).fill(-1);
-  const before = new Map();
-  for (let k = 1; k < order.length; k++) {
-    const [a, b] = [order[k - 1], order[k]];
-    if (machine[a] !== machine[b] || job[a] === job[b]) continue;
-    for (const [one, other] of [[job[a], job[b]], [job[b], job[a]]]) {
-      if (!before.has(one)) before.set(one, []);
-      before.get(one).push(other);
-    }
-  }
+  const colour = new Uint8Array(count);
+  const isColoured = new Uint8Array(count);
+  const neighbours = neighbourLists({ job, machine }, order, count);
   let next = 0;
   for (const place of order) {
     const own = job[place] - 1;
-    if (!(own >= 0 && own < count) || colour[own] >= 0) continue;
-    const taken = new Set((before.get(own + 1) ?? []).map((other) => colour[other - 1]));
-    let tried = 0;
-    while (taken.has(next) && tried++ < COLOURS) next = (next + 1) % COLOURS;
+    if (!(own >= 0 && own < count) || isColoured[own]) continue;
+    let taken = 0;
+    for (let k = neighbours.first[own]; k >= 0; k = neighbours.next[k]) {
+      if (isColoured[neighbours.job[k]]) taken |= 1 << colour[neighbours.job[k]];
+    }
+    for (let tried = 0; taken >> next & 1 && tried < COLOURS; tried++) next = (next + 1) % COLOURS;
     colour[own] = next;
+    isColoured[own] = 1;
     next = (next + 1) % COLOURS;
   }
   return colour;
+}
+
+/** For each job a list of the jobs beside it: its first entry, and from each entry the next. */
+function neighbourLists({ job, machine }, order, count) {
+  const first = new Int32Array(count).fill(-1);
+  const next = new Int32Array(2 * order.length);
+  const other = new Int32Array(2 * order.length);
+  let entries = 0;
+  for (let k = 1; k < order.length; k++) {
+    const [a, b] = [job[order[k - 1]] - 1, job[order[k]] - 1];
+    const isBeside = machine[order[k - 1]] === machine[order[k]] && a !== b;
+    if (!isBeside || !(a >= 0 && a < count && b >= 0 && b < count)) continue;
+    for (const [one, two] of [[a, b], [b, a]]) {
+      other[entries] = two;
+      next[entries] = first[one];
+      first[one] = entries++;
+    }
+  }
+  return { first, next, job: other };
 }
 
 /** How late a job is in time steps, negative where it is early, and null without a due date. */

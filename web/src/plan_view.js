@@ -15,8 +15,10 @@ const CERTIFICATE_WORDS = {
   job: "This one job takes so long by itself.",
   pairs: "Of any two jobs one waits for the other; the cheaper of the two waits is counted for "
     + "each pair.",
-  last: "One of these jobs comes last, and none of them costs less there.",
-  window: "These jobs can't start before the first is released, and one of them is the last.",
+  last: "One of these jobs is completed last, when all of them are done. The one that costs least "
+    + "then costs this much.",
+  window: "These jobs can't start before the first of them is released, and all their work comes "
+    + "after that.",
   split: "What one side needs on machine 1 and the other on machine 2, one after another.",
   machine: "This machine needs this long for all its work.",
   ranks: "On each machine the last job counts once, the one before it twice, and so on.",

@@ -101,8 +101,9 @@ export function classOf(problem) {
   return writeNotation({ ...problem, count: shop ? 2 : null });
 }
 
+/** Whether a job has two processing times, one on each of two machines. */
 export function isShop(problem) {
-  return ["F", "O", "J"].includes(problem.environment);
+  return ["F", "O"].includes(problem.environment);
 }
 
 /** Whether the number of machines has to come from beside the notation. */

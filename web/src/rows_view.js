@@ -5,7 +5,7 @@ import { html } from "./svg.js";
 import { FIELDS, FIELD_WORDS, newRow } from "./table.js";
 
 const HINTS = { name: "", time: "3", time2: "2", weight: "1", due: "", release: "", cost: "0,5:10",
-  after: "names, with ; between" };
+  after: "names" };
 const ALWAYS = ["name", "time"];
 const COLUMNS = Object.keys(FIELD_WORDS);
 const MOST_LISTED = 5;

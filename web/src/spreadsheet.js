@@ -115,9 +115,32 @@ export function readColumns(cells) {
     });
     return { fields: padded(fields, width), headings: padded(first, width, "") };
   }
-  const startsWithNumbers = /^\d+([.,]\d+)?$/.test(first[0] ?? "") && width === 1;
-  const order = startsWithNumbers ? ["time"] : ["name", "time", "due", "after"];
-  return { fields: padded(order.slice(0, width), width), headings: null };
+  const hasHeading = cells.length > 1 && !/\d/.test(first.join("")) && /\d/.test(cells[1].join(""));
+  const body = hasHeading ? cells.slice(1) : cells;
+  return { fields: guessFields(body, width),
+    headings: hasHeading ? padded(first, width, "") : null };
+}
+
+/** Guesses the columns by what they hold: a name, a number for the time, a due date, names. */
+function guessFields(body, width) {
+  const fields = Array(width).fill(null);
+  const isLike = (column, pattern) => {
+    const filled = body.slice(0, 50).map((row) => row[column] ?? "").filter(Boolean);
+    return filled.length > 0 && filled.every((cell) => pattern.test(cell));
+  };
+  let column = 0;
+  const take = (field, holds) => {
+    const found = fields.findIndex((each, place) => place >= column && !each && holds(place));
+    if (found < 0) return;
+    fields[found] = field;
+    column = found + 1;
+  };
+  take("name", (place) => !isLike(place, /^[\d.,:]+$/));
+  take("time", (place) => isLike(place, /^\d+([.,:]\d+)?( ?[a-z]+)?$/i));
+  if (!fields.includes("time")) return fields;
+  take("due", (place) => isLike(place, /\d/));
+  take("after", (place) => !isLike(place, /^[\d.,:]+$/));
+  return fields;
 }
 
 function padded(list, width, filler = null) {
@@ -149,10 +172,12 @@ export function hasMonthFirst(cells) {
   return found.some((part) => Number(part[2]) > 12) && found.every((part) => Number(part[1]) <= 12);
 }
 
-/** Whether any cell looks like a date or a time with a unit, so that a calendar is needed. */
-export function looksLikeDates(cells) {
-  const date = /^(\d{4}-\d{1,2}-\d{1,2}|\d{1,2}[./]\s?\d{1,2}[./]\s?\d{2,4})/;
-  return cells.some((row) => row.some((cell) => date.test(cell)));
+/** Whether rows have dates, or times with a unit, so that a calendar is needed. */
+export function needCalendar(rows) {
+  const isDate = (text) => /\d[-./]\s?\d{1,2}[-./]\s?\d|\d[ -]?[a-z]{3}/i.test(text);
+  const hasUnit = (text) => /\d\s*(d|h|m)|:/i.test(text);
+  return rows.some((row) => isDate(row.due) || isDate(row.release) || hasUnit(row.time)
+    || hasUnit(row.time2));
 }
 
 /** One row of a file for spreadsheets. Cells that a spreadsheet would run as formulas get a '. */

@@ -15,7 +15,8 @@ const LARGEST = 4n * 10n ** 18n;
 const MOST_TOTAL = 9e15;
 const MOST_JOBS = 100000;
 const MOST_ARCS = 200000;
-const ROWS_AT_ONCE = 4000;
+const AT_ONCE = 20;
+const NONE = [];
 
 let lastId = 0;
 
@@ -34,7 +35,7 @@ export function isEmptyRow(row) {
 /**
  * What one row comes to, the precedence constraints left out.
  * @typedef {object} Job
- * @property {number} row the place of its row, from 0
+ * @property {number} row the place of its row, from 0 @property {number} number from 1
  * @property {number} id the identity of its row
  * @property {string} name the name, or "Job 3" where the row has none
  * @property {string} fields the fields of its line, such as "p=3 d=9"
@@ -58,54 +59,69 @@ export class RowReader {
     this.known = new WeakMap();
   }
 
-  read(row) {
-    let read = this.known.get(row);
-    if (!read) this.known.set(row, read = readRow(row, this.calendar, this.used));
-    return read;
+  /**
+   * The job of a row, or null where the row is empty.
+   * @param {object} row
+   * @param {number} place of the row, from 0
+   * @param {number} number of the job, from 1
+   * @returns {?Job}
+   */
+  read(row, place, number) {
+    let known = this.known.get(row);
+    if (known === undefined) {
+      known = isEmptyRow(row) ? null : readRow(row, place, number, this);
+    } else if (known === null || known.row === place && known.number === number) return known;
+    else known = { ...known, row: place, number, name: nameOf(row, number) };
+    this.known.set(row, known);
+    return known;
   }
 }
 
-function readRow(row, calendar, used) {
-  const isShop = used.has("time2");
-  const faults = [];
-  const notes = [];
-  const take = (field, reader) => {
+function nameOf(row, number) {
+  return row.name.trim() || `Job ${number}`;
+}
+
+function readRow(row, place, number, { calendar, used }) {
+  const findings = { faults: NONE, notes: NONE };
+  const add = (kind, field, message) => {
+    findings[kind] = [...findings[kind], { field, message }];
+  };
+  const take = (field, reader, ...more) => {
     const text = row[field].trim();
     if (text === "") return null;
-    const found = reader(text);
-    if (found.fault) (used.has(field) ? faults : notes).push({ field, message: found.fault });
-    if (found.note) notes.push({ field, message: found.note });
+    const found = reader(calendar, text, ...more);
+    if (found.fault) add(used.has(field) ? "faults" : "notes", field, found.fault);
+    if (found.note) add("notes", field, found.note);
     return found.fault ? null : found.steps;
   };
-  const time = take("time", (text) => readDuration(calendar, text));
-  const time2 = isShop ? take("time2", (text) => readDuration(calendar, text)) : null;
-  const due = take("due", (text) => readMoment(calendar, text, true));
-  const release = take("release", (text) => readMoment(calendar, text, false));
+  const takeTime = (field) => {
+    if (row[field].trim() === "") add("faults", field, "This job has no processing time.");
+    return take(field, readDuration);
+  };
+  const time = takeTime("time");
+  const time2 = used.has("time2") ? takeTime("time2") : null;
+  const due = take("due", readMoment, true);
+  const release = take("release", readMoment, false);
   const weight = take("weight", readWeight);
   const cost = take("cost", readCost);
-  for (const [field, value] of [["time", time], ...(isShop ? [["time2", time2]] : [])]) {
-    if (value === null && row[field].trim() === "") {
-      faults.push({ field, message: "This job has no processing time." });
-    }
-  }
-  const fields = [
-    `p=${time}${isShop ? "," + time2 : ""}`,
-    weight === null ? "" : `w=${weight}`, due === null ? "" : `d=${due}`,
-    release === null ? "" : `r=${release}`, cost === null ? "" : `h=${cost}`,
-  ].filter(Boolean).join(" ");
-  return { time: time + time2, due, release: release ?? 0, hasRelease: release !== null,
-    weight, hasCost: cost !== null, fields, faults, notes };
+  const fields = `p=${time}${time2 === null ? "" : `,${time2}`}`
+    + `${weight === null ? "" : ` w=${weight}`}${due === null ? "" : ` d=${due}`}`
+    + `${release === null ? "" : ` r=${release}`}${cost === null ? "" : ` h=${cost}`}`;
+  return { row: place, number, id: row.id, name: nameOf(row, number), fields,
+    time: time + time2, due, release: release ?? 0, hasRelease: release !== null,
+    weight, hasCost: cost !== null, ...findings };
 }
 
-function readWeight(text) {
-  if (!/^\d{1,19}$/.test(text) || BigInt(text) > LARGEST) {
+function readWeight(_, text) {
+  const isNumber = /^\d{1,19}$/.test(text);
+  if (!isNumber || text.length === 19 && BigInt(text) > LARGEST) {
     const why = /^-/.test(text) ? "is at least 0" : "is a whole number of digits alone";
     return { fault: `A weight ${why}; this is “${text}”.` };
   }
   return { steps: text.replace(/^0+(?=\d)/, "") };
 }
 
-function readCost(text) {
+function readCost(_, text) {
   const compact = text.replace(/\s*([,:])\s*/g, "$1");
   if (!/^-?\d{1,19}(,\d{1,19}:-?\d{1,19})*$/.test(compact)) {
     return { fault: "A cost function is a base and then steps TIME:VALUE, as in 0,5:10,9:20, which "
@@ -124,16 +140,17 @@ function readCost(text) {
 export async function makeTable(rows, reader, pause) {
   const jobs = [];
   const findings = { faults: [], notes: [] };
+  let begun = performance.now();
   for (let place = 0; place < rows.length; place++) {
-    if (place % ROWS_AT_ONCE === ROWS_AT_ONCE - 1 && !(await pause())) return null;
-    const row = rows[place];
-    if (isEmptyRow(row)) continue;
-    const read = reader.read(row);
-    for (const kind of ["faults", "notes"]) {
-      for (const each of read[kind]) findings[kind].push({ row: place, ...each });
+    if (place % 256 === 255 && performance.now() - begun > AT_ONCE) {
+      if (!(await pause())) return null;
+      begun = performance.now();
     }
-    const name = row.name.trim() || `Job ${jobs.length + 1}`;
-    jobs.push({ ...read, row: place, id: row.id, name });
+    const job = reader.read(rows[place], place, jobs.length + 1);
+    if (job === null) continue;
+    for (const each of job.faults) findings.faults.push({ row: place, ...each });
+    for (const each of job.notes) findings.notes.push({ row: place, ...each });
+    jobs.push(job);
   }
   const index = new NameIndex(jobs);
   noteSameNames(index, findings);
@@ -159,6 +176,7 @@ function noteSameNames(index, findings) {
 function readArcs(rows, jobs, index, found) {
   const arcs = [];
   jobs.forEach((job, place) => {
+    if (rows[job.row].after === "") return;
     const fault = (message) => found.push({ row: job.row, field: "after", message });
     for (const name of splitNames(rows[job.row].after, (text) => index.has(text))) {
       const other = index.find(name);
@@ -222,7 +240,7 @@ export function readTable(text) {
   let machines = null;
   text.replace(/^\uFEFF/, "").split(/\r?\n/).forEach((line, place) => {
     const words = line.trim().split(/\s+/);
-    const named = /^\s*# job (\d+): (.*\S)/.exec(line);
+    const named = words[0] === "#" && /^\s*# job (\d+): (.*\S)/.exec(line);
     if (named) names.set(Number(named[1]), named[2]);
     if (words[0] === "" || words[0].startsWith("#") || words[0] === "table") return;
     const problem = words[0] === "job" ? readJobLine(words, values)

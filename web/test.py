@@ -1,0 +1,622 @@
+#!/usr/bin/env python3
+"""Uses the page in Debian's chromium as people do, from pasting to printing, and says what did not go as it should.
+
+    web/test.py [PAGE.html] [--large] [--pictures] [NAME ..]
+
+The page is web/threefield.html if none is named. Each way is a function below; with names only those are tried. --large
+also solves 100,000 jobs and measures, --pictures takes the pictures that the README shows. Needs chromium.
+"""
+import json
+import random
+import re
+import sys
+import time
+import xml.etree.ElementTree as ElementTree
+from pathlib import Path
+
+from browser import Browser
+
+HERE = Path(__file__).resolve().parent
+PICTURES = HERE / "pictures"
+SHOP = "\ufeffOrder;Time (h);Due;After;Customer\r\n" + "\r\n".join([
+    'Plates;4;04/03/2025;;Meyer', '"Cards; menu ""Anker""";3;05/03/2025;;', ';;;;',
+    'Catalogue;14;07/03/2025;Plates;Meyer',
+    'Flyers;5;06/03/2025;"Plates, ""Cards; menu """"Anker"""""" ";', '']) + "\r\n"
+WAYS = []
+
+
+def way(function):
+    WAYS.append(function)
+    return function
+
+
+class Page:
+    """The page in a browser, and what a person does with it."""
+
+    def __init__(self, browser, address):
+        self.browser, self.address = browser, address
+        self.run, self.wait, self.click, self.type = browser.run, browser.wait, browser.click, browser.type
+
+    def fresh(self):
+        self.browser.open(self.address)
+        self.wait("document.querySelector('#jobs-table tbody tr')")
+
+    def text(self, selector):
+        return self.run(f"document.querySelector({json.dumps(selector)})?.innerText.trim() ?? null")
+
+    def texts(self, selector):
+        return self.run(f"[...document.querySelectorAll({json.dumps(selector)})].map((each) => each.innerText.trim())")
+
+    def value(self, selector):
+        return self.run(f"document.querySelector({json.dumps(selector)}).value")
+
+    def example(self, number):
+        self.browser.choose("#example", str(number))
+        self.settle()
+
+    def settle(self, seconds=30):
+        """Waits until the plan, or why there is none, is that of now."""
+        self.run("new Promise((resolve) => setTimeout(resolve, 220))")
+        self.wait("!/^(Solving|Searching)/.test(document.getElementById('headline').innerText)", seconds)
+        self.run("new Promise((resolve) => setTimeout(resolve, 250))")
+        self.wait("!/^(Solving|Searching)/.test(document.getElementById('headline').innerText)", seconds)
+
+    def import_cells(self, text):
+        self.click("#paste")
+        self.wait("document.getElementById('import').open")
+        self.type("#import-text", text)
+        self.click("#import-replace")
+        self.settle()
+
+    def cell(self, row, field):
+        return f'#jobs-table tr[data-place="{row - 1}"] input[data-field="{field}"]'
+
+    def put(self, row, field, text):
+        self.type(self.cell(row, field), text)
+        self.settle()
+
+    def notation(self, text):
+        self.type("#notation", text)
+        self.settle()
+
+    def plan_value(self):
+        return self.text("#headline .value strong")
+
+    def found_at(self, row, field):
+        """The sentence that stands at a field, or None."""
+        return self.run(f"""(() => {{
+            const input = document.querySelector({json.dumps(self.cell(row, field))});
+            const id = input?.getAttribute("aria-describedby");
+            return id ? document.getElementById(id).innerText : null;
+        }})()""")
+
+    def open_text(self, name, text):
+        path = Path(self.browser.folder.name) / name
+        path.write_bytes(text if isinstance(text, bytes) else text.encode())
+        self.browser.open_file("#file", path)
+
+
+def expect(found, wanted, what=""):
+    if found != wanted:
+        raise AssertionError(f"{what or 'found'}: {found!r}, and not {wanted!r}")
+
+
+def expect_in(part, text):
+    if part not in (text or ""):
+        raise AssertionError(f"{part!r} is not in {text!r}")
+
+
+# ---- from pasting to printing ----
+
+@way
+def empty_page(page):
+    expect_in("Paste your jobs", page.text("#headline"))
+
+
+@way
+def spreadsheet(page):
+    """A file as Excel saves it: byte order mark, semicolons, quotes, an empty row, day/month/year, names in names."""
+    page.import_cells(SHOP)
+    expect(page.text("#headline .proved"), "proved optimal")
+    expect(page.value("#notation"), "1|prec|Lmax")
+    expect(page.text("#table-text") or page.run("document.getElementById('table-text').textContent"),
+           "table 1\njob 1 p=4 d=8\njob 2 p=3 d=16\njob 3 p=14 d=32\njob 4 p=5 d=24\nprec 1 3\nprec 1 4\nprec 2 4\n")
+    expect(page.texts("#list tbody th")[1], 'Cards; menu "Anker"')
+    expect_in("the plan starts on 2025-03-04 and counts in steps of 1 hour", page.text("#notice"))
+
+
+@way
+def columns_are_corrected(page):
+    page.click("#paste")
+    page.type("#import-text", "Was\tWie lang\tBis\nA\tdrei\t3\nB\tvier\t4\n")
+    page.run("""[...document.querySelectorAll("#import-columns select")].forEach((select, place) => {
+        select.value = ["name", "", ""][place]; select.dispatchEvent(new Event("change")); })""")
+    expect_in("2 rows", page.text("#import-words"))
+    expect_in("Which column is the processing time?", page.text("#import-words"))
+    page.run("""{ const select = document.querySelectorAll("#import-columns select")[2];
+        select.value = "time"; select.dispatchEvent(new Event("change")); }""")
+    expect_in("Not used: Wie lang.", page.text("#import-words"))
+    page.click("#import-replace")
+    page.notation("1||sumC")
+    expect(page.plan_value(), "10")
+
+
+@way
+def cells_without_a_heading(page):
+    page.notation("1||sumC")
+    page.import_cells("1\tCutting\t3\n2\tPainting\t2\n")
+    expect(page.texts("#list tbody th"), ["Painting", "Cutting"])
+
+
+@way
+def headings_of_other_languages(page):
+    for headings in ("Auftrag\tDauer\tTermin\tNach", "Tâche\tDurée\tÉchéance\tAprès",
+                     "Tarea\tDuración\tVencimiento\tDespués de", "Attività\tDurata\tScadenza\tDopo"):
+        page.fresh()
+        page.import_cells(f"{headings}\nA\t3\t5\t\nB\t2\t4\tA\n")
+        expect_in("prec 1 2", page.run("document.getElementById('table-text').textContent"))
+
+
+@way
+def examples(page):
+    values = ["11 h", "1", "20", "24", "−1", "69"]
+    for number, wanted in enumerate(values):
+        page.example(number)
+        expect(page.plan_value(), wanted, f"example {number}")
+        expect(page.text("#headline .proved"), "proved optimal")
+
+
+@way
+def certificate(page):
+    page.example(1)
+    page.click("#certificate summary")
+    expect(page.texts("#certificate .steps li"), ["total processing time of the set = 10",
+           "least cost at time 10 of a job of the set without a successor in it = 1"])
+    expect_in("Cutting, Drilling, Painting, Packing", page.text("#certificate"))
+
+
+@way
+def what_if(page):
+    """A change solves again at once, and the kept plan says what moved."""
+    page.example(1)
+    page.click("#changes button")
+    page.put(4, "time", "5")
+    expect(page.plan_value(), "5")
+    expect_in("the value is 4 larger", page.text("#changes"))
+    expect_in("Painting 4 later", page.text("#changes"))
+    expect_in("4 later", " ".join(page.texts("#list tbody tr")))
+    page.click("#undo")
+    page.settle()
+    expect_in("the value is the same; no job moved", page.text("#changes"))
+
+
+@way
+def rows_by_keyboard(page):
+    """Typing into the empty line adds rows; Enter and the arrows move."""
+    page.notation("1||sumC")
+    page.run(f"document.querySelector({json.dumps(page.cell(1, 'name'))}).focus()")
+    for name, time_needed in (("A", "3"), ("B", "2")):
+        page.browser.call("Input.insertText", text=name)
+        page.browser.press("Tab")
+        page.browser.call("Input.insertText", text=time_needed)
+        page.browser.press("Enter")
+        page.run("{ const line = document.activeElement.closest('tr'); line.querySelector('.in-name').focus(); }")
+    page.settle()
+    expect(page.plan_value(), "7")
+    page.browser.press("ArrowUp")
+    expect(page.run("document.activeElement.value"), "B")
+    page.click('#jobs-table tr[data-place="0"] .remove')
+    page.settle()
+    expect(page.plan_value(), "2")
+
+
+@way
+def precedence_by_names(page):
+    page.import_cells("Name,Time,Due\nA,3,3\nB,2,9\n")
+    page.click("#add-precedence")
+    page.type("#before-name", "B")
+    page.type("#after-name", "A")
+    page.click("#precedence-add")
+    expect_in("“B” comes before “A” now.", page.text("#precedence-words"))
+    page.browser.press("Escape")
+    page.settle()
+    expect(page.value("#notation"), "1|prec|Lmax")
+    expect(page.value(page.cell(1, "after")), "B")
+    expect(page.plan_value(), "2")
+
+
+@way
+def problem_in_words(page):
+    page.example(5)
+    page.browser.choose("#environment", "P")
+    page.browser.choose("#objective", "sumC")
+    page.settle()
+    expect(page.value("#notation"), "P||sumC")
+    expect(page.value("#machines"), "2")
+    expect(page.plan_value(), "14")
+    page.notation("1 | pmtn | C_max")
+    expect(page.value("#environment"), "1")
+    expect(page.run("document.querySelector('[data-condition=prmp]').checked"), True)
+    page.notation("1|prpm|Lmax")
+    expect_in("not understood from “prpm|Lmax” on", page.text("#problem-notes"))
+    page.notation("P0||sumC")
+    expect_in("not understood", page.text("#problem-notes"))
+
+
+@way
+def machines_are_missing(page):
+    page.example(2)
+    page.type("#machines", "")
+    page.settle()
+    expect_in("Say how many machines there are", page.text("#problem-notes"))
+    page.type("#machines", "1001")
+    page.settle()
+    expect_in("“1001” is not a number of machines", page.text("#problem-notes"))
+
+
+@way
+def bound(page):
+    page.example(1)
+    page.notation("1||sumwT")
+    expect(page.text("#headline .proved"), "proved lower bound")
+    expect_in("Every schedule has at least the value", page.text("#headline"))
+    page.click("#problem-notes button")
+    page.settle()
+    expect(page.text("#headline .proved"), "proved optimal")
+    page.notation("J2||Cmax")
+    expect_in("neither an exact method nor a lower bound", page.text("#headline"))
+
+
+@way
+def judging(page):
+    page.example(1)
+    page.click("#judge summary")
+    page.type("#order", "Cutting; Painting; Drilling; Packing")
+    page.click("#order-to-answer")
+    page.wait("document.querySelector('#judgement img')")
+    expect_in("it is not optimal", page.text("#judgement"))
+    expect_in("Its value is 5, the optimum is 1, so the gap is 4", page.text("#judgement"))
+    page.type("#order", "Painting; Cutting; Drilling; Packing")
+    page.click("#order-to-answer")
+    page.wait("/starts before/.test(document.getElementById('judgement').innerText)")
+    expect_in("Not allowed: “Painting” starts before “Cutting” is completed.", page.text("#judgement"))
+    page.type("#order", "1 4 2 3")
+    page.click("#order-to-answer")
+    page.wait("/it is optimal/.test(document.getElementById('judgement').innerText)")
+    page.type("#order", "Painting; Cuting")
+    page.click("#order-to-answer")
+    expect_in("There is no job called “Cuting”. Is “Cutting” meant?", page.text("#judgement"))
+    page.click("#judge-own")
+    page.click("#judge-run")
+    page.wait("/Accepted/.test(document.getElementById('judgement').innerText)")
+    page.type("#judge-text", "answer 2\nproblem 1|prec|Lmax\njobs 4\nmachines 1\npiece 1 1 0 3\n")
+    page.click("#judge-run")
+    page.wait("/Line 5/.test(document.getElementById('judgement').innerText)")
+
+
+@way
+def chart(page):
+    page.example(0)
+    expect(page.run("document.querySelectorAll('.chart .bar').length"), 12)
+    expect(page.run("document.querySelectorAll('.chart .bar.late').length"), 3)
+    expect(page.run("document.querySelectorAll('.chart .mark.due').length"), 12)
+    bars = """[...document.querySelectorAll('.chart .bar')].map((bar) => bar.getAttribute('class').match(/fill./)[0])"""
+    fills = page.run(bars)
+    expect([a for a, b in zip(fills, fills[1:]) if a == b], [], "neighbours of one colour")
+    page.run("document.getElementById('chart-frame').focus()")
+    page.browser.press("+")
+    page.browser.press("ArrowRight")
+    zoomed = page.run("document.querySelectorAll('.chart .bar').length")
+    if not 1 <= zoomed < 12:
+        raise AssertionError(f"{zoomed} bars after zooming in")
+    page.browser.press("0")
+    expect(page.run("document.querySelectorAll('.chart .bar').length"), 12)
+    page.run("document.querySelector('.chart .bar').dispatchEvent(new MouseEvent('click', { bubbles: true }))")
+    expect_in("Business cards Meyer: Mon 3 Mar 08:00 to Mon 3 Mar 10:00, 2 h of work", page.text("#chart-details"))
+    page.example(4)
+    expect(page.run("document.querySelectorAll('.chart .idle-text').length"), 1)
+    expect(page.run("document.querySelectorAll('.chart .mark.release').length"), 4)
+    expect(page.run("document.querySelectorAll('.chart .links path').length"), 1)
+
+
+@way
+def printing(page):
+    """A4 landscape, with the title, and without the page's own parts."""
+    page.example(0)
+    path = Path(page.browser.folder.name) / "plan.pdf"
+    page.browser.pdf(path)
+    boxes = re.findall(rb"/MediaBox \[0 0 ([\d.]+) ([\d.]+)\]", path.read_bytes())
+    expect([(round(float(width)), round(float(height))) for width, height in boxes], [(842, 595)], "pages")
+    page.browser.call("Emulation.setEmulatedMedia", media="print")
+    expect(page.run("getComputedStyle(document.querySelector('.jobs')).display"), "none")
+    expect_in("A print shop", page.text("#print-head"))
+    page.browser.call("Emulation.setEmulatedMedia", media="")
+
+
+# ---- files and links ----
+
+@way
+def files(page):
+    page.example(0)
+    page.click("#save-menu summary")
+    page.click('[data-save="csv"]')
+    name = "a-print-shop-one-machine-due-dates-precedence"
+    lines = page.browser.downloaded(f"{name}.csv").decode("utf-8-sig").split("\r\n")
+    expect(lines[0], "Name,Machine,Start,End,Working time,Completion,Due,Lateness,Late")
+    expect(lines[2], '"Plates, spring catalogue",1,2025-03-03 10:00,2025-03-03 15:00,4,2025-03-03 15:00,'
+           '2025-03-04 17:00,-10,')
+    page.run("document.querySelector('[data-save=state]').click()")
+    state = page.browser.downloaded(f"{name}.json")
+    page.run("document.querySelector('[data-save=table]').click()")
+    table = page.browser.downloaded(f"{name}-table.txt").decode()
+    expect(table.split("\n")[:3], ["table 1", "# job 1: Plates, spring catalogue", "job 1 p=4 w=2 d=16"])
+    page.run("document.querySelector('[data-save=answer]').click()")
+    answer = page.browser.downloaded(f"{name}-answer.txt").decode()
+    expect_in("value 11\n", answer)
+    for kind, suffix in (("chart", ""), ("picture", "-solver")):
+        page.run(f"document.querySelector('[data-save={kind}]').click()")
+        picture = ElementTree.fromstring(page.browser.downloaded(f"{name}{suffix}.svg"))
+        expect(picture.tag, "{http://www.w3.org/2000/svg}svg")
+    page.fresh()
+    page.open_text("plan.json", state)
+    page.settle()
+    expect(page.plan_value(), "11 h")
+    page.fresh()
+    page.open_text("table.txt", table)
+    page.notation("1|prec|Lmax")
+    expect(page.plan_value(), "11")
+    expect(page.value(page.cell(2, "after")), '"Plates, spring catalogue"')
+    page.open_text("answer.txt", answer)
+    page.wait("/Accepted/.test(document.getElementById('judgement').innerText)")
+
+
+@way
+def link(page):
+    page.example(0)
+    page.click("#link")
+    page.wait("location.hash.startsWith('#plan=')")
+    address = page.run("location.href")
+    page.browser.open(address)
+    page.settle()
+    expect(page.plan_value(), "11 h")
+    page.browser.open(address[:-40])
+    page.settle()
+    expect_in("The link is damaged", page.text("#notice"))
+
+
+@way
+def other_files(page):
+    """UTF-16 and Windows-1252, and texts that are nothing that the page knows."""
+    page.open_text("cells.csv", "Name\tTime\nMüller\t3\n".encode("utf-16"))
+    page.wait("document.getElementById('import').open")
+    page.click("#import-replace")
+    page.settle()
+    expect(page.value(page.cell(1, "name")), "Müller")
+    page.open_text("others.csv", "Name;Time\nMüller;3\n".encode("cp1252"))
+    page.wait("document.getElementById('import').open")
+    page.click("#import-replace")
+    page.settle()
+    expect(page.value(page.cell(1, "name")), "Müller")
+    page.open_text("other.json", '{"threefield": 2}')
+    page.wait("/not a file that this page saved/.test(document.getElementById('notice').innerText)")
+    page.open_text("another.json", '{"threefield": 1, "rows": [[1, "A", 3, {}], 7, ["x", "B", "2"]], '
+                   '"settings": {"days": 3}, "kept": {"ids": "x"}, "problem": 9}')
+    page.settle()
+    expect(page.value("#notation"), "1||Lmax")
+    expect(page.value(page.cell(2, "name")), "B")
+
+
+# ---- mistakes, each with its sentence at its place ----
+
+MISTAKES = [
+    ("two jobs of one name", "Name,Time,After\nBox,3,\nBox,2,\nLid,1,Box\n", 3, "after",
+     "“Box” is the name of several jobs, in rows 1, 2. Write #1 to mean the one in row 1."),
+    ("two jobs of one name, not referred to", "Name,Time,Due\nBox,3,1\nBox,2,1\n", 2, "name",
+     "2 jobs are called “Box” (rows 1, 2)"),
+    ("a name that isn't there", "Name,Time,After\nCutting,3,\nPainting,2,Cuting\n", 2, "after",
+     "There is no job called “Cuting”. Is “Cutting” meant?"),
+    ("29 February of a year without one", "Name,Time,Due\nA,3,29.02.2025\n", 1, "due",
+     "2025 is not a leap year, so there is no 29 February 2025."),
+    ("31 April", "Name,Time,Due\nA,3,2025-04-31\n", 1, "due", "There is no day 31 in April 2025: it has 30 days."),
+    ("no date", "Name,Time,Due\nA,3,2025-04-30\nB,3,soon\n", 2, "due", "“soon” is not a date."),
+    ("no processing time", "Name,Time,Due\nA,,5\n", 1, "time", "This job has no processing time."),
+    ("a time of 0", "Name,Time,Due\nA,0,5\n", 1, "time", "A job takes at least one time step."),
+    ("a negative time", "Name,Time,Due\nA,-3,5\n", 1, "time", "A processing time is at least 0; this is -3."),
+    ("a decimal point", "Name,Time,Due\nA,2.5,5\n", 1, "time", "A processing time is a whole number here; 2.5 is not."),
+    ("a number that is too large", "Name,Time,Due\nA,99999999999999999999,5\n", 1, "time", "is too large"),
+    ("no due date", "Name,Time,Due\nA,3,4\nB,2,\n", 2, "due", "1||Lmax needs a due date for each job; this one"),
+    ("after itself", "Name,Time,Due,After\nA,3,4,A\n", 1, "after", "“A” can't come after itself."),
+    ("a cycle", "Name,Time,Due,After\nA,3,4,B\nB,3,4,A\n", 1, "after", "These precedence constraints form a cycle: "),
+]
+
+
+@way
+def mistakes_in_rows(page):
+    for what, cells, row, field, sentence in MISTAKES:
+        page.fresh()
+        page.import_cells(cells)
+        try:
+            expect_in(sentence, page.found_at(row, field))
+        except AssertionError as error:
+            raise AssertionError(f"{what}: {error}; {page.texts('.found, #row-notes, #headline')}") from error
+
+
+@way
+def mistakes_of_the_calendar(page):
+    page.example(1)
+    page.put(1, "time", "3h")
+    expect_in("“3h” needs a calendar", page.found_at(1, "time"))
+    page.fresh()
+    page.import_cells("Name,Time,Due\nA,3 h,2025-03-05\nB,2.25,2025-03-01\n")
+    expect(page.value("#step"), "15", "the longest step of which 2.25 hours are a whole number")
+    page.run("document.getElementById('calendar').open = true")
+    for field, text, sentence in (
+            ("hours", "08:00-08:00", "“08:00-08:00” are 0 working hours: they end as they start."),
+            ("hours", "", "A working day of 0 hours"), ("hours", "17:00-08:00", "ends before it starts"),
+            ("start", "2025-02-29", "2025 is not a leap year"), ("off", "Easter", "“Easter” is not a date")):
+        before = page.value(f'[data-setting="{field}"]')
+        page.type(f'[data-setting="{field}"]', text)
+        page.settle()
+        expect_in(sentence, page.text("#calendar-notes"))
+        page.type(f'[data-setting="{field}"]', before)
+        page.settle()
+    page.type('[data-setting="start"]', "2025-03-03")
+    page.browser.choose("#step", "60")
+    page.settle()
+    expect_in("“2.25” is not a whole number of time steps of 1 hour. Write 3 h", page.found_at(2, "time"))
+    page.browser.choose("#step", "15")
+    page.settle()
+    expect_in("Due before the plan starts, so the job is late", page.found_at(2, "due"))
+    expect(page.plan_value(), "2 h 15 min")
+
+
+@way
+def hostile_names(page):
+    """Names with markup, formulas and quotes are only ever text."""
+    names = ['<img src=x onerror="window.hacked=1">', "=HYPERLINK(\"http://x\")", "@SUM(1)", "</script><b>",
+             "&amp;\u202eabc"]
+    rows = "".join(f'"{name.replace(chr(34), chr(34) * 2)}"\t{3 + k}\t4\n' for k, name in enumerate(names))
+    page.import_cells("Name\tTime\tDue\n" + rows)
+    expect(page.run("window.hacked ?? null"), None)
+    expect(page.run("document.querySelectorAll('#list b, #list img, .chart img').length"), 0)
+    expect(sorted(page.texts("#list tbody th")), sorted(names))
+    page.run("document.querySelector('[data-save=csv]').click()")
+    saved = page.browser.downloaded("plan.csv").decode("utf-8-sig")
+    expect_in("\"'=HYPERLINK(\"\"http://x\"\")\"", saved)
+    expect_in("\r\n'@SUM(1),", saved)
+    page.run("document.querySelector('[data-save=chart]').click()")
+    picture = ElementTree.fromstring(page.browser.downloaded("plan.svg"))
+    kinds = {element.tag.split("}")[1] for element in picture.iter()}
+    expect(kinds - {"svg", "g", "defs", "pattern", "path", "rect", "text", "title", "style"}, set(), "elements")
+
+
+# ---- the frame ----
+
+@way
+def widths(page):
+    page.example(0)
+    for width in (360, 768, 1400, 3840):
+        page.browser.size(width, 900)
+        page.run("new Promise((resolve) => setTimeout(resolve, 200))")
+        if page.run("document.documentElement.scrollWidth") > width:
+            raise AssertionError(f"the page is wider than {width} pixels")
+        expect(page.run("document.querySelectorAll('.chart .bar').length") >= 12, True)
+
+
+@way
+def dark(page):
+    page.browser.dark(True)
+    page.example(0)
+    expect(page.run("getComputedStyle(document.body).backgroundColor"), "rgb(21, 23, 26)")
+
+
+@way
+def names_for_screen_readers(page):
+    """Each control has a name, and each table a heading for its columns."""
+    page.example(0)
+    page.run("document.querySelectorAll('details').forEach((each) => { each.open = true; })")
+    tree = page.browser.call("Accessibility.getFullAXTree")["nodes"]
+    roles = {"textbox", "button", "combobox", "checkbox", "link", "image", "table"}
+    nameless = [node["role"]["value"] for node in tree if not node["ignored"]
+                and node["role"]["value"] in roles and not node.get("name", {}).get("value")]
+    expect(nameless, [], "controls without a name")
+
+
+@way
+def module_that_does_not_load(page):
+    """A browser that can't run the module: the page says so, and the table is there all the same."""
+    text = Path(page.address.removeprefix("file://")).read_text(encoding="utf-8")
+    broken = re.sub(r'(id="module-bytes">)[^<]*', r"\1AAAA", text)
+    path = Path(page.browser.folder.name) / "broken.html"
+    path.write_text(broken, encoding="utf-8")
+    page.browser.open(f"file://{path}")
+    page.wait("/can't run the solver/.test(document.getElementById('headline').innerText)")
+    page.import_cells("Name,Time,Due\nA,3,4\n")
+    expect(page.run("document.getElementById('table-text').textContent"), "table 1\njob 1 p=3 d=4\n")
+    expect_in("can't run the solver", page.text("#headline"))
+
+
+# ---- much ----
+
+def large(page):
+    """100,000 jobs: how long until the plan is there, how long the page stands still, and how much memory it takes."""
+    numbers = random.Random(7)
+    lines = [f"job {k} p={numbers.randint(1, 99)} d={numbers.randint(1, 5_000_000)} r={numbers.randint(0, 5_000_000)} "
+             f"w={numbers.randint(1, 99)}" for k in range(1, 100_001)]
+    for problem in ("1||Lmax", "1|rj,prmp|Lmax", "1||sumwC", "P7|prmp|Cmax", "P7||sumC"):
+        page.fresh()
+        page.type("#notation", problem)
+        page.run("""window.longest = 0; new PerformanceObserver((list) => {
+            for (const entry of list.getEntries()) window.longest = Math.max(window.longest, entry.duration);
+        }).observe({ entryTypes: ["longtask"] })""")
+        page.open_text("large.txt", "table 1\n" + "\n".join(lines) + "\n")
+        begun = time.monotonic()
+        page.wait("document.querySelector('#headline .proved')", 120)
+        opened = time.monotonic() - begun
+        page.run("window.longest = 0; document.querySelector('#engine').textContent = ''")
+        page.type(page.cell(3, "time"), "50")
+        begun = time.monotonic()
+        page.wait("document.querySelector('#engine').textContent", 120)
+        again = time.monotonic() - begun
+        page.run("new Promise((resolve) => setTimeout(resolve, 500))")
+        print(f"    {problem}: opened and solved in {opened:.2f} s, again after a change in {again:.2f} s; the page "
+              f"stood still for {page.run('window.longest'):.0f} ms; {page.text('#engine')} {memory(page)}")
+
+
+def memory(page):
+    """The resident memory of the page's process, by the system."""
+    processes = page.browser.call("SystemInfo.getProcessInfo")["processInfo"]
+    sizes = []
+    for pid in [each["id"] for each in processes if each["type"] == "renderer"]:
+        found = re.search(r"VmRSS:\s+(\d+) kB", Path(f"/proc/{pid}/status").read_text())
+        sizes.append(int(found.group(1)) // 1024)
+    return f"Memory of the page's process: {max(sizes)} MB."
+
+
+def pictures(page):
+    PICTURES.mkdir(exist_ok=True)
+    page.browser.size(1280, 900)
+    page.example(0)
+    page.browser.screenshot(PICTURES / "page.png")
+    page.browser.screenshot(PICTURES / "chart.png", "#chart")
+    page.browser.size(360, 760)
+    page.run("document.getElementById('plan').scrollIntoView()")
+    page.settle()
+    page.browser.screenshot(PICTURES / "phone.png")
+
+
+def main(words):
+    options = {word for word in words if word.startswith("--")}
+    pages = [word for word in words if word.endswith(".html")]
+    names = [word for word in words if word not in pages and word not in options]
+    if options - {"--large", "--pictures"}:
+        sys.exit(__doc__)
+    address = f"file://{Path(pages[0] if pages else HERE / 'threefield.html').resolve()}"
+    browser = Browser()
+    page = Page(browser, address)
+    failed = []
+    tried = [each for each in WAYS if not names or each.__name__ in names]
+    tried += [large] * ("--large" in options) + [pictures] * ("--pictures" in options)
+    try:
+        for each in tried:
+            browser.problems.clear()
+            try:
+                page.fresh()
+                each(page)
+                expect(browser.problems, [], "errors of the page")
+                print(f"ok      {each.__name__}", flush=True)
+            except (AssertionError, TimeoutError, RuntimeError) as error:
+                failed.append(each.__name__)
+                print(f"FAILED  {each.__name__}: {error}", flush=True)
+        asked = {each.split(":")[0] for each in browser.requests}
+        if asked - {"file", "blob", "about", "data"}:
+            failed.append("network")
+            print(f"FAILED  the page asks a network: {asked}")
+    finally:
+        browser.close()
+    print(f"{len(tried) - len(failed)} passed, {len(failed)} failed")
+    return 1 if failed else 0
+
+
+if __name__ == "__main__":
+    sys.exit(main(sys.argv[1:]))
