@@ -6,7 +6,8 @@
     web/build.py --check                 the same for the sources alone, with the module that the file holds
 
 Each module of the sources becomes a function that returns what it exports, in an order in which each comes after those
-that it imports. A policy in the page's head allows this one script, this one style and a worker, and no network.
+that it imports; solver.js, which node reads too, sets `module.exports` instead. A policy in the page's head allows this
+one script, this one style and a worker, and no network.
 """
 import base64
 import hashlib
@@ -57,6 +58,8 @@ def wrapped(folder, name):
         imports.append(f"const {' '.join(target.split())} = in_{other};\n")
     body = IMPORT.sub("", text)
     names = EXPORT.findall(body)
+    if "module.exports = " in body:
+        return f"const in_{name} = (() => {{\nconst module = {{}};\n{body}return module.exports;\n}})();\n"
     body = EXPORT.sub("", body)
     if re.search(r"^(import|export)\b", body, re.MULTILINE):
         sys.exit(f"build.py: {name}.js imports or exports in a form that this script does not know")

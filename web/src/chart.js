@@ -11,7 +11,10 @@ const GAP = 12;
 const ROW_HEIGHTS = [[8, 36], [25, 26], [60, 18], [Infinity, 11]];
 const SIZES = Array.from({ length: 42 }, (_, k) => [1, 2, 5][k % 3] * 10 ** Math.floor(k / 3));
 const DENSE = 2.5;
-const ROOM_FOR_NAME = 48;
+const LETTER = 6.2;
+const MOST_LINES = 8;
+const LEAST_ROOM = 36;
+const MOST_ROOM = 110;
 const ROOM_FOR_MARK = 12;
 const ROOM_FOR_IDLE = 30;
 const MOST_LINKS = 300;
@@ -29,15 +32,14 @@ const MOST_LINKS = 300;
  * Draws a plan.
  * @param {object} plan as `makePlan` gives it
  * @param {View} view
- * @param {number} scale by which everything is larger, the text too
+ * @param {number} scale by which everything is larger on the page
  * @returns {SVGElement} bars have the attribute data-job, the place of their job
  */
 export function drawChart(plan, view, scale = 1) {
-  const width = view.width / scale;
-  const frame = frameOf(plan, { ...view, width });
+  const frame = frameOf(plan, view);
   const chart = svg("svg", {
-    class: "chart", width: view.width, height: frame.height * scale,
-    viewBox: `0 0 ${width} ${frame.height}`,
+    class: "chart", width: view.width * scale, height: frame.height * scale,
+    viewBox: `0 0 ${view.width} ${frame.height}`,
     "font-family": 'system-ui, "DejaVu Sans", sans-serif', "font-size": TEXT,
   }, patterns());
   const span = (view.to - view.from) / view.lines;
@@ -48,13 +50,23 @@ export function drawChart(plan, view, scale = 1) {
   return chart;
 }
 
-/** The number of lines at which a name fits into most bars, within reason. */
-export function goodLines(plan, from, to, width) {
+/**
+ * The number of lines at which a name fits into most bars, within reason.
+ * @param {object} plan
+ * @param {View} view its `lines` are not read
+ * @param {number} height the most pixels that the chart may be high
+ */
+export function goodLines(plan, view, height) {
+  const { from, to, width } = view;
   const share = (to - from) / Math.max(1, plan.length);
   const bars = plan.order.length / plan.machines * share;
-  const wanted = Math.ceil(bars * ROOM_FOR_NAME / width);
-  const most = Math.max(1, Math.floor(12 / plan.machines));
-  return Math.max(1, Math.min(wanted, most, 8, Math.floor(to - from)));
+  const names = plan.jobs.slice(0, 200).map((job) => job.name);
+  const letters = names.join("").length / Math.max(1, names.length);
+  const room = Math.max(LEAST_ROOM, Math.min(MOST_ROOM, letters * LETTER + 8));
+  const wanted = Math.ceil(bars * room / width);
+  const { lineHeight } = frameOf(plan, { ...view, lines: Math.min(wanted, MOST_LINES) });
+  const most = Math.floor(Math.min(12 / plan.machines, height / lineHeight, MOST_LINES));
+  return Math.max(1, Math.min(wanted, most, Math.floor(to - from)));
 }
 
 function frameOf(plan, view) {

@@ -6,6 +6,7 @@ import { lateness } from "./plan.js";
 import { html } from "./svg.js";
 
 const PRINT_WIDTH = 1020;
+const PRINT_HEIGHT = 500;
 const KEYS = { "+": "in", "=": "in", "-": "out", "−": "out", 0: "all", ArrowLeft: "left",
   ArrowRight: "right" };
 
@@ -50,11 +51,12 @@ export class ChartView {
     if (!this.plan) return;
     this.drawnWidth = width ?? Math.max(280, this.frame.clientWidth);
     const scale = width ? 1 : parseFloat(getComputedStyle(document.documentElement).fontSize) / 16;
+    const view = { from: this.from, to: this.to, width: this.drawnWidth / scale,
+      marks: this.marks.checked };
     const chosen = Number(this.lines.value);
     const lines = Math.min(Math.max(1, Math.floor(this.to - this.from)),
-      chosen || goodLines(this.plan, this.from, this.to, this.drawnWidth / scale));
-    this.chart = drawChart(this.plan, { from: this.from, to: this.to, lines,
-      width: this.drawnWidth, marks: this.marks.checked }, scale);
+      chosen || goodLines(this.plan, view, width ? PRINT_HEIGHT : Infinity));
+    this.chart = drawChart(this.plan, { ...view, lines }, scale);
     this.frame.replaceChildren(this.chart);
     this.frame.setAttribute("aria-label", this.describe());
   }
