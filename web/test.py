@@ -167,6 +167,15 @@ def examples(page):
 
 
 @way
+def no_release_date(page):
+    """A job without a release date can start when the plan does."""
+    page.notation("1|rj,prmp|Lmax")
+    page.import_cells("Name,Time,Due,Release\nA,3,4,\nB,2,6,1\n")
+    expect_in("job 1 p=3 d=4 r=0\n", page.run("document.getElementById('table-text').textContent"))
+    expect(page.plan_value(), "−1")
+
+
+@way
 def certificate(page):
     page.example(1)
     page.click("#certificate summary")
@@ -425,6 +434,7 @@ MISTAKES = [
     ("a decimal point", "Name,Time,Due\nA,2.5,5\n", 1, "time", "A processing time is a whole number here; 2.5 is not."),
     ("a number that is too large", "Name,Time,Due\nA,99999999999999999999,5\n", 1, "time", "is too large"),
     ("no due date", "Name,Time,Due\nA,3,4\nB,2,\n", 2, "due", "1||Lmax needs a due date for each job; this one"),
+    ("no due date in several rows", "Name,Time,Due\nA,3,\nB,2,\n", 2, "due", "1||Lmax needs a due date for each job"),
     ("after itself", "Name,Time,Due,After\nA,3,4,A\n", 1, "after", "“A” can't come after itself."),
     ("a cycle", "Name,Time,Due,After\nA,3,4,B\nB,3,4,A\n", 1, "after", "These precedence constraints form a cycle: "),
 ]

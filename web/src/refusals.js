@@ -3,7 +3,7 @@
 import { momentText } from "./calendar.js";
 import { placeOfLine } from "./table.js";
 
-const FIELD_OF_WORD = { release: "release", due: "due", weight: "weight", cost: "cost" };
+const MOST_NAMED = 1000;
 const FIELD_NEEDED = {
   release: "a release date", due: "a due date", weight: "a weight", cost: "a cost function",
 };
@@ -65,14 +65,26 @@ const REFUSALS = {
   WrongTimes: ([job], table, problem) => /^\s*[FO]/.test(problem)
     ? atRow(job, table, "time2", "In a shop a job has two processing times.")
     : atRow(job, table, "time", "Outside a shop a job has one processing time."),
-  MissingField: ([job, word], table, problem) => atRow(job, table, FIELD_OF_WORD[word],
-    `${problem} needs ${FIELD_NEEDED[word]} for each job; this one has none.`),
-  ZeroTime: ([job], table) => atRow(job, table, "time",
+  MissingField: ([job, word], table, problem) => everyJob(table, job, (each) => lacks(each, word),
+    word, `${problem} needs ${FIELD_NEEDED[word]} for each job; this one has none.`),
+  ZeroTime: ([job], table) => everyJob(table, job, (each) => each.time === 0, "time",
     "A job takes at least one time step. Write a longer time, or delete the row."),
   TotalTooLarge: at("page", "The numbers together are too large: above 4·10^18. Take a longer time "
     + "step or smaller weights."),
   Cycle: (words, table) => cycle(words.map(Number), table),
 };
+
+function lacks(job, word) {
+  return { release: !job.hasRelease, due: job.due === null, weight: job.weight === null,
+    cost: !job.hasCost }[word];
+}
+
+/** The job that the module names, and all others of which the same is true. */
+function everyJob(table, first, isTrue, field, message) {
+  const others = table.jobs.filter((job) => isTrue(job) && job.number !== Number(first));
+  return [atRow(first, table, field, message),
+    ...others.slice(0, MOST_NAMED).map((job) => atRow(job.number, table, field, message))];
+}
 
 function notationFault(byte, problem) {
   const rest = new TextDecoder().decode(new TextEncoder().encode(problem).subarray(Number(byte)));

@@ -41,7 +41,7 @@ export function isEmptyRow(row) {
  * @property {string} fields the fields of its line, such as "p=3 d=9"
  * @property {number} time in time steps; of a shop on both machines together
  * @property {?number} due in time steps
- * @property {number} release in time steps; 0 where there is none
+ * @property {number} release in time steps; the start of the plan where the row has none
  * @property {?number} weight
  * @property {{field: string, message: string}[]} faults
  * @property {{field: string, message: string}[]} notes
@@ -102,13 +102,14 @@ function readRow(row, place, number, { calendar, used }) {
   const time2 = used.has("time2") ? takeTime("time2") : null;
   const due = take("due", readMoment, true);
   const release = take("release", readMoment, false);
+  const start = release ?? (used.has("release") ? 0 : null);
   const weight = take("weight", readWeight);
   const cost = take("cost", readCost);
   const fields = `p=${time}${time2 === null ? "" : `,${time2}`}`
     + `${weight === null ? "" : ` w=${weight}`}${due === null ? "" : ` d=${due}`}`
-    + `${release === null ? "" : ` r=${release}`}${cost === null ? "" : ` h=${cost}`}`;
+    + `${start === null ? "" : ` r=${start}`}${cost === null ? "" : ` h=${cost}`}`;
   return { row: place, number, id: row.id, name: nameOf(row, number), fields,
-    time: time + time2, due, release: release ?? 0, hasRelease: release !== null,
+    time: time + time2, due, release: start ?? 0, hasRelease: release !== null,
     weight, hasCost: cost !== null, ...findings };
 }
 
