@@ -546,6 +546,23 @@ def module_that_does_not_load(page):
     expect_in("can't run the solver", page.text("#headline"))
 
 
+@way
+def first_answer(page):
+    """From opening a link until its plan is there: below half a second."""
+    page.example(0)
+    page.click("#link")
+    page.wait("location.hash.startsWith('#plan=')")
+    address = page.run("location.href")
+    times = []
+    for _ in range(3):
+        page.browser.open(address)
+        page.wait("performance.getEntriesByName('plan shown').length")
+        times.append(round(page.run("performance.getEntriesByName('plan shown')[0].startTime")))
+    print(f"        first plan after {times} ms")
+    if min(times) > 500:
+        raise AssertionError(f"the first plan took {times} ms")
+
+
 # ---- much ----
 
 def large(page):

@@ -18,6 +18,7 @@ const MONTHS = ["January", "February", "March", "April", "May", "June", "July", 
   "September", "October", "November", "December"];
 const FARTHEST = 40000;
 const MOST_STEPS = 1e12;
+const LONGEST = 60;
 
 /** The calendar of a new plan. */
 export function defaultSettings() {
@@ -245,6 +246,7 @@ export function lengthText(calendar, steps) {
  * @returns {{steps: number}|{fault: string}}
  */
 export function readDuration(calendar, text) {
+  if (text.length > LONGEST) return { fault: "This is too long to be a length of time." };
   if (!calendar) return readWhole(text, "A processing time");
   const minutes = durationMinutes(calendar, text);
   if (minutes === null) {
@@ -284,6 +286,7 @@ function durationMinutes(calendar, text) {
  */
 export function readMoment(calendar, text, isDue) {
   const what = isDue ? "A due date" : "A release date";
+  if (text.length > LONGEST) return { fault: "This is too long to be a date." };
   if (!calendar || /^[-−]?\d+$/.test(text)) return readWhole(text, what, isDue);
   const found = readDateTime(text, calendar.dayFirst);
   if (found.fault) return found;
@@ -346,10 +349,10 @@ function readClock(text) {
  * @returns {{day: number}|{fault: string}}
  */
 export function readDate(text, dayFirst) {
-  const parts = dateParts(text.trim(), dayFirst);
+  const parts = text.length > LONGEST ? null : dateParts(text.trim(), dayFirst);
   if (!parts) {
-    return { fault: `“${text}” is not a date. Write it as 2025-03-14 or 14.03.2025, `
-      + "and with a time of day as 2025-03-14 12:00." };
+    return { fault: `“${text.slice(0, LONGEST)}” is not a date. Write it as 2025-03-14 or `
+      + "14.03.2025, and with a time of day as 2025-03-14 12:00." };
   }
   const { month, date } = parts;
   const year = parts.year < 100 ? 2000 + parts.year : parts.year;
@@ -388,6 +391,7 @@ function dateParts(text, dayFirst) {
 
 /** Reads working hours: spans such as "08:00-12:00, 13:00-17:00". */
 function readHours(text) {
+  if (text.length > 10 * LONGEST) return { fault: "These are too many working hours." };
   const spans = [];
   for (const part of text.split(/[,;]/).map((each) => each.trim()).filter(Boolean)) {
     const ends = part.split(/\s*(?:-|–|to)\s*/);
@@ -413,6 +417,7 @@ function readHours(text) {
 function readDaysOff(text, dayFirst) {
   const days = new Set();
   for (const part of text.split(/[,;\n]/).map((each) => each.trim()).filter(Boolean)) {
+    if (part.length > LONGEST) return { fault: "A day off is too long to be a date." };
     const ends = part.split(/\s+(?:to|-|–)\s+|\s*\.\.\s*/).map((each) => readDate(each, dayFirst));
     const wrong = ends.find((end) => end.fault);
     if (wrong || ends.length > 2) return { fault: wrong?.fault ?? `“${part}” is not a day off.` };

@@ -182,6 +182,7 @@ class Page {
     const { plan, evaluation, answer } = this.shown;
     this.planView.show(plan, evaluation, this.store.state.kept, answer);
     this.showPrintHead();
+    performance.mark("plan shown");
   }
 
   // ---- refusals ----

@@ -1,6 +1,7 @@
 // Precedence by names: the column "after" of a row names the jobs that have to be completed first.
 
 const MOST_COMPARED = 3000;
+const MOST_SUGGESTED = 20;
 
 /**
  * Cuts the text of the column "after" into names: between semicolons, or between commas where the
@@ -43,6 +44,7 @@ export class NameIndex {
   constructor(jobs) {
     this.jobs = jobs;
     this.byName = new Map();
+    this.suggested = 0;
     jobs.forEach((job, place) => {
       const known = this.byName.get(job.name);
       if (known === undefined) this.byName.set(job.name, place);
@@ -68,8 +70,9 @@ export class NameIndex {
   find(name) {
     const numbered = /^#(\d+)$/.exec(name);
     if (numbered && !this.has(name)) {
-      const place = this.jobs.findIndex((job) => job.row + 1 === Number(numbered[1]));
-      return place < 0 ? { fault: `There is no job in row ${numbered[1]}.` } : { place };
+      this.byRow ??= new Map(this.jobs.map((job, place) => [job.row + 1, place]));
+      const place = this.byRow.get(Number(numbered[1]));
+      return place === undefined ? { fault: `There is no job in row ${numbered[1]}.` } : { place };
     }
     const places = this.places(name);
     if (places.length === 1) return { place: places[0] };
@@ -82,8 +85,9 @@ export class NameIndex {
     return { fault: `There is no job called “${name}”.${near ? ` Is “${near}” meant?` : ""}` };
   }
 
+  /** The name of a job that is spelled much like this; not for many names or many jobs. */
   nearest(name) {
-    if (this.jobs.length > MOST_COMPARED) return null;
+    if (this.jobs.length > MOST_COMPARED || this.suggested++ > MOST_SUGGESTED) return null;
     const wanted = name.toLowerCase();
     let best = null;
     let least = Math.max(1, Math.floor(name.length / 3)) + 1;
