@@ -248,6 +248,8 @@ def problem_in_words(page):
     expect(page.run("document.querySelector('[data-condition=prmp]').checked"), True)
     page.notation("1|prpm|Lmax")
     expect_in("not understood from “prpm|Lmax” on", page.text("#problem-notes"))
+    page.notation("1|prec|Tmax")
+    expect_in("The maximum tardiness is the maximum lateness where that is above 0", page.text("#problem-notes"))
     page.notation("P0||sumC")
     expect_in("not understood", page.text("#problem-notes"))
 
@@ -306,6 +308,7 @@ def judging(page):
 @way
 def chart(page):
     page.example(0)
+    page.browser.choose("#lines", "1")
     expect(page.run("document.querySelectorAll('.chart .bar').length"), 12)
     expect(page.run("document.querySelectorAll('.chart .bar.late').length"), 3)
     expect(page.run("document.querySelectorAll('.chart .mark.due').length"), 12)

@@ -243,8 +243,9 @@ function drawBar(group, plan, frame, row, piece) {
   }, svg("title", {}, barTitle(plan, job, row.machine, start, stop)));
   group.append(bar);
   if (isLate && width > 3) {
-    group.append(svg("rect", { class: "late-edge", x: round(left + inset), y: frame.row - 5,
-      width: round(width - 2 * inset), height: 4.25 }));
+    const height = frame.row < 14 ? 2 : 4;
+    group.append(svg("rect", { class: "late-edge", x: round(left + inset),
+      y: frame.row - height - 0.75, width: round(width - 2 * inset), height }));
   }
   if (frame.row < 14) return;
   const size = frame.row < 20 ? 10 : TEXT;

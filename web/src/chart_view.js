@@ -40,7 +40,6 @@ export class ChartView {
     this.plan = plan;
     this.details.textContent = "";
     this.draw();
-    this.drawLegend();
   }
 
   resize() {
@@ -59,6 +58,7 @@ export class ChartView {
     this.chart = drawChart(this.plan, { ...view, lines }, scale);
     this.frame.replaceChildren(this.chart);
     this.frame.setAttribute("aria-label", this.describe());
+    this.drawLegend();
   }
 
   describe() {
@@ -139,6 +139,7 @@ export class ChartView {
     place.replaceChildren(...(plan.hasIdle ? [item("swatch-idle", "idle")] : []),
       ...(hasLate ? [item("swatch-late", "late job")] : []),
       ...(plan.jobs.some((job) => job.due !== null) ? [html("span", {}, "▼ due")] : []),
-      ...(plan.usesRelease ? [html("span", {}, "▲ released")] : []));
+      ...(plan.usesRelease ? [html("span", {}, "▲ released")] : []),
+      ...(this.chart.querySelector(".many-frame") ? [item("swatch-many", "many short jobs")] : []));
   }
 }

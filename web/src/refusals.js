@@ -90,8 +90,20 @@ function notationFault(byte, problem) {
   const rest = new TextDecoder().decode(new TextEncoder().encode(problem).subarray(Number(byte)));
   const where = rest.trim() === "" ? "The notation ends too early."
     : `The notation is not understood from “${rest.trim()}” on.`;
-  return `${where} Write it as 1|prec|Lmax: machines | conditions | objective, case as shown.`;
+  const hint = HINTS.find(([pattern]) => pattern.test(problem));
+  return `${where} ${hint ? hint[1] : "Write it as machines | conditions | objective, such as "
+    + "1|prec|Lmax; upper and lower case differ."}`;
 }
+
+const HINTS = [
+  [/w_?j?[LT]_?max/i, "A weighted lateness is a cost function: write hmax, and fill the column "
+    + "“Cost function”."],
+  [/T_?max/i, "The maximum tardiness is the maximum lateness where that is above 0: write Lmax."],
+  [/\/\//, "Fields are divided by | and not by /."],
+  [/Σ|∑|\\sum/, "A sum is written sumC, sumwC, sumT, sumwT, sumU or sumwU."],
+  [/p_?j ?=|d_?j|s_?jk|tree|chains/i, "The conditions that are known are rj, prec, prmp, prmu, "
+    + "nwt, block and rcrc."],
+];
 
 function cycle(jobs, table) {
   const names = jobs.map((job) => `“${table.jobs[job - 1].name}”`);
