@@ -56,10 +56,8 @@ class Page:
 
     def settle(self, seconds=30):
         """Waits until the plan, or why there is none, is that of now."""
-        self.run("new Promise((resolve) => setTimeout(resolve, 220))")
-        self.wait("!/^(Solving|Searching)/.test(document.getElementById('headline').innerText)", seconds)
-        self.run("new Promise((resolve) => setTimeout(resolve, 250))")
-        self.wait("!/^(Solving|Searching)/.test(document.getElementById('headline').innerText)", seconds)
+        self.run("new Promise((resolve) => setTimeout(resolve, 20))")
+        self.wait("document.getElementById('plan').getAttribute('aria-busy') !== 'true'", seconds)
 
     def import_cells(self, text):
         self.click("#paste")
@@ -538,10 +536,18 @@ def names_for_screen_readers(page):
 @way
 def module_that_does_not_load(page):
     """A browser that can't run the module: the page says so, and the table is there all the same."""
+    page.example(0)
+    page.click("#link")
+    page.wait("location.hash.startsWith('#plan=')")
+    plan = page.run("location.hash")
     text = Path(page.address.removeprefix("file://")).read_text(encoding="utf-8")
     broken = re.sub(r'(id="module-bytes">)[^<]*', r"\1AAAA", text)
     path = Path(page.browser.folder.name) / "broken.html"
     path.write_text(broken, encoding="utf-8")
+    page.browser.open(f"file://{path}{plan}")
+    page.run("new Promise((resolve) => setTimeout(resolve, 700))")
+    expect_in("can't run the solver", page.text("#headline"))
+    expect(page.value(page.cell(1, "name")), "Plates, spring catalogue")
     page.browser.open(f"file://{path}")
     page.wait("/can't run the solver/.test(document.getElementById('headline').innerText)")
     page.import_cells("Name,Time,Due\nA,3,4\n")

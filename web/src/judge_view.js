@@ -63,10 +63,11 @@ export class JudgeView {
     if (!now) return this.say("fault", "First the jobs and the problem have to be in order.");
     const answer = new TextEncoder().encode(this.at("judge-text").value);
     const reply = await this.source.ask({ ...now.request, kind: "judge", answer });
-    return reply && this.show(reply, now, answer);
+    if (reply) return this.show(reply, now);
+    return this.say("fault", "The solver was stopped or can't run, so nothing was judged.");
   }
 
-  show(reply, now, answer) {
+  show(reply, now) {
     if (reply.errors && !reply.verdict) {
       const [refusal] = explainRefusal(reply, now.table, now.problem);
       this.say("fault", refusal.message);

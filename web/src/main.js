@@ -107,6 +107,7 @@ class Page {
     document.getElementById("undo").disabled = !this.store.canUndo;
     if (isOther("rows", "problem", "machines", "settings")) {
       this.version++;
+      this.planView.setBusy(true);
       this.judgeView.clear();
       clearTimeout(this.timer);
       this.timer = setTimeout(() => this.update(), REST);
@@ -150,6 +151,7 @@ class Page {
   wait(message, isEmpty = false) {
     if (isEmpty) this.planView.clear();
     this.shown = null;
+    this.planView.setBusy(false);
     this.planView.showMessage(this.cannotRun ?? message);
   }
 
@@ -182,6 +184,7 @@ class Page {
     const { plan, evaluation, answer } = this.shown;
     this.planView.show(plan, evaluation, this.store.state.kept, answer);
     this.showPrintHead();
+    this.planView.setBusy(false);
     performance.mark("plan shown");
   }
 
@@ -213,6 +216,7 @@ class Page {
     if (!reply) return this.wait("Stopped. Any change searches again.");
     if (reply.status !== 0) return this.boundRefused(reply);
     const { value, certificate } = reply.bound;
+    this.planView.setBusy(false);
     this.planView.showMessage(`${this.now.problem}: no exact method is here, so there is no plan.`,
       html("p", { class: "value" }, html("span", { class: "proved" }, "proved lower bound"),
         "Every schedule has at least the value ", html("strong", {}, value), "."),

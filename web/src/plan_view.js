@@ -36,6 +36,11 @@ export class PlanView {
     this.plan = null;
   }
 
+  /** Says whether the plan of now is still being made. */
+  setBusy(isBusy) {
+    this.at("plan").setAttribute("aria-busy", String(isBusy));
+  }
+
   /** Says that there is no plan, and why; an earlier one stays, marked as of before. */
   showMessage(message, ...more) {
     this.at("headline").replaceChildren(html("p", {}, message), ...more);

@@ -63,9 +63,10 @@ export class RowsView {
   drawHead() {
     const unused = (field) => html("span", { class: "unused" },
       field === "due" ? " (shown only)" : " (not used)");
-    const words = { ...FIELD_WORDS, ...(this.used.has("time2") ? { time: "Time on machine 1" } : {}) };
+    const words = (field) => field === "time" && this.used.has("time2") ? "Time on machine 1"
+      : FIELD_WORDS[field];
     const heads = (this.shown ?? []).map((field) => html("th", { scope: "col" },
-      words[field], this.used.has(field) ? null : unused(field)));
+      words(field), this.used.has(field) ? null : unused(field)));
     this.head.replaceChildren(html("tr", {}, html("th", { scope: "col" }, "#"), heads,
       html("th", {}, html("span", { class: "visually-hidden" }, "Delete"))));
   }

@@ -14,6 +14,7 @@ export class Solving {
     this.onLoaded = onLoaded;
     this.waiting = new Map();
     this.running = null;
+    this.hasFailed = false;
     this.start();
   }
 
@@ -23,7 +24,7 @@ export class Solving {
     this.worker.onmessage = ({ data }) => this.receive(data);
     this.worker.onerror = (event) => {
       event.preventDefault();
-      this.onLoaded({ loaded: false, message: event.message });
+      this.receive({ loaded: false, message: event.message });
     };
     this.worker.postMessage({ module: this.module });
   }
@@ -34,6 +35,7 @@ export class Solving {
    * @returns {Promise<?object>} the reply, or null where the request was given up
    */
   ask(request) {
+    if (this.hasFailed) return Promise.resolve(null);
     return new Promise((resolve) => {
       this.waiting.get(request.kind)?.resolve(null);
       this.waiting.set(request.kind, { request, resolve });
@@ -58,6 +60,14 @@ export class Solving {
     this.start();
   }
 
+  /** Answers all that wait, since nothing will run. */
+  giveUp() {
+    for (const { resolve } of this.waiting.values()) resolve(null);
+    this.waiting.clear();
+    this.running?.resolve(null);
+    this.running = null;
+  }
+
   next() {
     if (!this.isLoaded || this.running || this.waiting.size === 0) return;
     const [kind, entry] = this.waiting.entries().next().value;
@@ -69,7 +79,9 @@ export class Solving {
   receive(data) {
     if (data.loaded !== undefined) {
       this.isLoaded = data.loaded;
+      this.hasFailed = !data.loaded;
       this.onLoaded(data);
+      if (this.hasFailed) this.giveUp();
     } else if (this.running) {
       const { resolve } = this.running;
       this.running = null;
