@@ -1,14 +1,17 @@
 #!/usr/bin/env python3
 """Uses the page in Debian's chromium as people do, from pasting to printing, and says what did not go as it should.
 
-    web/test.py [PAGE.html] [--large] [--pictures] [NAME ..]
+    web/test.py [PAGE.html] [--large] [--pictures] [--program=THREEFIELD] [NAME ..]
 
 The page is web/threefield.html if none is named. Each way is a function below; with names only those are tried. --large
-also solves 100,000 jobs and measures, --pictures takes the pictures that the README shows. Needs chromium.
+also solves 100,000 jobs and measures, --pictures takes the pictures that the README shows, and --program compares the
+module in the browser with the native program byte for byte over the examples of the nineteen problems. Needs chromium.
 """
+import functools
 import json
 import random
 import re
+import subprocess
 import sys
 import time
 import xml.etree.ElementTree as ElementTree
@@ -556,6 +559,17 @@ def module_that_does_not_load(page):
 
 
 @way
+def problems_are_the_modules(page):
+    """The problems that the page calls solved are those that the module lists."""
+    source = (HERE / "src" / "problems.js").read_text(encoding="utf-8")
+    solved = set(re.findall(r'^  \["([^"]+\|[^"]*)", "', source, re.MULTILINE))
+    [[status, listed, _]] = in_browser(page, [{"command": "problems"}])
+    expect(status, 0)
+    names = {line.split()[0] for line in listed.splitlines()[1:]}
+    expect({re.sub(r"^([FO])\|", r"\g<1>2|", name) for name in names}, solved)
+
+
+@way
 def first_answer(page):
     """From opening a link until its plan is there: below half a second."""
     page.example(0)
@@ -609,6 +623,76 @@ def memory(page):
     return f"Memory of the page's process: {max(sizes)} MB."
 
 
+# ---- the module in the browser and the native program ----
+
+RUNS = """
+    const text = (id) => document.getElementById(id).textContent;
+    const packed = Uint8Array.from(atob(text("module-bytes")), (letter) => letter.charCodeAt(0));
+    const stream = new Blob([packed]).stream().pipeThrough(new DecompressionStream("deflate-raw"));
+    const module = new Uint8Array(await new Response(stream).arrayBuffer());
+    const answering = `onmessage = async ({ data }) => {
+        const { run } = await loadSolver(data.module);
+        const encode = (each) => new TextEncoder().encode(each ?? "");
+        postMessage(data.requests.map((request) => {
+            const found = run({ ...request, instance: encode(request.instance), answer: encode(request.answer) });
+            return [found.status, new TextDecoder().decode(found.output), found.errors];
+        }));
+    };`;
+    const worker = new Worker(URL.createObjectURL(new Blob([SOLVER, answering], { type: "text/javascript" })));
+    const answered = new Promise((resolve, reject) => {
+        worker.onmessage = ({ data }) => resolve(data);
+        worker.onerror = (event) => reject(event.message);
+    });
+    worker.postMessage({ module, requests: REQUESTS });
+    return await answered;
+"""
+
+
+def in_browser(page, requests):
+    """What the module says in a worker of the browser: status, output and errors of each request."""
+    solver = json.dumps((HERE / "src" / "solver.js").read_text(encoding="utf-8"))
+    script = RUNS.replace("SOLVER", solver, 1).replace("REQUESTS", json.dumps(requests), 1)
+    return page.run(f"(async () => {{ {script} }})()")
+
+
+def in_program(program, request, folder):
+    """What the native program says of the same request."""
+    places = {}
+    for name in ("instance", "answer"):
+        places[name] = Path(folder) / name
+        places[name].write_text(request.get(name, ""), encoding="utf-8")
+    command = request["command"]
+    asked = ["-p", request.get("problem", "")]
+    words = {
+        "gantt": ["gantt", "-c", str(request.get("columns")), places["answer"]], "problems": ["problems"],
+        "picture": ["gantt", "--svg", places["answer"]], "solve": ["solve", *asked, places["instance"]],
+        "bound": ["bound", *asked, places["instance"]],
+    }.get(command, [command, *asked, *["--certificate"] * bool(request.get("certificate")), *places.values()])
+    ran = subprocess.run([program, *words], capture_output=True, check=False)
+    return [ran.returncode, ran.stdout.decode(), ran.stderr.decode()]
+
+
+def like_the_program(page, program):
+    """Every example of the nineteen problems, its answers whole and damaged, and bounds."""
+    examples = HERE.parent / "examples"
+    tables = [line.split(" ") for line in (examples / "nineteen.txt").read_text().splitlines() if line]
+    asked = [{"problem": problem, "instance": (examples / name).read_text()} for problem, name in tables]
+    asked += [{"problem": problem, "instance": (examples / "all_fields.txt").read_text()}
+              for problem in ("1||sumwT", "1|rj|Lmax", "P2||Cmax", "P2||sumwC", "J2||Cmax", "1||", "P||sumC")]
+    asked += [{"problem": "1||Lmax", "instance": (examples / "slips.txt").read_text()}]
+    requests = [{"command": command, **each} for each in asked for command in ("solve", "bound")]
+    requests.append({"command": "problems"})
+    for each in asked:
+        _, answer, _ = in_program(program, {"command": "solve", **each}, page.browser.folder.name)
+        damaged = answer.replace("piece 1 1 0", "piece 1 1 1"), answer.replace("value", "valeu"), answer[:-4]
+        for text in (answer, *damaged):
+            requests += [{"command": command, "answer": text, "certificate": True, "columns": 40, **each}
+                         for command in ("check", "evaluate", "gantt", "picture")]
+    for request, found in zip(requests, in_browser(page, requests), strict=True):
+        expect(found, in_program(program, request, page.browser.folder.name), str(request))
+    print(f"        {len(requests)} runs are byte for byte those of the program")
+
+
 def pictures(page):
     PICTURES.mkdir(exist_ok=True)
     page.browser.size(1280, 900)
@@ -625,7 +709,8 @@ def main(words):
     options = {word for word in words if word.startswith("--")}
     pages = [word for word in words if word.endswith(".html")]
     names = [word for word in words if word not in pages and word not in options]
-    if options - {"--large", "--pictures"}:
+    program = next((word.removeprefix("--program=") for word in options if word.startswith("--program=")), None)
+    if options - {"--large", "--pictures", f"--program={program}"}:
         sys.exit(__doc__)
     address = f"file://{Path(pages[0] if pages else HERE / 'threefield.html').resolve()}"
     browser = Browser()
@@ -633,17 +718,20 @@ def main(words):
     failed = []
     tried = [each for each in WAYS if not names or each.__name__ in names]
     tried += [large] * ("--large" in options) + [pictures] * ("--pictures" in options)
+    if program:
+        tried.append(functools.partial(like_the_program, program=program))
     try:
         for each in tried:
             browser.problems.clear()
+            name = getattr(each, "func", each).__name__
             try:
                 page.fresh()
                 each(page)
                 expect(browser.problems, [], "errors of the page")
-                print(f"ok      {each.__name__}", flush=True)
+                print(f"ok      {name}", flush=True)
             except (AssertionError, TimeoutError, RuntimeError) as error:
-                failed.append(each.__name__)
-                print(f"FAILED  {each.__name__}: {error}", flush=True)
+                failed.append(name)
+                print(f"FAILED  {name}: {error}", flush=True)
         asked = {each.split(":")[0] for each in browser.requests}
         if asked - {"file", "blob", "about", "data"}:
             failed.append("network")
