@@ -38,7 +38,7 @@ class Page {
     this.importView = new ImportView(this.store, this.notify);
     this.precedenceView = new PrecedenceView(this.store, () => this.now?.table);
     this.planView = new PlanView({
-      keep: () => this.store.change({ kept: keepPlan(this.shown.plan) }),
+      keep: () => this.shown && this.store.change({ kept: keepPlan(this.shown.plan) }),
       forget: () => this.store.change({ kept: null }),
     });
     this.judgeView = new JudgeView({
@@ -82,9 +82,9 @@ class Page {
 
   moduleLoaded({ loaded, message }) {
     if (loaded) return;
-    this.cannotRun = "This browser can't run the solver: it has no 64-bit WebAssembly memory. "
-      + "Chrome and Edge from version 133 and Firefox from version 134 have it. Jobs can be "
-      + `edited, opened and saved here all the same. (${message})`;
+    this.cannotRun = "This browser can't run the solver, which needs 64-bit WebAssembly memory: "
+      + "Chrome and Edge have it from version 133, Firefox from version 134. Jobs can be edited, "
+      + `opened and saved here all the same. (${message})`;
     this.planView.showMessage(this.cannotRun);
   }
 
