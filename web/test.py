@@ -695,10 +695,9 @@ def like_the_program(page, program):
 
 def pictures(page):
     PICTURES.mkdir(exist_ok=True)
-    page.browser.size(1280, 900)
+    page.browser.size(1400, 940)
     page.example(0)
     page.browser.screenshot(PICTURES / "page.png")
-    page.browser.screenshot(PICTURES / "chart.png", "#chart")
     page.browser.size(360, 760)
     page.run("document.getElementById('plan').scrollIntoView()")
     page.settle()
