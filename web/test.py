@@ -667,7 +667,7 @@ def in_program(program, request, folder):
         "gantt": ["gantt", "-c", str(request.get("columns")), places["answer"]], "problems": ["problems"],
         "picture": ["gantt", "--svg", places["answer"]], "solve": ["solve", *asked, places["instance"]],
         "bound": ["bound", *asked, places["instance"]],
-    }.get(command, [command, *asked, *["--certificate"] * bool(request.get("certificate")), *places.values()])
+    }.get(command, [command, *asked, *["--certificate"] * (command == "evaluate"), *places.values()])
     ran = subprocess.run([program, *words], capture_output=True, check=False)
     return [ran.returncode, ran.stdout.decode(), ran.stderr.decode()]
 

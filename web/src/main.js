@@ -47,7 +47,7 @@ class Page {
     });
     this.askPicture = (then) => this.picture(then);
     this.files = new Files(this);
-    this.store.listen((state, before) => this.changed(state, before));
+    this.store.listen((...change) => this.changed(...change));
     this.listen();
   }
 
@@ -97,7 +97,7 @@ class Page {
 
   // ---- a change, and what follows from it ----
 
-  changed(state, before) {
+  changed(state, before, isTyped) {
     if (state.rows !== before.rows && !this.rowsView.isTyping) this.rowsView.draw();
     const isOther = (...fields) => fields.some((field) => state[field] !== before[field]);
     if (isOther("problem", "machines")) this.problemView.draw();
@@ -110,7 +110,7 @@ class Page {
       this.planView.setBusy(true);
       this.judgeView.clear();
       clearTimeout(this.timer);
-      this.timer = setTimeout(() => this.update(), REST);
+      this.timer = setTimeout(() => this.update(), isTyped ? REST : 0);
     } else if (isOther("kept")) this.showPlan();
     this.showPrintHead();
   }

@@ -1,6 +1,7 @@
 // Asks the worker that holds the module: one request at a time, and of each kind only the latest.
 
 const LONG = 1500;
+const LARGE = 500000;
 
 export class Solving {
   /**
@@ -54,9 +55,14 @@ export class Solving {
   /** Gives up the run under way. */
   stop() {
     if (!this.running) return;
-    this.worker.terminate();
     this.running.resolve(null);
     this.running = null;
+    this.restart();
+  }
+
+  /** Takes a new worker, which gives back at once all memory that the runs before have taken. */
+  restart() {
+    this.worker.terminate();
     this.start();
   }
 
@@ -83,8 +89,9 @@ export class Solving {
       this.onLoaded(data);
       if (this.hasFailed) this.giveUp();
     } else if (this.running) {
-      const { resolve } = this.running;
+      const { resolve, request } = this.running;
       this.running = null;
+      if (request.instance?.length > LARGE) this.restart();
       resolve(data);
     }
     this.next();

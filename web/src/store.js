@@ -1,6 +1,7 @@
 // Holds the state, tells who listens of each change, and goes back.
 
 const MOST_STEPS_BACK = 100;
+const MOST_ROWS_BACK = 1000000;
 
 export class Store {
   /** @param {import("./state.js").State} state */
@@ -12,7 +13,7 @@ export class Store {
     this.isSaved = true;
   }
 
-  /** Calls `listener(state, before)` after each change. */
+  /** Calls `listener(state, before, isTyped)` after each change; more follow what is typed. */
   listen(listener) {
     this.listeners.push(listener);
   }
@@ -25,11 +26,12 @@ export class Store {
   change(patch, key = null) {
     if (key === null || key !== this.lastKey) {
       this.past.push(this.state);
-      if (this.past.length > MOST_STEPS_BACK) this.past.shift();
+      const most = Math.min(MOST_STEPS_BACK, MOST_ROWS_BACK / Math.max(1, this.state.rows.length));
+      while (this.past.length > most) this.past.shift();
     }
     this.lastKey = key;
     this.isSaved = false;
-    this.become({ ...this.state, ...patch });
+    this.become({ ...this.state, ...patch }, key !== null);
   }
 
   /** Takes a whole state, from a file or an example. */
@@ -48,9 +50,9 @@ export class Store {
     return this.past.length > 0;
   }
 
-  become(state) {
+  become(state, isTyped = false) {
     const before = this.state;
     this.state = state;
-    for (const listener of this.listeners) listener(state, before);
+    for (const listener of this.listeners) listener(state, before, isTyped);
   }
 }
