@@ -18,6 +18,7 @@ const MOST_ROOM = 110;
 const ROOM_FOR_MARK = 12;
 const ROOM_FOR_IDLE = 30;
 const MOST_LINKS = 300;
+const MOST_LINKED = 20000;
 
 /**
  * What of a plan is drawn, and how.
@@ -103,7 +104,9 @@ function drawLine(plan, frame, line) {
     const top = AXIS + (machine - 1) * frame.rowHeight;
     group.append(drawRow(plan, frame, { ...line, machine, top, x }));
   }
-  if (plan.isPreempted) group.append(drawLinks(plan, frame, line, x));
+  if (plan.isPreempted && plan.order.length <= MOST_LINKED) {
+    group.append(drawLinks(plan, frame, line, x));
+  }
   return group;
 }
 
