@@ -32,7 +32,10 @@ pub fn run(alloc: Global, line: &str, texts: Texts<'_>) -> Result<Ended, AllocEr
             let _ = console.writer.push_all(text.to_string(alloc)?.as_bytes());
             0
         }
-        Asked::Misused(_) => say_misuse(alloc, words.as_slice(), &mut console.errors),
+        Asked::Misused(fault) => {
+            drop(fault);
+            say_misuse(alloc, words.as_slice(), &mut console.errors)
+        }
         Asked::Unfit(text) => say_usage(&mut console.errors, text),
         Asked::NoMemory => say_memory(&mut console.errors),
     };
