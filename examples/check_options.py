@@ -34,7 +34,7 @@ def named_in(path):
     """The long options that a page or a script of completions names."""
     text = read(path).replace("\\-", "-")
     if path.endswith(".fish"):
-        return set(re.findall(r" -l ([a-z]+)", text))
+        return set(re.findall(r"^complete .* -l ([a-z]+)", text, re.MULTILINE))
     return set(LONG.findall(text))
 
 

@@ -177,7 +177,7 @@ Example: threefield evaluate -p \"P2|prmp|Cmax\" examples/table.txt answer.txt
 
 Exit status: 0 best, 1 does not fit, 2 refused, 3 want of memory,
              4 a file or a device failed, 5 the command line is wrong,
-             6 fits, and another schedule costs less.";
+             6 fits, and is not proved optimal.";
 
 const ABOUT_GANTT: &str = "\
 Example: threefield solve -p \"1||sumC\" table.txt | threefield gantt -c 40
@@ -255,7 +255,7 @@ fn check_command<'a>(alloc: Global) -> Result<Command<'a>, AllocError> {
 fn evaluate_command<'a>(alloc: Global) -> Result<Command<'a>, AllocError> {
     let certificate = Arg::new(alloc, "certificate")
         .long("certificate")
-        .help("Writes the certificate's arithmetic as well, step by step")
+        .help("Writes the certificate's arithmetic, step by step")
         .action(ArgAction::SetTrue);
     with_options(alloc, Command::new(alloc, "evaluate"))?
         .about("Reports how far an answer is from the optimum, job by job")
@@ -307,7 +307,7 @@ fn explain<'a>(alloc: Global) -> Arg<'a> {
     Arg::new(alloc, "explain")
         .long("explain")
         .value_name("WHEN")
-        .help("Explains what is wrong: auto (on a terminal), always, never")
+        .help("Explains faults: auto, always, never")
         .num_args(0..=1)
         .require_equals(true)
         .value_parser(EXPLAINED.as_slice())
