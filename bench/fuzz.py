@@ -30,13 +30,14 @@ LIMIT = 60
 
 STATUSES = {
     "solve": {0, 2, 3, 4, 5},
+    "bound": {0, 2, 3, 4, 5},
     "check": {0, 1, 2, 3, 4, 5},
     "evaluate": {0, 1, 2, 3, 4, 5, 6},
     "gantt": {0, 2, 3, 4, 5},
     "problems": {0, 2, 3, 4, 5},
 }
 OTHERWISE = {0, 5}  # help, the version, and what is no command
-EXPLAINS = ("solve", "check", "evaluate", "gantt")
+EXPLAINS = ("solve", "bound", "check", "evaluate", "gantt")
 
 NUMBERS = [b"0", b"1", b"-1", b"2", b"007", b"1000", b"1001", b"100000", b"100001", b"200001", b"2147483648", b"4294967295",
            b"4294967296", b"4000000000000000000", b"4000000000000000001", b"-4000000000000000000", b"9223372036854775807",
@@ -175,7 +176,8 @@ def runs_of(part):
             given = case.texts.get("-", b"")
             plain = run(program, case.words, folder, given)
             told = None
-            if case.words and case.words[0].decode("latin-1") in EXPLAINS and b"--explain" not in case.words:
+            is_told = any(word.startswith(b"--explain") for word in case.words)
+            if case.words and case.words[0].decode("latin-1") in EXPLAINS and not is_told:
                 told = run(program, [case.words[0], b"--explain", *case.words[1:]], folder, given)
             made += 1 + (told is not None)
             statuses[plain.status] += 1
