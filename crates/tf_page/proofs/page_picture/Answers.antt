@@ -1,0 +1,14 @@
+use Rattle.tf_command.specs.declared.options.Drawing.TheVariants.{Picture}
+use Rattle.tf_command.specs.Ending.{EndsDrawing}
+use Rattle.tf_reply.specs.Replies.{IsOver}
+use Rattle.tf_page.specs.Given.{Lent}
+use Rattle.tf_page.proofs.Handed.{handed}
+use Rattle.tf_page.proofs.page_picture.Goals as goal
+
+pub returns-in-Ok : goal.returns-in-Ok
+returns-in-Ok c =
+    let texts = c.args.texts.now in
+    handed
+    (IsOver (EndsDrawing Lent Picture) texts)
+    c.picture.result c.picture.ensures c.args.out.now c.give.new.out c.give.new.lengths c.give.result
+    c.give.ensures

@@ -1,0 +1,5 @@
+mod Narrows
+mod Over
+mod Replied
+mod Said
+mod Taken

@@ -1,0 +1,229 @@
+//! The commands, over texts in memory.
+ghost use Rattle.std.specs.Prelude.{◌≡◌, IfOk};
+ghost use Rattle.tf_command.specs.Asking.{requested};
+ghost use Rattle.tf_command.specs.Columns.{HasWidth};
+ghost use Rattle.tf_command.specs.Ending.{EndsSolving, EndsBounding, EndsChecking, EndsEvaluating, EndsDrawing};
+ghost use Rattle.tf_reply.specs.Asked.{request_in, instance_part, answer_part, layout_said, detail_said};
+ghost use Rattle.tf_reply.specs.Replies.{printed, said, Replies, IsOver, IsOverBoth};
+
+use crate::asking::{Asked, Asking};
+use crate::reply::{Console, Reply, misused};
+use crate::reserve::Reserve;
+use std::alloc::{AllocError, Allocator};
+use tf_advice::solved::solved_problems;
+use tf_assess::run_rate::run_rate;
+use tf_bounding::run_bound::run_bound;
+use tf_command::commands::{draw, table_in};
+use tf_command::options::{Drawing, Options};
+use tf_command::report::{end_check, end_evaluation, end_run, report, say_device};
+use tf_engine::run_check::run_check;
+use tf_engine::run_solve::run_solve;
+use tf_evaluate::evaluation::Detail;
+use tf_model::instance::Instance;
+use tf_text::answer::layout::Layout;
+use tf_text::counted::Counted;
+
+/// Solves an instance.
+pub fn solve<A: Allocator + Copy>(
+    alloc: A,
+    asking: &Asking,
+    texts: &[u8],
+) -> Result<Reply<A>, AllocError>
+    ensures { IfOk result (Replies (IsOver
+        (EndsSolving A (request_in asking.now texts.now (layout_said asking.now.version)))
+        (instance_part asking.now texts.now))) }
+{
+    match asking.read(texts) {
+        Ok(asked) => solved(alloc, &asked.options, asking.layout(), asked.instance),
+        Err(text) => misused(alloc, text),
+    }
+}
+
+#[tactic(auto, using(crate::proofs::Said::whole))]
+fn solved<A: Allocator + Copy>(
+    alloc: A,
+    options: &Options<'_>,
+    layout: Layout,
+    instance: &[u8],
+) -> Result<Reply<A>, AllocError>
+    ensures { IfOk result (λ r. IsOver (EndsSolving A (requested options.now layout))
+        instance.now (printed r) (said r) r.status) }
+{
+    let request = options.request(alloc, layout)?;
+    let mut instance = Counted::new(instance);
+    let mut console = Console::new(alloc);
+    let run = run_solve(alloc, &request, &mut instance, &mut console.output);
+    let status = end_run(&run, &mut console.errors);
+    console.ended(status)
+}
+
+/// Prints a lower bound.
+pub fn bound<A: Allocator + Copy>(
+    alloc: A,
+    asking: &Asking,
+    texts: &[u8],
+) -> Result<Reply<A>, AllocError>
+    ensures { IfOk result (Replies (IsOver
+        (EndsBounding A (request_in asking.now texts.now Layout.Two))
+        (instance_part asking.now texts.now))) }
+{
+    match (asking.read(texts), asking.price_steps()) {
+        (Ok(asked), Ok(steps)) => bounded(alloc, &asked.options, steps, asked.instance),
+        (Err(text), _) | (_, Err(text)) => misused(alloc, text),
+    }
+}
+
+#[tactic(auto, using(crate::proofs::Said::whole))]
+fn bounded<A: Allocator + Copy>(
+    alloc: A,
+    options: &Options<'_>,
+    steps: Option<u32>,
+    instance: &[u8],
+) -> Result<Reply<A>, AllocError>
+    ensures { IfOk result (λ r. IsOver (EndsBounding A (requested options.now Layout.Two))
+        instance.now (printed r) (said r) r.status) }
+{
+    let request = options.request(alloc, Layout::Two)?;
+    let mut instance = Counted::new(instance);
+    let mut console = Console::new(alloc);
+    let run = run_bound(alloc, &request, steps, &mut instance, &mut console.output);
+    let status = end_run(&run, &mut console.errors);
+    console.ended(status)
+}
+
+/// Judges an answer.
+pub fn check<A: Allocator + Copy>(
+    alloc: A,
+    asking: &Asking,
+    texts: &[u8],
+) -> Result<Reply<A>, AllocError>
+    ensures { IfOk result (Replies (IsOverBoth
+        (EndsChecking A (request_in asking.now texts.now Layout.Two))
+        (instance_part asking.now texts.now) (answer_part asking.now texts.now))) }
+{
+    match asking.read(texts) {
+        Ok(asked) => checked(alloc, &asked),
+        Err(text) => misused(alloc, text),
+    }
+}
+
+#[tactic(auto, using(crate::proofs::Said::whole))]
+fn checked<A: Allocator + Copy>(alloc: A, asked: &Asked<'_>) -> Result<Reply<A>, AllocError>
+    ensures { IfOk result (λ r. IsOverBoth
+        (EndsChecking A (requested asked.now.options Layout.Two))
+        asked.now.instance.now asked.now.answer.now (printed r) (said r) r.status) }
+{
+    let request = asked.options.request(alloc, Layout::Two)?;
+    let mut instance = Counted::new(asked.instance);
+    let mut answer = Counted::new(asked.answer);
+    let mut console = Console::new(alloc);
+    let output = &mut console.output;
+    let run = run_check(alloc, &request, &mut instance, &mut answer, output);
+    let status = end_check(&run, &mut console.errors);
+    console.ended(status)
+}
+
+/// Tells how good an answer is.
+pub fn evaluate<A: Allocator + Copy>(
+    alloc: A,
+    asking: &Asking,
+    texts: &[u8],
+) -> Result<Reply<A>, AllocError>
+    ensures { IfOk result (Replies (IsOverBoth
+        (EndsEvaluating A (detail_said asking.now.certificate)
+        (request_in asking.now texts.now Layout.Two))
+        (instance_part asking.now texts.now) (answer_part asking.now texts.now))) }
+{
+    match asking.read(texts) {
+        Ok(asked) => evaluated(alloc, asking.detail(), &asked),
+        Err(text) => misused(alloc, text),
+    }
+}
+
+fn evaluated<A: Allocator + Copy>(
+    alloc: A,
+    detail: Detail,
+    asked: &Asked<'_>,
+) -> Result<Reply<A>, AllocError>
+    ensures { IfOk result (λ r. IsOverBoth
+        (EndsEvaluating A detail (requested asked.now.options Layout.Two))
+        asked.now.instance.now asked.now.answer.now (printed r) (said r) r.status) }
+{
+    let request = asked.options.request(alloc, Layout::Two)?;
+    let mut instance = Counted::new(asked.instance);
+    let mut answer = Counted::new(asked.answer);
+    let mut console = Console::new(alloc);
+    let output = &mut console.output;
+    let run = run_rate(alloc, &request, detail, &mut instance, &mut answer, output);
+    let status = end_evaluation(&run, &mut console.errors);
+    console.ended(status)
+}
+
+/// Draws an answer as a chart.
+pub fn gantt<A: Allocator + Copy>(
+    alloc: A,
+    asking: &Asking,
+    answer: &[u8],
+) -> Result<Reply<A>, AllocError>
+    ensures { IfOk result (Replies (IsOver
+        (EndsDrawing A (Drawing.Chart asking.now.columns)) answer.now)) }
+{
+    match asking.chart_columns() {
+        Ok(columns) => drawn(alloc, Drawing::Chart { columns }, answer),
+        Err(text) => misused(alloc, text),
+    }
+}
+
+/// Draws an answer as a picture.
+pub fn picture<A: Allocator + Copy>(alloc: A, answer: &[u8]) -> Result<Reply<A>, AllocError>
+    ensures { IfOk result (Replies (IsOver (EndsDrawing A Drawing.Picture) answer.now)) }
+{
+    drawn(alloc, Drawing::Picture, answer)
+}
+
+#[tactic(auto, using(crate::proofs::Said::whole))]
+fn drawn<A: Allocator + Copy>(
+    alloc: A,
+    drawing: Drawing,
+    answer: &[u8],
+) -> Result<Reply<A>, AllocError>
+    requires { HasWidth drawing }
+    ensures { IfOk result (λ r. IsOver (EndsDrawing A drawing) answer.now (printed r) (said r) r.status) }
+{
+    let mut answer = Counted::new(answer);
+    let mut console = Console::new(alloc);
+    let run = draw(alloc, drawing, &mut answer, &mut console.output);
+    let status = end_run(&run, &mut console.errors);
+    console.ended(status)
+}
+
+/// Lists the problems that are solved; where there is a job table, those that it has the fields for.
+pub fn problems<A: Allocator + Copy>(alloc: A, table: &[u8]) -> Result<Reply<A>, AllocError> {
+    let mut console = Console::new(alloc);
+    if table.is_empty() {
+        return listed(
+            console,
+            &solved_problems(alloc, None::<&Instance<Reserve>>)?,
+        );
+    }
+    let mut table = Counted::new(table);
+    match table_in(alloc, &mut table) {
+        Ok(instance) => listed(console, &solved_problems(alloc, Some(&instance))?),
+        Err(fault) => {
+            let status = report(&fault, &mut console.errors);
+            console.ended(status)
+        }
+    }
+}
+
+// Prints a list of problems.
+fn listed<A: Allocator + Copy>(
+    mut console: Console<A>,
+    list: &String<A>,
+) -> Result<Reply<A>, AllocError> {
+    let status = match console.output.push_all(list.as_bytes()) {
+        Ok(()) => 0,
+        Err(_) => say_device(&mut console.errors),
+    };
+    console.ended(status)
+}
