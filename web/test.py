@@ -614,13 +614,15 @@ def large(page):
 
 
 def memory(page):
-    """The resident memory of the page's process, by the system."""
+    """The memory of the page's process, by the system: its own, and with what it shares with the browser's other processes."""
     processes = page.browser.call("SystemInfo.getProcessInfo")["processInfo"]
     sizes = []
     for pid in [each["id"] for each in processes if each["type"] == "renderer"]:
-        found = re.search(r"VmRSS:\s+(\d+) kB", Path(f"/proc/{pid}/status").read_text())
-        sizes.append(int(found.group(1)) // 1024)
-    return f"Memory of the page's process: {max(sizes)} MB."
+        status = Path(f"/proc/{pid}/status").read_text()
+        kinds = [re.search(rf"{kind}:\s+(\d+) kB", status) for kind in ("RssAnon", "VmRSS")]
+        sizes.append([int(found.group(1)) // 1024 for found in kinds])
+    own, whole = max(sizes)
+    return f"Memory of the page's process: {own} MB of its own, {whole} MB with what is shared."
 
 
 # ---- the module in the browser and the native program ----
