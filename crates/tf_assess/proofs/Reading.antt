@@ -3,21 +3,23 @@ use Rattle.std.proofs.Common.{◌≡◌, ℕ, true, false, List, Option, Some, R
 use Rattle.tf_model.specs.declared.problem.Problem.{Problem}
 use Rattle.tf_model.specs.declared.prepare.Refusal.{Refusal}
 use Rattle.tf_model.specs.declared.prepare.Refusal.TheVariants.{NoSolver}
-use Rattle.tf_model.specs.InstanceData.{InstanceData}
+use Rattle.tf_model.specs.ClassTable.{is_shop_env}
 use Rattle.tf_model.specs.Outcome.{◌>>=◌}
 use Rattle.tf_notation.specs.Reading.{notation}
-use Rattle.tf_read.specs.declared.fault.ReadFault.{ReadFault}
 use Rattle.tf_text.specs.declared.counted.Counted.{Counted}
 use Rattle.tf_text.specs.Counted.{inner_of, has_failed, use_of}
 use Rattle.tf_problem.specs.ProblemData.{ProblemData}
 use Rattle.tf_prepare.specs.Preparing.{is_bounded, prepared_in}
+use Rattle.tf_prepare.specs.TimedData.{TimedData}
 use Rattle.tf_engine.specs.declared.fault.RunFault.{RunFault}
-use Rattle.tf_engine.specs.Faults.{Refused, ByNotation, ByText, ByTask, Stop, Refuses, Fails, Wants, is_on_answer, is_on_instance, stop_of}
+use Rattle.tf_engine.specs.Faults.{Refused, ByNotation, ByTask, Stop, Refuses, Fails, Wants, is_on_answer, is_on_instance, stop_of}
 use Rattle.tf_engine.specs.Parts.{ReadsSheet, StopsReading, IsOfAnswer}
-use Rattle.tf_engine.specs.Refusal.{refused_by, instance_in}
+use Rattle.tf_engine.specs.Refusal.{refused_by}
 use Rattle.tf_engine.specs.RequestData.{RequestData}
 use Rattle.tf_engine.proofs.Devices.{instance_later}
 use Rattle.tf_engine.proofs.Unread.{text_for}
+use Rattle.tf_bounding.specs.ShopTimes.{timed_said}
+use Rattle.tf_bounding.proofs.ShopTimes.{timed_first}
 use Rattle.tf_bounding.specs.RunBounding.{problem_task_in, problem_task_for, IsRefusedBound, ReadsProblemTask}
 use Rattle.tf_assess.specs.declared.case_read.ProblemCase.{ProblemCase}
 use Rattle.tf_assess.specs.RunAssessing.{IsRefusedAssessment, HasProblemReaderFailed, ReadsProblemCase}
@@ -32,20 +34,23 @@ refusal_first request text refused h = by_notation (notation request.problem) h
     by_task (Ok task) e = cc
     by_task (Err refusal) e = let is : refused ≡ ByTask refusal = cc in rw is refl
 
-    by_instance : (problem : Problem) (r : Result InstanceData ReadFault)
-        → (refused_by ByText r
-        >>= λ instance. refused_by ByTask (prepared_in instance problem request.machines))
+    by_timed : (problem : Problem) (r : Result TimedData Refused)
+        → ((other : Refused) → r ≡ Err other → is_on_answer (Refuses other) ≡ false)
+        → (r >>= λ timed. refused_by ByTask (prepared_in timed problem request.machines))
         ≡ Err refused
         → is_on_answer (Refuses refused) ≡ false
-    by_instance problem (Ok instance) e = by_task (prepared_in instance problem request.machines) e
-    by_instance problem (Err fault) e = let is : refused ≡ ByText fault = cc in rw is refl
+    by_timed problem (Ok timed) first e = by_task (prepared_in timed problem request.machines) e
+    by_timed problem (Err other) first e =
+        let is : refused ≡ other = cc in rw is (first other refl)
 
     by_bounded : (problem : Problem) (b : Bool)
         → ((cond b (Ok problem) (Err (ByTask NoSolver))) >>= λ p. problem_task_in request p text)
         ≡ Err refused
         → is_on_answer (Refuses refused) ≡ false
     by_bounded problem false e = let is : refused ≡ ByTask NoSolver = cc in rw is refl
-    by_bounded problem true e = by_instance problem (instance_in request.form text) e
+    by_bounded problem true e =
+        by_timed problem (timed_said request.form (is_shop_env problem.env) text)
+        (timed_first request.form (is_shop_env problem.env) text) e
 
     by_notation : (r : Result Problem ℕ)
         → ((refused_by ByNotation r

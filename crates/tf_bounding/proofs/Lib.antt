@@ -1,3 +1,4 @@
 pub mod Reading
 pub mod Running
+pub mod ShopTimes
 pub mod Written

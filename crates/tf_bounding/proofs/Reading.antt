@@ -1,7 +1,7 @@
 -- Reading the task of a problem.
-use Rattle.std.proofs.Common.{◌≡◌, ℕ, ◌⊎◌, true, List, Option, Some, Result, Ok, Err, IsOk, refl, sym, ap, subst, ◌∙◌, inl, inr}
+use Rattle.std.proofs.Common.{◌≡◌, ℕ, ◌⊎◌, Bool, true, List, Option, Some, Result, Ok, Err, IsOk, refl, sym, ap, subst, ◌∙◌, inl, inr}
 use Rattle.tf_model.specs.Outcome.{◌>>=◌}
-use Rattle.tf_model.specs.InstanceData.{InstanceData}
+use Rattle.tf_model.specs.ClassTable.{is_shop_env}
 use Rattle.tf_model.specs.declared.problem.Problem.{Problem}
 use Rattle.tf_model.specs.declared.prepare.Refusal.{Refusal}
 use Rattle.tf_model.specs.declared.prepare.Refusal.TheVariants as refusals
@@ -12,13 +12,15 @@ use Rattle.tf_engine.specs.declared.fault.RunFault.{RunFault}
 use Rattle.tf_engine.specs.FormData.{FormData}
 use Rattle.tf_engine.specs.Faults.{Refused, ByTask, Stop, Refuses, Fails, Wants, stop_of}
 use Rattle.tf_engine.specs.Passed.{of_refusal}
-use Rattle.tf_engine.specs.Parts.{ReadsTo, StopsBy, StopsReading, instance_said}
+use Rattle.tf_engine.specs.Parts.{ReadsTo, StopsBy, StopsReading}
 use Rattle.tf_engine.specs.Refusal.{refused_by}
 use Rattle.tf_engine.specs.RequestData.{RequestData}
 use Rattle.tf_engine.proofs.CaseRead.{instance_left, instance_unread}
 use Rattle.tf_engine.proofs.Devices.{instance_later}
 use Rattle.tf_engine.proofs.Unread.{text_for}
 use Rattle.tf_prepare.specs.Preparing.{prepared_in, PreparesIn}
+use Rattle.tf_prepare.specs.TimedData.{TimedData}
+use Rattle.tf_bounding.specs.ShopTimes.{timed_said}
 use Rattle.tf_bounding.specs.RunBounding.{problem_in, problem_task_in, problem_task_for, IsRefusedBound, ReadsProblemTask}
 
 -- a refusal of what was wanted, or a total that is beyond the limit
@@ -66,66 +68,70 @@ module _ (A T : Type 0) (request : RequestData) (remaining : T → Option (List 
 
     module _ (new : Counted T) (problem : Problem)
         (line : problem_in request.problem ≡ Ok problem) where
+      -- what a text says of the instance
+      abbrev says : List ℕ → Result TimedData Refused
+      says = timed_said request.form (is_shop_env problem.env)
+
       -- what the text means, once the problem is known
       meant : (text : List ℕ) → problem_task_for request text ≡ problem_task_in request problem text
       meant text = ap (λ r. r >>= λ problem. problem_task_in request problem text) line
 
       -- no instance was read
       pub uninstanced : (e : RunFault A)
-          → ReadsTo (instance_said request.form) remaining old new (Err e)
+          → ReadsTo says remaining old new (Err e)
           → ReadsProblemTask request remaining old new (Err e)
       uninstanced e had = record {
         text = had.text;
         is_all = had.is_all;
         given = stopped (stop_of e) had.given;
-        reader = instance_left (problem_in request.problem) problem (instance_said request.form)
-            remaining old new (Err e) line had;
+        reader = instance_left (problem_in request.problem) problem says remaining old new
+            (Err e) line had;
       }
         where
           stopped : (s : Stop)
-              → StopsReading (λ refused. instance_said request.form had.text ≡ Err refused)
+              → StopsReading (λ refused. says had.text ≡ Err refused)
               (has_failed new ≡ true) s
               → StopsReading (IsRefusedBound request had.text) (has_failed new ≡ true) s
           stopped (Refuses refused) h =
               inl (meant had.text
-              ∙ ap (λ r. r >>= λ instance. refused_by ByTask
-              (prepared_in instance problem request.machines)) h)
+              ∙ ap (λ r. r >>= λ timed. refused_by ByTask
+              (prepared_in timed problem request.machines)) h)
           stopped Fails h = h
           stopped Wants h = h
 
-      module _ (instance : InstanceData)
-          (had : ReadsTo {A = A} (instance_said request.form) remaining old new (Ok instance)) where
+      module _ (timed : TimedData)
+          (had : ReadsTo {A = A} says remaining old new (Ok timed)) where
         -- what the text means, once the instance is known
         whole : problem_task_for request had.text
-            ≡ refused_by ByTask (prepared_in instance problem request.machines)
+            ≡ refused_by ByTask (prepared_in timed problem request.machines)
         whole =
             meant had.text
-            ∙ ap (λ r. r >>= λ instance. refused_by ByTask
-            (prepared_in instance problem request.machines)) had.given
+            ∙ ap (λ r. r >>= λ timed. refused_by ByTask
+            (prepared_in timed problem request.machines)) had.given
 
         -- the instance is no task
         pub untasked : (refusal : Refusal)
-            → PreparesIn (Err refusal) (prepared_in instance problem request.machines)
+            → PreparesIn (Err refusal) (prepared_in timed problem request.machines)
             → ReadsProblemTask {A = A} request remaining old new (Err (of_refusal refusal))
         untasked refusal h = record {
           text = had.text;
           is_all = had.is_all;
           given = stopped (stop_of (of_refusal {A = A} refusal))
-              (unprepared A (prepared_in instance problem request.machines) refusal h);
-          reader = instance_later (instance_left (problem_in request.problem) problem
-              (instance_said request.form) remaining old new (Ok instance) line had)
+              (unprepared A (prepared_in timed problem request.machines) refusal h);
+          reader = instance_later (instance_left (problem_in request.problem) problem says remaining
+              old new (Ok timed) line had)
               (Some (stop_of (of_refusal {A = A} refusal)));
         }
           where
             because : (refused : Refused)
-                → IsRefusal (refused_by ByTask (prepared_in instance problem request.machines)) refused
+                → IsRefusal (refused_by ByTask (prepared_in timed problem request.machines)) refused
                 → IsRefusedBound request had.text refused
             because refused (inl e) = inl (whole ∙ e)
             because refused (inr (same, (task, e))) = inr (same, (task, whole ∙ e))
 
             stopped : (s : Stop)
                 → StopsBy (IsRefusal (refused_by ByTask
-                (prepared_in instance problem request.machines))) s
+                (prepared_in timed problem request.machines))) s
                 → StopsReading (IsRefusedBound request had.text) (has_failed new ≡ true) s
             stopped (Refuses refused) h = because refused h
             stopped Fails h = absurd h
@@ -133,43 +139,46 @@ module _ (A T : Type 0) (request : RequestData) (remaining : T → Option (List 
 
         -- the task
         pub tasked : (k : ProblemData)
-            → prepared_in instance problem request.machines ≡ Ok k
+            → prepared_in timed problem request.machines ≡ Ok k
             → ReadsProblemTask {A = A} request remaining old new (Ok k)
         tasked k h = record {
           text = had.text;
           is_all = had.is_all;
           given = whole ∙ ap (refused_by ByTask) h;
-          reader = instance_left (problem_in request.problem) problem (instance_said request.form)
-              remaining old new (Ok instance) line had;
+          reader = instance_left (problem_in request.problem) problem says remaining old
+              new (Ok timed) line had;
         }
 
--- ---- the same of a form and a number of machines that are the request's
+-- ---- the same of a form, a kind of environment and a number of machines that are the request's
 
 module _ (A T : Type 0) (request : RequestData) (remaining : T → Option (List ℕ))
     (old new : Counted T) (problem : Problem) (line : problem_in request.problem ≡ Ok problem)
-    (form : FormData) (is : form ≡ request.form) where
+    (form : FormData) (is : form ≡ request.form) (shop : Bool)
+    (known : shop ≡ is_shop_env problem.env) where
+  same_reads : (r : Result TimedData (RunFault A))
+      → ReadsTo (timed_said form shop) remaining old new r
+      → ReadsTo (timed_said request.form (is_shop_env problem.env)) remaining old new r
+  same_reads r had =
+      subst (λ (b : Bool). ReadsTo (timed_said request.form b) remaining old new r) known
+      (subst (λ (f : FormData). ReadsTo (timed_said f shop) remaining old new r) is had)
+
   pub uninstanced_by : (e : RunFault A)
-      → ReadsTo (instance_said form) remaining old new (Err e)
+      → ReadsTo (timed_said form shop) remaining old new (Err e)
       → ReadsProblemTask request remaining old new (Err e)
   uninstanced_by e had =
-      uninstanced A T request remaining old new problem line e
-      (subst (λ (f : FormData). ReadsTo {A = A} (instance_said f) remaining old new (Err e)) is had)
+      uninstanced A T request remaining old new problem line e (same_reads (Err e) had)
 
-  module _ (machines : Option ℕ) (same : machines ≡ request.machines) (instance : InstanceData)
-      (had : ReadsTo {A = A} (instance_said form) remaining old new (Ok instance)) where
-    read : ReadsTo {A = A} (instance_said request.form) remaining old new (Ok instance)
-    read = subst (λ (f : FormData). ReadsTo {A = A} (instance_said f) remaining old new (Ok instance))
-        is had
-
+  module _ (machines : Option ℕ) (same : machines ≡ request.machines) (timed : TimedData)
+      (had : ReadsTo {A = A} (timed_said form shop) remaining old new (Ok timed)) where
     pub untasked_by : (refusal : Refusal)
-        → PreparesIn (Err refusal) (prepared_in instance problem machines)
+        → PreparesIn (Err refusal) (prepared_in timed problem machines)
         → ReadsProblemTask {A = A} request remaining old new (Err (of_refusal refusal))
     untasked_by refusal h =
-        untasked A T request remaining old new problem line instance read refusal
-        (subst (λ (m : Option ℕ). PreparesIn (Err refusal) (prepared_in instance problem m)) same h)
+        untasked A T request remaining old new problem line timed (same_reads (Ok timed) had) refusal
+        (subst (λ (m : Option ℕ). PreparesIn (Err refusal) (prepared_in timed problem m)) same h)
 
-    pub tasked_by : (k : ProblemData) → prepared_in instance problem machines ≡ Ok k
+    pub tasked_by : (k : ProblemData) → prepared_in timed problem machines ≡ Ok k
         → ReadsProblemTask {A = A} request remaining old new (Ok k)
     tasked_by k h =
-        tasked A T request remaining old new problem line instance read k
-        (subst (λ (m : Option ℕ). prepared_in instance problem m ≡ Ok k) same h)
+        tasked A T request remaining old new problem line timed (same_reads (Ok timed) had) k
+        (subst (λ (m : Option ℕ). prepared_in timed problem m ≡ Ok k) same h)

@@ -1,3 +1,4 @@
 -- what a caller has to believe
 pub mod BoundText
+pub mod ShopTimes
 pub mod RunBounding

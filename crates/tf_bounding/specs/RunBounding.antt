@@ -1,6 +1,7 @@
 -- What a run that bounds a problem leaves behind.
 use Rattle.std.specs.Prelude.{◌≡◌, ℕ, ◌⊎◌, true, List, length, Option, Result, Ok, Err, MatchResult, if◌then◌else◌}
 use Rattle.std.specs.Io.KnownBytes.{Appends}
+use Rattle.tf_model.specs.ClassTable.{is_shop_env}
 use Rattle.tf_model.specs.Outcome.{◌>>=◌}
 use Rattle.tf_model.specs.declared.problem.Problem.{Problem}
 use Rattle.tf_model.specs.declared.prepare.Refusal.TheVariants.{NoSolver, TotalTooLarge}
@@ -11,7 +12,7 @@ use Rattle.tf_text.specs.Input.{IsTextOf}
 use Rattle.tf_problem.specs.ProblemData.{ProblemData}
 use Rattle.tf_engine.specs.declared.fault.RunFault.{RunFault}
 use Rattle.tf_engine.specs.Faults.{Refused, ByNotation, ByTask, Stop, stop_of, end_of}
-use Rattle.tf_engine.specs.Parts.{instance_said, StopsBy, StopsReading}
+use Rattle.tf_engine.specs.Parts.{StopsBy, StopsReading}
 use Rattle.tf_engine.specs.Refusal.{refused_by}
 use Rattle.tf_engine.specs.RequestData.{RequestData}
 use Rattle.tf_engine.specs.Runs.{Leaves}
@@ -20,6 +21,7 @@ use Rattle.tf_search.specs.declared.strongest.Found.{Found}
 use Rattle.tf_search.specs.Strongest.{IsFound}
 use Rattle.tf_prepare.specs.Preparing.{is_bounded, prepared_in}
 use Rattle.tf_bounding.specs.BoundText.{bound_text}
+use Rattle.tf_bounding.specs.ShopTimes.{timed_said}
 
 -- the problem, of which some kind of certificate bounds the tasks
 abbrev pub problem_in : List ℕ → Result Problem Refused
@@ -30,8 +32,8 @@ problem_in text =
 -- the task of a problem and a text, or the first refusal but that of totals
 abbrev pub problem_task_in : RequestData → Problem → List ℕ → Result ProblemData Refused
 problem_task_in request problem text =
-    instance_said request.form text
-    >>= λ instance. refused_by ByTask (prepared_in instance problem request.machines)
+    timed_said request.form (is_shop_env problem.env) text
+    >>= λ timed. refused_by ByTask (prepared_in timed problem request.machines)
 
 -- the task of a request and a text: notation, problem, the text's first fault, and then the first
 -- reason why the instance is no task of the problem

@@ -5,6 +5,7 @@ ghost use Rattle.tf_engine.specs.Parts.{GivesProblem, ReadsTo, instance_said};
 ghost use Rattle.tf_prepare.specs.Preparing.{is_bounded};
 ghost use Rattle.tf_bounding.specs.RunBounding.{problem_in, ReadsProblemTask};
 
+use crate::timed_read::timed_read;
 use std::alloc::Allocator;
 use std::io::Read;
 use tf_bound::task::ProblemTask;
@@ -49,8 +50,8 @@ pub fn task_read<A: Allocator + Copy, B: Allocator, R: Read>(
     ensures { ReadsProblemTask request.now R.remaining reader.old reader.new result }
 {
     let problem = problem_in(request.problem.as_str())?;
-    let instance = instance_read(alloc, &request.form, reader)?;
-    let task = prepare_problem(alloc, &instance, &problem, request.machines)?;
+    let timed = timed_read(alloc, &request.form, problem.env.is_shop(), reader)?;
+    let task = prepare_problem(alloc, &timed, &problem, request.machines)?;
     Ok(task)
 }
 
@@ -65,8 +66,8 @@ fn problem_in<A: Allocator>(text: &str) -> Result<Problem, RunFault<A>>
     Ok(problem)
 }
 
-// The instance that the reader's text of this form holds.
-fn instance_read<A: Allocator + Copy, B: Allocator, R: Read>(
+/// The instance that the reader's text of this form holds.
+pub(crate) fn instance_read<A: Allocator + Copy, B: Allocator, R: Read>(
     alloc: A,
     form: &Form<B>,
     reader: &mut Counted<R>,

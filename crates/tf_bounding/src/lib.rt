@@ -3,4 +3,5 @@
 
 pub mod instance_read;
 pub mod run_bound;
+pub mod timed_read;
 pub mod writing;

@@ -1,2 +1,3 @@
 -- what a caller has to believe
+pub mod TimedData
 pub mod Preparing

@@ -1,14 +1,15 @@
 -- The task of any problem that an instance makes, or the first refusal. A field that the problem does
 -- not use is ignored.
-use Rattle.std.specs.Prelude.{◌≡◌, ◌⊎◌, ℕ, ◌+◌, Bool, true, false, not, ◌&&◌, ◌||◌, ◌==◌, nat_lt, ℤ, pos, List, [], ◌∷◌, map, Option, None, Some, Result, Ok, Err, is_none, unwrap_or, int_lt, if◌then◌else◌, IsOk}
+use Rattle.std.specs.Prelude.{◌≡◌, ◌⊎◌, ℕ, ◌+◌, Bool, true, false, not, ◌&&◌, ◌||◌, ◌==◌, nat_lt, pos, List, [], ◌∷◌, map, slice_index, Option, None, Some, Result, Ok, Err, is_none, is_some, unwrap_or, if◌then◌else◌, IsOk}
+use Rattle.std.specs.List.{list_all}
 use Rattle.std.specs.Option.{option_map, option_or}
 use Rattle.tf_model.specs.Limit.{most_machines}
 use Rattle.tf_model.specs.Outcome.{◌>>=◌, unless}
 use Rattle.tf_model.specs.Whole.{as_time}
 use Rattle.tf_model.specs.JobFields.{JobFields}
-use Rattle.tf_model.specs.InstanceData.{InstanceData, first_with}
+use Rattle.tf_model.specs.InstanceData.{first_with}
 use Rattle.tf_model.specs.ClassTable.{is_single_env, is_shop_env}
-use Rattle.tf_model.specs.Prepare.{agreed, given, has_two, first_time, second_time}
+use Rattle.tf_model.specs.Prepare.{agreed, given, has_two, first_time}
 use Rattle.tf_model.specs.declared.problem.Problem.{Problem}
 use Rattle.tf_model.specs.declared.problem.Goal.{Goal}
 use Rattle.tf_model.specs.declared.problem.Goal.TheVariants as goals
@@ -20,6 +21,7 @@ use Rattle.tf_model.specs.declared.prepare.Refusal.{Refusal}
 use Rattle.tf_model.specs.declared.prepare.Refusal.TheVariants.{MachineCount, WrongTimes, MissingField, ZeroTime, TotalTooLarge, OutOfMemory}
 use Rattle.tf_problem.specs.ProblemData.{ProblemData, ProblemJobData, is_covered, is_job_shop}
 use Rattle.tf_problem.specs.ProblemBounds.{is_max_goal, is_tardy_goal, is_sum_goal, is_alike, is_by_machine}
+use Rattle.tf_prepare.specs.TimedData.{TimedData}
 
 -- ---- the problem
 
@@ -49,18 +51,18 @@ uses_due _ = false
 
 -- ---- the number of machines
 
--- a shop has two machines, and machines in parallel are 1 to 1000
-abbrev pub count_in : Problem → ℕ → Result ℕ Refusal
-count_in p m =
+-- A shop has two machines, or as many as there are lists of times by machine. There are 1 to 1000.
+abbrev pub count_in : Problem → Bool → ℕ → Result ℕ Refusal
+count_in p is_listed m =
     if nat_lt m 1 || nat_lt most_machines m
-    || (is_shop_env p.env && not (m == 2)) then Err (MachineCount m) else Ok m
+    || (is_shop_env p.env && not is_listed && not (m == 2)) then Err (MachineCount m) else Ok m
 
 -- by the notation, by the caller and by the instance; a single machine ignores them
-abbrev pub machines_in : Problem → Option ℕ → Option ℕ → Result ℕ Refusal
-machines_in p argument instance =
+abbrev pub machines_in : Problem → Bool → Option ℕ → Option ℕ → Result ℕ Refusal
+machines_in p is_listed argument instance =
     if is_single_env p.env then Ok 1
     else (agreed p.count argument >>= λ m. agreed m instance >>= λ n. given n
-    >>= λ count. count_in p count)
+    >>= λ count. count_in p is_listed count)
 
 -- ---- the jobs
 
@@ -68,6 +70,11 @@ machines_in p argument instance =
 abbrev pub has_wrong_times_in : Problem → JobFields → Bool
 has_wrong_times_in p job =
     if is_shop_env p.env then not (has_two job.times) else has_two job.times
+
+-- the first such job, where the times are not listed by machine
+abbrev pub wrong_times_in : Problem → Bool → List JobFields → Option Refusal
+wrong_times_in p is_listed jobs =
+    if is_listed then None else option_map WrongTimes (first_with (has_wrong_times_in p) jobs)
 
 -- the first field that the problem uses and the job lacks
 abbrev pub lacking_in : Problem → JobFields → Option Field
@@ -83,48 +90,69 @@ missing_in p j [] = None
 missing_in p j (job ∷ jobs) =
     option_or (option_map (MissingField j) (lacking_in p job)) (missing_in p (j + 1) jobs)
 
-abbrev pub is_zero : ℤ → Bool
-is_zero time = int_lt time (pos 1)
-
--- a job has some time, and outside shops its time is at least 1
-abbrev pub has_no_time : JobFields → Bool
-has_no_time job = is_zero (first_time job.times) && is_zero (second_time job.times)
-
--- the first reason for the jobs' sake, each kind over all jobs before the next
-abbrev pub jobs_refusal_in : Problem → List JobFields → Option Refusal
-jobs_refusal_in p jobs =
-    option_or (option_map WrongTimes (first_with (has_wrong_times_in p) jobs))
-    (option_or (missing_in p 1 jobs) (option_map ZeroTime (first_with has_no_time jobs)))
-
--- ---- the task
-
+-- the processing times that a job has itself
 abbrev pub times_of : Times → List ℕ
 times_of (One a) = as_time a ∷ []
 times_of (Two a b) = as_time a ∷ as_time b ∷ []
 
--- what the problem uses of a job, and what is neutral for the rest
-abbrev pub job_in : Problem → JobFields → ProblemJobData
-job_in p job = record {
-  times = times_of job.times;
+-- its time, or the first of two
+abbrev pub first_of : JobFields → ℕ
+first_of job = as_time (first_time job.times)
+
+-- the processing times of the job at this place, counted from 0: its own, or on each machine the
+-- one at its place
+abbrev pub times_in : Option (List (List ℕ)) → ℕ → JobFields → List ℕ
+times_in None place job = times_of job.times
+times_in (Some machines) place job = map (λ times. slice_index times place) machines
+
+-- no time at all
+abbrev pub is_idle : List ℕ → Bool
+is_idle times = list_all (λ time. time == 0) times
+
+-- the first job without any time, of jobs of which the first has this place
+abbrev pub idle_in : Option (List (List ℕ)) → ℕ → List JobFields → Option Refusal
+idle_in by_machine place [] = None
+idle_in by_machine place (job ∷ jobs) =
+    if is_idle (times_in by_machine place job) then Some (ZeroTime (place + 1))
+    else idle_in by_machine (place + 1) jobs
+
+-- the first reason for the jobs' sake, each kind over all jobs before the next
+abbrev pub jobs_refusal_in : Problem → TimedData → Option Refusal
+jobs_refusal_in p t =
+    option_or (wrong_times_in p (is_some t.by_machine) t.instance.jobs)
+    (option_or (missing_in p 1 t.instance.jobs) (idle_in t.by_machine 0 t.instance.jobs))
+
+-- ---- the task
+
+-- what the problem uses of a job with these times, and what is neutral for the rest
+abbrev pub job_in : Problem → List ℕ → JobFields → ProblemJobData
+job_in p times job = record {
+  times = times;
   route = [];
   weight = if uses_weight p.goal then as_time (unwrap_or job.weight (pos 0)) else 1;
   release = if p.release then as_time (unwrap_or job.release (pos 0)) else 0;
   due = if uses_due p.goal then unwrap_or job.due (pos 0) else pos 0;
 }
 
-abbrev pub task_in : Problem → ℕ → InstanceData → ProblemData
-task_in p machines i = record {
+-- all jobs, of which the first has this place
+abbrev pub jobs_in : Problem → Option (List (List ℕ)) → ℕ → List JobFields → List ProblemJobData
+jobs_in p by_machine place [] = []
+jobs_in p by_machine place (job ∷ jobs) =
+    job_in p (times_in by_machine place job) job ∷ jobs_in p by_machine (place + 1) jobs
+
+abbrev pub task_in : Problem → ℕ → TimedData → ProblemData
+task_in p machines t = record {
   problem = p;
   machines = machines;
-  jobs = map (job_in p) i.jobs;
-  arcs = if p.prec then i.arcs else [];
+  jobs = jobs_in p t.by_machine 0 t.instance.jobs;
+  arcs = if p.prec then t.instance.arcs else [];
 }
 
 -- the task, or the first refusal but that of totals
-abbrev pub prepared_in : InstanceData → Problem → Option ℕ → Result ProblemData Refusal
-prepared_in i p argument = do
-  machines ← machines_in p argument i.machines
-  unless (jobs_refusal_in p i.jobs) (Ok (task_in p machines i))
+abbrev pub prepared_in : TimedData → Problem → Option ℕ → Result ProblemData Refusal
+prepared_in t p argument = do
+  machines ← machines_in p (is_some t.by_machine) argument t.instance.machines
+  unless (jobs_refusal_in p t) (Ok (task_in p machines t))
 
 -- memory is wanting, or a total is beyond the limit
 abbrev pub IsOfSize : Refusal → Type 0

@@ -1,35 +1,36 @@
 //! From an instance and any problem to a task, or to the first refusal.
-ghost use Rattle.std.specs.Prelude.{◌≡◌, ◌<◌, ◌≤◌, [], if◌then◌else◌, length, map, position, IfOk, IfErr};
+ghost use Rattle.std.specs.Prelude.{◌≡◌, ◌<◌, ◌≤◌, [], if◌then◌else◌, is_some, length, position, IfOk, IfErr};
 ghost use Rattle.std.specs.Option.{ForSome};
-ghost use Rattle.tf_model.specs.Whole.{as_time};
 ghost use Rattle.tf_model.specs.Prepare.{agreed};
-ghost use Rattle.tf_prepare.specs.Preparing.{uses_weight, uses_due, machines_in, has_wrong_times_in, lacking_in, missing_in, has_no_time, jobs_refusal_in, times_of, job_in, task_in, prepared_in, PreparesIn, IsOfSize};
+ghost use Rattle.tf_prepare.specs.Preparing.{uses_weight, uses_due, machines_in, has_wrong_times_in, wrong_times_in, lacking_in, missing_in, idle_in, jobs_refusal_in, job_in, jobs_in, task_in, prepared_in, PreparesIn, IsOfSize};
 
+use crate::timed::{TimedInstance, as_time};
 use std::alloc::{AllocError, Allocator};
 use tf_bound::task::{ProblemJob, ProblemTask};
 use tf_model::ids::JobId;
-use tf_model::instance::Instance;
 use tf_model::job::{Job, Times};
 use tf_model::limit::{MOST_JOBS, MOST_MACHINES};
 use tf_model::prepare::{Field, Refusal};
 use tf_model::problem::{Env, Goal, Problem};
 
 /// The task of an instance and a problem: the fields that the problem uses, with the number of
-/// machines that the notation, the argument or the instance gives. Otherwise the first refusal,
-/// each kind over all jobs before the next kind, with the smallest job; totals come last.
+/// machines that the notation, the argument or the instance gives. A shop has two machines, or as
+/// many as the instance has times for. Otherwise the first refusal, each kind over all jobs before
+/// the next kind, with the smallest job; totals come last.
 pub fn prepare_problem<A: Allocator + Copy, B: Allocator>(
     alloc: A,
-    instance: &Instance<B>,
+    timed: &TimedInstance<B>,
     problem: &Problem,
     machines: Option<u32>,
 ) -> Result<ProblemTask<A>, Refusal>
-    ensures { PreparesIn result (prepared_in instance.now problem.now machines) }
+    ensures { PreparesIn result (prepared_in timed.now problem.now machines) }
 {
-    let machines = machines_in(problem, machines, instance.machines())?;
-    if let Some(refusal) = jobs_refusal(problem, instance.jobs()) {
+    let given = timed.instance().machines();
+    let machines = machines_in(problem, timed.is_by_machine(), machines, given)?;
+    if let Some(refusal) = jobs_refusal(problem, timed) {
         return Err(refusal);
     }
-    assemble(alloc, problem, machines, instance)
+    assemble(alloc, problem, machines, timed)
 }
 
 // Whether the objective uses weights.
@@ -64,10 +65,11 @@ fn agreed(one: Option<u32>, other: Option<u32>) -> Result<Option<u32>, Refusal>
 // The number of machines: a single machine ignores all that is given.
 fn machines_in(
     problem: &Problem,
+    is_by_machine: bool,
     argument: Option<u32>,
     instance: Option<u32>,
 ) -> Result<u32, Refusal>
-    ensures { result ≡ machines_in problem.now argument instance }
+    ensures { result ≡ machines_in problem.now is_by_machine argument instance }
 {
     if matches!(problem.env, Env::Single) {
         return Ok(1);
@@ -76,7 +78,8 @@ fn machines_in(
     let Some(m) = agreed(count, instance)? else {
         return Err(Refusal::MachinesMissing);
     };
-    if m == 0 || m > MOST_MACHINES || (problem.env.is_shop() && m != 2) {
+    let wants_two = problem.env.is_shop() && !is_by_machine;
+    if m == 0 || m > MOST_MACHINES || (wants_two && m != 2) {
         return Err(Refusal::MachineCount(m));
     }
     Ok(m)
@@ -97,6 +100,24 @@ fn wrong_times_at<A: Allocator>(problem: &Problem, jobs: &[Job<A>]) -> Option<us
     ensures within { ForSome result (λ k. k < length jobs.now) }
 {
     jobs.iter().position(|job| has_wrong_times(problem, job))
+}
+
+// The first job with wrong times of its own, where these are the times.
+fn first_wrong<A: Allocator>(
+    problem: &Problem,
+    is_by_machine: bool,
+    jobs: &[Job<A>],
+) -> Option<Refusal>
+    requires { length jobs.now ≤ MOST_JOBS }
+    ensures { result ≡ wrong_times_in problem.now is_by_machine jobs.now }
+{
+    if is_by_machine {
+        return None;
+    }
+    match wrong_times_at(problem, jobs) {
+        Some(place) => Some(Refusal::WrongTimes(JobId::at(place))),
+        None => None,
+    }
 }
 
 // The first field that the problem uses and the job lacks.
@@ -127,65 +148,41 @@ fn first_missing<A: Allocator>(problem: &Problem, jobs: &[Job<A>]) -> Option<Ref
     None
 }
 
-fn has_no_time<A: Allocator>(job: &Job<A>) -> bool
-    ensures { result ≡ has_no_time job.now }
+fn first_idle<A: Allocator>(timed: &TimedInstance<A>, jobs: &[Job<A>]) -> Option<Refusal>
+    requires { length jobs.now ≤ MOST_JOBS }
+    ensures { result ≡ idle_in timed.now.by_machine 0 jobs.now }
 {
-    match job.times {
-        Times::One(time) => time < 1,
-        Times::Two(first, second) => first < 1 && second < 1,
+    for (k, job) in jobs.iter().enumerate() {
+        if timed.is_idle(k, job) {
+            return Some(Refusal::ZeroTime(JobId::at(k)));
+        }
     }
-}
-
-fn no_time_at<A: Allocator>(jobs: &[Job<A>]) -> Option<usize>
-    ensures value { result ≡ position has_no_time jobs.now }
-    ensures within { ForSome result (λ k. k < length jobs.now) }
-{
-    jobs.iter().position(|job| has_no_time(job))
+    None
 }
 
 // The first refusal for the jobs' sake.
-fn jobs_refusal<A: Allocator>(problem: &Problem, jobs: &[Job<A>]) -> Option<Refusal>
-    requires { length jobs.now ≤ MOST_JOBS }
-    ensures { result ≡ jobs_refusal_in problem.now jobs.now }
+fn jobs_refusal<A: Allocator>(problem: &Problem, timed: &TimedInstance<A>) -> Option<Refusal>
+    ensures { result ≡ jobs_refusal_in problem.now timed.now }
 {
-    if let Some(place) = wrong_times_at(problem, jobs) {
-        return Some(Refusal::WrongTimes(JobId::at(place)));
+    let jobs = timed.instance().jobs();
+    if let Some(refusal) = first_wrong(problem, timed.is_by_machine(), jobs) {
+        return Some(refusal);
     }
     if let Some(refusal) = first_missing(problem, jobs) {
         return Some(refusal);
     }
-    match no_time_at(jobs) {
-        Some(place) => Some(Refusal::ZeroTime(JobId::at(place))),
-        None => None,
-    }
+    first_idle(timed, jobs)
 }
 
-// A number that is not negative.
-fn as_time(number: i64) -> u64
-    ensures { result ≡ as_time number }
-{
-    number.max(0) as u64
-}
-
-fn times_of<A: Allocator>(alloc: A, times: Times) -> Result<Vec<u64, A>, AllocError>
-    ensures { IfOk result (λ all. all.items ≡ times_of times) }
-{
-    match times {
-        Times::One(time) => Vec::from_slice(alloc, &[as_time(time)]),
-        Times::Two(first, second) => Vec::from_slice(alloc, &[as_time(first), as_time(second)]),
-    }
-}
-
-// What the problem uses of a job, and what is neutral for the rest.
+// What the problem uses of a job with these times, and what is neutral for the rest.
 fn job_in<A: Allocator, B: Allocator>(
-    alloc: A,
     problem: &Problem,
+    times: Vec<u64, A>,
     job: &Job<B>,
-) -> Result<ProblemJob<A>, AllocError>
-    ensures { IfOk result (λ x. x ≡ job_in problem.now job.now) }
+) -> ProblemJob<A>
+    ensures { result ≡ job_in problem.now times.items job.now }
 {
-    let times = times_of(alloc, job.times)?;
-    Ok(ProblemJob {
+    ProblemJob {
         times,
         weight: if uses_weight(problem.goal) {
             as_time(job.weight.unwrap_or(0))
@@ -202,19 +199,22 @@ fn job_in<A: Allocator, B: Allocator>(
         } else {
             0
         },
-    })
+    }
 }
 
 fn jobs_in<A: Allocator + Copy, B: Allocator>(
     alloc: A,
     problem: &Problem,
+    timed: &TimedInstance<B>,
     jobs: &[Job<B>],
 ) -> Result<Vec<ProblemJob<A>, A>, AllocError>
-    ensures { IfOk result (λ rows. rows.items ≡ map (job_in problem.now) jobs.now) }
+    ensures { IfOk result (λ rows. rows.items
+        ≡ jobs_in problem.now timed.now.by_machine 0 jobs.now) }
 {
     let mut rows = Vec::with_capacity(alloc, jobs.len())?;
-    for job in jobs {
-        rows.push(job_in(alloc, problem, job)?)?;
+    for (k, job) in jobs.iter().enumerate() {
+        let times = timed.times(alloc, k, job)?;
+        rows.push(job_in(problem, times, job))?;
     }
     Ok(rows)
 }
@@ -239,12 +239,13 @@ fn assemble<A: Allocator + Copy, B: Allocator>(
     alloc: A,
     problem: &Problem,
     machines: u32,
-    instance: &Instance<B>,
+    timed: &TimedInstance<B>,
 ) -> Result<ProblemTask<A>, Refusal>
-    ensures ok { IfOk result (λ task. task ≡ task_in problem.now machines instance.now) }
+    ensures ok { IfOk result (λ task. task ≡ task_in problem.now machines timed.now) }
     ensures err { IfErr result IsOfSize }
 {
-    let jobs = jobs_in(alloc, problem, instance.jobs())?;
+    let instance = timed.instance();
+    let jobs = jobs_in(alloc, problem, timed, instance.jobs())?;
     let arcs = arcs_in(alloc, problem, instance.arcs())?;
     match ProblemTask::new(*problem, machines, jobs, arcs) {
         Ok(task) => Ok(task),

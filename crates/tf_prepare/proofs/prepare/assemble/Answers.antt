@@ -1,33 +1,37 @@
-use Rattle.std.proofs.Common.{◌≡◌, ℕ, [], cond, map, List, ap, ◌∙◌}
+use Rattle.std.proofs.Common.{◌≡◌, ℕ, [], cond, List, ap, ◌∙◌}
 use Rattle.tf_model.specs.JobFields.{JobFields}
 use Rattle.tf_model.specs.InstanceData.{InstanceData}
 use Rattle.tf_model.specs.declared.problem.Problem.{Problem}
 use Rattle.tf_problem.specs.ProblemData.{ProblemData, ProblemJobData}
-use Rattle.tf_prepare.specs.Preparing.{job_in, task_in}
+use Rattle.tf_prepare.specs.TimedData.{TimedData}
+use Rattle.tf_prepare.specs.Preparing.{jobs_in, task_in}
 use Rattle.tf_prepare.proofs.prepare.assemble.Goals as goal
 
 -- the parts make the task
-assembled : (p : Problem) (m : ℕ) (i : InstanceData) (jobs : List JobFields) (pairs : List (ℕ × ℕ))
-    (rows : List ProblemJobData) (arcs : List (ℕ × ℕ)) (task : ProblemData)
+assembled : (p : Problem) (m : ℕ) (t : TimedData) (i : InstanceData) (jobs : List JobFields)
+    (pairs : List (ℕ × ℕ)) (rows : List ProblemJobData) (arcs : List (ℕ × ℕ)) (task : ProblemData)
     → task ≡ record { problem = p; machines = m; jobs = rows; arcs = arcs }
-    → rows ≡ map (job_in p) jobs → jobs ≡ i.jobs → arcs ≡ cond p.prec pairs [] → pairs ≡ i.arcs
-    → task ≡ task_in p m i
-assembled p m i jobs pairs rows arcs task is made read kept read_arcs =
-    let rows_are : rows ≡ map (job_in p) i.jobs = made ∙ ap (map (job_in p)) read in
-    let arcs_are : arcs ≡ cond p.prec i.arcs [] =
-    kept ∙ ap (λ (xs : List (ℕ × ℕ)). cond p.prec xs []) read_arcs in
+    → i ≡ t.instance → rows ≡ jobs_in p t.by_machine 0 jobs → jobs ≡ i.jobs
+    → arcs ≡ cond p.prec pairs [] → pairs ≡ i.arcs
+    → task ≡ task_in p m t
+assembled p m t i jobs pairs rows arcs task is has made read kept read_arcs =
+    let rows_are : rows ≡ jobs_in p t.by_machine 0 t.instance.jobs =
+    made ∙ ap (jobs_in p t.by_machine 0) (read ∙ ap (λ (x : InstanceData). x.jobs) has) in
+    let arcs_are : arcs ≡ cond p.prec t.instance.arcs [] =
+    kept ∙ ap (λ (xs : List (ℕ × ℕ)). cond p.prec xs [])
+    (read_arcs ∙ ap (λ (x : InstanceData). x.arcs) has) in
     is
     ∙ ap (λ (xs : List ProblemJobData). record { problem = p; machines = m; jobs = xs; arcs = arcs })
     rows_are
     ∙ ap (λ (xs : List (ℕ × ℕ)). record {
       problem = p;
       machines = m;
-      jobs = map (job_in p) i.jobs;
+      jobs = jobs_in p t.by_machine 0 t.instance.jobs;
       arcs = xs;
     }) arcs_are
 
 pub returns-in-Ok-clause-ok : goal.returns-in-Ok-clause-ok
 returns-in-Ok-clause-ok g c =
-    assembled c.args.problem.now c.args.machines c.args.instance.now c.jobs.result.now
-    c.arcs.result.now _ _ c.in-Ok.task c.in-Ok.ensures c.in_ok-jobs.ensures c.jobs.ensures.value
-    c.in_ok-arcs.ensures c.arcs.ensures.value
+    assembled c.args.problem.now c.args.machines c.args.timed.now c.instance-instance.result.now
+    c.jobs.result.now c.arcs.result.now _ _ c.in-Ok.task c.in-Ok.ensures c.instance-instance.ensures
+    c.in_ok-jobs.ensures c.jobs.ensures.value c.in_ok-arcs.ensures c.arcs.ensures.value

@@ -1,23 +1,45 @@
-use Rattle.std.proofs.Common.{◌≡◌, ℕ, ◌+◌, ◌<◌, map, take, List, [], ◌∷◌, ◌++◌, length, get_or, sym, ap, ◌∙◌}
-use Rattle.std.proofs.lemmas.List.{map_more}
+use Rattle.std.proofs.Common.{◌≡◌, ℕ, suc, ◌+◌, ◌≤◌, ◌<◌, drop, List, [], ◌∷◌, ◌++◌, length, get_or, Option, sym, ap, ◌∙◌, arith, append_assoc}
+use Rattle.std.proofs.Math.Seq.{drop-cons}
+use Rattle.std.proofs.lemmas.List.{append-nil, drop_all}
 use Rattle.tf_model.specs.declared.problem.Problem.{Problem}
 use Rattle.tf_model.specs.JobFields.{JobFields}
 use Rattle.tf_problem.specs.ProblemData.{ProblemJobData}
-use Rattle.tf_prepare.specs.Preparing.{job_in}
+use Rattle.tf_prepare.specs.Preparing.{times_in, job_in, jobs_in}
 use Rattle.tf_prepare.proofs.prepare.jobs_in.Goals as goal
 
--- the jobs with one more
-more : (p : Problem) (jobs : List JobFields) (i : ℕ) (job : JobFields) (rows : List ProblemJobData)
-    (row : ProblemJobData) → i < length jobs → job ≡ get_or jobs i job
-    → rows ≡ map (job_in p) (take i jobs) → row ≡ job_in p job
-    → rows ++ row ∷ [] ≡ map (job_in p) (take (i + 1) jobs)
-more p jobs i job rows row h is before e =
-    ap (λ xs. xs ++ row ∷ []) before
-    ∙ ap (λ x. map (job_in p) (take i jobs) ++ x ∷ []) (e ∙ ap (job_in p) is)
-    ∙ sym (map_more (job_in p) jobs i job h)
+module _ (p : Problem) (by : Option (List (List ℕ))) (jobs : List JobFields) where
+  -- with one row more what is left begins a job later
+  more : (k : ℕ) (job : JobFields) (times : List ℕ) (row : ProblemJobData)
+      (rows after : List ProblemJobData) → k < length jobs → job ≡ get_or jobs k job
+      → times ≡ times_in by k job → row ≡ job_in p times job → after ≡ rows ++ row ∷ []
+      → after ++ jobs_in p by (k + 1) (drop (k + 1) jobs)
+      ≡ rows ++ jobs_in p by k (drop k jobs)
+  more k job times row rows after h is timed made pushed =
+      let next : suc k ≡ k + 1 = omega arith in
+      let rest : List ProblemJobData = jobs_in p by (k + 1) (drop (k + 1) jobs) in
+      let same : row ≡ job_in p (times_in by k (get_or jobs k job)) (get_or jobs k job) =
+      made ∙ ap (λ ts. job_in p ts job) timed
+      ∙ ap (λ x. job_in p (times_in by k x) x) is in
+      ap (λ xs. xs ++ rest) pushed ∙ append_assoc rows (row ∷ []) rest
+      ∙ ap (λ x. rows ++ x ∷ rest) same
+      ∙ sym (ap (λ xs. rows ++ jobs_in p by k xs) (drop-cons jobs k job h
+      ∙ ap (λ n. get_or jobs k job ∷ drop n jobs) next))
 
-pub loop-job-preserved : goal.loop-job-preserved
-loop-job-preserved g c =
-    c.in_ok-push.ensures.items
-    ∙ more c.args.problem.now c.args.jobs.now c.loop-job.job-index c.job-item.result _ _
-    c.loop-job-test.true c.job-item.is c.loop-job.invariant c.in_ok-job_in.ensures
+  -- at the end nothing is left
+  whole : (k : ℕ) (rows : List ProblemJobData) → length jobs ≤ k
+      → rows ++ jobs_in p by k (drop k jobs) ≡ jobs_in p by 0 jobs
+      → rows ≡ jobs_in p by 0 jobs
+  whole k rows h e =
+      sym (ap (λ xs. rows ++ jobs_in p by k xs) (drop_all k jobs h) ∙ append-nil rows) ∙ e
+
+pub loop-k-preserved : goal.loop-k-preserved
+loop-k-preserved g c =
+    more c.args.problem.now c.args.timed.now.by_machine c.args.jobs.now c.loop-k.k
+    c.index-jobs-k.result _ _ _ _ c.loop-k-test.true c.index-jobs-k.is c.in_ok-times.ensures
+    c.job_in.ensures c.in_ok-push.ensures.items
+    ∙ c.loop-k.invariant
+
+pub returns : goal.returns
+returns g c =
+    whole c.args.problem.now c.args.timed.now.by_machine c.args.jobs.now c.loop-k.k _
+    c.loop-k-test.false c.loop-k.invariant

@@ -1,0 +1,75 @@
+-- The processing times of a shop on all machines of a flow shop file.
+use Rattle.std.specs.Prelude.{ℕ, zero, suc, ◌*◌, Bool, ◌||◌, ◌==◌, nat_lt, List, [], ◌∷◌, ◌++◌, length, map, Option, None, Some, Result, Ok, Err, unwrap_or, if◌then◌else◌}
+use Rattle.tf_model.specs.InstanceData.{InstanceData}
+use Rattle.tf_model.specs.Outcome.{◌>>=◌}
+use Rattle.tf_model.specs.declared.prepare.Refusal.TheVariants.{TotalTooLarge}
+use Rattle.tf_read.specs.declared.fault.ReadFault.{ReadFault}
+use Rattle.tf_read.specs.FlowShop.{flow_shop}
+use Rattle.tf_engine.specs.Faults.{Refused, ByText, ByTask}
+use Rattle.tf_engine.specs.FormData.{FormData, InTable, InWt, InFlow}
+use Rattle.tf_engine.specs.Parts.{instance_said}
+use Rattle.tf_engine.specs.Refusal.{refused_by}
+use Rattle.tf_prepare.specs.TimedData.{TimedData, self_timed}
+use Rattle.tf_prepare.specs.Preparing.{first_of}
+
+-- the most processing times: jobs times machines
+abbrev pub most_times : ℕ
+most_times = 2000000
+
+-- the most bytes of a file times its machines
+abbrev pub most_read : ℕ
+most_read = 2000000000
+
+-- Machine i of so many, counted from 0, and another one: of the two times that a job then has in a
+-- flow shop text, the first is that on machine i. Where there is one machine alone, a job has one
+-- time.
+abbrev pub pair_for : ℕ → ℕ → Option (ℕ × ℕ)
+pair_for machines i = if machines == 1 then None else Some (i, if i == 0 then 1 else 0)
+
+-- the times of all jobs on machine i of so many, in the instance of this name
+abbrev pub column_in : List ℕ → ℕ → List ℕ → ℕ → Result (List ℕ) ReadFault
+column_in name machines text i =
+    flow_shop name (pair_for machines i) text >>= λ instance. Ok (map first_of instance.jobs)
+
+-- the same on each of the first n machines
+abbrev pub columns_in : List ℕ → ℕ → List ℕ → ℕ → Result (List (List ℕ)) ReadFault
+columns_in name machines text zero = Ok []
+columns_in name machines text (suc n) = do
+  columns ← columns_in name machines text n
+  column ← column_in name machines text n
+  Ok (columns ++ column ∷ [])
+
+-- the number of machines of an instance of a flow shop file, which gives it
+abbrev pub machines_of : InstanceData → ℕ
+machines_of instance = unwrap_or instance.machines 0
+
+-- there are too many times, or the text has too many bytes for so many machines
+abbrev pub is_too_much : InstanceData → ℕ → Bool
+is_too_much instance bytes =
+    nat_lt most_times (length instance.jobs * machines_of instance)
+    || nat_lt most_read (bytes * machines_of instance)
+
+-- an instance of a text, with the times on all its machines, where that is not too much
+abbrev pub with_columns : List ℕ → List ℕ → InstanceData → Result TimedData Refused
+with_columns name text instance =
+    if is_too_much instance (length text) then Err (ByTask TotalTooLarge)
+    else (refused_by ByText (columns_in name (machines_of instance) text (machines_of instance))
+    >>= λ columns. Ok (record { instance = instance; by_machine = Some columns }))
+
+-- the instance of this name, with the times on all machines
+abbrev pub shop_said : List ℕ → List ℕ → Result TimedData Refused
+shop_said name text =
+    instance_said (InFlow name None) text >>= λ instance. with_columns name text instance
+
+-- the instance that a text of this form holds, with the times that its jobs have themselves
+abbrev pub self_timed_said : FormData → List ℕ → Result TimedData Refused
+self_timed_said form text = instance_said form text >>= λ instance. Ok (self_timed instance)
+
+-- For a shop the times on all machines of a flow shop file, where no pair of them is named.
+-- Otherwise those of the jobs themselves.
+abbrev pub timed_said : FormData → Bool → List ℕ → Result TimedData Refused
+timed_said InTable is_shop text = self_timed_said InTable text
+timed_said (InWt jobs index) is_shop text = self_timed_said (InWt jobs index) text
+timed_said (InFlow name (Some pair)) is_shop text = self_timed_said (InFlow name (Some pair)) text
+timed_said (InFlow name None) is_shop text =
+    if is_shop then shop_said name text else self_timed_said (InFlow name None) text
