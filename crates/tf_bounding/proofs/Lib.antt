@@ -1,3 +1,4 @@
+pub mod PairsSaid
 pub mod Reading
 pub mod Running
 pub mod ShopTimes

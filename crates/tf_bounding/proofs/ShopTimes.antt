@@ -1,5 +1,6 @@
 -- Reading the processing times of a shop on all machines of a flow shop file.
-use Rattle.std.proofs.Common.{◌≡◌, ℕ, zero, suc, ◌+◌, ◌-◌, ◌≤◌, ◌<◌, Bool, true, false, cond, List, [], ◌∷◌, ◌++◌, length, map, Option, None, Some, Result, Ok, Err, MatchResult, ap, subst, ◌∙◌, refl, sym, inr, arith}
+use Rattle.std.proofs.Common.{◌≡◌, ◌≢◌, ℕ, ◌+◌, ◌≤◌, ◌<◌, Bool, true, false, cond, eqb, ltb, List, length, map, Option, None, Some, Result, Ok, Err, IsOk, MatchResult, ap, ◌∙◌, refl, sym, inr, arith}
+use Rattle.std.proofs.lemmas.Bool.{lt-ltb, eqb-true, eqb-false}
 use Rattle.std.specs.Io.KnownBytes.{IsAtEnd}
 use Rattle.tf_model.specs.InstanceData.{InstanceData}
 use Rattle.tf_model.specs.JobFields.{JobFields}
@@ -9,7 +10,7 @@ use Rattle.tf_model.specs.declared.prepare.Refusal.TheVariants.{TotalTooLarge}
 use Rattle.tf_read.specs.declared.fault.ReadFault.{ReadFault}
 use Rattle.tf_read.specs.declared.fault.ReadFault.TheVariants.{OutOfMemory}
 use Rattle.tf_read.specs.Faults.{Fails}
-use Rattle.tf_read.specs.FlowShop.{flow_shop}
+use Rattle.tf_read.specs.FlowShop.{are_machines, flow_shop}
 use Rattle.tf_text.specs.declared.counted.Counted.{Counted}
 use Rattle.tf_text.specs.Counted.{inner_of, pulled_of, has_failed, ConsumesAtMost}
 use Rattle.tf_text.specs.Input.{IsTextOf}
@@ -21,91 +22,67 @@ use Rattle.tf_engine.specs.Parts.{ReadsTo, StopsBy, StopsReading}
 use Rattle.tf_engine.specs.Refusal.{refused_by, instance_in}
 use Rattle.tf_prepare.specs.TimedData.{TimedData, self_timed}
 use Rattle.tf_prepare.specs.Preparing.{first_of}
-use Rattle.tf_bounding.specs.ShopTimes.{machines_of, is_too_much, pair_for, column_in, columns_in, with_columns, shop_said, timed_said}
+use Rattle.tf_bounding.specs.ShopTimes.{machines_of, is_too_much, pair_for, first_times, times_on, times_by_machine, with_times, shop_said, timed_said}
+use Rattle.tf_bounding.proofs.PairsSaid.{pair_said}
 
--- a fault stops what follows
-pub fails_on : {X Y : Type 0} (e : ReadFault) (r : Result X ReadFault) (f : X → Result Y ReadFault)
-    → Fails e r → Fails e (r >>= f)
-fails_on OutOfMemory r f h = tt
-fails_on e r f h = ap (λ x. x >>= f) h
+-- ---- on one machine
 
--- ---- one machine
+-- only want of memory keeps what a text says from being read
+pub only_memory : {X : Type 0} (e : ReadFault) (r : Result X ReadFault) → IsOk r → Fails e r
+    → e ≡ OutOfMemory
+only_memory OutOfMemory r ok h = refl
+only_memory e (Ok x) ok h = cc
+only_memory e (Err f) ok h = cc
 
-module _ (name : List ℕ) (machines : ℕ) (text : List ℕ) (i : ℕ) (pair : Option (ℕ × ℕ))
-    (is : pair ≡ pair_for machines i) where
-  -- a fault of the text is one of the times
-  pub column_unread : (e : ReadFault) → Fails e (flow_shop name pair text)
-      → Fails e (column_in name machines text i)
-  column_unread e h =
-      fails_on e (flow_shop name (pair_for machines i) text)
-      (λ instance. Ok (map first_of instance.jobs))
-      (subst (λ (p : Option (ℕ × ℕ)). Fails e (flow_shop name p text)) is h)
+pub read_on : (name : List ℕ) (machines : ℕ) (text : List ℕ) (i : ℕ) (pair : Option (ℕ × ℕ))
+    (instance : InstanceData) (jobs : List JobFields) (times : List ℕ)
+    → pair ≡ pair_for machines i → flow_shop name pair text ≡ Ok instance → jobs ≡ instance.jobs
+    → times ≡ map first_of jobs → times ≡ times_on name machines text i
+read_on name machines text i pair instance jobs times is h same first =
+    first ∙ ap (map first_of) same ∙ ap first_times (sym h)
+    ∙ ap (λ p. first_times (flow_shop name p text)) is
 
-  pub column_read : (instance : InstanceData) (jobs : List JobFields) (times : List ℕ)
-      → flow_shop name pair text ≡ Ok instance → jobs ≡ instance.jobs → times ≡ map first_of jobs
-      → column_in name machines text i ≡ Ok times
-  column_read instance jobs times h same first =
-      ap (λ p. flow_shop name p text >>= λ instance. Ok (map first_of instance.jobs)) (sym is)
-      ∙ ap (λ r. r >>= λ instance. Ok (map first_of instance.jobs)) h
-      ∙ ap (λ xs. Ok (map first_of xs)) (sym same)
-      ∙ ap (λ column. Ok column) (sym first)
+-- ---- on each machine
 
--- ---- machine by machine
+module _ (name text : List ℕ) (instance : InstanceData) (h : flow_shop name None text ≡ Ok instance)
+  where
+    other_there : (machines i : ℕ) (first : Bool) → i < machines → eqb machines 1 ≡ false
+        → eqb i 0 ≡ first
+        → are_machines machines (Some (i, cond first 1 0)) ≡ true
+    other_there machines i true less many e =
+        let zero_is : i ≡ 0 = eqb-true i 0 e in
+        let not_one : machines ≢ 1 = eqb-false machines 1 many in
+        let more : 1 < machines = omega arith in
+        let some : ltb i machines ≡ true = lt-ltb i machines less in
+        let two : ltb 1 machines ≡ true = lt-ltb 1 machines more in
+        rw (two, some) rw zero_is refl
+    other_there machines i false less many e =
+        let not_zero : i ≢ 0 = eqb-false i 0 e in
+        let more : 0 < machines = omega arith in
+        let some : ltb i machines ≡ true = lt-ltb i machines less in
+        let one : ltb 0 machines ≡ true = lt-ltb 0 machines more in
+        rw (e, some, one) refl
 
-module _ (name : List ℕ) (machines : ℕ) (text : List ℕ) where
-  abbrev columns_to : ℕ → Result (List (List ℕ)) ReadFault
-  columns_to n = columns_in name machines text n
+    said_by : (machines i : ℕ) (one : Bool) → machines_of instance ≡ machines → i < machines
+        → eqb machines 1 ≡ one
+        → IsOk (flow_shop name (cond one None (Some (i, cond (eqb i 0) 1 0))) text)
+    said_by machines i true is less e = rw h refl
+    said_by machines i false is less e =
+        pair_said name text instance (i, cond (eqb i 0) 1 0) h
+        (ap (λ m. are_machines m (Some (i, cond (eqb i 0) 1 0))) is
+        ∙ other_there machines i (eqb i 0) less e refl)
 
-  abbrev column_at : ℕ → Result (List ℕ) ReadFault
-  column_at n = column_in name machines text n
-
-  abbrev with_column : List (List ℕ) → ℕ → Result (List (List ℕ)) ReadFault
-  with_column columns n = column_at n >>= λ column. Ok (columns ++ column ∷ [])
-
-  -- the times on one machine more
-  pub columns_more : (n : ℕ) (before after : List (List ℕ)) (column : List ℕ)
-      → columns_to n ≡ Ok before → column_at n ≡ Ok column → after ≡ before ++ column ∷ []
-      → columns_to (n + 1) ≡ Ok after
-  columns_more n before after column h e pushed =
-      let next : n + 1 ≡ suc n = omega arith in
-      ap columns_to next
-      ∙ ap (λ r. r >>= λ columns. with_column columns n) h
-      ∙ ap (λ r. r >>= λ column. Ok (before ++ column ∷ [])) e
-      ∙ ap (λ columns. Ok columns) (sym pushed)
-
-  -- a fault among those on one machine is one of all
-  fails_at : (n : ℕ) (before : List (List ℕ)) (e : ReadFault) → columns_to n ≡ Ok before
-      → Fails e (column_at n) → Fails e (columns_to (suc n))
-  fails_at n before OutOfMemory h f = tt
-  fails_at n before e h f =
-      ap (λ r. r >>= λ columns. with_column columns n) h
-      ∙ ap (λ r. r >>= λ column. Ok (before ++ column ∷ [])) f
-
-  fails_later : (e : ReadFault) (n d m : ℕ) → n + d ≡ m → Fails e (columns_to n)
-      → Fails e (columns_to m)
-  fails_later e n zero m is h =
-      let same : n ≡ m = omega (arith, is) in
-      subst (λ (k : ℕ). Fails e (columns_to k)) same h
-  fails_later e n (suc d) m is h =
-      let same : suc (n + d) ≡ m = omega (arith, is) in
-      subst (λ (k : ℕ). Fails e (columns_to k)) same
-      (fails_on e (columns_to (n + d)) (λ columns. with_column columns (n + d))
-      (fails_later e n d (n + d) refl h))
-
-  pub fails_in : (n m : ℕ) (before : List (List ℕ)) (e : ReadFault) → n < m
-      → columns_to n ≡ Ok before → Fails e (column_at n) → Fails e (columns_to m)
-  fails_in n m before e less h f =
-      let all : suc n + (m - suc n) ≡ m = omega (arith, less) in
-      fails_later e (suc n) (m - suc n) m all (fails_at n before e h f)
+    pub said_on : (machines : ℕ) → machines ≡ machines_of instance → (i : ℕ) → i < machines
+        → IsOk (flow_shop name (pair_for machines i) text)
+    said_on machines is i less = said_by machines i (eqb machines 1) (sym is) less refl
 
 -- ---- the instance of a text
 
--- the times on all machines
-abbrev columns_of : List ℕ → List ℕ → InstanceData → Result (List (List ℕ)) ReadFault
-columns_of name text instance = columns_in name (machines_of instance) text (machines_of instance)
-
-abbrev timed_by : InstanceData → List (List ℕ) → TimedData
-timed_by instance times = record { instance = instance; by_machine = Some times }
+abbrev timed_by : List ℕ → List ℕ → InstanceData → TimedData
+timed_by name text instance = record {
+  instance = instance;
+  by_machine = Some (times_by_machine name (machines_of instance) text);
+}
 
 module _ (A : Type 0) (name text : List ℕ) where
   -- what a reading of the times gives
@@ -120,35 +97,36 @@ module _ (A : Type 0) (name text : List ℕ) where
 
   pub shop_unread : (e : ReadFault) → Fails e (flow_shop name None text) → StopsShop (of_read e)
   shop_unread OutOfMemory h = tt
-  shop_unread e h = ap (λ r. refused_by ByText r >>= λ i. with_columns name text i) h
+  shop_unread e h = ap (λ r. refused_by ByText r >>= λ i. with_times name text i) h
 
   module _ (instance : InstanceData) (h : flow_shop name None text ≡ Ok instance) where
-    meant : shop_said name text ≡ with_columns name text instance
-    meant = ap (λ r. refused_by ByText r >>= λ i. with_columns name text i) h
+    meant : shop_said name text ≡ with_times name text instance
+    meant = ap (λ r. refused_by ByText r >>= λ i. with_times name text i) h
 
     abbrev after_test : Bool → Result TimedData Refused
-    after_test many =
-        cond many (Err (ByTask TotalTooLarge))
-        (refused_by ByText (columns_of name text instance)
-        >>= λ times. Ok (timed_by instance times))
+    after_test many = cond many (Err (ByTask TotalTooLarge)) (Ok (timed_by name text instance))
 
     pub shop_too_large : is_too_much instance (length text) ≡ true
         → shop_said name text ≡ Err (ByTask TotalTooLarge)
     shop_too_large many = meant ∙ ap after_test many
 
-    pub shop_faulty : is_too_much instance (length text) ≡ false → (e : ReadFault)
-        → Fails e (columns_of name text instance) → StopsShop (of_read e)
-    shop_faulty few OutOfMemory f = tt
-    shop_faulty few e f =
+    pub shop_timed : is_too_much instance (length text) ≡ false → (machines : ℕ)
+        → machines ≡ machines_of instance → (times : List (List ℕ))
+        → times ≡ times_by_machine name machines text
+        → shop_said name text ≡ Ok (record { instance = instance; by_machine = Some times })
+    shop_timed few machines is times are =
         meant ∙ ap after_test few
-        ∙ ap (λ r. refused_by ByText r >>= λ times. Ok (timed_by instance times)) f
+        ∙ ap (λ (m : ℕ). Ok (record {
+          instance = instance;
+          by_machine = Some (times_by_machine name m text);
+        })) (sym is)
+        ∙ ap (λ (ts : List (List ℕ)). Ok (record { instance = instance; by_machine = Some ts }))
+        (sym are)
 
-    pub shop_timed : is_too_much instance (length text) ≡ false → (times : List (List ℕ))
-        → columns_of name text instance ≡ Ok times
-        → shop_said name text ≡ Ok (timed_by instance times)
-    shop_timed few times f =
-        meant ∙ ap after_test few
-        ∙ ap (λ r. refused_by ByText r >>= λ times. Ok (timed_by instance times)) f
+-- want of memory stops the reading
+pub shop_wanting : (A : Type 0) (name text : List ℕ) (e : ReadFault) → e ≡ OutOfMemory
+    → IsShopRead A name text (Err (of_read e))
+shop_wanting A name text e is = rw is tt
 
 -- ---- a text that was read
 
@@ -223,22 +201,14 @@ abbrev IsFirst : Refused → Type 0
 IsFirst refused = is_on_answer (Refuses refused) ≡ false
 
 module _ (name text : List ℕ) (refused : Refused) where
-  by_columns : (instance : InstanceData) (r : Result (List (List ℕ)) ReadFault)
-      → (refused_by ByText r >>= λ times. Ok (timed_by instance times)) ≡ Err refused
-      → IsFirst refused
-  by_columns instance (Ok times) e = cc
-  by_columns instance (Err fault) e = let is : refused ≡ ByText fault = cc in rw is refl
-
   by_size : (instance : InstanceData) (many : Bool)
-      → cond many (Err (ByTask TotalTooLarge))
-      (refused_by ByText (columns_of name text instance) >>= λ times. Ok (timed_by instance times))
-      ≡ Err refused
+      → cond many (Err (ByTask TotalTooLarge)) (Ok (timed_by name text instance)) ≡ Err refused
       → IsFirst refused
   by_size instance true e = let is : refused ≡ ByTask TotalTooLarge = cc in rw is refl
-  by_size instance false e = by_columns instance (columns_of name text instance) e
+  by_size instance false e = cc
 
   by_shop : (r : Result InstanceData ReadFault)
-      → (refused_by ByText r >>= λ i. with_columns name text i) ≡ Err refused → IsFirst refused
+      → (refused_by ByText r >>= λ i. with_times name text i) ≡ Err refused → IsFirst refused
   by_shop (Ok instance) e = by_size instance (is_too_much instance (length text)) e
   by_shop (Err fault) e = let is : refused ≡ ByText fault = cc in rw is refl
 

@@ -1,14 +1,14 @@
 -- The processing times of a shop on all machines of a flow shop file.
-use Rattle.std.specs.Prelude.{ℕ, zero, suc, ◌*◌, Bool, ◌||◌, ◌==◌, nat_lt, List, [], ◌∷◌, ◌++◌, length, map, Option, None, Some, Result, Ok, Err, unwrap_or, if◌then◌else◌}
+use Rattle.std.specs.Prelude.{ℕ, ◌*◌, Bool, ◌||◌, ◌==◌, nat_lt, List, [], length, map, Option, None, Some, Result, Ok, Err, unwrap_or, if◌then◌else◌}
+use Rattle.std.specs.List.{range_with_len}
 use Rattle.tf_model.specs.InstanceData.{InstanceData}
 use Rattle.tf_model.specs.Outcome.{◌>>=◌}
 use Rattle.tf_model.specs.declared.prepare.Refusal.TheVariants.{TotalTooLarge}
 use Rattle.tf_read.specs.declared.fault.ReadFault.{ReadFault}
 use Rattle.tf_read.specs.FlowShop.{flow_shop}
-use Rattle.tf_engine.specs.Faults.{Refused, ByText, ByTask}
+use Rattle.tf_engine.specs.Faults.{Refused, ByTask}
 use Rattle.tf_engine.specs.FormData.{FormData, InTable, InWt, InFlow}
 use Rattle.tf_engine.specs.Parts.{instance_said}
-use Rattle.tf_engine.specs.Refusal.{refused_by}
 use Rattle.tf_prepare.specs.TimedData.{TimedData, self_timed}
 use Rattle.tf_prepare.specs.Preparing.{first_of}
 
@@ -26,18 +26,19 @@ most_read = 2000000000
 abbrev pub pair_for : ℕ → ℕ → Option (ℕ × ℕ)
 pair_for machines i = if machines == 1 then None else Some (i, if i == 0 then 1 else 0)
 
--- the times of all jobs on machine i of so many, in the instance of this name
-abbrev pub column_in : List ℕ → ℕ → List ℕ → ℕ → Result (List ℕ) ReadFault
-column_in name machines text i =
-    flow_shop name (pair_for machines i) text >>= λ instance. Ok (map first_of instance.jobs)
+-- a text that says an instance says one for each pair of its machines too
+abbrev pub first_times : Result InstanceData ReadFault → List ℕ
+first_times (Ok instance) = map first_of instance.jobs
+first_times (Err fault) = []
 
--- the same on each of the first n machines
-abbrev pub columns_in : List ℕ → ℕ → List ℕ → ℕ → Result (List (List ℕ)) ReadFault
-columns_in name machines text zero = Ok []
-columns_in name machines text (suc n) = do
-  columns ← columns_in name machines text n
-  column ← column_in name machines text n
-  Ok (columns ++ column ∷ [])
+-- the times of all jobs on machine i of so many, in the instance of this name
+abbrev pub times_on : List ℕ → ℕ → List ℕ → ℕ → List ℕ
+times_on name machines text i = first_times (flow_shop name (pair_for machines i) text)
+
+-- the same on each machine
+abbrev pub times_by_machine : List ℕ → ℕ → List ℕ → List (List ℕ)
+times_by_machine name machines text =
+    map (times_on name machines text) (range_with_len 0 machines)
 
 -- the number of machines of an instance of a flow shop file, which gives it
 abbrev pub machines_of : InstanceData → ℕ
@@ -50,16 +51,18 @@ is_too_much instance bytes =
     || nat_lt most_read (bytes * machines_of instance)
 
 -- an instance of a text, with the times on all its machines, where that is not too much
-abbrev pub with_columns : List ℕ → List ℕ → InstanceData → Result TimedData Refused
-with_columns name text instance =
+abbrev pub with_times : List ℕ → List ℕ → InstanceData → Result TimedData Refused
+with_times name text instance =
     if is_too_much instance (length text) then Err (ByTask TotalTooLarge)
-    else (refused_by ByText (columns_in name (machines_of instance) text (machines_of instance))
-    >>= λ columns. Ok (record { instance = instance; by_machine = Some columns }))
+    else Ok (record {
+      instance = instance;
+      by_machine = Some (times_by_machine name (machines_of instance) text);
+    })
 
 -- the instance of this name, with the times on all machines
 abbrev pub shop_said : List ℕ → List ℕ → Result TimedData Refused
 shop_said name text =
-    instance_said (InFlow name None) text >>= λ instance. with_columns name text instance
+    instance_said (InFlow name None) text >>= λ instance. with_times name text instance
 
 -- the instance that a text of this form holds, with the times that its jobs have themselves
 abbrev pub self_timed_said : FormData → List ℕ → Result TimedData Refused

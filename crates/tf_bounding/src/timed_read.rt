@@ -1,11 +1,11 @@
 //! From a reader of an instance to the times of its jobs, in a shop on all machines of its file.
-ghost use Rattle.std.specs.Prelude.{◌≡◌, ◌≤◌, length, Ok, Err, MatchResult};
+ghost use Rattle.std.specs.Prelude.{◌≡◌, ℕ, ◌<◌, ◌≤◌, length, Ok, Err, IsOk, MatchResult};
 ghost use Rattle.tf_model.specs.Limit.{most_bytes, most_machines};
-ghost use Rattle.tf_read.specs.Faults.{Gives};
+ghost use Rattle.tf_read.specs.FlowShop.{flow_shop};
 ghost use Rattle.tf_engine.specs.Faults.{stop_of};
 ghost use Rattle.tf_engine.specs.FormData.{form_of};
 ghost use Rattle.tf_engine.specs.Parts.{ReadsTo, StopsBy, instance_said};
-ghost use Rattle.tf_bounding.specs.ShopTimes.{machines_of, is_too_much, pair_for, column_in, columns_in, shop_said, self_timed_said, timed_said};
+ghost use Rattle.tf_bounding.specs.ShopTimes.{machines_of, is_too_much, pair_for, times_on, times_by_machine, shop_said, self_timed_said, timed_said};
 
 use crate::instance_read::instance_read;
 use std::alloc::Allocator;
@@ -91,8 +91,8 @@ fn shop_in<A: Allocator + Copy>(
     if is_too_much(&instance, text.len()) {
         return Err(RunFault::Task(Refusal::TotalTooLarge));
     }
-    let columns = columns_in(alloc, name, machines_of(&instance), text)?;
-    Ok(TimedInstance::by_machine(instance, columns))
+    let times = times_by_machine(alloc, name, machines_of(&instance), text)?;
+    Ok(TimedInstance::by_machine(instance, times))
 }
 
 // The number of machines of an instance of a flow shop file, which gives it.
@@ -122,33 +122,38 @@ fn pair_for(machines: u32, i: u32) -> Option<(u32, u32)>
     Some((i, if i == 0 { 1 } else { 0 }))
 }
 
-// The times of all jobs on machine i of so many.
-fn column_in<A: Allocator + Copy>(
+// The times of all jobs on machine i of so many. Only want of memory is an error.
+fn times_on<A: Allocator + Copy>(
     alloc: A,
     name: &[u8],
     machines: u32,
     text: &[u8],
     i: u32,
 ) -> Result<MachineTimes<A>, ReadFault>
-    ensures { Gives (λ times. times) result (column_in name.now machines text.now i) }
+    requires { IsOk (flow_shop name.now (pair_for machines i) text.now) }
+    ensures { MatchResult result (λ times. times ≡ times_on name.now machines text.now i)
+        (λ e. e ≡ ReadFault.OutOfMemory) }
 {
     let instance = read_flowshop(alloc, text, name, pair_for(machines, i))?;
     Ok(MachineTimes::first_of(alloc, instance.jobs())?)
 }
 
 // The times of all jobs on each machine of so many.
-fn columns_in<A: Allocator + Copy>(
+fn times_by_machine<A: Allocator + Copy>(
     alloc: A,
     name: &[u8],
     machines: u32,
     text: &[u8],
 ) -> Result<Vec<MachineTimes<A>, A>, ReadFault>
-    ensures { Gives (λ columns. columns.items) result
-        (columns_in name.now machines text.now machines) }
+    requires { (i : ℕ) → i < machines →
+        IsOk (flow_shop name.now (pair_for machines i) text.now) }
+    ensures { MatchResult result
+        (λ all. all.items ≡ times_by_machine name.now machines text.now)
+        (λ e. e ≡ ReadFault.OutOfMemory) }
 {
-    let mut columns = Vec::new(alloc);
+    let mut all = Vec::new(alloc);
     for i in 0..machines {
-        columns.push(column_in(alloc, name, machines, text, i)?)?;
+        all.push(times_on(alloc, name, machines, text, i)?)?;
     }
-    Ok(columns)
+    Ok(all)
 }
