@@ -5,9 +5,11 @@
 
 The instances are made here, from fixed seeds. Weighted tardiness: 125 instances of 40 jobs by the published recipe of
 OR-Library's files (processing times 1 to 100, weights 1 to 10, due dates from P(1 - TF - RDD/2) to P(1 - TF + RDD/2)). One machine
-with release dates: 20 instances of 30 jobs. Three machines: 40 instances each of 10, 15, 20 and 50 jobs, times 20 to 100. The
-heuristics are short and plain: a priority rule, then the best of all insertions and exchanges until none helps, from several
-starts. A gap is the heuristic's cost less the bound, in percent of the cost; where both are equal the schedule is proved optimal.
+with release dates: 20 instances of 30 jobs. Three machines: 40 instances each of 10, 15, 20 and 50 jobs, times 20 to 100. Flow
+shops: Taillard's ten instances of 20 jobs on five machines, made by his published generator from his seeds, beside the lower
+bounds that he published (1993), and ten of 500 jobs on 20 machines. The heuristics are short and plain: a priority rule, then the
+best of all insertions and exchanges until none helps, from several starts. A gap is the heuristic's cost less the bound, in percent
+of the cost; where both are equal the schedule is proved optimal.
 """
 import os
 import random
@@ -18,6 +20,10 @@ import tempfile
 import time
 
 RANGES = (0.2, 0.4, 0.6, 0.8, 1.0)
+
+# of Taillard's flow shops of 20 jobs on five machines: the seed, and the lower bound
+TAILLARD = ((873654221, 1232), (379008056, 1290), (1866992158, 1073), (216771124, 1268), (495070989, 1198),
+            (402959317, 1180), (1369363414, 1226), (2021925980, 1170), (573109518, 1206), (88325120, 1082))
 
 
 class Measured:
@@ -151,6 +157,44 @@ def best_makespan(times, machines, draw):
     return max(map(sum, loads))
 
 
+def taillard(seed, jobs, machines):
+    """The times of a flow shop by the published generator, a row for each machine."""
+    rows = []
+    for _ in range(machines):
+        row = []
+        for _ in range(jobs):
+            seed = 16807 * seed % (2**31 - 1)
+            row.append(1 + seed * 99 // (2**31 - 1))
+        rows.append(row)
+    return rows
+
+
+def flow_file(rows):
+    """A flow shop file of one instance, `shop`."""
+    lines = [" ".join(f"{machine} {time}" for machine, time in enumerate(times)) for times in zip(*rows)]
+    return "\n".join(["instance shop", f"{len(lines)} {len(rows)}", *lines, ""])
+
+
+def span_of(rows):
+    """The makespan of an order of the jobs on all machines."""
+    def cost(order):
+        ends = [0] * len(rows)
+        for j in order:
+            at = 0
+            for machine, row in enumerate(rows):
+                at = ends[machine] = max(at, ends[machine]) + row[j]
+        return ends[-1]
+    return cost
+
+
+def inserted_order(rows):
+    """The rule of Nawaz, Enscore and Ham: the longest job first, each where it is best."""
+    cost, order = span_of(rows), []
+    for j in sorted(range(len(rows[0])), key=lambda j: -sum(row[j] for row in rows)):
+        order = min((order[:i] + [j] + order[i:] for i in range(len(order) + 1)), key=cost)
+    return order
+
+
 def gap(cost, bound):
     return 100 * (cost - bound) / cost if cost > 0 else 0.0
 
@@ -204,10 +248,33 @@ def parallel(program, draw):
     return run.memory
 
 
+def flow_shops(program):
+    words = [program, "bound", "-p", "F||Cmax", "-f", "flow", "--name", "shop"]
+    gaps, seconds, above = [], [], 0
+    for seed, published in TAILLARD:
+        rows = taillard(seed, 20, 5)
+        run = Measured(words, flow_file(rows))
+        if run.value < published:
+            raise SystemExit(f"seed {seed}: {run.value} is less than the published bound {published}")
+        above += run.value > published
+        gaps.append(gap(descent(inserted_order(rows), span_of(rows))[1], run.value))
+        seconds.append(run.seconds)
+    row(f"`F5\\|\\|Cmax`, 20 jobs, {above} bounds above the published ones, none below", gaps, seconds)
+    gaps, seconds = [], []
+    for seed, _ in TAILLARD:
+        rows = taillard(seed, 500, 20)
+        run = Measured(words, flow_file(rows))
+        order = sorted(range(500), key=lambda j: -sum(row[j] for row in rows))
+        gaps.append(gap(span_of(rows)(order), run.value))
+        seconds.append(run.seconds)
+    row("`F20\\|\\|Cmax`, 500 jobs, against the longest jobs first", gaps, seconds)
+    return run.memory
+
+
 def main(program, steps=None):
     draw = random.Random(20261126)
     print("| Instances | Number | Mean gap, percent | Greatest gap | Proved optimal | Seconds each |\n|---|---|---|---|---|---|")
-    memory = max(released(program, draw), parallel(program, draw), weighted_tardiness(program, steps, draw))
+    memory = max(released(program, draw), parallel(program, draw), flow_shops(program), weighted_tardiness(program, steps, draw))
     print(f"\nAt most {memory:.0f} MB.")
 
 
