@@ -62,6 +62,10 @@ fn say_no_machines(page: &mut Page, problem: &str) -> Result<(), AllocError> {
     )
 }
 
+/// What is known of a shop of one machine without a solver.
+const ONE_MACHINE: &str =
+    "On one machine the makespan is the same in every order without idle time.";
+
 // Another number of machines than the two of a shop.
 fn say_count(page: &mut Page, machines: u32) -> Result<(), AllocError> {
     writeln!(
@@ -71,7 +75,7 @@ fn say_count(page: &mut Page, machines: u32) -> Result<(), AllocError> {
     if machines > 2 {
         page.say("Take two machines of a flow shop file with --pair, as in --pair 0,2.")
     } else {
-        page.say("On one machine the makespan is the same in every order without idle time.")
+        page.say(ONE_MACHINE)
     }
 }
 
@@ -110,15 +114,31 @@ fn say_machines(
     let title = source.title(alloc)?;
     let title = title.as_str();
     let instance = instance_in(alloc, &request.form, source);
-    if let Some(m) = instance.and_then(|instance| instance.machines()) {
+    let in_file = instance.and_then(|instance| instance.machines());
+    if let Some(m) = in_file {
         writeln!(page.text, "    {m} in {title}")?;
     }
-    match request.form {
-        Form::Flow { .. } => {
-            page.say("Take two machines of the file with --pair, as in --pair 0,2.")
-        }
+    match (&request.form, in_file) {
+        (Form::Flow { .. }, Some(m)) => say_flow_machines(page, request, m),
         _ => page.say("Leave out all but one."),
     }
+}
+
+// What to do about a flow shop file of this number of machines.
+fn say_flow_machines(page: &mut Page, request: &Request, machines: u32) -> Result<(), AllocError> {
+    if machines == 2 || !is_shop(request) {
+        page.say("A flow shop file always gives this number: leave it out in the other places.")
+    } else if machines > 2 {
+        page.say("Take two machines of the file with --pair, as in --pair 0,2.")
+    } else {
+        page.say("The file has one machine, and shops are solved on two.")?;
+        page.say(ONE_MACHINE)
+    }
+}
+
+// Whether the problem is one of a shop.
+fn is_shop(request: &Request) -> bool {
+    read(request.problem.as_str().as_bytes()).is_ok_and(|problem| problem.env.is_shop())
 }
 
 fn say_times(
@@ -128,12 +148,9 @@ fn say_times(
     job: JobId,
 ) -> Result<(), AllocError> {
     quote_job(page, request, source, job)?;
-    let is_shop = read(request.problem.as_str().as_bytes()).is_ok_and(|problem| problem
-        .env
-        .is_shop());
     let problem = escape(page.alloc, request.problem.as_str())?;
     let problem = problem.as_str();
-    if is_shop {
+    if is_shop(request) {
         writeln!(
             page.text,
             "{problem} is a shop: a job has two times, as in p=3,4."
