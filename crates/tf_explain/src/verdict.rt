@@ -16,6 +16,7 @@ use tf_model::prepare::prepare;
 use tf_model::task::Task;
 use tf_notation::reading::read;
 use tf_notation::writing::notation_text;
+use tf_read::table_task::table_task;
 use tf_schedule::fit::Misfit;
 use tf_text::answer::reading::read_answer;
 use tf_text::answer::sheet::Sheet;
@@ -30,10 +31,16 @@ pub(crate) struct Case<'a> {
 }
 
 impl Case<'_> {
-    // The task that was asked for.
+    // The task that was asked for. Of a table no instance is made where there is no need.
     fn task(&self) -> Option<Task> {
         let request = self.request;
         let problem = read(request.problem.as_str().as_bytes()).ok()?;
+        let text = self.instance.text;
+        if matches!(request.form, Form::Table)
+            && let Some(task) = table_task(self.alloc, &problem, request.machines, text)
+        {
+            return Some(task);
+        }
         let instance = instance_in(self.alloc, &request.form, &self.instance)?;
         prepare(self.alloc, &instance, &problem, request.machines).ok()
     }
