@@ -4,16 +4,38 @@
     python3 bench/same_status.py PROGRAM
 
 Each case is one in which an explanation could change how a command ends: it reads more, keeps more, or opens more.
+
+Some runs wait for the second half of their input while signals come. A read is interrupted only where a signal has a
+handler, and the program has none: a library that is loaded before it, built with cc, sets one.
+
+Others have little address space, from the least with which the command ends as it should without --explain. What is kept to
+be explained takes up to three times the text more. With less than that a run with --explain may end with status 3, nothing
+printed; it never ends otherwise, and with as much or more it ends as the run without does.
 """
 import os
 import resource
+import shutil
+import signal
 import subprocess
 import sys
 import tempfile
+import time
 
 TABLE = b"table 1\njob 1 p=3 d=4\njob 2 p=2 d=3\n"
 BAD = b"table 1\njob 1 p=3.5 d=4\n"
 LATENESS = ["-p", "1||Lmax"]
+PAGE = 4096
+MOST_SPACE = 1 << 28
+COMMENTS = b"# a comment of 32 bytes in a line\n" * 125_000
+HANDLER = b"""
+#include <signal.h>
+static void ignore(int number) { (void)number; }
+__attribute__((constructor)) static void set_handler(void) {
+    struct sigaction action = {0};
+    action.sa_handler = ignore;
+    sigaction(SIGUSR1, &action, 0);
+}
+"""
 
 
 def limited(kind, most):
@@ -26,8 +48,35 @@ def run(words, before=None, stdin=subprocess.DEVNULL):
     return done.returncode, done.stdout
 
 
+def run_disturbed(words, text, signals, library):
+    """Sends signals to a command that has half of its standard input and waits for the other half."""
+    environment = {**os.environ, "LD_PRELOAD": library} if library else None
+    piped = {name: subprocess.PIPE for name in ("stdin", "stdout", "stderr")}
+    with subprocess.Popen(words, env=environment, **piped) as child:
+        child.stdin.write(text[: len(text) // 2])
+        child.stdin.flush()
+        time.sleep(0.2)
+        for number in signals:
+            child.send_signal(number)
+            time.sleep(0.05)
+        output, _ = child.communicate(text[len(text) // 2 :], timeout=60)
+    return child.returncode, output
+
+
 def closed_input():
     os.close(0)
+
+
+def with_explain(words):
+    return [words[0], "--explain", *words[1:]]
+
+
+def differs(name, plain, told, wanted):
+    """Tells where both runs don't end alike, or not with the status that they have to end with."""
+    if plain == told and plain[0] == wanted:
+        return False
+    print(f"{name}: status {plain[0]}, with --explain {told[0]}, wanted {wanted}")
+    return True
 
 
 def cases(folder, table, bad, answer):
@@ -46,21 +95,95 @@ def cases(folder, table, bad, answer):
     ]
 
 
-def main(program):
+def compare_cases(program, folder, paths):
     wrong = 0
+    for name, words, before, wanted in cases(folder, *paths):
+        plain = run([program, *words], before)
+        told = run([program, *with_explain(words)], before)
+        wrong += differs(name, plain, told, wanted)
+    return wrong
+
+
+def library_in(folder):
+    """The library that sets a handler for SIGUSR1, or None where there is no C compiler."""
+    if shutil.which("cc") is None:
+        return None
+    path = os.path.join(folder, "handler.so")
+    subprocess.run(["cc", "-shared", "-fPIC", "-x", "c", "-o", path, "-"], input=HANDLER, check=True)
+    return path
+
+
+def compare_disturbed(program, folder, table, answer):
+    """An instance or an answer that comes in two halves, with signals in between."""
+    wrong = 0
+    harmless = [signal.SIGSTOP, signal.SIGCONT, signal.SIGWINCH, signal.SIGCHLD, signal.SIGURG]
+    library = library_in(folder)
+    kinds = [("stopped, and continued", harmless, None, 0)]
+    if library is None:
+        print("not tried, since there is no cc: a read that a signal interrupts")
+    else:
+        kinds.append(("interrupted by a signal", [signal.SIGUSR1], library, 4))
+    with open(answer, "rb") as file:
+        solution = file.read()
+    for name, signals, loaded, wanted in kinds:
+        for words, text in (["solve", *LATENESS, "-"], TABLE), (["check", *LATENESS, table, "-"], solution):
+            plain, told = (
+                run_disturbed([program, *each], text, signals, loaded)
+                for each in (words, with_explain(words))
+            )
+            wrong += differs(f"{words[0]}, {name}", plain, told, wanted)
+    return wrong
+
+
+def least_space(words, wanted):
+    """The least address space, in bytes, with which a command ends with this status."""
+    too_little, enough = 0, MOST_SPACE // PAGE
+    while enough - too_little > 1:
+        middle = (too_little + enough) // 2
+        if run(words, limited(resource.RLIMIT_AS, middle * PAGE))[0] == wanted:
+            enough = middle
+        else:
+            too_little = middle
+    return enough * PAGE
+
+
+def compare_narrow(program, folder, table, answer):
+    """Texts of 4 MB, read in address spaces that rise from the least by which they can be read."""
+    wrong = 0
+    long_table, long_bad = (os.path.join(folder, name) for name in ("long", "long_bad"))
+    for path, text in (long_table, TABLE + COMMENTS), (long_bad, TABLE + COMMENTS + b"job\n"):
+        with open(path, "wb") as file:
+            file.write(text)
+    for words, wanted in [
+        (["solve", *LATENESS, table], 0),
+        (["solve", *LATENESS, long_table], 0),
+        (["solve", *LATENESS, long_bad], 2),
+        (["check", *LATENESS, long_table, answer], 0),
+        (["check", *LATENESS, long_table, long_table], 2),
+    ]:
+        least = least_space([program, *words], wanted)
+        enough = least + 3 * len(COMMENTS)
+        for space in range(least, enough + len(COMMENTS), 128 * PAGE):
+            before = limited(resource.RLIMIT_AS, space)
+            plain = run([program, *words], before)
+            told = run([program, *with_explain(words)], before)
+            if space < enough and told == (3, b""):
+                told = plain
+            wrong += differs(f"{' '.join(words)}, {space} bytes of space", plain, told, wanted)
+    return wrong
+
+
+def main(program):
     with tempfile.TemporaryDirectory() as folder:
-        paths = [os.path.join(folder, name) for name in ("table", "bad", "answer")]
-        for path, text in zip(paths, (TABLE, BAD, b"")):
+        table, bad, answer = paths = [os.path.join(folder, name) for name in ("table", "bad", "answer")]
+        for path, text in (table, TABLE), (bad, BAD):
             with open(path, "wb") as file:
                 file.write(text)
-        with open(paths[2], "wb") as file:
-            file.write(run([program, "solve", *LATENESS, paths[0]])[1])
-        for name, words, before, wanted in cases(folder, *paths):
-            plain = run([program, *words], before)
-            told = run([program, words[0], "--explain", *words[1:]], before)
-            if plain != told or plain[0] != wanted:
-                wrong += 1
-                print(f"{name}: status {plain[0]}, with --explain {told[0]}, wanted {wanted}")
+        with open(answer, "wb") as file:
+            file.write(run([program, "solve", *LATENESS, table])[1])
+        wrong = compare_cases(program, folder, paths)
+        wrong += compare_disturbed(program, folder, table, answer)
+        wrong += compare_narrow(program, folder, table, answer)
     print(f"{wrong} wrong")
     return wrong > 0
 
