@@ -1,11 +1,12 @@
 #!/usr/bin/env python3
 """Uses the page in Debian's chromium as people do, from pasting to printing, and says what did not go as it should.
 
-    web/test.py [PAGE.html] [--large] [--pictures] [--program=THREEFIELD] [NAME ..]
+    web/test.py [PAGE.html] [--large] [--pictures] [--program=THREEFIELD] [--firefox] [NAME ..]
 
 The page is web/threefield.html if none is named. Each way is a function below; with names only those are tried. --large
 also solves 100,000 jobs and measures, --pictures takes the pictures that the README shows, and --program compares the
 module in the browser with the native program byte for byte over the examples of the nineteen problems. Needs chromium.
+--firefox tries the ways that need no more than clicks and texts in Debian's firefox-esr.
 """
 import functools
 import json
@@ -18,6 +19,7 @@ import xml.etree.ElementTree as ElementTree
 from pathlib import Path
 
 from browser import Browser
+from firefox import Firefox
 
 HERE = Path(__file__).resolve().parent
 PICTURES = HERE / "pictures"
@@ -26,6 +28,9 @@ SHOP = "\ufeffOrder;Time (h);Due;After;Customer\r\n" + "\r\n".join([
     'Catalogue;14;07/03/2025;Plates;Meyer',
     'Flyers;5;06/03/2025;"Plates, ""Cards; menu """"Anker"""""" ";', '']) + "\r\n"
 WAYS = []
+IN_FIREFOX = ["empty_page", "spreadsheet", "cells_without_a_heading", "headings_of_other_languages", "examples",
+              "no_release_date", "certificate", "what_if", "problem_in_words", "machines_are_missing", "bound", "judging",
+              "mistakes_in_rows", "mistakes_of_the_calendar", "problems_are_the_modules"]
 
 
 def way(function):
@@ -709,10 +714,12 @@ def main(words):
     pages = [word for word in words if word.endswith(".html")]
     names = [word for word in words if word not in pages and word not in options]
     program = next((word.removeprefix("--program=") for word in options if word.startswith("--program=")), None)
-    if options - {"--large", "--pictures", f"--program={program}"}:
+    if options - {"--large", "--pictures", "--firefox", f"--program={program}"}:
         sys.exit(__doc__)
+    if "--firefox" in options and not names:
+        names = IN_FIREFOX
     address = f"file://{Path(pages[0] if pages else HERE / 'threefield.html').resolve()}"
-    browser = Browser()
+    browser = Firefox() if "--firefox" in options else Browser()
     page = Page(browser, address)
     failed = []
     tried = [each for each in WAYS if not names or each.__name__ in names]

@@ -1,0 +1,108 @@
+"""Drives Debian's firefox-esr over its Marionette protocol: what web/test.py needs of it."""
+import base64
+import json
+import socket
+import subprocess
+import tempfile
+import time
+from pathlib import Path
+
+PORT = 2828
+
+
+class Firefox:
+    """A browser with one page. A message is its length, a colon and JSON."""
+
+    def __init__(self, program="firefox-esr"):
+        self.folder = tempfile.TemporaryDirectory(prefix="threefield-firefox-")
+        words = [program, "--headless", "--marionette", "--profile", self.folder.name, "about:blank"]
+        self.process = subprocess.Popen(words, stdout=subprocess.DEVNULL, stderr=subprocess.DEVNULL)
+        self.last, self.buffer, self.problems, self.requests = 0, b"", [], []
+        self.socket = self.connected()
+        self.receive()
+        self.call("WebDriver:NewSession")
+
+    def connected(self):
+        for _ in range(300):
+            try:
+                return socket.create_connection(("127.0.0.1", PORT), timeout=60)
+            except OSError:
+                time.sleep(0.1)
+        raise TimeoutError("the browser does not answer")
+
+    def close(self):
+        self.call("Marionette:Quit", flags=["eForceQuit"])
+        self.process.wait(timeout=20)
+        self.folder.cleanup()
+
+    # ---- messages ----
+
+    def call(self, method, **parameters):
+        self.last += 1
+        text = json.dumps([0, self.last, method, parameters]).encode()
+        self.socket.sendall(str(len(text)).encode() + b":" + text)
+        while True:
+            kind, number, error, result = self.receive()
+            if (kind, number) == (1, self.last):
+                if error:
+                    raise RuntimeError(f"{method}: {error['message']}")
+                return result
+
+    def receive(self):
+        while b":" not in self.buffer:
+            self.more()
+        length, _, self.buffer = self.buffer.partition(b":")
+        while len(self.buffer) < int(length):
+            self.more()
+        text, self.buffer = self.buffer[:int(length)], self.buffer[int(length):]
+        return json.loads(text)
+
+    def more(self):
+        some = self.socket.recv(1 << 16)
+        if not some:
+            raise EOFError("the browser has ended")
+        self.buffer += some
+
+    # ---- the page ----
+
+    def open(self, address):
+        self.call("WebDriver:Navigate", url="about:blank")
+        self.call("WebDriver:Navigate", url=address)
+
+    def run(self, script):
+        """Runs a script in the page and gives its value; a promise is awaited."""
+        return self.call("WebDriver:ExecuteScript", script=f"return ({script});", args=[])["value"]
+
+    def wait(self, condition, seconds=60):
+        """Waits until a condition holds in the page."""
+        deadline = time.monotonic() + seconds
+        while time.monotonic() < deadline:
+            if self.run(f"Boolean({condition})"):
+                return
+            time.sleep(0.02)
+        raise TimeoutError(f"not true within {seconds} s: {condition}")
+
+    # ---- a person ----
+
+    def click(self, selector):
+        found = self.call("WebDriver:FindElement", using="css selector", value=selector)["value"]
+        self.call("WebDriver:ElementClick", id=next(iter(found.values())))
+
+    def type(self, selector, text):
+        """Puts a text into a field in place of what is there."""
+        self.put(selector, text, "input")
+
+    def choose(self, selector, value):
+        self.put(selector, value, "input")
+        self.run(f"document.querySelector({json.dumps(selector)})?.dispatchEvent(new Event('change', {{ bubbles: true }}))")
+
+    def put(self, selector, text, event):
+        self.run(f"""(() => {{
+            const it = document.querySelector({json.dumps(selector)});
+            it.focus();
+            it.value = {json.dumps(text)};
+            it.dispatchEvent(new Event({json.dumps(event)}, {{ bubbles: true }}));
+        }})()""")
+
+    def screenshot(self, path):
+        Path(path).write_bytes(base64.b64decode(self.call("WebDriver:TakeScreenshot", full=False)["value"]))
