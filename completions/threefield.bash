@@ -3,7 +3,7 @@ _threefield() {
     local word=${COMP_WORDS[COMP_CWORD]} before=${COMP_WORDS[COMP_CWORD - 1]} command=${COMP_WORDS[1]}
     local instance="--problem --format --jobs --index --name --pair --machines --explain --help"
     if [ "$COMP_CWORD" -eq 1 ]; then
-        COMPREPLY=($(compgen -W "solve bound check evaluate gantt problems help --help --version" -- "$word"))
+        COMPREPLY=($(compgen -W "solve bound trace check evaluate gantt problems help --help --version" -- "$word"))
         return
     fi
     case $before in
@@ -12,7 +12,7 @@ _threefield() {
     esac
     if [[ $word != -* ]]; then
         if [ "$command" = help ]; then
-            COMPREPLY=($(compgen -W "solve bound check evaluate gantt problems" -- "$word"))
+            COMPREPLY=($(compgen -W "solve bound trace check evaluate gantt problems" -- "$word"))
         else
             COMPREPLY=($(compgen -f -- "$word"))
         fi
@@ -21,6 +21,7 @@ _threefield() {
     case $command in
     solve) COMPREPLY=($(compgen -W "$instance --answer" -- "$word")) ;;
     bound) COMPREPLY=($(compgen -W "$instance --steps" -- "$word")) ;;
+    trace) COMPREPLY=($(compgen -W "$instance --tex" -- "$word")) ;;
     check) COMPREPLY=($(compgen -W "$instance" -- "$word")) ;;
     evaluate) COMPREPLY=($(compgen -W "$instance --certificate" -- "$word")) ;;
     gantt) COMPREPLY=($(compgen -W "--columns --svg --explain --help" -- "$word")) ;;

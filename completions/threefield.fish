@@ -1,11 +1,12 @@
 # Completions of threefield for fish: put this file into ~/.config/fish/completions.
-set -l commands solve bound check evaluate gantt problems help
-set -l instance solve bound check evaluate
+set -l commands solve bound trace check evaluate gantt problems help
+set -l instance solve bound trace check evaluate
 
 complete -c threefield -n "not __fish_seen_subcommand_from $commands" -f
 complete -c threefield -n "not __fish_seen_subcommand_from $commands" -l version -d "Print the version"
 complete -c threefield -n "not __fish_seen_subcommand_from $commands" -a solve -d "Print an optimal schedule with its certificate"
 complete -c threefield -n "not __fish_seen_subcommand_from $commands" -a bound -d "Print a proved lower bound"
+complete -c threefield -n "not __fish_seen_subcommand_from $commands" -a trace -d "Show how an optimal schedule is found"
 complete -c threefield -n "not __fish_seen_subcommand_from $commands" -a check -d "Judge an answer"
 complete -c threefield -n "not __fish_seen_subcommand_from $commands" -a evaluate -d "Report how far an answer is from the optimum"
 complete -c threefield -n "not __fish_seen_subcommand_from $commands" -a gantt -d "Draw the schedule of an answer"
@@ -23,6 +24,7 @@ complete -c threefield -n "__fish_seen_subcommand_from $instance" -s m -l machin
 complete -c threefield -n "__fish_seen_subcommand_from $instance gantt" -l explain -a "auto always never" -d "Explain what is wrong"
 complete -c threefield -n "__fish_seen_subcommand_from solve" -l answer -x -a "1 2" -d "Version of the answer text"
 complete -c threefield -n "__fish_seen_subcommand_from bound" -l steps -x -d "Steps of the search for prices"
+complete -c threefield -n "__fish_seen_subcommand_from trace" -l tex -d "Write it for LaTeX"
 complete -c threefield -n "__fish_seen_subcommand_from evaluate" -l certificate -d "Add the arithmetic of the certificate"
 complete -c threefield -n "__fish_seen_subcommand_from gantt" -s c -l columns -x -d "Columns of the chart"
 complete -c threefield -n "__fish_seen_subcommand_from gantt" -l svg -d "Draw a picture"

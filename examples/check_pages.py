@@ -14,7 +14,7 @@ import subprocess
 import sys
 
 PAGES = ["README.md", "docs/usage.md", "docs/answers.md", "docs/evaluating.md", "docs/bounds.md", "docs/pictures.md",
-         "examples/README.md", "examples/certificates/README.md"]
+         "examples/README.md", "examples/certificates/README.md", "examples/lecture/README.md"]
 LEFT_OUT = re.compile(r"^(export |.*\brt (try|run|ci)\b)")
 
 

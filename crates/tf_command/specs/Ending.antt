@@ -14,6 +14,7 @@ use Rattle.tf_evaluate.specs.declared.evaluation.Detail.{Detail}
 use Rattle.tf_evaluate.specs.declared.evaluation.Standing.{Standing}
 use Rattle.tf_assess.specs.RunRating.{IsRatingOf}
 use Rattle.tf_bounding.specs.RunBounding.{IsBoundingOf}
+use Rattle.tf_trace.specs.RunTracing.{IsTraceOf}
 use Rattle.tf_command.specs.declared.options.Drawing.{Drawing}
 use Rattle.tf_command.specs.declared.options.Drawing.TheVariants.{Chart, Picture}
 use Rattle.tf_text.specs.declared.counted.Counted.{Counted}
@@ -57,6 +58,13 @@ pub record EndsBounding (A : Type 0) (request : RequestData) (instance writer : 
     (says : List ℕ → Type 0) (status : ℕ) : Type 0 where
   pub run : Result (Unit {0}) (RunFault A)
   pub outcome : IsBoundingOf request instance writer run
+  pub ends : status ≡ status_of_run run
+  pub said : says (line_of run)
+
+pub record EndsTracing (A : Type 0) (request : RequestData) (instance writer : DeviceUse)
+    (says : List ℕ → Type 0) (status : ℕ) : Type 0 where
+  pub run : Result (Unit {0}) (RunFault A)
+  pub outcome : IsTraceOf request instance writer run
   pub ends : status ≡ status_of_run run
   pub said : says (line_of run)
 

@@ -5,9 +5,9 @@ use Rattle.std.specs.Io.KnownBytes.{Keeps}
 use Rattle.tf_text.specs.Counted.{DeviceUse}
 use Rattle.tf_text.specs.declared.answer.layout.Layout.TheVariants.{Two}
 use Rattle.tf_command.specs.declared.options.Work.{Work as Asking}
-use Rattle.tf_command.specs.declared.options.Work.TheVariants.{Solve, Bound, Check, Evaluate, Gantt, Problems}
+use Rattle.tf_command.specs.declared.options.Work.TheVariants.{Solve, Bound, Trace, Check, Evaluate, Gantt, Problems}
 use Rattle.tf_command.specs.Asking.{requested}
-use Rattle.tf_command.specs.Ending.{EndsSolving, EndsBounding, EndsChecking, EndsDrawing, EndsEvaluating}
+use Rattle.tf_command.specs.Ending.{EndsSolving, EndsBounding, EndsTracing, EndsChecking, EndsDrawing, EndsEvaluating}
 
 -- the bytes of the text of each name, where they are known
 abbrev pub Texts : Type 0
@@ -57,6 +57,10 @@ Performs texts (Bound options steps) writer says status =
     let said = says options.telling.explain in
     EndsOver texts options.input.now writer said status
     (λ instance. EndsBounding Global (requested options Two) instance writer said status)
+Performs texts (Trace options style) writer says status =
+    let said = says options.telling.explain in
+    EndsOver texts options.input.now writer said status
+    (λ instance. EndsTracing Global (requested options Two) instance writer said status)
 Performs texts (Check options answer) writer says status =
     let said = says options.telling.explain in
     EndsOverBoth texts options.input.now answer.now writer said status

@@ -2,7 +2,7 @@
 ghost use Rattle.std.specs.declared.alloc.Global.{Global};
 ghost use Rattle.tf_command.specs.Asking.{requested};
 ghost use Rattle.tf_command.specs.Columns.{HasWidth, IsSized};
-ghost use Rattle.tf_command.specs.Ending.{EndsSolving, EndsBounding, EndsChecking, EndsEvaluating, EndsDrawing, SaysLine, drawn_as};
+ghost use Rattle.tf_command.specs.Ending.{EndsSolving, EndsBounding, EndsTracing, EndsChecking, EndsEvaluating, EndsDrawing, SaysLine, drawn_as};
 ghost use Rattle.tf_engine.specs.Drawing.{IsDrawingOf};
 ghost use Rattle.std.specs.Prelude.{◌≡◌, ◌⊎◌, None, Some, IfSome, IfOk, IfErr, true, codes};
 ghost use Rattle.tf_command.specs.Performing.{EndsListing, EndsOver, Performs};
@@ -31,6 +31,8 @@ use tf_read::job_table::read_table;
 use tf_text::answer::layout::Layout;
 use tf_text::counted::Counted;
 use tf_text::input::read_all;
+use tf_trace::board::Style;
+use tf_trace::run_trace::run_trace;
 
 /// A text that was opened.
 type Opened<'a, S> = Counted<Recorded<'a, <S as Sources>::Source>>;
@@ -49,6 +51,7 @@ pub fn perform<S: Sources, W: Write, E: Write>(
     match work {
         Work::Solve(options, layout) => solve_named(console, sources, options, *layout),
         Work::Bound(options, steps) => bound_named(console, sources, options, *steps),
+        Work::Trace(options, style) => trace_named(console, sources, options, *style),
         Work::Check(options, answer) => check_named(console, sources, options, answer),
         Work::Evaluate(evaluating) => evaluate_named(console, sources, evaluating),
         Work::Gantt {
@@ -91,6 +94,23 @@ fn bound_named<S: Sources, W: Write, E: Write>(
 {
     match open(console, sources, options.input, options.telling.explain) {
         Ok(mut instance) => bound(console, options, steps, &mut instance),
+        Err(status) => status,
+    }
+}
+
+/// Traces the solving of the instance of that name.
+fn trace_named<S: Sources, W: Write, E: Write>(
+    console: &mut Console<W, E>,
+    sources: &S,
+    options: &Options<'_>,
+    style: Style,
+) -> u8
+    ensures { Performs (S.text_of sources.now) (Work.Trace options.now style)
+        (use_of W.contents console.old.writer console.new.writer)
+        (λ explain. SaysLine E.contents explain console.old.errors console.new.errors) result }
+{
+    match open(console, sources, options.input, options.telling.explain) {
+        Ok(mut instance) => trace(console, options, style, &mut instance),
         Err(status) => status,
     }
 }
@@ -275,6 +295,36 @@ fn bound<R: Read, W: Write, E: Write>(
         return say_memory(&mut console.errors);
     };
     let run = run_bound(alloc, &request, steps, instance, &mut console.writer);
+    let status = end_run(&run, &mut console.errors);
+    if options.telling.explain {
+        let ended = Ended {
+            alloc,
+            telling: options.telling,
+            request: &request,
+        };
+        ended.tell_solved(&run, instance.inner(), &mut console.errors);
+    }
+    status
+}
+
+/// Prints how an optimal schedule is found, and gives the exit status.
+fn trace<R: Read, W: Write, E: Write>(
+    console: &mut Console<W, E>,
+    options: &Options<'_>,
+    style: Style,
+    instance: &mut Counted<Recorded<'_, R>>,
+) -> u8
+    ensures { EndsTracing Global (requested options.now Layout.Two)
+        (use_of (bytes_left R.remaining) instance.old instance.new)
+        (use_of W.contents console.old.writer console.new.writer)
+        (SaysLine E.contents options.now.telling.explain console.old.errors console.new.errors)
+        result }
+{
+    let alloc = console.alloc;
+    let Ok(request) = options.request(alloc, Layout::Two) else {
+        return say_memory(&mut console.errors);
+    };
+    let run = run_trace(alloc, &request, style, instance, &mut console.writer);
     let status = end_run(&run, &mut console.errors);
     if options.telling.explain {
         let ended = Ended {

@@ -16,6 +16,7 @@ use tf_evaluate::evaluation::Detail;
 use tf_model::limit::{MOST_JOBS, MOST_MACHINES};
 use tf_text::answer::layout::Layout;
 use tf_text::chart::MOST_COLUMNS;
+use tf_trace::board::Style;
 use tf_words::digits::is_numeral;
 use tf_words::ranged::{Ranged, number_in};
 
@@ -117,6 +118,8 @@ pub enum Work<'a> {
     Solve(Options<'a>, Layout),
     /// Print a lower bound, after so many steps of the search for prices where they are given.
     Bound(Options<'a>, Option<u32>),
+    /// Print how an optimal schedule is found, step by step, in this style.
+    Trace(Options<'a>, Style),
     /// Judge the answer of this name.
     Check(Options<'a>, &'a str),
     /// Tell how good an answer is.
@@ -163,6 +166,12 @@ const ABOUT_BOUND: &str = "\
 Example: threefield bound -p \"P2||Cmax\" examples/table.txt
 
 Exit status: 0 bounded, 2 refused, 3 want of memory,
+             4 a file or a device failed, 5 the command line is wrong.";
+
+const ABOUT_TRACE: &str = "\
+Example: threefield trace -p \"F2||Cmax\" -f flow --name johnson examples/flow.txt
+
+Exit status: 0 traced, 2 refused, 3 want of memory,
              4 a file or a device failed, 5 the command line is wrong.";
 
 const ABOUT_CHECK: &str = "\
@@ -213,6 +222,7 @@ pub fn command<'a>(alloc: Global) -> Result<Command<'a>, AllocError> {
         .arg_required_else_help(true)
         .subcommand(solve_command(alloc)?)?
         .subcommand(bound_command(alloc)?)?
+        .subcommand(trace_command(alloc)?)?
         .subcommand(check_command(alloc)?)?
         .subcommand(evaluate_command(alloc)?)?
         .subcommand(gantt_command(alloc)?)?
@@ -243,6 +253,17 @@ fn bound_command<'a>(alloc: Global) -> Result<Command<'a>, AllocError> {
         .about("Prints a lower bound of an NP-hard problem, and its certificate")
         .after_help(ABOUT_BOUND)
         .arg(steps)
+}
+
+fn trace_command<'a>(alloc: Global) -> Result<Command<'a>, AllocError> {
+    let latex = Arg::new(alloc, "tex")
+        .long("tex")
+        .help("Writes it for LaTeX, with a tabular for each table")
+        .action(ArgAction::SetTrue);
+    with_options(alloc, Command::new(alloc, "trace"))?
+        .about("Shows how an optimal schedule is found, step by step")
+        .after_help(ABOUT_TRACE)
+        .arg(latex)
 }
 
 fn check_command<'a>(alloc: Global) -> Result<Command<'a>, AllocError> {
@@ -400,6 +421,9 @@ pub fn understand<'a>(command: Command<'a>, words: &'a [String], on_terminal: bo
     if name == "bound" {
         return bound_in(given, options);
     }
+    if name == "trace" {
+        return Asked::Work(Work::Trace(options, style_in(given)));
+    }
     match given.get_str("ANSWER") {
         None => Asked::NoMemory,
         Some(answer) => {
@@ -425,6 +449,15 @@ fn layout_in(given: &ArgMatches<'_>) -> Layout
     match given.get_str("answer") {
         Some("1") => Layout::One,
         _ => Layout::Two,
+    }
+}
+
+// Plain text, unless LaTeX is asked for.
+fn style_in(given: &ArgMatches<'_>) -> Style {
+    if given.get_flag("tex") {
+        Style::Latex
+    } else {
+        Style::Plain
     }
 }
 

@@ -1,0 +1,124 @@
+//! The board: sentences and tables, as plain text or for LaTeX.
+use crate::table::Table;
+use std::alloc::{AllocError, Allocator};
+use tf_model::ids::JobId;
+
+/// The most rows of a table: longer ones are shortened in the middle.
+pub(crate) const MOST_ROWS: usize = 60;
+
+/// How the working is written.
+#[derive(Clone, Copy, Debug, PartialEq, Eq)]
+pub enum Style {
+    /// As plain text, in columns.
+    Plain,
+    /// For LaTeX: a paragraph for each sentence, and `tabular`.
+    Latex,
+}
+
+/// The most columns of a line of plain text.
+const MOST_COLUMNS: usize = 78;
+
+/// What is written so far.
+#[derive(Drop)]
+pub(crate) struct Board<A: Allocator> {
+    pub alloc: A,
+    /// The sentence that is being written.
+    pub text: String<A>,
+    page: String<A>,
+    style: Style,
+}
+
+/// What is shown of a row of a table.
+#[derive(Clone, Copy)]
+pub(crate) enum Visible {
+    Row,
+    /// Dots stand for it and for those that are hidden.
+    Gap,
+    Hidden,
+}
+
+/// What is shown of the row at this place, of so many.
+pub(crate) fn shown(place: usize, rows: usize) -> Visible {
+    let half = MOST_ROWS / 2;
+    if rows <= MOST_ROWS || place < half || rows.saturating_sub(place) <= half {
+        Visible::Row
+    } else if place == half {
+        Visible::Gap
+    } else {
+        Visible::Hidden
+    }
+}
+
+impl<A: Allocator + Copy> Board<A> {
+    pub(crate) fn new(alloc: A, style: Style) -> Self {
+        Board {
+            alloc,
+            text: String::new(alloc),
+            page: String::new(alloc),
+            style,
+        }
+    }
+
+    /// All that is written.
+    pub(crate) fn into_page(self) -> String<A> {
+        self.page
+    }
+
+    /// A sentence on a line of its own.
+    pub(crate) fn say(&mut self, sentence: &str) -> Result<(), AllocError> {
+        self.text.push_str(sentence)?;
+        self.end_sentence()
+    }
+
+    /// Ends a sentence: it is written in lines that are not too long.
+    pub(crate) fn end_sentence(&mut self) -> Result<(), AllocError> {
+        let mut columns: usize = 0;
+        for word in self.text.as_str().split(' ') {
+            let behind = columns.saturating_add(1).saturating_add(word.len());
+            if columns == 0 {
+                columns = word.len();
+            } else if behind > MOST_COLUMNS {
+                self.page.push('\n')?;
+                columns = word.len();
+            } else {
+                self.page.push(' ')?;
+                columns = behind;
+            }
+            self.page.push_str(word)?;
+        }
+        self.text.clear();
+        self.page.push_str(match self.style {
+            Style::Plain => "\n",
+            Style::Latex => "\n\n",
+        })
+    }
+
+    /// Words, and then a list of jobs, shortened in the middle.
+    pub(crate) fn list(&mut self, words: &str, jobs: &[JobId]) -> Result<(), AllocError> {
+        self.text.push_str(words)?;
+        if jobs.is_empty() {
+            self.text.push_str(" none")?;
+        }
+        for (place, job) in jobs.iter().enumerate() {
+            match shown(place, jobs.len()) {
+                Visible::Row => write!(self.text, " {}", job.get())?,
+                Visible::Gap => self.text.push_str(" ..")?,
+                Visible::Hidden => {}
+            }
+        }
+        Ok(())
+    }
+
+    /// A table.
+    pub(crate) fn show(&mut self, table: &Table<A>) -> Result<(), AllocError> {
+        match self.style {
+            Style::Plain => {
+                if !self.page.as_str().ends_with("\n\n") {
+                    self.page.push('\n')?;
+                }
+                table.write_plain(&mut self.page)
+            }
+            Style::Latex => table.write_latex(&mut self.page),
+        }
+    }
+}

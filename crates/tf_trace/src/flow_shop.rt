@@ -1,0 +1,162 @@
+//! Johnson's rule for two machines in a flow shop.
+use crate::board::{Board, MOST_ROWS, Visible, shown};
+use crate::table::{Cell, Table};
+use crate::trace::row_of;
+use std::alloc::{AllocError, Allocator};
+use tf_model::ids::JobId;
+use tf_model::job_rows::JobRow;
+use tf_model::task::Task;
+
+/// The two sets, the order, and when each job is on each machine.
+pub(crate) fn write_johnson<A: Allocator + Copy, B: Allocator>(
+    board: &mut Board<A>,
+    task: &Task<B>,
+) -> Result<(), AllocError> {
+    board.say(
+        "Johnson's rule (Johnson 1954): first the jobs that take no longer on machine 1 than on \
+         machine 2, by rising time a on machine 1; then the others, by falling time b on machine 2; \
+         of equal times the smaller number first.",
+    )?;
+    if task.class().may_break() {
+        board.say("Preemption is allowed, and does not help.")?;
+    }
+    let mut order = ordered(board.alloc, task, true)?;
+    board.list("First:", &order)?;
+    board.end_sentence()?;
+    let late = ordered(board.alloc, task, false)?;
+    board.list("Then:", &late)?;
+    board.end_sentence()?;
+    for job in late.iter() {
+        order.push(*job)?;
+    }
+    let table = times_table(board.alloc, task, &order)?;
+    board.show(&table)?;
+    say_tie(board, task, &order)
+}
+
+// Whether another optimal schedule exchanges two neighbours, of the first ones.
+fn say_tie<A: Allocator + Copy, B: Allocator>(
+    board: &mut Board<A>,
+    task: &Task<B>,
+    order: &[JobId],
+) -> Result<(), AllocError> {
+    let makespan = makespan_exchanged(task, order, order.len());
+    let neighbours = order.iter().zip(order.iter().skip(1));
+    for (place, (job, next)) in neighbours.take(MOST_ROWS).enumerate() {
+        if makespan_exchanged(task, order, place) == makespan {
+            write!(
+                board.text,
+                "Jobs {} and {} may be exchanged: that is another optimal schedule.",
+                job.get(),
+                next.get()
+            )?;
+            return board.end_sentence();
+        }
+    }
+    Ok(())
+}
+
+// When the jobs are done in this order, but with the one at a place, if it is there, behind the
+// next one.
+fn makespan_exchanged<B: Allocator>(task: &Task<B>, order: &[JobId], place: usize) -> u64 {
+    let mut front = Front {
+        first: 0,
+        second: 0,
+    };
+    let mut held = None;
+    for (k, job) in order.iter().enumerate() {
+        if k == place {
+            held = row_of(task, *job);
+            continue;
+        }
+        if let Some(row) = row_of(task, *job) {
+            front = front.behind(row).0;
+        }
+        if let Some(row) = held {
+            front = front.behind(row).0;
+            held = None;
+        }
+    }
+    front.second
+}
+
+// The jobs that take no longer on machine 1, or the others, in their order.
+fn ordered<A: Allocator + Copy, B: Allocator>(
+    alloc: A,
+    task: &Task<B>,
+    is_early: bool,
+) -> Result<Vec<JobId, A>, AllocError> {
+    let mut keyed: Vec<(u64, JobId), A> = Vec::new(alloc);
+    for k in 0..task.len() {
+        let job = JobId::at(k);
+        let row = task.job(job);
+        if (row.first <= row.second) == is_early {
+            let key = if is_early {
+                row.first
+            } else {
+                u64::MAX - row.second
+            };
+            keyed.push((key, job))?;
+        }
+    }
+    keyed.sort_unstable();
+    let mut jobs = Vec::with_capacity(alloc, keyed.len())?;
+    for (_, job) in keyed.iter() {
+        jobs.push(*job)?;
+    }
+    Ok(jobs)
+}
+
+// When the work so far ends on each machine.
+#[derive(Clone, Copy)]
+struct Front {
+    first: u64,
+    second: u64,
+}
+
+impl Front {
+    // Behind one job more, and when that starts on machine 2.
+    fn behind(self, row: JobRow) -> (Front, u64) {
+        let first = self.first.saturating_add(row.first);
+        let start = first.max(self.second);
+        let second = start.saturating_add(row.second);
+        (Front { first, second }, start)
+    }
+}
+
+fn times_table<A: Allocator + Copy, B: Allocator>(
+    alloc: A,
+    task: &Task<B>,
+    order: &[JobId],
+) -> Result<Table<A>, AllocError> {
+    let headings = &[
+        "job", "a", "b", "from 1", "to 1", "idle 2", "from 2", "to 2",
+    ];
+    let mut table = Table::new(alloc, headings)?;
+    let mut front = Front {
+        first: 0,
+        second: 0,
+    };
+    for (place, job) in order.iter().enumerate() {
+        let Some(row) = row_of(task, *job) else {
+            break;
+        };
+        let (next, start) = front.behind(row);
+        match shown(place, order.len()) {
+            Visible::Row => table.row(&[
+                Cell::Number(i128::from(job.get())),
+                Cell::Number(i128::from(row.first)),
+                Cell::Number(i128::from(row.second)),
+                Cell::Number(i128::from(front.first)),
+                Cell::Number(i128::from(next.first)),
+                Cell::Number(i128::from(start.saturating_sub(front.second))),
+                Cell::Number(i128::from(start)),
+                Cell::Number(i128::from(next.second)),
+            ])?,
+            Visible::Gap => table.gap()?,
+            Visible::Hidden => {}
+        }
+        front = next;
+    }
+    Ok(table)
+}

@@ -1,0 +1,209 @@
+//! Lawler's algorithm for the greatest cost on one machine.
+use crate::board::{Board, MOST_ROWS, Visible, shown};
+use crate::table::{Cell, Table};
+use crate::trace::{price_at, row_of};
+use std::alloc::{AllocError, Allocator};
+use tf_model::ids::JobId;
+use tf_model::task::Task;
+use tf_schedule::piece::Piece;
+
+/// The most candidates of a step that are shown.
+const MOST_CANDIDATES: usize = 8;
+
+/// The steps from the last place to the first, and then the schedule.
+pub(crate) fn write_lawler<A: Allocator + Copy, B: Allocator>(
+    board: &mut Board<A>,
+    task: &Task<B>,
+    pieces: &[Piece],
+    value: i128,
+) -> Result<(), AllocError> {
+    board.say(
+        "Lawler's algorithm (Lawler 1973), from the last place to the first. A job whose \
+         successors all have their places is a candidate; t is when all jobs without a place are \
+         done. The candidate that costs least at t gets the place, the greater number among equals.",
+    )?;
+    if task.class().is_due() {
+        board.say("The cost of a job is its lateness C - d.")?;
+    }
+    if task.class().may_break() {
+        board.say("Preemption is allowed, and does not help.")?;
+    }
+    let places = Places::new(board.alloc, task, pieces)?;
+    let steps = steps_table(board.alloc, task, pieces, &places)?;
+    board.show(&steps)?;
+    let schedule = schedule_table(board.alloc, task, pieces)?;
+    board.show(&schedule)?;
+    say_tie(board, task, pieces, value)
+}
+
+// Whether another optimal schedule exchanges two neighbours, of the first ones.
+fn say_tie<A: Allocator + Copy, B: Allocator>(
+    board: &mut Board<A>,
+    task: &Task<B>,
+    pieces: &[Piece],
+    value: i128,
+) -> Result<(), AllocError> {
+    let neighbours = pieces.iter().zip(pieces.iter().skip(1));
+    for (piece, next) in neighbours.take(MOST_ROWS) {
+        if may_exchange(task, piece, next, value) {
+            write!(
+                board.text,
+                "Jobs {} and {} may be exchanged: that is another optimal schedule.",
+                piece.job.get(),
+                next.job.get()
+            )?;
+            return board.end_sentence();
+        }
+    }
+    Ok(())
+}
+
+// Whether two neighbours, exchanged, keep their precedence, and neither costs more than this.
+fn may_exchange<B: Allocator>(task: &Task<B>, piece: &Piece, next: &Piece, value: i128) -> bool {
+    let time = next.stop.saturating_sub(next.start);
+    let sooner = price_at(task, next.job, piece.start.saturating_add(time));
+    let later = price_at(task, piece.job, next.stop);
+    if sooner > value || later > value {
+        return false;
+    }
+    let arc = (piece.job, next.job);
+    !task.arcs().iter().any(|other| *other == arc)
+}
+
+/// The place of each job in the schedule, and the first place of its successors.
+#[derive(Drop)]
+struct Places<A: Allocator> {
+    own: Vec<usize, A>,
+    successors: Vec<usize, A>,
+}
+
+impl<A: Allocator + Copy> Places<A> {
+    fn new<B: Allocator>(alloc: A, task: &Task<B>, pieces: &[Piece]) -> Result<Self, AllocError> {
+        let mut own = Vec::with_capacity(alloc, task.len())?;
+        let mut successors = Vec::with_capacity(alloc, task.len())?;
+        for _ in 0..task.len() {
+            own.push(0)?;
+            successors.push(pieces.len())?;
+        }
+        for (place, piece) in pieces.iter().enumerate() {
+            if let Some(own) = own.get_mut(piece.job.place()) {
+                *own = place;
+            }
+        }
+        let mut places = Places { own, successors };
+        for (job, successor) in task.arcs() {
+            places.put_before(*job, *successor);
+        }
+        Ok(places)
+    }
+
+    // With one precedence constraint more.
+    fn put_before(&mut self, job: JobId, successor: JobId) {
+        let Some(place) = self.own.get(successor.place()) else {
+            return;
+        };
+        let place = *place;
+        if let Some(first) = self.successors.get_mut(job.place()) {
+            *first = place.min(*first);
+        }
+    }
+
+    // Whether the job may get this place, where those behind it are given.
+    fn is_candidate(&self, job: usize, place: usize) -> bool {
+        match (self.own.get(job), self.successors.get(job)) {
+            (Some(own), Some(first)) => *own <= place && place < *first,
+            _ => false,
+        }
+    }
+}
+
+fn steps_table<A: Allocator + Copy, B: Allocator>(
+    alloc: A,
+    task: &Task<B>,
+    pieces: &[Piece],
+    places: &Places<A>,
+) -> Result<Table<A>, AllocError> {
+    let mut table = Table::new(
+        alloc,
+        &["place", "t", "job", "cost", "candidates: job (cost at t)"],
+    )?;
+    for (k, piece) in pieces.iter().rev().enumerate() {
+        match shown(k, pieces.len()) {
+            Visible::Row => {
+                let place = pieces.len().saturating_sub(k + 1);
+                let candidates = candidates_at(alloc, task, places, place, piece.stop)?;
+                let cells = [
+                    Cell::Number(place as i128 + 1),
+                    Cell::Number(i128::from(piece.stop)),
+                    Cell::Number(i128::from(piece.job.get())),
+                    Cell::Number(price_at(task, piece.job, piece.stop)),
+                ];
+                table.row_with(&cells, candidates)?;
+            }
+            Visible::Gap => table.gap()?,
+            Visible::Hidden => {}
+        }
+    }
+    Ok(table)
+}
+
+// The candidates for a place with what each costs at this time.
+fn candidates_at<A: Allocator + Copy, B: Allocator>(
+    alloc: A,
+    task: &Task<B>,
+    places: &Places<A>,
+    place: usize,
+    time: i64,
+) -> Result<String<A>, AllocError> {
+    let mut text = String::new(alloc);
+    let mut count: usize = 0;
+    for k in 0..task.len() {
+        if !places.is_candidate(k, place) {
+            continue;
+        }
+        if count < MOST_CANDIDATES {
+            let job = JobId::at(k);
+            let gap = if count == 0 { "" } else { ", " };
+            write!(text, "{gap}{} ({})", job.get(), price_at(task, job, time))?;
+        }
+        count = count.saturating_add(1);
+    }
+    if count > MOST_CANDIDATES {
+        write!(text, ", and {} more", count - MOST_CANDIDATES)?;
+    }
+    Ok(text)
+}
+
+fn schedule_table<A: Allocator + Copy, B: Allocator>(
+    alloc: A,
+    task: &Task<B>,
+    pieces: &[Piece],
+) -> Result<Table<A>, AllocError> {
+    let is_due = task.class().is_due();
+    let headings: &[&str] = if is_due {
+        &["job", "p", "start", "C", "d", "C - d"]
+    } else {
+        &["job", "p", "start", "C", "cost"]
+    };
+    let mut table = Table::new(alloc, headings)?;
+    for (place, piece) in pieces.iter().enumerate() {
+        match (shown(place, pieces.len()), row_of(task, piece.job)) {
+            (Visible::Row, Some(row)) => {
+                let job = Cell::Number(i128::from(piece.job.get()));
+                let time = Cell::Number(i128::from(row.first));
+                let start = Cell::Number(i128::from(piece.start));
+                let stop = Cell::Number(i128::from(piece.stop));
+                let cost = Cell::Number(price_at(task, piece.job, piece.stop));
+                if is_due {
+                    let due = Cell::Number(i128::from(row.due));
+                    table.row(&[job, time, start, stop, due, cost])?;
+                } else {
+                    table.row(&[job, time, start, stop, cost])?;
+                }
+            }
+            (Visible::Gap, _) => table.gap()?,
+            _ => {}
+        }
+    }
+    Ok(table)
+}

@@ -1,0 +1,14 @@
+//! How an optimal schedule is found, step by step, as on a blackboard.
+#![tactic(auto)]
+
+pub mod board;
+mod certificate;
+mod flow_shop;
+mod from_the_back;
+mod open_shop;
+mod parallel;
+mod released;
+pub mod run_trace;
+mod smith;
+mod table;
+mod trace;

@@ -1,0 +1,136 @@
+//! Horn's rule for release dates, preemption and the greatest lateness on one machine.
+use crate::board::{Board, Visible, shown};
+use crate::table::{Cell, Table};
+use std::alloc::{AllocError, Allocator};
+use tf_model::ids::JobId;
+use tf_model::task::Task;
+use tf_schedule::piece::Piece;
+
+/// The most jobs of a time that are shown.
+const MOST_WAITING: usize = 8;
+
+/// Each time at which a job starts or goes on, and who waits there.
+pub(crate) fn write_released<A: Allocator + Copy, B: Allocator>(
+    board: &mut Board<A>,
+    task: &Task<B>,
+    pieces: &[Piece],
+) -> Result<(), AllocError> {
+    board.say(
+        "Earliest due date first, with preemption (Horn 1974): at each time the released unfinished \
+         job with the earliest due date d is processed, the smaller number among equals.",
+    )?;
+    let ends = ends_of(board.alloc, task, pieces)?;
+    let events = events_table(board.alloc, task, pieces, &ends)?;
+    board.show(&events)?;
+    let jobs = jobs_table(board.alloc, task, &ends)?;
+    board.show(&jobs)
+}
+
+// The completion times, job by job.
+fn ends_of<A: Allocator + Copy, B: Allocator>(
+    alloc: A,
+    task: &Task<B>,
+    pieces: &[Piece],
+) -> Result<Vec<i64, A>, AllocError> {
+    let mut ends = Vec::with_capacity(alloc, task.len())?;
+    for _ in 0..task.len() {
+        ends.push(0)?;
+    }
+    for piece in pieces {
+        if let Some(end) = ends.get_mut(piece.job.place()) {
+            *end = piece.stop.max(*end);
+        }
+    }
+    Ok(ends)
+}
+
+fn events_table<A: Allocator + Copy, B: Allocator>(
+    alloc: A,
+    task: &Task<B>,
+    pieces: &[Piece],
+    ends: &[i64],
+) -> Result<Table<A>, AllocError> {
+    let headings = &[
+        "from",
+        "to",
+        "job",
+        "then",
+        "released and unfinished: job (d)",
+    ];
+    let mut table = Table::new(alloc, headings)?;
+    for (place, piece) in pieces.iter().enumerate() {
+        match shown(place, pieces.len()) {
+            Visible::Row => {
+                let waiting = waiting_at(alloc, task, ends, piece.start)?;
+                let is_done = ends.get(piece.job.place()) == Some(&piece.stop);
+                let cells = [
+                    Cell::Number(i128::from(piece.start)),
+                    Cell::Number(i128::from(piece.stop)),
+                    Cell::Number(i128::from(piece.job.get())),
+                    if is_done {
+                        Cell::Done
+                    } else {
+                        Cell::Interrupted
+                    },
+                ];
+                table.row_with(&cells, waiting)?;
+            }
+            Visible::Gap => table.gap()?,
+            Visible::Hidden => {}
+        }
+    }
+    Ok(table)
+}
+
+// The jobs that are released by this time and unfinished, with their due dates.
+fn waiting_at<A: Allocator + Copy, B: Allocator>(
+    alloc: A,
+    task: &Task<B>,
+    ends: &[i64],
+    time: i64,
+) -> Result<String<A>, AllocError> {
+    let mut text = String::new(alloc);
+    let mut count: usize = 0;
+    for k in 0..task.len() {
+        let job = JobId::at(k);
+        let row = task.job(job);
+        let is_done = matches!(ends.get(k), Some(end) if *end <= time);
+        if is_done || i128::from(row.release) > i128::from(time) {
+            continue;
+        }
+        if count < MOST_WAITING {
+            let gap = if count == 0 { "" } else { ", " };
+            write!(text, "{gap}{} ({})", job.get(), row.due)?;
+        }
+        count = count.saturating_add(1);
+    }
+    if count > MOST_WAITING {
+        write!(text, ", and {} more", count - MOST_WAITING)?;
+    }
+    Ok(text)
+}
+
+fn jobs_table<A: Allocator + Copy, B: Allocator>(
+    alloc: A,
+    task: &Task<B>,
+    ends: &[i64],
+) -> Result<Table<A>, AllocError> {
+    let mut table = Table::new(alloc, &["job", "p", "r", "d", "C", "C - d"])?;
+    for k in 0..task.len() {
+        let job = JobId::at(k);
+        let row = task.job(job);
+        match (shown(k, task.len()), ends.get(k)) {
+            (Visible::Row, Some(end)) => table.row(&[
+                Cell::Number(i128::from(job.get())),
+                Cell::Number(i128::from(row.first)),
+                Cell::Number(i128::from(row.release)),
+                Cell::Number(i128::from(row.due)),
+                Cell::Number(i128::from(*end)),
+                Cell::Number(i128::from(*end) - i128::from(row.due)),
+            ])?,
+            (Visible::Gap, _) => table.gap()?,
+            _ => {}
+        }
+    }
+    Ok(table)
+}

@@ -1,0 +1,90 @@
+//! The working of a method, from bytes to bytes.
+ghost use Rattle.std.specs.Prelude.{IfOk, MatchResult};
+ghost use Rattle.tf_check.specs.Accepted.{IsAccepted, IsBestAnswer};
+ghost use Rattle.tf_engine.specs.Devices.{LeavesRun};
+ghost use Rattle.tf_engine.specs.Faults.{end_of, stop_of};
+ghost use Rattle.tf_engine.specs.Parts.{StopsBy};
+ghost use Rattle.tf_engine.specs.Refusal.{problem_for};
+ghost use Rattle.tf_text.specs.Counted.{use_of};
+ghost use Rattle.tf_trace.specs.RunTracing.{EndsInValue, IsOfCycle, IsTraceOf};
+
+use crate::board::{Board, Style};
+use crate::trace::write_trace;
+use std::alloc::Allocator;
+use std::io::{Read, Write};
+use tf_check::answer::Answer;
+use tf_engine::case::{Asked, asked_read};
+use tf_engine::fault::RunFault;
+use tf_engine::request::Request;
+use tf_engine::solve::solve;
+use tf_model::memory::OutOfMemory;
+use tf_model::task::Task;
+use tf_notation::writing::notation_text;
+use tf_text::answer::writing::push_number_line;
+use tf_text::counted::Counted;
+
+/// Reads an instance to its end, solves it, and writes how the optimal schedule is found and why
+/// none costs less; the last line is the optimal value.
+///
+/// The refusals are those of [`tf_engine::run_solve::run_solve`], in the same order. After a refusal
+/// nothing was written, unless it is [`RunFault::Device`], after which a prefix may have been.
+pub fn run_trace<A: Allocator + Copy, B: Allocator, R: Read, W: Write>(
+    alloc: A,
+    request: &Request<B>,
+    style: Style,
+    reader: &mut Counted<R>,
+    writer: &mut Counted<W>,
+) -> Result<(), RunFault<A>>
+    ensures outcome { IsTraceOf request.now (use_of R.remaining reader.old reader.new)
+        (use_of W.contents writer.old writer.new) result }
+    ensures devices { LeavesRun (problem_for request.now.problem) R.remaining reader.old reader.new
+        writer.old writer.new (end_of result) }
+{
+    let asked = asked_read(alloc, request, reader)?;
+    let answer = answer_to(alloc, &asked.task)?;
+    let text = trace_bytes(alloc, &asked, &answer, style)?;
+    writer.push_all(text.as_slice())?;
+    Ok(())
+}
+
+// An optimal answer, or a cycle of arcs.
+fn answer_to<A: Allocator + Copy, B: Allocator>(
+    alloc: A,
+    task: &Task<B>,
+) -> Result<Answer<A>, RunFault<A>>
+    ensures accepted { IfOk result (IsAccepted task.now) }
+    ensures best { MatchResult result (IsBestAnswer task.now)
+        (λ e. StopsBy (IsOfCycle task.now) (stop_of e)) }
+{
+    let answer = solve(alloc, task)?;
+    Ok(answer)
+}
+
+// The working, and behind it the line of the value.
+fn trace_bytes<A: Allocator + Copy, B: Allocator, C: Allocator>(
+    alloc: A,
+    asked: &Asked<B>,
+    answer: &Answer<C>,
+    style: Style,
+) -> Result<Vec<u8, A>, OutOfMemory>
+    ensures { IfOk result (λ text. EndsInValue answer.now.value text.items) }
+{
+    let mut board = Board::new(alloc, style);
+    let notation = notation_text(alloc, &asked.problem)?;
+    let task = &asked.task;
+    write!(
+        board.text,
+        "Problem {}, {} jobs",
+        notation.as_str(),
+        task.len()
+    )?;
+    if !task.class().is_single() {
+        write!(board.text, " and {} machines", task.machines())?;
+    }
+    board.text.push('.')?;
+    board.end_sentence()?;
+    write_trace(&mut board, task, answer)?;
+    let mut text = board.into_page().into_bytes();
+    push_number_line(&mut text, b"value", answer.value)?;
+    Ok(text)
+}

@@ -1,0 +1,104 @@
+//! Smith's rule for sums of completion times on one machine.
+use crate::board::{Board, Visible, shown};
+use crate::table::{Cell, Table};
+use crate::trace::row_of;
+use std::alloc::{AllocError, Allocator};
+use tf_model::ids::JobId;
+use tf_model::job_rows::JobRow;
+use tf_model::task::Task;
+use tf_schedule::piece::Piece;
+
+/// The jobs by their ratios, and what each costs.
+pub(crate) fn write_smith<A: Allocator + Copy, B: Allocator>(
+    board: &mut Board<A>,
+    task: &Task<B>,
+    pieces: &[Piece],
+) -> Result<(), AllocError> {
+    let is_weighted = task.class().is_weighted();
+    board.say(if is_weighted {
+        "Smith's rule (Smith 1956): one job after another without idle time, by the ratio of \
+         weight w and processing time p, greatest first; of equal ratios the smaller number first."
+    } else {
+        "Shortest processing time first (Smith 1956): one job after another without idle time; \
+         of equal times the smaller number first."
+    })?;
+    if task.class().may_break() {
+        board.say("Preemption is allowed, and does not help.")?;
+    }
+    let table = table_of(board.alloc, task, pieces, is_weighted)?;
+    board.show(&table)?;
+    say_tie(board, task, pieces, is_weighted)
+}
+
+fn table_of<A: Allocator + Copy, B: Allocator>(
+    alloc: A,
+    task: &Task<B>,
+    pieces: &[Piece],
+    is_weighted: bool,
+) -> Result<Table<A>, AllocError> {
+    let headings: &[&str] = if is_weighted {
+        &["job", "w", "p", "w/p", "start", "C", "wC"]
+    } else {
+        &["job", "p", "start", "C"]
+    };
+    let mut table = Table::new(alloc, headings)?;
+    for (place, piece) in pieces.iter().enumerate() {
+        match (shown(place, pieces.len()), row_of(task, piece.job)) {
+            (Visible::Row, Some(row)) => push_job(&mut table, piece, row, is_weighted)?,
+            (Visible::Gap, _) => table.gap()?,
+            _ => {}
+        }
+    }
+    Ok(table)
+}
+
+fn push_job<A: Allocator + Copy>(
+    table: &mut Table<A>,
+    piece: &Piece,
+    row: JobRow,
+    is_weighted: bool,
+) -> Result<(), AllocError> {
+    let job = Cell::Number(i128::from(piece.job.get()));
+    let time = Cell::Number(i128::from(row.first));
+    let start = Cell::Number(i128::from(piece.start));
+    let completion = Cell::Number(i128::from(piece.stop));
+    if !is_weighted {
+        return table.row(&[job, time, start, completion]);
+    }
+    let weight = Cell::Number(i128::from(row.weight));
+    let ratio = Cell::Ratio(row.weight, row.first);
+    let cost = Cell::Number(i128::from(row.weight).saturating_mul(i128::from(piece.stop)));
+    table.row(&[job, weight, time, ratio, start, completion, cost])
+}
+
+// Whether another optimal schedule exchanges two neighbours.
+fn say_tie<A: Allocator + Copy, B: Allocator>(
+    board: &mut Board<A>,
+    task: &Task<B>,
+    pieces: &[Piece],
+    is_weighted: bool,
+) -> Result<(), AllocError> {
+    let same = if is_weighted { "ratios" } else { "times" };
+    for (piece, next) in pieces.iter().zip(pieces.iter().skip(1)) {
+        if are_equal(task, piece.job, next.job) {
+            write!(
+                board.text,
+                "Jobs {} and {} have equal {same}: exchanged, they give another optimal schedule.",
+                piece.job.get(),
+                next.job.get()
+            )?;
+            return board.end_sentence();
+        }
+    }
+    Ok(())
+}
+
+fn are_equal<B: Allocator>(task: &Task<B>, job: JobId, other: JobId) -> bool {
+    match (row_of(task, job), row_of(task, other)) {
+        (Some(job), Some(other)) => {
+            let one = u128::from(job.weight).saturating_mul(u128::from(other.first));
+            one == u128::from(other.weight).saturating_mul(u128::from(job.first))
+        }
+        _ => false,
+    }
+}

@@ -1,0 +1,62 @@
+//! The working of each class's method.
+use crate::board::Board;
+use crate::certificate::write_certificate;
+use crate::flow_shop::write_johnson;
+use crate::from_the_back::write_lawler;
+use crate::open_shop::write_open_shop;
+use crate::parallel::{write_shortest_first, write_wrap_around};
+use crate::released::write_released;
+use crate::smith::write_smith;
+use std::alloc::{AllocError, Allocator};
+use tf_check::answer::Answer;
+use tf_model::class::Class;
+use tf_model::ids::JobId;
+use tf_model::job_rows::JobRow;
+use tf_model::limit::LIMIT;
+use tf_model::task::Task;
+use tf_schedule::cost::price;
+
+/// How the answer is found, and why none costs less.
+pub(crate) fn write_trace<A: Allocator + Copy, B: Allocator, C: Allocator>(
+    board: &mut Board<A>,
+    task: &Task<B>,
+    answer: &Answer<C>,
+) -> Result<(), AllocError> {
+    let pieces = answer.pieces.as_slice();
+    match task.class() {
+        Class::WeightedSum | Class::PlainSum | Class::PrmpWeightedSum | Class::PrmpPlainSum => {
+            write_smith(board, task, pieces)?;
+        }
+        Class::Hmax
+        | Class::PrecHmax
+        | Class::PrmpHmax
+        | Class::PrmpPrecHmax
+        | Class::Lmax
+        | Class::PrecLmax
+        | Class::PrmpLmax
+        | Class::PrmpPrecLmax => write_lawler(board, task, pieces, i128::from(answer.value))?,
+        Class::ReleaseLmax => write_released(board, task, pieces)?,
+        Class::FlowTwo | Class::PrmpFlowTwo => write_johnson(board, task)?,
+        Class::OpenTwo | Class::PrmpOpenTwo => write_open_shop(board, task, pieces)?,
+        Class::ParallelPrmp => write_wrap_around(board, task, pieces)?,
+        Class::ParallelSum => write_shortest_first(board, task, answer)?,
+    }
+    write_certificate(board, task, answer)
+}
+
+/// What is known of a job, if it is there.
+pub(crate) fn row_of<B: Allocator>(task: &Task<B>, job: JobId) -> Option<JobRow> {
+    if job.place() < task.len() {
+        Some(task.job(job))
+    } else {
+        None
+    }
+}
+
+/// What a job costs that completes at this time, where the objective is a greatest cost.
+pub(crate) fn price_at<B: Allocator>(task: &Task<B>, job: JobId, time: i64) -> i128 {
+    if task.class().is_sum() || job.place() >= task.len() || !(0..=LIMIT).contains(&time) {
+        return 0;
+    }
+    price(task, job, time)
+}
