@@ -1,3 +1,4 @@
+mod Granted
 mod Narrows
 mod Over
 mod Replied
