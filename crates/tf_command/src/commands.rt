@@ -12,7 +12,7 @@ ghost use Rattle.tf_text.specs.Counted.{inner_of, use_of};
 use crate::console::Console;
 use crate::explained::{Ended, tell, tell_drawn};
 use crate::options::{Drawing, Evaluating, Options, Work};
-use crate::recorded::Recorded;
+use crate::recorded::{MOST_BESIDE, MOST_KEPT, Recorded};
 use crate::report::{end_check, end_evaluation, end_run, report, say_device, say_memory};
 use crate::source::Sources;
 use std::alloc::{Allocator, Global};
@@ -75,7 +75,13 @@ fn solve_named<S: Sources, W: Write, E: Write>(
         (use_of W.contents console.old.writer console.new.writer)
         (λ explain. SaysLine E.contents explain console.old.errors console.new.errors) result }
 {
-    match open(console, sources, options.input, options.telling.explain) {
+    match open(
+        console,
+        sources,
+        options.input,
+        MOST_KEPT,
+        options.telling.explain,
+    ) {
         Ok(mut instance) => solve(console, options, layout, &mut instance),
         Err(status) => status,
     }
@@ -92,7 +98,13 @@ fn bound_named<S: Sources, W: Write, E: Write>(
         (use_of W.contents console.old.writer console.new.writer)
         (λ explain. SaysLine E.contents explain console.old.errors console.new.errors) result }
 {
-    match open(console, sources, options.input, options.telling.explain) {
+    match open(
+        console,
+        sources,
+        options.input,
+        MOST_KEPT,
+        options.telling.explain,
+    ) {
         Ok(mut instance) => bound(console, options, steps, &mut instance),
         Err(status) => status,
     }
@@ -109,7 +121,13 @@ fn trace_named<S: Sources, W: Write, E: Write>(
         (use_of W.contents console.old.writer console.new.writer)
         (λ explain. SaysLine E.contents explain console.old.errors console.new.errors) result }
 {
-    match open(console, sources, options.input, options.telling.explain) {
+    match open(
+        console,
+        sources,
+        options.input,
+        MOST_KEPT,
+        options.telling.explain,
+    ) {
         Ok(mut instance) => trace(console, options, style, &mut instance),
         Err(status) => status,
     }
@@ -166,7 +184,7 @@ fn draw_named<S: Sources, W: Write, E: Write>(
         (use_of W.contents console.old.writer console.new.writer)
         (SaysLine E.contents explain console.old.errors console.new.errors) result) }
 {
-    match open(console, sources, answer, explain) {
+    match open(console, sources, answer, MOST_KEPT, explain) {
         Ok(mut answer) => gantt(console, drawing, explain, &mut answer),
         Err(status) => status,
     }
@@ -183,7 +201,7 @@ fn list_named<S: Sources, W: Write, E: Write>(
         (SaysLine E.contents true console.old.errors console.new.errors) result
         (λ _. EndsListing (use_of W.contents console.old.writer console.new.writer) result) }
 {
-    match open(console, sources, name, true) {
+    match open(console, sources, name, MOST_KEPT, true) {
         Ok(mut table) => list_for(console, &mut table),
         Err(status) => status,
     }
@@ -209,17 +227,18 @@ fn open_both<'a, S: Sources, W: Write, E: Write>(
         console.old.errors console.new.errors (codes "threefield: device fault\n")) }
 {
     let explain = options.telling.explain;
-    let instance = open(console, sources, options.input, explain)?;
-    let answer = open(console, sources, answer, explain)?;
+    let instance = open(console, sources, options.input, MOST_KEPT, explain)?;
+    let answer = open(console, sources, answer, MOST_BESIDE, explain)?;
     Ok((instance, answer))
 }
 
-/// Opens the text of that name, which is kept where it is to be explained. Where it cannot be
-/// opened, says so, and gives the status.
+/// Opens the text of that name, which is kept up to so many bytes where it is to be explained. Where
+/// it cannot be opened, says so, and gives the status.
 fn open<'a, S: Sources, W: Write, E: Write>(
     console: &mut Console<W, E>,
     sources: &S,
     name: &'a str,
+    most: usize,
     explain: bool,
 ) -> Result<Opened<'a, S>, u8>
     ensures opened { IfOk result (λ source. IfSome (S.text_of sources.now name.now)
@@ -234,7 +253,7 @@ fn open<'a, S: Sources, W: Write, E: Write>(
     match sources.open(name) {
         Ok(source) => {
             let kept = explain.then(|| Vec::new(console.alloc));
-            Ok(Counted::new(Recorded::new(name, source, kept)))
+            Ok(Counted::new(Recorded::new(name, source, most, kept)))
         }
         Err(error) => {
             let status = say_device(&mut console.errors);

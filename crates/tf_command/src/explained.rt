@@ -30,14 +30,14 @@ impl<'a> Told<'a> {
         })
     }
 
-    /// What was kept of an instance and an answer.
+    /// What was kept of an instance and an answer, where the instance was.
     pub fn of_both<R, S>(
         instance: &'a Recorded<'a, R>,
         answer: &'a Recorded<'a, S>,
     ) -> Option<Told<'a>> {
         Some(Told {
             instance: instance.source()?,
-            answer: Some(answer.source()?),
+            answer: answer.source(),
             failure: instance.failure().or(answer.failure()),
         })
     }
@@ -83,7 +83,7 @@ impl Ended<'_> {
         }
     }
 
-    /// Says what is to be said of the options and of a check, where both texts were kept.
+    /// Says what is to be said of the options and of a check, where the instance was kept.
     pub fn tell_checked<R, S, E: Write>(
         &self,
         run: &Result<Checked, RunFault>,
@@ -92,18 +92,18 @@ impl Ended<'_> {
         errors: &mut Counted<E>,
     ) {
         if let Some(told) = Told::of_both(instance, answer) {
-            let explanation = match (run, &told.answer) {
-                (Ok(checked), Some(answer)) => {
+            let explanation = match run {
+                Ok(checked) => {
+                    let answer = told.answer.as_ref();
                     explain::checked(self.alloc, checked, self.request, &told.instance, answer)
                 }
-                (Err(fault), _) => told.refused(self.alloc, fault, self.request),
-                _ => Ok(String::new(self.alloc)),
+                Err(fault) => told.refused(self.alloc, fault, self.request),
             };
             tell_behind(self.telling, explanation, errors);
         }
     }
 
-    /// Says what is to be said of the options and of an evaluation, where both texts were kept.
+    /// Says what is to be said of the options and of an evaluation, where the instance was kept.
     pub fn tell_evaluated<R, S, E: Write>(
         &self,
         run: &Result<Standing, RunFault>,
@@ -112,12 +112,13 @@ impl Ended<'_> {
         errors: &mut Counted<E>,
     ) {
         if let Some(told) = Told::of_both(instance, answer) {
-            let explanation = match (run, &told.answer) {
-                (Ok(Standing::Unfit), Some(answer)) => {
+            let explanation = match run {
+                Ok(Standing::Unfit) => {
+                    let answer = told.answer.as_ref();
                     explain::unfit(self.alloc, self.request, &told.instance, answer)
                 }
-                (Err(fault), _) => told.refused(self.alloc, fault, self.request),
-                _ => Ok(String::new(self.alloc)),
+                Ok(_) => Ok(String::new(self.alloc)),
+                Err(fault) => told.refused(self.alloc, fault, self.request),
             };
             tell_behind(self.telling, explanation, errors);
         }

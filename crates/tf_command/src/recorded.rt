@@ -8,6 +8,14 @@ use std::alloc::Global;
 use std::io;
 use std::io::Read;
 use tf_advice::source::Source;
+use tf_model::limit::MOST_BYTES;
+
+/// The most bytes that are kept of a text: as many as a text may have.
+pub const MOST_KEPT: usize = MOST_BYTES;
+
+/// The most bytes that are kept of an answer beside its instance: 24 MiB, several times what an
+/// answer to the longest instance takes.
+pub const MOST_BESIDE: usize = 25_165_824;
 
 /// A source that was opened, its name, the bytes that it gave, where they are kept, and why it
 /// failed, if it did.
@@ -15,25 +23,26 @@ use tf_advice::source::Source;
 pub struct Recorded<'a, R> {
     name: &'a str,
     inner: R,
+    most: usize,
     kept: Option<Vec<u8>>,
     error: Option<io::Error>,
 }
 
 impl<'a, R> Recorded<'a, R> {
-    /// A source of which nothing was read.
-    pub fn new(name: &'a str, inner: R, kept: Option<Vec<u8>>) -> Recorded<'a, R>
+    /// A source of which nothing was read, and of which this many bytes are kept at most.
+    pub fn new(name: &'a str, inner: R, most: usize, kept: Option<Vec<u8>>) -> Recorded<'a, R>
         ensures { result.inner ≡ inner }
     {
         Recorded {
             name,
             inner,
+            most,
             kept,
             error: None,
         }
     }
 
-    /// The name and the bytes that the source gave, where they were kept and there was memory for
-    /// all of them.
+    /// The name and the bytes that the source gave, where all of them were kept.
     pub fn source(&self) -> Option<Source<'_>> {
         match &self.kept {
             Some(text) => Some(Source {
@@ -50,13 +59,18 @@ impl<'a, R> Recorded<'a, R> {
         Some((self.name, error))
     }
 
-    /// Keeps these bytes behind the others, or nothing any longer where there is no memory.
+    /// Keeps these bytes behind the others, or nothing any longer where they are too many or there
+    /// is no memory.
     fn keep(&mut self, bytes: &[u8])
         ensures inner { self.new.inner ≡ self.old.inner }
         ensures kept { KeepsMore (kept_of self.old) (kept_of self.new) bytes.now }
     {
+        let most = self.most;
         let is_kept = match &mut self.kept {
-            Some(text) => text.extend_from_slice(bytes).is_ok(),
+            Some(text) => {
+                text.len().saturating_add(bytes.len()) <= most
+                    && text.extend_from_slice(bytes).is_ok()
+            }
             None => true,
         };
         if !is_kept {

@@ -17,6 +17,10 @@ use tf_engine::request::{Form, Request};
 use tf_engine::run_check::Checked;
 use tf_read::fault::ReadFault;
 
+/// What is said of an answer at fault whose text was not kept.
+const NOT_KEPT: &str = "\
+The answer is not explained: there was no room to keep its text beside the instance.";
+
 /// What a solved problem did not use of its instance, and nothing where it used all of it.
 ///
 /// # Errors
@@ -53,7 +57,7 @@ fn say_unused(
 }
 
 /// What is wrong and how to fix it, where a run over an instance, and perhaps an answer, was
-/// refused.
+/// refused. There is no answer where the run had none, or its text was not kept.
 ///
 /// # Errors
 ///
@@ -80,11 +84,11 @@ pub fn refused(
             explain_cycle(&mut page, instance, jobs.as_slice())?;
         }
         RunFault::Device => say_output(&mut page)?,
-        RunFault::Answer(_) | RunFault::Pieces(_) | RunFault::OutOfMemory => {
-            if let Some(answer) = answer {
-                return not_drawn(alloc, fault, answer);
-            }
-        }
+        RunFault::Answer(_) | RunFault::Pieces(_) => match answer {
+            Some(answer) => return not_drawn(alloc, fault, answer),
+            None => page.say(NOT_KEPT)?,
+        },
+        RunFault::OutOfMemory => {}
     }
     Ok(page.text)
 }
@@ -129,8 +133,8 @@ pub fn not_listed(
     Ok(page.text)
 }
 
-/// Why an answer was rejected, with the numbers; where it was accepted, what the problem did not
-/// use of the instance.
+/// Why an answer was rejected, with the numbers, if its text was kept; where it was accepted, what
+/// the problem did not use of the instance.
 ///
 /// # Errors
 ///
@@ -140,13 +144,17 @@ pub fn checked(
     checked: &Checked,
     request: &Request,
     instance: &Source<'_>,
-    answer: &Source<'_>,
+    answer: Option<&Source<'_>>,
 ) -> Result<String, AllocError> {
     let mut page = Page::new(alloc);
     if let Checked::Accepted = checked {
         say_unused(alloc, &mut page, request, instance)?;
         return Ok(page.text);
     }
+    let Some(answer) = answer else {
+        page.say(NOT_KEPT)?;
+        return Ok(page.text);
+    };
     let case = Case {
         alloc,
         request,
@@ -157,7 +165,7 @@ pub fn checked(
     Ok(page.text)
 }
 
-/// Why an answer that was evaluated does not fit.
+/// Why an answer that was evaluated does not fit, if its text was kept.
 ///
 /// # Errors
 ///
@@ -166,9 +174,13 @@ pub fn unfit(
     alloc: Global,
     request: &Request,
     instance: &Source<'_>,
-    answer: &Source<'_>,
+    answer: Option<&Source<'_>>,
 ) -> Result<String, AllocError> {
     let mut page = Page::new(alloc);
+    let Some(answer) = answer else {
+        page.say(NOT_KEPT)?;
+        return Ok(page.text);
+    };
     let case = Case {
         alloc,
         request,
