@@ -1,6 +1,7 @@
 //! What the page is given.
-ghost use Rattle.std.specs.Prelude.{◌≡◌, ◌+◌, ◌≤◌, length, take, drop, MatchResult};
+ghost use Rattle.std.specs.Prelude.{◌≡◌, [], MatchResult};
 ghost use Rattle.tf_reply.specs.Replies.{printed, said};
+ghost use Rattle.tf_page.specs.Given.{Holds, memory_line};
 
 use std::alloc::{AllocError, Allocator};
 use tf_reply::reply::Reply;
@@ -20,11 +21,8 @@ pub fn give<A: Allocator>(
     lengths: &mut Lengths,
 ) -> u8
     ensures { MatchResult reply.now
-        (λ r. (result ≡ r.status) × (lengths.new.output ≡ length (printed r))
-        × (lengths.new.output + lengths.new.errors ≤ length out.old →
-        (take lengths.new.output out.new ≡ printed r)
-        × (take lengths.new.errors (drop lengths.new.output out.new) ≡ said r)))
-        (λ _. (result ≡ 3) × (lengths.new.output ≡ 0)) }
+        (λ r. Holds out.old out.new lengths.new (printed r) (said r) × (result ≡ r.status))
+        (λ _. Holds out.old out.new lengths.new [] memory_line × (result ≡ 3)) }
 {
     match reply {
         Ok(reply) => {
@@ -39,7 +37,8 @@ pub fn give<A: Allocator>(
 
 /// Gives the line that says that there was no memory, and tells the status.
 pub fn give_memory(out: &mut [u8], lengths: &mut Lengths) -> u8
-    ensures { (result ≡ 3) × (lengths.new.output ≡ 0) }
+    ensures held { Holds out.old out.new lengths.new [] memory_line }
+    ensures status { result ≡ 3 }
 {
     put(b"", b"threefield: want of memory\n", out, lengths);
     3
@@ -47,12 +46,7 @@ pub fn give_memory(out: &mut [u8], lengths: &mut Lengths) -> u8
 
 // Puts both texts into the buffer, if it has room for both.
 fn put(output: &[u8], errors: &[u8], out: &mut [u8], lengths: &mut Lengths)
-    ensures lengths { (lengths.new.output ≡ length output.now)
-        × (lengths.new.errors ≡ length errors.now) }
-    ensures output { length output.now + length errors.now ≤ length out.old →
-        take (length output.now) out.new ≡ output.now }
-    ensures errors { length output.now + length errors.now ≤ length out.old →
-        take (length errors.now) (drop (length output.now) out.new) ≡ errors.now }
+    ensures { Holds out.old out.new lengths.new output.now errors.now }
 {
     *lengths = Lengths {
         output: output.len(),

@@ -10,12 +10,8 @@
 mod arena;
 mod given;
 
-ghost use Rattle.std.specs.Prelude.{◌≡◌};
-ghost use Rattle.tf_command.specs.Ending.{EndsSolving, EndsBounding, EndsChecking, EndsEvaluating, EndsDrawing};
-ghost use Rattle.tf_command.specs.declared.options.Drawing.TheVariants.{Chart, Picture};
-ghost use Rattle.tf_text.specs.declared.answer.layout.Layout.TheVariants.{Two};
-ghost use Rattle.tf_reply.specs.Asked.{request_in, instance_part, answer_part, layout_said, detail_said};
-ghost use Rattle.tf_reply.specs.Replies.{IsOver, IsOverBoth};
+ghost use Rattle.tf_reply.specs.Commands.{Solves, Bounds, Checks, Evaluates, Draws, Pictures};
+ghost use Rattle.tf_reply.specs.Replies.{IsListed};
 ghost use Rattle.tf_page.specs.Given.{Given, Lent};
 
 use crate::arena::arena_over;
@@ -33,10 +29,7 @@ pub extern "C" fn page_solve(
     out: &mut [u8],
     lengths: &mut Lengths,
 ) -> u8
-    ensures { Given (IsOver (EndsSolving Lent (request_in asking.now texts.now
-        (layout_said asking.now.version)))
-        (instance_part asking.now texts.now))
-        out.old out.new lengths.new result }
+    ensures { Given (Solves Lent asking.now texts.now) out.old out.new lengths.new result }
 {
     match arena_over(space) {
         Ok(arena) => give(&solve(&arena, asking, texts), out, lengths),
@@ -53,9 +46,7 @@ pub extern "C" fn page_bound(
     out: &mut [u8],
     lengths: &mut Lengths,
 ) -> u8
-    ensures { Given (IsOver (EndsBounding Lent (request_in asking.now texts.now Two))
-        (instance_part asking.now texts.now))
-        out.old out.new lengths.new result }
+    ensures { Given (Bounds Lent asking.now texts.now) out.old out.new lengths.new result }
 {
     match arena_over(space) {
         Ok(arena) => give(&bound(&arena, asking, texts), out, lengths),
@@ -72,9 +63,7 @@ pub extern "C" fn page_check(
     out: &mut [u8],
     lengths: &mut Lengths,
 ) -> u8
-    ensures { Given (IsOverBoth (EndsChecking Lent (request_in asking.now texts.now Two))
-        (instance_part asking.now texts.now) (answer_part asking.now texts.now))
-        out.old out.new lengths.new result }
+    ensures { Given (Checks Lent asking.now texts.now) out.old out.new lengths.new result }
 {
     match arena_over(space) {
         Ok(arena) => give(&check(&arena, asking, texts), out, lengths),
@@ -91,10 +80,7 @@ pub extern "C" fn page_evaluate(
     out: &mut [u8],
     lengths: &mut Lengths,
 ) -> u8
-    ensures { Given (IsOverBoth (EndsEvaluating Lent (detail_said asking.now.certificate)
-        (request_in asking.now texts.now Two))
-        (instance_part asking.now texts.now) (answer_part asking.now texts.now))
-        out.old out.new lengths.new result }
+    ensures { Given (Evaluates Lent asking.now texts.now) out.old out.new lengths.new result }
 {
     match arena_over(space) {
         Ok(arena) => give(&evaluate(&arena, asking, texts), out, lengths),
@@ -111,8 +97,7 @@ pub extern "C" fn page_gantt(
     out: &mut [u8],
     lengths: &mut Lengths,
 ) -> u8
-    ensures { Given (IsOver (EndsDrawing Lent (Chart asking.now.columns)) texts.now)
-        out.old out.new lengths.new result }
+    ensures { Given (Draws Lent asking.now texts.now) out.old out.new lengths.new result }
 {
     match arena_over(space) {
         Ok(arena) => give(&gantt(&arena, asking, texts), out, lengths),
@@ -128,8 +113,7 @@ pub extern "C" fn page_picture(
     out: &mut [u8],
     lengths: &mut Lengths,
 ) -> u8
-    ensures { Given (IsOver (EndsDrawing Lent Picture) texts.now)
-        out.old out.new lengths.new result }
+    ensures { Given (Pictures Lent texts.now) out.old out.new lengths.new result }
 {
     match arena_over(space) {
         Ok(arena) => give(&picture(&arena, texts), out, lengths),
@@ -145,7 +129,9 @@ pub extern "C" fn page_problems(
     texts: &[u8],
     out: &mut [u8],
     lengths: &mut Lengths,
-) -> u8 {
+) -> u8
+    ensures { Given (IsListed Lent texts.now) out.old out.new lengths.new result }
+{
     match arena_over(space) {
         Ok(arena) => give(&problems(&arena, texts), out, lengths),
         Err(_) => give_memory(out, lengths),

@@ -6,7 +6,7 @@ use Rattle.tf_text.specs.Counted.{DeviceUse, inner_of, has_failed, use_of}
 use Rattle.tf_command.specs.Wrote.{Wrote}
 use Rattle.tf_reply.specs.declared.reply.Console.{Console}
 use Rattle.tf_reply.specs.declared.reply.Reply.{Reply}
-use Rattle.tf_reply.specs.Replies.{printed, said, IsOverBoth}
+use Rattle.tf_reply.specs.Replies.{HadMemory, said, Replies, IsOverBoth}
 use Rattle.tf_reply.proofs.Said.{whole}
 
 -- what is left of a slice that is read, and what a vector holds that is written to
@@ -27,9 +27,10 @@ module _ {A E : Type 0} (before after : Console A) (blank : (inner_of before.out
       → Ends (use_of left old new) (use_of left old' new')
       (use_of held before.output after.output) says status)
       → (result : Result (Reply A) E)
-      → IfOk result (λ r. (r.status ≡ status) × (r.console ≡ after) × (has_failed after.errors ≡ false))
-      → IfOk result (λ r. IsOverBoth Ends instance answer (printed r) (said r) r.status)
-  over_both Ends status ends (Ok r) (is, same, unfailed) =
+      → IfOk result (λ r. (r.status ≡ status) × (r.console ≡ after) × (has_failed after.errors ≡ false)
+      × HadMemory r.status)
+      → IfOk result (Replies (IsOverBoth Ends instance answer))
+  over_both Ends status ends (Ok r) (is, same, unfailed, memory) =
       let all = ap (λ (c : Console A). (inner_of c.errors).items) same
       ∙ whole before.errors after.errors line wrote unfailed silent in
       record {
@@ -42,5 +43,6 @@ module _ {A E : Type 0} (before after : Console A) (blank : (inner_of before.out
         ends = subst (Ends (use_of left old new) (use_of left old' new')
             (use_of held before.output after.output) (λ (l : List ℕ). said r ≡ l)) (sym is)
             (ends (λ (l : List ℕ). said r ≡ l) all);
+        memory = memory;
       }
   over_both Ends status ends (Err e) told = tt

@@ -1,7 +1,13 @@
 -- How a command over texts in memory ends.
-use Rattle.std.specs.Prelude.{◌≡◌, ℕ, ◌⊎◌, List, [], Some}
+use Rattle.std.specs.Prelude.{◌≡◌, ◌≢◌, ℕ, ◌⊎◌, List, [], Some}
 use Rattle.tf_text.specs.Counted.{DeviceUse, inner_of}
+use Rattle.tf_engine.specs.declared.fault.RunFault.{RunFault}
+use Rattle.tf_command.specs.FaultLine.{fault_line}
 use Rattle.tf_reply.specs.declared.reply.Reply.{Reply}
+
+-- a statement on what a command prints, on what it says of faults, and on its status
+abbrev pub Outcome : Type 1
+Outcome = List ℕ → List ℕ → ℕ → Type 0
 
 -- what a reply prints
 abbrev pub printed : {A : Type 0} → Reply A → List ℕ
@@ -11,14 +17,22 @@ printed reply = (inner_of reply.console.output).items
 abbrev pub said : {A : Type 0} → Reply A → List ℕ
 said reply = (inner_of reply.console.errors).items
 
--- the request was none of the program's, and nothing was printed
-abbrev pub IsMisused : {A : Type 0} → Reply A → Type 0
-IsMisused reply = (reply.status ≡ 5) × (printed reply ≡ [])
+-- a reply with this outcome
+abbrev pub Replies : {A : Type 0} → Outcome → Reply A → Type 0
+Replies Ends reply = Ends (printed reply) (said reply) reply.status
 
--- the request was none of the program's, or the command ended so: with what it printed, what it said
--- of faults, and its status
-abbrev pub Replies : {A : Type 0} → (List ℕ → List ℕ → ℕ → Type 0) → Reply A → Type 0
-Replies Ends reply = IsMisused reply ⊎ Ends (printed reply) (said reply) reply.status
+-- the request is misused, and nothing is printed
+abbrev pub IsMisused : List ℕ → ℕ → Type 0
+IsMisused output status = (status ≡ 5) × (output ≡ [])
+
+-- a request that is well formed ends so, and any other is misused
+abbrev pub IfWellFormed : Type 0 → Outcome → Outcome
+IfWellFormed WellFormed Ends output errors status =
+    (WellFormed × Ends output errors status) ⊎ ((¬ WellFormed) × IsMisused output status)
+
+-- memory has sufficed, for the devices too, which are memory
+abbrev pub HadMemory : ℕ → Type 0
+HadMemory status = (status ≢ 3) × (status ≢ 4)
 
 -- a device that held this text, all of which was still to be read
 abbrev pub Held : List ℕ → DeviceUse → Type 0
@@ -37,6 +51,7 @@ pub record IsOver (Ends : DeviceUse → DeviceUse → (List ℕ → Type 0) → 
   pub reads : Held text reader
   pub prints : Prints output writer
   pub ends : Ends reader writer (λ line. errors ≡ line) status
+  pub memory : HadMemory status
 
 -- the same of an instance and an answer
 pub record IsOverBoth
@@ -49,3 +64,17 @@ pub record IsOverBoth
   pub reads_answer : Held answer answer_reader
   pub prints : Prints output writer
   pub ends : Ends reader answer_reader writer (λ line. errors ≡ line) status
+  pub memory : HadMemory status
+
+-- a table is refused with the line of a fault, and nothing is printed
+pub record IsTableRefused (A : Type 0) (table output errors : List ℕ) (status : ℕ) : Type 0 where
+  pub given : table ≢ []
+  pub fault : RunFault A
+  pub line : errors ≡ fault_line fault
+  pub ends : status ≡ 2
+  pub unprinted : output ≡ []
+
+-- a list is printed and nothing is said of faults, or the table is refused
+abbrev pub IsListed : Type 0 → List ℕ → Outcome
+IsListed A table output errors status =
+    ((status ≡ 0) × (errors ≡ [])) ⊎ IsTableRefused A table output errors status

@@ -1,9 +1,10 @@
 //! What a caller asks for, in numbers and bytes.
-ghost use Rattle.std.specs.Prelude.{◌≡◌, ◌≤◌, IfOk, IfSome};
+ghost use Rattle.std.specs.Prelude.{◌≡◌, ◌+◌, ◌<◌, ◌≤◌, length, IfOk, IfSome, IfNone, OkIff, OnErr, OnOk, OnSome};
 ghost use Rattle.tf_command.specs.Asking.{form_asked, requested};
 ghost use Rattle.tf_engine.specs.FormData.{InWt, InFlow};
+ghost use Rattle.tf_model.specs.Limit.{most_machines};
 ghost use Rattle.tf_reply.specs.Asked.{IsAsked, flagged, pair_said, form_said, request_said, problem_part, name_part, instance_part, answer_part, layout_said, detail_said};
-ghost use Rattle.tf_text.specs.Chart.{most_columns};
+ghost use Rattle.tf_reply.specs.WellFormed.{HasAllowedColumns, HasAllowedSteps, IsAllowed, IsAllowedForm, IsWellFormed, IsWithin};
 
 use tf_command::options::{FormOption, Idle, MOST_STEPS, Options, Telling};
 use tf_evaluate::evaluation::Detail;
@@ -83,6 +84,10 @@ impl Asking {
         ensures name { IfSome result (λ t. t.name.now ≡ name_part self.now bytes.now) }
         ensures instance { IfSome result (λ t. t.instance.now ≡ instance_part self.now bytes.now) }
         ensures answer { IfSome result (λ t. t.answer.now ≡ answer_part self.now bytes.now) }
+        ensures whole { OnSome result
+            (self.now.problem + self.now.name + self.now.instance ≤ length bytes.now) }
+        ensures short { IfNone result
+            (length bytes.now < self.now.problem + self.now.name + self.now.instance) }
     {
         let (problem, bytes) = bytes.split_at_checked(self.problem)?;
         let (name, bytes) = bytes.split_at_checked(self.name)?;
@@ -98,7 +103,9 @@ impl Asking {
     /// What is asked for with these bytes, in which the texts stand one behind the other; or what is
     /// wrong with the request, in the words of the program.
     pub fn read<'a>(&self, bytes: &'a [u8]) -> Result<Asked<'a>, &'static str>
-        ensures { IfOk result (IsAsked self.now bytes.now) }
+        ensures asked { IfOk result (IsAsked self.now bytes.now) }
+        ensures formed { OnOk result (IsWellFormed self.now bytes.now) }
+        ensures malformed { OnErr result (¬ (IsWellFormed self.now bytes.now)) }
     {
         let Some(texts) = self.texts(bytes) else {
             return Err("the texts end early");
@@ -112,8 +119,12 @@ impl Asking {
 
     // The options that these numbers and texts mean.
     fn options<'a>(&self, problem: &'a [u8], name: &'a [u8]) -> Result<Options<'a>, &'static str>
-        ensures { IfOk result (λ options. (layout : Layout) →
+        ensures request { IfOk result (λ options. (layout : Layout) →
             requested options layout ≡ request_said self.now problem.now name.now layout) }
+        ensures allowed { OnOk result (IsAllowed
+            (request_said self.now problem.now name.now (layout_said self.now.version))) }
+        ensures forbidden { OnErr result (¬ (IsAllowed
+            (request_said self.now problem.now name.now (layout_said self.now.version)))) }
     {
         let Ok(problem) = std::str::from_utf8(problem) else {
             return Err("the problem is no text");
@@ -137,8 +148,9 @@ impl Asking {
 
     // The number of machines, if one is given.
     fn machines_given(&self) -> Result<Option<u32>, &'static str>
-        ensures { IfOk result
-            (λ machines. machines ≡ flagged self.now.has_machines self.now.machines) }
+        ensures { OkIff result
+            (IfSome (flagged self.now.has_machines self.now.machines) (IsWithin 1 most_machines))
+            (flagged self.now.has_machines self.now.machines) }
     {
         if self.has_machines != 0 && (self.machines == 0 || self.machines > MOST_MACHINES) {
             return Err("--machines takes a number from 1 to 1000");
@@ -148,7 +160,9 @@ impl Asking {
 
     // The form of the instance.
     fn form_option<'a>(&self, name: &'a [u8]) -> Result<FormOption<'a>, &'static str>
-        ensures { IfOk result (λ form. form_asked form ≡ form_said self.now name.now) }
+        ensures form { IfOk result (λ form. form_asked form ≡ form_said self.now name.now) }
+        ensures allowed { OnOk result (IsAllowedForm (form_said self.now name.now)) }
+        ensures forbidden { OnErr result (¬ (IsAllowedForm (form_said self.now name.now))) }
     {
         match self.form {
             0 => Ok(FormOption::Table),
@@ -158,7 +172,10 @@ impl Asking {
     }
 
     fn wt<'a>(&self) -> Result<FormOption<'a>, &'static str>
-        ensures { IfOk result (λ form. form_asked form ≡ InWt self.now.jobs self.now.index) }
+        ensures form { IfOk result (λ form. form_asked form ≡ InWt self.now.jobs self.now.index) }
+        ensures allowed { OnOk result (IsAllowedForm (InWt self.now.jobs self.now.index)) }
+        ensures forbidden { OnErr result
+            (¬ (IsAllowedForm (InWt self.now.jobs self.now.index))) }
     {
         if self.jobs == 0 || self.jobs > MOST_JOBS as u32 {
             return Err("--format wt needs --jobs, a number from 1 to 100000");
@@ -173,8 +190,12 @@ impl Asking {
     }
 
     fn flow<'a>(&self, name: &'a [u8]) -> Result<FormOption<'a>, &'static str>
-        ensures { IfOk result (λ form. form_asked form ≡
+        ensures form { IfOk result (λ form. form_asked form ≡
             InFlow name.now (pair_said self.now.has_pair self.now.first self.now.second)) }
+        ensures allowed { OnOk result (IsAllowedForm
+            (InFlow name.now (pair_said self.now.has_pair self.now.first self.now.second))) }
+        ensures forbidden { OnErr result (¬ (IsAllowedForm
+            (InFlow name.now (pair_said self.now.has_pair self.now.first self.now.second)))) }
     {
         let Ok(name) = std::str::from_utf8(name) else {
             return Err("the name is no text");
@@ -220,7 +241,7 @@ impl Asking {
 
     /// The most columns of a chart, or what is wrong with their number.
     pub fn chart_columns(&self) -> Result<u32, &'static str>
-        ensures { IfOk result (λ n. (n ≡ self.now.columns) × (1 ≤ n) × (n ≤ most_columns)) }
+        ensures { OkIff result (HasAllowedColumns self.now) self.now.columns }
     {
         if self.columns == 0 || self.columns > MOST_COLUMNS {
             return Err("--columns takes a number from 1 to 1000");
@@ -230,7 +251,8 @@ impl Asking {
 
     /// The steps of the search for prices, if they are given, or what is wrong with their number.
     pub fn price_steps(&self) -> Result<Option<u32>, &'static str>
-        ensures { IfOk result (λ steps. steps ≡ flagged self.now.has_steps self.now.steps) }
+        ensures { OkIff result (HasAllowedSteps self.now)
+            (flagged self.now.has_steps self.now.steps) }
     {
         if self.has_steps != 0 && (self.steps == 0 || self.steps > MOST_STEPS) {
             return Err("--steps takes a number from 1 to 1000000");

@@ -1,10 +1,11 @@
 //! The commands, over texts in memory.
 ghost use Rattle.std.specs.Prelude.{◌≡◌, IfOk};
+ghost use Rattle.tf_text.specs.Counted.{inner_of};
 ghost use Rattle.tf_command.specs.Asking.{requested};
 ghost use Rattle.tf_command.specs.Columns.{HasWidth};
 ghost use Rattle.tf_command.specs.Ending.{EndsSolving, EndsBounding, EndsChecking, EndsEvaluating, EndsDrawing};
-ghost use Rattle.tf_reply.specs.Asked.{request_in, instance_part, answer_part, layout_said, detail_said};
-ghost use Rattle.tf_reply.specs.Replies.{printed, said, Replies, IsOver, IsOverBoth};
+ghost use Rattle.tf_reply.specs.Commands.{Solves, Bounds, Checks, Evaluates, Draws, Pictures};
+ghost use Rattle.tf_reply.specs.Replies.{said, Replies, IsOver, IsOverBoth, IsListed};
 
 use crate::asking::{Asked, Asking};
 use crate::reply::{Console, Reply, misused};
@@ -29,9 +30,7 @@ pub fn solve<A: Allocator + Copy>(
     asking: &Asking,
     texts: &[u8],
 ) -> Result<Reply<A>, AllocError>
-    ensures { IfOk result (Replies (IsOver
-        (EndsSolving A (request_in asking.now texts.now (layout_said asking.now.version)))
-        (instance_part asking.now texts.now))) }
+    ensures { IfOk result (Replies (Solves A asking.now texts.now)) }
 {
     match asking.read(texts) {
         Ok(asked) => solved(alloc, &asked.options, asking.layout(), asked.instance),
@@ -46,8 +45,8 @@ fn solved<A: Allocator + Copy>(
     layout: Layout,
     instance: &[u8],
 ) -> Result<Reply<A>, AllocError>
-    ensures { IfOk result (λ r. IsOver (EndsSolving A (requested options.now layout))
-        instance.now (printed r) (said r) r.status) }
+    ensures { IfOk result (Replies (IsOver (EndsSolving A (requested options.now layout))
+        instance.now)) }
 {
     let request = options.request(alloc, layout)?;
     let mut instance = Counted::new(instance);
@@ -63,9 +62,7 @@ pub fn bound<A: Allocator + Copy>(
     asking: &Asking,
     texts: &[u8],
 ) -> Result<Reply<A>, AllocError>
-    ensures { IfOk result (Replies (IsOver
-        (EndsBounding A (request_in asking.now texts.now Layout.Two))
-        (instance_part asking.now texts.now))) }
+    ensures { IfOk result (Replies (Bounds A asking.now texts.now)) }
 {
     match (asking.read(texts), asking.price_steps()) {
         (Ok(asked), Ok(steps)) => bounded(alloc, &asked.options, steps, asked.instance),
@@ -80,8 +77,8 @@ fn bounded<A: Allocator + Copy>(
     steps: Option<u32>,
     instance: &[u8],
 ) -> Result<Reply<A>, AllocError>
-    ensures { IfOk result (λ r. IsOver (EndsBounding A (requested options.now Layout.Two))
-        instance.now (printed r) (said r) r.status) }
+    ensures { IfOk result (Replies (IsOver (EndsBounding A (requested options.now Layout.Two))
+        instance.now)) }
 {
     let request = options.request(alloc, Layout::Two)?;
     let mut instance = Counted::new(instance);
@@ -97,9 +94,7 @@ pub fn check<A: Allocator + Copy>(
     asking: &Asking,
     texts: &[u8],
 ) -> Result<Reply<A>, AllocError>
-    ensures { IfOk result (Replies (IsOverBoth
-        (EndsChecking A (request_in asking.now texts.now Layout.Two))
-        (instance_part asking.now texts.now) (answer_part asking.now texts.now))) }
+    ensures { IfOk result (Replies (Checks A asking.now texts.now)) }
 {
     match asking.read(texts) {
         Ok(asked) => checked(alloc, &asked),
@@ -109,9 +104,9 @@ pub fn check<A: Allocator + Copy>(
 
 #[tactic(auto, using(crate::proofs::Said::whole))]
 fn checked<A: Allocator + Copy>(alloc: A, asked: &Asked<'_>) -> Result<Reply<A>, AllocError>
-    ensures { IfOk result (λ r. IsOverBoth
+    ensures { IfOk result (Replies (IsOverBoth
         (EndsChecking A (requested asked.now.options Layout.Two))
-        asked.now.instance.now asked.now.answer.now (printed r) (said r) r.status) }
+        asked.now.instance.now asked.now.answer.now)) }
 {
     let request = asked.options.request(alloc, Layout::Two)?;
     let mut instance = Counted::new(asked.instance);
@@ -129,10 +124,7 @@ pub fn evaluate<A: Allocator + Copy>(
     asking: &Asking,
     texts: &[u8],
 ) -> Result<Reply<A>, AllocError>
-    ensures { IfOk result (Replies (IsOverBoth
-        (EndsEvaluating A (detail_said asking.now.certificate)
-        (request_in asking.now texts.now Layout.Two))
-        (instance_part asking.now texts.now) (answer_part asking.now texts.now))) }
+    ensures { IfOk result (Replies (Evaluates A asking.now texts.now)) }
 {
     match asking.read(texts) {
         Ok(asked) => evaluated(alloc, asking.detail(), &asked),
@@ -145,9 +137,9 @@ fn evaluated<A: Allocator + Copy>(
     detail: Detail,
     asked: &Asked<'_>,
 ) -> Result<Reply<A>, AllocError>
-    ensures { IfOk result (λ r. IsOverBoth
+    ensures { IfOk result (Replies (IsOverBoth
         (EndsEvaluating A detail (requested asked.now.options Layout.Two))
-        asked.now.instance.now asked.now.answer.now (printed r) (said r) r.status) }
+        asked.now.instance.now asked.now.answer.now)) }
 {
     let request = asked.options.request(alloc, Layout::Two)?;
     let mut instance = Counted::new(asked.instance);
@@ -165,8 +157,7 @@ pub fn gantt<A: Allocator + Copy>(
     asking: &Asking,
     answer: &[u8],
 ) -> Result<Reply<A>, AllocError>
-    ensures { IfOk result (Replies (IsOver
-        (EndsDrawing A (Drawing.Chart asking.now.columns)) answer.now)) }
+    ensures { IfOk result (Replies (Draws A asking.now answer.now)) }
 {
     match asking.chart_columns() {
         Ok(columns) => drawn(alloc, Drawing::Chart { columns }, answer),
@@ -176,7 +167,7 @@ pub fn gantt<A: Allocator + Copy>(
 
 /// Draws an answer as a picture.
 pub fn picture<A: Allocator + Copy>(alloc: A, answer: &[u8]) -> Result<Reply<A>, AllocError>
-    ensures { IfOk result (Replies (IsOver (EndsDrawing A Drawing.Picture) answer.now)) }
+    ensures { IfOk result (Replies (Pictures A answer.now)) }
 {
     drawn(alloc, Drawing::Picture, answer)
 }
@@ -188,7 +179,7 @@ fn drawn<A: Allocator + Copy>(
     answer: &[u8],
 ) -> Result<Reply<A>, AllocError>
     requires { HasWidth drawing }
-    ensures { IfOk result (λ r. IsOver (EndsDrawing A drawing) answer.now (printed r) (said r) r.status) }
+    ensures { IfOk result (Replies (IsOver (EndsDrawing A drawing) answer.now)) }
 {
     let mut answer = Counted::new(answer);
     let mut console = Console::new(alloc);
@@ -198,7 +189,9 @@ fn drawn<A: Allocator + Copy>(
 }
 
 /// Lists the problems that are solved; where there is a job table, those that it has the fields for.
-pub fn problems<A: Allocator + Copy>(alloc: A, table: &[u8]) -> Result<Reply<A>, AllocError> {
+pub fn problems<A: Allocator + Copy>(alloc: A, table: &[u8]) -> Result<Reply<A>, AllocError>
+    ensures { IfOk result (Replies (IsListed A table.now)) }
+{
     let mut console = Console::new(alloc);
     if table.is_empty() {
         return listed(
@@ -220,7 +213,10 @@ pub fn problems<A: Allocator + Copy>(alloc: A, table: &[u8]) -> Result<Reply<A>,
 fn listed<A: Allocator + Copy>(
     mut console: Console<A>,
     list: &String<A>,
-) -> Result<Reply<A>, AllocError> {
+) -> Result<Reply<A>, AllocError>
+    ensures status { IfOk result (λ r. r.status ≡ 0) }
+    ensures said { IfOk result (λ r. said r ≡ (inner_of console.errors).items) }
+{
     let status = match console.output.push_all(list.as_bytes()) {
         Ok(()) => 0,
         Err(_) => say_device(&mut console.errors),

@@ -1,7 +1,7 @@
 //! What a command gives.
 ghost use Rattle.std.specs.Prelude.{◌≡◌, [], false, IfOk};
 ghost use Rattle.tf_text.specs.Counted.{inner_of, has_failed};
-ghost use Rattle.tf_reply.specs.Replies.{IsMisused};
+ghost use Rattle.tf_reply.specs.Replies.{HadMemory, IsMisused, printed};
 
 use std::alloc::{AllocError, Allocator};
 use tf_command::report::say_usage;
@@ -40,7 +40,7 @@ impl<A: Allocator + Copy> Console<A> {
     /// There was no memory. A device that failed was memory too.
     pub fn ended(self, status: u8) -> Result<Reply<A>, AllocError>
         ensures { IfOk result (λ r. (r.status ≡ status) × (r.console ≡ self)
-            × (has_failed self.errors ≡ false)) }
+            × (has_failed self.errors ≡ false) × HadMemory r.status) }
     {
         if status == 3 || status == 4 || self.errors.failed() {
             return Err(AllocError);
@@ -54,7 +54,7 @@ impl<A: Allocator + Copy> Console<A> {
 
 /// The reply to a request that is none of the program's.
 pub fn misused<A: Allocator + Copy>(alloc: A, text: &str) -> Result<Reply<A>, AllocError>
-    ensures { IfOk result IsMisused }
+    ensures { IfOk result (λ r. IsMisused (printed r) r.status) }
 {
     let mut console = Console::new(alloc);
     let status = say_usage(&mut console.errors, text);

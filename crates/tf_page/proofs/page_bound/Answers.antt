@@ -1,16 +1,9 @@
-use Rattle.tf_text.specs.declared.answer.layout.Layout.TheVariants.{Two}
-use Rattle.tf_command.specs.Ending.{EndsBounding}
-use Rattle.tf_reply.specs.Asked.{request_in, instance_part}
-use Rattle.tf_reply.specs.Replies.{IsOver}
+use Rattle.tf_reply.specs.Commands.{Bounds}
 use Rattle.tf_page.specs.Given.{Lent}
 use Rattle.tf_page.proofs.Handed.{handed}
 use Rattle.tf_page.proofs.page_bound.Goals as goal
 
 pub returns-in-Ok : goal.returns-in-Ok
 returns-in-Ok c =
-    let asking = c.args.asking.now in
-    let texts = c.args.texts.now in
-    handed
-    (IsOver (EndsBounding Lent (request_in asking texts Two)) (instance_part asking texts))
-    c.bound.result c.bound.ensures c.args.out.now c.give.new.out c.give.new.lengths c.give.result
-    c.give.ensures
+    handed (Bounds Lent c.args.asking.now c.args.texts.now) c.bound.result c.bound.ensures c.args.out.now
+    c.give.new.out c.give.new.lengths c.give.result c.give.ensures

@@ -6,6 +6,7 @@ use Rattle.tf_reply.proofs.commands.solve.Goals as goal
 
 pub returns-in-Ok : goal.returns-in-Ok
 returns-in-Ok g c =
-    let asked = c.in-Ok.ensures in
+    let asked = c.in-Ok.ensures.asked in
     let same = asked.request _ ∙ ap (request_in c.args.asking.now c.args.texts.now) c.layout.ensures in
-    replied same (EndsSolving g.row.A.Denot) asked.instance c.solved.result c.solved.ensures
+    replied c.in-Ok.ensures.formed same (EndsSolving g.row.A.Denot) asked.instance c.solved.result
+    c.solved.ensures
