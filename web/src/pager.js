@@ -33,10 +33,10 @@ export class Pager {
       disabled: page < 0 || page > last || page === this.page,
     }, words);
     this.place.replaceChildren(
-      button("⏮", 0, "First page"), button("◀", this.page - 1, "Previous page"),
+      button("«", 0, "First page"), button("◀", this.page - 1, "Previous page"),
       html("span", {}, `${this.what} ${(this.first + 1).toLocaleString("en")}–`
         + `${this.end.toLocaleString("en")} of ${count.toLocaleString("en")}`),
-      button("▶", this.page + 1, "Next page"), button("⏭", last, "Last page"));
+      button("▶", this.page + 1, "Next page"), button("»", last, "Last page"));
   }
 
   get first() {
