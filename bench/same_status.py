@@ -9,7 +9,7 @@ Some runs wait for the second half of their input while signals come. A read is 
 handler, and the program has none: a library that is loaded before it, built with cc, sets one.
 
 Others have little address space, from the least with which the command ends as it should without --explain. What is kept to
-be explained takes up to three times the text more. With less than that a run with --explain may end with status 3, nothing
+be explained takes up to three times the texts more. With less than that a run with --explain may end with status 3, nothing
 printed; it never ends otherwise, and with as much or more it ends as the run without does.
 """
 import os
@@ -162,7 +162,7 @@ def compare_narrow(program, folder, table, answer):
         (["check", *LATENESS, long_table, long_table], 2),
     ]:
         least = least_space([program, *words], wanted)
-        enough = least + 3 * len(COMMENTS)
+        enough = least + 3 * sum(os.path.getsize(word) for word in words if os.path.exists(word))
         for space in range(least, enough + len(COMMENTS), 128 * PAGE):
             before = limited(resource.RLIMIT_AS, space)
             plain = run([program, *words], before)
