@@ -31,13 +31,14 @@ LIMIT = 60
 STATUSES = {
     "solve": {0, 2, 3, 4, 5},
     "bound": {0, 2, 3, 4, 5},
+    "trace": {0, 2, 3, 4, 5},
     "check": {0, 1, 2, 3, 4, 5},
     "evaluate": {0, 1, 2, 3, 4, 5, 6},
     "gantt": {0, 2, 3, 4, 5},
     "problems": {0, 2, 3, 4, 5},
 }
 OTHERWISE = {0, 5}  # help, the version, and what is no command
-EXPLAINS = ("solve", "bound", "check", "evaluate", "gantt")
+EXPLAINS = ("solve", "bound", "trace", "check", "evaluate", "gantt")
 
 NUMBERS = [b"0", b"1", b"-1", b"2", b"007", b"1000", b"1001", b"100000", b"100001", b"200001", b"2147483648", b"4294967295",
            b"4294967296", b"4000000000000000000", b"4000000000000000001", b"-4000000000000000000", b"9223372036854775807",
