@@ -292,6 +292,7 @@ fn solve<R: Read, W: Write, E: Write>(
             request: &request,
         };
         ended.tell_solved(&run, instance.inner(), &mut console.errors);
+        ended.tell_bound(&run, &mut console.errors);
     }
     status
 }
@@ -352,6 +353,7 @@ fn trace<R: Read, W: Write, E: Write>(
             request: &request,
         };
         ended.tell_solved(&run, instance.inner(), &mut console.errors);
+        ended.tell_bound(&run, &mut console.errors);
     }
     status
 }

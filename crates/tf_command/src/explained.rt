@@ -10,7 +10,14 @@ use tf_engine::request::Request;
 use tf_engine::run_check::Checked;
 use tf_evaluate::evaluation::Standing;
 use tf_explain::explain;
+use tf_model::prepare::Refusal;
 use tf_text::counted::Counted;
+
+/// What is said of a problem that has no solver.
+const MAY_BE_BOUNDED: &str = "\
+For many problems without a solver \"threefield bound\" prints a lower bound, and
+\"threefield evaluate\" judges a schedule by it.
+";
 
 /// What a run over an instance read, and the source that failed.
 #[derive(Clone, Copy)]
@@ -80,6 +87,13 @@ impl Ended<'_> {
                 Err(fault) => told.refused(self.alloc, fault, self.request),
             };
             tell_behind(self.telling, explanation, errors);
+        }
+    }
+
+    /// Says what else there is for a problem that has no solver.
+    pub fn tell_bound<E: Write>(&self, run: &Result<(), RunFault>, errors: &mut Counted<E>) {
+        if let Err(RunFault::Task(Refusal::NoSolver)) = run {
+            let _ = errors.push_all(MAY_BE_BOUNDED.as_bytes());
         }
     }
 
