@@ -9,8 +9,9 @@ Some runs wait for the second half of their input while signals come. A read is 
 handler, and the program has none: a library that is loaded before it, built with cc, sets one.
 
 Others have little address space, from the least with which the command ends as it should without --explain. What is kept to
-be explained takes up to three times the texts more. With less than that a run with --explain may end with status 3, nothing
-printed; it never ends otherwise, and with as much or more it ends as the run without does.
+be explained takes up to three times the texts more: twice a text where one is kept, and 2.9 times both where two are, as
+measured. With less than that a run with --explain may end with status 3, nothing printed; it never ends otherwise, and with as
+much or more it ends as the run without does.
 """
 import os
 import resource

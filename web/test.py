@@ -28,9 +28,9 @@ SHOP = "\ufeffOrder;Time (h);Due;After;Customer\r\n" + "\r\n".join([
     'Catalogue;14;07/03/2025;Plates;Meyer',
     'Flyers;5;06/03/2025;"Plates, ""Cards; menu """"Anker"""""" ";', '']) + "\r\n"
 WAYS = []
-IN_FIREFOX = ["empty_page", "spreadsheet", "cells_without_a_heading", "headings_of_other_languages", "examples",
-              "no_release_date", "certificate", "what_if", "problem_in_words", "machines_are_missing", "bound", "judging",
-              "mistakes_in_rows", "mistakes_of_the_calendar", "problems_are_the_modules"]
+IN_FIREFOX = ["empty_page", "spreadsheet", "columns_are_corrected", "cells_without_a_heading", "headings_of_other_languages",
+              "examples", "no_release_date", "certificate", "what_if", "problem_in_words", "machines_are_missing", "bound",
+              "judging", "mistakes_in_rows", "mistakes_of_the_calendar", "problems_are_the_modules"]
 
 
 def way(function):
@@ -139,8 +139,8 @@ def columns_are_corrected(page):
         select.value = ["name", "", ""][place]; select.dispatchEvent(new Event("change")); })""")
     expect_in("2 rows", page.text("#import-words"))
     expect_in("Which column is the processing time?", page.text("#import-words"))
-    page.run("""{ const select = document.querySelectorAll("#import-columns select")[2];
-        select.value = "time"; select.dispatchEvent(new Event("change")); }""")
+    page.run("""(() => { const select = document.querySelectorAll("#import-columns select")[2];
+        select.value = "time"; select.dispatchEvent(new Event("change")); })()""")
     expect_in("Not used: Wie lang.", page.text("#import-words"))
     page.click("#import-replace")
     page.notation("1||sumC")
