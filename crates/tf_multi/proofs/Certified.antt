@@ -26,7 +26,7 @@ use Rattle.tf_check.specs.Bound.{bound_by, split_bound}
 use Rattle.tf_check.specs.Claim.{Claim}
 use Rattle.tf_check.proofs.Given.{flow_takes_split}
 use Rattle.tf_check.proofs.LaidAccepted.{laid_accepted}
-use Rattle.tf_multi.specs.FlowShop.{MayPrecede, line_end}
+use Rattle.tf_multi.specs.Johnson.{MayPrecede, line_end}
 use Rattle.tf_multi.specs.TwoMachines.{time_at, operation_of, on_machine, in_line}
 use Rattle.tf_multi.proofs.FlowShop.{ByMachine, flow_listed, flow_fits, flow_stop, flow_schedule}
 use Rattle.tf_multi.proofs.Numbers.{apart_in_order}

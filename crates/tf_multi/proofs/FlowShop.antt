@@ -26,7 +26,7 @@ use Rattle.tf_model.proofs.Sums.{sum_by-plus}
 use Rattle.tf_schedule.proofs.Drawing.{greatest_stop_le}
 use Rattle.tf_schedule.specs.declared.semi_active.Operation.{Operation}
 use Rattle.tf_schedule.specs.SemiActive.{machine_stop, job_stop, start_after, with_operation, laid, IsOperation}
-use Rattle.tf_multi.specs.FlowShop.{line_end}
+use Rattle.tf_multi.specs.Johnson.{line_end}
 use Rattle.tf_multi.specs.TwoMachines.{time_at, operation_of, on_machine, in_line}
 use Rattle.tf_schedule.proofs.Laying.{Keeps, stop-le-line_stop, line_stop-own, line_stop-other}
 use Rattle.tf_schedule.proofs.Parts.{AllPairs-head, AllPairs-tail, AllPairs-append}

@@ -16,7 +16,7 @@ use Rattle.tf_model.proofs.Costs.{All-all_jobs}
 use Rattle.tf_check.specs.Bound.{keeps_side, split_bound}
 use Rattle.tf_check.specs.Kinds.{takes_split}
 use Rattle.tf_check.proofs.Given.{split_given}
-use Rattle.tf_multi.specs.FlowShop.{MayPrecede}
+use Rattle.tf_multi.specs.Johnson.{MayPrecede}
 use Rattle.tf_multi.specs.TwoMachines.{time_at}
 use Rattle.tf_multi.proofs.Numbers.{apart_in_order, distinct_in_order}
 

@@ -1,17 +1,19 @@
 -- The line of a flow shop's jobs: when it ends, and the last job that machine 2 waits for.
-use Rattle.std.proofs.Common.{◌≡◌, ℕ, ◌+◌, ◌<◌, ◌≤◌, max, List, [], ◌∷◌, ◌++◌, length, get_or, take, refl, sym, ap, subst, ◌∙◌, arith, ⊎_elim}
+use Rattle.std.proofs.Common.{◌≡◌, ◌⊎◌, ℕ, ◌+◌, ◌<◌, ◌≤◌, pos, true, false, max, List, [], ◌∷◌, ◌++◌, length, get_or, take, refl, sym, ap, subst, ◌∙◌, arith, inl, inr, ⊎_elim, slice_index}
 use Rattle.std.specs.List.{All, sum_by}
-use Rattle.std.specs.List.Sorted.{IsPermutation}
+use Rattle.std.specs.List.Sorted.{IsPermutation, IsNonDecreasing}
 use Rattle.std.proofs.lemmas.Bool.{cases_lt}
-use Rattle.std.proofs.lemmas.List.{take_more}
+use Rattle.std.proofs.lemmas.Bool.Decides.{nat_tests}
+use Rattle.std.proofs.lemmas.List.{take_more, get_or_default}
 use Rattle.std.proofs.lemmas.List.FromFn.{length-range_with_len}
 use Rattle.std.proofs.lemmas.List.Sorted.{sum_by-IsPermutation, All-permutation, length_permutation}
 use Rattle.std.proofs.lemmas.List.Sums.{sum_by-cons, sum_by_more, sum_by-take-le}
 use Rattle.tf_model.specs.Limit.{limit}
 use Rattle.tf_model.specs.SchedulingTask.{SchedulingTask, IsJob, all_jobs}
 use Rattle.tf_model.specs.Sound.{IsSound}
+use Rattle.tf_check.specs.Claim.{BySplit}
 use Rattle.tf_model.proofs.Costs.{All-all_jobs}
-use Rattle.tf_multi.specs.FlowShop.{line_end}
+use Rattle.tf_multi.specs.Johnson.{line_end, IsAwaited, IsTurn, front_at, split_by, IsTurnSplit}
 use Rattle.tf_multi.specs.TwoMachines.{time_at}
 
 module _ (f : ℕ → ℕ → ℕ) where
@@ -50,6 +52,8 @@ module _ (f : ℕ → ℕ → ℕ) where
       pub end : g ≡ line_end f 0 0 (take i order)
       pub start : i ≡ 0 → (g ≡ 0) × (late ≡ 0)
       pub place : 0 < i → late < i
+      pub awaited : IsAwaited f order late ⊎ (late ≡ 0)
+      pub last : (m : ℕ) → late < m → m < i → ¬ (IsAwaited f order m)
       pub second : 0 < i
           → g + seconds (take late order) ≡ firsts (take (late + 1) order) + seconds (take i order)
 
@@ -59,6 +63,8 @@ module _ (f : ℕ → ℕ → ℕ) where
       end = refl;
       start = λ e. (refl, refl);
       place = λ h. absurd (omega arith);
+      awaited = inr refl;
+      last = λ m from until. absurd (omega arith);
       second = λ h. absurd (omega arith);
     }
 
@@ -90,16 +96,35 @@ module _ (f : ℕ → ℕ → ℕ) where
 
       module _ (e' g' late' : ℕ) (first : e' ≡ e + f x 1) (second : g' ≡ max (e + f x 1) g + f x 2)
           (at_late : g < e + f x 1 → late' ≡ i) (at_same : e + f x 1 ≤ g → late' ≡ late) where
+        here : g < e + f x 1 → IsAwaited f order i
+        here lt = omega (arith, lt, turned.end, more_first, turned.first)
+
+        not_here : e + f x 1 ≤ g → ¬ (IsAwaited f order i)
+        not_here le awaited = absurd (omega (arith, awaited, le, turned.end, more_first, turned.first))
+
+        -- no later job was awaited than before, where this one is not
+        none_later : e + f x 1 ≤ g → (m : ℕ) → late < m → m < i + 1 → ¬ (IsAwaited f order m)
+        none_later le m from until = ⊎_elim
+            (λ lt. turned.last m from lt)
+            (λ ge. subst (λ n. ¬ (IsAwaited f order n)) (the_last m until ge) (not_here le))
+            (cases_lt m i)
+          where
+            the_last : (m : ℕ) → m < i + 1 → i ≤ m → i ≡ m
+            the_last m until ge = omega arith
+
         -- where the turn is at place l
-        turned_at : (l : ℕ) → late' ≡ l → l < i + 1
+        turned_at : (l : ℕ) → late' ≡ l → l < i + 1 → IsAwaited f order l ⊎ (l ≡ 0)
+            → ((m : ℕ) → l < m → m < i + 1 → ¬ (IsAwaited f order m))
             → g' + seconds (take l order) ≡ firsts (take (l + 1) order) + seconds
             (take (i + 1) order)
             → IsTurned (i + 1) e' g' late'
-        turned_at l at low p = record {
+        turned_at l at low awaited last p = record {
           first = omega (arith, first, more_first, turned.first);
           end = second ∙ sym next;
           start = λ z. absurd (omega arith);
           place = λ z. omega arith;
+          awaited = subst (λ n. IsAwaited f order n ⊎ (n ≡ 0)) (sym at) awaited;
+          last = subst (λ n. (m : ℕ) → n < m → m < i + 1 → ¬ (IsAwaited f order m)) (sym at) last;
           second = λ z. subst
               (λ n. g' + seconds (take n order)
               ≡ firsts (take (n + 1) order) + seconds (take (i + 1) order)) (sym at) p;
@@ -107,18 +132,65 @@ module _ (f : ℕ → ℕ → ℕ) where
 
         pub turned_more : IsTurned (i + 1) e' g' late'
         turned_more = ⊎_elim
-            (λ lt. turned_at i (at_late lt) (omega arith)
+            (λ lt. turned_at i (at_late lt) (omega arith) (inl (here lt))
+            (λ m from until. absurd (omega arith))
             (omega (arith, first, second, more_first, more_second, turned.first)))
             (λ le. ⊎_elim
-            (λ some. turned_at late (at_same le) (omega (arith, turned.place some))
+            (λ some. turned_at late (at_same le) (omega (arith, turned.place some)) turned.awaited
+            (none_later le)
             (omega (arith, first, second, more_second, turned.second some)))
             (λ none.
             let begin : i ≡ 0 = omega arith in
             let at = turned.start begin in
-            turned_at i (omega (arith, at_same le, at.1)) (omega arith)
+            turned_at i (omega (arith, at_same le, at.1)) (omega arith) (inr begin)
+            (λ m from until. absurd (omega arith))
             (omega (arith, first, second, more_first, more_second, turned.first, at.0)))
             (cases_lt 0 i))
             (cases_lt g (e + f x 1))
+
+  -- ---- the split at the turn
+
+  module _ (order : List ℕ) (n x : ℕ) (h : n < length order) (is : x ≡ get_or order n x)
+      (turn : IsTurn f order n) where
+    own : slice_index order n ≡ x
+    own = get_or_default order n 0 x h ∙ sym is
+
+    pub split_before : (side : List ℕ) → IsPermutation (take n order) side → IsNonDecreasing side
+        → f x 1 ≤ f x 2 → IsTurnSplit f order (BySplit side (pos (f x 1)) true)
+    split_before side is_side rising short = record {
+      turn = n;
+      is_turn = turn;
+      side = side;
+      front = subst (λ y. IsPermutation (front_at f order n y) side) (sym own)
+          (subst (λ js. IsPermutation js side) (sym (front_short x short)) is_side);
+      rising = rising;
+      certificate = sym (ap (λ y. split_by f y side) own ∙ split_short x short);
+    }
+      where
+        front_short : (y : ℕ) → f y 1 ≤ f y 2 → front_at f order n y ≡ take n order
+        front_short y le = grind (arith, nat_tests)
+
+        split_short : (y : ℕ) → f y 1 ≤ f y 2 → split_by f y side ≡ BySplit side (pos (f y 1)) true
+        split_short y le = grind (arith, nat_tests)
+
+    pub split_up_to : (side : List ℕ) → IsPermutation (take (n + 1) order) side
+        → IsNonDecreasing side → f x 2 < f x 1
+        → IsTurnSplit f order (BySplit side (pos (f x 2)) false)
+    split_up_to side is_side rising long = record {
+      turn = n;
+      is_turn = turn;
+      side = side;
+      front = subst (λ y. IsPermutation (front_at f order n y) side) (sym own)
+          (subst (λ js. IsPermutation js side) (sym (front_long x long)) is_side);
+      rising = rising;
+      certificate = sym (ap (λ y. split_by f y side) own ∙ split_long x long);
+    }
+      where
+        front_long : (y : ℕ) → f y 2 < f y 1 → front_at f order n y ≡ take (n + 1) order
+        front_long y lt = grind (arith, nat_tests)
+
+        split_long : (y : ℕ) → f y 2 < f y 1 → split_by f y side ≡ BySplit side (pos (f y 2)) false
+        split_long y lt = grind (arith, nat_tests)
 
 -- ---- all jobs, in any order
 

@@ -5,6 +5,7 @@ pub mod Dealing
 pub mod Dealt
 pub mod TwoMachines
 pub mod OpenShop
+pub mod Johnson
 -- within the crate
 pub mod Fill
 pub mod FlowShop

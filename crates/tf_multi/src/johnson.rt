@@ -1,7 +1,7 @@
 //! Flow shops with two machines.
 ghost use Rattle.std.specs.Prelude.{◌≡◌, ◌+◌, ◌<◌, ◌≤◌, length, take, pos, Ok, IfOk, IsTrue};
-ghost use Rattle.std.specs.List.{All, AllPairs, fold, sum_by};
-ghost use Rattle.std.specs.List.Sorted.{IsPermutation};
+ghost use Rattle.std.specs.List.{All, fold, sum_by};
+ghost use Rattle.std.specs.List.Sorted.{IsPermutation, IsNonDecreasing};
 ghost use Rattle.tf_model.specs.ClassTable.{is_flow};
 ghost use Rattle.tf_model.specs.Limit.{limit};
 ghost use Rattle.tf_model.specs.SchedulingTask.{IsJob, all_jobs};
@@ -11,7 +11,8 @@ ghost use Rattle.tf_schedule.specs.Schedule.{IsSchedule};
 ghost use Rattle.tf_schedule.specs.SemiActive.{laid, with_operation};
 ghost use Rattle.tf_check.specs.Accepted.{IsAccepted};
 ghost use Rattle.tf_check.specs.Bound.{split_bound};
-ghost use Rattle.tf_multi.specs.FlowShop.{MayPrecede};
+ghost use Rattle.tf_check.specs.Claim.{BySplit};
+ghost use Rattle.tf_multi.specs.Johnson.{IsJohnsonOrder, IsTurn, IsTurnSplit, RunsByJohnson};
 ghost use Rattle.tf_multi.specs.TwoMachines.{time_at, on_machine, in_line};
 
 mod order;
@@ -51,6 +52,7 @@ pub fn johnson<A: Allocator + Copy, B: Allocator>(
     requires { IsTrue (is_flow task.now.class) }
     ensures schedule { IfOk result (λ a. IsSchedule a.pieces) }
     ensures accepted { IfOk result (IsAccepted task.now) }
+    ensures rule { IfOk result (λ a. RunsByJohnson task.now a.pieces a.certificate) }
 {
     let order = johnson_order(alloc, task)?;
     let pieces = laid_in_line(alloc, task, &order)?;
@@ -113,15 +115,16 @@ fn split_at<A: Allocator, B: Allocator>(
     turn: Turn,
 ) -> Result<Split<A>, OutOfMemory>
     requires flow { IsTrue (is_flow task.now.class) }
-    requires order { IsPermutation (all_jobs task.now) order.now }
-    requires in_order { AllPairs (MayPrecede (time_at task.now)) order.now }
-    requires place { turn.late < length order.now }
+    requires order { IsJohnsonOrder task.now order.now }
+    requires turn { IsTurn (time_at task.now) order.now turn.late }
     requires end { turn.second + sum_by (λ j. time_at task.now j 2) (take turn.late order.now)
         ≡ sum_by (λ j. time_at task.now j 1) (take (turn.late + 1) order.now)
         + sum_by (λ j. time_at task.now j 2) order.now }
     requires small { turn.second ≤ limit }
-    ensures { IfOk result (λ split.
+    ensures bound { IfOk result (λ split.
         split_bound task.now split.side split.delta split.first ≡ Ok (pos turn.second)) }
+    ensures split { IfOk result (λ split. IsTurnSplit (time_at task.now) order.now
+        (BySplit split.side split.delta split.first)) }
 {
     let job = order[turn.late];
     let first = task.time_on(job, machine_of(true));
@@ -144,7 +147,8 @@ fn split_at<A: Allocator, B: Allocator>(
 
 // The jobs in rising order.
 fn rising<A: Allocator>(alloc: A, jobs: &[JobId]) -> Result<Vec<JobId, A>, OutOfMemory>
-    ensures { IfOk result (λ sorted. IsPermutation jobs.now sorted.items) }
+    ensures jobs { IfOk result (λ sorted. IsPermutation jobs.now sorted.items) }
+    ensures rising { IfOk result (λ sorted. IsNonDecreasing sorted.items) }
 {
     let mut sorted = jobs.to_vec(alloc)?;
     sorted.sort_unstable();

@@ -1,11 +1,10 @@
 //! Johnson's order.
 ghost use Rattle.std.specs.Prelude.{◌≡◌, ◌≤◌, map, IfOk};
-ghost use Rattle.std.specs.List.{All, AllPairs};
-ghost use Rattle.std.specs.List.Sorted.{IsPermutation};
+ghost use Rattle.std.specs.List.{All};
 ghost use Rattle.tf_model.specs.Limit.{limit};
 ghost use Rattle.tf_model.specs.SchedulingTask.{IsJob, all_jobs, time_of};
-ghost use Rattle.tf_multi.specs.FlowShop.{MayPrecede, IsRanked};
-ghost use Rattle.tf_multi.specs.TwoMachines.{time_at};
+ghost use Rattle.tf_multi.specs.FlowShop.{IsRanked};
+ghost use Rattle.tf_multi.specs.Johnson.{IsJohnsonOrder};
 
 use std::alloc::Allocator;
 use tf_model::ids::JobId;
@@ -29,9 +28,7 @@ pub(super) fn johnson_order<A: Allocator + Copy, B: Allocator>(
     alloc: A,
     task: &Task<B>,
 ) -> Result<Vec<JobId, A>, OutOfMemory>
-    ensures order { IfOk result (λ order. IsPermutation (all_jobs task.now) order.items) }
-    ensures in_order { IfOk result (λ order.
-        AllPairs (MayPrecede (time_at task.now)) order.items) }
+    ensures { IfOk result (λ order. IsJohnsonOrder task.now order.items) }
 {
     let mut ranked = ranked_jobs(alloc, task)?;
     ranked.sort_unstable_by_key(|job| (job.rank, job.job));

@@ -1,11 +1,11 @@
 //! The job at which the split of Johnson's order turns.
-ghost use Rattle.std.specs.Prelude.{◌≡◌, ◌+◌, ◌<◌, ◌≤◌, length, max, take};
+ghost use Rattle.std.specs.Prelude.{◌≡◌, ◌+◌, ◌<◌, ◌≤◌, max, take};
 ghost use Rattle.std.specs.List.{sum_by};
 ghost use Rattle.std.specs.List.Sorted.{IsPermutation};
 ghost use Rattle.tf_model.specs.Limit.{limit};
 ghost use Rattle.tf_model.specs.SchedulingTask.{all_jobs};
 ghost use Rattle.tf_model.specs.Sound.{IsSound};
-ghost use Rattle.tf_multi.specs.FlowShop.{line_end};
+ghost use Rattle.tf_multi.specs.Johnson.{line_end, IsTurn};
 ghost use Rattle.tf_multi.specs.TwoMachines.{time_at};
 
 use std::alloc::Allocator;
@@ -26,7 +26,7 @@ pub(super) struct Turn {
 pub(super) fn turning_place<B: Allocator>(task: &Task<B>, order: &[JobId]) -> Turn
     requires sound { IsSound task.now }
     requires order { IsPermutation (all_jobs task.now) order.now }
-    ensures place { result.late < length order.now }
+    ensures turn { IsTurn (time_at task.now) order.now result.late }
     ensures value { result.second ≡ line_end (time_at task.now) 0 0 order.now }
     ensures end { result.second + sum_by (λ j. time_at task.now j 2) (take result.late order.now)
         ≡ sum_by (λ j. time_at task.now j 1) (take (result.late + 1) order.now)

@@ -41,11 +41,15 @@ loop-i-preserved g c =
     (λ lt. c.pass-turn.ensures.late (omega (arith, first)))
     (λ le. c.pass-turn.ensures.same (omega (arith, first)))
 
-pub returns-clause-place : goal.returns-clause-place
-returns-clause-place g c =
+pub returns-clause-turn : goal.returns-clause-turn
+returns-clause-turn g c =
     let some : 0 < length c.args.order.now =
     order_some c.args.task.now c.args.order.now c.requires.order c.requires.sound in
-    omega (arith, c.loop-i.invariant.place (omega arith))
+    record {
+      place = omega (arith, c.loop-i.invariant.place (omega arith));
+      awaited = c.loop-i.invariant.awaited;
+      last = λ m from until. c.loop-i.invariant.last m from (omega arith);
+    }
 
 pub returns-clause-small : goal.returns-clause-small
 returns-clause-small g c = order_end c.args.task.now c.args.order.now c.requires.order
