@@ -22,7 +22,7 @@ use Rattle.tf_model.specs.Sound.{IsSound}
 use Rattle.tf_model.specs.declared.class.Class.TheVariants.{ReleaseLmax}
 use Rattle.tf_model.proofs.Costs.{All-all_jobs}
 use Rattle.tf_single.specs.declared.timeline.Urgency.{Urgency}
-use Rattle.tf_single.specs.Progress.{run_of, of_job, IsProgress}
+use Rattle.tf_single.specs.Progress.{run_of, of_job, IsAhead, IsProgress}
 use Rattle.tf_single.specs.Agenda.{AreByRelease, IsUrgency, places_of, entries_of, urgency_cmp, IsUnderway, IsLonger, Pushed, Joined, unfinished}
 use Rattle.tf_single.proofs.Progress.{no_progress, progress_idle, progress_run, extends_longer}
 
@@ -72,6 +72,10 @@ counted_entry P ready j all some =
 due_le : (a b : ℤ) (m n : ℕ) → is_lt (ordering_then (int_cmp b a) (nat_cmp n m)) ≡ false → a ≤ℤ b
 due_le a b m n h = grind (arith, nat_tests, ints)
 
+number_le : (a b : ℤ) (m n : ℕ) → is_lt (ordering_then (int_cmp b a) (nat_cmp n m)) ≡ false → a ≡ b
+    → m ≤ n
+number_le a b m n h same = grind (arith, nat_tests, ints)
+
 -- x is the first entry of the heap
 pub record IsTop (ready : List Urgency) (x : Urgency) : Type 0 where
   pub some : 0 < length ready
@@ -110,7 +114,7 @@ module _ (k : SchedulingTask) (coming : List ℕ) (ready : List Urgency) (rest :
     -- of the jobs of which some is left and that are released before the next one comes it is the most urgent
     top_urgent : (b j : ℕ) → All (λ i. b ≤ (job_data k i).release) coming → IsJob k j
         → 0 < of_job rest j → (job_data k j).release < b
-        → (job_data k x.job.0).due ≤ℤ (job_data k j).due
+        → IsAhead k x.job.0 j
     top_urgent b j late job some early =
         let counts : places_of coming j + entries_of ready j ≡ 1 = w.agenda.each j job
         ∙ left_one (of_job rest j) some in
@@ -126,7 +130,14 @@ module _ (k : SchedulingTask) (coming : List ℕ) (ready : List Urgency) (rest :
               let le : x.due.0 ≤ℤ e.0.due.0 = due_le x.due.0 e.0.due.0 x.job.0 e.0.job.0 (e.1).1 in
               let its : e.0.due.0 ≡ (job_data k j).due = (e.1).0.due
               ∙ ap (λ i. (job_data k i).due) e.2 in
-              subst (λ z. z ≤ℤ (job_data k j).due) top_known.due (subst (λ z. x.due.0 ≤ℤ z) its le)
+              record {
+                busy = top_job.0;
+                urgent = subst (λ z. z ≤ℤ (job_data k j).due) top_known.due
+                    (subst (λ z. x.due.0 ≤ℤ z) its le);
+                tie = λ same. subst (λ i. x.job.0 ≤ i) e.2
+                    (number_le x.due.0 e.0.due.0 x.job.0 e.0.job.0 (e.1).1
+                    (top_known.due ∙ same ∙ sym its));
+              }
         ]
 
     -- how much there is before the limit
@@ -235,7 +246,7 @@ module _ (k : SchedulingTask) (coming : List ℕ) (ready : List Urgency) (rest :
           )
 
       longer_by_one : IsLonger ps qs x.job.0 now b → length qs ≤ length ps + 1
-      longer_by_one (Pushed is) = omega (arith, ap length is, length_push ps (run_of x.job.0 now b))
+      longer_by_one (Pushed begins is) = omega (arith, ap length is, length_push ps (run_of x.job.0 now b))
       longer_by_one (Joined hs p before own stops is) =
           omega (
             arith,
@@ -402,6 +413,7 @@ progress_at_end k coming ready rest ps now w over empty =
       runs = p.runs;
       schedule = p.schedule;
       amount = λ j job. omega (arith, p.amount j job, none j job);
+      whole = p.whole;
       worked = p.worked;
       waiting = λ j u job before from some. absurd (omega arith);
     }

@@ -25,9 +25,10 @@ use Rattle.tf_model.specs.SchedulingTask.{SchedulingTask, IsJob, job_data, time_
 use Rattle.tf_model.specs.Sound.{IsSound}
 use Rattle.tf_model.specs.Feasible.{Fits}
 use Rattle.tf_single.specs.EarliestDue.{IsWaiting, RunsEarliestDue}
-use Rattle.tf_single.specs.Progress.{run_of, IsInTime, IsRun, IsProgress, Extends}
+use Rattle.tf_single.specs.Horn.{IsContinued}
+use Rattle.tf_single.specs.Progress.{run_of, IsAhead, IsRun, IsProgress, Extends}
 use Rattle.tf_single.specs.Agenda.{IsLonger, Pushed, Joined}
-use Rattle.tf_single.proofs.Lists.{All-front, AllPairs-front, AllPairs-last}
+use Rattle.tf_single.proofs.Lists.{All-front, AllPairs-front, AllPairs-last, adjacent_push, adjacent_last}
 
 last_stop_le : (ps : List Piece) (j v : ℕ) → All (λ p. as_time p.stop ≤ v) ps → last_stop ps j ≤ v
 last_stop_le [] j v all = omega arith
@@ -56,6 +57,7 @@ module _ (k : SchedulingTask) where
           λ i j d lt h. absurd (omega arith);
     };
     amount = λ j h. omega (arith, whole j h);
+    whole = λ i d h. absurd (omega arith);
     worked = λ j u h before from until. absurd (omega arith);
     waiting = λ j u h before from left. absurd (omega arith);
   }
@@ -76,6 +78,7 @@ module _ (k : SchedulingTask) where
         }) ps p.runs;
     schedule = p.schedule;
     amount = p.amount;
+    whole = p.whole;
     worked = λ j u h before from until. p.worked j u h
         (omega (arith, last_stop_le ps j now (stops_by ps now p.runs))) from until;
     waiting = λ j u h before from left. absurd (omega (arith, none j h left));
@@ -87,7 +90,7 @@ module _ (k : SchedulingTask) where
       → IsJob k x → 0 < rest x → next x + (b - now) ≡ rest x
       → ((j : ℕ) → IsJob k j → (j ≡ x → ⊥) → next j ≡ rest j)
       → ((j : ℕ) → IsJob k j → 0 < rest j → (job_data k j).release < b
-      → (job_data k x).due ≤ℤ (job_data k j).due)
+      → IsAhead k x j)
       → IsProgress k qs next b
   progress_run ps qs rest next x now b p e job left mine others urgent = record {
     runs = e.runs;
@@ -105,16 +108,18 @@ module _ (k : SchedulingTask) where
         ))
         (λ differ. omega (arith, p.amount j h, (e.others j differ).0, others j h differ))
         (cases_eq j x);
+    whole = e.whole p.whole;
     worked = λ j u h before from until. ⊎_elim
-        (λ early. subst (λ c. IsInTime k c (job_data k j).due) (sym (e.stay u early)) (⊎_elim
+        (λ early. subst (λ c. IsAhead k c j) (sym (e.stay u early)) (⊎_elim
         (λ same. p.waiting j u h early from (omega (arith, ap rest same)))
         (λ differ. p.worked j u h early from (omega (arith, (e.others j differ).1)))
         (cases_eq j x)))
-        (λ late. subst (λ c. IsInTime k c (job_data k j).due) (sym (e.here u late before)) (⊎_elim
+        (λ late. subst (λ c. IsAhead k c j) (sym (e.here u late before)) (⊎_elim
         (λ same. record {
           busy = job.0;
           urgent =
               subst (λ i. (job_data k x).due ≤ℤ (job_data k i).due) (sym same) (omega (arith, ints));
+          tie = λ _. omega (arith, same);
         })
         (λ differ. absurd
         (omega (arith, (e.others j differ).1, last_stop_le ps j now (stops_by ps now p.runs))))
@@ -125,10 +130,10 @@ module _ (k : SchedulingTask) where
         ⊎_elim (λ same. omega (arith, ap rest same))
         (λ differ. omega (arith, others j h differ)) (cases_eq j x) in
         ⊎_elim
-        (λ early. subst (λ c. IsInTime k c (job_data k j).due) (sym (e.stay u early))
+        (λ early. subst (λ c. IsAhead k c j) (sym (e.stay u early))
         (p.waiting j u h early from was))
-        (λ late. subst (λ c. IsInTime k c (job_data k j).due) (sym (e.here u late before))
-        (record { busy = job.0; urgent = urgent j h was (omega arith) }))
+        (λ late. subst (λ c. IsAhead k c j) (sym (e.here u late before))
+        (urgent j h was (omega arith)))
         (cases_lt u now);
   }
 
@@ -151,10 +156,12 @@ module _ (k : SchedulingTask) where
         (in_time j t w).busy;
     urgent = λ j t w some. subst (λ c. (job_data k c).due ≤ℤ (job_data k j).due)
         (sym (cell-drawing 1 ps t 0 (omega arith))) (in_time j t w).urgent;
+    first = λ j t w some. subst (λ c. (job_data k c).due ≡ (job_data k j).due → c ≤ j)
+        (sym (cell-drawing 1 ps t 0 (omega arith))) (in_time j t w).tie;
   }
     where
       in_time : (j t : ℕ) → IsWaiting k (drawing 1 ps) j t
-          → IsInTime k (job_at ps 1 t) (job_data k j).due
+          → IsAhead k (job_at ps 1 t) j
       in_time j t w =
           let until : t < last_stop ps j =
           omega (
@@ -333,10 +340,12 @@ over_before now b p q mp mq full stop start = (
 )
 
 -- a new piece
-pub extends_push : (k : SchedulingTask) (ps : List Piece) (x now b : ℕ) → All (IsRun k now) ps
+pub extends_push : (k : SchedulingTask) (ps : List Piece) (x now b : ℕ)
+    → ((hs : List Piece) (p : Piece) → ps ≡ hs ++ p ∷ [] → ¬ (IsContinued p (run_of x now b)))
+    → All (IsRun k now) ps
     → IsSchedule ps → IsJob k x → (job_data k x).release ≤ now → now < b → b ≤ limit
     → Extends k ps (ps ++ run_of x now b ∷ []) x now b
-extends_push k ps x now b runs schedule job released lt within =
+extends_push k ps x now b begins runs schedule job released lt within =
     let q : Piece = run_of x now b in
     let once : NoneTwice ps = schedule.none_twice in
     record {
@@ -385,6 +394,7 @@ extends_push k ps x now b runs schedule job released lt within =
             let r : IsRun k now (get_or ps n d) = runs n d h in
             over_before now b (get_or ps n d) q r.machine refl r.full r.stop refl);
       };
+      whole = λ whole. adjacent_push (λ p r. ¬ (IsContinued p r)) ps q whole begins;
     }
 
 -- the last piece goes on
@@ -464,6 +474,8 @@ extends_join k hs q now b stops runs schedule lt within =
             (AllPairs-front ComesBefore hs q schedule.in_order)
             (λ n d h. AllPairs-last ComesBefore hs q schedule.in_order n d h);
       };
+      whole = λ whole. adjacent_last (λ p s. ¬ (IsContinued p s)) hs q r whole
+          (λ p cut continued. cut continued);
     }
 
 -- either way
@@ -471,9 +483,9 @@ pub extends_longer : (k : SchedulingTask) (ps qs : List Piece) (x now b : ℕ)
     → IsLonger ps qs x now b → All (IsRun k now) ps → IsSchedule ps → IsJob k x
     → (job_data k x).release ≤ now → now < b → b ≤ limit
     → Extends k ps qs x now b
-extends_longer k ps qs x now b (Pushed is) runs schedule job released lt within =
+extends_longer k ps qs x now b (Pushed begins is) runs schedule job released lt within =
     subst (λ zs. Extends k ps zs x now b) (sym is)
-    (extends_push k ps x now b runs schedule job released lt within)
+    (extends_push k ps x now b begins runs schedule job released lt within)
 extends_longer k ps qs x now b (Joined hs p before own stops is) runs schedule job released lt
     within =
     subst (λ zs. Extends k zs qs x now b) (sym before)

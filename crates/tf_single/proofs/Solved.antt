@@ -24,6 +24,7 @@ use Rattle.tf_check.specs.Laws.{bound_in}
 use Rattle.tf_check.specs.Accepted.{IsAccepted}
 use Rattle.tf_check.proofs.SolutionAccepted.{solution_accepted}
 use Rattle.tf_single.specs.EarliestDue.{RunsEarliestDue, IsStretch, IsLastWindow, jobs_within, lateness_of}
+use Rattle.tf_single.specs.Horn.{RunsByHorn}
 use Rattle.tf_single.specs.Progress.{of_job, IsRun, IsProgress, IsTimeline}
 use Rattle.tf_single.specs.Ends.{AreEnds, IsLatest, lateness, is_within}
 use Rattle.tf_single.proofs.Progress.{sound_draws, progress_fits, runs_earliest_due}
@@ -64,9 +65,6 @@ module _ (k : SchedulingTask) (sound : IsSound k) (class : k.class ≡ ReleaseLm
   pub drawn : Draws k.machines ps (drawing k.machines ps)
   drawn = subst (λ m. Draws m ps (drawing m ps)) one_machine
       (sound_draws k ps (λ _. 0) timeline.now p)
-
-  pub drawn_earliest : RunsEarliestDue k (drawing k.machines ps)
-  drawn_earliest = subst (λ m. RunsEarliestDue k (drawing m ps)) one_machine rows_earliest
 
   -- ---- the window of the latest job
 
@@ -166,5 +164,15 @@ module _ (k : SchedulingTask) (sound : IsSound k) (class : k.class ≡ ReleaseLm
           bounded = bounded;
         })
 
-    pub solved_claim : IsLastWindow k (drawing k.machines ps) jobs
-    solved_claim = subst (λ m. IsLastWindow k (drawing m ps) jobs) one_machine window
+    pub solved_rule : RunsByHorn k ps (ByWindow jobs)
+    solved_rule = record {
+      runs = record {
+        schedule = p.schedule;
+        machine = All-weaker (IsRun k timeline.now) (λ q. q.machine ≡ 1) (λ q r. r.machine) ps
+            p.runs;
+        whole = p.whole;
+      };
+      fits = subst (λ m. Fits k (drawing m ps)) one_machine rows_fit;
+      earliest = subst (λ m. RunsEarliestDue k (drawing m ps)) one_machine rows_earliest;
+      certificate = subst (λ m. IsLastWindow k (drawing m ps) jobs) one_machine window;
+    }

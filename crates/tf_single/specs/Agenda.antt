@@ -9,6 +9,7 @@ use Rattle.tf_schedule.specs.declared.piece.Piece.{Piece}
 use Rattle.tf_model.specs.Limit.{limit}
 use Rattle.tf_model.specs.SchedulingTask.{SchedulingTask, IsJob, all_jobs, job_data, time_of}
 use Rattle.tf_single.specs.declared.timeline.Urgency.{Urgency}
+use Rattle.tf_single.specs.Horn.{IsContinued}
 use Rattle.tf_single.specs.Progress.{run_of, of_job, IsProgress}
 
 -- the jobs are in order of their release dates
@@ -58,9 +59,10 @@ pub record IsUnderway (k : SchedulingTask) (coming : List ℕ) (ready : List Urg
   pub left : sum rest ≤ sum_by (time_of k) (all_jobs k)
   pub within : now + sum rest ≤ limit
 
--- the pieces qs are ps and job x in [a, b): a piece of its own, or the last piece goes on
+-- the pieces qs are ps and job x in [a, b): a piece of its own, unless the last piece goes on
 pub data IsLonger (ps qs : List Piece) (x a b : ℕ) : Type 0 where
-  Pushed : qs ≡ ps ++ run_of x a b ∷ [] → IsLonger ps qs x a b
+  Pushed : ((hs : List Piece) (p : Piece) → ps ≡ hs ++ p ∷ [] → ¬ (IsContinued p (run_of x a b)))
+      → qs ≡ ps ++ run_of x a b ∷ [] → IsLonger ps qs x a b
   Joined : (hs : List Piece) (p : Piece) → ps ≡ hs ++ p ∷ [] → p.job ≡ x → p.stop ≡ pos a
       → qs ≡ hs ++ record { job = p.job; machine = p.machine; start = p.start; stop = pos b } ∷ []
       → IsLonger ps qs x a b

@@ -1,6 +1,7 @@
 -- what a caller has to believe
 pub mod RunsByRatio
 pub mod EarliestDue
+pub mod Horn
 pub mod LawlerFault
 pub mod Costs
 pub mod Backward

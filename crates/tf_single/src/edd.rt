@@ -11,7 +11,8 @@ ghost use Rattle.tf_schedule.specs.Schedule.{IsSchedule, IsPiece};
 ghost use Rattle.tf_schedule.specs.Drawing.{drawing, Draws};
 ghost use Rattle.tf_check.specs.Accepted.{IsAccepted};
 ghost use Rattle.tf_check.specs.Bound.{window_bound};
-ghost use Rattle.tf_single.specs.EarliestDue.{RunsEarliestDue, IsStretch, IsLastWindow, IsLastWindowClaim};
+ghost use Rattle.tf_single.specs.EarliestDue.{IsStretch, IsLastWindow};
+ghost use Rattle.tf_single.specs.Horn.{RunsByHorn};
 ghost use Rattle.tf_single.specs.Progress.{of_job, IsTimeline};
 ghost use Rattle.tf_single.specs.Ends.{AreEnds, AreInTurn, IsLatest, IsStretchStart, lateness, is_within};
 
@@ -42,13 +43,10 @@ pub fn edd<A: Allocator + Copy, B: Allocator>(
     ensures schedule { IfOk result (λ a. IsSchedule a.pieces) }
     ensures draws { IfOk result (λ a.
         Draws task.now.machines a.pieces (drawing task.now.machines a.pieces)) }
-    ensures earliest { IfOk result (λ a.
-        RunsEarliestDue task.now (drawing task.now.machines a.pieces)) }
     ensures accepted { IfOk result (IsAccepted task.now) }
     ensures best { IfOk result (λ a. IsBest task.now (drawing task.now.machines a.pieces) a.value) }
     ensures few { IfOk result (λ a. length a.pieces ≤ 2 * length task.now.jobs) }
-    ensures certificate { IfOk result (λ a.
-        IsLastWindowClaim task.now (drawing task.now.machines a.pieces) a.certificate) }
+    ensures rule { IfOk result (λ a. RunsByHorn task.now a.pieces a.certificate) }
 {
     let pieces = timeline(alloc, task)?;
     let ends = completions(alloc, task, &pieces)?;

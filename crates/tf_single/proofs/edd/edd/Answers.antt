@@ -3,7 +3,7 @@ use Rattle.std.proofs.lemmas.Int.{to_z-of_z}
 use mir.Syntax.{w64}
 use Rattle.tf_check.proofs.Best.{accepted-best_drawing}
 use Rattle.tf_single.specs.Ends.{AreInTurn}
-use Rattle.tf_single.proofs.Solved.{drawn, drawn_earliest, solved_accepted, solved_claim}
+use Rattle.tf_single.proofs.Solved.{drawn, solved_accepted, solved_rule}
 use Rattle.tf_single.proofs.Turns.{in_turn}
 use Rattle.tf_single.proofs.edd.edd.Goals as goal
 
@@ -18,11 +18,6 @@ returns-clause-draws g c =
     rw c.new.ensures
     (drawn _ c.in_ok-pieces.ensures.sound c.requires _ c.in_ok-pieces.ensures.timeline)
 
-pub returns-clause-earliest : goal.returns-clause-earliest
-returns-clause-earliest g c =
-    rw c.new.ensures
-    (drawn_earliest _ c.in_ok-pieces.ensures.sound c.requires _ c.in_ok-pieces.ensures.timeline)
-
 pub returns-clause-accepted : goal.returns-clause-accepted
 returns-clause-accepted g c =
     let window = rw c.deref-2.ensures.value at c.in_ok-window.ensures.window in
@@ -35,11 +30,11 @@ returns-clause-best g c =
     accepted-best_drawing c.args.task.now _ c.in_ok-pieces.ensures.sound
     (returns-clause-accepted g c)
 
-pub returns-clause-certificate : goal.returns-clause-certificate
-returns-clause-certificate g c =
+pub returns-clause-rule : goal.returns-clause-rule
+returns-clause-rule g c =
     let window = rw c.deref-2.ensures.value at c.in_ok-window.ensures.window in
     rw c.new.ensures
-    (solved_claim _ c.in_ok-pieces.ensures.sound c.requires _ c.in_ok-pieces.ensures.timeline _
+    (solved_rule _ c.in_ok-pieces.ensures.sound c.requires _ c.in_ok-pieces.ensures.timeline _
     window _ c.in_ok-window.ensures.value)
 
 pub returns-clause-few : goal.returns-clause-few
