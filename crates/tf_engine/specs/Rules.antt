@@ -7,7 +7,9 @@ use Rattle.tf_schedule.specs.Schedule.{IsSchedule}
 use Rattle.tf_check.specs.Claim.{AnswerData, ByPairs}
 use Rattle.tf_single.specs.RunsByRatio.{RunsByRatio}
 use Rattle.tf_single.specs.FromTheBack.{IsFromTheBack}
+use Rattle.tf_single.specs.Horn.{RunsByHorn}
 use Rattle.tf_multi.specs.Dealt.{AreDealt, IsReverseRanks}
+use Rattle.tf_multi.specs.Johnson.{RunsByJohnson}
 use Rattle.tf_multi.specs.Longest.{IsLoadOrLongest}
 use Rattle.tf_multi.specs.OpenShop.{IsLed}
 use Rattle.tf_multi.specs.Wrapped.{AreWrapped}
@@ -32,7 +34,15 @@ IsByWrapping k a = AreWrapped k a.pieces a.value × IsLoadOrLongest k a.certific
 abbrev pub IsByDealing : SchedulingTask → AnswerData → Type 0
 IsByDealing k a = AreDealt k a.pieces × IsReverseRanks k a.certificate
 
--- the rule of each class; of Horn's and of Johnson's this says nothing
+-- Horn's rule
+abbrev pub IsByDueDate : SchedulingTask → AnswerData → Type 0
+IsByDueDate k a = RunsByHorn k a.pieces a.certificate
+
+-- Johnson's rule
+abbrev pub IsInLine : SchedulingTask → AnswerData → Type 0
+IsInLine k a = RunsByJohnson k a.pieces a.certificate
+
+-- the rule of each class
 abbrev pub is_by_rule : Class → SchedulingTask → AnswerData → Type 0
 is_by_rule WeightedSum k a = IsBySmith k a
 is_by_rule PlainSum k a = IsBySmith k a
@@ -46,9 +56,9 @@ is_by_rule Lmax k a = IsByLawler k a
 is_by_rule PrecLmax k a = IsByLawler k a
 is_by_rule PrmpLmax k a = IsByLawler k a
 is_by_rule PrmpPrecLmax k a = IsByLawler k a
-is_by_rule ReleaseLmax k a = Unit {0}
-is_by_rule FlowTwo k a = Unit {0}
-is_by_rule PrmpFlowTwo k a = Unit {0}
+is_by_rule ReleaseLmax k a = IsByDueDate k a
+is_by_rule FlowTwo k a = IsInLine k a
+is_by_rule PrmpFlowTwo k a = IsInLine k a
 is_by_rule OpenTwo k a = IsByLeader k a
 is_by_rule PrmpOpenTwo k a = IsByLeader k a
 is_by_rule ParallelPrmp k a = IsByWrapping k a
