@@ -18,7 +18,7 @@ use tf_model::ids::JobId;
 use tf_model::instance::Instance;
 use tf_model::job::{Job, Times};
 use tf_model::memory::OutOfMemory;
-use tf_model::prepare::prepare;
+use tf_model::prepare::{Refusal, prepare};
 use tf_model::problem::{Env, Goal, Problem};
 use tf_model::task::Task;
 use tf_single::edd::edd;
@@ -143,7 +143,11 @@ fn task_on<A: Allocator + Copy, B: Allocator>(
     let Ok(instance) = Instance::new(rows, Vec::new(alloc), None) else {
         return Ok(None);
     };
-    Ok(prepare(alloc, &instance, &problem, None).ok())
+    match prepare(alloc, &instance, &problem, None) {
+        Ok(task) => Ok(Some(task)),
+        Err(Refusal::OutOfMemory) => Err(OutOfMemory),
+        Err(_) => Ok(None),
+    }
 }
 
 // The window of a timetable of least greatest lateness, by the numbers that the jobs had before.

@@ -1,0 +1,97 @@
+//! Problems without a solver, and the runs over them.
+use std::alloc::{AllocError, Allocator};
+use test_runs::devices::{Sink, Source};
+use test_runs::examples::Given;
+use test_runs::runs::request;
+use tf_assess::assessment::Assessed;
+use tf_assess::run_assess::run_assess;
+use tf_bounding::run_bound::run_bound;
+use tf_engine::fault::RunFault;
+use tf_engine::request::Request;
+use tf_text::answer::layout::Layout;
+use tf_text::counted::Counted;
+
+/// How many steps a search for prices takes.
+const STEPS: Option<u32> = Some(2);
+
+/// A problem, an instance text, its bound as it is printed, and an answer that is assessed.
+#[derive(Clone, Copy)]
+pub struct Case {
+    pub problem: &'static str,
+    pub given: Given,
+    pub instance: &'static [u8],
+    pub bound: &'static [u8],
+    pub answer: &'static [u8],
+    pub assessed: Assessed,
+}
+
+/// Three jobs of 4 on two machines: one machine has to take two of them.
+const TWO_MACHINES: Case = Case {
+    problem: "P2||Cmax",
+    given: Given::Table,
+    instance: b"table 1\njob 1 p=4\njob 2 p=4\njob 3 p=4\n",
+    bound: b"bound 1\nproblem P2||Cmax\njobs 3\nmachines 2\nvalue 8\ncrowd 1 1 2 3\nend\n",
+    answer: b"answer 1\nproblem P2||Cmax\njobs 3\nmachines 2\nvalue 8\npiece 1 1 0 4\n\
+        piece 3 1 4 8\npiece 2 2 0 4\ncert load\nend\n",
+    assessed: Assessed::Best,
+};
+
+/// On machine 3 no job comes before 3, and its times are 8. Job 2 waits a step there.
+const THREE_MACHINES: Case = Case {
+    problem: "F3|prmu|Cmax",
+    given: Given::FlowShop {
+        name: "tiny",
+        pair: None,
+    },
+    instance: b"instance tiny\n3 3\n0 2 1 3 2 1\n0 4 1 1 2 2\n0 1 1 2 2 5\n",
+    bound: b"bound 1\nproblem F3|prmu|Cmax\njobs 3\nmachines 3\nvalue 11\nmachine 3 1 2 3\nend\n",
+    answer: b"answer 1\nproblem F3|prmu|Cmax\njobs 3\nmachines 3\nvalue 12\npiece 3 1 0 1\n\
+        piece 1 1 1 3\npiece 2 1 3 7\npiece 3 2 1 3\npiece 1 2 3 6\npiece 2 2 7 8\n\
+        piece 3 3 3 8\npiece 1 3 8 9\npiece 2 3 10 12\ncert load\nend\n",
+    assessed: Assessed::Unproved,
+};
+
+/// Multipliers 1, 1/2 and 3/2 bound the weighted tardiness by 5/2, rounded up.
+const TARDINESS: Case = Case {
+    problem: "1||sumwT",
+    given: Given::Table,
+    instance: b"table 1\njob 1 p=2 w=1 d=3\njob 2 p=1 w=2 d=5\njob 3 p=3 w=2 d=3\n",
+    bound: b"bound 1\nproblem 1||sumwT\njobs 3\nmachines 1\nvalue 3\n\
+        multipliers 1 1000000 1000000 500000 1500000\nend\n",
+    answer: b"answer 1\nproblem 1||sumwT\njobs 3\nmachines 1\nvalue 0\npiece 1 1 0 2\n\
+        piece 2 1 1 2\ncert load\nend\n",
+    assessed: Assessed::Unfit,
+};
+
+pub const CASES: [Case; 3] = [TWO_MACHINES, THREE_MACHINES, TARDINESS];
+
+/// What is asked for.
+pub fn request_of(rt: &HostRuntime, case: &Case) -> Result<Request, AllocError> {
+    request(rt, case.problem, case.given, Layout::One)
+}
+
+/// Prints the bound of an instance.
+pub fn bound<A: Allocator + Copy>(
+    alloc: A,
+    request: &Request,
+    instance: &mut Source<'_>,
+    sink: &mut Sink,
+) -> Result<(), RunFault<A>> {
+    let mut reader = Counted::new(instance);
+    let mut writer = Counted::new(sink);
+    run_bound(alloc, request, STEPS, &mut reader, &mut writer)
+}
+
+/// Assesses an answer to an instance.
+pub fn assess<A: Allocator + Copy>(
+    alloc: A,
+    request: &Request,
+    instance: &mut Source<'_>,
+    answer: &mut Source<'_>,
+    sink: &mut Sink,
+) -> Result<Assessed, RunFault<A>> {
+    let mut reader = Counted::new(instance);
+    let mut other = Counted::new(answer);
+    let mut writer = Counted::new(sink);
+    run_assess(alloc, request, STEPS, &mut reader, &mut other, &mut writer)
+}
