@@ -8,6 +8,7 @@ pub const EXCHANGED: &str =
 #[derive(Clone, Copy, Debug, PartialEq, Eq)]
 pub enum Cause {
     ByteOrderMark,
+    ZeroBytes,
     IsAnswer,
     IsFlowShop,
     IsNumbers,
@@ -40,9 +41,13 @@ pub enum Cause {
     PlusSign,
     Thousands,
     Unit,
+    Date,
+    Clock,
+    NoAscii,
     NotANumber,
     TooLarge,
     Negative,
+    Formula,
     StepForm,
     TimesNotRising,
     CostFalls,
@@ -103,12 +108,18 @@ impl Cause {
 }
 
 /// All advice, in the order of the causes.
-pub static ADVICE: [Advice; 42] = [
+pub static ADVICE: [Advice; 47] = [
     Advice {
         cause: Cause::ByteOrderMark,
         place: Place::Heading,
         wrong: "The file begins with a byte order mark, which an editor wrote.",
         fix: "Save the file as UTF-8 without a byte order mark.",
+    },
+    Advice {
+        cause: Cause::ZeroBytes,
+        place: Place::Heading,
+        wrong: "The file has zero bytes: it is no plain text, or it is in UTF-16.",
+        fix: "Save it as plain text in UTF-8.",
     },
     Advice {
         cause: Cause::IsAnswer,
@@ -303,6 +314,24 @@ pub static ADVICE: [Advice; 42] = [
         fix: "Write digits alone; all times are in one unit of your choice.",
     },
     Advice {
+        cause: Cause::Date,
+        place: Place::Job,
+        wrong: "This looks like a date, and times are whole numbers of time steps.",
+        fix: "Count the days or hours from the start of the plan; the page in the browser does that.",
+    },
+    Advice {
+        cause: Cause::Clock,
+        place: Place::Job,
+        wrong: "This looks like hours and minutes, and times are whole numbers of time steps.",
+        fix: "Take the minute as the time step, and write 90 in place of 1:30.",
+    },
+    Advice {
+        cause: Cause::NoAscii,
+        place: Place::Job,
+        wrong: "A character here is not ASCII, such as a long minus sign or a no-break space.",
+        fix: "Write \"-\" and plain spaces.",
+    },
+    Advice {
         cause: Cause::NotANumber,
         place: Place::Job,
         wrong: "A whole number is wanted here.",
@@ -319,6 +348,12 @@ pub static ADVICE: [Advice; 42] = [
         place: Place::Job,
         wrong: "Times, weights and release dates are at least 0.",
         fix: "Due dates and costs alone may be negative.",
+    },
+    Advice {
+        cause: Cause::Formula,
+        place: Place::Job,
+        wrong: "A cost is no formula: it is a base and then steps TIME:VALUE.",
+        fix: "Write it as in h=0,5:10,9:20: 0 at first, 10 from time 5 on, 20 from time 9 on.",
     },
     Advice {
         cause: Cause::StepForm,

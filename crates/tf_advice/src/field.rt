@@ -133,9 +133,11 @@ fn fault_of_cost(value: &[u8]) -> Option<Cause> {
 
 fn fault_of_base(base: &[u8]) -> Option<Cause> {
     if base.contains(&b':') {
-        Some(Cause::StepForm)
-    } else {
-        fault_of_number(base)
+        return Some(Cause::StepForm);
+    }
+    match fault_of_number(base) {
+        Some(Cause::NotANumber) => Some(Cause::Formula),
+        other => other,
     }
 }
 

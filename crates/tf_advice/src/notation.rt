@@ -45,7 +45,7 @@ const DEADLINES: &str = "Due dates are no condition: give each job its d=.";
 
 const SETUPS: &str = "Setup times are not read.";
 
-static HINTS: [Hint; 14] = [
+static HINTS: [Hint; 16] = [
     Hint {
         word: "Tmax",
         advice: "Tmax is 0 or Lmax, whichever is greater: a schedule with minimum Lmax minimizes it.",
@@ -80,6 +80,14 @@ static HINTS: [Hint; 14] = [
     },
     Hint {
         word: "sjk",
+        advice: SETUPS,
+    },
+    Hint {
+        word: "s_ij",
+        advice: SETUPS,
+    },
+    Hint {
+        word: "sij",
         advice: SETUPS,
     },
     Hint {
@@ -169,6 +177,9 @@ pub fn explain_notation(
     page.say(expected.allows())?;
     match hint_for(text, byte, word) {
         Some(advice) => page.say(advice)?,
+        None if expected == Expected::Condition && is_objective(word) => {
+            page.say("The objective stands behind a second \"|\", as in \"1||Lmax\".")?;
+        }
         None => say_nearest(alloc, page, expected, word)?,
     }
     if text.contains(&b'/') {
@@ -194,6 +205,11 @@ fn hint_for(text: &[u8], byte: usize, word: &[u8]) -> Option<&'static str> {
     }
     let hint = HINTS.iter().find(|hint| hint.word.as_bytes() == word)?;
     Some(hint.advice)
+}
+
+// Whether the word is an objective's.
+fn is_objective(word: &[u8]) -> bool {
+    OBJECTIVES.iter().any(|known| known.as_bytes() == word)
 }
 
 /// The word at which the text goes on from that byte, or the bytes there that are no ASCII.
@@ -292,6 +308,12 @@ fn reason_of(asked: &Problem) -> Option<&'static str> {
         Env::Uniform | Env::Unrelated => {
             Some("Parallel machines are solved only if they are identical.")
         }
+        Env::Single if asked.goal == Goal::Cmax && !asked.release => Some(
+            "On one machine every order without idle time is optimal, such as that of 1||sumC.",
+        ),
+        Env::Flow if asked.goal == Goal::Cmax && asked.prmu && !has_more(asked) => {
+            Some("On two machines F2||Cmax gives a permutation schedule, and none is shorter.")
+        }
         Env::Parallel if asked.goal == Goal::Cmax && !asked.prmp => Some(
             "Without preemption this is NP-hard. The value of P|prmp|Cmax is a lower bound on it.",
         ),
@@ -300,6 +322,19 @@ fn reason_of(asked: &Problem) -> Option<&'static str> {
         }
         _ => None,
     }
+}
+
+// Whether a problem has a condition beside the order that is the same on all machines.
+fn has_more(problem: &Problem) -> bool {
+    let Problem {
+        release,
+        prec,
+        nwt,
+        block,
+        rcrc,
+        ..
+    } = *problem;
+    release || prec || nwt || block || rcrc
 }
 
 /// In how much two problems differ.

@@ -33,9 +33,21 @@ fn cause_of_no_number(word: &[u8]) -> Cause {
         Cause::Thousands
     } else if has_unit(word) {
         Cause::Unit
+    } else if is_among(word, b":") {
+        Cause::Clock
+    } else if is_date(word) {
+        Cause::Date
+    } else if word.iter().any(|byte| *byte >= 128) {
+        Cause::NoAscii
     } else {
         Cause::NotANumber
     }
+}
+
+// Whether the word is three numbers with a mark between each two.
+fn is_date(word: &[u8]) -> bool {
+    let marks = word.iter().filter(|byte| !byte.is_ascii_digit()).count();
+    word.first().is_some_and(|byte| byte.is_ascii_digit()) && marks == 2 && is_among(word, b"-/.")
 }
 
 // Whether the word has digits, and beside them these marks and a sign alone.

@@ -207,7 +207,7 @@ impl<'a> Judge<'a> {
                     return self.slip(line, Some(number), Cause::LeadingZero);
                 }
             }
-            _ => return self.slip(line, Some(number), Cause::NoJobNumber),
+            _ => return self.slip(line, Some(number), cause_of_no_job(number.bytes)),
         }
         self.fields(line)
     }
@@ -261,6 +261,8 @@ fn is_heading(front: &Front<'_>) -> bool {
 fn cause_of_heading(first: &[u8]) -> Cause {
     if first.starts_with(b"\xef\xbb\xbf") || first.starts_with(b"\xff\xfe") {
         Cause::ByteOrderMark
+    } else if first.contains(&0) {
+        Cause::ZeroBytes
     } else if is(first, b"answer") {
         Cause::IsAnswer
     } else if is(first, b"instance") || first.starts_with(b"+++") {
@@ -273,6 +275,15 @@ fn cause_of_heading(first: &[u8]) -> Cause {
         Cause::IsSpreadsheet
     } else {
         Cause::OtherHeading
+    }
+}
+
+// What stands where the number of a job is wanted.
+fn cause_of_no_job(word: &[u8]) -> Cause {
+    if word.iter().any(|byte| *byte >= 128) {
+        Cause::NoAscii
+    } else {
+        Cause::NoJobNumber
     }
 }
 
