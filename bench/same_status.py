@@ -9,9 +9,8 @@ Some runs wait for the second half of their input while signals come. A read is 
 handler, and the program has none: a library that is loaded before it, built with cc, sets one.
 
 Others have little address space, from the least with which the command ends as it should without --explain. What is kept to
-be explained takes up to three times the texts more: twice a text where one is kept, and 2.9 times both where two are, as
-measured. With less than that a run with --explain may end with status 3, nothing printed; it never ends otherwise, and with as
-much or more it ends as the run without does.
+be explained takes each text's length once more. With less than that a run with --explain may end with status 3, nothing
+printed; it never ends otherwise, and with as much or more it ends as the run without does.
 """
 import os
 import resource
@@ -27,6 +26,7 @@ BAD = b"table 1\njob 1 p=3.5 d=4\n"
 LATENESS = ["-p", "1||Lmax"]
 PAGE = 4096
 MOST_SPACE = 1 << 28
+MARGIN = 16 * PAGE
 COMMENTS = b"# a comment of 32 bytes in a line\n" * 125_000
 HANDLER = b"""
 #include <signal.h>
@@ -163,7 +163,7 @@ def compare_narrow(program, folder, table, answer):
         (["check", *LATENESS, long_table, long_table], 2),
     ]:
         least = least_space([program, *words], wanted)
-        enough = least + 3 * sum(os.path.getsize(word) for word in words if os.path.exists(word))
+        enough = least + sum(os.path.getsize(word) for word in words if os.path.exists(word)) + MARGIN
         for space in range(least, enough + len(COMMENTS), 128 * PAGE):
             before = limited(resource.RLIMIT_AS, space)
             plain = run([program, *words], before)

@@ -67,4 +67,8 @@ impl<'a> Sources for Texts<'a> {
             None => Err(io::Error::from(ErrorKind::NotFound)),
         }
     }
+
+    fn size(&self, name: &str) -> Option<usize> {
+        Some(self.find(name)?.len())
+    }
 }

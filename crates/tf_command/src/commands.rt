@@ -12,7 +12,7 @@ ghost use Rattle.tf_text.specs.Counted.{inner_of, use_of};
 use crate::console::Console;
 use crate::explained::{Ended, tell, tell_drawn};
 use crate::options::{Drawing, Evaluating, Options, Work};
-use crate::recorded::{MOST_BESIDE, MOST_KEPT, Recorded};
+use crate::recorded::{MOST_BESIDE, MOST_KEPT, Recorded, room};
 use crate::report::{end_check, end_evaluation, end_run, report, say_device, say_memory};
 use crate::source::Sources;
 use std::alloc::{Allocator, Global};
@@ -252,7 +252,11 @@ fn open<'a, S: Sources, W: Write, E: Write>(
 {
     match sources.open(name) {
         Ok(source) => {
-            let kept = explain.then(|| Vec::new(console.alloc));
+            let kept = if explain {
+                room(console.alloc, sources.size(name), most)
+            } else {
+                None
+            };
             Ok(Counted::new(Recorded::new(name, source, most, kept)))
         }
         Err(error) => {

@@ -17,6 +17,16 @@ pub const MOST_KEPT: usize = MOST_BYTES;
 /// answer to the longest instance takes.
 pub const MOST_BESIDE: usize = 25_165_824;
 
+/// Room for a text of about this many bytes, of which so many are kept at most; none where it is too
+/// long to be kept, or where there is no memory.
+pub fn room(alloc: Global, size: Option<usize>, most: usize) -> Option<Vec<u8>> {
+    match size {
+        Some(size) if size > most => None,
+        Some(size) => Vec::with_capacity(alloc, size).ok(),
+        None => Some(Vec::new(alloc)),
+    }
+}
+
 /// A source that was opened, its name, the bytes that it gave, where they are kept, and why it
 /// failed, if it did.
 #[derive(Drop)]

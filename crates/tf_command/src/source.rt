@@ -16,4 +16,8 @@ pub trait Sources {
         ensures opened { IfOk result (λ source.
             IfSome (text_of self.now name.now) (λ text. Self.Source.remaining source ≡ Some text)) }
         ensures unopened { IfErr result (λ _. text_of self.now name.now ≡ None) };
+
+    /// About how many bytes the text of that name has, where that can be told without reading it.
+    /// Memory is reserved by it, and nothing else rests on it.
+    fn size(&self, name: &str) -> Option<usize>;
 }
