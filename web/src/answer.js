@@ -2,45 +2,65 @@
 
 const NEWLINE = 10;
 const SPACE = 32;
+const MINUS = 45;
+const ZERO = 48;
+const PIECE = new TextEncoder().encode("piece ");
+const JOB = new TextEncoder().encode("job ");
+const SHORTEST_PIECE = "piece 1 1 0 1\n".length;
+const decoder = new TextDecoder();
 
-/** The lines of a text of bytes, as [start, stop) places. */
-function* lineSpans(bytes) {
-  for (let start = 0; start < bytes.length;) {
-    let stop = bytes.indexOf(NEWLINE, start);
-    if (stop < 0) stop = bytes.length;
-    yield [start, stop];
-    start = stop + 1;
+/** Walks over the lines of a text of bytes, and makes no string of what is not kept. */
+class Walk {
+  constructor(bytes) {
+    this.bytes = bytes;
+    this.at = 0;
   }
-}
 
-function textOf(bytes, start, stop) {
-  return new TextDecoder().decode(bytes.subarray(start, stop)).trim();
-}
+  get isOver() {
+    return this.at >= this.bytes.length;
+  }
 
-/** Reads `count` whole numbers that stand in a line after its first word; NaN for what is none. */
-function numbersOf(bytes, start, stop, count) {
-  const numbers = [];
-  let at = start;
-  while (at < stop && bytes[at] > SPACE) at++;
-  while (numbers.length < count) {
-    while (at < stop && bytes[at] <= SPACE) at++;
-    const isNegative = bytes[at] === 45;
-    if (isNegative) at++;
-    let number = at < stop ? 0 : NaN;
-    for (; at < stop && bytes[at] > SPACE; at++) {
-      const digit = bytes[at] - 48;
-      number = digit >= 0 && digit <= 9 ? number * 10 + digit : NaN;
+  /** Goes past these bytes, if they stand here. */
+  takes(word) {
+    for (let k = 0; k < word.length; k++) {
+      if (this.bytes[this.at + k] !== word[k]) return false;
     }
-    numbers.push(isNegative ? -number : number);
+    this.at += word.length;
+    return true;
   }
-  return numbers;
+
+  /** The whole number that is the next word of the line; NaN where it is none. */
+  number() {
+    const { bytes } = this;
+    let at = this.at;
+    while (bytes[at] === SPACE) at++;
+    const isNegative = bytes[at] === MINUS;
+    if (isNegative) at++;
+    const begin = at;
+    let number = 0;
+    for (; bytes[at] >= ZERO && bytes[at] < ZERO + 10; at++) number = number * 10 + bytes[at] - ZERO;
+    this.at = at;
+    if (at === begin || bytes[at] > SPACE) return NaN;
+    return isNegative ? -number : number;
+  }
+
+  /** What is left of the line; the next line comes after it. */
+  rest() {
+    const begin = this.at;
+    this.skip();
+    return decoder.decode(this.bytes.subarray(begin, this.at)).trim();
+  }
+
+  /** Goes to the next line. */
+  skip() {
+    const end = this.bytes.indexOf(NEWLINE, this.at);
+    this.at = end < 0 ? this.bytes.length : end + 1;
+  }
 }
 
-function startsWith(bytes, start, word) {
-  for (let k = 0; k < word.length; k++) {
-    if (bytes[start + k] !== word.charCodeAt(k)) return false;
-  }
-  return bytes[start + word.length] === SPACE;
+function firstWord(line) {
+  const space = line.indexOf(" ");
+  return space < 0 ? [line, ""] : [line.slice(0, space), line.slice(space + 1)];
 }
 
 /**
@@ -60,35 +80,29 @@ function startsWith(bytes, start, word) {
  */
 export function readAnswer(bytes) {
   const words = { problem: "", jobs: "0", machines: "0", value: "", cert: "" };
-  const spans = [];
-  for (const [start, stop] of lineSpans(bytes)) {
-    let at = start;
-    while (at < stop && bytes[at] <= SPACE) at++;
-    if (startsWith(bytes, at, "piece")) {
-      spans.push(at, stop);
+  const most = Math.ceil(bytes.length / SHORTEST_PIECE);
+  const columns = Array.from({ length: 4 }, () => new Float64Array(most));
+  const [job, machine, start, stop] = columns;
+  let count = 0;
+  for (const walk = new Walk(bytes); !walk.isOver;) {
+    if (!walk.takes(PIECE)) {
+      const [word, rest] = firstWord(walk.rest());
+      if (Object.hasOwn(words, word)) words[word] = rest;
       continue;
     }
-    const [word, rest] = firstWord(textOf(bytes, at, stop));
-    if (Object.hasOwn(words, word)) words[word] = rest;
+    job[count] = walk.number();
+    machine[count] = walk.number();
+    start[count] = walk.number();
+    stop[count] = walk.number();
+    count++;
+    walk.skip();
   }
-  const count = spans.length / 2;
-  const columns = Array.from({ length: 4 }, () => new Float64Array(count));
-  for (let k = 0; k < count; k++) {
-    const numbers = numbersOf(bytes, spans[2 * k], spans[2 * k + 1], 4);
-    numbers.forEach((number, column) => {
-      columns[column][k] = number;
-    });
-  }
-  const [job, machine, start, stop] = columns;
+  const [jobOf, machineOf, startOf, stopOf] = columns.map((column) => column.slice(0, count));
   return {
     problem: words.problem, jobs: Number(words.jobs), machines: Number(words.machines),
-    value: words.value, certificate: words.cert, job, machine, start, stop,
+    value: words.value, certificate: words.cert,
+    job: jobOf, machine: machineOf, start: startOf, stop: stopOf,
   };
-}
-
-function firstWord(line) {
-  const space = line.indexOf(" ");
-  return space < 0 ? [line, ""] : [line.slice(0, space), line.slice(space + 1)];
 }
 
 /**
@@ -101,20 +115,27 @@ function firstWord(line) {
 export function readEvaluation(bytes, jobs) {
   const found = { steps: [], start: new Float64Array(jobs), completion: new Float64Array(jobs),
     counts: jobs <= 5000 ? new Array(jobs).fill("") : null };
-  for (const [start, stop] of lineSpans(bytes)) {
-    if (startsWith(bytes, start, "job")) {
-      const [job, from, to] = numbersOf(bytes, start, stop, 3);
-      if (!(job >= 1 && job <= jobs)) continue;
-      found.start[job - 1] = from;
-      found.completion[job - 1] = to;
-      if (found.counts) found.counts[job - 1] = textOf(bytes, start, stop).split(" ")[4] ?? "";
+  for (const walk = new Walk(bytes); !walk.isOver;) {
+    if (walk.takes(JOB)) {
+      readJob(walk, found);
       continue;
     }
-    const [word, rest] = firstWord(textOf(bytes, start, stop));
+    const [word, rest] = firstWord(walk.rest());
     if (word === "step") found.steps.push(rest);
     else if (/^(problem|fits|misfit|claimed|value|best|gap|bound)$/.test(word)) found[word] = rest;
   }
   return found;
+}
+
+/** Reads the line of a job behind its first word. */
+function readJob(walk, found) {
+  const job = walk.number();
+  if (job >= 1 && job <= found.start.length) {
+    found.start[job - 1] = walk.number();
+    found.completion[job - 1] = walk.number();
+    if (found.counts) found.counts[job - 1] = firstWord(walk.rest().trim())[0];
+    else walk.skip();
+  } else walk.skip();
 }
 
 /**
@@ -124,8 +145,8 @@ export function readEvaluation(bytes, jobs) {
  */
 export function readBound(bytes) {
   const found = { value: "", certificate: "" };
-  for (const [start, stop] of lineSpans(bytes)) {
-    const line = textOf(bytes, start, stop);
+  for (const walk = new Walk(bytes); !walk.isOver;) {
+    const line = walk.rest();
     const [word, rest] = firstWord(line);
     if (word === "value") found.value = rest;
     else if (!/^(bound|problem|jobs|machines|end)$/.test(word)) found.certificate = line;

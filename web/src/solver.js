@@ -3,6 +3,7 @@
 //
 //   const solver = await loadSolver(bytes);   // rejects where there is no 64-bit memory
 //   solver.run(request)                       // { status, output: Uint8Array, errors: string }
+//   solver.module                             // compiled: loadSolver takes it in place of the bytes
 //
 // The module imports nothing. What is trusted of this script, since no proof reads it:
 // - The buffers and the space that an export is called with lie apart from one another and from the
@@ -121,9 +122,10 @@ const loadSolver = (() => {
     }
   }
 
-  return async bytes => {
-    const module = await WebAssembly.compile(bytes);
-    return { run: request => run(module, request) };
+  return async source => {
+    const isCompiled = source instanceof WebAssembly.Module;
+    const module = isCompiled ? source : await WebAssembly.compile(source);
+    return { module, run: request => run(module, request) };
   };
 })();
 if (typeof module !== "undefined") module.exports = { loadSolver };

@@ -6,7 +6,8 @@ const LARGE = 500000;
 export class Solving {
   /**
    * @param {string} source the worker's script
-   * @param {string} module the packed module
+   * @param {string|WebAssembly.Module} module the packed module; the compiled one, once there is one,
+   *   so that a new worker goes on with the code that the browser has made faster meanwhile
    * @param {(state: {loaded: boolean, message?: string}) => void} onLoaded
    */
   constructor(source, module, onLoaded) {
@@ -85,6 +86,7 @@ export class Solving {
   receive(data) {
     if (data.loaded !== undefined) {
       this.isLoaded = data.loaded;
+      if (data.loaded) this.module = data.module;
       this.hasFailed = !data.loaded;
       this.onLoaded(data);
       if (this.hasFailed) this.giveUp();

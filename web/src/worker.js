@@ -3,10 +3,14 @@
 import { buffersOf, readAnswer, readBound, readEvaluation } from "./answer.js";
 import { loadSolver } from "./solver.js";
 
+// Some plans of this many jobs, so soon after the start, let the browser compile well what large tables need.
+const WARMING = { jobs: 2000, plans: 3, milliseconds: 300 };
+
 let solver = null;
 
-/** Unpacks the module: base64 of its bytes, deflated. */
+/** Unpacks the module: base64 of its bytes, deflated; or it is a compiled one already. */
 async function unpack(text) {
+  if (text instanceof WebAssembly.Module) return text;
   const packed = Uint8Array.from(atob(text), (letter) => letter.charCodeAt(0));
   const stream = new Blob([packed]).stream().pipeThrough(new DecompressionStream("deflate-raw"));
   return new Uint8Array(await new Response(stream).arrayBuffer());
@@ -39,6 +43,14 @@ function judge(request) {
   };
 }
 
+/** Makes the plans that no one asked for. */
+function warm() {
+  const lines = Array.from({ length: WARMING.jobs }, (_, place) =>
+    `job ${place + 1} p=${place % 97 + 1} d=${place * 61 % 90000}\n`);
+  const instance = new TextEncoder().encode(`table 1\n${lines.join("")}`);
+  for (let k = 0; k < WARMING.plans; k++) plan({ problem: "1||Lmax", machines: null, instance });
+}
+
 function bound(request) {
   const found = solver.run({ ...request, command: "bound", steps: null });
   const { status, errors } = found;
@@ -57,7 +69,8 @@ onmessage = async ({ data }) => {
   if (data.module !== undefined) {
     try {
       solver = await loadSolver(await unpack(data.module));
-      postMessage({ loaded: true });
+      postMessage({ loaded: true, module: solver.module });
+      setTimeout(warm, WARMING.milliseconds);
     } catch (error) {
       postMessage({ loaded: false, message: String(error) });
     }
