@@ -81,7 +81,7 @@ pub record IsEvaluation (detail : Detail) (problem : Problem) (k : SchedulingTas
   pub jobs : e.jobs ≡ length k.jobs
   pub machines : e.machines ≡ k.machines
   pub fit : HasFit k sheet e.fit
-  pub claimed : e.claimed ≡ sheet.answer.value
+  pub claimed : e.claimed ≡ Some sheet.answer.value
   pub best : IsLeastCost k e.best
   pub bound : e.bound ≡ bound_for k sheet.answer.certificate e.fit
   pub steps : e.steps ≡ steps_for detail e.bound k sheet.answer.certificate

@@ -14,7 +14,7 @@ pub record EvaluationData : Type 0 where
   pub jobs : ℕ
   pub machines : ℕ
   pub fit : Option Fit
-  pub claimed : ℤ
+  pub claimed : Option ℤ
   pub best : ℤ
   pub bound : Option (Result ℤ BoundFault)
   pub steps : List Step

@@ -21,6 +21,11 @@ fit_words None = codes "misfit" ∷ codes "OtherTask" ∷ []
 fit_words (Some (NoSchedule fault)) = codes "misfit" ∷ piece_fault_words fault
 fit_words (Some (Misfit misfit)) = codes "misfit" ∷ misfit_words misfit
 
+-- what is claimed, where something is
+abbrev pub claimed_lines : Option ℤ → List (List (List ℕ))
+claimed_lines None = []
+claimed_lines (Some claimed) = (codes "claimed" ∷ signed_decimal claimed ∷ []) ∷ []
+
 -- what a schedule that fits costs
 abbrev pub value_lines : Option Fit → List (List (List ℕ))
 value_lines (Some (Fits value)) = (codes "value" ∷ signed_decimal value ∷ []) ∷ []
@@ -87,10 +92,10 @@ outcome_words o =
 abbrev pub judgement_lines : EvaluationData → List (List (List ℕ))
 judgement_lines e =
     fit_words e.fit
-    ∷ (codes "claimed" ∷ signed_decimal e.claimed ∷ [])
-    ∷ (value_lines e.fit
+    ∷ (claimed_lines e.claimed
+    ++ (value_lines e.fit
     ++ (codes "best" ∷ signed_decimal e.best ∷ [])
-    ∷ (gap_lines e.fit e.best ++ bound_lines e.bound))
+    ∷ (gap_lines e.fit e.best ++ bound_lines e.bound)))
 
 -- all lines: a heading, what is asked, the judgement, the certificate's arithmetic, and the jobs
 abbrev pub evaluation_lines : EvaluationData → List (List (List ℕ))

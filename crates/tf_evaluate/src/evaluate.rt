@@ -1,7 +1,9 @@
 //! An answer, evaluated.
-ghost use Rattle.std.specs.Prelude.{◌≡◌, ◌↔◌, IsTrue, IfOk, IfErr};
+ghost use Rattle.std.specs.Prelude.{◌≡◌, ◌↔◌, IsTrue, IfOk, IfErr, Some};
 ghost use Rattle.tf_model.specs.Sound.{IsSound};
+ghost use Rattle.tf_check.specs.Bound.{bound_by};
 ghost use Rattle.tf_check.specs.Certificate.{claim_of};
+ghost use Rattle.tf_check.specs.Judgement.{IsJudged};
 ghost use Rattle.tf_text.specs.AnswerText.{SheetData};
 ghost use Rattle.tf_engine.specs.Checking.{IsFor};
 ghost use Rattle.tf_engine.specs.Solvers.{IsNotSolved};
@@ -59,7 +61,7 @@ pub fn evaluate<A: Allocator + Copy, B: Allocator, C: Allocator>(
         jobs,
         machines: task.machines(),
         fit,
-        claimed,
+        claimed: Some(claimed),
         best,
         bound,
         steps,
@@ -67,8 +69,8 @@ pub fn evaluate<A: Allocator + Copy, B: Allocator, C: Allocator>(
     })
 }
 
-// The least cost of a timetable that fits.
-fn least_cost<A: Allocator + Copy, B: Allocator>(
+/// The least cost of a timetable that fits. A cycle of arcs is refused, since then none does.
+pub fn least_cost<A: Allocator + Copy, B: Allocator>(
     alloc: A,
     task: &Task<B>,
 ) -> Result<i64, SolveFault<A>>
@@ -110,14 +112,46 @@ fn judge_sheet<A: Allocator + Copy, B: Allocator, C: Allocator, D: Allocator>(
             outcomes: Vec::new(alloc),
         });
     }
+    let judged = judge_pieces(alloc, task, pieces, certificate)?;
+    Ok(Judged {
+        fit: Some(judged.fit),
+        bound: Some(judged.bound),
+        outcomes: judged.outcomes,
+    })
+}
+
+/// How pieces stand to a task, and what happens to the jobs.
+#[derive(Drop)]
+pub struct JudgedPieces<A: Allocator> {
+    pub fit: Fit,
+    /// What the certificate bounds, or its first fault.
+    pub bound: Result<i128, BoundFault>,
+    /// The jobs from 1 on, where the pieces make a schedule.
+    pub outcomes: Vec<JobOutcome, A>,
+}
+
+/// How pieces stand to a task, what a certificate bounds, and what happens to the jobs. Only want of
+/// memory is an error.
+pub fn judge_pieces<A: Allocator + Copy, B: Allocator, C: Allocator, D: Allocator>(
+    alloc: A,
+    task: &Task<B>,
+    pieces: Vec<Piece, C>,
+    certificate: &Certificate<D>,
+) -> Result<JudgedPieces<A>, OutOfMemory>
+    ensures fit { IfOk result (λ judged. IsJudged task.now pieces.items judged.fit) }
+    ensures bound { IfOk result
+        (λ judged. judged.bound ≡ bound_by (claim_of certificate.now) task.now) }
+    ensures outcomes { IfOk result
+        (λ judged. judged.outcomes.items ≡ outcomes_for task.now pieces.items (Some judged.fit)) }
+{
     let Judgement { fit, lanes, bound } = judge_answer(alloc, task, pieces, certificate)?;
     let outcomes = match &lanes {
         Some(lanes) => outcomes(alloc, task, lanes)?,
         None => Vec::new(alloc),
     };
-    Ok(Judged {
-        fit: Some(fit),
-        bound: Some(bound),
+    Ok(JudgedPieces {
+        fit,
+        bound,
         outcomes,
     })
 }

@@ -40,7 +40,7 @@ pub struct JobOutcome {
     pub price: i128,
 }
 
-/// An answer, as it stands to a task.
+/// An answer, or a schedule of which nothing is claimed, as it stands to a task.
 #[derive(Drop)]
 pub struct Evaluation<A: Allocator = Global> {
     /// The problem that is asked.
@@ -50,11 +50,12 @@ pub struct Evaluation<A: Allocator = Global> {
     pub machines: u32,
     /// How the pieces stand to the task; `None` for an answer to another task.
     pub fit: Option<Fit>,
-    /// The value that the answer claims.
-    pub claimed: i64,
+    /// The value that the answer claims; `None` for a schedule of which nothing is claimed.
+    pub claimed: Option<i64>,
     /// The least cost of a timetable that fits.
     pub best: i64,
-    /// What the certificate bounds, or its first fault; `None` for an answer to another task.
+    /// What the certificate bounds, or its first fault; `None` for an answer to another task and
+    /// for a schedule without a certificate.
     pub bound: Option<Result<i128, BoundFault>>,
     /// The certificate's arithmetic, which ends in its bound; none where it isn't asked for or the
     /// certificate has no bound.

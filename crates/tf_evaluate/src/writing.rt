@@ -3,7 +3,7 @@ ghost use Rattle.std.specs.Prelude.{◌≡◌, [], ◌∷◌, ◌++◌, codes, m
 ghost use Rattle.std.specs.Fmt.{decimal};
 ghost use Rattle.std.specs.List.{flat_map, join_with_byte};
 ghost use Rattle.tf_text.specs.AnswerText.{line_text};
-ghost use Rattle.tf_evaluate.specs.EvaluationText.{fit_words, value_lines, gap_lines, bound_words, bound_lines, outcome_words, judgement_lines, step_words, terms_words, evaluation_text};
+ghost use Rattle.tf_evaluate.specs.EvaluationText.{fit_words, claimed_lines, value_lines, gap_lines, bound_words, bound_lines, outcome_words, judgement_lines, step_words, terms_words, evaluation_text};
 
 use crate::evaluation::{Evaluation, JobOutcome};
 use crate::step::{Step, Terms};
@@ -46,7 +46,7 @@ fn push_judgement<A: Allocator, M: Allocator>(
         ≡ text.old.items ++ flat_map line_text (judgement_lines evaluation.now)) }
 {
     push_fit(text, &evaluation.fit)?;
-    push_number_line(text, b"claimed", evaluation.claimed)?;
+    push_claimed(text, evaluation.claimed)?;
     push_value(text, &evaluation.fit)?;
     push_number_line(text, b"best", evaluation.best)?;
     push_gap(text, &evaluation.fit, evaluation.best)?;
@@ -54,8 +54,8 @@ fn push_judgement<A: Allocator, M: Allocator>(
     Ok(())
 }
 
-// `fits`, or `misfit` and why.
-fn push_fit<A: Allocator>(text: &mut Vec<u8, A>, fit: &Option<Fit>) -> Result<(), OutOfMemory>
+/// Adds the line `fits`, or `misfit` and why.
+pub fn push_fit<A: Allocator>(text: &mut Vec<u8, A>, fit: &Option<Fit>) -> Result<(), OutOfMemory>
     ensures { OnOk result (text.new.items ≡ text.old.items ++ line_text (fit_words fit.now)) }
 {
     match fit {
@@ -73,6 +73,20 @@ fn push_fit<A: Allocator>(text: &mut Vec<u8, A>, fit: &Option<Fit>) -> Result<()
         }
     }
     Ok(())
+}
+
+/// Adds the line of what is claimed, where something is.
+pub fn push_claimed<A: Allocator>(
+    text: &mut Vec<u8, A>,
+    claimed: Option<i64>,
+) -> Result<(), OutOfMemory>
+    ensures { OnOk result
+        (text.new.items ≡ text.old.items ++ flat_map line_text (claimed_lines claimed)) }
+{
+    match claimed {
+        Some(claimed) => push_number_line(text, b"claimed", claimed),
+        None => Ok(()),
+    }
 }
 
 fn push_value<A: Allocator>(text: &mut Vec<u8, A>, fit: &Option<Fit>) -> Result<(), OutOfMemory>

@@ -1,4 +1,4 @@
-use Rattle.std.proofs.Common.{◌≡◌, ℤ, List, rules, refl, ap, sym, subst, ◌∙◌, SFits, w64}
+use Rattle.std.proofs.Common.{◌≡◌, ℤ, List, Some, rules, refl, ap, sym, subst, ◌∙◌, SFits, w64}
 use Rattle.std.proofs.lemmas.Int.{to_z-of_z}
 use Rattle.tf_schedule.specs.declared.piece.Piece.{Piece}
 use Rattle.tf_check.specs.Certificate.{claim_of}
@@ -45,8 +45,8 @@ returns-clause-evaluation g c =
       jobs = c.len-jobs.ensures.value;
       machines = c.machines.ensures.value;
       fit = fit_is g c;
-      claimed = to_z-of_z w64 c.pieces.inside.value value_fits
-          ∙ ap (λ (a : AnswerData). a.value) answer;
+      claimed = ap Some (to_z-of_z w64 c.pieces.inside.value value_fits
+          ∙ ap (λ (a : AnswerData). a.value) answer);
       best = subst (IsLeastCost k) (sym (to_z-of_z w64 c.in_ok-best.best best_fits))
           c.in_ok-best.ensures.least;
       bound = c.in_ok-fit.ensures.bound ∙ ap (λ (claim : Claim). bound_for k claim fit) claim;

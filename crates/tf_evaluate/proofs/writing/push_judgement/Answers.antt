@@ -3,7 +3,7 @@ use Rattle.std.specs.List.{flat_map}
 use Rattle.std.specs.Fmt.{signed_decimal}
 use Rattle.tf_text.specs.AnswerText.{line_text}
 use Rattle.tf_evaluate.specs.EvaluationData.{EvaluationData}
-use Rattle.tf_evaluate.specs.EvaluationText.{fit_words, value_lines, gap_lines, bound_lines, judgement_lines}
+use Rattle.tf_evaluate.specs.EvaluationText.{fit_words, claimed_lines, value_lines, gap_lines, bound_lines, judgement_lines}
 use Rattle.tf_evaluate.proofs.Written.{judgement_written}
 use Rattle.tf_evaluate.proofs.writing.push_judgement.Goals as goal
 
@@ -22,14 +22,13 @@ returns g c =
     } in
     let fit : c.push_fit.new.text.items ≡ c.args.text.now.items
     ++ line_text (fit_words c.evaluation.inside.fit) = search rules in
-    let claimed : c.push_number_line.new.text.items ≡ c.push_fit.new.text.items
-    ++ line_text (codes "claimed" ∷ signed_decimal c.evaluation.inside.claimed ∷ []) =
-    search rules in
-    let value : c.push_value.new.text.items ≡ c.push_number_line.new.text.items
+    let claimed : c.push_claimed.new.text.items ≡ c.push_fit.new.text.items
+    ++ flat_map line_text (claimed_lines c.evaluation.inside.claimed) = search rules in
+    let value : c.push_value.new.text.items ≡ c.push_claimed.new.text.items
     ++ flat_map line_text (value_lines c.evaluation.inside.fit) = search rules in
-    let best : c.push_number_line-2.new.text.items ≡ c.push_value.new.text.items
+    let best : c.push_number_line.new.text.items ≡ c.push_value.new.text.items
     ++ line_text (codes "best" ∷ signed_decimal c.evaluation.inside.best ∷ []) = search rules in
-    let gap : c.push_gap.new.text.items ≡ c.push_number_line-2.new.text.items
+    let gap : c.push_gap.new.text.items ≡ c.push_number_line.new.text.items
     ++ flat_map line_text (gap_lines c.evaluation.inside.fit c.evaluation.inside.best) =
     search rules in
     let bound : c.push_bound.new.text.items ≡ c.push_gap.new.text.items

@@ -1,8 +1,8 @@
 use Rattle.std.proofs.Common.{subst, ◌∙◌}
 use Rattle.tf_check.specs.Judgement.{HasTable}
 use Rattle.tf_evaluate.proofs.PermutedOutcomes.{table_stops, table_outcomes, no_outcomes}
-use Rattle.tf_evaluate.proofs.evaluate.judge_sheet.Goals.{in-Some+in_ok-outcomes-in-Some, in-None}
-use Rattle.tf_evaluate.proofs.evaluate.judge_sheet.Goals as goal
+use Rattle.tf_evaluate.proofs.evaluate.judge_pieces.Goals.{in-Some+in_ok-outcomes-in-Some, in-None}
+use Rattle.tf_evaluate.proofs.evaluate.judge_pieces.Goals as goal
 
 pub outcomes-requires : goal.outcomes-requires
 outcomes-requires g c =
