@@ -1,4 +1,4 @@
 mod Assessing
-mod Reading
+pub mod Reading
 mod Running
 mod Written

@@ -60,7 +60,7 @@ refusal_first request text refused h = by_notation (notation request.problem) h
     by_notation (Ok problem) e = by_bounded problem (is_bounded problem) e
     by_notation (Err byte) e = let is : refused ≡ ByNotation byte = cc in rw is refl
 
-bound_first : (request : RequestData) (text : List ℕ) (refused : Refused)
+pub bound_first : (request : RequestData) (text : List ℕ) (refused : Refused)
     → IsRefusedBound request text refused → is_on_answer (Refuses refused) ≡ false
 bound_first request text refused (inl h) = refusal_first request text refused h
 bound_first request text refused (inr (same, task)) = rw same refl
@@ -79,7 +79,7 @@ answer_last text R Wants h = refl
 answer_last text R (Refuses refused) (fault, is, said) = rw is refl
 
 -- a part that reads stops for a reason that is one of others
-stops_as : (P Q : Refused → Type 0) (F G : Type 0) → ((refused : Refused) → P refused → Q refused)
+pub stops_as : (P Q : Refused → Type 0) (F G : Type 0) → ((refused : Refused) → P refused → Q refused)
     → (F → G) → (s : Stop) → StopsReading P F s → StopsReading Q G s
 stops_as P Q F G more failed (Refuses refused) h = more refused h
 stops_as P Q F G more failed Fails h = failed h

@@ -8,6 +8,7 @@ use Rattle.tf_text.specs.AnswerText.{line_text}
 use Rattle.tf_text.proofs.Written.{then}
 use Rattle.tf_problem.specs.ProblemData.{ProblemData}
 use Rattle.tf_assess.specs.declared.assessment.Assessment.{Assessment}
+use Rattle.tf_evaluate.specs.EvaluationText.{claimed_lines}
 use Rattle.tf_assess.specs.Assessing.{value_in, bound_in, best_in}
 use Rattle.tf_assess.specs.AssessmentText.{fit_words, number_lines, gap_lines, bound_lines, judged_lines, assessment_text}
 
@@ -22,7 +23,7 @@ lines_then t0 t1 t2 first others e1 e2 =
 module _ (A : Type 0) (a : Assessment A) where
   -- the lines of the judgement
   pub judged_written : (t0 t1 t2 t3 t4 t5 t6 : List ℕ) → t1 ≡ t0 ++ line_text (fit_words a.fit)
-      → t2 ≡ t1 ++ line_text (codes "claimed" ∷ signed_decimal a.claimed ∷ [])
+      → t2 ≡ t1 ++ flat_map line_text (claimed_lines a.claimed)
       → t3 ≡ t2 ++ flat_map line_text (number_lines (codes "value") (value_in a.fit))
       → t4 ≡ t3
       ++ flat_map line_text
@@ -37,7 +38,9 @@ module _ (A : Type 0) (a : Assessment A) where
       let from3 = lines_then t3 t4 t6 best (gap ++ bound_lines a.bound) e4 from4 in
       let from2 = lines_then t2 t3 t6 (number_lines (codes "value") (value_in a.fit))
       (best ++ (gap ++ bound_lines a.bound)) e3 from3 in
-      let from1 = then t1 t2 t6 _ _ e2 from2 in
+      let from1 = lines_then t1 t2 t6 (claimed_lines a.claimed)
+      (number_lines (codes "value") (value_in a.fit)
+      ++ (best ++ (gap ++ bound_lines a.bound))) e2 from2 in
       then t0 t1 t6 _ _ e1 from1
 
   module _ (k : ProblemData) (jobs : ℕ) where

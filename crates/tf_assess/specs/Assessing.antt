@@ -105,6 +105,6 @@ HasAssessed k sheet Unfit = Unit {0}
 pub record IsAssessment {A : Type 0} (k : ProblemData) (sheet : SheetData) (a : Assessment A) : Type 0
   where
     pub fit : HasProblemFit k sheet a.fit
-    pub claimed : a.claimed ≡ sheet.answer.value
+    pub claimed : a.claimed ≡ Some sheet.answer.value
     pub bound : IfSome a.bound (IsFound k)
     pub standing : HasAssessed k sheet (assessed_of a.fit (bound_in a.bound))

@@ -9,6 +9,7 @@ use Rattle.tf_engine.specs.VerdictLine.{piece_fault_words, misfit_words}
 use Rattle.tf_fit.specs.declared.misfit.ProblemMisfit.{ProblemMisfit}
 use Rattle.tf_fit.specs.declared.misfit.ProblemMisfit.TheVariants.{Plain, OffRoute, NoOneOrder, Waits}
 use Rattle.tf_search.specs.declared.strongest.Found.{Found}
+use Rattle.tf_evaluate.specs.EvaluationText.{claimed_lines}
 use Rattle.tf_bounding.specs.BoundText.{certificate_words}
 use Rattle.tf_assess.specs.declared.assessment.ProblemFit.{ProblemFit}
 use Rattle.tf_assess.specs.declared.assessment.ProblemFit.TheVariants.{Fits, NoSchedule, Misfit}
@@ -51,10 +52,10 @@ bound_lines (Some found) =
 abbrev pub judged_lines : {A : Type 0} → Assessment A → List (List (List ℕ))
 judged_lines a =
     fit_words a.fit
-    ∷ (codes "claimed" ∷ signed_decimal a.claimed ∷ [])
-    ∷ (number_lines (codes "value") (value_in a.fit)
+    ∷ (claimed_lines a.claimed
+    ++ (number_lines (codes "value") (value_in a.fit)
     ++ (number_lines (codes "best") (best_in (value_in a.fit) (bound_in a.bound))
-    ++ (gap_lines (value_in a.fit) (bound_in a.bound) ++ bound_lines a.bound)))
+    ++ (gap_lines (value_in a.fit) (bound_in a.bound) ++ bound_lines a.bound))))
 
 -- all lines
 abbrev pub assessment_lines : {A : Type 0} → ProblemData → ℕ → Assessment A

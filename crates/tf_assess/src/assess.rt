@@ -37,7 +37,7 @@ pub fn assess<A: Allocator + Copy, B: Allocator, C: Allocator>(
     let fit = fit_of(alloc, task, is_its, pieces.into_vec())?;
     Ok(Assessment {
         fit,
-        claimed,
+        claimed: Some(claimed),
         bound,
     })
 }
@@ -99,8 +99,9 @@ fn fit_of<A: Allocator + Copy, B: Allocator, C: Allocator>(
     Ok(Some(fit))
 }
 
-// How pieces stand to the task.
-fn judged<A: Allocator + Copy, B: Allocator, C: Allocator>(
+/// How pieces stand to the task. They are given up, so that they are sorted where they stand. Only
+/// want of memory is an error.
+pub fn judged<A: Allocator + Copy, B: Allocator, C: Allocator>(
     alloc: A,
     task: &ProblemTask<B>,
     pieces: Vec<Piece, C>,

@@ -1,4 +1,7 @@
 //! What an assessment says.
+ghost use Rattle.std.specs.Prelude.{◌≡◌};
+ghost use Rattle.tf_assess.specs.Assessing.{bound_in};
+
 use std::alloc::{Allocator, Global};
 use tf_fit::misfit::ProblemMisfit;
 use tf_schedule::schedule::PieceFault;
@@ -26,13 +29,23 @@ pub enum Assessed {
     Unfit,
 }
 
-/// An answer, as it stands to the task of a problem.
+/// The value of a lower bound, where one was found.
+pub fn bound_in<A: Allocator>(bound: &Option<Found<A>>) -> Option<i128>
+    ensures { result ≡ bound_in bound.now }
+{
+    match bound {
+        Some(found) => Some(found.value),
+        None => None,
+    }
+}
+
+/// An answer, or a schedule of which nothing is claimed, as it stands to the task of a problem.
 #[derive(Drop)]
 pub struct Assessment<A: Allocator = Global> {
     /// How the pieces stand to the task; `None` for an answer to another task.
     pub fit: Option<ProblemFit>,
-    /// The value that the answer claims.
-    pub claimed: i64,
+    /// The value that the answer claims; `None` for a schedule of which nothing is claimed.
+    pub claimed: Option<i64>,
     /// The strongest lower bound that was found. None where each certificate that was tried has a
     /// number beyond the limit.
     pub bound: Option<Found<A>>,
@@ -56,10 +69,7 @@ impl<A: Allocator> Assessment<A> {
     pub fn bound_value(&self) -> Option<i128>
         ensures { result ≡ bound_in self.now.bound }
     {
-        match &self.bound {
-            Some(found) => Some(found.value),
-            None => None,
-        }
+        bound_in(&self.bound)
     }
 
     /// The least cost of a timetable that fits, where the schedule shows it.

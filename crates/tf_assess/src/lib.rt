@@ -6,4 +6,4 @@ pub mod assessment;
 mod case_read;
 pub mod run_assess;
 pub mod run_rate;
-mod writing;
+pub mod writing;

@@ -1,7 +1,7 @@
 //! Evaluating somebody's answer to any problem, from bytes to bytes.
 ghost use Rattle.std.specs.Prelude.{◌≡◌};
 ghost use Rattle.tf_text.specs.Counted.{use_of};
-ghost use Rattle.tf_assess.specs.RunRating.{IsRatingOf, is_solved, rated};
+ghost use Rattle.tf_assess.specs.RunRating.{IsRatingOf, is_solved, rated, standing_as};
 
 use crate::assessment::Assessed;
 use crate::run_assess::run_assess;
@@ -41,15 +41,24 @@ fn rated<A: Allocator>(run: Result<Assessed, RunFault<A>>) -> Result<Standing, R
     ensures { result ≡ rated run }
 {
     match run {
-        Ok(Assessed::Best) => Ok(Standing::Best),
-        Ok(Assessed::Unproved) => Ok(Standing::Beaten),
-        Ok(Assessed::Unfit) => Ok(Standing::Unfit),
+        Ok(assessed) => Ok(standing_as(assessed)),
         Err(fault) => Err(fault),
     }
 }
 
-// Whether the problem of a line is of a class.
-fn is_solved(text: &str) -> bool
+/// What a schedule comes to, told as of a problem that is solved.
+pub fn standing_as(assessed: Assessed) -> Standing
+    ensures { result ≡ standing_as assessed }
+{
+    match assessed {
+        Assessed::Best => Standing::Best,
+        Assessed::Unproved => Standing::Beaten,
+        Assessed::Unfit => Standing::Unfit,
+    }
+}
+
+/// Whether the problem of a line is of a class, which has a solver.
+pub fn is_solved(text: &str) -> bool
     ensures { result ≡ is_solved text.now }
 {
     match read(text.as_bytes()) {

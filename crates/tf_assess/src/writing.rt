@@ -10,6 +10,7 @@ use std::alloc::Allocator;
 use tf_bound::task::ProblemTask;
 use tf_bounding::writing::push_certificate;
 use tf_engine::verdict_line::{push_misfit, push_piece_fault};
+use tf_evaluate::writing::push_claimed;
 use tf_fit::misfit::ProblemMisfit;
 use tf_model::ids::JobId;
 use tf_model::memory::OutOfMemory;
@@ -18,7 +19,7 @@ use tf_search::strongest::Found;
 use tf_text::answer::writing::{push_number, push_number_line};
 
 /// The text of an assessment of an answer to a task, each line ended by a line feed.
-pub(crate) fn assessment_bytes<A: Allocator + Copy, B: Allocator, M: Allocator>(
+pub fn assessment_bytes<A: Allocator + Copy, B: Allocator, M: Allocator>(
     alloc: A,
     task: &ProblemTask<B>,
     assessment: &Assessment<M>,
@@ -46,7 +47,7 @@ fn push_judged<A: Allocator, M: Allocator>(
         ≡ text.old.items ++ flat_map line_text (judged_lines assessment.now)) }
 {
     push_fit(text, &assessment.fit)?;
-    push_number_line(text, b"claimed", assessment.claimed)?;
+    push_claimed(text, assessment.claimed)?;
     push_some(text, b"value", assessment.value())?;
     push_some(text, b"best", assessment.best())?;
     push_gap(text, assessment.value(), assessment.bound_value())?;
@@ -54,8 +55,8 @@ fn push_judged<A: Allocator, M: Allocator>(
     Ok(())
 }
 
-// `fits`, or `misfit` and why.
-fn push_fit<A: Allocator>(
+/// Adds the line `fits`, or `misfit` and why.
+pub fn push_fit<A: Allocator>(
     text: &mut Vec<u8, A>,
     fit: &Option<ProblemFit>,
 ) -> Result<(), OutOfMemory>

@@ -1,4 +1,4 @@
-use Rattle.std.proofs.Common.{rules, ◌≡◌, SFits, w64, ap, sym, ◌∙◌}
+use Rattle.std.proofs.Common.{rules, ◌≡◌, Some, SFits, w64, ap, sym, ◌∙◌}
 use Rattle.std.proofs.lemmas.Int.{to_z-of_z}
 use Rattle.tf_check.specs.Claim.{AnswerData}
 use Rattle.tf_assess.specs.Assessing.{HasProblemFit}
@@ -16,8 +16,8 @@ returns g c =
     let fits : SFits w64 c.pieces.inside.value = search rules in
     record {
       fit = fit;
-      claimed = to_z-of_z w64 c.pieces.inside.value fits
-          ∙ ap (λ (a : AnswerData). a.value) (c.pieces.view_is ∙ c.into_answer.ensures);
+      claimed = ap Some (to_z-of_z w64 c.pieces.inside.value fits
+          ∙ ap (λ (a : AnswerData). a.value) (c.pieces.view_is ∙ c.into_answer.ensures));
       bound = c.in_ok-bound.ensures;
       standing = standing_is k c.args.sheet c.in_ok-fit.fit c.in_ok-bound.bound fit
           c.in_ok-bound.ensures;

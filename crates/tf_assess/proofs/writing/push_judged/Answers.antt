@@ -1,7 +1,7 @@
-use Rattle.std.proofs.Common.{◌≡◌, [], ◌∷◌, ◌++◌, codes, ℤ, Option, ap, ◌∙◌, rules}
+use Rattle.std.proofs.Common.{◌≡◌, ◌++◌, codes, ℤ, Option, ap, ◌∙◌, rules}
 use Rattle.std.specs.List.{flat_map}
-use Rattle.std.specs.Fmt.{signed_decimal}
 use Rattle.tf_text.specs.AnswerText.{line_text}
+use Rattle.tf_evaluate.specs.EvaluationText.{claimed_lines}
 use Rattle.tf_assess.specs.Assessing.{value_in, bound_in, best_in}
 use Rattle.tf_assess.specs.AssessmentText.{fit_words, number_lines, gap_lines}
 use Rattle.tf_assess.proofs.Written.{judged_written}
@@ -12,12 +12,12 @@ returns g c =
     let a = c.args.assessment.now in
     let fit : c.push_fit.new.text.items ≡ c.args.text.now.items ++ line_text (fit_words a.fit) =
     search rules in
-    let claimed : c.push_number_line.new.text.items ≡ c.push_fit.new.text.items
-    ++ line_text (codes "claimed" ∷ signed_decimal a.claimed ∷ []) = search rules in
-    let value : c.push_some.new.text.items ≡ c.push_number_line.new.text.items
+    let claimed : c.push_claimed.new.text.items ≡ c.push_fit.new.text.items
+    ++ flat_map line_text (claimed_lines a.claimed) = search rules in
+    let value : c.push_some.new.text.items ≡ c.push_claimed.new.text.items
     ++ flat_map line_text (number_lines (codes "value") (value_in a.fit)) =
     c.in_ok-push_some.ensures
-    ∙ ap (λ (v : Option ℤ). c.push_number_line.new.text.items
+    ∙ ap (λ (v : Option ℤ). c.push_claimed.new.text.items
     ++ flat_map line_text (number_lines (codes "value") v)) c.value.ensures in
     let best : c.push_some-2.new.text.items ≡ c.push_some.new.text.items
     ++ flat_map line_text
