@@ -1,0 +1,120 @@
+-- What lines and words say.
+use Rattle.std.proofs.Common.{◌≡◌, ℕ, true, false, eqb, List, [], ◌∷◌, ◌++◌, length, map, drop, codes, refl, sym, ap, ◌∙◌, arith}
+use Rattle.std.specs.List.{flat_map}
+use Rattle.std.specs.Str.{bytes_eq}
+use Rattle.std.proofs.lemmas.Bool.{true≢false}
+use Rattle.std.proofs.lemmas.List.{map-append}
+use Rattle.std.proofs.lemmas.Grind.{flat_map-append}
+use Rattle.tf_words.specs.Words.{words, lines, first_is}
+use Rattle.tf_words.proofs.Lines.{line_none}
+use Rattle.tf_export.specs.Csv.{csv_line}
+use Rattle.tf_export.specs.Json.{string, scalar, member, object}
+use Rattle.tf_export.specs.Members.{phrase, fields, rest_members, row_in, rows, verdict_members}
+use Rattle.tf_export.specs.Documents.{step_in}
+use Rattle.tf_export.specs.Faults.{explanation, fault, refusal, refused, first_line, behind_line, fault_members, fault_json}
+
+-- a word by its name, and the others
+pub fields_next : (names more row others : List (List ℕ)) (rest name word : List ℕ)
+    → names ≡ name ∷ more → row ≡ word ∷ others
+    → fields names rest row ≡ (member name (scalar word) ∷ []) ++ fields more rest others
+unfolding fields
+fields_next names more row others rest name word names-is row-is = rw (names-is, row-is) refl
+
+pub fields_out : (names more row : List (List ℕ)) (rest name : List ℕ)
+    → names ≡ name ∷ more → row ≡ [] → fields names rest row ≡ []
+unfolding fields
+fields_out names more row rest name names-is row-is = rw (names-is, row-is) refl
+
+pub fields_rest : (names row : List (List ℕ)) (rest : List ℕ) → names ≡ []
+    → fields names rest row ≡ rest_members rest row
+unfolding fields
+fields_rest names row rest is = rw is refl
+
+pub rest_none : (name : List ℕ) (row : List (List ℕ)) → length name ≡ 0
+    → rest_members name row ≡ []
+rest_none [] row is = refl
+rest_none (letter ∷ letters) row is = absurd (omega (arith, is))
+
+pub explanation_none : (text : List ℕ) → length text ≡ 0 → explanation text ≡ []
+explanation_none [] is = refl
+explanation_none (byte ∷ bytes) is = absurd (omega (arith, is))
+
+-- the rows of a text, by its first line
+rows_next : (key names text line rest : List ℕ) → lines text ≡ line ∷ lines rest
+    → rows key names text ≡ row_in key (length (words names)) (words line) ++ rows key names rest
+rows_next key names text line rest is =
+    ap (flat_map (λ l. row_in key (length (words names)) (words l))) is
+
+pub rows_none : (key names text : List ℕ) → length text ≡ 0 → rows key names text ≡ []
+rows_none key names text is =
+    ap (flat_map (λ l. row_in key (length (words names)) (words l))) (line_none text is)
+
+pub records_next : (record_of : List (List ℕ) → List ℕ) (key names text line rest : List ℕ)
+    → lines text ≡ line ∷ lines rest
+    → map record_of (rows key names text)
+    ≡ map record_of (row_in key (length (words names)) (words line))
+    ++ map record_of (rows key names rest)
+records_next record_of key names text line rest is =
+    ap (map record_of) (rows_next key names text line rest is)
+    ∙ map-append record_of (row_in key (length (words names)) (words line)) (rows key names rest)
+
+pub csv_next : (key names text line rest : List ℕ) (count : ℕ) → count ≡ length (words names)
+    → lines text ≡ line ∷ lines rest
+    → flat_map csv_line (rows key names text)
+    ≡ flat_map csv_line (row_in key count (words line)) ++ flat_map csv_line (rows key names rest)
+csv_next key names text line rest count is-count is =
+    ap (flat_map csv_line) (rows_next key names text line rest is)
+    ∙ flat_map-append csv_line (row_in key (length (words names)) (words line))
+    (rows key names rest)
+    ∙ ap (λ (n : ℕ). flat_map csv_line (row_in key n (words line))
+    ++ flat_map csv_line (rows key names rest)) (sym is-count)
+
+pub step_none : (row : List (List ℕ)) → first_is (codes "step") row ≡ false → step_in row ≡ []
+step_none [] is = refl
+step_none (key ∷ row) is = rw is refl
+
+pub step_some : (line row : List (List ℕ)) → first_is (codes "step") line ≡ true
+    → row ≡ drop 1 line → phrase row ∷ [] ≡ step_in line
+step_some [] row is row-is = absurd (true≢false (sym is))
+step_some (key ∷ others) row is row-is = rw (is, row-is) refl
+
+pub verdict_none : (key : List ℕ) (row : List (List ℕ)) → bytes_eq key (codes "fits") ≡ false
+    → bytes_eq key (codes "misfit") ≡ false → bytes_eq key (codes "accepted") ≡ false
+    → bytes_eq key (codes "rejected:") ≡ false → verdict_members key row ≡ []
+verdict_none key row e1 e2 e3 e4 = rw (e1, e2, e3, e4) refl
+
+pub refused_answer : (row after : List (List ℕ)) → first_is (codes "answer") row ≡ true
+    → after ≡ drop 1 row
+    → (member (codes "text") (string (codes "answer")) ∷ []) ++ refusal after ≡ refused row
+refused_answer row after is after-is = rw (is, after-is) refl
+
+pub unfaulted : (text line : List ℕ) → line ≡ first_line text
+    → first_is (codes "threefield:") (words line) ≡ false
+    → explanation text ≡ fault_members text
+unfolding fault_members
+unfaulted text line line-is is =
+    let none : first_is (codes "threefield:") (words (first_line text)) ≡ false =
+    ap (λ (l : List ℕ). first_is (codes "threefield:") (words l)) (sym line-is) ∙ is in
+    rw none refl
+
+pub faulted : (text line rest : List ℕ) (row : List (List ℕ)) → line ≡ first_line text
+    → rest ≡ behind_line text → first_is (codes "threefield:") (words line) ≡ true
+    → row ≡ drop 1 (words line) → fault row ++ explanation rest ≡ fault_members text
+unfolding fault_members
+faulted text line rest row line-is rest-is is row-is =
+    let some : first_is (codes "threefield:") (words (first_line text)) ≡ true =
+    ap (λ (l : List ℕ). first_is (codes "threefield:") (words l)) (sym line-is) ∙ is in
+    let words-is : row ≡ drop 1 (words (first_line text)) =
+    row-is ∙ ap (λ (l : List ℕ). drop 1 (words l)) line-is in
+    rw (some, words-is, rest-is) refl
+
+pub unsaid : (text : List ℕ) → length text ≡ 0 → fault_json text ≡ []
+unfolding fault_json
+unsaid [] is = refl
+unsaid (byte ∷ bytes) is = absurd (omega (arith, is))
+
+pub is_said : (text : List ℕ) → eqb (length text) 0 ≡ false
+    → fault_json text ≡ object (fault_members text) ++ 10 ∷ []
+unfolding fault_json
+is_said [] is = absurd (true≢false is)
+is_said (byte ∷ bytes) is = refl

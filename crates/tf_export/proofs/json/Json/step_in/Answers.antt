@@ -1,0 +1,15 @@
+use Rattle.std.proofs.Common.{OnOk, subst}
+use Rattle.tf_words.specs.Words.{words}
+use Rattle.tf_export.specs.Adds.{Adds}
+use Rattle.tf_export.proofs.Saying.{step_none, step_some}
+use Rattle.tf_export.proofs.Adding.{nothing}
+use Rattle.tf_export.proofs.json.Json.step_in.Goals as goal
+
+pub returns-in-None : goal.returns-in-None
+returns-in-None g c = nothing c.args.self.now _ (step_none (words c.args.line.now) c.in-None.ensures)
+
+pub returns-in-Some : goal.returns-in-Some
+returns-in-Some g c =
+    subst (λ items. OnOk c.phrase.result (Adds c.args.self.now c.phrase.new.self items))
+    (step_some (words c.args.line.now) (words c.in-Some.row.now) c.in-Some.ensures.0
+    c.in-Some.ensures.1) c.phrase.ensures

@@ -1,0 +1,27 @@
+use Rattle.std.proofs.Common.{ℕ, List, ap, sym, ◌∙◌}
+use Rattle.std.specs.List.{flat_map}
+use Rattle.std.proofs.lemmas.Bool.{eqb-true}
+use Rattle.tf_words.specs.Words.{words, lines}
+use Rattle.tf_words.proofs.Lines.{line_none}
+use Rattle.tf_export.specs.Documents.{step_in}
+use Rattle.tf_export.proofs.Adding.{next, done}
+use Rattle.tf_export.proofs.json.Json.step_items.Goals as goal
+
+pub loop-rest-init : goal.loop-rest-init
+loop-rest-init g c = λ end rest. rest
+
+pub loop-rest-preserved : goal.loop-rest-preserved
+loop-rest-preserved g c =
+    next c.args.self.now c.loop-rest.self c.step_in.new.self
+    (flat_map (λ (line : List ℕ). step_in (words line)) (lines c.args.text.now))
+    (flat_map (λ (line : List ℕ). step_in (words line)) (lines c.loop-rest.rest.now)) ((λ (line : List ℕ). step_in (words line)) c.next_line.result.0.now)
+    (flat_map (λ (line : List ℕ). step_in (words line)) (lines c.next_line.result.1.now))
+    (ap (flat_map (λ (line : List ℕ). step_in (words line))) c.next_line.ensures.lines) c.in_ok-step_in.ensures
+    c.loop-rest.invariant
+
+pub returns : goal.returns
+returns g c =
+    done c.args.self.now c.loop-rest.self
+    (flat_map (λ (line : List ℕ). step_in (words line)) (lines c.args.text.now))
+    (flat_map (λ (line : List ℕ). step_in (words line)) (lines c.loop-rest.rest.now))
+    (ap (flat_map (λ (line : List ℕ). step_in (words line))) (line_none c.loop-rest.rest.now (eqb-true _ _ (sym c.is_empty.ensures ∙ c.loop-rest-test.false)))) c.loop-rest.invariant

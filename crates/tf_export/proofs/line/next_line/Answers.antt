@@ -1,0 +1,17 @@
+use Rattle.tf_export.proofs.Texts.{last_line, line_before, rest_behind}
+use Rattle.std.proofs.Common.{sym, ◌∙◌, arith}
+use Rattle.tf_export.proofs.line.next_line.Goals as goal
+
+pub returns-then-len-text-clause-lines : goal.returns-then-len-text-clause-lines
+returns-then-len-text-clause-lines c =
+    last_line c.args.text.now c.requires (sym c.line_len-len.ensures.place ∙ c.if-len-text.true)
+
+pub returns-clause-lines : goal.returns-clause-lines
+returns-clause-lines c =
+    line_before c.args.text.now _ _ _ c.line_len-len.result (sym c.line_len-len.ensures.place)
+    (omega arith) c.split_at.ensures.front c.split_at.ensures.back c.split_at-2.ensures.back
+
+pub returns-clause-behind : goal.returns-clause-behind
+returns-clause-behind c =
+    rest_behind c.args.text.now _ _ c.line_len-len.result (sym c.line_len-len.ensures.place)
+    c.split_at.ensures.back c.split_at-2.ensures.back

@@ -1,0 +1,49 @@
+-- What is said on standard error, as JSON.
+use Rattle.std.specs.Prelude.{ℕ, ◌+◌, List, [], ◌∷◌, ◌++◌, codes, take, drop, ◌==◌, if◌then◌else◌}
+use Rattle.std.specs.List.{position_or_len}
+use Rattle.tf_words.specs.Words.{words, first_is}
+use Rattle.tf_export.specs.Json.{string, member, object}
+use Rattle.tf_export.specs.Members.{phrase, fields}
+
+-- the first line of a text, and the text behind its line feed
+abbrev pub line_end : List ℕ → ℕ
+line_end text = position_or_len (λ b. b == 10) text
+
+abbrev pub first_line : List ℕ → List ℕ
+first_line text = take (line_end text) text
+
+abbrev pub behind_line : List ℕ → List ℕ
+behind_line text = drop (line_end text + 1) text
+
+-- a refusal: its name and its arguments
+abbrev pub refusal : List (List ℕ) → List (List ℕ)
+refusal row = fields (words (codes "refusal")) (codes "arguments") row
+
+-- that of an answer text says so
+abbrev pub refused : List (List ℕ) → List (List ℕ)
+refused row =
+    if first_is (codes "answer") row
+    then member (codes "text") (string (codes "answer")) ∷ refusal (drop 1 row) else refusal row
+
+-- what the line of a fault says behind the name of the program
+abbrev pub fault : List (List ℕ) → List (List ℕ)
+fault row =
+    if first_is (codes "refused:") row then refused (drop 1 row)
+    else member (codes "fault") (phrase row) ∷ []
+
+-- an explanation, where there is one
+abbrev pub explanation : List ℕ → List (List ℕ)
+explanation [] = []
+explanation (byte ∷ bytes) = member (codes "explanation") (string (byte ∷ bytes)) ∷ []
+
+-- the line of a fault, which the name of the program begins, and an explanation, or that alone
+unfoldable pub fault_members : List ℕ → List (List ℕ)
+fault_members text =
+    if first_is (codes "threefield:") (words (first_line text))
+    then fault (drop 1 (words (first_line text))) ++ explanation (behind_line text)
+    else explanation text
+
+-- one object, on a line of its own, unless there is nothing to say
+unfoldable pub fault_json : List ℕ → List ℕ
+fault_json [] = []
+fault_json (byte ∷ bytes) = object (fault_members (byte ∷ bytes)) ++ 10 ∷ []

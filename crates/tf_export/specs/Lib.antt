@@ -1,0 +1,6 @@
+pub mod Json
+pub mod Members
+pub mod Documents
+pub mod Faults
+pub mod Csv
+pub mod Adds

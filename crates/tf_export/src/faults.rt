@@ -1,0 +1,85 @@
+//! What is said on standard error, as JSON.
+ghost use Rattle.std.specs.Prelude.{◌≡◌, ◌∷◌, ◌<◌, [], length, IfOk, OnOk};
+ghost use Rattle.tf_words.specs.Words.{words};
+ghost use Rattle.tf_export.specs.Faults.{refused, refusal, fault, explanation, fault_members, fault_json};
+
+use crate::json::Json;
+use crate::line::next_line;
+use std::alloc::Allocator;
+use tf_model::memory::OutOfMemory;
+use tf_words::word::behind_key;
+
+impl<A: Allocator + Copy> Json<A> {
+    ghost use Rattle.tf_export.specs.Adds.{Adds};
+
+    fn refusal(&mut self, row: &[u8]) -> Result<(), OutOfMemory>
+        ensures { OnOk result (Adds self.old self.new (refusal (words row.now))) }
+    {
+        self.fields(b"refusal", b"arguments", row)
+    }
+
+    fn refused(&mut self, row: &[u8]) -> Result<(), OutOfMemory>
+        ensures { OnOk result (Adds self.old self.new (refused (words row.now))) }
+    {
+        match behind_key(row, b"answer") {
+            None => self.refusal(row),
+            Some(row) => {
+                self.string_member(b"text", b"answer")?;
+                self.refusal(row)?;
+                Ok(())
+            }
+        }
+    }
+
+    fn fault(&mut self, alloc: A, row: &[u8]) -> Result<(), OutOfMemory>
+        ensures { OnOk result (Adds self.old self.new (fault (words row.now))) }
+    {
+        match behind_key(row, b"refused:") {
+            None => self.phrase_member(alloc, b"fault", row),
+            Some(row) => self.refused(row),
+        }
+    }
+
+    fn explanation(&mut self, text: &[u8]) -> Result<(), OutOfMemory>
+        ensures { OnOk result (Adds self.old self.new (explanation text.now)) }
+    {
+        if text.is_empty() {
+            return Ok(());
+        }
+        self.string_member(b"explanation", text)
+    }
+
+    fn fault_members(&mut self, alloc: A, text: &[u8]) -> Result<(), OutOfMemory>
+        requires { 0 < length text.now }
+        ensures { OnOk result (Adds self.old self.new (fault_members text.now)) }
+    {
+        let (line, rest) = next_line(text);
+        match behind_key(line, b"threefield:") {
+            None => self.explanation(text),
+            Some(row) => {
+                self.fault(alloc, row)?;
+                self.explanation(rest)?;
+                Ok(())
+            }
+        }
+    }
+}
+
+/// What is said of a fault, and an explanation, as one JSON object on a line of its own. Of an empty
+/// text nothing is said.
+///
+/// # Errors
+///
+/// There was no memory.
+pub fn fault_json<A: Allocator + Copy>(alloc: A, text: &[u8]) -> Result<Vec<u8, A>, OutOfMemory>
+    ensures { IfOk result (λ json. json.items ≡ fault_json text.now) }
+{
+    let mut json = Json::new(alloc);
+    if text.is_empty() {
+        return Ok(json.into_text());
+    }
+    json.enter(b'{')?;
+    json.fault_members(alloc, text)?;
+    json.push(b"}\n")?;
+    Ok(json.into_text())
+}

@@ -1,0 +1,12 @@
+//! What the commands print, in the formats of other programs: JSON, and CSV for spreadsheets.
+//!
+//! Everything here is a function of the text that a command prints.
+#![tactic(auto)]
+
+pub mod csv;
+pub mod documents;
+pub mod faults;
+mod json;
+mod line;
+mod members;
+mod value;

@@ -1,0 +1,182 @@
+//! What a line of words says, as members of a JSON object.
+ghost use Rattle.std.specs.Prelude.{◌≡◌, ◌∷◌, [], codes, length, OnOk};
+ghost use Rattle.tf_words.specs.Words.{words, lines};
+ghost use Rattle.tf_export.specs.Members.{certificate_names, answer_list, bound_list, certificate, answer_certificate, is_bound_kind, is_plain_key, verdict, verdict_members, keyed_members, line_members, members_in};
+
+use crate::json::Json;
+use crate::line::{count_words, next_line};
+use std::alloc::Allocator;
+use tf_model::memory::OutOfMemory;
+use tf_words::word::{first_word, is};
+
+/// The names of a certificate's first words, by its kind.
+fn certificate_names(kind: &[u8]) -> &'static [u8]
+    ensures { result.now ≡ certificate_names kind.now }
+{
+    if is(kind, b"split") {
+        return b"side delta";
+    }
+    if is(kind, b"machine") {
+        return b"machine";
+    }
+    if is(kind, b"job") {
+        return b"job";
+    }
+    if is(kind, b"crowd") {
+        return b"jobs_per_machine";
+    }
+    if is(kind, b"multipliers") {
+        return b"machine denominator";
+    }
+    if is(kind, b"prices") {
+        return b"denominator";
+    }
+    b""
+}
+
+/// The name of the list of an answer's certificate.
+fn answer_list(kind: &[u8]) -> &'static [u8]
+    ensures { result.now ≡ answer_list kind.now }
+{
+    if is(kind, b"last") || is(kind, b"window") || is(kind, b"split") || is(kind, b"ranks") {
+        return b"jobs";
+    }
+    b""
+}
+
+/// The name of the list of a bound's certificate.
+fn bound_list(kind: &[u8]) -> &'static [u8]
+    ensures { result.now ≡ bound_list kind.now }
+{
+    if is(kind, b"multipliers") || is(kind, b"prices") {
+        return b"numerators";
+    }
+    if is(kind, b"job") {
+        return b"";
+    }
+    b"jobs"
+}
+
+/// Whether a line is the certificate of a bound.
+fn is_bound_kind(key: &[u8], row: &[u8]) -> bool
+    ensures { result ≡ is_bound_kind key.now (words row.now) }
+{
+    is(key, b"machine")
+        || is(key, b"window")
+        || is(key, b"crowd")
+        || is(key, b"multipliers")
+        || is(key, b"prices")
+        || (is(key, b"job") && count_words(row) == 1)
+}
+
+/// Whether a line of this key says one thing.
+fn is_plain_key(key: &[u8]) -> bool
+    ensures { result ≡ is_plain_key key.now }
+{
+    is(key, b"problem")
+        || is(key, b"jobs")
+        || is(key, b"machines")
+        || is(key, b"value")
+        || is(key, b"claimed")
+        || is(key, b"best")
+        || is(key, b"gap")
+        || is(key, b"bound")
+}
+
+impl<A: Allocator + Copy> Json<A> {
+    ghost use Rattle.tf_export.specs.Adds.{Adds};
+
+    /// Adds a certificate by its kind, the name of its list and its other words.
+    fn certificate(&mut self, kind: &[u8], list: &[u8], row: &[u8]) -> Result<(), OutOfMemory>
+        ensures { OnOk result
+            (Adds self.old self.new (certificate kind.now list.now (words row.now) ∷ [])) }
+    {
+        self.name(b"certificate")?;
+        self.enter(b'{')?;
+        self.string_member(b"kind", kind)?;
+        self.fields(certificate_names(kind), list, row)?;
+        self.leave(b'}')?;
+        Ok(())
+    }
+
+    fn answer_certificate(&mut self, row: &[u8]) -> Result<(), OutOfMemory>
+        ensures { OnOk result (Adds self.old self.new (answer_certificate (words row.now))) }
+    {
+        match first_word(row) {
+            None => Ok(()),
+            Some((kind, row)) => self.certificate(kind, answer_list(kind), row),
+        }
+    }
+
+    /// Adds a verdict: whether it is a good one, and if not the fault and its arguments.
+    fn verdict(
+        &mut self,
+        name: &[u8],
+        value: &[u8],
+        fault: &[u8],
+        row: &[u8],
+    ) -> Result<(), OutOfMemory>
+        ensures { OnOk result
+            (Adds self.old self.new (verdict name.now value.now fault.now (words row.now))) }
+    {
+        self.member(name, value)?;
+        self.fields(fault, b"arguments", row)?;
+        Ok(())
+    }
+
+    fn verdict_members(&mut self, key: &[u8], row: &[u8]) -> Result<(), OutOfMemory>
+        ensures { OnOk result (Adds self.old self.new (verdict_members key.now (words row.now))) }
+    {
+        if is(key, b"fits") {
+            return self.member(b"fits", b"true");
+        }
+        if is(key, b"misfit") {
+            return self.verdict(b"fits", b"false", b"misfit", row);
+        }
+        if is(key, b"accepted") {
+            return self.member(b"accepted", b"true");
+        }
+        if is(key, b"rejected:") {
+            return self.verdict(b"accepted", b"false", b"reason", row);
+        }
+        Ok(())
+    }
+
+    /// Adds what a line says, by its key and its other words.
+    fn keyed_members(&mut self, alloc: A, key: &[u8], row: &[u8]) -> Result<(), OutOfMemory>
+        ensures { OnOk result (Adds self.old self.new (keyed_members key.now (words row.now))) }
+    {
+        if is_plain_key(key) {
+            return self.said_member(alloc, key, row);
+        }
+        if is(key, b"cert") {
+            return self.answer_certificate(row);
+        }
+        if is_bound_kind(key, row) {
+            return self.certificate(key, bound_list(key), row);
+        }
+        self.verdict_members(key, row)
+    }
+
+    fn line_members(&mut self, alloc: A, line: &[u8]) -> Result<(), OutOfMemory>
+        ensures { OnOk result (Adds self.old self.new (line_members (words line.now))) }
+    {
+        match first_word(line) {
+            None => Ok(()),
+            Some((key, row)) => self.keyed_members(alloc, key, row),
+        }
+    }
+
+    /// Adds what all lines of a text say.
+    pub(crate) fn members_in(&mut self, alloc: A, text: &[u8]) -> Result<(), OutOfMemory>
+        ensures { OnOk result (Adds self.old self.new (members_in (lines text.now))) }
+    {
+        let mut rest = text;
+        while !rest.is_empty() {
+            let (line, more) = next_line(rest);
+            self.line_members(alloc, line)?;
+            rest = more;
+        }
+        Ok(())
+    }
+}
