@@ -19,13 +19,13 @@ _threefield() {
         return
     fi
     case $command in
-    solve) COMPREPLY=($(compgen -W "$instance --answer" -- "$word")) ;;
-    bound) COMPREPLY=($(compgen -W "$instance --steps" -- "$word")) ;;
+    solve) COMPREPLY=($(compgen -W "$instance --answer --json --csv" -- "$word")) ;;
+    bound) COMPREPLY=($(compgen -W "$instance --steps --json" -- "$word")) ;;
     trace) COMPREPLY=($(compgen -W "$instance --tex" -- "$word")) ;;
-    check) COMPREPLY=($(compgen -W "$instance" -- "$word")) ;;
-    evaluate) COMPREPLY=($(compgen -W "$instance --certificate" -- "$word")) ;;
+    check) COMPREPLY=($(compgen -W "$instance --json" -- "$word")) ;;
+    evaluate) COMPREPLY=($(compgen -W "$instance --certificate --json --csv" -- "$word")) ;;
     gantt) COMPREPLY=($(compgen -W "--columns --svg --explain --help" -- "$word")) ;;
-    problems) COMPREPLY=($(compgen -W "--help" -- "$word")) ;;
+    problems) COMPREPLY=($(compgen -W "--json --help" -- "$word")) ;;
     esac
 }
 complete -o filenames -F _threefield threefield

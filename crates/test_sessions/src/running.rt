@@ -3,8 +3,10 @@ use crate::texts::Texts;
 use std::alloc::{AllocError, Global};
 use tf_command::commands::perform;
 use tf_command::console::Console;
+use tf_command::formatted::perform_formatted;
+use tf_command::grammar::command;
 use tf_command::misuse::say_misuse;
-use tf_command::options::{Asked, command, understand};
+use tf_command::options::{Asked, understand};
 use tf_command::report::{say_memory, say_usage};
 use tf_text::counted::Counted;
 
@@ -28,6 +30,7 @@ pub fn run(alloc: Global, line: &str, texts: Texts<'_>) -> Result<Ended, AllocEr
     };
     let status = match understand(command(alloc)?, words.as_slice(), false) {
         Asked::Work(work) => perform(&mut console, &texts, &work),
+        Asked::Formatted(work, format) => { perform_formatted(&mut console, &texts, &work, format) }
         Asked::Help(text) => {
             let _ = console.writer.push_all(text.to_string(alloc)?.as_bytes());
             0

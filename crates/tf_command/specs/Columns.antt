@@ -6,7 +6,7 @@ use Rattle.tf_command.specs.declared.options.Drawing.TheVariants.{Chart, Picture
 use Rattle.tf_command.specs.declared.options.Work.{Work as Asking}
 use Rattle.tf_command.specs.declared.options.Work.TheVariants.{Solve, Bound, Trace, Check, Evaluate, Gantt, Problems}
 use Rattle.tf_command.specs.declared.options.Asked.{Asked}
-use Rattle.tf_command.specs.declared.options.Asked.TheVariants.{Work}
+use Rattle.tf_command.specs.declared.options.Asked.TheVariants.{Work, Formatted}
 
 -- a chart has some columns, and no more than there is room for
 abbrev pub HasWidth : Drawing → Type 0
@@ -26,4 +26,5 @@ IsSized (Problems table) = Unit {0}
 -- and of what a command line asks for
 abbrev pub HasColumns : Asked → Type 0
 HasColumns (Work work) = IsSized work
+HasColumns (Formatted work format) = IsSized work
 HasColumns _ = Unit {0}

@@ -5,7 +5,10 @@
 pub mod commands;
 pub mod console;
 mod explained;
+pub mod format;
+pub mod formatted;
 mod gathered;
+pub mod grammar;
 pub mod misuse;
 pub mod options;
 mod recorded;

@@ -2,7 +2,8 @@
 ghost use Rattle.std.specs.Prelude.{◌≡◌, ◌⊎◌};
 
 use crate::gathered::send;
-use crate::options::{Asked, command, understand};
+use crate::grammar::command;
+use crate::options::{Asked, understand};
 use crate::report::say_memory;
 use std::alloc::{AllocError, Global};
 use std::io::Write;

@@ -1,18 +1,28 @@
 //! The command line.
-ghost use Rattle.clap.specs.Words.{first_value, found_of};
-ghost use Rattle.std.specs.Prelude.{◌≡◌, ◌≤◌, Some, codes, IfOk, IfErr};
+ghost use Rattle.std.specs.Prelude.{◌≡◌, ◌≤◌, None, Some, false, codes, IfOk, IfErr};
 ghost use Rattle.tf_engine.specs.FormData.{form_of};
+ghost use Rattle.tf_model.specs.Limit.{most_machines};
 ghost use Rattle.tf_command.specs.Asking.{form_asked, requested};
-ghost use Rattle.tf_command.specs.Columns.{HasColumns};
-ghost use Rattle.tf_command.specs.Matched.{AreOptionsBy, IsFormBy, layout_by};
+ghost use Rattle.tf_command.specs.Columns.{HasColumns, HasWidth};
+ghost use Rattle.tf_command.specs.FormatAsked.{IsFormatBy, IsSolvedLayoutBy, asked_in_format, csv_format, json_format};
+ghost use Rattle.tf_command.specs.Matched.{AreIdleBy, AreOptionsBy, IsDrawingBy, IsFlagBy};
+ghost use Rattle.tf_command.specs.Matched.{IsFormBy, IsNumberBy, IsToldInstead, columns_fault};
+ghost use Rattle.tf_command.specs.Matched.{explains_by, flow_fault, form_fault, given_of};
+ghost use Rattle.tf_command.specs.Matched.{has_arithmetic, is_latex, lacks, layout_by};
+ghost use Rattle.tf_command.specs.Matched.{machines_fault, most_steps, options_fault, pair_in};
+ghost use Rattle.tf_command.specs.Matched.{steps_fault, wt_fault};
 ghost use Rattle.tf_command.specs.OptionNumber.{numeral_in};
+ghost use Rattle.tf_command.specs.Understood.{IsAskedBy, lacks_options};
 
+use crate::format::Format;
 use clap::error::ErrorKind;
-use clap::{Arg, ArgAction, ArgMatches, Command, Error};
+use clap::{ArgMatches, Command, Error};
 use std::alloc::{AllocError, Allocator, Global};
 use tf_engine::request::{Form, Request};
 use tf_engine::text::Text;
 use tf_evaluate::evaluation::Detail;
+use tf_export::csv::Table;
+use tf_export::documents::Document;
 use tf_model::limit::{MOST_JOBS, MOST_MACHINES};
 use tf_text::answer::layout::Layout;
 use tf_text::chart::MOST_COLUMNS;
@@ -138,6 +148,8 @@ pub enum Work<'a> {
 #[derive(Drop)]
 pub enum Asked<'a> {
     Work(Work<'a>),
+    /// The same, with its output in a format.
+    Formatted(Work<'a>, Format),
     /// Help, or the version.
     Help(Error),
     /// The command line is none of the program's.
@@ -146,253 +158,8 @@ pub enum Asked<'a> {
     Unfit(&'static str),
     NoMemory,
 }
-
-const ABOUT_ALL: &str = "\
-First steps: threefield solve -p \"1||Lmax\" TABLE, and with --explain where it
-             is refused. Put quotes round the problem: | is a pipe otherwise.
-             threefield problems lists what is solved.
-
-Exit status: 0 done, 1 rejected, 2 refused, 3 want of memory,
-             4 a file or a device failed, 5 the command line is wrong,
-             6 evaluated, and another schedule costs less.";
-
-const ABOUT_SOLVE: &str = "\
-Example: threefield solve -p \"P2|prmp|Cmax\" examples/table.txt
-
-Exit status: 0 answered, 2 refused, 3 want of memory,
-             4 a file or a device failed, 5 the command line is wrong.";
-
-const ABOUT_BOUND: &str = "\
-Example: threefield bound -p \"P2||Cmax\" examples/table.txt
-
-Exit status: 0 bounded, 2 refused, 3 want of memory,
-             4 a file or a device failed, 5 the command line is wrong.";
-
-const ABOUT_TRACE: &str = "\
-Example: threefield trace -p \"F2||Cmax\" -f flow --name johnson examples/flow.txt
-
-Exit status: 0 traced, 2 refused, 3 want of memory,
-             4 a file or a device failed, 5 the command line is wrong.";
-
-const ABOUT_CHECK: &str = "\
-Example: threefield check -p \"P2|prmp|Cmax\" examples/table.txt answer.txt
-
-Exit status: 0 accepted, 1 rejected, 2 refused, 3 want of memory,
-             4 a file or a device failed, 5 the command line is wrong.";
-
-const ABOUT_EVALUATE: &str = "\
-Example: threefield evaluate -p \"P2|prmp|Cmax\" examples/table.txt answer.txt
-         threefield evaluate -p \"1||sumC\" --certificate table.txt answer.txt
-
-Exit status: 0 best, 1 does not fit, 2 refused, 3 want of memory,
-             4 a file or a device failed, 5 the command line is wrong,
-             6 fits, and is not proved optimal.";
-
-const ABOUT_GANTT: &str = "\
-Example: threefield solve -p \"1||sumC\" table.txt | threefield gantt -c 40
-         threefield gantt --svg answer.txt > answer.svg
-
-Exit status: 0 drawn, 2 refused, 3 want of memory,
-             4 a file or a device failed, 5 the command line is wrong.";
-
-const ABOUT_PROBLEMS: &str = "\
-Example: threefield problems examples/all_fields.txt
-
-Exit status: 0 listed, 2 the table is refused, 3 want of memory,
-             4 a file or a device failed, 5 the command line is wrong.";
-
 /// The most steps of the search for prices.
 pub const MOST_STEPS: u32 = 1_000_000;
-
-static FORMATS: [&str; 3] = ["table", "wt", "flow"];
-
-static VERSIONS: [&str; 2] = ["1", "2"];
-
-// When an explanation is given: where standard error is a terminal, always or never.
-static EXPLAINED: [&str; 3] = ["auto", "always", "never"];
-
-/// The program's commands.
-pub fn command<'a>(alloc: Global) -> Result<Command<'a>, AllocError> {
-    Command::new(alloc, "threefield")
-        .bin_name("threefield")?
-        .about("Exact machine scheduling with certificates")
-        .version("0.1.0")
-        .after_help(ABOUT_ALL)
-        .subcommand_required(true)
-        .arg_required_else_help(true)
-        .subcommand(solve_command(alloc)?)?
-        .subcommand(bound_command(alloc)?)?
-        .subcommand(trace_command(alloc)?)?
-        .subcommand(check_command(alloc)?)?
-        .subcommand(evaluate_command(alloc)?)?
-        .subcommand(gantt_command(alloc)?)?
-        .subcommand(problems_command(alloc)?)
-}
-
-fn solve_command<'a>(alloc: Global) -> Result<Command<'a>, AllocError> {
-    let version = Arg::new(alloc, "answer")
-        .long("answer")
-        .value_name("VERSION")
-        .help("The version of the answer text, 1 or 2")
-        .value_parser(VERSIONS.as_slice())
-        .hide_possible_values(true)
-        .default_value("2");
-    with_options(alloc, Command::new(alloc, "solve"))?
-        .about("Prints an optimal schedule, and a certificate that proves it")
-        .after_help(ABOUT_SOLVE)
-        .arg(version)
-}
-
-fn bound_command<'a>(alloc: Global) -> Result<Command<'a>, AllocError> {
-    let steps = Arg::new(alloc, "steps")
-        .long("steps")
-        .value_name("N")
-        .help("The steps of the search for prices, 1 to 1000000")
-        .allow_negative_numbers(true);
-    with_options(alloc, Command::new(alloc, "bound"))?
-        .about("Prints a lower bound of an NP-hard problem, and its certificate")
-        .after_help(ABOUT_BOUND)
-        .arg(steps)
-}
-
-fn trace_command<'a>(alloc: Global) -> Result<Command<'a>, AllocError> {
-    let latex = Arg::new(alloc, "tex")
-        .long("tex")
-        .help("Writes it for LaTeX, with a tabular for each table")
-        .action(ArgAction::SetTrue);
-    with_options(alloc, Command::new(alloc, "trace"))?
-        .about("Shows how an optimal schedule is found, step by step")
-        .after_help(ABOUT_TRACE)
-        .arg(latex)
-}
-
-fn check_command<'a>(alloc: Global) -> Result<Command<'a>, AllocError> {
-    with_options(alloc, Command::new(alloc, "check"))?
-        .about("Judges an answer: accepted, or rejected and why")
-        .after_help(ABOUT_CHECK)
-        .arg(answer(alloc))
-}
-
-fn evaluate_command<'a>(alloc: Global) -> Result<Command<'a>, AllocError> {
-    let certificate = Arg::new(alloc, "certificate")
-        .long("certificate")
-        .help("Writes the certificate's arithmetic, step by step")
-        .action(ArgAction::SetTrue);
-    with_options(alloc, Command::new(alloc, "evaluate"))?
-        .about("Reports how far an answer is from the optimum, job by job")
-        .after_help(ABOUT_EVALUATE)
-        .arg(certificate)?
-        .arg(answer(alloc))
-}
-
-fn answer<'a>(alloc: Global) -> Arg<'a> {
-    Arg::new(alloc, "ANSWER")
-        .help("The answer: a file, or - for standard input")
-        .required(true)
-}
-
-fn gantt_command<'a>(alloc: Global) -> Result<Command<'a>, AllocError> {
-    let columns = Arg::new(alloc, "columns")
-        .short('c')
-        .long("columns")
-        .value_name("N")
-        .help("The most columns of the chart, 1 to 1000")
-        .allow_negative_numbers(true)
-        .default_value("72");
-    let svg = Arg::new(alloc, "svg")
-        .long("svg")
-        .help("Draws a picture, as SVG, in place of the chart")
-        .action(ArgAction::SetTrue)
-        .conflicts_with("columns")?;
-    let answer = Arg::new(alloc, "ANSWER")
-        .help("The answer: a file, or - for standard input")
-        .default_value("-");
-    Command::new(alloc, "gantt")
-        .about("Draws the schedule of an answer, a line for each machine")
-        .after_help(ABOUT_GANTT)
-        .arg(columns)?
-        .arg(svg)?
-        .arg(explain(alloc))?
-        .arg(answer)
-}
-
-fn problems_command<'a>(alloc: Global) -> Result<Command<'a>, AllocError> {
-    let file = Arg::new(alloc, "FILE").help("A job table: lists what it has the fields for");
-    Command::new(alloc, "problems")
-        .about("Lists the problems that are solved, and what each needs")
-        .after_help(ABOUT_PROBLEMS)
-        .arg(file)
-}
-
-fn explain<'a>(alloc: Global) -> Arg<'a> {
-    Arg::new(alloc, "explain")
-        .long("explain")
-        .value_name("WHEN")
-        .help("Explains faults: auto, always, never")
-        .num_args(0..=1)
-        .require_equals(true)
-        .value_parser(EXPLAINED.as_slice())
-        .hide_possible_values(true)
-        .default_missing_value("always")
-        .default_value("auto")
-}
-
-// The command with what names a problem and an instance.
-fn with_options<'a>(alloc: Global, command: Command<'a>) -> Result<Command<'a>, AllocError> {
-    let problem = Arg::new(alloc, "problem")
-        .short('p')
-        .long("problem")
-        .value_name("TEXT")
-        .help("The problem, in quotes: \"P2|prmp|Cmax\"")
-        .required(true);
-    let format = Arg::new(alloc, "format")
-        .short('f')
-        .long("format")
-        .value_name("FORM")
-        .help("Format of INPUT: table, wt or flow")
-        .value_parser(FORMATS.as_slice())
-        .hide_possible_values(true)
-        .default_value("table");
-    let machines = Arg::new(alloc, "machines")
-        .short('m')
-        .long("machines")
-        .value_name("M")
-        .help("The number of machines, 1 to 1000")
-        .allow_negative_numbers(true);
-    let input = Arg::new(alloc, "INPUT")
-        .help("The instance: a file, or - for standard input")
-        .required(true);
-    let command = command.arg(problem)?.arg(format)?;
-    with_form_options(alloc, command)?
-        .arg(machines)?
-        .arg(explain(alloc))?
-        .arg(input)
-}
-
-// The command with the options of the forms.
-fn with_form_options<'a>(alloc: Global, command: Command<'a>) -> Result<Command<'a>, AllocError> {
-    let jobs = Arg::new(alloc, "jobs")
-        .long("jobs")
-        .value_name("N")
-        .help("With wt: the jobs of each instance, 1 to 100000")
-        .allow_negative_numbers(true);
-    let index = Arg::new(alloc, "index")
-        .long("index")
-        .value_name("K")
-        .help("With wt: which instance, from 1")
-        .allow_negative_numbers(true)
-        .default_value("1");
-    let name = Arg::new(alloc, "name")
-        .long("name")
-        .value_name("NAME")
-        .help("With flow: the name of the instance");
-    let pair = Arg::new(alloc, "pair")
-        .long("pair")
-        .value_name("I,K")
-        .help("With flow: the two machines to use, from 0")
-        .allow_hyphen_values(true);
-    command.arg(jobs)?.arg(index)?.arg(name)?.arg(pair)
-}
 
 /// What the words ask for. With `--explain=auto`, the default, it is explained on a terminal.
 pub fn understand<'a>(command: Command<'a>, words: &'a [String], on_terminal: bool) -> Asked<'a>
@@ -402,9 +169,83 @@ pub fn understand<'a>(command: Command<'a>, words: &'a [String], on_terminal: bo
         Ok(matches) => matches,
         Err(error) => return refused(error),
     };
-    let Some((name, given)) = matches.subcommand() else {
-        return Asked::NoMemory;
+    match matches.subcommand() {
+        None => Asked::NoMemory,
+        Some((name, given)) => {
+            in_format(asked_by(name, given, on_terminal), format_in(name, given))
+        }
+    }
+}
+
+// What is asked for, with its output in a format where one is named.
+fn in_format<'a>(asked: Asked<'a>, format: Option<Format>) -> Asked<'a>
+    requires { HasColumns asked }
+    ensures columns { HasColumns result }
+    ensures format { result ≡ asked_in_format asked.entry format }
+{
+    let Some(format) = format else {
+        return asked;
     };
+    match asked {
+        Asked::Work(work) => Asked::Formatted(work, format),
+        other => other,
+    }
+}
+
+// The format of the output of this command, where one is named.
+fn format_in(name: &str, given: &ArgMatches<'_>) -> Option<Format>
+    ensures { IsFormatBy (given_of given.now).flag name.now result }
+{
+    if given.get_flag("json") {
+        return json_format(name);
+    }
+    if given.get_flag("csv") {
+        return csv_format(name);
+    }
+    None
+}
+
+// What a command prints, as JSON.
+fn json_format(name: &str) -> Option<Format>
+    ensures { result ≡ json_format name.now }
+{
+    if name == "solve" {
+        return Some(Format::Json(Document::Answer));
+    }
+    if name == "bound" {
+        return Some(Format::Json(Document::Bound));
+    }
+    if name == "check" {
+        return Some(Format::Json(Document::Verdict));
+    }
+    if name == "evaluate" {
+        return Some(Format::Json(Document::Evaluation));
+    }
+    if name == "problems" {
+        return Some(Format::Json(Document::Problems));
+    }
+    None
+}
+
+// What a command prints, as a table.
+fn csv_format(name: &str) -> Option<Format>
+    ensures { result ≡ csv_format name.now }
+{
+    if name == "solve" {
+        return Some(Format::Csv(Table::Pieces));
+    }
+    if name == "evaluate" {
+        return Some(Format::Csv(Table::Outcomes));
+    }
+    None
+}
+
+/// What the command of this name asks for, by what clap found of it. A value that clap always gives
+/// and that is not there is answered as want of memory.
+pub fn asked_by<'a>(name: &str, given: &ArgMatches<'a>, on_terminal: bool) -> Asked<'a>
+    ensures columns { HasColumns result }
+    ensures asked { IsAskedBy name.now (given_of given.now) on_terminal result }
+{
     if name == "gantt" {
         return gantt_in(given, on_terminal);
     }
@@ -416,10 +257,13 @@ pub fn understand<'a>(command: Command<'a>, words: &'a [String], on_terminal: bo
         Err(asked) => return asked,
     };
     if name == "solve" {
-        return Asked::Work(Work::Solve(options, layout_in(given)));
+        return Asked::Work(Work::Solve(options, solved_layout_in(given)));
     }
     if name == "bound" {
-        return bound_in(given, options);
+        return match steps_in(given) {
+            Ok(steps) => Asked::Work(Work::Bound(options, steps)),
+            Err(asked) => asked,
+        };
     }
     if name == "trace" {
         return Asked::Work(Work::Trace(options, style_in(given)));
@@ -437,14 +281,29 @@ pub fn understand<'a>(command: Command<'a>, words: &'a [String], on_terminal: bo
                     detail: detail_in(given),
                 }));
             }
-            Asked::Work(Work::Check(options, answer))
+            if name == "check" {
+                return Asked::Work(Work::Check(options, answer));
+            }
+            Asked::NoMemory
         }
     }
 }
 
+// The version of the answer text that is solved for: 1 for JSON, which names each job of a
+// certificate, and otherwise the one that is asked for.
+fn solved_layout_in(given: &ArgMatches<'_>) -> Layout
+    ensures { IsSolvedLayoutBy (given_of given.now).flag
+        ((given_of given.now).value (codes "answer")) result }
+{
+    if given.get_flag("json") {
+        return Layout::One;
+    }
+    layout_in(given)
+}
+
 // The version of the answer text: 2, unless 1 is asked for.
 fn layout_in(given: &ArgMatches<'_>) -> Layout
-    ensures { result ≡ layout_by (first_value (found_of given.now) (codes "answer")) }
+    ensures { result ≡ layout_by ((given_of given.now).value (codes "answer")) }
 {
     match given.get_str("answer") {
         Some("1") => Layout::One,
@@ -453,7 +312,9 @@ fn layout_in(given: &ArgMatches<'_>) -> Layout
 }
 
 // Plain text, unless LaTeX is asked for.
-fn style_in(given: &ArgMatches<'_>) -> Style {
+fn style_in(given: &ArgMatches<'_>) -> Style
+    ensures { IsFlagBy ((given_of given.now).flag (codes "tex")) (is_latex result) }
+{
     if given.get_flag("tex") {
         Style::Latex
     } else {
@@ -461,21 +322,26 @@ fn style_in(given: &ArgMatches<'_>) -> Style {
     }
 }
 
-// A lower bound, after so many steps where they are given.
-fn bound_in<'a>(given: &ArgMatches<'_>, options: Options<'a>) -> Asked<'a>
-    ensures { HasColumns result }
+// The steps of the search for prices, where they are given.
+fn steps_in<'a>(given: &ArgMatches<'a>) -> Result<Option<u32>, Asked<'a>>
+    ensures columns { IfErr result HasColumns }
+    ensures given { IfOk result
+        (IsNumberBy 1 most_steps ((given_of given.now).value (codes "steps"))) }
+    ensures fault { IfErr result (IsToldInstead false (steps_fault (given_of given.now))) }
 {
     let Some(word) = given.get_str("steps") else {
-        return Asked::Work(Work::Bound(options, None));
+        return Ok(None);
     };
     match number_within(word, 1, MOST_STEPS) {
-        Some(steps) => Asked::Work(Work::Bound(options, Some(steps))),
-        None => Asked::Unfit("--steps takes a number from 1 to 1000000"),
+        Some(steps) => Ok(Some(steps)),
+        None => Err(Asked::Unfit("--steps takes a number from 1 to 1000000")),
     }
 }
 
 // How much is told of an answer: the certificate's arithmetic where it is asked for.
-fn detail_in(given: &ArgMatches<'_>) -> Detail {
+fn detail_in(given: &ArgMatches<'_>) -> Detail
+    ensures { IsFlagBy ((given_of given.now).flag (codes "certificate")) (has_arithmetic result) }
+{
     if given.get_flag("certificate") {
         Detail::WithArithmetic
     } else {
@@ -484,41 +350,55 @@ fn detail_in(given: &ArgMatches<'_>) -> Detail {
 }
 
 fn gantt_in<'a>(given: &ArgMatches<'a>, on_terminal: bool) -> Asked<'a>
-    ensures { HasColumns result }
+    ensures columns { HasColumns result }
+    ensures asked { IsAskedBy (codes "gantt") (given_of given.now) on_terminal result }
 {
-    let (Some(answer), Some(word)) = (given.get_str("ANSWER"), given.get_str("columns")) else {
+    let Some(answer) = given.get_str("ANSWER") else {
         return Asked::NoMemory;
     };
-    let drawing = if given.get_flag("svg") {
-        Drawing::Picture
-    } else {
-        match number_within(word, 1, MOST_COLUMNS) {
-            Some(columns) => Drawing::Chart { columns },
-            None => return Asked::Unfit("--columns takes a number from 1 to 1000"),
-        }
+    match drawing_in(given) {
+        Ok(drawing) => Asked::Work(Work::Gantt {
+            answer,
+            drawing,
+            explain: is_explained(given, on_terminal),
+        }),
+        Err(asked) => asked,
+    }
+}
+
+// A picture where it is asked for, otherwise a chart of so many columns.
+fn drawing_in<'a>(given: &ArgMatches<'a>) -> Result<Drawing, Asked<'a>>
+    ensures sized { IfOk result HasWidth }
+    ensures columns { IfErr result HasColumns }
+    ensures given { IfOk result (IsDrawingBy (given_of given.now)) }
+    ensures fault { IfErr result
+        (IsToldInstead (lacks (given_of given.now) (codes "columns"))
+        (columns_fault (given_of given.now))) }
+{
+    if given.get_flag("svg") {
+        return Ok(Drawing::Picture);
+    }
+    let Some(word) = given.get_str("columns") else {
+        return Err(Asked::NoMemory);
     };
-    Asked::Work(Work::Gantt {
-        answer,
-        drawing,
-        explain: is_explained(given, on_terminal),
-    })
+    match number_within(word, 1, MOST_COLUMNS) {
+        Some(columns) => Ok(Drawing::Chart { columns }),
+        None => Err(Asked::Unfit("--columns takes a number from 1 to 1000")),
+    }
 }
 
 // What names the problem and the instance, or what is asked for in place of it.
 fn options_in<'a>(given: &ArgMatches<'a>, on_terminal: bool) -> Result<Options<'a>, Asked<'a>>
     ensures columns { IfErr result HasColumns }
-    ensures given { IfOk result (AreOptionsBy (first_value (found_of given.now))) }
+    ensures given { IfOk result (AreOptionsBy (given_of given.now) on_terminal) }
+    ensures fault { IfErr result
+        (IsToldInstead (lacks_options (given_of given.now))
+        (options_fault (given_of given.now))) }
 {
     let (Some(problem), Some(input)) = (given.get_str("problem"), given.get_str("INPUT")) else {
         return Err(Asked::NoMemory);
     };
-    let machines = match given.get_str("machines") {
-        None => None,
-        Some(word) => match number_within(word, 1, MOST_MACHINES) {
-            Some(machines) => Some(machines),
-            None => return Err(Asked::Unfit("--machines takes a number from 1 to 1000")),
-        },
-    };
+    let machines = machines_in(given)?;
     let form = form_in(given)?;
     Ok(Options {
         problem,
@@ -532,8 +412,27 @@ fn options_in<'a>(given: &ArgMatches<'a>, on_terminal: bool) -> Result<Options<'
     })
 }
 
+// The number of machines, where it is given.
+fn machines_in<'a>(given: &ArgMatches<'a>) -> Result<Option<u32>, Asked<'a>>
+    ensures columns { IfErr result HasColumns }
+    ensures given { IfOk result
+        (IsNumberBy 1 most_machines ((given_of given.now).value (codes "machines"))) }
+    ensures unhurt { IfOk result (λ _. machines_fault (given_of given.now) ≡ None) }
+    ensures fault { IfErr result (IsToldInstead false (machines_fault (given_of given.now))) }
+{
+    let Some(word) = given.get_str("machines") else {
+        return Ok(None);
+    };
+    match number_within(word, 1, MOST_MACHINES) {
+        Some(machines) => Ok(Some(machines)),
+        None => Err(Asked::Unfit("--machines takes a number from 1 to 1000")),
+    }
+}
+
 // Whether what is wrong is explained.
-fn is_explained(given: &ArgMatches<'_>, on_terminal: bool) -> bool {
+fn is_explained(given: &ArgMatches<'_>, on_terminal: bool) -> bool
+    ensures { result ≡ explains_by ((given_of given.now).value (codes "explain")) on_terminal }
+{
     match given.get_str("explain") {
         Some("always") => true,
         Some("never") => false,
@@ -542,7 +441,9 @@ fn is_explained(given: &ArgMatches<'_>, on_terminal: bool) -> bool {
 }
 
 // The options that were given, and that the form does not use.
-fn idle_in(given: &ArgMatches<'_>, form: &FormOption<'_>) -> Idle {
+fn idle_in(given: &ArgMatches<'_>, form: &FormOption<'_>) -> Idle
+    ensures { AreIdleBy (given_of given.now) form.now result }
+{
     let is_wt = matches!(form, FormOption::Wt { .. });
     let is_flow = matches!(form, FormOption::Flow { .. });
     Idle {
@@ -555,7 +456,10 @@ fn idle_in(given: &ArgMatches<'_>, form: &FormOption<'_>) -> Idle {
 // The form that was chosen. The options of the others are not looked at.
 fn form_in<'a>(given: &ArgMatches<'a>) -> Result<FormOption<'a>, Asked<'a>>
     ensures columns { IfErr result HasColumns }
-    ensures given { IfOk result (IsFormBy (first_value (found_of given.now))) }
+    ensures given { IfOk result (IsFormBy (given_of given.now)) }
+    ensures fault { IfErr result
+        (IsToldInstead (lacks (given_of given.now) (codes "format"))
+        (form_fault (given_of given.now))) }
 {
     let Some(format) = given.get_str("format") else {
         return Err(Asked::NoMemory);
@@ -570,9 +474,10 @@ fn form_in<'a>(given: &ArgMatches<'a>) -> Result<FormOption<'a>, Asked<'a>>
 }
 
 fn wt_in<'a>(given: &ArgMatches<'a>) -> Result<FormOption<'a>, Asked<'a>>
-    requires { first_value (found_of given.now) (codes "format") ≡ Some (codes "wt") }
+    requires { (given_of given.now).value (codes "format") ≡ Some (codes "wt") }
     ensures columns { IfErr result HasColumns }
-    ensures given { IfOk result (IsFormBy (first_value (found_of given.now))) }
+    ensures given { IfOk result (IsFormBy (given_of given.now)) }
+    ensures fault { IfErr result (IsToldInstead false (wt_fault (given_of given.now))) }
 {
     let jobs = given
         .get_str("jobs")
@@ -588,9 +493,10 @@ fn wt_in<'a>(given: &ArgMatches<'a>) -> Result<FormOption<'a>, Asked<'a>>
 }
 
 fn flow_in<'a>(given: &ArgMatches<'a>) -> Result<FormOption<'a>, Asked<'a>>
-    requires { first_value (found_of given.now) (codes "format") ≡ Some (codes "flow") }
+    requires { (given_of given.now).value (codes "format") ≡ Some (codes "flow") }
     ensures columns { IfErr result HasColumns }
-    ensures given { IfOk result (IsFormBy (first_value (found_of given.now))) }
+    ensures given { IfOk result (IsFormBy (given_of given.now)) }
+    ensures fault { IfErr result (IsToldInstead false (flow_fault (given_of given.now))) }
 {
     let Some(name) = given.get_str("name") else {
         return Err(Asked::Unfit("--format flow needs --name"));
@@ -607,8 +513,11 @@ fn flow_in<'a>(given: &ArgMatches<'a>) -> Result<FormOption<'a>, Asked<'a>>
     }
 }
 
-fn pair_in(word: &str) -> Option<(u32, u32)> {
-    let (first, second) = word.split_once(",")?;
+// The numbers of two machines with a comma between them.
+fn pair_in(word: &str) -> Option<(u32, u32)>
+    ensures { result ≡ pair_in word.now }
+{
+    let (first, second) = word.split_once(',')?;
     let first = number_within(first, 0, MOST_MACHINES)?;
     let second = number_within(second, 0, MOST_MACHINES)?;
     Some((first, second))

@@ -6,12 +6,15 @@ mod files;
 use files::Files;
 use std::alloc::AllocError;
 use std::io;
-use std::io::IsTerminal;
+use std::io::{IsTerminal, Write};
 use std::process::ExitCode;
 use tf_command::commands::perform;
 use tf_command::console::Console;
+use tf_command::format::Format;
+use tf_command::formatted::perform_formatted;
+use tf_command::grammar::command;
 use tf_command::misuse::say_misuse;
-use tf_command::options::{Asked, command, understand};
+use tf_command::options::{Asked, Work, understand};
 use tf_command::report::{say_device, say_memory, say_usage};
 use tf_text::counted::Counted;
 
@@ -35,14 +38,8 @@ fn program(rt: &HostRuntime) -> u8 {
         return say_memory(&mut errors);
     };
     match understand(command, words.as_slice(), rt.stderr().is_terminal()) {
-        Asked::Work(work) => {
-            let mut console = Console {
-                alloc: rt.alloc(),
-                writer: Counted::new(rt.stdout()),
-                errors,
-            };
-            perform(&mut console, &Files { rt }, &work)
-        }
+        Asked::Work(work) => print(rt, errors, &work, None),
+        Asked::Formatted(work, format) => print(rt, errors, &work, Some(format)),
         Asked::Help(text) => match text.print(rt) {
             Ok(()) => 0,
             Err(_) => say_device(&mut errors),
@@ -50,5 +47,23 @@ fn program(rt: &HostRuntime) -> u8 {
         Asked::Misused(_) => say_misuse(rt.alloc(), words.as_slice(), &mut errors),
         Asked::Unfit(text) => say_usage(&mut errors, text),
         Asked::NoMemory => say_memory(&mut errors),
+    }
+}
+
+/// Does what is asked for, with its output in a format where one is named, and gives the status.
+fn print<E: Write + Drop>(
+    rt: &HostRuntime,
+    errors: Counted<E>,
+    work: &Work<'_>,
+    format: Option<Format>,
+) -> u8 {
+    let mut console = Console {
+        alloc: rt.alloc(),
+        writer: Counted::new(rt.stdout()),
+        errors,
+    };
+    match format {
+        None => perform(&mut console, &Files { rt }, work),
+        Some(format) => perform_formatted(&mut console, &Files { rt }, work, format),
     }
 }

@@ -1,0 +1,94 @@
+-- What a command line asks for, by the name of its command and by what clap found of that.
+use Rattle.std.specs.Prelude.{◌≡◌, ℕ, Bool, not, ◌&&◌, ◌||◌, List, Option, None, Some, IsTrue, option_map, codes, if◌then◌else◌}
+use Rattle.std.specs.Str.{bytes_eq}
+use Rattle.tf_command.specs.Matched.{Given, AreOptionsBy, IsDrawingBy, IsFlagBy, IsNumberBy, columns_fault, explains_by, first_fault, has_arithmetic, is_latex, is_word, lacks, most_steps, options_fault, steps_fault}
+use Rattle.tf_command.specs.FormatAsked.{IsSolvedLayoutBy}
+use Rattle.tf_command.specs.declared.options.Asked.{Asked}
+use Rattle.tf_command.specs.declared.options.Asked.TheVariants.{Work, Formatted, Help, Misused, Unfit, NoMemory}
+use Rattle.tf_command.specs.declared.options.Work.{Work as Asking}
+use Rattle.tf_command.specs.declared.options.Work.TheVariants.{Solve, Bound, Trace, Check, Evaluate, Gantt, Problems}
+
+-- the work of a command, and each of its options
+abbrev pub IsWorkBy : List ℕ → Given → Bool → Asking → Type 0
+IsWorkBy name given on_terminal (Solve options layout) =
+    (name ≡ codes "solve")
+    × AreOptionsBy given on_terminal options
+    × IsSolvedLayoutBy given.flag (given.value (codes "answer")) layout
+IsWorkBy name given on_terminal (Bound options steps) =
+    (name ≡ codes "bound")
+    × AreOptionsBy given on_terminal options
+    × IsNumberBy 1 most_steps (given.value (codes "steps")) steps
+IsWorkBy name given on_terminal (Trace options style) =
+    (name ≡ codes "trace")
+    × AreOptionsBy given on_terminal options
+    × IsFlagBy (given.flag (codes "tex")) (is_latex style)
+IsWorkBy name given on_terminal (Check options answer) =
+    (name ≡ codes "check")
+    × AreOptionsBy given on_terminal options
+    × (given.value (codes "ANSWER") ≡ Some answer.now)
+IsWorkBy name given on_terminal (Evaluate evaluating) =
+    (name ≡ codes "evaluate")
+    × AreOptionsBy given on_terminal evaluating.options
+    × (given.value (codes "ANSWER") ≡ Some evaluating.answer.now)
+    × IsFlagBy (given.flag (codes "certificate")) (has_arithmetic evaluating.detail)
+IsWorkBy name given on_terminal (Gantt answer drawing explain) =
+    (name ≡ codes "gantt")
+    × (given.value (codes "ANSWER") ≡ Some answer.now)
+    × IsDrawingBy given drawing
+    × (explain ≡ explains_by (given.value (codes "explain")) on_terminal)
+IsWorkBy name given on_terminal (Problems table) =
+    (name ≡ codes "problems")
+    × (option_map (λ file. file.now) table ≡ given.value (codes "FILE"))
+
+-- the commands that have options and no answer
+abbrev pub has_no_answer : List ℕ → Bool
+has_no_answer name =
+    bytes_eq name (codes "solve")
+    || (bytes_eq name (codes "bound") || bytes_eq name (codes "trace"))
+
+-- both the instance and the answer are standard input
+abbrev pub answer_fault : Given → Option (List ℕ)
+answer_fault given =
+    if is_word (given.value (codes "ANSWER")) (codes "-")
+    && is_word (given.value (codes "INPUT")) (codes "-")
+    then Some (codes "INPUT and ANSWER cannot both be standard input")
+    else None
+
+-- the fault of a command's values that is told first
+abbrev pub own_fault : List ℕ → Given → Option (List ℕ)
+own_fault name given =
+    if bytes_eq name (codes "bound") then steps_fault given
+    else (if has_no_answer name then None else answer_fault given)
+
+abbrev pub fault_by : List ℕ → Given → Option (List ℕ)
+fault_by name given =
+    if bytes_eq name (codes "gantt") then columns_fault given
+    else (if bytes_eq name (codes "problems") then None
+    else first_fault (options_fault given) (own_fault name given))
+
+-- a value is not there that clap always gives, or the command is none of the program's
+abbrev pub lacks_options : Given → Bool
+lacks_options given =
+    lacks given (codes "problem")
+    || (lacks given (codes "INPUT") || lacks given (codes "format"))
+
+abbrev pub lacks_answer : List ℕ → Given → Bool
+lacks_answer name given =
+    lacks given (codes "ANSWER")
+    || not (bytes_eq name (codes "check") || bytes_eq name (codes "evaluate"))
+
+abbrev pub is_incomplete : List ℕ → Given → Bool
+is_incomplete name given =
+    if bytes_eq name (codes "gantt")
+    then lacks given (codes "ANSWER") || lacks given (codes "columns")
+    else (if has_no_answer name then lacks_options given
+    else lacks_options given || lacks_answer name given)
+
+-- the command's work, the first fault of its values, or want of memory where clap gave too little
+abbrev pub IsAskedBy : List ℕ → Given → Bool → Asked → Type 0
+IsAskedBy name given on_terminal (Work work) = IsWorkBy name given on_terminal work
+IsAskedBy name given on_terminal (Formatted work format) = ⊥
+IsAskedBy name given on_terminal (Help error) = ⊥
+IsAskedBy name given on_terminal (Misused error) = ⊥
+IsAskedBy name given on_terminal (Unfit message) = fault_by name given ≡ Some message.now
+IsAskedBy name given on_terminal NoMemory = IsTrue (is_incomplete name given)

@@ -1,0 +1,269 @@
+//! The commands and options that there are, for clap.
+use clap::{Arg, ArgAction, Command};
+use std::alloc::{AllocError, Global};
+
+const ABOUT_ALL: &str = "\
+First steps: threefield solve -p \"1||Lmax\" TABLE, and with --explain where it
+             is refused. Put quotes round the problem: | is a pipe otherwise.
+             threefield problems lists what is solved.
+
+Exit status: 0 done, 1 rejected, 2 refused, 3 want of memory,
+             4 a file or a device failed, 5 the command line is wrong,
+             6 evaluated, and another schedule costs less.";
+
+const ABOUT_SOLVE: &str = "\
+Example: threefield solve -p \"P2|prmp|Cmax\" examples/table.txt
+
+Exit status: 0 answered, 2 refused, 3 want of memory,
+             4 a file or a device failed, 5 the command line is wrong.";
+
+const ABOUT_BOUND: &str = "\
+Example: threefield bound -p \"P2||Cmax\" examples/table.txt
+
+Exit status: 0 bounded, 2 refused, 3 want of memory,
+             4 a file or a device failed, 5 the command line is wrong.";
+
+const ABOUT_TRACE: &str = "\
+Example: threefield trace -p \"F2||Cmax\" -f flow --name johnson examples/flow.txt
+
+Exit status: 0 traced, 2 refused, 3 want of memory,
+             4 a file or a device failed, 5 the command line is wrong.";
+
+const ABOUT_CHECK: &str = "\
+Example: threefield check -p \"P2|prmp|Cmax\" examples/table.txt answer.txt
+
+Exit status: 0 accepted, 1 rejected, 2 refused, 3 want of memory,
+             4 a file or a device failed, 5 the command line is wrong.";
+
+const ABOUT_EVALUATE: &str = "\
+Example: threefield evaluate -p \"P2|prmp|Cmax\" examples/table.txt answer.txt
+         threefield evaluate -p \"1||sumC\" --certificate table.txt answer.txt
+
+Exit status: 0 best, 1 does not fit, 2 refused, 3 want of memory,
+             4 a file or a device failed, 5 the command line is wrong,
+             6 fits, and is not proved optimal.";
+
+const ABOUT_GANTT: &str = "\
+Example: threefield solve -p \"1||sumC\" table.txt | threefield gantt -c 40
+         threefield gantt --svg answer.txt > answer.svg
+
+Exit status: 0 drawn, 2 refused, 3 want of memory,
+             4 a file or a device failed, 5 the command line is wrong.";
+
+const ABOUT_PROBLEMS: &str = "\
+Example: threefield problems examples/all_fields.txt
+
+Exit status: 0 listed, 2 the table is refused, 3 want of memory,
+             4 a file or a device failed, 5 the command line is wrong.";
+
+static FORMATS: [&str; 3] = ["table", "wt", "flow"];
+
+static VERSIONS: [&str; 2] = ["1", "2"];
+
+// When an explanation is given: where standard error is a terminal, always or never.
+static EXPLAINED: [&str; 3] = ["auto", "always", "never"];
+
+/// The program's commands.
+pub fn command<'a>(alloc: Global) -> Result<Command<'a>, AllocError> {
+    Command::new(alloc, "threefield")
+        .bin_name("threefield")?
+        .about("Exact machine scheduling with certificates")
+        .version("0.1.0")
+        .after_help(ABOUT_ALL)
+        .subcommand_required(true)
+        .arg_required_else_help(true)
+        .subcommand(solve_command(alloc)?)?
+        .subcommand(bound_command(alloc)?)?
+        .subcommand(trace_command(alloc)?)?
+        .subcommand(check_command(alloc)?)?
+        .subcommand(evaluate_command(alloc)?)?
+        .subcommand(gantt_command(alloc)?)?
+        .subcommand(problems_command(alloc)?)
+}
+
+fn solve_command<'a>(alloc: Global) -> Result<Command<'a>, AllocError> {
+    let version = Arg::new(alloc, "answer")
+        .long("answer")
+        .value_name("VERSION")
+        .help("The version of the answer text, 1 or 2")
+        .value_parser(VERSIONS.as_slice())
+        .hide_possible_values(true)
+        .default_value("2");
+    with_options(alloc, Command::new(alloc, "solve"))?
+        .about("Prints an optimal schedule, and a certificate that proves it")
+        .after_help(ABOUT_SOLVE)
+        .arg(version)?
+        .arg(json(alloc).conflicts_with("answer")?)?
+        .arg(csv(alloc)?)
+}
+
+fn bound_command<'a>(alloc: Global) -> Result<Command<'a>, AllocError> {
+    let steps = Arg::new(alloc, "steps")
+        .long("steps")
+        .value_name("N")
+        .help("The steps of the search for prices, 1 to 1000000")
+        .allow_negative_numbers(true);
+    with_options(alloc, Command::new(alloc, "bound"))?
+        .about("Prints a lower bound of an NP-hard problem, and its certificate")
+        .after_help(ABOUT_BOUND)
+        .arg(steps)?
+        .arg(json(alloc))
+}
+
+fn trace_command<'a>(alloc: Global) -> Result<Command<'a>, AllocError> {
+    let latex = Arg::new(alloc, "tex")
+        .long("tex")
+        .help("Writes it for LaTeX, with a tabular for each table")
+        .action(ArgAction::SetTrue);
+    with_options(alloc, Command::new(alloc, "trace"))?
+        .about("Shows how an optimal schedule is found, step by step")
+        .after_help(ABOUT_TRACE)
+        .arg(latex)
+}
+
+fn check_command<'a>(alloc: Global) -> Result<Command<'a>, AllocError> {
+    with_options(alloc, Command::new(alloc, "check"))?
+        .about("Judges an answer: accepted, or rejected and why")
+        .after_help(ABOUT_CHECK)
+        .arg(json(alloc))?
+        .arg(answer(alloc))
+}
+
+fn evaluate_command<'a>(alloc: Global) -> Result<Command<'a>, AllocError> {
+    let certificate = Arg::new(alloc, "certificate")
+        .long("certificate")
+        .help("Writes the certificate's arithmetic, step by step")
+        .action(ArgAction::SetTrue);
+    with_options(alloc, Command::new(alloc, "evaluate"))?
+        .about("Reports how far an answer is from the optimum, job by job")
+        .after_help(ABOUT_EVALUATE)
+        .arg(certificate)?
+        .arg(json(alloc))?
+        .arg(csv(alloc)?)?
+        .arg(answer(alloc))
+}
+
+fn json<'a>(alloc: Global) -> Arg<'a> {
+    Arg::new(alloc, "json")
+        .long("json")
+        .help("Writes a JSON object in place of text")
+        .action(ArgAction::SetTrue)
+}
+
+fn csv<'a>(alloc: Global) -> Result<Arg<'a>, AllocError> {
+    Arg::new(alloc, "csv")
+        .long("csv")
+        .help("Writes a table for spreadsheets in place of text")
+        .action(ArgAction::SetTrue)
+        .conflicts_with("json")
+}
+
+fn answer<'a>(alloc: Global) -> Arg<'a> {
+    Arg::new(alloc, "ANSWER")
+        .help("The answer: a file, or - for standard input")
+        .required(true)
+}
+
+fn gantt_command<'a>(alloc: Global) -> Result<Command<'a>, AllocError> {
+    let columns = Arg::new(alloc, "columns")
+        .short('c')
+        .long("columns")
+        .value_name("N")
+        .help("The most columns of the chart, 1 to 1000")
+        .allow_negative_numbers(true)
+        .default_value("72");
+    let svg = Arg::new(alloc, "svg")
+        .long("svg")
+        .help("Draws a picture, as SVG, in place of the chart")
+        .action(ArgAction::SetTrue)
+        .conflicts_with("columns")?;
+    let answer = Arg::new(alloc, "ANSWER")
+        .help("The answer: a file, or - for standard input")
+        .default_value("-");
+    Command::new(alloc, "gantt")
+        .about("Draws the schedule of an answer, a line for each machine")
+        .after_help(ABOUT_GANTT)
+        .arg(columns)?
+        .arg(svg)?
+        .arg(explain(alloc))?
+        .arg(answer)
+}
+
+fn problems_command<'a>(alloc: Global) -> Result<Command<'a>, AllocError> {
+    let file = Arg::new(alloc, "FILE").help("A job table: lists what it has the fields for");
+    Command::new(alloc, "problems")
+        .about("Lists the problems that are solved, and what each needs")
+        .after_help(ABOUT_PROBLEMS)
+        .arg(json(alloc))?
+        .arg(file)
+}
+
+fn explain<'a>(alloc: Global) -> Arg<'a> {
+    Arg::new(alloc, "explain")
+        .long("explain")
+        .value_name("WHEN")
+        .help("Explains faults: auto, always, never")
+        .num_args(0..=1)
+        .require_equals(true)
+        .value_parser(EXPLAINED.as_slice())
+        .hide_possible_values(true)
+        .default_missing_value("always")
+        .default_value("auto")
+}
+
+// The command with what names a problem and an instance.
+fn with_options<'a>(alloc: Global, command: Command<'a>) -> Result<Command<'a>, AllocError> {
+    let problem = Arg::new(alloc, "problem")
+        .short('p')
+        .long("problem")
+        .value_name("TEXT")
+        .help("The problem, in quotes: \"P2|prmp|Cmax\"")
+        .required(true);
+    let format = Arg::new(alloc, "format")
+        .short('f')
+        .long("format")
+        .value_name("FORM")
+        .help("Format of INPUT: table, wt or flow")
+        .value_parser(FORMATS.as_slice())
+        .hide_possible_values(true)
+        .default_value("table");
+    let machines = Arg::new(alloc, "machines")
+        .short('m')
+        .long("machines")
+        .value_name("M")
+        .help("The number of machines, 1 to 1000")
+        .allow_negative_numbers(true);
+    let input = Arg::new(alloc, "INPUT")
+        .help("The instance: a file, or - for standard input")
+        .required(true);
+    let command = command.arg(problem)?.arg(format)?;
+    with_form_options(alloc, command)?
+        .arg(machines)?
+        .arg(explain(alloc))?
+        .arg(input)
+}
+
+// The command with the options of the forms.
+fn with_form_options<'a>(alloc: Global, command: Command<'a>) -> Result<Command<'a>, AllocError> {
+    let jobs = Arg::new(alloc, "jobs")
+        .long("jobs")
+        .value_name("N")
+        .help("With wt: the jobs of each instance, 1 to 100000")
+        .allow_negative_numbers(true);
+    let index = Arg::new(alloc, "index")
+        .long("index")
+        .value_name("K")
+        .help("With wt: which instance, from 1")
+        .allow_negative_numbers(true)
+        .default_value("1");
+    let name = Arg::new(alloc, "name")
+        .long("name")
+        .value_name("NAME")
+        .help("With flow: the name of the instance");
+    let pair = Arg::new(alloc, "pair")
+        .long("pair")
+        .value_name("I,K")
+        .help("With flow: the two machines to use, from 0")
+        .allow_hyphen_values(true);
+    command.arg(jobs)?.arg(index)?.arg(name)?.arg(pair)
+}
