@@ -13,6 +13,10 @@ use Rattle.tf_picture.specs.Picture.{IsPicture}
 use Rattle.tf_evaluate.specs.declared.evaluation.Detail.{Detail}
 use Rattle.tf_evaluate.specs.declared.evaluation.Standing.{Standing}
 use Rattle.tf_assess.specs.RunRating.{IsRatingOf}
+use Rattle.tf_orders.specs.declared.run_orders.OrderForm.{OrderForm}
+use Rattle.tf_orders.specs.declared.run_orders.OrdersRated.{OrdersRated}
+use Rattle.tf_orders.specs.declared.run_orders.OrdersRated.TheVariants.{Single, Lines}
+use Rattle.tf_orders.specs.RunOrders.{IsOrdersRunOf}
 use Rattle.tf_bounding.specs.RunBounding.{IsBoundingOf}
 use Rattle.tf_trace.specs.RunTracing.{IsTraceOf}
 use Rattle.tf_command.specs.declared.options.Drawing.{Drawing}
@@ -36,6 +40,13 @@ status_of_checking (Err fault) = status_of fault
 abbrev pub status_of_evaluating : {A : Type 0} → Result Standing (RunFault A) → ℕ
 status_of_evaluating (Ok standing) = status_of_standing standing
 status_of_evaluating (Err fault) = status_of fault
+
+-- after a run over orders: how good the schedule of one order is, 0 where a line was written of each,
+-- and otherwise the status of its fault
+abbrev pub status_of_rating : {A : Type 0} → Result OrdersRated (RunFault A) → ℕ
+status_of_rating (Ok (Single standing)) = status_of_standing standing
+status_of_rating (Ok Lines) = 0
+status_of_rating (Err fault) = status_of fault
 
 -- the line on standard error: that of the fault, where there is one
 abbrev pub line_of : {X A : Type 0} → Result X (RunFault A) → List ℕ
@@ -92,4 +103,11 @@ pub record EndsEvaluating (A : Type 0) (detail : Detail) (request : RequestData)
   pub run : Result Standing (RunFault A)
   pub outcome : IsRatingOf detail request instance answer writer run
   pub ends : status ≡ status_of_evaluating run
+  pub said : says (line_of run)
+
+pub record EndsRating (A : Type 0) (form : OrderForm) (request : RequestData)
+    (instance orders writer : DeviceUse) (says : List ℕ → Type 0) (status : ℕ) : Type 0 where
+  pub run : Result OrdersRated (RunFault A)
+  pub outcome : IsOrdersRunOf form request instance orders writer run
+  pub ends : status ≡ status_of_rating run
   pub said : says (line_of run)

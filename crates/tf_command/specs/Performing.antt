@@ -4,10 +4,12 @@ use Rattle.std.specs.declared.alloc.Global.{Global}
 use Rattle.std.specs.Io.KnownBytes.{Keeps}
 use Rattle.tf_text.specs.Counted.{DeviceUse}
 use Rattle.tf_text.specs.declared.answer.layout.Layout.TheVariants.{Two}
+use Rattle.tf_orders.specs.declared.run_orders.OrderForm.TheVariants.{Single, Lines}
 use Rattle.tf_command.specs.declared.options.Work.{Work as Asking}
-use Rattle.tf_command.specs.declared.options.Work.TheVariants.{Solve, Bound, Trace, Check, Evaluate, Gantt, Problems}
+use Rattle.tf_command.specs.declared.options.Work.TheVariants.{Solve, Bound, Trace, Check, Evaluate, Rate, Gantt, Problems}
+use Rattle.tf_command.specs.declared.options.OrderSource.TheVariants.{Given, Named}
 use Rattle.tf_command.specs.Asking.{requested}
-use Rattle.tf_command.specs.Ending.{EndsSolving, EndsBounding, EndsTracing, EndsChecking, EndsDrawing, EndsEvaluating}
+use Rattle.tf_command.specs.Ending.{EndsSolving, EndsBounding, EndsTracing, EndsChecking, EndsDrawing, EndsEvaluating, EndsRating}
 
 -- the bytes of the text of each name, where they are known
 abbrev pub Texts : Type 0
@@ -70,6 +72,16 @@ Performs texts (Evaluate evaluating) writer says status =
     EndsOverBoth texts evaluating.options.input.now evaluating.answer.now writer said status
     (λ instance other. EndsEvaluating Global evaluating.detail (requested evaluating.options Two)
     instance other writer said status)
+Performs texts (Rate options (Given order)) writer says status =
+    let said = says options.telling.explain in
+    EndsOver texts options.input.now writer said status
+    (λ instance. (reader : DeviceUse) × (reader.before ≡ Some order.now)
+    × EndsRating Global Single (requested options Two) instance reader writer said status)
+Performs texts (Rate options (Named name)) writer says status =
+    let said = says options.telling.explain in
+    EndsOverBoth texts options.input.now name.now writer said status
+    (λ instance other. EndsRating Global Lines (requested options Two) instance other writer said
+    status)
 Performs texts (Gantt answer drawing explain) writer says status =
     EndsOver texts answer.now writer (says explain) status
     (λ reader. EndsDrawing Global drawing reader writer (says explain) status)

@@ -1,12 +1,33 @@
 -- What a command line asks for, by the name of its command and by what clap found of that.
-use Rattle.std.specs.Prelude.{◌≡◌, ℕ, Bool, not, ◌&&◌, ◌||◌, List, Option, None, Some, IsTrue, option_map, codes, if◌then◌else◌}
+use Rattle.std.specs.Prelude.{◌≡◌, ℕ, Bool, false, not, ◌&&◌, ◌||◌, List, Option, None, Some, IsTrue, is_some, option_map, codes, if◌then◌else◌}
 use Rattle.std.specs.Str.{bytes_eq}
 use Rattle.tf_command.specs.Matched.{Given, AreOptionsBy, IsDrawingBy, IsFlagBy, IsNumberBy, columns_fault, explains_by, first_fault, has_arithmetic, is_latex, is_word, lacks, most_steps, options_fault, steps_fault}
 use Rattle.tf_command.specs.FormatAsked.{IsSolvedLayoutBy}
 use Rattle.tf_command.specs.declared.options.Asked.{Asked}
 use Rattle.tf_command.specs.declared.options.Asked.TheVariants.{Work, Formatted, Help, Misused, Unfit, NoMemory}
+use Rattle.tf_command.specs.declared.options.OrderSource.{OrderSource}
+use Rattle.tf_command.specs.declared.options.OrderSource.TheVariants.{Given as Written, Named}
 use Rattle.tf_command.specs.declared.options.Work.{Work as Asking}
-use Rattle.tf_command.specs.declared.options.Work.TheVariants.{Solve, Bound, Trace, Check, Evaluate, Gantt, Problems}
+use Rattle.tf_command.specs.declared.options.Work.TheVariants.{Solve, Bound, Trace, Check, Evaluate, Rate, Gantt, Problems}
+
+-- the orders that are evaluated: that of `--order`, or those of the text that `--orders` names
+abbrev pub IsOrderBy : Given → OrderSource → Type 0
+IsOrderBy given (Written order) = given.value (codes "order") ≡ Some order.now
+IsOrderBy given (Named name) =
+    (given.value (codes "order") ≡ None) × (given.value (codes "orders") ≡ Some name.now)
+
+-- neither is given
+pub record HasNoOrder (given : Given) : Type 0 where
+  pub order : given.value (codes "order") ≡ None
+  pub orders : given.value (codes "orders") ≡ None
+
+abbrev pub has_order : Given → Bool
+has_order given = is_some (given.value (codes "order")) || is_some (given.value (codes "orders"))
+
+-- a text of orders is standard input
+abbrev pub is_standard_input : OrderSource → Bool
+is_standard_input (Written order) = false
+is_standard_input (Named name) = bytes_eq name.now (codes "-")
 
 -- the work of a command, and each of its options
 abbrev pub IsWorkBy : List ℕ → Given → Bool → Asking → Type 0
@@ -29,8 +50,13 @@ IsWorkBy name given on_terminal (Check options answer) =
 IsWorkBy name given on_terminal (Evaluate evaluating) =
     (name ≡ codes "evaluate")
     × AreOptionsBy given on_terminal evaluating.options
+    × HasNoOrder given
     × (given.value (codes "ANSWER") ≡ Some evaluating.answer.now)
     × IsFlagBy (given.flag (codes "certificate")) (has_arithmetic evaluating.detail)
+IsWorkBy name given on_terminal (Rate options orders) =
+    (name ≡ codes "evaluate")
+    × AreOptionsBy given on_terminal options
+    × IsOrderBy given orders
 IsWorkBy name given on_terminal (Gantt answer drawing explain) =
     (name ≡ codes "gantt")
     × (given.value (codes "ANSWER") ≡ Some answer.now)
@@ -54,11 +80,25 @@ answer_fault given =
     then Some (codes "INPUT and ANSWER cannot both be standard input")
     else None
 
+-- orders are evaluated
+abbrev pub is_rating : List ℕ → Given → Bool
+is_rating name given = bytes_eq name (codes "evaluate") && has_order given
+
+-- both the instance and the orders are standard input
+abbrev pub orders_fault : Given → Option (List ℕ)
+orders_fault given =
+    if not (is_some (given.value (codes "order")))
+    && (is_word (given.value (codes "orders")) (codes "-")
+    && is_word (given.value (codes "INPUT")) (codes "-"))
+    then Some (codes "INPUT and --orders cannot both be standard input")
+    else None
+
 -- the fault of a command's values that is told first
 abbrev pub own_fault : List ℕ → Given → Option (List ℕ)
 own_fault name given =
     if bytes_eq name (codes "bound") then steps_fault given
-    else (if has_no_answer name then None else answer_fault given)
+    else (if has_no_answer name then None
+    else (if is_rating name given then orders_fault given else answer_fault given))
 
 abbrev pub fault_by : List ℕ → Given → Option (List ℕ)
 fault_by name given =
@@ -81,7 +121,7 @@ abbrev pub is_incomplete : List ℕ → Given → Bool
 is_incomplete name given =
     if bytes_eq name (codes "gantt")
     then lacks given (codes "ANSWER") || lacks given (codes "columns")
-    else (if has_no_answer name then lacks_options given
+    else (if has_no_answer name || is_rating name given then lacks_options given
     else lacks_options given || lacks_answer name given)
 
 -- the command's work, the first fault of its values, or want of memory where clap gave too little

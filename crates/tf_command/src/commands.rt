@@ -2,7 +2,7 @@
 ghost use Rattle.std.specs.declared.alloc.Global.{Global};
 ghost use Rattle.tf_command.specs.Asking.{requested};
 ghost use Rattle.tf_command.specs.Columns.{HasWidth, IsSized};
-ghost use Rattle.tf_command.specs.Ending.{EndsSolving, EndsBounding, EndsTracing, EndsChecking, EndsEvaluating, EndsDrawing, SaysLine, drawn_as};
+ghost use Rattle.tf_command.specs.Ending.{EndsSolving, EndsBounding, EndsTracing, EndsChecking, EndsEvaluating, EndsRating, EndsDrawing, SaysLine, drawn_as};
 ghost use Rattle.tf_engine.specs.Drawing.{IsDrawingOf};
 ghost use Rattle.std.specs.Prelude.{◌≡◌, ◌⊎◌, None, Some, IfSome, IfOk, IfErr, true, codes};
 ghost use Rattle.tf_command.specs.Performing.{EndsListing, EndsOver, Performs};
@@ -11,9 +11,11 @@ ghost use Rattle.tf_text.specs.Counted.{inner_of, use_of};
 
 use crate::console::Console;
 use crate::explained::{Ended, tell, tell_drawn};
-use crate::options::{Drawing, Evaluating, Options, Work};
+use crate::options::{Drawing, Evaluating, Options, OrderSource, Work};
 use crate::recorded::{MOST_BESIDE, MOST_KEPT, Recorded, room};
-use crate::report::{end_check, end_evaluation, end_run, report, say_device, say_memory};
+use crate::report::{
+    end_check, end_evaluation, end_rating, end_run, report, say_device, say_memory,
+};
 use crate::source::Sources;
 use std::alloc::{Allocator, Global};
 use std::io::{Read, Write};
@@ -26,6 +28,7 @@ use tf_engine::run_gantt::run_gantt;
 use tf_engine::run_solve::run_solve;
 use tf_explain::explain;
 use tf_model::instance::Instance;
+use tf_orders::run_orders::{OrderForm, run_orders};
 use tf_picture::run_picture::run_picture;
 use tf_read::job_table::read_table;
 use tf_text::answer::layout::Layout;
@@ -54,6 +57,12 @@ pub fn perform<S: Sources, W: Write, E: Write>(
         Work::Trace(options, style) => trace_named(console, sources, options, *style),
         Work::Check(options, answer) => check_named(console, sources, options, answer),
         Work::Evaluate(evaluating) => evaluate_named(console, sources, evaluating),
+        Work::Rate(options, OrderSource::Given(order)) => {
+            rate_given(console, sources, options, order)
+        }
+        Work::Rate(options, OrderSource::Named(name)) => {
+            rate_named(console, sources, options, name)
+        }
         Work::Gantt {
             answer,
             drawing,
@@ -163,6 +172,58 @@ fn evaluate_named<S: Sources, W: Write, E: Write>(
     match open_both(console, sources, &evaluating.options, evaluating.answer) {
         Ok((mut instance, mut answer)) => {
             evaluate(console, evaluating, &mut instance, &mut answer)
+        }
+        Err(status) => status,
+    }
+}
+
+/// Evaluates the schedule of an order that the command line gives.
+fn rate_given<S: Sources, W: Write, E: Write>(
+    console: &mut Console<W, E>,
+    sources: &S,
+    options: &Options<'_>,
+    order: &str,
+) -> u8
+    ensures { Performs (S.text_of sources.now) (Work.Rate options.now (OrderSource.Given order.entry))
+        (use_of W.contents console.old.writer console.new.writer)
+        (λ explain. SaysLine E.contents explain console.old.errors console.new.errors) result }
+{
+    let explain = options.telling.explain;
+    match open(console, sources, options.input, MOST_KEPT, explain) {
+        Ok(mut instance) => {
+            let mut order = Counted::new(Recorded::new("--order", order.as_bytes(), 0, None));
+            rate(
+                console,
+                options,
+                OrderForm::Single,
+                &mut instance,
+                &mut order,
+            )
+        }
+        Err(status) => status,
+    }
+}
+
+/// Rates the orders of the text of that name.
+fn rate_named<S: Sources, W: Write, E: Write>(
+    console: &mut Console<W, E>,
+    sources: &S,
+    options: &Options<'_>,
+    name: &str,
+) -> u8
+    ensures { Performs (S.text_of sources.now) (Work.Rate options.now (OrderSource.Named name.entry))
+        (use_of W.contents console.old.writer console.new.writer)
+        (λ explain. SaysLine E.contents explain console.old.errors console.new.errors) result }
+{
+    match open_both(console, sources, options, name) {
+        Ok((mut instance, mut orders)) => {
+            rate(
+                console,
+                options,
+                OrderForm::Lines,
+                &mut instance,
+                &mut orders,
+            )
         }
         Err(status) => status,
     }
@@ -429,6 +490,38 @@ fn evaluate<R: Read, S: Read, W: Write, E: Write>(
             request: &request,
         };
         ended.tell_evaluated(&run, instance.inner(), answer.inner(), &mut console.errors);
+    }
+    status
+}
+
+/// Tells how good the schedules of orders are, and the exit status.
+fn rate<R: Read, S: Read, W: Write, E: Write>(
+    console: &mut Console<W, E>,
+    options: &Options<'_>,
+    form: OrderForm,
+    instance: &mut Counted<Recorded<'_, R>>,
+    orders: &mut Counted<Recorded<'_, S>>,
+) -> u8
+    ensures { EndsRating Global form (requested options.now Layout.Two)
+        (use_of (bytes_left R.remaining) instance.old instance.new)
+        (use_of (bytes_left S.remaining) orders.old orders.new)
+        (use_of W.contents console.old.writer console.new.writer)
+        (SaysLine E.contents options.now.telling.explain console.old.errors console.new.errors)
+        result }
+{
+    let alloc = console.alloc;
+    let Ok(request) = options.request(alloc, Layout::Two) else {
+        return say_memory(&mut console.errors);
+    };
+    let run = run_orders(alloc, &request, form, instance, orders, &mut console.writer);
+    let status = end_rating(&run, &mut console.errors);
+    if options.telling.explain {
+        let ended = Ended {
+            alloc,
+            telling: options.telling,
+            request: &request,
+        };
+        ended.tell_rated(&run, instance.inner(), orders.inner(), &mut console.errors);
     }
     status
 }

@@ -11,12 +11,20 @@ use tf_engine::run_check::Checked;
 use tf_evaluate::evaluation::Standing;
 use tf_explain::explain;
 use tf_model::prepare::Refusal;
+use tf_orders::run_orders::OrdersRated;
+use tf_text::answer::fault::AnswerFault;
 use tf_text::counted::Counted;
 
 /// What is said of a problem that has no solver.
 const MAY_BE_BOUNDED: &str = "\
 For many problems without a solver \"threefield bound\" prints a lower bound, and
 \"threefield evaluate\" judges a schedule by it.
+";
+
+/// What is said of an order that is malformed.
+const WHAT_AN_ORDER_IS: &str = "\
+An order names each job once, by its number, with spaces between: \"3 1 2\". On
+parallel machines it has one list for each machine, with / between: \"1 3 / 2\".
 ";
 
 /// What a run over an instance read, and the source that failed.
@@ -132,6 +140,26 @@ impl Ended<'_> {
                     explain::unfit(self.alloc, self.request, &told.instance, answer)
                 }
                 Ok(_) => Ok(String::new(self.alloc)),
+                Err(fault) => told.refused(self.alloc, fault, self.request),
+            };
+            tell_behind(self.telling, explanation, errors);
+        }
+    }
+
+    /// Says what is to be said of the options and of a run over orders, where the instance was kept.
+    pub fn tell_rated<R, S, E: Write>(
+        &self,
+        run: &Result<OrdersRated, RunFault>,
+        instance: &Recorded<'_, R>,
+        orders: &Recorded<'_, S>,
+        errors: &mut Counted<E>,
+    ) {
+        if let Some(told) = Told::of_both(instance, orders) {
+            let explanation = match run {
+                Ok(_) => Ok(String::new(self.alloc)),
+                Err(RunFault::Answer(AnswerFault::BadLine(_))) => {
+                    String::from_str(self.alloc, WHAT_AN_ORDER_IS)
+                }
                 Err(fault) => told.refused(self.alloc, fault, self.request),
             };
             tell_behind(self.telling, explanation, errors);

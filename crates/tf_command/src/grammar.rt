@@ -38,6 +38,7 @@ Exit status: 0 accepted, 1 rejected, 2 refused, 3 want of memory,
 const ABOUT_EVALUATE: &str = "\
 Example: threefield evaluate -p \"P2|prmp|Cmax\" examples/table.txt answer.txt
          threefield evaluate -p \"1||sumC\" --certificate table.txt answer.txt
+         threefield evaluate -p \"1||sumC\" --order \"2 1 3\" table.txt
 
 Exit status: 0 best, 1 does not fit, 2 refused, 3 want of memory,
              4 a file or a device failed, 5 the command line is wrong,
@@ -140,7 +141,29 @@ fn evaluate_command<'a>(alloc: Global) -> Result<Command<'a>, AllocError> {
         .arg(certificate)?
         .arg(json(alloc))?
         .arg(csv(alloc)?)?
-        .arg(answer(alloc))
+        .arg(order(alloc)?)?
+        .arg(orders(alloc)?)?
+        .arg(
+            answer(alloc)
+                .required(false)
+                .required_unless_present_any(&["order", "orders"])?,
+        )
+}
+
+fn order<'a>(alloc: Global) -> Result<Arg<'a>, AllocError> {
+    Arg::new(alloc, "order")
+        .long("order")
+        .value_name("JOBS")
+        .help("Evaluates an order of the jobs: \"3 1 2\", or \"1 3 / 2\"")
+        .conflicts_with_all(&["orders", "certificate", "ANSWER"])
+}
+
+fn orders<'a>(alloc: Global) -> Result<Arg<'a>, AllocError> {
+    Arg::new(alloc, "orders")
+        .long("orders")
+        .value_name("FILE")
+        .help("Prints cost and gap of the order in each line of FILE")
+        .conflicts_with_all(&["certificate", "json", "csv", "ANSWER"])
 }
 
 fn json<'a>(alloc: Global) -> Arg<'a> {

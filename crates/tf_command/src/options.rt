@@ -1,5 +1,5 @@
 //! The command line.
-ghost use Rattle.std.specs.Prelude.{◌≡◌, ◌≤◌, None, Some, false, codes, IfOk, IfErr};
+ghost use Rattle.std.specs.Prelude.{◌≡◌, ◌≤◌, None, Some, false, codes, IfOk, IfErr, MatchOption};
 ghost use Rattle.tf_engine.specs.FormData.{form_of};
 ghost use Rattle.tf_model.specs.Limit.{most_machines};
 ghost use Rattle.tf_command.specs.Asking.{form_asked, requested};
@@ -12,7 +12,7 @@ ghost use Rattle.tf_command.specs.Matched.{has_arithmetic, is_latex, lacks, layo
 ghost use Rattle.tf_command.specs.Matched.{machines_fault, most_steps, options_fault, pair_in};
 ghost use Rattle.tf_command.specs.Matched.{steps_fault, wt_fault};
 ghost use Rattle.tf_command.specs.OptionNumber.{numeral_in};
-ghost use Rattle.tf_command.specs.Understood.{IsAskedBy, lacks_options};
+ghost use Rattle.tf_command.specs.Understood.{HasNoOrder, IsAskedBy, IsOrderBy, is_standard_input, lacks_options};
 
 use crate::format::Format;
 use clap::error::ErrorKind;
@@ -112,6 +112,15 @@ pub struct Evaluating<'a> {
     pub detail: Detail,
 }
 
+/// Where the orders of jobs come from whose schedules are evaluated.
+#[derive(Clone, Copy, Debug)]
+pub enum OrderSource<'a> {
+    /// One order, on the command line.
+    Given(&'a str),
+    /// The name of a text with an order in each line.
+    Named(&'a str),
+}
+
 /// How the schedule of an answer is drawn.
 #[derive(Clone, Copy, Debug, PartialEq, Eq)]
 pub enum Drawing {
@@ -134,6 +143,8 @@ pub enum Work<'a> {
     Check(Options<'a>, &'a str),
     /// Tell how good an answer is.
     Evaluate(Evaluating<'a>),
+    /// Tell how good the semi-active schedules of orders are.
+    Rate(Options<'a>, OrderSource<'a>),
     /// Draw the answer of this name.
     Gantt {
         answer: &'a str,
@@ -268,6 +279,14 @@ pub fn asked_by<'a>(name: &str, given: &ArgMatches<'a>, on_terminal: bool) -> As
     if name == "trace" {
         return Asked::Work(Work::Trace(options, style_in(given)));
     }
+    if name == "evaluate"
+        && let Some(orders) = orders_in(given)
+    {
+        if options.input == "-" && is_standard_input(&orders) {
+            return Asked::Unfit("INPUT and --orders cannot both be standard input");
+        }
+        return Asked::Work(Work::Rate(options, orders));
+    }
     match given.get_str("ANSWER") {
         None => Asked::NoMemory,
         Some(answer) => {
@@ -335,6 +354,29 @@ fn steps_in<'a>(given: &ArgMatches<'a>) -> Result<Option<u32>, Asked<'a>>
     match number_within(word, 1, MOST_STEPS) {
         Some(steps) => Ok(Some(steps)),
         None => Err(Asked::Unfit("--steps takes a number from 1 to 1000000")),
+    }
+}
+
+// The orders that are to be evaluated, if any are.
+fn orders_in<'a>(given: &ArgMatches<'a>) -> Option<OrderSource<'a>>
+    ensures { MatchOption result (HasNoOrder (given_of given.now)) (IsOrderBy (given_of given.now)) }
+{
+    if let Some(order) = given.get_str("order") {
+        return Some(OrderSource::Given(order));
+    }
+    match given.get_str("orders") {
+        Some(name) => Some(OrderSource::Named(name)),
+        None => None,
+    }
+}
+
+// Whether a text of orders is standard input.
+fn is_standard_input(orders: &OrderSource<'_>) -> bool
+    ensures { result ≡ is_standard_input orders.now }
+{
+    match orders {
+        OrderSource::Given(_) => false,
+        OrderSource::Named(name) => *name == "-",
     }
 }
 

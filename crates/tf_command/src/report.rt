@@ -7,7 +7,7 @@ ghost use Rattle.tf_command.specs.FaultLine.{answer_fault_words, fault_line, fie
 ghost use Rattle.tf_command.specs.Said.{said_words};
 ghost use Rattle.tf_command.specs.Wrote.{Wrote};
 ghost use Rattle.tf_command.specs.Statuses.{status_of, status_of_check, status_of_standing};
-ghost use Rattle.tf_command.specs.Ending.{line_of, status_of_run, status_of_checking, status_of_evaluating};
+ghost use Rattle.tf_command.specs.Ending.{line_of, status_of_run, status_of_checking, status_of_evaluating, status_of_rating};
 
 use crate::gathered::{Gathered, send};
 use itoa::Buffer;
@@ -18,6 +18,7 @@ use tf_engine::run_check::Checked;
 use tf_evaluate::evaluation::Standing;
 use tf_model::ids::JobId;
 use tf_model::prepare::{Field, Refusal};
+use tf_orders::run_orders::OrdersRated;
 use tf_read::fault::ReadFault;
 use tf_schedule::schedule::PieceFault;
 use tf_text::answer::fault::AnswerFault;
@@ -110,6 +111,21 @@ pub fn end_evaluation<A: Allocator, W: Write>(
 {
     match run {
         Ok(standing) => status_of_standing(standing),
+        Err(fault) => report(fault, writer),
+    }
+}
+
+/// Ends a run over orders in the same way.
+pub fn end_rating<A: Allocator, W: Write>(
+    run: &Result<OrdersRated, RunFault<A>>,
+    writer: &mut Counted<W>,
+) -> u8
+    ensures status { result ≡ status_of_rating run.now }
+    ensures line { Wrote W.contents writer.old writer.new (line_of run.now) }
+{
+    match run {
+        Ok(OrdersRated::Single(standing)) => status_of_standing(standing),
+        Ok(OrdersRated::Lines) => 0,
         Err(fault) => report(fault, writer),
     }
 }

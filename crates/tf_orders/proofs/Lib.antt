@@ -1,0 +1,7 @@
+mod Turns
+mod Distinct
+mod Added
+mod Reading
+mod Rated
+mod Rows
+mod Running

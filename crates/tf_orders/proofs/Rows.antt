@@ -1,0 +1,52 @@
+-- The lines of orders, one after another.
+use Rattle.std.proofs.Common.{◌≡◌, ℕ, List, [], ◌∷◌, ◌++◌, refl, sym, subst, ◌∙◌, append_assoc, ap, inl, inr}
+use Rattle.std.proofs.lemmas.List.{append-nil}
+use Rattle.tf_words.specs.Words.{KeptLine, lines, kept_lines}
+use Rattle.tf_engine.specs.Faults.{Stop, Refuses, Fails, Wants}
+use Rattle.tf_orders.specs.declared.measure.Measure.{Measure}
+use Rattle.tf_orders.specs.declared.run_orders.OrderForm.TheVariants.{Lines}
+use Rattle.tf_orders.specs.Measuring.{IsUnordered}
+use Rattle.tf_orders.specs.OrderText.{IsRow, AreRows, IsFirstBad}
+use Rattle.tf_orders.specs.OrderParts.{IsUnrated, IsWithoutRow}
+
+-- what is written so far of all lines, where these are left
+pub record AreRowsSoFar {A : Type 0} (m : Measure A) (all rest : List KeptLine) (out : List ℕ) : Type 0
+  where
+    pub rows : (more : List ℕ) → AreRows m rest more → AreRows m all (out ++ more)
+    pub bad : (k : ℕ) → IsFirstBad m rest k → IsFirstBad m all k
+
+module _ (A : Type 0) (m : Measure A) where
+  pub rows_start : (all : List KeptLine) → AreRowsSoFar m all all []
+  rows_start all = record { rows = λ more h. h; bad = λ k h. h }
+
+  module _ (all rest : List KeptLine) (out : List ℕ) (so_far : AreRowsSoFar m all rest out) where
+    pub rows_end : rest ≡ [] → AreRows m all out
+    rows_end none =
+        subst (AreRows m all) (append-nil out)
+        (so_far.rows [] (subst (λ (ls : List KeptLine). AreRows m ls []) (sym none) refl))
+
+    module _ (line : KeptLine) (more : List KeptLine) (first : rest ≡ line ∷ more) where
+      pub rows_more : (row out2 : List ℕ) → IsRow m line.bytes row → out2 ≡ out ++ row
+          → AreRowsSoFar m all more out2
+      rows_more row out2 is same = record {
+        rows = λ tail h.
+            subst (AreRows m all) (sym (ap (λ bs. bs ++ tail) same ∙ append_assoc out row tail))
+            (so_far.rows (row ++ tail)
+            (subst (λ (ls : List KeptLine). AreRows m ls (row ++ tail)) (sym first)
+            (row, tail, is, h, refl)));
+        bad = λ k h. so_far.bad k
+            (subst (λ (ls : List KeptLine). IsFirstBad m ls k) (sym first) (inr ((is.0, is.1), h)));
+      }
+
+      pub rows_fail : (text : List ℕ) → all ≡ kept_lines 1 (lines text) → (s : Stop)
+          → IsWithoutRow m line.number line.bytes s → IsUnrated Lines m text s
+      rows_fail text is (Refuses refused) (named, unordered) = (
+        line.number,
+        named,
+        subst (λ (ls : List KeptLine). IsFirstBad m ls line.number) is
+            (so_far.bad line.number
+            (subst (λ (ls : List KeptLine). IsFirstBad m ls line.number) (sym first)
+            (inl (unordered, refl)))),
+      )
+      rows_fail text is Fails h = h
+      rows_fail text is Wants h = tt

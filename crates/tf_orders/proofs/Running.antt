@@ -1,0 +1,170 @@
+-- Runs over orders, from what was read on.
+use Rattle.std.proofs.Common.{◌≡◌, ℕ, ◌≤◌, List, Option, Bool, true, false, Ok, Err, length, refl, sym, subst, ◌∙◌, inl, inr}
+use Rattle.std.specs.Io.KnownBytes.{Appends, Keeps}
+use Rattle.tf_model.specs.Limit.{most_bytes}
+use Rattle.tf_text.specs.declared.counted.Counted.{Counted}
+use Rattle.tf_text.specs.Counted.{AppendsPrefix, DeviceUse, use_of, unused}
+use Rattle.tf_engine.specs.declared.fault.RunFault.{RunFault}
+use Rattle.tf_engine.specs.declared.fault.RunFault.TheVariants.{Device}
+use Rattle.tf_engine.specs.RequestData.{RequestData}
+use Rattle.tf_engine.specs.Faults.{Refused, ByCycle, Stop, Refuses, Fails, Wants, is_on_instance, stop_of}
+use Rattle.tf_engine.proofs.Unread.{part_stops, reading_stops}
+use Rattle.tf_orders.specs.declared.case_read.OrderCase.{OrderCase}
+use Rattle.tf_orders.specs.declared.case_read.Posed.{Posed}
+use Rattle.tf_orders.specs.declared.case_read.Posed.TheVariants.{Solved, Unsolved}
+use Rattle.tf_orders.specs.declared.measure.Measure.{Measure}
+use Rattle.tf_orders.specs.declared.run_orders.OrderForm.{OrderForm}
+use Rattle.tf_orders.specs.declared.run_orders.OrdersRated.{OrdersRated}
+use Rattle.tf_orders.specs.Measuring.{IsMeasure}
+use Rattle.tf_orders.specs.OrderText.{AreRated}
+use Rattle.tf_orders.specs.OrderParts.{Means, Measures, IsCycleOf, IsUnmeasured, IsUnrated, IsRefusedCase, ReadsOrderCase}
+use Rattle.tf_orders.specs.RunOrders.{IsRated, SaysRated, IsRefusedOrders, HasOrderReaderFailed, IsOrdersRunOf}
+
+-- why there is no measure, or orders are not rated, has nothing to do with the instance's text
+pub unmeasured_later : {A : Type 0} (posed : Posed A) (s : Stop) → IsUnmeasured posed s
+    → is_on_instance s ≡ false
+unmeasured_later posed (Refuses refused) (jobs, is, cycle) = rw is refl
+unmeasured_later posed Fails h = absurd h
+unmeasured_later posed Wants h = refl
+
+pub unrated_later : {A : Type 0} (form : OrderForm) (m : Measure A) (text : List ℕ) (s : Stop)
+    → IsUnrated form m text s → is_on_instance s ≡ false
+unrated_later form m text (Refuses refused) (k, is, bad) = rw is refl
+unrated_later form m text Fails h = absurd h
+unrated_later form m text Wants h = refl
+
+-- the measure of what is asked for
+pub measure_is : {A : Type 0} (request : RequestData) (text : List ℕ) (posed : Posed A)
+    (m : Measure A) → Means request text posed → Measures posed m → IsMeasure request text m
+measure_is request text (Solved asked) m (solved, is) (best, same, least) =
+    subst (IsMeasure request text) (sym same) (solved, is.problem, is.meant, least)
+measure_is request text (Unsolved task) m (unsolved, meant) (found, same, bound) =
+    subst (IsMeasure request text) (sym same) (unsolved, meant, bound)
+
+cyclic : {A : Type 0} (form : OrderForm) (request : RequestData) (text orders jobs : List ℕ)
+    (refused : Refused) (posed : Posed A) → Means request text posed → refused ≡ ByCycle jobs
+    → IsCycleOf posed jobs → IsRefusedOrders A form request text orders refused
+cyclic form request text orders jobs refused (Solved asked) (solved, meant) is cycle =
+    inr (inr (inl (
+      jobs,
+      is,
+      record { task = asked.task; meant = meant.meant; cycle = cycle },
+    )))
+cyclic form request text orders jobs refused (Unsolved task) means is cycle = absurd cycle
+
+module _ (A T U : Type 0) (form : OrderForm) (request : RequestData)
+    (remaining : T → Option (List ℕ)) (old new : Counted T) (giving : U → Option (List ℕ))
+    (before after : Counted U) where
+  -- nothing was written where no case was read
+  pub unread : (held : Option (List ℕ)) (writer : Bool) (e : RunFault A)
+      → ReadsOrderCase request remaining old new giving before after (Err e)
+      → IsOrdersRunOf form request (use_of remaining old new) (use_of giving before after)
+      (unused held writer) (Err e)
+  unread held writer e had = record {
+    text = had.text;
+    is_all = had.is_all;
+    orders_text = had.orders_text;
+    is_whole = had.is_whole;
+    outcome = reading_stops (SaysRated A form request had.text had.orders_text)
+        (IsRefusedCase request had.text had.orders_text)
+        (IsRefusedOrders A form request had.text had.orders_text)
+        (HasOrderReaderFailed request had.text (use_of remaining old new)
+        (use_of giving before after))
+        (HasOrderReaderFailed request had.text (use_of remaining old new)
+        (use_of giving before after))
+        held writer case_refused (λ failed. failed) (stop_of e) had.given;
+  }
+    where
+      case_refused : (refused : Refused) → IsRefusedCase request had.text had.orders_text refused
+          → IsRefusedOrders A form request had.text had.orders_text refused
+      case_refused refused (inl instance) = inl instance
+      case_refused refused (inr long) = inr (inl long)
+
+  module _ (case : OrderCase A)
+      (had : ReadsOrderCase request remaining old new giving before after (Ok case)) where
+    pub short_text : (bytes : List ℕ) → bytes ≡ case.text.items → length bytes ≤ most_bytes
+    short_text bytes same =
+        subst (λ (bs : List ℕ). length bs ≤ most_bytes) (sym (same ∙ had.given.text_is)) had.given.short
+
+    -- nor where there is no measure
+    pub unmeasured : (held : Option (List ℕ)) (writer : Bool) (e : RunFault A)
+        → IsUnmeasured case.posed (stop_of e)
+        → IsOrdersRunOf form request (use_of remaining old new) (use_of giving before after)
+        (unused held writer) (Err e)
+    unmeasured held writer e h = record {
+      text = had.text;
+      is_all = had.is_all;
+      orders_text = had.orders_text;
+      is_whole = had.is_whole;
+      outcome = part_stops (SaysRated A form request had.text had.orders_text)
+          (λ refused. (jobs : List ℕ) × (refused ≡ ByCycle jobs) × IsCycleOf case.posed jobs)
+          (IsRefusedOrders A form request had.text had.orders_text)
+          (HasOrderReaderFailed request had.text (use_of remaining old new)
+          (use_of giving before after))
+          held writer
+          (λ refused r. cyclic form request had.text had.orders_text r.0 refused case.posed
+          had.given.means r.1 r.2)
+          (stop_of e) h;
+    }
+
+    module _ (m : Measure A) (measures : Measures case.posed m) (bytes : List ℕ)
+        (same : bytes ≡ case.text.items) where
+      is_measure : IsMeasure request had.text m
+      is_measure = measure_is request had.text case.posed m had.given.means measures
+
+      whole : bytes ≡ had.orders_text
+      whole = same ∙ had.given.text_is
+
+      -- nor where a line is malformed
+      pub unrated : (held : Option (List ℕ)) (writer : Bool) (e : RunFault A)
+          → IsUnrated form m bytes (stop_of e)
+          → IsOrdersRunOf form request (use_of remaining old new) (use_of giving before after)
+          (unused held writer) (Err e)
+      unrated held writer e h = record {
+        text = had.text;
+        is_all = had.is_all;
+        orders_text = had.orders_text;
+        is_whole = had.is_whole;
+        outcome = part_stops (SaysRated A form request had.text had.orders_text) _
+            (IsRefusedOrders A form request had.text had.orders_text)
+            (HasOrderReaderFailed request had.text (use_of remaining old new)
+            (use_of giving before after))
+            held writer
+            (λ refused r. inr (inr (inr (
+              m,
+              record { measure = is_measure; line = r.0; is = r.1; malformed = r.2 },
+            ))))
+            (stop_of e) (subst (λ (bs : List ℕ). IsUnrated form m bs (stop_of e)) whole h);
+      }
+
+      module _ (out : List ℕ) (rated : OrdersRated) (are : AreRated form m bytes out rated)
+          (writer : DeviceUse) where
+        is_rated : IsRated form request had.text had.orders_text out rated m
+        is_rated = record {
+          measure = is_measure;
+          rated_is = subst (λ (bs : List ℕ). AreRated form m bs out rated) whole are;
+        }
+
+        -- a prefix was written where the writer failed
+        pub cut_off : writer.failed ≡ true → AppendsPrefix writer.before writer.after out
+            → IsOrdersRunOf {A = A} form request (use_of remaining old new)
+            (use_of giving before after) writer (Err Device)
+        cut_off failed prefix = record {
+          text = had.text;
+          is_all = had.is_all;
+          orders_text = had.orders_text;
+          is_whole = had.is_whole;
+          outcome = inr (failed, (out, (rated, m, is_rated), prefix));
+        }
+
+        -- all of it was written
+        pub wrote_all : Appends writer.before writer.after out
+            → IsOrdersRunOf {A = A} form request (use_of remaining old new)
+            (use_of giving before after) writer (Ok rated)
+        wrote_all written = record {
+          text = had.text;
+          is_all = had.is_all;
+          orders_text = had.orders_text;
+          is_whole = had.is_whole;
+          outcome = (out, m, is_rated, written);
+        }

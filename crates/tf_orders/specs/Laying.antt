@@ -1,0 +1,69 @@
+-- The semi-active schedule of an order (Pinedo, chapter 2): each operation starts as soon as its job
+-- is released, the operation before it of its job is completed, and its machine has completed the
+-- jobs before it. An operation of time 0 has no piece and holds up none.
+use Rattle.std.specs.Prelude.{ℕ, zero, suc, ◌+◌, max, min, List, [], ◌∷◌, ◌++◌, if◌then◌else◌}
+use Rattle.std.specs.List.{fold}
+use Rattle.tf_model.specs.Limit.{limit}
+use Rattle.tf_model.specs.ClassTable.{is_shop, is_shop_env}
+use Rattle.tf_model.specs.SchedulingTask.{SchedulingTask, job_data}
+use Rattle.tf_problem.specs.ProblemData.{ProblemData, problem_job, problem_release}
+use Rattle.tf_schedule.specs.declared.piece.Piece.{Piece}
+use Rattle.tf_schedule.specs.Piece.{piece_of}
+use Rattle.tf_schedule.specs.SemiActive.{machine_stop}
+use Rattle.tf_orders.specs.declared.order.Turn.{Turn}
+
+-- the pieces of a schedule that is laid on so many machines
+pub record LayingData : Type 0 where
+  pub pieces : List Piece
+  pub machines : ℕ
+
+-- behind these pieces, an operation on machine i of a job that is free from `free` on
+abbrev pub start_on : List Piece → ℕ → ℕ → ℕ
+start_on ps i free = max (machine_stop ps i) free
+
+-- When it is completed. The release dates and the total work of a task are within the limit, so that
+-- no time is cut to it.
+abbrev pub stop_on : List Piece → ℕ → ℕ → ℕ → ℕ
+stop_on ps i free zero = free
+stop_on ps i free (suc time) = min (start_on ps i free + suc time) limit
+
+abbrev pub with_operation : List Piece → ℕ → ℕ → ℕ → ℕ → List Piece
+with_operation ps j i free zero = ps
+with_operation ps j i free (suc time) =
+    ps ++ piece_of j i (start_on ps i free) (stop_on ps i free (suc time)) ∷ []
+
+-- the operations of job j one after another, on machine i and the machines behind it
+abbrev pub with_job : List Piece → ℕ → ℕ → ℕ → List ℕ → List Piece
+with_job ps j i free [] = ps
+with_job ps j i free (time ∷ times) =
+    with_job (with_operation ps j i free time) j (i + 1) (stop_on ps i free time) times
+
+-- ---- by a task of a class
+
+-- the times of a job on its machines: one, or in a shop two
+abbrev pub times_of : SchedulingTask → ℕ → List ℕ
+times_of k j =
+    if is_shop k.class then (job_data k j).first ∷ (job_data k j).second ∷ []
+    else (job_data k j).first ∷ []
+
+abbrev pub with_turn_of : SchedulingTask → List Piece → Turn → List Piece
+with_turn_of k ps t = with_job ps t.job t.machine (job_data k t.job).release (times_of k t.job)
+
+abbrev pub schedule_of : SchedulingTask → List Turn → List Piece
+schedule_of k turns = fold (with_turn_of k) [] turns
+
+-- the machines that have an order of their own
+abbrev pub orders_of : SchedulingTask → ℕ
+orders_of k = if is_shop k.class then 1 else k.machines
+
+-- ---- by a task of any problem
+
+abbrev pub with_problem_turn : ProblemData → List Piece → Turn → List Piece
+with_problem_turn k ps t =
+    with_job ps t.job t.machine (problem_release k t.job) (problem_job k t.job).times
+
+abbrev pub problem_schedule_of : ProblemData → List Turn → List Piece
+problem_schedule_of k turns = fold (with_problem_turn k) [] turns
+
+abbrev pub problem_orders_of : ProblemData → ℕ
+problem_orders_of k = if is_shop_env k.problem.env then 1 else k.machines

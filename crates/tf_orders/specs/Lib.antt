@@ -1,0 +1,8 @@
+-- what a caller has to believe
+pub mod Orders
+pub mod Laying
+pub mod Measuring
+pub mod OrderText
+pub mod RunOrders
+-- within the crate
+pub mod OrderParts

@@ -1,0 +1,118 @@
+-- What the parts of a run over orders give.
+use Rattle.std.specs.Prelude.{◌≡◌, ℕ, ◌<◌, ◌≤◌, true, List, length, Option, Result, Ok, Err, IfSome, IsTrue, IsFalse, MatchResult, ◌⊎◌, ℤ}
+use Rattle.std.specs.declared.vec.Vec.{Vec}
+use Rattle.tf_model.specs.Limit.{most_bytes}
+use Rattle.tf_model.specs.Cycle.{IsForbiddingCycle}
+use Rattle.tf_model.specs.SchedulingTask.{SchedulingTask}
+use Rattle.tf_text.specs.declared.counted.Counted.{Counted}
+use Rattle.tf_text.specs.Counted.{inner_of, has_failed, use_of}
+use Rattle.tf_text.specs.Input.{IsTextOf}
+use Rattle.tf_text.specs.declared.answer.fault.AnswerFault.TheVariants as answers
+use Rattle.tf_engine.specs.declared.fault.RunFault.{RunFault}
+use Rattle.tf_engine.specs.CaseParts.{IsAsked}
+use Rattle.tf_engine.specs.Devices.{LeavesInstance, LeavesReader, LeavesBoth}
+use Rattle.tf_engine.specs.Faults.{Refused, ByCycle, ByAnswer, Stop, Refuses, Fails, Wants, stop_of, end_of}
+use Rattle.tf_engine.specs.Parts.{StopsBy, StopsReading}
+use Rattle.tf_engine.specs.RequestData.{RequestData}
+use Rattle.tf_bounding.specs.RunBounding.{problem_task_for}
+use Rattle.tf_search.specs.declared.strongest.Found.{Found}
+use Rattle.tf_search.specs.Strongest.{IsFound}
+use Rattle.tf_evaluate.specs.Evaluating.{IsLeastCost}
+use Rattle.tf_assess.specs.RunRating.{is_solved}
+use Rattle.tf_orders.specs.declared.case_read.OrderCase.{OrderCase}
+use Rattle.tf_orders.specs.declared.case_read.Posed.{Posed}
+use Rattle.tf_orders.specs.declared.case_read.Posed.TheVariants.{Solved, Unsolved}
+use Rattle.tf_orders.specs.declared.measure.Measure.{Measure}
+use Rattle.tf_orders.specs.declared.measure.Measure.TheVariants.{Optimum, Bound}
+use Rattle.tf_orders.specs.declared.run_orders.OrderForm.{OrderForm}
+use Rattle.tf_orders.specs.Measuring.{IsUnordered}
+use Rattle.tf_orders.specs.OrderText.{IsMalformed}
+use Rattle.tf_orders.specs.RunOrders.{posed_problem, IsPosed, IsRefusedInstance, IsTooLong, HasOrderReaderFailed}
+
+-- the request and the text mean the task
+abbrev pub Means : {A : Type 0} → RequestData → List ℕ → Posed A → Type 0
+Means request text (Solved asked) =
+    IsTrue (is_solved request.problem) × IsAsked request text asked
+Means request text (Unsolved task) =
+    IsFalse (is_solved request.problem) × (problem_task_for request text ≡ Ok task)
+
+-- A part that reads an instance gives what its text means, which is all bytes of the reader up to its
+-- end where they are known, or the one refusal.
+pub record ReadsPosed {A T : Type 0} (request : RequestData) (remaining : T → Option (List ℕ))
+    (old new : Counted T) (result : Result (Posed A) (RunFault A)) : Type 0 where
+  pub text : List ℕ
+  pub is_all : IsTextOf (remaining (inner_of old)) text
+  pub given : MatchResult result (Means request text)
+      (λ e. StopsReading (IsRefusedInstance request text) (has_failed new ≡ true) (stop_of e))
+  pub reader : LeavesInstance (posed_problem request.problem) remaining old new (end_of result)
+
+-- the text is too long, and refused as such
+abbrev pub IsLong : List ℕ → Refused → Type 0
+IsLong text refused = (refused ≡ ByAnswer answers.TooLong) × (most_bytes < length text)
+
+-- A part that reads orders gives their text, which is all bytes of the reader up to its end where they
+-- are known.
+pub record ReadsOrders {A T : Type 0} (remaining : T → Option (List ℕ)) (old new : Counted T)
+    (result : Result (Vec ℕ A) (RunFault A)) : Type 0 where
+  pub text : List ℕ
+  pub is_all : IsTextOf (remaining (inner_of old)) text
+  pub given : MatchResult result (λ v. (v.items ≡ text) × (length v.items ≤ most_bytes))
+      (λ e. StopsReading (IsLong text) (has_failed new ≡ true) (stop_of e))
+  pub reader : LeavesReader remaining old new (end_of result)
+
+-- the same of both texts
+pub record IsOrderCase {A : Type 0} (request : RequestData) (text orders : List ℕ)
+    (case : OrderCase A) : Type 0 where
+  pub means : Means request text case.posed
+  pub text_is : case.text.items ≡ orders
+  pub short : length orders ≤ most_bytes
+
+-- the refusal is that of the instance, or of orders that are too long
+abbrev pub IsRefusedCase : RequestData → List ℕ → List ℕ → Refused → Type 0
+IsRefusedCase request text orders refused =
+    IsRefusedInstance request text refused ⊎ IsTooLong request text orders refused
+
+pub record ReadsOrderCase {A T U : Type 0} (request : RequestData) (remaining : T → Option (List ℕ))
+    (old new : Counted T) (giving : U → Option (List ℕ)) (before after : Counted U)
+    (result : Result (OrderCase A) (RunFault A)) : Type 0 where
+  pub text : List ℕ
+  pub is_all : IsTextOf (remaining (inner_of old)) text
+  pub orders_text : List ℕ
+  pub is_whole : IsTextOf (giving (inner_of before)) orders_text
+  pub given : MatchResult result (IsOrderCase request text orders_text)
+      (λ e. StopsReading (IsRefusedCase request text orders_text)
+      (HasOrderReaderFailed request text (use_of remaining old new) (use_of giving before after))
+      (stop_of e))
+  pub readers : LeavesBoth (posed_problem request.problem) remaining old new giving before after
+      (end_of result)
+
+-- ---- the measure
+
+-- this is the task's optimum, or a lower bound of it
+abbrev pub Measures : {A : Type 0} → Posed A → Measure A → Type 0
+Measures (Solved asked) m =
+    (best : ℤ) × (m ≡ Optimum asked.problem asked.task best) × IsLeastCost asked.task best
+Measures {A = A} (Unsolved task) m =
+    (found : Option (Found A)) × (m ≡ Bound task found) × IfSome found (IsFound task)
+
+-- the arcs of the task have a cycle
+abbrev pub IsCycleOf : {A : Type 0} → Posed A → List ℕ → Type 0
+IsCycleOf (Solved asked) jobs = IsForbiddingCycle asked.task jobs
+IsCycleOf (Unsolved task) jobs = ⊥
+
+-- why a task has no measure
+abbrev pub IsUnmeasured : {A : Type 0} → Posed A → Stop → Type 0
+IsUnmeasured posed =
+    StopsBy (λ refused. (jobs : List ℕ) × (refused ≡ ByCycle jobs) × IsCycleOf posed jobs)
+
+-- ---- the orders
+
+-- why orders are not rated: a line is malformed
+abbrev pub IsUnrated : {A : Type 0} → OrderForm → Measure A → List ℕ → Stop → Type 0
+IsUnrated form m text =
+    StopsBy (λ refused. (k : ℕ) × (refused ≡ ByAnswer (answers.BadLine k)) × IsMalformed form m text k)
+
+-- why nothing is written of the line of this number: it says no order
+abbrev pub IsWithoutRow : {A : Type 0} → Measure A → ℕ → List ℕ → Stop → Type 0
+IsWithoutRow m number text =
+    StopsBy (λ refused. (refused ≡ ByAnswer (answers.BadLine number)) × IsUnordered m text)

@@ -1,0 +1,136 @@
+-- What is written of orders: of one a whole evaluation, and of many a line each.
+use Rattle.std.specs.Prelude.{◌≡◌, ℕ, ℤ, ◌-ℤ◌, ◌⊎◌, unsigned_abs, List, [], ◌∷◌, ◌++◌, length, codes, Option, None, Some}
+use Rattle.std.specs.Fmt.{decimal, signed_decimal}
+use Rattle.tf_words.specs.Words.{KeptLine, lines, kept_lines}
+use Rattle.tf_model.specs.declared.problem.Problem.{Problem}
+use Rattle.tf_model.specs.SchedulingTask.{SchedulingTask}
+use Rattle.tf_schedule.specs.declared.piece.Piece.{Piece}
+use Rattle.tf_check.specs.Judgement.{IsJudged}
+use Rattle.tf_check.specs.declared.judgement.Fit.{Fit}
+use Rattle.tf_check.specs.declared.judgement.Fit.TheVariants.{Fits}
+use Rattle.tf_problem.specs.ProblemData.{ProblemData}
+use Rattle.tf_text.specs.AnswerText.{line_text}
+use Rattle.tf_search.specs.declared.strongest.Found.{Found}
+use Rattle.tf_evaluate.specs.declared.evaluation.Standing.{Standing}
+use Rattle.tf_evaluate.specs.EvaluationData.{EvaluationData, gap, standing_of}
+use Rattle.tf_evaluate.specs.Evaluating.{outcomes_for}
+use Rattle.tf_evaluate.specs.EvaluationText.{fit_words, evaluation_text}
+use Rattle.tf_assess.specs.declared.assessment.Assessment.{Assessment}
+use Rattle.tf_assess.specs.declared.assessment.ProblemFit.{ProblemFit}
+use Rattle.tf_assess.specs.declared.assessment.ProblemFit.TheVariants as fits
+use Rattle.tf_assess.specs.Assessing.{IsProblemJudged, bound_in, assessed_of}
+use Rattle.tf_assess.specs.AssessmentText as assessments
+use Rattle.tf_assess.specs.AssessmentText.{assessment_text}
+use Rattle.tf_assess.specs.RunRating.{standing_as}
+use Rattle.tf_orders.specs.declared.measure.Measure.{Measure}
+use Rattle.tf_orders.specs.declared.measure.Measure.TheVariants.{Optimum, Bound}
+use Rattle.tf_orders.specs.declared.run_orders.OrderForm.{OrderForm}
+use Rattle.tf_orders.specs.declared.run_orders.OrderForm.TheVariants.{Single, Lines}
+use Rattle.tf_orders.specs.declared.run_orders.OrdersRated.{OrdersRated}
+use Rattle.tf_orders.specs.declared.run_orders.OrdersRated.TheVariants as rateds
+use Rattle.tf_orders.specs.Measuring.{IsScheduled, IsUnordered}
+
+-- ---- one order, evaluated
+
+-- the pieces are evaluated, and nothing is claimed or bounded beside them
+pub record IsScheduleEvaluation (problem : Problem) (k : SchedulingTask) (best : ℤ) (ps : List Piece)
+    (e : EvaluationData) : Type 0 where
+  pub fit : Fit
+  pub judged : IsJudged k ps fit
+  pub is : e ≡ record {
+    problem = problem;
+    jobs = length k.jobs;
+    machines = k.machines;
+    fit = Some fit;
+    claimed = None;
+    best = best;
+    bound = None;
+    steps = [];
+    outcomes = outcomes_for k ps (Some fit);
+  }
+
+-- the same of a problem without a solver
+pub record IsScheduleAssessment {A : Type 0} (k : ProblemData) (found : Option (Found A))
+    (ps : List Piece) (a : Assessment A) : Type 0 where
+  pub fit : ProblemFit
+  pub judged : IsProblemJudged k ps fit
+  pub is : a ≡ record { fit = Some fit; claimed = None; bound = found }
+
+-- the text is the evaluation of the pieces, which come to this
+abbrev pub IsEvaluated : {A : Type 0} → Measure A → List Piece → List ℕ → Standing → Type 0
+IsEvaluated (Optimum problem task best) ps out standing =
+    (e : EvaluationData) × IsScheduleEvaluation problem task best ps e
+    × (out ≡ evaluation_text e) × (standing ≡ standing_of e.fit e.best)
+IsEvaluated {A = A} (Bound task found) ps out standing =
+    (a : Assessment A) × IsScheduleAssessment task found ps a
+    × (out ≡ assessment_text task (length task.jobs) a)
+    × (standing ≡ standing_as (assessed_of a.fit (bound_in a.bound)))
+
+-- the same of a standing that is kept as that of one order
+abbrev pub IsEvaluatedAs : {A : Type 0} → Measure A → List Piece → List ℕ → OrdersRated → Type 0
+IsEvaluatedAs m ps out (rateds.Single standing) = IsEvaluated m ps out standing
+IsEvaluatedAs m ps out rateds.Lines = ⊥
+
+-- ---- many orders, a line each
+
+-- the cost and the gap to the optimum of a schedule that fits, or the misfit
+abbrev pub row_words : Fit → ℤ → List (List ℕ)
+row_words (Fits value) best = signed_decimal value ∷ decimal (gap value best) ∷ []
+row_words fit best = fit_words (Some fit)
+
+-- a number, or `-` where there is none
+abbrev pub number_or_dash : Option ℤ → List ℕ
+number_or_dash None = codes "-"
+number_or_dash (Some number) = signed_decimal number
+
+-- by how much a cost is above a bound, or `-` where one of them is missing
+abbrev pub gap_or_dash : Option ℤ → Option ℤ → List ℕ
+gap_or_dash None bound = codes "-"
+gap_or_dash (Some value) None = codes "-"
+gap_or_dash (Some value) (Some bound) = decimal (unsigned_abs (value -ℤ bound))
+
+-- the same of a problem without a solver, of which the gap is that to the lower bound
+abbrev pub problem_row_words : ProblemFit → Option ℤ → List (List ℕ)
+problem_row_words (fits.Fits value) bound = number_or_dash value ∷ gap_or_dash value bound ∷ []
+problem_row_words fit bound = assessments.fit_words (Some fit)
+
+-- the line of these pieces
+abbrev pub IsRowOf : {A : Type 0} → Measure A → List Piece → List ℕ → Type 0
+IsRowOf (Optimum problem task best) ps row =
+    (fit : Fit) × IsJudged task ps fit × (row ≡ line_text (row_words fit best))
+IsRowOf (Bound task found) ps row =
+    (fit : ProblemFit) × IsProblemJudged task ps fit
+    × (row ≡ line_text (problem_row_words fit (bound_in found)))
+
+-- the line of the order that a text says
+abbrev pub IsRow : {A : Type 0} → Measure A → List ℕ → List ℕ → Type 0
+IsRow m text row = (ps : List Piece) × IsScheduled m text ps × IsRowOf m ps row
+
+-- the lines of orders
+abbrev pub AreRows : {A : Type 0} → Measure A → List KeptLine → List ℕ → Type 0
+AreRows m [] out = out ≡ []
+AreRows m (line ∷ more) out =
+    (row : List ℕ) × (rest : List ℕ) × IsRow m line.bytes row × AreRows m more rest
+    × (out ≡ row ++ rest)
+
+-- the line of this number says no order, and each before it says one
+abbrev pub IsFirstBad : {A : Type 0} → Measure A → List KeptLine → ℕ → Type 0
+IsFirstBad m [] k = ⊥
+IsFirstBad m (line ∷ more) k =
+    (IsUnordered m line.bytes × (k ≡ line.number))
+    ⊎ (((ps : List Piece) × IsScheduled m line.bytes ps) × IsFirstBad m more k)
+
+-- ---- in either form
+
+-- what is written of the orders of a text
+abbrev pub AreRated : {A : Type 0} → OrderForm → Measure A → List ℕ → List ℕ → OrdersRated → Type 0
+AreRated Single m text out (rateds.Single standing) =
+    (ps : List Piece) × IsScheduled m text ps × IsEvaluated m ps out standing
+AreRated Lines m text out rateds.Lines = AreRows m (kept_lines 1 (lines text)) out
+AreRated Single m text out rateds.Lines = ⊥
+AreRated Lines m text out (rateds.Single standing) = ⊥
+
+-- the text is malformed from this line on
+abbrev pub IsMalformed : {A : Type 0} → OrderForm → Measure A → List ℕ → ℕ → Type 0
+IsMalformed Single m text k = IsUnordered m text × (k ≡ 1)
+IsMalformed Lines m text k = IsFirstBad m (kept_lines 1 (lines text)) k

@@ -1,0 +1,54 @@
+-- Orders of jobs. In each, the machines have their jobs in the order in which they process them; a
+-- shop has one order, in which the jobs pass all machines.
+use Rattle.std.specs.Prelude.{◌≡◌, ℕ, pos, ◌+◌, ◌≤◌, ◌==◌, List, [], ◌∷◌, length, map, codes, Option, None, Some, if◌then◌else◌}
+use Rattle.std.specs.Option.{option_map}
+use Rattle.std.specs.Str.{bytes_eq}
+use Rattle.tf_words.specs.Words.{words}
+use Rattle.tf_words.specs.Ranged.{number_in}
+use Rattle.tf_words.specs.declared.ranged.Ranged.{Ranged}
+use Rattle.tf_words.specs.declared.ranged.Ranged.TheVariants.{NotANumber, Below, Above, Within}
+use Rattle.tf_model.specs.Distinct.{IsDistinct}
+use Rattle.tf_model.specs.Whole.{as_time}
+use Rattle.tf_orders.specs.declared.order.Turn.{Turn}
+
+-- a number of the range as that of a job
+abbrev pub job_by : Ranged → Option ℕ
+job_by NotANumber = None
+job_by Below = None
+job_by Above = None
+job_by (Within number) = Some (as_time number)
+
+-- the job from 1 to n that a word names
+abbrev pub job_in : ℕ → List ℕ → Option ℕ
+job_in n word = job_by (number_in (pos 1) (pos n) word)
+
+-- a job on the machine, and then others
+abbrev pub with_turn : ℕ → Option ℕ → Option (List Turn) → Option (List Turn)
+with_turn i None turns = None
+with_turn i (Some j) turns = option_map (λ more. record { job = j; machine = i } ∷ more) turns
+
+-- What words say from machine i on, of jobs 1 to n and g machines: each is the number of a job, or
+-- `/`, behind which come the jobs of the next machine. The last machine has to be machine g.
+unfoldable pub turns_from : ℕ → ℕ → ℕ → List (List ℕ) → Option (List Turn)
+turns_from n g i [] = if i == g then Some [] else None
+turns_from n g i (word ∷ more) =
+    if bytes_eq word (codes "/") then turns_from n g (i + 1) more
+    else with_turn i (job_in n word) (turns_from n g i more)
+
+abbrev pub jobs_of : List Turn → List ℕ
+jobs_of turns = map (λ t. t.job) turns
+
+-- the text says these turns of g machines, and they are of all jobs 1 to n, each of them once
+pub record IsOrder (n g : ℕ) (text : List ℕ) (turns : List Turn) : Type 0 where
+  pub says : turns_from n g 1 (words text) ≡ Some turns
+  pub all : length turns ≡ n
+  pub once : IsDistinct (jobs_of turns)
+
+-- it says no order
+abbrev pub IsNoOrder : ℕ → ℕ → List ℕ → Type 0
+IsNoOrder n g text = (turns : List Turn) → ¬ (IsOrder n g text turns)
+
+-- the turn is of one of the jobs 1 to n, and begins on one of the machines 1 to g
+pub record IsTurn (n g : ℕ) (t : Turn) : Type 0 where
+  pub job : (1 ≤ t.job) × (t.job ≤ n)
+  pub machine : (1 ≤ t.machine) × (t.machine ≤ g)

@@ -1,0 +1,96 @@
+-- What a run over an instance and orders leaves behind.
+use Rattle.std.specs.Prelude.{◌≡◌, ℕ, ◌<◌, ◌⊎◌, true, List, length, Result, Ok, Err, IsTrue, IsFalse, IsOk, if◌then◌else◌}
+use Rattle.std.specs.Io.KnownBytes.{Appends}
+use Rattle.tf_model.specs.Limit.{most_bytes}
+use Rattle.tf_model.specs.declared.problem.Problem.{Problem}
+use Rattle.tf_text.specs.Counted.{DeviceUse}
+use Rattle.tf_text.specs.Input.{IsTextOf}
+use Rattle.tf_text.specs.declared.answer.fault.AnswerFault.TheVariants as answers
+use Rattle.tf_engine.specs.declared.fault.RunFault.{RunFault}
+use Rattle.tf_engine.specs.Faults.{Refused, ByCycle, ByAnswer, stop_of}
+use Rattle.tf_engine.specs.Headline.{IsCyclic}
+use Rattle.tf_engine.specs.RequestData.{RequestData}
+use Rattle.tf_engine.specs.Refusal.{problem_for, task_for}
+use Rattle.tf_engine.specs.Runs.{Leaves}
+use Rattle.tf_bounding.specs.RunBounding.{problem_in, problem_task_for, IsRefusedBound}
+use Rattle.tf_assess.specs.RunRating.{is_solved}
+use Rattle.tf_orders.specs.declared.measure.Measure.{Measure}
+use Rattle.tf_orders.specs.declared.run_orders.OrderForm.{OrderForm}
+use Rattle.tf_orders.specs.declared.run_orders.OrdersRated.{OrdersRated}
+use Rattle.tf_orders.specs.Measuring.{IsMeasure}
+use Rattle.tf_orders.specs.OrderText.{AreRated, IsMalformed}
+
+-- the problem of a line: of a class, or one of which some kind of certificate bounds the tasks
+abbrev pub posed_problem : List ℕ → Result Problem Refused
+posed_problem text = if is_solved text then problem_for text else problem_in text
+
+-- the request and the text mean a task
+pub record IsPosed (request : RequestData) (text : List ℕ) : Type 0 where
+  pub solved : IsTrue (is_solved request.problem) → IsOk (task_for request text)
+  pub unsolved : IsFalse (is_solved request.problem) → IsOk (problem_task_for request text)
+
+-- the refusal is that of the problem line or of the instance
+pub record IsRefusedInstance (request : RequestData) (text : List ℕ) (refused : Refused) : Type 0
+  where
+    pub solved : IsTrue (is_solved request.problem) → task_for request text ≡ Err refused
+    pub unsolved : IsFalse (is_solved request.problem) → IsRefusedBound request text refused
+
+-- the orders' text has more bytes than a text may have
+pub record IsTooLong (request : RequestData) (text orders : List ℕ) (refused : Refused) : Type 0 where
+  pub posed : IsPosed request text
+  pub is : refused ≡ ByAnswer answers.TooLong
+  pub long : most_bytes < length orders
+
+-- what is written says how the schedules of the orders stand
+pub record IsRated {A : Type 0} (form : OrderForm) (request : RequestData) (text orders out : List ℕ)
+    (rated : OrdersRated) (m : Measure A) : Type 0 where
+  pub measure : IsMeasure request text m
+  pub rated_is : AreRated form m orders out rated
+
+abbrev pub SaysRated : Type 0 → OrderForm → RequestData → List ℕ → List ℕ → List ℕ → Type 0
+SaysRated A form request text orders out =
+    (rated : OrdersRated) × (m : Measure A) × IsRated form request text orders out rated m
+
+-- a line of the orders is malformed
+pub record IsBadLine {A : Type 0} (form : OrderForm) (request : RequestData) (text orders : List ℕ)
+    (refused : Refused) (m : Measure A) : Type 0 where
+  pub measure : IsMeasure request text m
+  pub line : ℕ
+  pub is : refused ≡ ByAnswer (answers.BadLine line)
+  pub malformed : IsMalformed form m orders line
+
+-- The refusals in their order: of the instance, of orders that are too long, a cycle of the arcs,
+-- with which no timetable fits, and the first malformed line.
+abbrev pub IsRefusedOrders : Type 0 → OrderForm → RequestData → List ℕ → List ℕ → Refused → Type 0
+IsRefusedOrders A form request text orders refused =
+    IsRefusedInstance request text refused
+    ⊎ IsTooLong request text orders refused
+    ⊎ ((jobs : List ℕ) × (refused ≡ ByCycle jobs) × IsCyclic request text jobs)
+    ⊎ ((m : Measure A) × IsBadLine form request text orders refused m)
+
+-- the instance's reader failed, or there is a task and the orders' reader failed
+abbrev pub HasOrderReaderFailed : RequestData → List ℕ → DeviceUse → DeviceUse → Type 0
+HasOrderReaderFailed request text instance orders =
+    (instance.failed ≡ true) ⊎ (IsPosed request text × (orders.failed ≡ true))
+
+-- All of it is written, or the one refusal is given. Where memory was wanting there is neither.
+-- Nothing was written then, nor after a refusal or where a reader failed; where the writer failed a
+-- prefix was.
+abbrev pub OrdersOutcome : {A : Type 0} → OrderForm → RequestData → List ℕ → List ℕ → DeviceUse
+    → DeviceUse → DeviceUse → Result OrdersRated (RunFault A) → Type 0
+OrdersOutcome {A = A} form request text orders instance reader writer (Ok rated) =
+    (out : List ℕ) × (m : Measure A) × IsRated form request text orders out rated m
+    × Appends writer.before writer.after out
+OrdersOutcome {A = A} form request text orders instance reader writer (Err e) =
+    Leaves (SaysRated A form request text orders) (IsRefusedOrders A form request text orders)
+    (HasOrderReaderFailed request text instance reader) writer (stop_of e)
+
+-- The outcome is that of two texts, which are all bytes of the readers up to their ends where they
+-- are known.
+pub record IsOrdersRunOf {A : Type 0} (form : OrderForm) (request : RequestData)
+    (instance orders writer : DeviceUse) (result : Result OrdersRated (RunFault A)) : Type 0 where
+  pub text : List ℕ
+  pub is_all : IsTextOf instance.before text
+  pub orders_text : List ℕ
+  pub is_whole : IsTextOf orders.before orders_text
+  pub outcome : OrdersOutcome form request text orders_text instance orders writer result

@@ -1,0 +1,11 @@
+//! Orders of jobs, their semi-active schedules, and how good these are, from bytes to bytes.
+#![tactic(auto)]
+
+mod case_read;
+mod laying;
+pub mod measure;
+pub mod order;
+mod rating;
+pub mod run_orders;
+mod schedules;
+mod writing;

@@ -1,0 +1,55 @@
+//! What the schedules of orders are measured by.
+ghost use Rattle.std.specs.Prelude.{MatchResult};
+ghost use Rattle.tf_engine.specs.Faults.{stop_of};
+ghost use Rattle.tf_orders.specs.OrderParts.{IsUnmeasured, Measures};
+
+use crate::case_read::Posed;
+use std::alloc::{Allocator, Global};
+use tf_bound::task::ProblemTask;
+use tf_engine::case::Asked;
+use tf_engine::fault::RunFault;
+use tf_evaluate::evaluate::least_cost;
+use tf_model::problem::Problem;
+use tf_model::task::Task;
+use tf_search::strongest::{Found, strongest};
+
+/// A task, and the optimum or a lower bound of it.
+#[derive(Drop)]
+pub enum Measure<A: Allocator = Global> {
+    /// A task of a class, and the least cost of a timetable that fits.
+    Optimum {
+        problem: Problem,
+        task: Task<A>,
+        best: i64,
+    },
+    /// A task of another problem, and the strongest lower bound that is found. None where each
+    /// certificate that was tried has a number beyond the limit.
+    Bound {
+        task: ProblemTask<A>,
+        found: Option<Found<A>>,
+    },
+}
+
+/// Solves the task, or searches for a lower bound of it.
+pub(crate) fn measured<A: Allocator + Copy>(
+    alloc: A,
+    posed: Posed<A>,
+) -> Result<Measure<A>, RunFault<A>>
+    ensures { MatchResult result (Measures posed) (λ e. IsUnmeasured posed (stop_of e)) }
+{
+    match posed {
+        Posed::Solved(asked) => {
+            let Asked { problem, task } = asked;
+            let best = least_cost(alloc, &task)?;
+            Ok(Measure::Optimum {
+                problem,
+                task,
+                best,
+            })
+        }
+        Posed::Unsolved(task) => {
+            let found = strongest(alloc, &task, None)?;
+            Ok(Measure::Bound { task, found })
+        }
+    }
+}

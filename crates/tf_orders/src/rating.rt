@@ -1,0 +1,226 @@
+//! How good the schedules of orders are.
+ghost use Rattle.std.specs.Prelude.{◌≡◌, ◌++◌, ◌≤◌, length, List, ℕ, IfOk, OnOk, MatchResult};
+ghost use Rattle.tf_words.specs.Words.{kept_lines, lines};
+ghost use Rattle.tf_model.specs.Limit.{most_bytes};
+ghost use Rattle.tf_engine.specs.Faults.{stop_of};
+ghost use Rattle.tf_check.specs.Judgement.{IsJudged};
+ghost use Rattle.tf_orders.specs.OrderParts.{IsUnrated, IsWithoutRow};
+ghost use Rattle.tf_orders.specs.OrderText.{AreRated, AreRows, IsEvaluatedAs, IsRow, IsRowOf, IsScheduleAssessment, IsScheduleEvaluation};
+
+use crate::measure::Measure;
+use crate::run_orders::{OrderForm, OrdersRated};
+use crate::schedules::scheduled;
+use crate::writing::{push_problem_row, push_row};
+use std::alloc::Allocator;
+use tf_assess::assess::judged;
+use tf_assess::assessment::{Assessment, bound_in};
+use tf_assess::run_rate::standing_as;
+use tf_assess::writing::assessment_bytes;
+use tf_bound::task::ProblemTask;
+use tf_check::certificate::Certificate;
+use tf_check::judgement::{Fit, Judgement, judge_answer};
+use tf_check::load::Load;
+use tf_engine::fault::RunFault;
+use tf_evaluate::evaluate::judge_pieces;
+use tf_evaluate::evaluation::Evaluation;
+use tf_evaluate::writing::evaluation_bytes;
+use tf_model::memory::OutOfMemory;
+use tf_model::problem::Problem;
+use tf_model::task::Task;
+use tf_schedule::piece::Piece;
+use tf_search::strongest::Found;
+use tf_text::answer::fault::AnswerFault;
+use tf_words::line::{Line, Lines};
+
+/// What is written of orders, and what they come to.
+#[derive(Drop)]
+pub(crate) struct Rating<A: Allocator> {
+    pub text: Vec<u8, A>,
+    pub rated: OrdersRated,
+}
+
+/// Rates the orders of a text. The first malformed line is refused.
+pub(crate) fn rating_of<A: Allocator + Copy>(
+    alloc: A,
+    form: OrderForm,
+    measure: Measure<A>,
+    text: &[u8],
+) -> Result<Rating<A>, RunFault<A>>
+    requires { length text.now ≤ most_bytes }
+    ensures { MatchResult result (λ r. AreRated form measure text.now r.text.items r.rated)
+        (λ e. IsUnrated form measure text.now (stop_of e)) }
+{
+    match form {
+        OrderForm::Single => single_rating(alloc, measure, text),
+        OrderForm::Lines => {
+            let text = rows_of(alloc, &measure, text)?;
+            Ok(Rating {
+                text,
+                rated: OrdersRated::Lines,
+            })
+        }
+    }
+}
+
+// Evaluates the schedule of the order that the whole text says.
+fn single_rating<A: Allocator + Copy>(
+    alloc: A,
+    measure: Measure<A>,
+    text: &[u8],
+) -> Result<Rating<A>, RunFault<A>>
+    ensures { MatchResult result
+        (λ r. AreRated OrderForm.Single measure text.now r.text.items r.rated)
+        (λ e. IsUnrated OrderForm.Single measure text.now (stop_of e)) }
+{
+    let Some(pieces) = scheduled(alloc, &measure, text)? else {
+        return Err(RunFault::Answer(AnswerFault::BadLine(1)));
+    };
+    let rating = evaluated(alloc, measure, pieces)?;
+    Ok(rating)
+}
+
+// Evaluates a schedule.
+fn evaluated<A: Allocator + Copy>(
+    alloc: A,
+    measure: Measure<A>,
+    pieces: Vec<Piece, A>,
+) -> Result<Rating<A>, OutOfMemory>
+    ensures { IfOk result (λ r. IsEvaluatedAs measure pieces.items r.text.items r.rated) }
+{
+    match measure {
+        Measure::Optimum {
+            problem,
+            task,
+            best,
+        } => {
+            let evaluation = evaluation_of(alloc, problem, &task, best, pieces)?;
+            let text = evaluation_bytes(alloc, &evaluation)?;
+            let rated = OrdersRated::Single(evaluation.standing());
+            Ok(Rating { text, rated })
+        }
+        Measure::Bound { task, found } => {
+            let assessment = assessment_of(alloc, &task, found, pieces)?;
+            let text = assessment_bytes(alloc, &task, &assessment)?;
+            let rated = OrdersRated::Single(standing_as(assessment.assessed()));
+            Ok(Rating { text, rated })
+        }
+    }
+}
+
+// How a schedule stands to a task of a class.
+fn evaluation_of<A: Allocator + Copy, B: Allocator>(
+    alloc: A,
+    problem: Problem,
+    task: &Task<B>,
+    best: i64,
+    pieces: Vec<Piece, A>,
+) -> Result<Evaluation<A>, OutOfMemory>
+    ensures { IfOk result (IsScheduleEvaluation problem task.now best pieces.items) }
+{
+    // What this certificate bounds is not looked at.
+    let load: Certificate<A> = Certificate::Load(Load);
+    let judged = judge_pieces(alloc, task, pieces, &load)?;
+    Ok(Evaluation {
+        problem,
+        jobs: task.len() as u32,
+        machines: task.machines(),
+        fit: Some(judged.fit),
+        claimed: None,
+        best,
+        bound: None,
+        steps: Vec::new(alloc),
+        outcomes: judged.outcomes,
+    })
+}
+
+// How a schedule stands to a task of another problem.
+fn assessment_of<A: Allocator + Copy, B: Allocator>(
+    alloc: A,
+    task: &ProblemTask<B>,
+    found: Option<Found<A>>,
+    pieces: Vec<Piece, A>,
+) -> Result<Assessment<A>, OutOfMemory>
+    ensures { IfOk result (IsScheduleAssessment task.now found pieces.items) }
+{
+    let fit = judged(alloc, task, pieces)?;
+    Ok(Assessment {
+        fit: Some(fit),
+        claimed: None,
+        bound: found,
+    })
+}
+
+// The lines of the orders of a text, of which each line that has a word and is no comment is one.
+fn rows_of<A: Allocator + Copy, B: Allocator>(
+    alloc: A,
+    measure: &Measure<B>,
+    text: &[u8],
+) -> Result<Vec<u8, A>, RunFault<A>>
+    requires { length text.now ≤ most_bytes }
+    ensures { MatchResult result
+        (λ out. AreRows measure.now (kept_lines 1 (lines text.now)) out.items)
+        (λ e. IsUnrated OrderForm.Lines measure.now text.now (stop_of e)) }
+{
+    let mut out = Vec::new(alloc);
+    let mut lines = Lines::new(text);
+    while let Some((line, more)) = lines.split_first() {
+        push_line(&mut out, measure, alloc, &line)?;
+        lines = more;
+    }
+    Ok(out)
+}
+
+// Adds the line of the order that a line says.
+fn push_line<A: Allocator + Copy, B: Allocator>(
+    out: &mut Vec<u8, A>,
+    measure: &Measure<B>,
+    alloc: A,
+    line: &Line<'_>,
+) -> Result<(), RunFault<A>>
+    ensures { MatchResult result
+        (λ _. (row : List ℕ) × IsRow measure.now line.now.bytes.now row
+        × (out.new.items ≡ out.old.items ++ row))
+        (λ e. IsWithoutRow measure.now line.now.number line.now.bytes.now (stop_of e)) }
+{
+    let Some(pieces) = scheduled(alloc, measure, line.bytes)? else {
+        return Err(RunFault::Answer(AnswerFault::BadLine(line.number)));
+    };
+    push_rated(out, measure, alloc, pieces)?;
+    Ok(())
+}
+
+// Adds the line of a schedule.
+fn push_rated<A: Allocator + Copy, B: Allocator>(
+    out: &mut Vec<u8, A>,
+    measure: &Measure<B>,
+    alloc: A,
+    pieces: Vec<Piece, A>,
+) -> Result<(), OutOfMemory>
+    ensures { OnOk result ((row : List ℕ) × IsRowOf measure.now pieces.items row
+        × (out.new.items ≡ out.old.items ++ row)) }
+{
+    match measure {
+        Measure::Optimum { task, best, .. } => {
+            let fit = fit_of(alloc, task, pieces)?;
+            push_row(out, fit, *best)
+        }
+        Measure::Bound { task, found } => {
+            let fit = judged(alloc, task, pieces)?;
+            push_problem_row(out, fit, bound_in(found))
+        }
+    }
+}
+
+// How a schedule fits a task of a class.
+fn fit_of<A: Allocator + Copy, B: Allocator>(
+    alloc: A,
+    task: &Task<B>,
+    pieces: Vec<Piece, A>,
+) -> Result<Fit, OutOfMemory>
+    ensures { IfOk result (IsJudged task.now pieces.items) }
+{
+    // What this certificate bounds is not looked at.
+    let load: Certificate<A> = Certificate::Load(Load);
+    let Judgement { fit, .. } = judge_answer(alloc, task, pieces, &load)?;
+    Ok(fit)
+}

@@ -1,0 +1,66 @@
+//! Rating the schedules of orders, from bytes to bytes.
+ghost use Rattle.tf_text.specs.Counted.{use_of};
+ghost use Rattle.tf_engine.specs.Devices.{LeavesCase};
+ghost use Rattle.tf_engine.specs.Faults.{end_of};
+ghost use Rattle.tf_orders.specs.RunOrders.{IsOrdersRunOf, posed_problem};
+
+use crate::case_read::{OrderCase, order_case_read};
+use crate::measure::measured;
+use crate::rating::{Rating, rating_of};
+use std::alloc::Allocator;
+use std::io::{Read, Write};
+use tf_engine::fault::RunFault;
+use tf_engine::request::Request;
+use tf_evaluate::evaluation::Standing;
+use tf_text::counted::Counted;
+
+/// What a text of orders is, and what is written of it.
+#[derive(Clone, Copy, Debug, PartialEq, Eq)]
+pub enum OrderForm {
+    /// It is one order. The schedule is evaluated as an answer is, but for what an answer claims.
+    Single,
+    /// Each line that has a word and is no comment is an order. A line is written of each: the cost
+    /// of the schedule and its gap to the optimum or to the lower bound, or the misfit.
+    Lines,
+}
+
+/// What was written of orders.
+#[derive(Clone, Copy, Debug, Drop, PartialEq, Eq)]
+pub enum OrdersRated {
+    /// The evaluation of one order, whose schedule comes to this.
+    Single(Standing),
+    /// A line for each order.
+    Lines,
+}
+
+/// Reads an instance and the text of orders to their ends, and writes how good the semi-active
+/// schedules of the orders are. The task is solved, or a lower bound of it is searched for, once.
+///
+/// The refusals come in this order: those of [`tf_engine::run_solve::run_solve`], where a problem of
+/// no class is refused only if no kind of certificate bounds it; reading the orders; a cycle of the
+/// arcs; and the first line that is no order, as [`tf_text::answer::fault::AnswerFault::BadLine`].
+/// After a refusal nothing was written, unless it is [`RunFault::Device`], after which a prefix may
+/// have been.
+pub fn run_orders<A: Allocator + Copy, B: Allocator, R: Read, S: Read, W: Write>(
+    alloc: A,
+    request: &Request<B>,
+    form: OrderForm,
+    instance: &mut Counted<R>,
+    orders: &mut Counted<S>,
+    writer: &mut Counted<W>,
+) -> Result<OrdersRated, RunFault<A>>
+    ensures outcome { IsOrdersRunOf form request.now
+        (use_of R.remaining instance.old instance.new)
+        (use_of S.remaining orders.old orders.new) (use_of W.contents writer.old writer.new)
+        result }
+    ensures devices { LeavesCase (posed_problem request.now.problem) R.remaining instance.old
+        instance.new S.remaining orders.old orders.new writer.old writer.new (end_of result) }
+{
+    let case = order_case_read(alloc, request, instance, orders)?;
+    let OrderCase { posed, text } = case;
+    let measure = measured(alloc, posed)?;
+    let rating = rating_of(alloc, form, measure, text.as_slice())?;
+    let Rating { text, rated } = rating;
+    writer.push_all(text.as_slice())?;
+    Ok(rated)
+}

@@ -1,0 +1,71 @@
+//! The lines of orders, written.
+ghost use Rattle.std.specs.Prelude.{◌≡◌, ◌++◌, OnOk};
+ghost use Rattle.tf_text.specs.AnswerText.{line_text};
+ghost use Rattle.tf_orders.specs.OrderText.{problem_row_words, row_words};
+
+use itoa::Buffer;
+use std::alloc::Allocator;
+use tf_assess::assessment::ProblemFit;
+use tf_assess::writing::push_fit as push_problem_fit;
+use tf_check::judgement::Fit;
+use tf_evaluate::writing::push_fit;
+use tf_model::memory::OutOfMemory;
+use tf_text::answer::writing::push_number_line;
+
+/// Adds the line of an order: the cost and the gap to the optimum, or the misfit.
+pub(crate) fn push_row<A: Allocator>(
+    text: &mut Vec<u8, A>,
+    fit: Fit,
+    best: i64,
+) -> Result<(), OutOfMemory>
+    ensures { OnOk result (text.new.items ≡ text.old.items ++ line_text (row_words fit best)) }
+{
+    match fit {
+        Fit::Fits(value) => {
+            let mut digits = Buffer::new();
+            let gap = value.abs_diff(i128::from(best));
+            push_number_line(text, digits.format(value).as_bytes(), gap)
+        }
+        fit => push_fit(text, &Some(fit)),
+    }
+}
+
+/// The same of a problem without a solver, with the gap to the lower bound.
+pub(crate) fn push_problem_row<A: Allocator>(
+    text: &mut Vec<u8, A>,
+    fit: ProblemFit,
+    bound: Option<i128>,
+) -> Result<(), OutOfMemory>
+    ensures { OnOk result
+        (text.new.items ≡ text.old.items ++ line_text (problem_row_words fit bound)) }
+{
+    match fit {
+        ProblemFit::Fits(value) => push_numbers(text, value, bound),
+        fit => push_problem_fit(text, &Some(fit)),
+    }
+}
+
+// A cost and its gap to a bound, each of which may be missing.
+fn push_numbers<A: Allocator>(
+    text: &mut Vec<u8, A>,
+    value: Option<i128>,
+    bound: Option<i128>,
+) -> Result<(), OutOfMemory>
+    ensures { OnOk result (text.new.items
+        ≡ text.old.items ++ line_text (problem_row_words (ProblemFit.Fits value) bound)) }
+{
+    let Some(value) = value else {
+        text.extend_from_slice(b"- -\n")?;
+        return Ok(());
+    };
+    let mut digits = Buffer::new();
+    let value_word = digits.format(value).as_bytes();
+    match bound {
+        Some(bound) => push_number_line(text, value_word, value.abs_diff(bound)),
+        None => {
+            text.extend_from_slice(value_word)?;
+            text.extend_from_slice(b" -\n")?;
+            Ok(())
+        }
+    }
+}
