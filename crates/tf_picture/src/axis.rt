@@ -1,5 +1,7 @@
 //! The axis of time.
-ghost use Rattle.std.specs.Prelude.{◌≤◌, ◌<◌, ◌/◌};
+ghost use Rattle.std.specs.Prelude.{◌≡◌, ◌+◌, ◌*◌, ◌/◌, ◌<◌, ◌≤◌, ◌++◌, OnOk};
+ghost use Rattle.std.specs.List.{flat_map, range_with_len};
+ghost use Rattle.tf_picture.specs.Picture.{axis, line, line_at, time_labels, time_labels_at};
 
 use crate::frame::{Frame, SPAN, TOP};
 use crate::writing::{push_label, push_part};
@@ -7,18 +9,62 @@ use itoa::Buffer;
 use std::alloc::Allocator;
 use tf_model::memory::OutOfMemory;
 
-/// Adds a line through all rows for each round time, with the time above and below.
-pub fn push_axis<A: Allocator>(text: &mut Vec<u8, A>, frame: &Frame) -> Result<(), OutOfMemory> {
-    let step = round_step(frame.length, most_steps(frame.length));
+/// The round number of time steps from one line of the axis to the next.
+pub fn step_of(frame: &Frame) -> u64
+    ensures { 0 < result }
+{
+    round_step(frame.length, most_steps(frame.length))
+}
+
+/// Adds a line through all rows for each multiple of a step, with its time above and below.
+pub fn push_axis<A: Allocator>(
+    text: &mut Vec<u8, A>,
+    frame: &Frame,
+    step: u64,
+) -> Result<(), OutOfMemory>
+    requires { 0 < step }
+    ensures { OnOk result (text.new.items
+        ≡ text.old.items ++ axis frame.now.machines frame.now.length step) }
+{
     text.extend_from_slice(b"<g stroke=\"#bbbbbb\" stroke-width=\"50\">\n")?;
+    push_lines(text, frame, step)?;
+    text.extend_from_slice(b"</g>\n<g font-size=\"1100\" text-anchor=\"middle\">\n")?;
+    push_times(text, frame, step)?;
+    text.extend_from_slice(b"</g>\n")?;
+    Ok(())
+}
+
+#[tactic(auto, using(crate::proofs::Texts::each_more))]
+fn push_lines<A: Allocator>(
+    text: &mut Vec<u8, A>,
+    frame: &Frame,
+    step: u64,
+) -> Result<(), OutOfMemory>
+    requires { 0 < step }
+    ensures { OnOk result (text.new.items ≡ text.old.items
+        ++ flat_map (line_at frame.now.machines frame.now.length step)
+        (range_with_len 0 (frame.now.length / step + 1))) }
+{
     for k in 0..=frame.length / step {
         push_line(text, frame, time_at(frame, step, k))?;
     }
-    text.extend_from_slice(b"</g>\n<g font-size=\"1100\" text-anchor=\"middle\">\n")?;
+    Ok(())
+}
+
+#[tactic(auto, using(crate::proofs::Texts::each_more))]
+fn push_times<A: Allocator>(
+    text: &mut Vec<u8, A>,
+    frame: &Frame,
+    step: u64,
+) -> Result<(), OutOfMemory>
+    requires { 0 < step }
+    ensures { OnOk result (text.new.items ≡ text.old.items
+        ++ flat_map (time_labels_at frame.now.machines frame.now.length step)
+        (range_with_len 0 (frame.now.length / step + 1))) }
+{
     for k in 0..=frame.length / step {
         push_time(text, frame, time_at(frame, step, k))?;
     }
-    text.extend_from_slice(b"</g>\n")?;
     Ok(())
 }
 
@@ -26,7 +72,8 @@ pub fn push_axis<A: Allocator>(text: &mut Vec<u8, A>, frame: &Frame) -> Result<(
 fn time_at(frame: &Frame, step: u64, steps: u64) -> u64
     requires positive { 0 < step }
     requires within { steps ≤ frame.now.length / step }
-    ensures { result ≤ frame.now.length }
+    ensures value { result ≡ steps * step }
+    ensures within { result ≤ frame.now.length }
 {
     steps * step
 }
@@ -37,6 +84,8 @@ fn push_line<A: Allocator>(
     time: u64,
 ) -> Result<(), OutOfMemory>
     requires { time ≤ frame.now.length }
+    ensures { OnOk result (text.new.items
+        ≡ text.old.items ++ line frame.now.machines frame.now.length time) }
 {
     push_part(text, b"<line x1=\"", frame.across(time))?;
     push_part(text, b"\" y1=\"", TOP - 400)?;
@@ -52,6 +101,8 @@ fn push_time<A: Allocator>(
     time: u64,
 ) -> Result<(), OutOfMemory>
     requires { time ≤ frame.now.length }
+    ensures { OnOk result (text.new.items
+        ≡ text.old.items ++ time_labels frame.now.machines frame.now.length time) }
 {
     push_label(text, frame.across(time), TOP - 700, time)?;
     push_label(text, frame.across(time), frame.bottom() + 1_500, time)

@@ -2,6 +2,7 @@
 ghost use Rattle.std.specs.Prelude.{◌≡◌, ◌≤◌, ◌<◌, ◌^◌, ◌+◌};
 ghost use Rattle.tf_schedule.specs.Drawing.{greatest_stop};
 ghost use Rattle.tf_picture.specs.Picture.{across, row_height, bar_height, top};
+ghost use Rattle.tf_picture.specs.Picture.{base, bottom, font, height};
 
 use std::alloc::Allocator;
 use tf_schedule::schedule::Schedule;
@@ -87,21 +88,24 @@ impl Frame {
 
     /// Where the last row ends.
     pub fn bottom(&self) -> u64
-        ensures { result < 2 ^ 48 }
+        ensures value { result ≡ bottom self.now.machines }
+        ensures small { result < 2 ^ 48 }
     {
         TOP + u64::from(self.machines) * self.row()
     }
 
     /// How high the picture is.
     pub fn height(&self) -> u64
-        ensures { result < 2 ^ 49 }
+        ensures value { result ≡ height self.now.machines }
+        ensures small { result < 2 ^ 49 }
     {
         self.bottom() + BELOW
     }
 
     /// How large the numbers in the bars are.
     pub fn font(&self) -> u64
-        ensures { result ≤ 1300 }
+        ensures value { result ≡ font self.now.machines }
+        ensures small { result ≤ 1300 }
     {
         (self.row() / 10 * 7).min(1_300)
     }
@@ -109,6 +113,7 @@ impl Frame {
     /// The line on which the numbers of a machine stand.
     pub fn line(&self, machine: u32) -> u64
         requires { 0 < machine }
+        ensures { result ≡ base self.now.machines machine }
     {
         self.top(machine) + self.bar() / 2 + self.font() * 9 / 25
     }

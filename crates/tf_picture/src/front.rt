@@ -1,5 +1,7 @@
 //! What a picture shows before its bars.
-ghost use Rattle.std.specs.Prelude.{◌<◌};
+ghost use Rattle.std.specs.Prelude.{◌≡◌, ◌<◌, ◌++◌, IfOk, OnOk};
+ghost use Rattle.std.specs.List.{flat_map, range_with_len};
+ghost use Rattle.tf_picture.specs.Picture.{front, number, opening, row, rows, sizes, title, titles};
 
 use crate::axis::push_axis;
 use crate::frame::{Frame, LEFT, SPAN, WIDTH};
@@ -25,10 +27,11 @@ pub struct Heading {
 
 impl Heading {
     ghost use Rattle.std.specs.Prelude.{◌≡◌};
+    ghost use Rattle.tf_picture.specs.Picture.{heading_of};
 
     /// The heading of a sheet.
     pub fn of<A: Allocator>(sheet: &Sheet<A>) -> Self
-        ensures { result.machines ≡ sheet.now.machines }
+        ensures { result ≡ heading_of sheet.now }
     {
         Heading {
             problem: sheet.problem,
@@ -39,33 +42,34 @@ impl Heading {
     }
 }
 
-/// The picture up to its bars: the titles, the rows with their numbers, and the axis.
-pub fn front<A: Allocator + Copy>(
+/// Adds the picture up to its bars: the titles, the rows with their numbers, and the axis in these
+/// steps.
+pub fn push_front<A: Allocator + Copy>(
     alloc: A,
+    text: &mut Vec<u8, A>,
     heading: &Heading,
     frame: &Frame,
-) -> Result<Vec<u8, A>, OutOfMemory> {
+    step: u64,
+) -> Result<(), OutOfMemory>
+    requires machines { frame.now.machines ≡ heading.now.machines }
+    requires step { 0 < step }
+    ensures { OnOk result (text.new.items
+        ≡ text.old.items ++ front heading.now frame.now.length step) }
+{
     let title = title(alloc, heading)?;
-    let mut text = Vec::from_slice(alloc, b"<svg xmlns=\"http://www.w3.org/2000/svg\"")?;
-    push_part(&mut text, b" role=\"img\" width=\"", WIDTH / 100)?;
-    push_part(&mut text, b"\" height=\"", frame.height() / 100)?;
-    push_part(&mut text, b"\" viewBox=\"0 0 ", WIDTH)?;
-    push_part(&mut text, b" ", frame.height())?;
-    text.extend_from_slice(b"\" font-family=\"sans-serif\">\n<title>")?;
-    text.extend_from_slice(title.as_slice())?;
-    text.extend_from_slice(b"</title>\n<rect width=\"100%\" height=\"100%\" fill=\"#ffffff\"/>\n")?;
-    text.extend_from_slice(b"<text x=\"7000\" y=\"3200\" font-size=\"2000\">")?;
-    text.extend_from_slice(title.as_slice())?;
-    text.extend_from_slice(b"</text>\n")?;
-    push_sizes(&mut text, heading, frame)?;
-    push_rows(&mut text, frame)?;
-    push_axis(&mut text, frame)?;
+    push_opening(text, frame)?;
+    push_titles(text, title.as_slice())?;
+    push_sizes(text, heading, frame)?;
+    push_rows(text, frame)?;
+    push_axis(text, frame, step)?;
     text.extend_from_slice(b"<g stroke=\"#222222\" stroke-width=\"60\">\n")?;
-    Ok(text)
+    Ok(())
 }
 
 // The problem and the value that the answer claims.
-fn title<A: Allocator + Copy>(alloc: A, heading: &Heading) -> Result<Vec<u8, A>, OutOfMemory> {
+fn title<A: Allocator + Copy>(alloc: A, heading: &Heading) -> Result<Vec<u8, A>, OutOfMemory>
+    ensures { IfOk result (λ text. text.items ≡ title heading.now) }
+{
     let notation = notation_text(alloc, &heading.problem)?;
     let mut title = Vec::from_slice(alloc, notation.as_bytes())?;
     title.extend_from_slice(b", value")?;
@@ -73,12 +77,41 @@ fn title<A: Allocator + Copy>(alloc: A, heading: &Heading) -> Result<Vec<u8, A>,
     Ok(title)
 }
 
+// The size of the picture.
+fn push_opening<A: Allocator>(text: &mut Vec<u8, A>, frame: &Frame) -> Result<(), OutOfMemory>
+    ensures { OnOk result (text.new.items ≡ text.old.items ++ opening frame.now.machines) }
+{
+    text.extend_from_slice(b"<svg xmlns=\"http://www.w3.org/2000/svg\"")?;
+    push_part(text, b" role=\"img\" width=\"", WIDTH / 100)?;
+    push_part(text, b"\" height=\"", frame.height() / 100)?;
+    push_part(text, b"\" viewBox=\"0 0 ", WIDTH)?;
+    push_part(text, b" ", frame.height())?;
+    text.extend_from_slice(b"\" font-family=\"sans-serif\">\n")?;
+    Ok(())
+}
+
+// The title, for a reader who points at the picture and, on white, for all.
+fn push_titles<A: Allocator>(text: &mut Vec<u8, A>, title: &[u8]) -> Result<(), OutOfMemory>
+    ensures { OnOk result (text.new.items ≡ text.old.items ++ titles title.now) }
+{
+    text.extend_from_slice(b"<title>")?;
+    text.extend_from_slice(title)?;
+    text.extend_from_slice(b"</title>\n<rect width=\"100%\" height=\"100%\" fill=\"#ffffff\"/>\n")?;
+    text.extend_from_slice(b"<text x=\"7000\" y=\"3200\" font-size=\"2000\">")?;
+    text.extend_from_slice(title)?;
+    text.extend_from_slice(b"</text>\n")?;
+    Ok(())
+}
+
 // The numbers of jobs, machines and time steps.
 fn push_sizes<A: Allocator>(
     text: &mut Vec<u8, A>,
     heading: &Heading,
     frame: &Frame,
-) -> Result<(), OutOfMemory> {
+) -> Result<(), OutOfMemory>
+    ensures { OnOk result (text.new.items
+        ≡ text.old.items ++ sizes heading.now frame.now.length) }
+{
     text.extend_from_slice(b"<text x=\"7000\" y=\"5200\" font-size=\"1300\">")?;
     push_part(text, b"jobs ", u64::from(heading.jobs))?;
     push_part(text, b", machines ", u64::from(heading.machines))?;
@@ -88,28 +121,43 @@ fn push_sizes<A: Allocator>(
 }
 
 // A row for each machine, and its number.
-fn push_rows<A: Allocator>(text: &mut Vec<u8, A>, frame: &Frame) -> Result<(), OutOfMemory> {
+fn push_rows<A: Allocator>(text: &mut Vec<u8, A>, frame: &Frame) -> Result<(), OutOfMemory>
+    ensures { OnOk result (text.new.items ≡ text.old.items ++ rows frame.now.machines) }
+{
     text.extend_from_slice(b"<g fill=\"#fafafa\" stroke=\"#bbbbbb\" stroke-width=\"50\">\n")?;
-    for place in 0..frame.machines {
-        push_row(text, frame, place + 1)?;
-    }
+    push_each_row(text, frame)?;
     push_part(
         text,
         b"</g>\n<g text-anchor=\"end\" font-size=\"",
         frame.font(),
     )?;
     text.extend_from_slice(b"\">\n")?;
-    for place in 0..frame.machines {
-        push_label(
-            text,
-            LEFT - 800,
-            frame.line(place + 1),
-            u64::from(place) + 1,
-        )?;
-    }
+    push_each_number(text, frame)?;
     text.extend_from_slice(b"<text x=\"5800\" y=\"7800\" font-size=\"1100\">machine</text>\n")?;
     push_part(text, b"<text x=\"5800\" y=\"", frame.bottom() + 1_500)?;
     text.extend_from_slice(b"\" font-size=\"1100\">time</text>\n</g>\n")?;
+    Ok(())
+}
+
+#[tactic(auto, using(crate::proofs::Texts::each_more))]
+fn push_each_row<A: Allocator>(text: &mut Vec<u8, A>, frame: &Frame) -> Result<(), OutOfMemory>
+    ensures { OnOk result (text.new.items ≡ text.old.items
+        ++ flat_map (row frame.now.machines) (range_with_len 1 frame.now.machines)) }
+{
+    for place in 0..frame.machines {
+        push_row(text, frame, place + 1)?;
+    }
+    Ok(())
+}
+
+#[tactic(auto, using(crate::proofs::Texts::each_more))]
+fn push_each_number<A: Allocator>(text: &mut Vec<u8, A>, frame: &Frame) -> Result<(), OutOfMemory>
+    ensures { OnOk result (text.new.items ≡ text.old.items
+        ++ flat_map (number frame.now.machines) (range_with_len 1 frame.now.machines)) }
+{
+    for place in 0..frame.machines {
+        push_machine(text, frame, place + 1)?;
+    }
     Ok(())
 }
 
@@ -120,6 +168,7 @@ fn push_row<A: Allocator>(
     machine: u32,
 ) -> Result<(), OutOfMemory>
     requires { 0 < machine }
+    ensures { OnOk result (text.new.items ≡ text.old.items ++ row frame.now.machines machine) }
 {
     push_part(text, b"<rect x=\"", LEFT)?;
     push_part(text, b"\" y=\"", frame.top(machine))?;
@@ -127,4 +176,16 @@ fn push_row<A: Allocator>(
     push_part(text, b"\" height=\"", frame.bar())?;
     text.extend_from_slice(b"\"/>\n")?;
     Ok(())
+}
+
+// The number of a machine.
+fn push_machine<A: Allocator>(
+    text: &mut Vec<u8, A>,
+    frame: &Frame,
+    machine: u32,
+) -> Result<(), OutOfMemory>
+    requires { 0 < machine }
+    ensures { OnOk result (text.new.items ≡ text.old.items ++ number frame.now.machines machine) }
+{
+    push_label(text, LEFT - 800, frame.line(machine), u64::from(machine))
 }

@@ -1,6 +1,8 @@
 //! The numbers in the bars.
-ghost use Rattle.std.specs.Prelude.{◌≤◌, OnOk};
-ghost use Rattle.std.specs.List.{All};
+ghost use Rattle.std.specs.Prelude.{◌≡◌, ◌+◌, ◌/◌, ◌≤◌, ◌++◌, OnOk};
+ghost use Rattle.std.specs.List.{All, flat_map};
+ghost use Rattle.tf_schedule.specs.Piece.{as_time};
+ghost use Rattle.tf_picture.specs.Picture.{across, base, has_room, label, number_if_shown};
 ghost use Rattle.tf_picture.specs.Within.{LiesWithin};
 
 use crate::bars::width;
@@ -18,11 +20,26 @@ pub fn push_labels<A: Allocator>(
     pieces: &[Piece],
 ) -> Result<(), OutOfMemory>
     requires { All (LiesWithin frame.now.length) pieces.now }
+    ensures { OnOk result (text.new.items ≡ text.old.items
+        ++ flat_map (number_if_shown frame.now.machines frame.now.length) pieces.now) }
 {
     for piece in pieces {
-        if piece.machine.get() <= frame.machines && has_room(frame, piece) {
-            push_job(text, frame, piece)?;
-        }
+        push_if_shown(text, frame, piece)?;
+    }
+    Ok(())
+}
+
+fn push_if_shown<A: Allocator>(
+    text: &mut Vec<u8, A>,
+    frame: &Frame,
+    piece: &Piece,
+) -> Result<(), OutOfMemory>
+    requires { LiesWithin frame.now.length piece.now }
+    ensures { OnOk result (text.new.items ≡ text.old.items
+        ++ number_if_shown frame.now.machines frame.now.length piece.now) }
+{
+    if piece.machine.get() <= frame.machines && has_room(frame, piece) {
+        return push_job(text, frame, piece);
     }
     Ok(())
 }
@@ -33,6 +50,10 @@ fn push_job<A: Allocator>(
     piece: &Piece,
 ) -> Result<(), OutOfMemory>
     requires { LiesWithin frame.now.length piece.now }
+    ensures { OnOk result (text.new.items ≡ text.old.items
+        ++ label ((across frame.now.length (as_time piece.now.start)
+        + across frame.now.length (as_time piece.now.stop)) / 2)
+        (base frame.now.machines piece.now.machine) piece.now.job) }
 {
     let from = frame.across(piece.start as u64);
     let to = frame.across(piece.stop as u64);
@@ -43,6 +64,7 @@ fn push_job<A: Allocator>(
 // Whether the job's number is less wide than the bar.
 fn has_room(frame: &Frame, piece: &Piece) -> bool
     requires { LiesWithin frame.now.length piece.now }
+    ensures { result ≡ has_room frame.now.machines frame.now.length piece.now }
 {
     let mut digits = Buffer::new();
     let wide = digits.format(piece.job.get()).len() as u64 * frame.font() * 13 / 20 + 300;

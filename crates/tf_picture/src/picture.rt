@@ -3,12 +3,13 @@ ghost use Rattle.std.specs.Prelude.{◌≡◌, IfOk};
 ghost use Rattle.std.specs.List.{All};
 ghost use Rattle.std.specs.List.Sorted.{IsPermutation};
 ghost use Rattle.tf_text.specs.AnswerText.{SheetData};
-ghost use Rattle.tf_picture.specs.Picture.{IsPicture};
+ghost use Rattle.tf_picture.specs.Picture.{IsPicture, behind, heading_of};
 ghost use Rattle.tf_picture.specs.Within.{LiesWithin};
 
+use crate::axis::step_of;
 use crate::bars::push_bars;
 use crate::frame::Frame;
-use crate::front::{Heading, front};
+use crate::front::{Heading, push_front};
 use crate::labels::push_labels;
 use crate::writing::push_part;
 use std::alloc::Allocator;
@@ -24,12 +25,13 @@ pub fn picture<A: Allocator + Copy, B: Allocator>(
     heading: &Heading,
     schedule: &Schedule<B>,
 ) -> Result<Vec<u8, A>, OutOfMemory>
-    ensures { (sheet : SheetData) → sheet.machines ≡ heading.now.machines →
+    ensures { (sheet : SheetData) → heading_of sheet ≡ heading.now →
         IsPermutation sheet.answer.pieces schedule.now →
         IfOk result (λ text. IsPicture sheet text.items) }
 {
     let frame = Frame::of(heading.machines, schedule);
-    let mut text = front(alloc, heading, &frame)?;
+    let mut text = Vec::new(alloc);
+    push_front(alloc, &mut text, heading, &frame, step_of(&frame))?;
     push_bars(&mut text, &frame, schedule.pieces())?;
     let behind = behind(alloc, &frame, schedule.pieces())?;
     text.extend_from_slice(behind.as_slice())?;
@@ -37,15 +39,22 @@ pub fn picture<A: Allocator + Copy, B: Allocator>(
 }
 
 // What stands behind the bars: the numbers in them, and the end.
+#[tactic(auto, using(crate::proofs::Texts::four))]
 fn behind<A: Allocator>(
     alloc: A,
     frame: &Frame,
     pieces: &[Piece],
 ) -> Result<Vec<u8, A>, OutOfMemory>
     requires { All (LiesWithin frame.now.length) pieces.now }
+    ensures { IfOk result (λ text.
+        text.items ≡ behind frame.now.machines frame.now.length pieces.now) }
 {
-    let mut text = Vec::from_slice(alloc, b"</g>\n<g text-anchor=\"middle\" font-size=\"")?;
-    push_part(&mut text, b"", frame.font())?;
+    let mut text = Vec::new(alloc);
+    push_part(
+        &mut text,
+        b"</g>\n<g text-anchor=\"middle\" font-size=\"",
+        frame.font(),
+    )?;
     text.extend_from_slice(b"\" pointer-events=\"none\">\n")?;
     push_labels(&mut text, frame, pieces)?;
     text.extend_from_slice(b"</g>\n</svg>\n")?;

@@ -1,6 +1,6 @@
 //! Parts of an SVG text.
 ghost use Rattle.std.specs.Prelude.{◌≡◌, ◌++◌, OnOk};
-ghost use Rattle.tf_picture.specs.Picture.{part};
+ghost use Rattle.tf_picture.specs.Picture.{label, part};
 
 use itoa::Buffer;
 use std::alloc::Allocator;
@@ -26,7 +26,9 @@ pub fn push_label<A: Allocator>(
     x: u64,
     y: u64,
     number: u64,
-) -> Result<(), OutOfMemory> {
+) -> Result<(), OutOfMemory>
+    ensures { OnOk result (text.new.items ≡ text.old.items ++ label x y number) }
+{
     push_part(text, b"<text x=\"", x)?;
     push_part(text, b"\" y=\"", y)?;
     push_part(text, b"\">", number)?;

@@ -1,0 +1,8 @@
+use Rattle.std.proofs.Common.{◌≡◌, ◌++◌}
+use Rattle.std.specs.List.{flat_map, range_with_len}
+use Rattle.tf_picture.specs.Picture.{time_labels_at}
+use Rattle.tf_picture.proofs.axis.push_times.Given as goal
+
+abbrev pub invariant-loop-k : goal.invariant-loop-k
+invariant-loop-k g l = l.text.items ≡ l.initial.text.items
+    ++ flat_map (time_labels_at l.frame.machines l.frame.length l.step) (range_with_len 0 l.k)
