@@ -87,11 +87,11 @@ fn instance_is_cut_off(
 
 fn case_by_calls(rt: &HostRuntime, case: &Case) -> Result<(), Fail> {
     let request = request_of(rt, case)?;
-    for call in 1..calls_by_five(case.instance) + 1 {
+    for call in 1..calls_by_five(case.instance).saturating_add(1) {
         bound_is_cut_off(rt, &request, case, call)?;
         instance_is_cut_off(rt, &request, case, call)?;
     }
-    for call in 1..calls_by_five(case.answer) + 1 {
+    for call in 1..calls_by_five(case.answer).saturating_add(1) {
         answer_is_cut_off(rt, &request, case, call)?;
     }
     for call in 1..case.bound.len() as u64 + 1 {
