@@ -135,6 +135,10 @@ fn evaluate_command<'a>(alloc: Global) -> Result<Command<'a>, AllocError> {
         .long("certificate")
         .help("Writes the certificate's arithmetic, step by step")
         .action(ArgAction::SetTrue);
+    let answer = answer(alloc)
+        .required(false)
+        .required_unless_present("order")?
+        .required_unless_present("orders")?;
     with_options(alloc, Command::new(alloc, "evaluate"))?
         .about("Reports how far an answer is from the optimum, job by job")
         .after_help(ABOUT_EVALUATE)
@@ -143,11 +147,7 @@ fn evaluate_command<'a>(alloc: Global) -> Result<Command<'a>, AllocError> {
         .arg(csv(alloc)?)?
         .arg(order(alloc)?)?
         .arg(orders(alloc)?)?
-        .arg(
-            answer(alloc)
-                .required(false)
-                .required_unless_present_any(&["order", "orders"])?,
-        )
+        .arg(answer)
 }
 
 fn order<'a>(alloc: Global) -> Result<Arg<'a>, AllocError> {
@@ -155,7 +155,9 @@ fn order<'a>(alloc: Global) -> Result<Arg<'a>, AllocError> {
         .long("order")
         .value_name("JOBS")
         .help("Evaluates an order of the jobs: \"3 1 2\", or \"1 3 / 2\"")
-        .conflicts_with_all(&["orders", "certificate", "ANSWER"])
+        .conflicts_with("orders")?
+        .conflicts_with("certificate")?
+        .conflicts_with("ANSWER")
 }
 
 fn orders<'a>(alloc: Global) -> Result<Arg<'a>, AllocError> {
@@ -163,7 +165,10 @@ fn orders<'a>(alloc: Global) -> Result<Arg<'a>, AllocError> {
         .long("orders")
         .value_name("FILE")
         .help("Prints cost and gap of the order in each line of FILE")
-        .conflicts_with_all(&["certificate", "json", "csv", "ANSWER"])
+        .conflicts_with("certificate")?
+        .conflicts_with("json")?
+        .conflicts_with("csv")?
+        .conflicts_with("ANSWER")
 }
 
 fn json<'a>(alloc: Global) -> Arg<'a> {
