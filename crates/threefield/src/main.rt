@@ -1,6 +1,8 @@
 //! `threefield` solves machine scheduling problems named in three-field notation.
 #![tactic(auto)]
 
+ghost use Rattle.tf_command.specs.Columns.{IsSized};
+
 mod files;
 
 use files::Files;
@@ -56,7 +58,9 @@ fn print<E: Write + Drop>(
     errors: Counted<E>,
     work: &Work<'_>,
     format: Option<Format>,
-) -> u8 {
+) -> u8
+    requires { IsSized work.now }
+{
     let mut console = Console {
         alloc: rt.alloc(),
         writer: Counted::new(rt.stdout()),
