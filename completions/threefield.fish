@@ -30,5 +30,6 @@ complete -c threefield -n "__fish_seen_subcommand_from trace" -l tex -d "Write i
 complete -c threefield -n "__fish_seen_subcommand_from evaluate" -l certificate -d "Add the arithmetic of the certificate"
 complete -c threefield -n "__fish_seen_subcommand_from evaluate" -l order -x -d "An order of the jobs"
 complete -c threefield -n "__fish_seen_subcommand_from evaluate" -l orders -r -d "File with an order in each line"
+complete -c threefield -n "__fish_seen_subcommand_from evaluate" -l schedule -r -d "File of the pieces of a schedule"
 complete -c threefield -n "__fish_seen_subcommand_from gantt" -s c -l columns -x -d "Columns of the chart"
 complete -c threefield -n "__fish_seen_subcommand_from gantt" -l svg -d "Draw a picture"

@@ -72,7 +72,7 @@ impl Place {
         match self {
             Place::Heading => "The first line of a job table is exactly \"table 1\".",
             Place::Machines => {
-                "One line \"machines M\", M from 1 to 1000, may stand right behind the heading."
+                "One line \"machines M\", M from 1 to 1000, may stand right after the heading."
             }
             Place::Line => {
                 "Lines begin with \"machines\", \"job\" or \"prec\", in this order, or with \"#\"."
@@ -155,7 +155,7 @@ pub static ADVICE: [Advice; 47] = [
         cause: Cause::OtherHeading,
         place: Place::Heading,
         wrong: "This is not the heading of a job table.",
-        fix: "Write \"table 1\" in lower case, with nothing behind it.",
+        fix: "Write \"table 1\" in lower case, with nothing after it.",
     },
     Advice {
         cause: Cause::HeadingAgain,
@@ -209,7 +209,7 @@ pub static ADVICE: [Advice; 47] = [
         cause: Cause::NoJobNumber,
         place: Place::Job,
         wrong: "The number of the job is missing or is no number.",
-        fix: "Write it behind \"job\"; a job is named by a number alone.",
+        fix: "Write it after \"job\"; a job is named by a number alone.",
     },
     Advice {
         cause: Cause::JobZero,
@@ -245,7 +245,7 @@ pub static ADVICE: [Advice; 47] = [
         cause: Cause::Remark,
         place: Place::Job,
         wrong: "A comment cannot follow a job on its line.",
-        fix: "Give the remark a line of its own, with \"#\" first.",
+        fix: "Give the comment a line of its own, with \"#\" first.",
     },
     Advice {
         cause: Cause::NoEquals,

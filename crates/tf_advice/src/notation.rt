@@ -178,7 +178,7 @@ pub fn explain_notation(
     match hint_for(text, byte, word) {
         Some(advice) => page.say(advice)?,
         None if expected == Expected::Condition && is_objective(word) => {
-            page.say("The objective stands behind a second \"|\", as in \"1||Lmax\".")?;
+            page.say("The objective comes after a second \"|\", as in \"1||Lmax\".")?;
         }
         None => say_nearest(alloc, page, expected, word)?,
     }

@@ -4,10 +4,12 @@ use Rattle.std.specs.declared.alloc.Global.{Global}
 use Rattle.std.specs.Io.KnownBytes.{Keeps}
 use Rattle.tf_text.specs.Counted.{DeviceUse}
 use Rattle.tf_text.specs.declared.answer.layout.Layout.TheVariants.{Two}
-use Rattle.tf_orders.specs.declared.run_orders.OrderForm.TheVariants.{Single, Lines}
+use Rattle.tf_orders.specs.declared.run_orders.OrderForm.{OrderForm}
+use Rattle.tf_orders.specs.declared.run_orders.OrderForm.TheVariants.{Single, Lines, Pieces}
 use Rattle.tf_command.specs.declared.options.Work.{Work as Asking}
 use Rattle.tf_command.specs.declared.options.Work.TheVariants.{Solve, Bound, Trace, Check, Evaluate, Rate, Gantt, Problems}
-use Rattle.tf_command.specs.declared.options.OrderSource.TheVariants.{Given, Named}
+use Rattle.tf_command.specs.declared.options.OrderSource.TheVariants.{Given, Named, Drawn}
+use Rattle.tf_command.specs.declared.options.Options.{Options}
 use Rattle.tf_command.specs.Asking.{requested}
 use Rattle.tf_command.specs.Ending.{EndsSolving, EndsBounding, EndsTracing, EndsChecking, EndsDrawing, EndsEvaluating, EndsRating}
 
@@ -48,6 +50,15 @@ EndsListing writer status =
     (status ≡ 0) ⊎ (status ≡ 4)
     ⊎ (((status ≡ 2) ⊎ (status ≡ 3)) × Keeps writer.before writer.after)
 
+-- the orders or the pieces of the text of this name are rated
+abbrev pub RatesNamed : Texts → Options → List ℕ → OrderForm → DeviceUse → (Bool → List ℕ → Type 0)
+    → ℕ → Type 0
+RatesNamed texts options name form writer says status =
+    let said = says options.telling.explain in
+    EndsOverBoth texts options.input.now name writer said status
+    (λ instance other. EndsRating Global form (requested options Two) instance other writer said
+    status)
+
 -- what is asked for is done over the texts that it names, and ends with this line on standard error
 -- and this status
 abbrev pub Performs : Texts → Asking → DeviceUse → (Bool → List ℕ → Type 0) → ℕ → Type 0
@@ -78,10 +89,9 @@ Performs texts (Rate options (Given order)) writer says status =
     (λ instance. (reader : DeviceUse) × (reader.before ≡ Some order.now)
     × EndsRating Global Single (requested options Two) instance reader writer said status)
 Performs texts (Rate options (Named name)) writer says status =
-    let said = says options.telling.explain in
-    EndsOverBoth texts options.input.now name.now writer said status
-    (λ instance other. EndsRating Global Lines (requested options Two) instance other writer said
-    status)
+    RatesNamed texts options name.now Lines writer says status
+Performs texts (Rate options (Drawn name)) writer says status =
+    RatesNamed texts options name.now Pieces writer says status
 Performs texts (Gantt answer drawing explain) writer says status =
     EndsOver texts answer.now writer (says explain) status
     (λ reader. EndsDrawing Global drawing reader writer (says explain) status)

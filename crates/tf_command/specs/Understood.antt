@@ -6,28 +6,42 @@ use Rattle.tf_command.specs.FormatAsked.{IsSolvedLayoutBy}
 use Rattle.tf_command.specs.declared.options.Asked.{Asked}
 use Rattle.tf_command.specs.declared.options.Asked.TheVariants.{Work, Formatted, Help, Misused, Unfit, NoMemory}
 use Rattle.tf_command.specs.declared.options.OrderSource.{OrderSource}
-use Rattle.tf_command.specs.declared.options.OrderSource.TheVariants.{Given as Written, Named}
+use Rattle.tf_command.specs.declared.options.OrderSource.TheVariants.{Given as Written, Named, Drawn}
 use Rattle.tf_command.specs.declared.options.Work.{Work as Asking}
 use Rattle.tf_command.specs.declared.options.Work.TheVariants.{Solve, Bound, Trace, Check, Evaluate, Rate, Gantt, Problems}
 
--- the orders that are evaluated: that of `--order`, or those of the text that `--orders` names
+-- the orders that are evaluated: that of `--order`, or those of the text that `--orders` names; or the
+-- pieces of the text that `--schedule` names
 abbrev pub IsOrderBy : Given → OrderSource → Type 0
 IsOrderBy given (Written order) = given.value (codes "order") ≡ Some order.now
 IsOrderBy given (Named name) =
     (given.value (codes "order") ≡ None) × (given.value (codes "orders") ≡ Some name.now)
+IsOrderBy given (Drawn name) =
+    (given.value (codes "order") ≡ None) × (given.value (codes "orders") ≡ None)
+    × (given.value (codes "schedule") ≡ Some name.now)
 
--- neither is given
+-- none of them is given
 pub record HasNoOrder (given : Given) : Type 0 where
   pub order : given.value (codes "order") ≡ None
   pub orders : given.value (codes "orders") ≡ None
+  pub schedule : given.value (codes "schedule") ≡ None
 
 abbrev pub has_order : Given → Bool
-has_order given = is_some (given.value (codes "order")) || is_some (given.value (codes "orders"))
+has_order given =
+    is_some (given.value (codes "order"))
+    || (is_some (given.value (codes "orders")) || is_some (given.value (codes "schedule")))
 
--- a text of orders is standard input
-abbrev pub is_standard_input : OrderSource → Bool
-is_standard_input (Written order) = false
-is_standard_input (Named name) = bytes_eq name.now (codes "-")
+-- the fault of a text that is standard input, where the instance is that too
+abbrev pub fault_if : Bool → List ℕ → Option (List ℕ)
+fault_if twice fault = if twice then Some fault else None
+
+abbrev pub input_fault : OrderSource → Option (List ℕ)
+input_fault (Written order) = None
+input_fault (Named name) =
+    fault_if (bytes_eq name.now (codes "-")) (codes "INPUT and --orders cannot both be standard input")
+input_fault (Drawn name) =
+    fault_if (bytes_eq name.now (codes "-"))
+    (codes "INPUT and --schedule cannot both be standard input")
 
 -- the work of a command, and each of its options
 abbrev pub IsWorkBy : List ℕ → Given → Bool → Asking → Type 0
@@ -80,18 +94,23 @@ answer_fault given =
     then Some (codes "INPUT and ANSWER cannot both be standard input")
     else None
 
--- orders are evaluated
+-- orders or pieces are evaluated
 abbrev pub is_rating : List ℕ → Given → Bool
 is_rating name given = bytes_eq name (codes "evaluate") && has_order given
 
--- both the instance and the orders are standard input
+-- both the instance and the orders or the pieces are standard input
+abbrev pub named_fault : Given → Option (List ℕ)
+named_fault given =
+    if is_some (given.value (codes "order")) then None
+    else (if is_some (given.value (codes "orders"))
+    then fault_if (is_word (given.value (codes "orders")) (codes "-"))
+        (codes "INPUT and --orders cannot both be standard input")
+    else fault_if (is_word (given.value (codes "schedule")) (codes "-"))
+        (codes "INPUT and --schedule cannot both be standard input"))
+
 abbrev pub orders_fault : Given → Option (List ℕ)
 orders_fault given =
-    if not (is_some (given.value (codes "order")))
-    && (is_word (given.value (codes "orders")) (codes "-")
-    && is_word (given.value (codes "INPUT")) (codes "-"))
-    then Some (codes "INPUT and --orders cannot both be standard input")
-    else None
+    if is_word (given.value (codes "INPUT")) (codes "-") then named_fault given else None
 
 -- the fault of a command's values that is told first
 abbrev pub own_fault : List ℕ → Given → Option (List ℕ)

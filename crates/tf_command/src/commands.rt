@@ -5,12 +5,12 @@ ghost use Rattle.tf_command.specs.Columns.{HasWidth, IsSized};
 ghost use Rattle.tf_command.specs.Ending.{EndsSolving, EndsBounding, EndsTracing, EndsChecking, EndsEvaluating, EndsRating, EndsDrawing, SaysLine, drawn_as};
 ghost use Rattle.tf_engine.specs.Drawing.{IsDrawingOf};
 ghost use Rattle.std.specs.Prelude.{◌≡◌, ◌⊎◌, None, Some, IfSome, IfOk, IfErr, true, codes};
-ghost use Rattle.tf_command.specs.Performing.{EndsListing, EndsOver, Performs};
+ghost use Rattle.tf_command.specs.Performing.{EndsListing, EndsOver, Performs, RatesNamed};
 ghost use Rattle.tf_command.specs.Recorded.{bytes_left};
 ghost use Rattle.tf_text.specs.Counted.{inner_of, use_of};
 
 use crate::console::Console;
-use crate::explained::{Ended, tell, tell_drawn};
+use crate::explained::{Ended, Rated, tell, tell_drawn};
 use crate::options::{Drawing, Evaluating, Options, OrderSource, Work};
 use crate::recorded::{MOST_BESIDE, MOST_KEPT, Recorded, room};
 use crate::report::{
@@ -61,7 +61,10 @@ pub fn perform<S: Sources, W: Write, E: Write>(
             rate_given(console, sources, options, order)
         }
         Work::Rate(options, OrderSource::Named(name)) => {
-            rate_named(console, sources, options, name)
+            rate_named(console, sources, options, name, OrderForm::Lines)
+        }
+        Work::Rate(options, OrderSource::Drawn(name)) => {
+            rate_named(console, sources, options, name, OrderForm::Pieces)
         }
         Work::Gantt {
             answer,
@@ -204,26 +207,21 @@ fn rate_given<S: Sources, W: Write, E: Write>(
     }
 }
 
-/// Rates the orders of the text of that name.
+/// Rates the orders or the pieces of the text of that name.
 fn rate_named<S: Sources, W: Write, E: Write>(
     console: &mut Console<W, E>,
     sources: &S,
     options: &Options<'_>,
     name: &str,
+    form: OrderForm,
 ) -> u8
-    ensures { Performs (S.text_of sources.now) (Work.Rate options.now (OrderSource.Named name.entry))
+    ensures { RatesNamed (S.text_of sources.now) options.now name.now form
         (use_of W.contents console.old.writer console.new.writer)
         (λ explain. SaysLine E.contents explain console.old.errors console.new.errors) result }
 {
     match open_both(console, sources, options, name) {
         Ok((mut instance, mut orders)) => {
-            rate(
-                console,
-                options,
-                OrderForm::Lines,
-                &mut instance,
-                &mut orders,
-            )
+            rate(console, options, form, &mut instance, &mut orders)
         }
         Err(status) => status,
     }
@@ -521,7 +519,8 @@ fn rate<R: Read, S: Read, W: Write, E: Write>(
             telling: options.telling,
             request: &request,
         };
-        ended.tell_rated(&run, instance.inner(), orders.inner(), &mut console.errors);
+        let rated = Rated { form, run: &run };
+        ended.tell_rated(rated, instance.inner(), orders.inner(), &mut console.errors);
     }
     status
 }

@@ -11,7 +11,7 @@ use tf_engine::run_check::Checked;
 use tf_evaluate::evaluation::Standing;
 use tf_explain::explain;
 use tf_model::prepare::Refusal;
-use tf_orders::run_orders::OrdersRated;
+use tf_orders::run_orders::{OrderForm, OrdersRated};
 use tf_text::answer::fault::AnswerFault;
 use tf_text::counted::Counted;
 
@@ -25,6 +25,12 @@ For many problems without a solver \"threefield bound\" prints a lower bound, an
 const WHAT_AN_ORDER_IS: &str = "\
 An order names each job once, by its number, with spaces between: \"3 1 2\". On
 parallel machines it has one list for each machine, with / between: \"1 3 / 2\".
+";
+
+/// What is said of a line that is malformed among the pieces of a schedule.
+const WHAT_A_SCHEDULE_IS: &str = "\
+A schedule has a line \"piece JOB MACHINE START STOP\" for each piece, with times
+from 0. The other lines of an answer may stand before and after them.
 ";
 
 /// What a run over an instance read, and the source that failed.
@@ -69,6 +75,23 @@ impl<'a> Told<'a> {
             None => {
                 explain::refused(alloc, fault, request, &self.instance, self.answer.as_ref())
             }
+        }
+    }
+}
+
+/// A run over orders or pieces that has ended.
+#[derive(Clone, Copy)]
+pub struct Rated<'a> {
+    pub form: OrderForm,
+    pub run: &'a Result<OrdersRated, RunFault>,
+}
+
+impl<'a> Rated<'a> {
+    /// What is said of a line that is malformed.
+    fn malformed(self) -> &'static str {
+        match self.form {
+            OrderForm::Single | OrderForm::Lines => WHAT_AN_ORDER_IS,
+            OrderForm::Pieces => WHAT_A_SCHEDULE_IS,
         }
     }
 }
@@ -146,19 +169,20 @@ impl Ended<'_> {
         }
     }
 
-    /// Says what is to be said of the options and of a run over orders, where the instance was kept.
+    /// Says what is to be said of the options and of a run over orders or pieces, where the instance
+    /// was kept.
     pub fn tell_rated<R, S, E: Write>(
         &self,
-        run: &Result<OrdersRated, RunFault>,
+        rated: Rated<'_>,
         instance: &Recorded<'_, R>,
         orders: &Recorded<'_, S>,
         errors: &mut Counted<E>,
     ) {
         if let Some(told) = Told::of_both(instance, orders) {
-            let explanation = match run {
+            let explanation = match rated.run {
                 Ok(_) => Ok(String::new(self.alloc)),
                 Err(RunFault::Answer(AnswerFault::BadLine(_))) => {
-                    String::from_str(self.alloc, WHAT_AN_ORDER_IS)
+                    String::from_str(self.alloc, rated.malformed())
                 }
                 Err(fault) => told.refused(self.alloc, fault, self.request),
             };

@@ -1,4 +1,5 @@
 //! The commands and options that there are, for clap.
+use crate::help;
 use clap::{Arg, ArgAction, Command};
 use std::alloc::{AllocError, Global};
 
@@ -24,7 +25,7 @@ Exit status: 0 bounded, 2 refused, 3 want of memory,
              4 a file or a device failed, 5 the command line is wrong.";
 
 const ABOUT_TRACE: &str = "\
-Example: threefield trace -p \"F2||Cmax\" -f flow --name johnson examples/flow.txt
+Example: threefield trace -p \"F2||Cmax\" -f flow --name demo --pair 0,2 shop.txt
 
 Exit status: 0 traced, 2 refused, 3 want of memory,
              4 a file or a device failed, 5 the command line is wrong.";
@@ -71,6 +72,7 @@ pub fn command<'a>(alloc: Global) -> Result<Command<'a>, AllocError> {
         .about("Exact machine scheduling with certificates")
         .version("0.1.0")
         .after_help(ABOUT_ALL)
+        .after_long_help(help::OF_ALL)
         .subcommand_required(true)
         .arg_required_else_help(true)
         .subcommand(solve_command(alloc)?)?
@@ -93,6 +95,7 @@ fn solve_command<'a>(alloc: Global) -> Result<Command<'a>, AllocError> {
     with_options(alloc, Command::new(alloc, "solve"))?
         .about("Prints an optimal schedule, and a certificate that proves it")
         .after_help(ABOUT_SOLVE)
+        .after_long_help(help::OF_SOLVE)
         .arg(version)?
         .arg(json(alloc).conflicts_with("answer")?)?
         .arg(csv(alloc)?)
@@ -107,6 +110,7 @@ fn bound_command<'a>(alloc: Global) -> Result<Command<'a>, AllocError> {
     with_options(alloc, Command::new(alloc, "bound"))?
         .about("Prints a lower bound of an NP-hard problem, and its certificate")
         .after_help(ABOUT_BOUND)
+        .after_long_help(help::OF_BOUND)
         .arg(steps)?
         .arg(json(alloc))
 }
@@ -119,6 +123,7 @@ fn trace_command<'a>(alloc: Global) -> Result<Command<'a>, AllocError> {
     with_options(alloc, Command::new(alloc, "trace"))?
         .about("Shows how an optimal schedule is found, step by step")
         .after_help(ABOUT_TRACE)
+        .after_long_help(help::OF_TRACE)
         .arg(latex)
 }
 
@@ -126,6 +131,7 @@ fn check_command<'a>(alloc: Global) -> Result<Command<'a>, AllocError> {
     with_options(alloc, Command::new(alloc, "check"))?
         .about("Judges an answer: accepted, or rejected and why")
         .after_help(ABOUT_CHECK)
+        .after_long_help(help::OF_CHECK)
         .arg(json(alloc))?
         .arg(answer(alloc))
 }
@@ -138,15 +144,18 @@ fn evaluate_command<'a>(alloc: Global) -> Result<Command<'a>, AllocError> {
     let answer = answer(alloc)
         .required(false)
         .required_unless_present("order")?
-        .required_unless_present("orders")?;
+        .required_unless_present("orders")?
+        .required_unless_present("schedule")?;
     with_options(alloc, Command::new(alloc, "evaluate"))?
         .about("Reports how far an answer is from the optimum, job by job")
         .after_help(ABOUT_EVALUATE)
+        .after_long_help(help::OF_EVALUATE)
         .arg(certificate)?
         .arg(json(alloc))?
         .arg(csv(alloc)?)?
         .arg(order(alloc)?)?
         .arg(orders(alloc)?)?
+        .arg(schedule(alloc)?)?
         .arg(answer)
 }
 
@@ -168,6 +177,17 @@ fn orders<'a>(alloc: Global) -> Result<Arg<'a>, AllocError> {
         .conflicts_with("certificate")?
         .conflicts_with("json")?
         .conflicts_with("csv")?
+        .conflicts_with("ANSWER")
+}
+
+fn schedule<'a>(alloc: Global) -> Result<Arg<'a>, AllocError> {
+    Arg::new(alloc, "schedule")
+        .long("schedule")
+        .value_name("FILE")
+        .help("Evaluates the pieces of FILE, which claim no value")
+        .conflicts_with("order")?
+        .conflicts_with("orders")?
+        .conflicts_with("certificate")?
         .conflicts_with("ANSWER")
 }
 

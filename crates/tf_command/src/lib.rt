@@ -9,6 +9,7 @@ pub mod format;
 pub mod formatted;
 mod gathered;
 pub mod grammar;
+mod help;
 pub mod misuse;
 pub mod options;
 mod recorded;

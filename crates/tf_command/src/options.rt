@@ -1,5 +1,5 @@
 //! The command line.
-ghost use Rattle.std.specs.Prelude.{◌≡◌, ◌≤◌, None, Some, false, codes, IfOk, IfErr, MatchOption};
+ghost use Rattle.std.specs.Prelude.{◌≡◌, ◌≤◌, None, Some, false, codes, option_map, IfOk, IfErr, MatchOption};
 ghost use Rattle.tf_engine.specs.FormData.{form_of};
 ghost use Rattle.tf_model.specs.Limit.{most_machines};
 ghost use Rattle.tf_command.specs.Asking.{form_asked, requested};
@@ -12,7 +12,7 @@ ghost use Rattle.tf_command.specs.Matched.{has_arithmetic, is_latex, lacks, layo
 ghost use Rattle.tf_command.specs.Matched.{machines_fault, most_steps, options_fault, pair_in};
 ghost use Rattle.tf_command.specs.Matched.{steps_fault, wt_fault};
 ghost use Rattle.tf_command.specs.OptionNumber.{numeral_in};
-ghost use Rattle.tf_command.specs.Understood.{HasNoOrder, IsAskedBy, IsOrderBy, is_standard_input, lacks_options};
+ghost use Rattle.tf_command.specs.Understood.{HasNoOrder, IsAskedBy, IsOrderBy, input_fault, lacks_options};
 
 use crate::format::Format;
 use clap::error::ErrorKind;
@@ -112,13 +112,15 @@ pub struct Evaluating<'a> {
     pub detail: Detail,
 }
 
-/// Where the orders of jobs come from whose schedules are evaluated.
+/// Where the orders of jobs or the pieces come from whose schedules are evaluated.
 #[derive(Clone, Copy, Debug)]
 pub enum OrderSource<'a> {
     /// One order, on the command line.
     Given(&'a str),
     /// The name of a text with an order in each line.
     Named(&'a str),
+    /// The name of a text with the pieces of a schedule.
+    Drawn(&'a str),
 }
 
 /// How the schedule of an answer is drawn.
@@ -143,7 +145,7 @@ pub enum Work<'a> {
     Check(Options<'a>, &'a str),
     /// Tell how good an answer is.
     Evaluate(Evaluating<'a>),
-    /// Tell how good the semi-active schedules of orders are.
+    /// Tell how good the semi-active schedules of orders are, or a schedule.
     Rate(Options<'a>, OrderSource<'a>),
     /// Draw the answer of this name.
     Gantt {
@@ -282,8 +284,10 @@ pub fn asked_by<'a>(name: &str, given: &ArgMatches<'a>, on_terminal: bool) -> As
     if name == "evaluate"
         && let Some(orders) = orders_in(given)
     {
-        if options.input == "-" && is_standard_input(&orders) {
-            return Asked::Unfit("INPUT and --orders cannot both be standard input");
+        if options.input == "-"
+            && let Some(fault) = input_fault(&orders)
+        {
+            return Asked::Unfit(fault);
         }
         return Asked::Work(Work::Rate(options, orders));
     }
@@ -364,19 +368,27 @@ fn orders_in<'a>(given: &ArgMatches<'a>) -> Option<OrderSource<'a>>
     if let Some(order) = given.get_str("order") {
         return Some(OrderSource::Given(order));
     }
-    match given.get_str("orders") {
-        Some(name) => Some(OrderSource::Named(name)),
+    if let Some(name) = given.get_str("orders") {
+        return Some(OrderSource::Named(name));
+    }
+    match given.get_str("schedule") {
+        Some(name) => Some(OrderSource::Drawn(name)),
         None => None,
     }
 }
 
-// Whether a text of orders is standard input.
-fn is_standard_input(orders: &OrderSource<'_>) -> bool
-    ensures { result ≡ is_standard_input orders.now }
+// The fault of a text of orders or pieces that is standard input, where the instance is that too.
+fn input_fault(orders: &OrderSource<'_>) -> Option<&'static str>
+    ensures { option_map (λ fault. fault.now) result ≡ input_fault orders.now }
 {
     match orders {
-        OrderSource::Given(_) => false,
-        OrderSource::Named(name) => *name == "-",
+        OrderSource::Named(name) if *name == "-" => {
+            Some("INPUT and --orders cannot both be standard input")
+        }
+        OrderSource::Drawn(name) if *name == "-" => {
+            Some("INPUT and --schedule cannot both be standard input")
+        }
+        _ => None,
     }
 }
 

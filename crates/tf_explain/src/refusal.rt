@@ -38,7 +38,7 @@ pub(crate) fn explain_refusal(
         Refusal::MissingField(job, field) => say_field(page, request, source, job, field),
         Refusal::ZeroTime(job) => {
             quote_job(page, request, source, job)?;
-            page.say("A time is at least 1, but for an operation of a shop.")?;
+            page.say("A time is at least 1, except that of an operation of a shop.")?;
             page.say("Leave the job out, or count it as 1.")
         }
         Refusal::TotalTooLarge => {

@@ -322,7 +322,7 @@ fn say_bound_fault(page: &mut Page, fault: &BoundFault) -> Result<(), AllocError
             )
         }
         BoundFault::BadDelta => {
-            page.say("The number behind \"split\" is negative, or no job of its side reaches it.")
+            page.say("The number after \"split\" is negative, or no job of its side reaches it.")
         }
         BoundFault::OutOfMemory => Ok(()),
     }

@@ -2,6 +2,7 @@
 use Rattle.std.proofs.Common.{◌≡◌, ℕ, List, [], ◌∷◌, ◌++◌, refl, sym, subst, ◌∙◌, append_assoc, ap, inl, inr}
 use Rattle.std.proofs.lemmas.List.{append-nil}
 use Rattle.tf_words.specs.Words.{KeptLine, lines, kept_lines}
+use Rattle.tf_text.specs.declared.answer.fault.AnswerFault.TheVariants.{BadLine}
 use Rattle.tf_engine.specs.Faults.{Stop, Refuses, Fails, Wants}
 use Rattle.tf_orders.specs.declared.measure.Measure.{Measure}
 use Rattle.tf_orders.specs.declared.run_orders.OrderForm.TheVariants.{Lines}
@@ -41,12 +42,14 @@ module _ (A : Type 0) (m : Measure A) where
       pub rows_fail : (text : List ℕ) → all ≡ kept_lines 1 (lines text) → (s : Stop)
           → IsWithoutRow m line.number line.bytes s → IsUnrated Lines m text s
       rows_fail text is (Refuses refused) (named, unordered) = (
-        line.number,
+        BadLine line.number,
         named,
+        line.number,
         subst (λ (ls : List KeptLine). IsFirstBad m ls line.number) is
             (so_far.bad line.number
             (subst (λ (ls : List KeptLine). IsFirstBad m ls line.number) (sym first)
             (inl (unordered, refl)))),
+        refl,
       )
       rows_fail text is Fails h = h
       rows_fail text is Wants h = tt

@@ -132,7 +132,7 @@ module _ (A T U : Type 0) (form : OrderForm) (request : RequestData)
             held writer
             (λ refused r. inr (inr (inr (
               m,
-              record { measure = is_measure; line = r.0; is = r.1; malformed = r.2 },
+              record { measure = is_measure; fault = r.0; is = r.1; malformed = r.2 },
             ))))
             (stop_of e) (subst (λ (bs : List ℕ). IsUnrated form m bs (stop_of e)) whole h);
       }

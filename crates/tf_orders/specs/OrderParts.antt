@@ -7,6 +7,7 @@ use Rattle.tf_model.specs.SchedulingTask.{SchedulingTask}
 use Rattle.tf_text.specs.declared.counted.Counted.{Counted}
 use Rattle.tf_text.specs.Counted.{inner_of, has_failed, use_of}
 use Rattle.tf_text.specs.Input.{IsTextOf}
+use Rattle.tf_text.specs.declared.answer.fault.AnswerFault.{AnswerFault}
 use Rattle.tf_text.specs.declared.answer.fault.AnswerFault.TheVariants as answers
 use Rattle.tf_engine.specs.declared.fault.RunFault.{RunFault}
 use Rattle.tf_engine.specs.CaseParts.{IsAsked}
@@ -107,10 +108,11 @@ IsUnmeasured posed =
 
 -- ---- the orders
 
--- why orders are not rated: a line is malformed
+-- why orders or pieces are not rated: a line is malformed
 abbrev pub IsUnrated : {A : Type 0} → OrderForm → Measure A → List ℕ → Stop → Type 0
 IsUnrated form m text =
-    StopsBy (λ refused. (k : ℕ) × (refused ≡ ByAnswer (answers.BadLine k)) × IsMalformed form m text k)
+    StopsBy (λ refused. (fault : AnswerFault) × (refused ≡ ByAnswer fault)
+    × IsMalformed form m text fault)
 
 -- why nothing is written of the line of this number: it says no order
 abbrev pub IsWithoutRow : {A : Type 0} → Measure A → ℕ → List ℕ → Stop → Type 0

@@ -1,5 +1,5 @@
 -- What is written of orders: of one a whole evaluation, and of many a line each.
-use Rattle.std.specs.Prelude.{◌≡◌, ℕ, ℤ, ◌-ℤ◌, ◌⊎◌, unsigned_abs, List, [], ◌∷◌, ◌++◌, length, codes, Option, None, Some}
+use Rattle.std.specs.Prelude.{◌≡◌, ℕ, ℤ, ◌-ℤ◌, ◌⊎◌, unsigned_abs, List, [], ◌∷◌, ◌++◌, length, codes, Option, None, Some, Ok, Err}
 use Rattle.std.specs.Fmt.{decimal, signed_decimal}
 use Rattle.tf_words.specs.Words.{KeptLine, lines, kept_lines}
 use Rattle.tf_model.specs.declared.problem.Problem.{Problem}
@@ -10,6 +10,8 @@ use Rattle.tf_check.specs.declared.judgement.Fit.{Fit}
 use Rattle.tf_check.specs.declared.judgement.Fit.TheVariants.{Fits}
 use Rattle.tf_problem.specs.ProblemData.{ProblemData}
 use Rattle.tf_text.specs.AnswerText.{line_text}
+use Rattle.tf_text.specs.declared.answer.fault.AnswerFault.{AnswerFault}
+use Rattle.tf_text.specs.declared.answer.fault.AnswerFault.TheVariants as answers
 use Rattle.tf_search.specs.declared.strongest.Found.{Found}
 use Rattle.tf_evaluate.specs.declared.evaluation.Standing.{Standing}
 use Rattle.tf_evaluate.specs.EvaluationData.{EvaluationData, gap, standing_of}
@@ -25,10 +27,11 @@ use Rattle.tf_assess.specs.RunRating.{standing_as}
 use Rattle.tf_orders.specs.declared.measure.Measure.{Measure}
 use Rattle.tf_orders.specs.declared.measure.Measure.TheVariants.{Optimum, Bound}
 use Rattle.tf_orders.specs.declared.run_orders.OrderForm.{OrderForm}
-use Rattle.tf_orders.specs.declared.run_orders.OrderForm.TheVariants.{Single, Lines}
+use Rattle.tf_orders.specs.declared.run_orders.OrderForm.TheVariants.{Single, Lines, Pieces}
 use Rattle.tf_orders.specs.declared.run_orders.OrdersRated.{OrdersRated}
 use Rattle.tf_orders.specs.declared.run_orders.OrdersRated.TheVariants as rateds
 use Rattle.tf_orders.specs.Measuring.{IsScheduled, IsUnordered}
+use Rattle.tf_orders.specs.Pieces.{pieces_of}
 
 -- ---- one order, evaluated
 
@@ -120,17 +123,23 @@ IsFirstBad m (line ∷ more) k =
     (IsUnordered m line.bytes × (k ≡ line.number))
     ⊎ (((ps : List Piece) × IsScheduled m line.bytes ps) × IsFirstBad m more k)
 
--- ---- in either form
+-- ---- in each form
 
--- what is written of the orders of a text
+-- what is written of the orders or the pieces of a text
 abbrev pub AreRated : {A : Type 0} → OrderForm → Measure A → List ℕ → List ℕ → OrdersRated → Type 0
 AreRated Single m text out (rateds.Single standing) =
     (ps : List Piece) × IsScheduled m text ps × IsEvaluated m ps out standing
+AreRated Pieces m text out (rateds.Single standing) =
+    (ps : List Piece) × (pieces_of (kept_lines 1 (lines text)) ≡ Ok ps)
+    × IsEvaluated m ps out standing
 AreRated Lines m text out rateds.Lines = AreRows m (kept_lines 1 (lines text)) out
 AreRated Single m text out rateds.Lines = ⊥
+AreRated Pieces m text out rateds.Lines = ⊥
 AreRated Lines m text out (rateds.Single standing) = ⊥
 
--- the text is malformed from this line on
-abbrev pub IsMalformed : {A : Type 0} → OrderForm → Measure A → List ℕ → ℕ → Type 0
-IsMalformed Single m text k = IsUnordered m text × (k ≡ 1)
-IsMalformed Lines m text k = IsFirstBad m (kept_lines 1 (lines text)) k
+-- this is the text's first fault
+abbrev pub IsMalformed : {A : Type 0} → OrderForm → Measure A → List ℕ → AnswerFault → Type 0
+IsMalformed Single m text fault = IsUnordered m text × (fault ≡ answers.BadLine 1)
+IsMalformed Lines m text fault =
+    (k : ℕ) × IsFirstBad m (kept_lines 1 (lines text)) k × (fault ≡ answers.BadLine k)
+IsMalformed Pieces m text fault = pieces_of (kept_lines 1 (lines text)) ≡ Err fault

@@ -5,6 +5,7 @@ use Rattle.tf_model.specs.Limit.{most_bytes}
 use Rattle.tf_model.specs.declared.problem.Problem.{Problem}
 use Rattle.tf_text.specs.Counted.{DeviceUse}
 use Rattle.tf_text.specs.Input.{IsTextOf}
+use Rattle.tf_text.specs.declared.answer.fault.AnswerFault.{AnswerFault}
 use Rattle.tf_text.specs.declared.answer.fault.AnswerFault.TheVariants as answers
 use Rattle.tf_engine.specs.declared.fault.RunFault.{RunFault}
 use Rattle.tf_engine.specs.Faults.{Refused, ByCycle, ByAnswer, stop_of}
@@ -51,13 +52,13 @@ abbrev pub SaysRated : Type 0 → OrderForm → RequestData → List ℕ → Lis
 SaysRated A form request text orders out =
     (rated : OrdersRated) × (m : Measure A) × IsRated form request text orders out rated m
 
--- a line of the orders is malformed
+-- a line of the orders or pieces is malformed
 pub record IsBadLine {A : Type 0} (form : OrderForm) (request : RequestData) (text orders : List ℕ)
     (refused : Refused) (m : Measure A) : Type 0 where
   pub measure : IsMeasure request text m
-  pub line : ℕ
-  pub is : refused ≡ ByAnswer (answers.BadLine line)
-  pub malformed : IsMalformed form m orders line
+  pub fault : AnswerFault
+  pub is : refused ≡ ByAnswer fault
+  pub malformed : IsMalformed form m orders fault
 
 -- The refusals in their order: of the instance, of orders that are too long, a cycle of the arcs,
 -- with which no timetable fits, and the first malformed line.

@@ -5,6 +5,7 @@ mod case_read;
 mod laying;
 pub mod measure;
 pub mod order;
+mod pieces;
 mod rating;
 pub mod run_orders;
 mod schedules;

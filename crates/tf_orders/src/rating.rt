@@ -8,6 +8,7 @@ ghost use Rattle.tf_orders.specs.OrderParts.{IsUnrated, IsWithoutRow};
 ghost use Rattle.tf_orders.specs.OrderText.{AreRated, AreRows, IsEvaluatedAs, IsRow, IsRowOf, IsScheduleAssessment, IsScheduleEvaluation};
 
 use crate::measure::Measure;
+use crate::pieces::pieces_in;
 use crate::run_orders::{OrderForm, OrdersRated};
 use crate::schedules::scheduled;
 use crate::writing::{push_problem_row, push_row};
@@ -39,7 +40,7 @@ pub(crate) struct Rating<A: Allocator> {
     pub rated: OrdersRated,
 }
 
-/// Rates the orders of a text. The first malformed line is refused.
+/// Rates the orders or the pieces of a text. The first malformed line is refused.
 pub(crate) fn rating_of<A: Allocator + Copy>(
     alloc: A,
     form: OrderForm,
@@ -52,6 +53,7 @@ pub(crate) fn rating_of<A: Allocator + Copy>(
 {
     match form {
         OrderForm::Single => single_rating(alloc, measure, text),
+        OrderForm::Pieces => pieces_rating(alloc, measure, text),
         OrderForm::Lines => {
             let text = rows_of(alloc, &measure, text)?;
             Ok(Rating {
@@ -75,6 +77,22 @@ fn single_rating<A: Allocator + Copy>(
     let Some(pieces) = scheduled(alloc, &measure, text)? else {
         return Err(RunFault::Answer(AnswerFault::BadLine(1)));
     };
+    let rating = evaluated(alloc, measure, pieces)?;
+    Ok(rating)
+}
+
+// Evaluates the schedule of the pieces that the text says.
+fn pieces_rating<A: Allocator + Copy>(
+    alloc: A,
+    measure: Measure<A>,
+    text: &[u8],
+) -> Result<Rating<A>, RunFault<A>>
+    requires { length text.now ≤ most_bytes }
+    ensures { MatchResult result
+        (λ r. AreRated OrderForm.Pieces measure text.now r.text.items r.rated)
+        (λ e. IsUnrated OrderForm.Pieces measure text.now (stop_of e)) }
+{
+    let pieces = pieces_in(alloc, text)?;
     let rating = evaluated(alloc, measure, pieces)?;
     Ok(rating)
 }

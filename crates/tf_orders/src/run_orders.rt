@@ -22,6 +22,9 @@ pub enum OrderForm {
     /// Each line that has a word and is no comment is an order. A line is written of each: the cost
     /// of the schedule and its gap to the optimum or to the lower bound, or the misfit.
     Lines,
+    /// It is no order, but the pieces of a schedule, which is evaluated in the same way. The other
+    /// lines of an answer may stand before and after them, and aren't looked at.
+    Pieces,
 }
 
 /// What was written of orders.
@@ -33,12 +36,13 @@ pub enum OrdersRated {
     Lines,
 }
 
-/// Reads an instance and the text of orders to their ends, and writes how good the semi-active
-/// schedules of the orders are. The task is solved, or a lower bound of it is searched for, once.
+/// Reads an instance and the text of orders or pieces to their ends, and writes how good the
+/// schedule of the pieces is, or the semi-active schedules of the orders. The task is solved, or a lower bound of it is searched for, once.
 ///
 /// The refusals come in this order: those of [`tf_engine::run_solve::run_solve`], where a problem of
 /// no class is refused only if no kind of certificate bounds it; reading the orders; a cycle of the
-/// arcs; and the first line that is no order, as [`tf_text::answer::fault::AnswerFault::BadLine`].
+/// arcs; and the first line that is no order, as [`tf_text::answer::fault::AnswerFault::BadLine`],
+/// or the first fault of the pieces.
 /// After a refusal nothing was written, unless it is [`RunFault::Device`], after which a prefix may
 /// have been.
 pub fn run_orders<A: Allocator + Copy, B: Allocator, R: Read, S: Read, W: Write>(

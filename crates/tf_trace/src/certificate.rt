@@ -148,7 +148,7 @@ fn say_split<A: Allocator + Copy, B: Allocator, C: Allocator>(
         "The jobs of S count with their times on machine 1, together {first}, the others with those \
          on machine 2, together {rest}. In any order let k be the {job} {delta} on machine \
          {machine}: one after another, the jobs before k pass machine 1, k both machines, and those \
-         behind k machine 2. Each takes at least what it counts, and k {delta} more: {first} + \
+         after k machine 2. Each takes at least what it counts, and k {delta} more: {first} + \
          {rest} + {delta} = {sum}."
     )
 }

@@ -3,6 +3,7 @@
 
 pub mod board;
 mod certificate;
+mod exchange;
 mod flow_shop;
 mod from_the_back;
 mod open_shop;

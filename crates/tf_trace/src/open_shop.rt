@@ -1,9 +1,11 @@
 //! The method of Gonzalez and Sahni for two machines in an open shop.
 use crate::board::{Board, Visible, shown};
+use crate::exchange::say_exchange;
 use crate::table::{Cell, Table};
 use crate::trace::row_of;
 use std::alloc::{AllocError, Allocator};
 use tf_model::ids::JobId;
+use tf_model::memory::OutOfMemory;
 use tf_model::task::Task;
 use tf_schedule::piece::Piece;
 
@@ -12,7 +14,8 @@ pub(crate) fn write_open_shop<A: Allocator + Copy, B: Allocator>(
     board: &mut Board<A>,
     task: &Task<B>,
     pieces: &[Piece],
-) -> Result<(), AllocError> {
+    value: i128,
+) -> Result<(), OutOfMemory> {
     board.say(
         "Two machines in an open shop (Gonzalez and Sahni 1976): a job is early if it takes no \
          longer on machine 1 than on machine 2, and otherwise late. The job whose smaller time is \
@@ -30,7 +33,8 @@ pub(crate) fn write_open_shop<A: Allocator + Copy, B: Allocator>(
     board.end_sentence()?;
     say_leader(board, task, leader)?;
     let table = pieces_table(board.alloc, task, pieces)?;
-    board.show(&table)
+    board.show(&table)?;
+    say_exchange(board, task, pieces, value)
 }
 
 fn is_early<B: Allocator>(task: &Task<B>, job: JobId) -> bool {

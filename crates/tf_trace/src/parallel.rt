@@ -1,11 +1,13 @@
 //! Machines in parallel: McNaughton's wrap-around rule, and the shortest processing time first.
 use crate::board::{Board, Visible, shown};
+use crate::exchange::say_exchange;
 use crate::table::{Cell, Table};
 use crate::trace::row_of;
 use std::alloc::{AllocError, Allocator};
 use tf_check::answer::Answer;
 use tf_check::certificate::Certificate;
 use tf_model::ids::JobId;
+use tf_model::memory::OutOfMemory;
 use tf_model::task::Task;
 use tf_schedule::piece::Piece;
 
@@ -14,7 +16,8 @@ pub(crate) fn write_wrap_around<A: Allocator + Copy, B: Allocator>(
     board: &mut Board<A>,
     task: &Task<B>,
     pieces: &[Piece],
-) -> Result<(), AllocError> {
+    value: i128,
+) -> Result<(), OutOfMemory> {
     board.say(
         "McNaughton's rule (McNaughton 1959): the schedule is as long as the longest job, or as \
          the total processing time shared out among the machines, whichever is more. The machines \
@@ -32,7 +35,8 @@ pub(crate) fn write_wrap_around<A: Allocator + Copy, B: Allocator>(
     )?;
     board.end_sentence()?;
     let table = filling_table(board.alloc, pieces)?;
-    board.show(&table)
+    board.show(&table)?;
+    say_exchange(board, task, pieces, value)
 }
 
 fn longest_time<B: Allocator>(task: &Task<B>) -> u64 {
@@ -88,7 +92,7 @@ pub(crate) fn write_shortest_first<A: Allocator + Copy, B: Allocator, C: Allocat
     if let Certificate::Ranks(ranks) = &answer.certificate {
         let table = ranks_table(board.alloc, task, ranks.jobs.as_slice())?;
         board.say(
-            "A processing time counts once for the job itself and once for each job behind it on \
+            "A processing time counts once for the job itself and once for each job after it on \
              its machine. From the longest job on, the first m are the last on their machines and \
              count once, the next m count twice, and so on.",
         )?;

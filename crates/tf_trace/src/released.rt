@@ -1,8 +1,10 @@
 //! Horn's rule for release dates, preemption and the greatest lateness on one machine.
 use crate::board::{Board, Visible, shown};
+use crate::exchange::say_exchange;
 use crate::table::{Cell, Table};
 use std::alloc::{AllocError, Allocator};
 use tf_model::ids::JobId;
+use tf_model::memory::OutOfMemory;
 use tf_model::task::Task;
 use tf_schedule::piece::Piece;
 
@@ -14,7 +16,8 @@ pub(crate) fn write_released<A: Allocator + Copy, B: Allocator>(
     board: &mut Board<A>,
     task: &Task<B>,
     pieces: &[Piece],
-) -> Result<(), AllocError> {
+    value: i128,
+) -> Result<(), OutOfMemory> {
     board.say(
         "Earliest due date first, with preemption (Horn 1974): at each time the released unfinished \
          job with the earliest due date d is processed, the smaller number among equals.",
@@ -23,7 +26,8 @@ pub(crate) fn write_released<A: Allocator + Copy, B: Allocator>(
     let events = events_table(board.alloc, task, pieces, &ends)?;
     board.show(&events)?;
     let jobs = jobs_table(board.alloc, task, &ends)?;
-    board.show(&jobs)
+    board.show(&jobs)?;
+    say_exchange(board, task, pieces, value)
 }
 
 // The completion times, job by job.

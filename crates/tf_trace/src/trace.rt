@@ -7,12 +7,13 @@ use crate::open_shop::write_open_shop;
 use crate::parallel::{write_shortest_first, write_wrap_around};
 use crate::released::write_released;
 use crate::smith::write_smith;
-use std::alloc::{AllocError, Allocator};
+use std::alloc::Allocator;
 use tf_check::answer::Answer;
 use tf_model::class::Class;
 use tf_model::ids::JobId;
 use tf_model::job_rows::JobRow;
 use tf_model::limit::LIMIT;
+use tf_model::memory::OutOfMemory;
 use tf_model::task::Task;
 use tf_schedule::cost::price;
 
@@ -21,8 +22,9 @@ pub(crate) fn write_trace<A: Allocator + Copy, B: Allocator, C: Allocator>(
     board: &mut Board<A>,
     task: &Task<B>,
     answer: &Answer<C>,
-) -> Result<(), AllocError> {
+) -> Result<(), OutOfMemory> {
     let pieces = answer.pieces.as_slice();
+    let value = i128::from(answer.value);
     match task.class() {
         Class::WeightedSum | Class::PlainSum | Class::PrmpWeightedSum | Class::PrmpPlainSum => {
             write_smith(board, task, pieces)?;
@@ -34,14 +36,15 @@ pub(crate) fn write_trace<A: Allocator + Copy, B: Allocator, C: Allocator>(
         | Class::Lmax
         | Class::PrecLmax
         | Class::PrmpLmax
-        | Class::PrmpPrecLmax => write_lawler(board, task, pieces, i128::from(answer.value))?,
-        Class::ReleaseLmax => write_released(board, task, pieces)?,
+        | Class::PrmpPrecLmax => write_lawler(board, task, pieces, value)?,
+        Class::ReleaseLmax => write_released(board, task, pieces, value)?,
         Class::FlowTwo | Class::PrmpFlowTwo => write_johnson(board, task)?,
-        Class::OpenTwo | Class::PrmpOpenTwo => write_open_shop(board, task, pieces)?,
-        Class::ParallelPrmp => write_wrap_around(board, task, pieces)?,
+        Class::OpenTwo | Class::PrmpOpenTwo => write_open_shop(board, task, pieces, value)?,
+        Class::ParallelPrmp => write_wrap_around(board, task, pieces, value)?,
         Class::ParallelSum => write_shortest_first(board, task, answer)?,
     }
-    write_certificate(board, task, answer)
+    write_certificate(board, task, answer)?;
+    Ok(())
 }
 
 /// What is known of a job, if it is there.

@@ -221,7 +221,7 @@ fn next_piece<'a>(lines: &Lines<'a>) -> Result<Option<(Piece, Lines<'a>)>, Answe
 }
 
 /// Reads all lines `piece` that come first, and returns the lines after them.
-fn pieces_at<'a, A: Allocator + Copy>(
+pub fn pieces_at<'a, A: Allocator + Copy>(
     alloc: A,
     lines: &Lines<'a>,
 ) -> Result<(PieceList<A>, Lines<'a>), AnswerFault>
@@ -256,8 +256,8 @@ fn certificate_at<'a, A: Allocator + Copy>(
     Ok((certificate, more))
 }
 
-/// Refuses a line after the end.
-fn finished(lines: &Lines<'_>) -> Result<(), AnswerFault>
+/// Refuses any line.
+pub fn finished(lines: &Lines<'_>) -> Result<(), AnswerFault>
     ensures { Gives (λ u. tt) result (finished (lines_of lines.now)) }
 {
     match lines.split_first() {

@@ -1,0 +1,73 @@
+//! Other optimal schedules, by exchanging two neighbours on a machine.
+use crate::board::{Board, MOST_ROWS};
+use std::alloc::Allocator;
+use tf_model::memory::OutOfMemory;
+use tf_model::task::Task;
+use tf_schedule::judge::judge;
+use tf_schedule::piece::Piece;
+use tf_schedule::schedule::Schedule;
+
+/// Says which two neighbouring pieces may be exchanged, the first such pair, where the schedule
+/// then still fits and costs the same. Longer schedules than the tables show are not looked at.
+pub(crate) fn say_exchange<A: Allocator + Copy, B: Allocator>(
+    board: &mut Board<A>,
+    task: &Task<B>,
+    pieces: &[Piece],
+    value: i128,
+) -> Result<(), OutOfMemory> {
+    if pieces.len() > MOST_ROWS {
+        return Ok(());
+    }
+    for (place, (piece, next)) in pieces.iter().zip(pieces.iter().skip(1)).enumerate() {
+        let are_neighbours = piece.machine == next.machine && piece.stop == next.start;
+        if are_neighbours && costs_exchanged(board.alloc, task, pieces, place)? == Some(value) {
+            write!(
+                board.text,
+                "On machine {}, job {} from {} to {} and job {} after it may be exchanged: that is \
+                 another optimal schedule.",
+                piece.machine.get(),
+                piece.job.get(),
+                piece.start,
+                piece.stop,
+                next.job.get()
+            )?;
+            board.end_sentence()?;
+            return Ok(());
+        }
+    }
+    Ok(())
+}
+
+// What the pieces cost with the one at a place and the next one exchanged, if they still fit.
+fn costs_exchanged<A: Allocator + Copy, B: Allocator>(
+    alloc: A,
+    task: &Task<B>,
+    pieces: &[Piece],
+    place: usize,
+) -> Result<Option<i128>, OutOfMemory> {
+    let mut exchanged = Vec::with_capacity(alloc, pieces.len())?;
+    for (k, piece) in pieces.iter().enumerate() {
+        if k == place || (k > 0 && k - 1 == place) {
+            continue;
+        }
+        exchanged.push(*piece)?;
+    }
+    if let (Some(piece), Some(next)) = (pieces.get(place), pieces.get(place.saturating_add(1))) {
+        let turn = piece.start.saturating_add(next.stop.saturating_sub(next.start));
+        exchanged.push(moved(next, piece.start, turn))?;
+        exchanged.push(moved(piece, turn, next.stop))?;
+    }
+    let Ok(schedule) = Schedule::new(exchanged) else {
+        return Ok(None);
+    };
+    Ok(judge(alloc, task, &schedule)?.fit.ok())
+}
+
+fn moved(piece: &Piece, start: i64, stop: i64) -> Piece {
+    Piece {
+        job: piece.job,
+        machine: piece.machine,
+        start,
+        stop,
+    }
+}
