@@ -29,19 +29,21 @@ class Walk {
     return true;
   }
 
-  /** The whole number that is the next word of the line; NaN where it is none. */
-  number() {
+  /** Reads the next words of the line, whole numbers, as many as there is room for. */
+  numbers(into) {
     const { bytes } = this;
     let at = this.at;
-    while (bytes[at] === SPACE) at++;
-    const isNegative = bytes[at] === MINUS;
-    if (isNegative) at++;
-    const begin = at;
-    let number = 0;
-    for (; bytes[at] >= ZERO && bytes[at] < ZERO + 10; at++) number = number * 10 + bytes[at] - ZERO;
+    for (let k = 0; k < into.length; k++) {
+      while (bytes[at] === SPACE) at++;
+      const isNegative = bytes[at] === MINUS;
+      if (isNegative) at++;
+      let number = 0;
+      for (let digit = bytes[at] - ZERO; digit >= 0 && digit <= 9; digit = bytes[++at] - ZERO) {
+        number = number * 10 + digit;
+      }
+      into[k] = isNegative ? -number : number;
+    }
     this.at = at;
-    if (at === begin || bytes[at] > SPACE) return NaN;
-    return isNegative ? -number : number;
   }
 
   /** What is left of the line; the next line comes after it. */
@@ -53,8 +55,10 @@ class Walk {
 
   /** Goes to the next line. */
   skip() {
-    const end = this.bytes.indexOf(NEWLINE, this.at);
-    this.at = end < 0 ? this.bytes.length : end + 1;
+    const { bytes } = this;
+    let at = this.at;
+    while (at < bytes.length && bytes[at] !== NEWLINE) at++;
+    this.at = at + 1;
   }
 }
 
@@ -83,6 +87,7 @@ export function readAnswer(bytes) {
   const most = Math.ceil(bytes.length / SHORTEST_PIECE);
   const columns = Array.from({ length: 4 }, () => new Float64Array(most));
   const [job, machine, start, stop] = columns;
+  const piece = new Float64Array(4);
   let count = 0;
   for (const walk = new Walk(bytes); !walk.isOver;) {
     if (!walk.takes(PIECE)) {
@@ -90,10 +95,11 @@ export function readAnswer(bytes) {
       if (Object.hasOwn(words, word)) words[word] = rest;
       continue;
     }
-    job[count] = walk.number();
-    machine[count] = walk.number();
-    start[count] = walk.number();
-    stop[count] = walk.number();
+    walk.numbers(piece);
+    job[count] = piece[0];
+    machine[count] = piece[1];
+    start[count] = piece[2];
+    stop[count] = piece[3];
     count++;
     walk.skip();
   }
@@ -115,9 +121,10 @@ export function readAnswer(bytes) {
 export function readEvaluation(bytes, jobs) {
   const found = { steps: [], start: new Float64Array(jobs), completion: new Float64Array(jobs),
     counts: jobs <= 5000 ? new Array(jobs).fill("") : null };
+  const row = new Float64Array(3);
   for (const walk = new Walk(bytes); !walk.isOver;) {
     if (walk.takes(JOB)) {
-      readJob(walk, found);
+      readJob(walk, row, found);
       continue;
     }
     const [word, rest] = firstWord(walk.rest());
@@ -127,15 +134,18 @@ export function readEvaluation(bytes, jobs) {
   return found;
 }
 
-/** Reads the line of a job behind its first word. */
-function readJob(walk, found) {
-  const job = walk.number();
-  if (job >= 1 && job <= found.start.length) {
-    found.start[job - 1] = walk.number();
-    found.completion[job - 1] = walk.number();
-    if (found.counts) found.counts[job - 1] = firstWord(walk.rest().trim())[0];
-    else walk.skip();
-  } else walk.skip();
+/** Reads the line of a job after its first word: job, start and completion, and what counts of it. */
+function readJob(walk, row, found) {
+  walk.numbers(row);
+  const job = row[0];
+  if (job < 1 || job > found.start.length) {
+    walk.skip();
+    return;
+  }
+  found.start[job - 1] = row[1];
+  found.completion[job - 1] = row[2];
+  if (found.counts) found.counts[job - 1] = firstWord(walk.rest().trim())[0];
+  else walk.skip();
 }
 
 /**

@@ -1,8 +1,8 @@
 //! Words of a command line, and what they ask for.
 use std::alloc::AllocError;
 use std::test::Fail;
-use tf_command::grammar::command;
-use tf_command::options::{Asked, Drawing, FormOption, Options, Work, understand};
+use tf_options::grammar::command;
+use tf_options::options::{Asked, Drawing, FormOption, Options, Work, understand};
 use tf_text::answer::layout::Layout;
 
 fn ensure(is_so: bool, otherwise: &'static str) -> Result<(), Fail> {

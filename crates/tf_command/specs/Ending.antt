@@ -19,8 +19,8 @@ use Rattle.tf_orders.specs.declared.run_orders.OrdersRated.TheVariants.{Single, 
 use Rattle.tf_orders.specs.RunOrders.{IsOrdersRunOf}
 use Rattle.tf_bounding.specs.RunBounding.{IsBoundingOf}
 use Rattle.tf_trace.specs.RunTracing.{IsTraceOf}
-use Rattle.tf_command.specs.declared.options.Drawing.{Drawing}
-use Rattle.tf_command.specs.declared.options.Drawing.TheVariants.{Chart, Picture}
+use Rattle.tf_options.specs.declared.options.Drawing.{Drawing}
+use Rattle.tf_options.specs.declared.options.Drawing.TheVariants.{Chart, Picture}
 use Rattle.tf_text.specs.declared.counted.Counted.{Counted}
 use Rattle.tf_command.specs.Statuses.{status_of, status_of_check, status_of_standing}
 use Rattle.tf_command.specs.FaultLine.{fault_line}

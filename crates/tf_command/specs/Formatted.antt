@@ -9,8 +9,8 @@ use Rattle.tf_export.specs.Documents.{json_of}
 use Rattle.tf_export.specs.Faults.{fault_json}
 use Rattle.tf_command.specs.Ending.{SaysLine}
 use Rattle.tf_command.specs.declared.console.Console.{Console}
-use Rattle.tf_command.specs.declared.format.Format.{Format}
-use Rattle.tf_command.specs.declared.format.Format.TheVariants.{Json, Csv}
+use Rattle.tf_options.specs.declared.format.Format.{Format}
+use Rattle.tf_options.specs.declared.format.Format.TheVariants.{Json, Csv}
 
 -- a text that a command printed, in a format, and nothing where it printed nothing
 abbrev pub formatted : Format → List ℕ → List ℕ

@@ -6,11 +6,11 @@ use Rattle.tf_text.specs.Counted.{DeviceUse}
 use Rattle.tf_text.specs.declared.answer.layout.Layout.TheVariants.{Two}
 use Rattle.tf_orders.specs.declared.run_orders.OrderForm.{OrderForm}
 use Rattle.tf_orders.specs.declared.run_orders.OrderForm.TheVariants.{Single, Lines, Pieces}
-use Rattle.tf_command.specs.declared.options.Work.{Work as Asking}
-use Rattle.tf_command.specs.declared.options.Work.TheVariants.{Solve, Bound, Trace, Check, Evaluate, Rate, Gantt, Problems}
-use Rattle.tf_command.specs.declared.options.OrderSource.TheVariants.{Given, Named, Drawn}
-use Rattle.tf_command.specs.declared.options.Options.{Options}
-use Rattle.tf_command.specs.Asking.{requested}
+use Rattle.tf_options.specs.declared.options.Work.{Work as Asking}
+use Rattle.tf_options.specs.declared.options.Work.TheVariants.{Solve, Bound, Trace, Check, Evaluate, Rate, Gantt, Problems}
+use Rattle.tf_options.specs.declared.options.OrderSource.TheVariants.{Given, Named, Drawn}
+use Rattle.tf_options.specs.declared.options.Options.{Options}
+use Rattle.tf_options.specs.Asking.{requested}
 use Rattle.tf_command.specs.Ending.{EndsSolving, EndsBounding, EndsTracing, EndsChecking, EndsDrawing, EndsEvaluating, EndsRating}
 
 -- the bytes of the text of each name, where they are known

@@ -1,7 +1,7 @@
 //! The commands, over whatever gives and takes bytes.
 ghost use Rattle.std.specs.declared.alloc.Global.{Global};
-ghost use Rattle.tf_command.specs.Asking.{requested};
-ghost use Rattle.tf_command.specs.Columns.{HasWidth, IsSized};
+ghost use Rattle.tf_options.specs.Asking.{requested};
+ghost use Rattle.tf_options.specs.Columns.{HasWidth, IsSized};
 ghost use Rattle.tf_command.specs.Ending.{EndsSolving, EndsBounding, EndsTracing, EndsChecking, EndsEvaluating, EndsRating, EndsDrawing, SaysLine, drawn_as};
 ghost use Rattle.tf_engine.specs.Drawing.{IsDrawingOf};
 ghost use Rattle.std.specs.Prelude.{◌≡◌, ◌⊎◌, None, Some, IfSome, IfOk, IfErr, true, codes};
@@ -11,7 +11,7 @@ ghost use Rattle.tf_text.specs.Counted.{inner_of, use_of};
 
 use crate::console::Console;
 use crate::explained::{Ended, Rated, tell, tell_drawn};
-use crate::options::{Drawing, Evaluating, Options, OrderSource, Work};
+use tf_options::options::{Drawing, Evaluating, Options, OrderSource, Work};
 use crate::recorded::{MOST_BESIDE, MOST_KEPT, Recorded, room};
 use crate::report::{
     end_check, end_evaluation, end_rating, end_run, report, say_device, say_memory,

@@ -1,5 +1,5 @@
 //! What is said, in plain words, of a run that has ended.
-use crate::options::{Idle, Telling};
+use tf_options::options::{Idle, Telling};
 use crate::recorded::Recorded;
 use std::alloc::{AllocError, Global};
 use std::io;

@@ -1,6 +1,6 @@
 //! Commands whose output is written in the format of another program.
 ghost use Rattle.std.specs.Prelude.{◌≡◌, ◌⊎◌, [], IfOk};
-ghost use Rattle.tf_command.specs.Columns.{IsSized};
+ghost use Rattle.tf_options.specs.Columns.{IsSized};
 ghost use Rattle.tf_command.specs.Performing.{Performs};
 ghost use Rattle.tf_command.specs.Wrote.{Wrote};
 ghost use Rattle.tf_command.specs.Formatted.{formatted, said_in, memory_line, device_line, IsWritten, IsCutOff, EndsFormatted, HasPrinted};
@@ -8,9 +8,9 @@ ghost use Rattle.tf_text.specs.Counted.{inner_of, use_of};
 
 use crate::commands::perform;
 use crate::console::Console;
-use crate::format::Format;
+use tf_options::format::Format;
 use crate::gathered::send;
-use crate::options::Work;
+use tf_options::options::Work;
 use crate::source::Sources;
 use std::alloc::Global;
 use std::io::Write;

@@ -2,8 +2,8 @@
 ghost use Rattle.std.specs.Prelude.{◌≡◌, ◌⊎◌};
 
 use crate::gathered::send;
-use crate::grammar::command;
-use crate::options::{Asked, understand};
+use tf_options::grammar::command;
+use tf_options::options::{Asked, understand};
 use crate::report::say_memory;
 use std::alloc::{AllocError, Global};
 use std::io::Write;

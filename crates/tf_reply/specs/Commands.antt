@@ -2,7 +2,7 @@
 -- memory from.
 use Rattle.std.specs.Prelude.{ℕ, List}
 use Rattle.tf_text.specs.declared.answer.layout.Layout.TheVariants.{Two}
-use Rattle.tf_command.specs.declared.options.Drawing.TheVariants.{Chart, Picture}
+use Rattle.tf_options.specs.declared.options.Drawing.TheVariants.{Chart, Picture}
 use Rattle.tf_command.specs.Ending.{EndsSolving, EndsBounding, EndsChecking, EndsEvaluating, EndsDrawing}
 use Rattle.tf_reply.specs.declared.asking.Asking.{Asking}
 use Rattle.tf_reply.specs.Asked.{request_in, instance_part, answer_part, layout_said, detail_said}

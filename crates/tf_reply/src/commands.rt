@@ -1,8 +1,8 @@
 //! The commands, over texts in memory.
 ghost use Rattle.std.specs.Prelude.{◌≡◌, IfOk};
 ghost use Rattle.tf_text.specs.Counted.{inner_of};
-ghost use Rattle.tf_command.specs.Asking.{requested};
-ghost use Rattle.tf_command.specs.Columns.{HasWidth};
+ghost use Rattle.tf_options.specs.Asking.{requested};
+ghost use Rattle.tf_options.specs.Columns.{HasWidth};
 ghost use Rattle.tf_command.specs.Ending.{EndsSolving, EndsBounding, EndsChecking, EndsEvaluating, EndsDrawing};
 ghost use Rattle.tf_reply.specs.Commands.{Solves, Bounds, Checks, Evaluates, Draws, Pictures};
 ghost use Rattle.tf_reply.specs.Replies.{said, Replies, IsOver, IsOverBoth, IsListed};
@@ -15,7 +15,7 @@ use tf_advice::solved::solved_problems;
 use tf_assess::run_rate::run_rate;
 use tf_bounding::run_bound::run_bound;
 use tf_command::commands::{draw, table_in};
-use tf_command::options::{Drawing, Options};
+use tf_options::options::{Drawing, Options};
 use tf_command::report::{end_check, end_evaluation, end_run, report, say_device};
 use tf_engine::run_check::run_check;
 use tf_engine::run_solve::run_solve;

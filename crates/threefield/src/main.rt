@@ -1,7 +1,7 @@
 //! `threefield` solves machine scheduling problems named in three-field notation.
 #![tactic(auto)]
 
-ghost use Rattle.tf_command.specs.Columns.{IsSized};
+ghost use Rattle.tf_options.specs.Columns.{IsSized};
 
 mod files;
 
@@ -12,11 +12,11 @@ use std::io::{IsTerminal, Write};
 use std::process::ExitCode;
 use tf_command::commands::perform;
 use tf_command::console::Console;
-use tf_command::format::Format;
+use tf_options::format::Format;
 use tf_command::formatted::perform_formatted;
-use tf_command::grammar::command;
+use tf_options::grammar::command;
 use tf_command::misuse::say_misuse;
-use tf_command::options::{Asked, Work, understand};
+use tf_options::options::{Asked, Work, understand};
 use tf_command::report::{say_device, say_memory, say_usage};
 use tf_text::counted::Counted;
 

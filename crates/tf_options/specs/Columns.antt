@@ -1,12 +1,12 @@
 -- How many columns a chart may have.
 use Rattle.std.specs.Prelude.{◌≤◌}
 use Rattle.tf_text.specs.Chart.{most_columns}
-use Rattle.tf_command.specs.declared.options.Drawing.{Drawing}
-use Rattle.tf_command.specs.declared.options.Drawing.TheVariants.{Chart, Picture}
-use Rattle.tf_command.specs.declared.options.Work.{Work as Asking}
-use Rattle.tf_command.specs.declared.options.Work.TheVariants.{Solve, Bound, Trace, Check, Evaluate, Rate, Gantt, Problems}
-use Rattle.tf_command.specs.declared.options.Asked.{Asked}
-use Rattle.tf_command.specs.declared.options.Asked.TheVariants.{Work, Formatted}
+use Rattle.tf_options.specs.declared.options.Drawing.{Drawing}
+use Rattle.tf_options.specs.declared.options.Drawing.TheVariants.{Chart, Picture}
+use Rattle.tf_options.specs.declared.options.Work.{Work as Asking}
+use Rattle.tf_options.specs.declared.options.Work.TheVariants.{Solve, Bound, Trace, Check, Evaluate, Rate, Gantt, Problems}
+use Rattle.tf_options.specs.declared.options.Asked.{Asked}
+use Rattle.tf_options.specs.declared.options.Asked.TheVariants.{Work, Formatted}
 
 -- a chart has some columns, and no more than there is room for
 abbrev pub HasWidth : Drawing → Type 0

@@ -5,11 +5,11 @@ use Rattle.tf_text.specs.declared.answer.layout.Layout.{Layout}
 use Rattle.tf_text.specs.declared.answer.layout.Layout.TheVariants.{One}
 use Rattle.tf_export.specs.declared.csv.Table.TheVariants.{Pieces, Outcomes}
 use Rattle.tf_export.specs.declared.documents.Document.TheVariants.{Answer, Bound, Evaluation, Verdict, Problems}
-use Rattle.tf_command.specs.Matched.{layout_by}
-use Rattle.tf_command.specs.declared.format.Format.{Format}
-use Rattle.tf_command.specs.declared.format.Format.TheVariants.{Json, Csv}
-use Rattle.tf_command.specs.declared.options.Asked.{Asked}
-use Rattle.tf_command.specs.declared.options.Asked.TheVariants.{Work, Formatted, Help, Misused, Unfit, NoMemory}
+use Rattle.tf_options.specs.Matched.{layout_by}
+use Rattle.tf_options.specs.declared.format.Format.{Format}
+use Rattle.tf_options.specs.declared.format.Format.TheVariants.{Json, Csv}
+use Rattle.tf_options.specs.declared.options.Asked.{Asked}
+use Rattle.tf_options.specs.declared.options.Asked.TheVariants.{Work, Formatted, Help, Misused, Unfit, NoMemory}
 
 -- the value of each option that has one, by the option's name
 abbrev pub Values : Type 0

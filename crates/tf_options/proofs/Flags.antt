@@ -1,7 +1,7 @@
 -- Flags of the command line.
 use Rattle.std.proofs.Common.{◌≡◌, ℕ, Bool, true, false, List, Some, None, codes, sym, ◌∙◌, inl, inr}
 use Rattle.std.proofs.lemmas.Bool.{true≢false}
-use Rattle.tf_command.specs.FormatAsked.{IsGiven, IsMissing, Values}
+use Rattle.tf_options.specs.FormatAsked.{IsGiven, IsMissing, Values}
 
 module _ (given : Values) (id : List ℕ) (flag : Bool) where
   -- a flag that is missing is not set

@@ -1,7 +1,7 @@
 use Rattle.std.proofs.Common.{codes, refl}
 use Rattle.clap.specs.Words.{found_of, one_text}
-use Rattle.tf_command.proofs.Flags.{unset, set}
-use Rattle.tf_command.proofs.options.format_in.Goals as goal
+use Rattle.tf_options.proofs.Flags.{unset, set}
+use Rattle.tf_options.proofs.options.format_in.Goals as goal
 
 pub returns-then-get_flag : goal.returns-then-get_flag
 returns-then-get_flag c =

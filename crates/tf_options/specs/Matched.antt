@@ -13,15 +13,15 @@ use Rattle.tf_trace.specs.declared.board.Style.{Style}
 use Rattle.tf_trace.specs.declared.board.Style.TheVariants.{Plain, Latex}
 use Rattle.tf_evaluate.specs.declared.evaluation.Detail.{Detail}
 use Rattle.tf_evaluate.specs.declared.evaluation.Detail.TheVariants.{Summary, WithArithmetic}
-use Rattle.tf_command.specs.OptionNumber.{numeral_in}
-use Rattle.tf_command.specs.declared.options.Asked.{Asked}
-use Rattle.tf_command.specs.declared.options.Asked.TheVariants.{Work, Formatted, Help, Misused, Unfit, NoMemory}
-use Rattle.tf_command.specs.declared.options.Drawing.{Drawing}
-use Rattle.tf_command.specs.declared.options.Drawing.TheVariants.{Chart, Picture}
-use Rattle.tf_command.specs.declared.options.FormOption.{FormOption}
-use Rattle.tf_command.specs.declared.options.FormOption.TheVariants.{Table, Wt, Flow}
-use Rattle.tf_command.specs.declared.options.Idle.{Idle}
-use Rattle.tf_command.specs.declared.options.Options.{Options}
+use Rattle.tf_options.specs.OptionNumber.{numeral_in}
+use Rattle.tf_options.specs.declared.options.Asked.{Asked}
+use Rattle.tf_options.specs.declared.options.Asked.TheVariants.{Work, Formatted, Help, Misused, Unfit, NoMemory}
+use Rattle.tf_options.specs.declared.options.Drawing.{Drawing}
+use Rattle.tf_options.specs.declared.options.Drawing.TheVariants.{Chart, Picture}
+use Rattle.tf_options.specs.declared.options.FormOption.{FormOption}
+use Rattle.tf_options.specs.declared.options.FormOption.TheVariants.{Table, Wt, Flow}
+use Rattle.tf_options.specs.declared.options.Idle.{Idle}
+use Rattle.tf_options.specs.declared.options.Options.{Options}
 
 -- by the name of an option or an argument: its first value, its first value as it is read for a
 -- flag, and whether it was given or has a default

@@ -2,17 +2,17 @@
 ghost use Rattle.std.specs.Prelude.{◌≡◌, ◌≤◌, None, Some, false, codes, option_map, IfOk, IfErr, MatchOption};
 ghost use Rattle.tf_engine.specs.FormData.{form_of};
 ghost use Rattle.tf_model.specs.Limit.{most_machines};
-ghost use Rattle.tf_command.specs.Asking.{form_asked, requested};
-ghost use Rattle.tf_command.specs.Columns.{HasColumns, HasWidth};
-ghost use Rattle.tf_command.specs.FormatAsked.{IsFormatBy, IsSolvedLayoutBy, asked_in_format, csv_format, json_format};
-ghost use Rattle.tf_command.specs.Matched.{AreIdleBy, AreOptionsBy, IsDrawingBy, IsFlagBy};
-ghost use Rattle.tf_command.specs.Matched.{IsFormBy, IsNumberBy, IsToldInstead, columns_fault};
-ghost use Rattle.tf_command.specs.Matched.{explains_by, flow_fault, form_fault, given_of};
-ghost use Rattle.tf_command.specs.Matched.{has_arithmetic, is_latex, lacks, layout_by};
-ghost use Rattle.tf_command.specs.Matched.{machines_fault, most_steps, options_fault, pair_in};
-ghost use Rattle.tf_command.specs.Matched.{steps_fault, wt_fault};
-ghost use Rattle.tf_command.specs.OptionNumber.{numeral_in};
-ghost use Rattle.tf_command.specs.Understood.{HasNoOrder, IsAskedBy, IsOrderBy, input_fault, lacks_options};
+ghost use Rattle.tf_options.specs.Asking.{form_asked, requested};
+ghost use Rattle.tf_options.specs.Columns.{HasColumns, HasWidth};
+ghost use Rattle.tf_options.specs.FormatAsked.{IsFormatBy, IsSolvedLayoutBy, asked_in_format, csv_format, json_format};
+ghost use Rattle.tf_options.specs.Matched.{AreIdleBy, AreOptionsBy, IsDrawingBy, IsFlagBy};
+ghost use Rattle.tf_options.specs.Matched.{IsFormBy, IsNumberBy, IsToldInstead, columns_fault};
+ghost use Rattle.tf_options.specs.Matched.{explains_by, flow_fault, form_fault, given_of};
+ghost use Rattle.tf_options.specs.Matched.{has_arithmetic, is_latex, lacks, layout_by};
+ghost use Rattle.tf_options.specs.Matched.{machines_fault, most_steps, options_fault, pair_in};
+ghost use Rattle.tf_options.specs.Matched.{steps_fault, wt_fault};
+ghost use Rattle.tf_options.specs.OptionNumber.{numeral_in};
+ghost use Rattle.tf_options.specs.Understood.{HasNoOrder, IsAskedBy, IsOrderBy, input_fault, lacks_options};
 
 use crate::format::Format;
 use clap::error::ErrorKind;

@@ -1,14 +1,14 @@
 -- What a command line asks for, by the name of its command and by what clap found of that.
 use Rattle.std.specs.Prelude.{◌≡◌, ℕ, Bool, false, not, ◌&&◌, ◌||◌, List, Option, None, Some, IsTrue, is_some, option_map, codes, if◌then◌else◌}
 use Rattle.std.specs.Str.{bytes_eq}
-use Rattle.tf_command.specs.Matched.{Given, AreOptionsBy, IsDrawingBy, IsFlagBy, IsNumberBy, columns_fault, explains_by, first_fault, has_arithmetic, is_latex, is_word, lacks, most_steps, options_fault, steps_fault}
-use Rattle.tf_command.specs.FormatAsked.{IsSolvedLayoutBy}
-use Rattle.tf_command.specs.declared.options.Asked.{Asked}
-use Rattle.tf_command.specs.declared.options.Asked.TheVariants.{Work, Formatted, Help, Misused, Unfit, NoMemory}
-use Rattle.tf_command.specs.declared.options.OrderSource.{OrderSource}
-use Rattle.tf_command.specs.declared.options.OrderSource.TheVariants.{Given as Written, Named, Drawn}
-use Rattle.tf_command.specs.declared.options.Work.{Work as Asking}
-use Rattle.tf_command.specs.declared.options.Work.TheVariants.{Solve, Bound, Trace, Check, Evaluate, Rate, Gantt, Problems}
+use Rattle.tf_options.specs.Matched.{Given, AreOptionsBy, IsDrawingBy, IsFlagBy, IsNumberBy, columns_fault, explains_by, first_fault, has_arithmetic, is_latex, is_word, lacks, most_steps, options_fault, steps_fault}
+use Rattle.tf_options.specs.FormatAsked.{IsSolvedLayoutBy}
+use Rattle.tf_options.specs.declared.options.Asked.{Asked}
+use Rattle.tf_options.specs.declared.options.Asked.TheVariants.{Work, Formatted, Help, Misused, Unfit, NoMemory}
+use Rattle.tf_options.specs.declared.options.OrderSource.{OrderSource}
+use Rattle.tf_options.specs.declared.options.OrderSource.TheVariants.{Given as Written, Named, Drawn}
+use Rattle.tf_options.specs.declared.options.Work.{Work as Asking}
+use Rattle.tf_options.specs.declared.options.Work.TheVariants.{Solve, Bound, Trace, Check, Evaluate, Rate, Gantt, Problems}
 
 -- the orders that are evaluated: that of `--order`, or those of the text that `--orders` names; or the
 -- pieces of the text that `--schedule` names

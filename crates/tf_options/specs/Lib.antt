@@ -1,0 +1,6 @@
+pub mod OptionNumber
+pub mod Asking
+pub mod Columns
+pub mod Matched
+pub mod FormatAsked
+pub mod Understood
