@@ -4,18 +4,20 @@
     python3 bench/fuzz.py PROGRAM SEED COUNT [PROCESSES]
 
 The seeds are the sessions of crates/test_sessions/data: their command lines and texts. Each case damages one of them, by bytes,
-words, lines and numbers, and is run twice where its command has --explain: without the option and with it. COUNT is the
-number of runs; four processes share them unless PROCESSES says otherwise. A case is made from SEED and its number alone, so
-it can be run again. What is looked for:
+words, lines and numbers, and is run as it is, with --explain where its command has that, and with --json where it has that.
+COUNT is the number of runs; four processes share them unless PROCESSES says otherwise. A case is made from SEED and its number
+alone, so it can be run again. What is looked for:
 
 - a status that is not among the documented ones of its command, a signal, or no end within LIMIT seconds;
 - a byte on standard output with status 2, 3 or 5;
 - a control byte other than a line feed, or a byte that is not ASCII, on standard error;
 - another status or another standard output with --explain than without it;
+- another status with --json than without it, or something else than one JSON object on standard output;
 - a picture that is no well-formed XML.
 """
 import collections
 import glob
+import json
 import multiprocessing
 import os
 import random
@@ -39,6 +41,9 @@ STATUSES = {
 }
 OTHERWISE = {0, 5}  # help, the version, and what is no command
 EXPLAINS = ("solve", "bound", "trace", "check", "evaluate", "gantt")
+FORMATTED = ("solve", "bound", "check", "evaluate", "problems")
+# With these the command line has a format of its own, or none.
+FORMATS = (b"--json", b"--csv", b"--orders", b"--answer", b"--help", b"-h")
 
 NUMBERS = [b"0", b"1", b"-1", b"2", b"007", b"1000", b"1001", b"100000", b"100001", b"200001", b"2147483648", b"4294967295",
            b"4294967296", b"4000000000000000000", b"4000000000000000001", b"-4000000000000000000", b"9223372036854775807",
@@ -50,6 +55,7 @@ PROBLEMS = [b"1||sumC", b"1||sumwC", b"1||Lmax", b"1|prec|Lmax", b"1|rj,prmp|Lma
             b"P2|prmp|Cmax", b"F2||Cmax", b"O2||Cmax", b"F3||Cmax", b"J||Cmax", b"1||sumU", b"", b"1|\x1b[2J|Lmax", b"1||Lm\xc3\xa4x"]
 OPTIONS = [[b"--explain"], [b"--certificate"], [b"--svg"], [b"-c", b"7"], [b"--columns", b"0"], [b"--machines", b"2"],
            [b"--format", b"wt", b"--jobs", b"3"], [b"--format", b"flow", b"--name", b"demo"], [b"--pair", b"0,1"], [b"--answer", b"1"],
+           [b"--json"], [b"--csv"], [b"--order", b"2 1 3"], [b"--orders", b"-"], [b"--schedule", b"-"], [b"--tex"], [b"--steps", b"3"],
            [b"--index", b"2"], [b"--help"], [b"--"], [b"--n\xc3\xb6"], [b"--a\x1b[31m"], [b"-"], [b"n\xc3\xb6\nthreefield: accepted"]]
 
 Case = collections.namedtuple("Case", "words texts")
@@ -143,10 +149,18 @@ def run(program, words, folder, given):
     return Outcome(done.returncode, done.stdout, done.stderr)
 
 
-def faults(words, plain, told):
+def is_object(text):
+    """Whether a text is one JSON object and a line feed."""
+    try:
+        return text.endswith(b"\n") and isinstance(json.loads(text.decode("ascii")), dict)
+    except ValueError:
+        return False
+
+
+def faults(words, plain, told, formatted):
     """What no document allows."""
     allowed = STATUSES.get(words[0].decode("latin-1"), OTHERWISE) if words else OTHERWISE
-    for name, outcome in (("without --explain", plain), ("with --explain", told)):
+    for name, outcome in (("without --explain", plain), ("with --explain", told), ("with --json", formatted)):
         if outcome is None:
             continue
         if outcome.status is None or outcome.status not in allowed:
@@ -157,11 +171,21 @@ def faults(words, plain, told):
             yield f"{name}: a raw byte on standard error: {outcome.said!r}"
     if told is not None and (told.status, told.written) != (plain.status, plain.written):
         yield f"status {plain.status} without --explain and {told.status} with it, or another output"
+    if formatted is not None:
+        if formatted.status != plain.status:
+            yield f"status {plain.status} without --json and {formatted.status} with it"
+        if formatted.written and not is_object(formatted.written):
+            yield f"no JSON object: {formatted.written!r}"
     if plain.status == 0 and plain.written.startswith(b"<"):
         try:
             ElementTree.fromstring(plain.written)
         except ElementTree.ParseError as error:
             yield f"no well-formed XML: {error}"
+
+
+def has_format(words):
+    """Whether a command line says how its output is written, or that no command is run."""
+    return any(word.startswith(option) for word in words for option in FORMATS)
 
 
 def runs_of(part):
@@ -180,9 +204,12 @@ def runs_of(part):
             is_told = any(word.startswith(b"--explain") for word in case.words)
             if case.words and case.words[0].decode("latin-1") in EXPLAINS and not is_told:
                 told = run(program, [case.words[0], b"--explain", *case.words[1:]], folder, given)
-            made += 1 + (told is not None)
+            formatted = None
+            if case.words and case.words[0].decode("latin-1") in FORMATTED and not has_format(case.words):
+                formatted = run(program, [case.words[0], b"--json", *case.words[1:]], folder, given)
+            made += 1 + (told is not None) + (formatted is not None)
             statuses[plain.status] += 1
-            found += [(number, fault, case) for fault in faults(case.words, plain, told)]
+            found += [(number, fault, case) for fault in faults(case.words, plain, told, formatted)]
             for name in case.texts:
                 os.remove(os.path.join(folder, name))
     return made, statuses, found
@@ -190,7 +217,7 @@ def runs_of(part):
 
 def main(program, seed, count, processes="4"):
     program, count = os.path.abspath(program), int(count)
-    cases = count * 10 // 19  # nineteen runs for ten cases, since most have two
+    cases = count * 10 // 26  # 26 runs for ten cases, since most have three
     parts = [(program, seed, range(start, min(start + 250, cases))) for start in range(0, cases, 250)]
     made, statuses, failed = 0, collections.Counter(), 0
     with multiprocessing.Pool(int(processes)) as pool:
