@@ -8,6 +8,7 @@ _threefield() {
     fi
     case $before in
     --format | -f) COMPREPLY=($(compgen -W "table wt flow" -- "$word")); return ;;
+    --size) COMPREPLY=($(compgen -W "a4 a3 16:9" -- "$word")); return ;;
     --answer) COMPREPLY=($(compgen -W "1 2" -- "$word")); return ;;
     esac
     if [[ $word != -* ]]; then
@@ -24,7 +25,7 @@ _threefield() {
     trace) COMPREPLY=($(compgen -W "$instance --tex" -- "$word")) ;;
     check) COMPREPLY=($(compgen -W "$instance --json" -- "$word")) ;;
     evaluate) COMPREPLY=($(compgen -W "$instance --certificate --order --orders --schedule --json --csv" -- "$word")) ;;
-    gantt) COMPREPLY=($(compgen -W "--columns --svg --explain --help" -- "$word")) ;;
+    gantt) COMPREPLY=($(compgen -W "--columns --svg --fold --from --to --width --height --size --explain --help" -- "$word")) ;;
     problems) COMPREPLY=($(compgen -W "--json --help" -- "$word")) ;;
     esac
 }

@@ -8,6 +8,7 @@ use test_runs::growths::{Ended, refuse_each_growth};
 use test_runs::runs::{LAYOUTS, ensure};
 use tf_engine::fault::RunFault;
 use tf_picture::run_picture::run_picture;
+use tf_picture::view::View;
 use tf_text::counted::Counted;
 
 mod texts;
@@ -21,7 +22,7 @@ fn picture_into<A: Allocator + Copy>(
 ) -> Result<(), RunFault<A>> {
     let mut answer = Counted::new(answer);
     let mut writer = Counted::new(out);
-    run_picture(alloc, &mut answer, &mut writer)
+    run_picture(alloc, &View::whole(), &mut answer, &mut writer)
 }
 
 /// The picture of an answer.
@@ -140,7 +141,7 @@ fn picture_on(rt: &HostRuntime, sink: &mut Sink) -> Result<(), RunFault> {
     let mut source = Source::new(IDLE.answer);
     let mut answer = Counted::new(&mut source);
     let mut writer = Counted::new(sink);
-    run_picture(rt.alloc(), &mut answer, &mut writer)
+    run_picture(rt.alloc(), &View::whole(), &mut answer, &mut writer)
 }
 
 fn pictures_on(

@@ -3,6 +3,7 @@ use std::alloc::AllocError;
 use std::test::Fail;
 use tf_options::grammar::command;
 use tf_options::options::{Asked, Drawing, FormOption, Options, Work, understand};
+use tf_picture::view::{Size, View};
 use tf_text::answer::layout::Layout;
 
 fn ensure(is_so: bool, otherwise: &'static str) -> Result<(), Fail> {
@@ -24,7 +25,7 @@ fn words(rt: &HostRuntime, line: &str) -> Result<Vec<String>, AllocError> {
 }
 
 /// Command lines in which a value of an option is not what it takes.
-const UNFIT: [&str; 17] = [
+const UNFIT: [&str; 22] = [
     "solve --problem=P||sumC --machines=0 -",
     "solve --problem=P||sumC --machines=1001 -",
     "solve --problem=P||sumC --machines=+5 -",
@@ -42,10 +43,15 @@ const UNFIT: [&str; 17] = [
     "gantt --columns=0 file",
     "gantt --columns=1001 file",
     "gantt -c -1 file",
+    "gantt --svg --fold 0 file",
+    "gantt --svg --from=-1 file",
+    "gantt --svg --to 4000000000000000001 file",
+    "gantt --svg --width 0 file",
+    "gantt --svg --height 100001 file",
 ];
 
 /// Command lines that are none.
-const MISUSED: [&str; 11] = [
+const MISUSED: [&str; 14] = [
     "",
     "solve file",
     "solve --problem P||sumC",
@@ -57,6 +63,9 @@ const MISUSED: [&str; 11] = [
     "check --answer=1 --problem=P||sumC file -",
     "gantt --answer=1 file",
     "gantt --svg --columns=40 file",
+    "gantt --fold 5 file",
+    "gantt --svg --size a4 --width 5 file",
+    "gantt --svg --size a5 file",
 ];
 
 const HELP: [&str; 5] = ["--help", "help", "help solve", "--version", "solve --help"];
@@ -180,7 +189,7 @@ fn a_line_asks_to_solve_an_instance(rt: HostRuntime) -> Result<(), Fail> {
 }
 
 /// Command lines that ask for a drawing.
-const DRAWN: [(&str, Drawing); 5] = [
+const DRAWN: [(&str, Drawing); 8] = [
     ("gantt file", Drawing::Chart { columns: 72 }),
     ("gantt --columns 1 file", Drawing::Chart { columns: 1 }),
     (
@@ -188,7 +197,42 @@ const DRAWN: [(&str, Drawing); 5] = [
         Drawing::Chart { columns: 1_000 },
     ),
     ("gantt -c 40 file", Drawing::Chart { columns: 40 }),
-    ("gantt --svg file", Drawing::Picture),
+    (
+        "gantt --svg file",
+        Drawing::Picture(View {
+            from: 0,
+            to: None,
+            fold: None,
+            size: Size::Natural,
+        }),
+    ),
+    (
+        "gantt --svg --from 3 --to=9 --fold 2 --width 800 file",
+        Drawing::Picture(View {
+            from: 3,
+            to: Some(9),
+            fold: Some(2),
+            size: Size::Width(800),
+        }),
+    ),
+    (
+        "gantt --svg --height=600 --width 800 file",
+        Drawing::Picture(View {
+            from: 0,
+            to: None,
+            fold: None,
+            size: Size::Pixels(800, 600),
+        }),
+    ),
+    (
+        "gantt --svg --size a3 file",
+        Drawing::Picture(View {
+            from: 0,
+            to: None,
+            fold: None,
+            size: Size::Millimetres(420, 297),
+        }),
+    ),
 ];
 
 #[test]

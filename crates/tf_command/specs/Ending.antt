@@ -89,7 +89,7 @@ pub record EndsChecking (A : Type 0) (request : RequestData) (instance answer wr
 -- what such a drawing is
 abbrev pub drawn_as : Drawing → SheetData → List ℕ → Type 0
 drawn_as (Chart columns) = IsChart columns
-drawn_as Picture = IsPicture
+drawn_as (Picture view) = IsPicture view
 
 pub record EndsDrawing (A : Type 0) (drawing : Drawing) (answer writer : DeviceUse)
     (says : List ℕ → Type 0) (status : ℕ) : Type 0 where

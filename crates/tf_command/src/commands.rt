@@ -559,7 +559,7 @@ pub fn draw<A: Allocator + Copy, R: Read, W: Write>(
 {
     match drawing {
         Drawing::Chart { columns } => run_gantt(alloc, answer, writer, columns),
-        Drawing::Picture => run_picture(alloc, answer, writer),
+        Drawing::Picture(view) => run_picture(alloc, &view, answer, writer),
     }
 }
 

@@ -11,7 +11,7 @@ use Rattle.tf_options.specs.declared.options.Asked.TheVariants.{Work, Formatted}
 -- a chart has some columns, and no more than there is room for
 abbrev pub HasWidth : Drawing → Type 0
 HasWidth (Chart columns) = (1 ≤ columns) × (columns ≤ most_columns)
-HasWidth Picture = Unit {0}
+HasWidth (Picture view) = Unit {0}
 
 -- the same of what is asked for
 abbrev pub IsSized : Asking → Type 0

@@ -2,5 +2,6 @@ pub mod OptionNumber
 pub mod Asking
 pub mod Columns
 pub mod Matched
+pub mod Viewing
 pub mod FormatAsked
 pub mod Understood

@@ -16,8 +16,6 @@ use Rattle.tf_evaluate.specs.declared.evaluation.Detail.TheVariants.{Summary, Wi
 use Rattle.tf_options.specs.OptionNumber.{numeral_in}
 use Rattle.tf_options.specs.declared.options.Asked.{Asked}
 use Rattle.tf_options.specs.declared.options.Asked.TheVariants.{Work, Formatted, Help, Misused, Unfit, NoMemory}
-use Rattle.tf_options.specs.declared.options.Drawing.{Drawing}
-use Rattle.tf_options.specs.declared.options.Drawing.TheVariants.{Chart, Picture}
 use Rattle.tf_options.specs.declared.options.FormOption.{FormOption}
 use Rattle.tf_options.specs.declared.options.FormOption.TheVariants.{Table, Wt, Flow}
 use Rattle.tf_options.specs.declared.options.Idle.{Idle}
@@ -134,13 +132,6 @@ pub record AreOptionsBy (given : Given) (on_terminal : Bool) (options : Options)
   pub form : IsFormBy given options.form
   pub explain : options.telling.explain ≡ explains_by (given.value (codes "explain")) on_terminal
   pub idle : AreIdleBy given options.form options.telling.idle
-
--- a chart of so many columns, unless `--svg` asks for a picture
-abbrev pub IsDrawingBy : Given → Drawing → Type 0
-IsDrawingBy given (Chart columns) =
-    IsFlagBy (given.flag (codes "svg")) false
-    × (number_by given (codes "columns") 1 most_columns ≡ Some columns)
-IsDrawingBy given Picture = IsFlagBy (given.flag (codes "svg")) true
 
 -- ---- the first fault of the options' values, as it is told
 

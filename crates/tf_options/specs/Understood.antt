@@ -1,7 +1,8 @@
 -- What a command line asks for, by the name of its command and by what clap found of that.
 use Rattle.std.specs.Prelude.{◌≡◌, ℕ, Bool, false, not, ◌&&◌, ◌||◌, List, Option, None, Some, IsTrue, is_some, option_map, codes, if◌then◌else◌}
 use Rattle.std.specs.Str.{bytes_eq}
-use Rattle.tf_options.specs.Matched.{Given, AreOptionsBy, IsDrawingBy, IsFlagBy, IsNumberBy, columns_fault, explains_by, first_fault, has_arithmetic, is_latex, is_word, lacks, most_steps, options_fault, steps_fault}
+use Rattle.tf_options.specs.Matched.{Given, AreOptionsBy, IsFlagBy, IsNumberBy, explains_by, first_fault, has_arithmetic, is_latex, is_word, lacks, most_steps, options_fault, steps_fault}
+use Rattle.tf_options.specs.Viewing.{IsDrawingBy, drawing_fault}
 use Rattle.tf_options.specs.FormatAsked.{IsSolvedLayoutBy}
 use Rattle.tf_options.specs.declared.options.Asked.{Asked}
 use Rattle.tf_options.specs.declared.options.Asked.TheVariants.{Work, Formatted, Help, Misused, Unfit, NoMemory}
@@ -121,7 +122,7 @@ own_fault name given =
 
 abbrev pub fault_by : List ℕ → Given → Option (List ℕ)
 fault_by name given =
-    if bytes_eq name (codes "gantt") then columns_fault given
+    if bytes_eq name (codes "gantt") then drawing_fault given
     else (if bytes_eq name (codes "problems") then None
     else first_fault (options_fault given) (own_fault name given))
 

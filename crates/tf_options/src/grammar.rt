@@ -47,7 +47,7 @@ Exit status: 0 best, 1 does not fit, 2 refused, 3 want of memory,
 
 const ABOUT_GANTT: &str = "\
 Example: threefield solve -p \"1||sumC\" table.txt | threefield gantt -c 40
-         threefield gantt --svg answer.txt > answer.svg
+         threefield gantt --svg --fold 50 answer.txt > answer.svg
 
 Exit status: 0 drawn, 2 refused, 3 want of memory,
              4 a file or a device failed, 5 the command line is wrong.";
@@ -64,6 +64,8 @@ static VERSIONS: [&str; 2] = ["1", "2"];
 
 // When an explanation is given: where standard error is a terminal, always or never.
 static EXPLAINED: [&str; 3] = ["auto", "always", "never"];
+
+static SIZES: [&str; 3] = ["a4", "a3", "16:9"];
 
 /// The program's commands.
 pub fn command<'a>(alloc: Global) -> Result<Command<'a>, AllocError> {
@@ -228,13 +230,50 @@ fn gantt_command<'a>(alloc: Global) -> Result<Command<'a>, AllocError> {
     let answer = Arg::new(alloc, "ANSWER")
         .help("The answer: a file, or - for standard input")
         .default_value("-");
-    Command::new(alloc, "gantt")
+    let command = Command::new(alloc, "gantt")
         .about("Draws the schedule of an answer, a line for each machine")
         .after_help(ABOUT_GANTT)
         .arg(columns)?
-        .arg(svg)?
+        .arg(svg)?;
+    with_view_options(alloc, command)?
         .arg(explain(alloc))?
         .arg(answer)
+}
+
+// The command with what a picture shows of a schedule, and how large it is.
+fn with_view_options<'a>(alloc: Global, command: Command<'a>) -> Result<Command<'a>, AllocError> {
+    let fold = of_picture(alloc, "fold", "N", "With --svg: strips of N time steps, one below the other")?;
+    let from = of_picture(alloc, "from", "T", "With --svg: the first time shown")?;
+    let to = of_picture(alloc, "to", "T", "With --svg: the last time shown")?;
+    let width = of_picture(alloc, "width", "PX", "With --svg: the width in pixels")?;
+    let height = of_picture(alloc, "height", "PX", "With --svg: the height in pixels")?;
+    let size = of_picture(alloc, "size", "SIZE", "With --svg: a page, a4 or a3, or a slide, 16:9")?
+        .value_parser(SIZES.as_slice())
+        .hide_possible_values(true)
+        .conflicts_with("width")?
+        .conflicts_with("height")?;
+    command
+        .arg(fold)?
+        .arg(from)?
+        .arg(to)?
+        .arg(width)?
+        .arg(height)?
+        .arg(size)
+}
+
+// An option of a picture.
+fn of_picture<'a>(
+    alloc: Global,
+    name: &'static str,
+    value: &'static str,
+    help: &'static str,
+) -> Result<Arg<'a>, AllocError> {
+    Arg::new(alloc, name)
+        .long(name)
+        .value_name(value)
+        .help(help)
+        .allow_negative_numbers(true)
+        .requires_arg("svg")
 }
 
 fn problems_command<'a>(alloc: Global) -> Result<Command<'a>, AllocError> {

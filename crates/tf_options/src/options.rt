@@ -1,16 +1,17 @@
 //! The command line.
 ghost use Rattle.std.specs.Prelude.{◌≡◌, ◌≤◌, None, Some, false, codes, option_map, IfOk, IfErr, MatchOption};
 ghost use Rattle.tf_engine.specs.FormData.{form_of};
-ghost use Rattle.tf_model.specs.Limit.{most_machines};
+ghost use Rattle.tf_model.specs.Limit.{limit, most_machines};
 ghost use Rattle.tf_options.specs.Asking.{form_asked, requested};
 ghost use Rattle.tf_options.specs.Columns.{HasColumns, HasWidth};
 ghost use Rattle.tf_options.specs.FormatAsked.{IsFormatBy, IsSolvedLayoutBy, asked_in_format, csv_format, json_format};
-ghost use Rattle.tf_options.specs.Matched.{AreIdleBy, AreOptionsBy, IsDrawingBy, IsFlagBy};
-ghost use Rattle.tf_options.specs.Matched.{IsFormBy, IsNumberBy, IsToldInstead, columns_fault};
+ghost use Rattle.tf_options.specs.Matched.{AreIdleBy, AreOptionsBy, IsFlagBy};
+ghost use Rattle.tf_options.specs.Matched.{IsFormBy, IsNumberBy, IsToldInstead};
 ghost use Rattle.tf_options.specs.Matched.{explains_by, flow_fault, form_fault, given_of};
 ghost use Rattle.tf_options.specs.Matched.{has_arithmetic, is_latex, lacks, layout_by};
 ghost use Rattle.tf_options.specs.Matched.{machines_fault, most_steps, options_fault, pair_in};
-ghost use Rattle.tf_options.specs.Matched.{steps_fault, wt_fault};
+ghost use Rattle.tf_options.specs.Matched.{number_by, steps_fault, wt_fault};
+ghost use Rattle.tf_options.specs.Viewing.{IsDrawingBy, IsViewBy, drawing_fault, most_side, number_fault, page_by, sides_fault, size_by, view_fault};
 ghost use Rattle.tf_options.specs.OptionNumber.{numeral_in};
 ghost use Rattle.tf_options.specs.Understood.{HasNoOrder, IsAskedBy, IsOrderBy, input_fault, lacks_options};
 
@@ -23,7 +24,8 @@ use tf_engine::text::Text;
 use tf_evaluate::evaluation::Detail;
 use tf_export::csv::Table;
 use tf_export::documents::Document;
-use tf_model::limit::{MOST_JOBS, MOST_MACHINES};
+use tf_model::limit::{LIMIT, MOST_JOBS, MOST_MACHINES};
+use tf_picture::view::{Size, View};
 use tf_text::answer::layout::Layout;
 use tf_text::chart::MOST_COLUMNS;
 use tf_trace::board::Style;
@@ -129,7 +131,7 @@ pub enum Drawing {
     /// As a chart of letters, in so many columns at most.
     Chart { columns: u32 },
     /// As a picture in SVG.
-    Picture,
+    Picture(View),
 }
 
 /// What a command line that is well formed asks for.
@@ -173,6 +175,15 @@ pub enum Asked<'a> {
 }
 /// The most steps of the search for prices.
 pub const MOST_STEPS: u32 = 1_000_000;
+
+/// The most pixels of a side of a picture.
+pub const MOST_SIDE: u32 = 100_000;
+
+const FROM_TOLD: &str = "--from takes a number from 0 to 4000000000000000000";
+const TO_TOLD: &str = "--to takes a number from 0 to 4000000000000000000";
+const FOLD_TOLD: &str = "--fold takes a number from 1 to 4000000000000000000";
+const WIDTH_TOLD: &str = "--width takes a number from 1 to 100000";
+const HEIGHT_TOLD: &str = "--height takes a number from 1 to 100000";
 
 /// What the words ask for. With `--explain=auto`, the default, it is explained on a terminal.
 pub fn understand<'a>(command: Command<'a>, words: &'a [String], on_terminal: bool) -> Asked<'a>
@@ -427,10 +438,11 @@ fn drawing_in<'a>(given: &ArgMatches<'a>) -> Result<Drawing, Asked<'a>>
     ensures given { IfOk result (IsDrawingBy (given_of given.now)) }
     ensures fault { IfErr result
         (IsToldInstead (lacks (given_of given.now) (codes "columns"))
-        (columns_fault (given_of given.now))) }
+        (drawing_fault (given_of given.now))) }
 {
+    let view = view_in(given)?;
     if given.get_flag("svg") {
-        return Ok(Drawing::Picture);
+        return Ok(Drawing::Picture(view));
     }
     let Some(word) = given.get_str("columns") else {
         return Err(Asked::NoMemory);
@@ -438,6 +450,99 @@ fn drawing_in<'a>(given: &ArgMatches<'a>) -> Result<Drawing, Asked<'a>>
     match number_within(word, 1, MOST_COLUMNS) {
         Some(columns) => Ok(Drawing::Chart { columns }),
         None => Err(Asked::Unfit("--columns takes a number from 1 to 1000")),
+    }
+}
+
+// What a picture shows of a schedule, and how large it is.
+fn view_in<'a>(given: &ArgMatches<'a>) -> Result<View, Asked<'a>>
+    ensures columns { IfErr result HasColumns }
+    ensures given { IfOk result (IsViewBy (given_of given.now)) }
+    ensures unhurt { IfOk result (λ _. view_fault (given_of given.now) ≡ None) }
+    ensures fault { IfErr result (IsToldInstead false (view_fault (given_of given.now))) }
+{
+    let from = time_in(given, "from", 0, FROM_TOLD)?;
+    let to = time_in(given, "to", 0, TO_TOLD)?;
+    let fold = time_in(given, "fold", 1, FOLD_TOLD)?;
+    Ok(View {
+        from: from.unwrap_or(0),
+        to,
+        fold,
+        size: size_in(given)?,
+    })
+}
+
+// The time that an option gives, or the number of time steps, where it is given.
+fn time_in<'a>(
+    given: &ArgMatches<'a>,
+    name: &'static str,
+    least: u32,
+    told: &'static str,
+) -> Result<Option<u64>, Asked<'a>>
+    ensures columns { IfErr result HasColumns }
+    ensures given { IfOk result (λ time. time ≡ number_by (given_of given.now) name.now least limit) }
+    ensures unhurt { IfOk result (λ _. number_fault (given_of given.now) name.now least limit
+        told.now ≡ None) }
+    ensures fault { IfErr result (IsToldInstead false
+        (number_fault (given_of given.now) name.now least limit told.now)) }
+{
+    let Some(word) = given.get_str(name) else {
+        return Ok(None);
+    };
+    match time_within(word, least) {
+        Some(time) => Ok(Some(time)),
+        None => Err(Asked::Unfit(told)),
+    }
+}
+
+// How large a picture is.
+fn size_in<'a>(given: &ArgMatches<'a>) -> Result<Size, Asked<'a>>
+    ensures columns { IfErr result HasColumns }
+    ensures given { IfOk result (λ size. size ≡ size_by (given_of given.now)) }
+    ensures unhurt { IfOk result (λ _. sides_fault (given_of given.now) ≡ None) }
+    ensures fault { IfErr result (IsToldInstead false (sides_fault (given_of given.now))) }
+{
+    let width = side_in(given, "width", WIDTH_TOLD)?;
+    let height = side_in(given, "height", HEIGHT_TOLD)?;
+    Ok(match (page_in(given), width, height) {
+        (Some(size), _, _) => size,
+        (None, Some(width), Some(height)) => Size::Pixels(width, height),
+        (None, Some(width), None) => Size::Width(width),
+        (None, None, Some(height)) => Size::Height(height),
+        (None, None, None) => Size::Natural,
+    })
+}
+
+// The page or slide that is asked for by name.
+fn page_in(given: &ArgMatches<'_>) -> Option<Size>
+    ensures { result ≡ page_by ((given_of given.now).value (codes "size")) }
+{
+    match given.get_str("size") {
+        Some("a4") => Some(Size::Millimetres(297, 210)),
+        Some("a3") => Some(Size::Millimetres(420, 297)),
+        Some("16:9") => Some(Size::Pixels(1_600, 900)),
+        _ => None,
+    }
+}
+
+// The width or height of a picture in pixels, where it is given.
+fn side_in<'a>(
+    given: &ArgMatches<'a>,
+    name: &'static str,
+    told: &'static str,
+) -> Result<Option<u32>, Asked<'a>>
+    ensures columns { IfErr result HasColumns }
+    ensures given { IfOk result (λ side. side ≡ number_by (given_of given.now) name.now 1 most_side) }
+    ensures unhurt { IfOk result (λ _. number_fault (given_of given.now) name.now 1 most_side
+        told.now ≡ None) }
+    ensures fault { IfErr result (IsToldInstead false
+        (number_fault (given_of given.now) name.now 1 most_side told.now)) }
+{
+    let Some(word) = given.get_str(name) else {
+        return Ok(None);
+    };
+    match number_within(word, 1, MOST_SIDE) {
+        Some(side) => Ok(Some(side)),
+        None => Err(Asked::Unfit(told)),
     }
 }
 
@@ -587,6 +692,20 @@ fn number_within(word: &str, least: u32, most: u32) -> Option<u32>
     }
     match number_in(digits, i64::from(least), i64::from(most)) {
         Ranged::Within(n) => Some(n as u32),
+        _ => None,
+    }
+}
+
+// A time of digits alone, from this one on.
+fn time_within(word: &str, least: u32) -> Option<u64>
+    ensures { result ≡ numeral_in least limit word.now }
+{
+    let digits = word.as_bytes();
+    if !is_numeral(digits) {
+        return None;
+    }
+    match number_in(digits, i64::from(least), LIMIT) {
+        Ranged::Within(n) => Some(n as u64),
         _ => None,
     }
 }

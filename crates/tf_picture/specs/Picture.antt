@@ -1,37 +1,25 @@
--- The picture of a schedule: its title and sizes, a row for each machine, an axis of time, and a
--- bar for each piece, to scale and with its numbers. Places and sizes are in hundredths of a pixel.
-use Rattle.std.specs.Prelude.{◌≡◌, ℕ, ◌+◌, ◌-◌, ◌*◌, ◌/◌, ◌%◌, ◌<◌, min, max, ◌&&◌, Bool, nat_le, nat_lt, List, [], ◌∷◌, ◌++◌, codes, length, take, drop, if◌then◌else◌}
-use Rattle.std.specs.List.{flat_map, range_with_len}
+-- The text of a picture: its title and sizes, and in each strip of time a row for each machine, an
+-- axis of time, and a bar for each piece, to scale and with its numbers.
+use Rattle.std.specs.Prelude.{◌≡◌, ℕ, ◌+◌, ◌-◌, ◌*◌, ◌/◌, ◌%◌, ◌<◌, min, max, ◌&&◌, not, Bool, true, false, nat_le, nat_lt, ◌==◌, Option, Some, None, List, [], ◌∷◌, ◌++◌, codes, length, take, drop, if◌then◌else◌}
+use Rattle.std.specs.List.{AllPairs, flat_map, range_with_len}
 use Rattle.std.specs.List.Sorted.{IsPermutation}
 use Rattle.std.specs.Fmt.{decimal, signed_decimal}
 use Rattle.tf_notation.specs.Canonical.{canonical}
 use Rattle.tf_schedule.specs.declared.piece.Piece.{Piece}
-use Rattle.tf_schedule.specs.Piece.{as_time}
+use Rattle.tf_schedule.specs.Piece.{as_time, job_of, machine_of}
+use Rattle.tf_schedule.specs.Schedule.{ComesBeforeBy}
 use Rattle.tf_schedule.specs.Drawing.{greatest_stop}
 use Rattle.tf_text.specs.AnswerText.{SheetData}
+use Rattle.tf_picture.specs.Bars.{bars_of}
+use Rattle.tf_picture.specs.Strips.{across, bar_height, base, bottom, count_of, down, font, height, height_of, shows_time, strip_of, strips_of, top, unit_of, width_of}
+use Rattle.tf_picture.specs.declared.bars.Bar.{Bar}
+use Rattle.tf_picture.specs.declared.frame.Frame.{Frame}
 use Rattle.tf_picture.specs.declared.front.Heading.{Heading}
+use Rattle.tf_picture.specs.declared.strips.Strips.{Strips}
+use Rattle.tf_picture.specs.declared.view.Size.{Size}
+use Rattle.tf_picture.specs.declared.view.View.{View}
 
--- how far to the right a time is, where so many time steps are shown
-abbrev pub across : ℕ → ℕ → ℕ
-across length time = 7000 + time * 106000 / max length 1
-
--- how high a row is, where so many machines are shown
-abbrev pub row_height : ℕ → ℕ
-row_height machines =
-    if nat_le machines 10 then 4000
-    else if nat_le machines 25 then 2800
-    else if nat_le machines 50 then 2000
-    else if nat_le machines 100 then 1400
-    else 1000
-
--- how high a bar is
-abbrev pub bar_height : ℕ → ℕ
-bar_height machines = row_height machines / 5 * 4
-
--- how far down the bars of a machine begin
-abbrev pub top : ℕ → ℕ → ℕ
-top machines machine =
-    8500 + (machine - 1) * row_height machines + row_height machines / 10
+-- ---- the bars of a strip
 
 -- one fill after the other, seven characters each
 abbrev pub fills : List ℕ
@@ -39,11 +27,12 @@ fills =
     codes "#7fb2e5#f2dc7d#e58a7b#cdeac0#b08fd8#ffd8a8#5fb8a5#f7cfe3#d9a441#cfe3f7#a3a3a3"
 
 abbrev pub fill : ℕ → List ℕ
-fill job = take 7 (drop (job % 11 * 7) fills)
+fill number = take 7 (drop (number % 11 * 7) fills)
 
--- a bar that is narrow has no edge, so that its fill is seen
-abbrev pub edge : ℕ → List ℕ
-edge width = if nat_lt width 300 then codes "\" stroke=\"none\">" else codes "\">"
+-- a bar that is narrow has no edge, so that its fill is seen, unless the bar before has its fill
+abbrev pub edge : ℕ → Bool → List ℕ
+edge width edged =
+    if nat_lt width 300 && not edged then codes "\" stroke=\"none\">" else codes "\">"
 
 -- a text and a number behind it
 abbrev pub part : List ℕ → ℕ → List ℕ
@@ -59,42 +48,69 @@ told p =
     ++ codes "</title>"
 
 -- the width of the bar of a piece, unless that is less than the least
-abbrev pub width : ℕ → Piece → ℕ
-width length p = across length (as_time p.stop) - across length (as_time p.start)
+abbrev pub width : Frame → Piece → ℕ
+width f p = across f (as_time p.stop) - across f (as_time p.start)
 
 -- where the bar lies
-abbrev pub place : ℕ → ℕ → Piece → List ℕ
-place machines length p =
-    part (codes "<rect x=\"") (across length (as_time p.start))
-    ++ part (codes "\" y=\"") (top machines p.machine)
-    ++ part (codes "\" width=\"") (max (width length p) 50)
-    ++ part (codes "\" height=\"") (bar_height machines)
+abbrev pub place : Frame → Piece → List ℕ
+place f p =
+    part (codes "<rect x=\"") (across f (as_time p.start))
+    ++ part (codes "\" y=\"") (top f p.machine)
+    ++ part (codes "\" width=\"") (max (width f p) 50)
+    ++ part (codes "\" height=\"") (bar_height f.machines)
 
-unfoldable pub bar : ℕ → ℕ → Piece → List ℕ
-bar machines length p =
-    place machines length p ++ codes "\" fill=\"" ++ fill p.job ++ edge (width length p) ++ told p
-    ++ codes "</rect>\n"
+unfoldable pub bar : Frame → Bar → List ℕ
+bar f b =
+    place f b.piece ++ codes "\" fill=\"" ++ fill b.fill ++ edge (width f b.piece) b.edged
+    ++ told b.piece ++ codes "</rect>\n"
 
--- the bar of a piece on one of the machines 1 to `machines`
-abbrev pub bar_if_shown : ℕ → ℕ → Piece → List ℕ
-bar_if_shown machines length p = if nat_le p.machine machines then bar machines length p else []
+-- the piece is on one of the machines, and some of it lies in the strip
+abbrev pub is_shown : Frame → Piece → Bool
+is_shown f p =
+    nat_le p.machine f.machines && nat_lt (as_time p.start) f.to && nat_lt f.from (as_time p.stop)
 
--- ---- before the bars
+abbrev pub bar_if_shown : Frame → Bar → List ℕ
+bar_if_shown f b = if is_shown f b.piece then bar f b else []
 
--- where the last row ends, and how high the picture is
-abbrev pub bottom : ℕ → ℕ
-bottom machines = 8500 + machines * row_height machines
+-- ---- the lines between the pieces of a job
 
-abbrev pub height : ℕ → ℕ
-height machines = bottom machines + 2500
+-- where the lines meet the bars of a machine: below their numbers
+abbrev pub foot : Frame → ℕ → ℕ
+foot f machine = top f machine + bar_height f.machines * 9 / 10
 
--- how large the numbers in the bars are, and the line on which the numbers of a machine stand
-abbrev pub font : ℕ → ℕ
-font machines = min (row_height machines / 10 * 7) 1300
+-- a line from the end of a piece to the start of the next
+abbrev pub link : Frame → Piece → Piece → List ℕ
+link f p q =
+    part (codes "<line x1=\"") (across f (as_time p.stop))
+    ++ part (codes "\" y1=\"") (foot f p.machine)
+    ++ part (codes "\" x2=\"") (across f (as_time q.start))
+    ++ part (codes "\" y2=\"") (foot f q.machine)
+    ++ codes "\"/>\n"
 
-abbrev pub base : ℕ → ℕ → ℕ
-base machines machine =
-    top machines machine + bar_height machines / 2 + font machines * 9 / 25
+-- they are pieces of one job, both shown, with both ends of the line in the strip
+abbrev pub is_linked : Frame → Piece → Piece → Bool
+is_linked f p q =
+    (p.job == q.job) && is_shown f p && is_shown f q
+    && shows_time f (as_time p.stop) && shows_time f (as_time q.start)
+
+abbrev pub link_if_shown : Frame → Option Piece → Piece → List ℕ
+link_if_shown f None q = []
+link_if_shown f (Some p) q = if is_linked f p q then link f p q else []
+
+unfoldable pub links : Frame → Option Piece → List Piece → List ℕ
+links f before [] = []
+links f before (p ∷ ps) = link_if_shown f before p ++ links f (Some p) ps
+
+-- the pieces by job and start, where a job may be preempted
+pub record IsByJob (pieces sorted : List Piece) : Type 0 where
+  pub kept : IsPermutation pieces sorted
+  pub in_order : AllPairs (ComesBeforeBy job_of) sorted
+
+abbrev pub IsResumed : Bool → List Piece → List Piece → Type 0
+IsResumed true pieces sorted = IsByJob pieces sorted
+IsResumed false pieces sorted = sorted ≡ []
+
+-- ---- before the strips
 
 -- a number that is read, at a place
 abbrev pub label : ℕ → ℕ → ℕ → List ℕ
@@ -116,15 +132,24 @@ abbrev pub title : Heading → List ℕ
 title heading =
     canonical heading.problem ++ codes ", value" ++ 32 ∷ signed_decimal heading.value
 
--- the size of the picture
-abbrev pub opening : ℕ → List ℕ
-opening machines =
+-- the size of the picture that is so many hundredths of a pixel high
+abbrev pub opening : Size → ℕ → List ℕ
+opening size high =
     codes "<svg xmlns=\"http://www.w3.org/2000/svg\""
-    ++ part (codes " role=\"img\" width=\"") 1200
-    ++ part (codes "\" height=\"") (height machines / 100)
+    ++ part (codes " role=\"img\" width=\"") (width_of size high) ++ unit_of size
+    ++ part (codes "\" height=\"") (height_of size high) ++ unit_of size
     ++ part (codes "\" viewBox=\"0 0 ") 120000
-    ++ part (codes " ") (height machines)
+    ++ part (codes " ") high
     ++ codes "\" font-family=\"sans-serif\">\n"
+
+-- the hatching of idle time
+abbrev pub hatching : List ℕ
+hatching =
+    codes "<defs><pattern id=\"idle\" width=\"500\" height=\"500\""
+    ++ codes " patternUnits=\"userSpaceOnUse\" patternTransform=\"rotate(45)\">"
+    ++ codes "<rect width=\"500\" height=\"500\" fill=\"#fdfdfd\"/>"
+    ++ codes "<rect width=\"90\" height=\"500\" fill=\"#cccccc\"/>"
+    ++ codes "</pattern></defs>\n"
 
 -- its title, for a reader who points at the picture and, on white, for all
 abbrev pub titles : List ℕ → List ℕ
@@ -142,98 +167,141 @@ sizes heading length =
     ++ part (codes ", length ") length
     ++ codes "</text>\n"
 
--- the row of a machine
-abbrev pub row : ℕ → ℕ → List ℕ
-row machines machine =
+-- all that comes before the strips
+unfoldable pub front : Heading → Size → Strips → List ℕ
+front heading size strips =
+    opening size (height strips) ++ hatching ++ titles (title heading)
+    ++ sizes heading strips.last
+
+-- ---- the rows and the axis of a strip
+
+-- the row of a machine, as far as the strip goes
+abbrev pub row : Frame → ℕ → List ℕ
+row f machine =
     part (codes "<rect x=\"") 7000
-    ++ part (codes "\" y=\"") (top machines machine)
-    ++ part (codes "\" width=\"") 106000
-    ++ part (codes "\" height=\"") (bar_height machines)
+    ++ part (codes "\" y=\"") (top f machine)
+    ++ part (codes "\" width=\"") (max (across f f.to - 7000) 50)
+    ++ part (codes "\" height=\"") (bar_height f.machines)
     ++ codes "\"/>\n"
 
 -- a row for each machine, and its number
-abbrev pub number : ℕ → ℕ → List ℕ
-number machines machine = label 6200 (base machines machine) machine
+abbrev pub number : Frame → ℕ → List ℕ
+number f machine = label 6200 (base f machine) machine
 
-abbrev pub rows : ℕ → List ℕ
-rows machines =
-    codes "<g fill=\"#fafafa\" stroke=\"#bbbbbb\" stroke-width=\"50\">\n"
-    ++ flat_map (row machines) (range_with_len 1 machines)
-    ++ part (codes "</g>\n<g text-anchor=\"end\" font-size=\"") (font machines)
+abbrev pub rows : Frame → List ℕ
+rows f =
+    codes "<g fill=\"url(#idle)\" stroke=\"#bbbbbb\" stroke-width=\"50\">\n"
+    ++ flat_map (row f) (range_with_len 1 f.machines)
+    ++ part (codes "</g>\n<g text-anchor=\"end\" font-size=\"") (font f.machines)
     ++ codes "\">\n"
-    ++ flat_map (number machines) (range_with_len 1 machines)
-    ++ codes "<text x=\"5800\" y=\"7800\" font-size=\"1100\">machine</text>\n"
-    ++ part (codes "<text x=\"5800\" y=\"") (bottom machines + 1500)
+    ++ flat_map (number f) (range_with_len 1 f.machines)
+    ++ part (codes "<text x=\"5800\" y=\"") (down f - 700)
+    ++ codes "\" font-size=\"1100\">machine</text>\n"
+    ++ part (codes "<text x=\"5800\" y=\"") (bottom f + 1500)
     ++ codes "\" font-size=\"1100\">time</text>\n</g>\n"
 
 -- a line through all rows at a time, and the time above and below them
-abbrev pub line : ℕ → ℕ → ℕ → List ℕ
-line machines length time =
-    part (codes "<line x1=\"") (across length time)
-    ++ part (codes "\" y1=\"") 8100
-    ++ part (codes "\" x2=\"") (across length time)
-    ++ part (codes "\" y2=\"") (bottom machines + 300)
+abbrev pub line : Frame → ℕ → List ℕ
+line f time =
+    part (codes "<line x1=\"") (across f time)
+    ++ part (codes "\" y1=\"") (down f - 400)
+    ++ part (codes "\" x2=\"") (across f time)
+    ++ part (codes "\" y2=\"") (bottom f + 300)
     ++ codes "\"/>\n"
 
-abbrev pub time_labels : ℕ → ℕ → ℕ → List ℕ
-time_labels machines length time =
-    label (across length time) 7800 time
-    ++ label (across length time) (bottom machines + 1500) time
+abbrev pub time_labels : Frame → ℕ → List ℕ
+time_labels f time =
+    label (across f time) (down f - 700) time ++ label (across f time) (bottom f + 1500) time
 
-abbrev pub line_at : ℕ → ℕ → ℕ → ℕ → List ℕ
-line_at machines length step n = line machines length (n * step)
+-- the time lies in the strip, and leaves room for the number of the last stop
+abbrev pub is_marked : Frame → ℕ → ℕ → Bool
+is_marked f step time =
+    shows_time f time
+    && not (shows_time f f.last && nat_lt (max time f.last - min time f.last) (step - step / 3))
 
-abbrev pub time_labels_at : ℕ → ℕ → ℕ → ℕ → List ℕ
-time_labels_at machines length step n = time_labels machines length (n * step)
+abbrev pub line_at : Frame → ℕ → ℕ → List ℕ
+line_at f step n = if is_marked f step (n * step) then line f (n * step) else []
 
--- a line and its time at each multiple of a step
-abbrev pub axis : ℕ → ℕ → ℕ → List ℕ
-axis machines length step =
+abbrev pub time_labels_at : Frame → ℕ → ℕ → List ℕ
+time_labels_at f step n = if is_marked f step (n * step) then time_labels f (n * step) else []
+
+-- each multiple of a step from the first time to the last
+abbrev pub multiples : Frame → ℕ → List ℕ
+multiples f step = range_with_len (f.from / step) (f.to / step + 1 - f.from / step)
+
+-- a darker line and a bold number at the last stop
+abbrev pub last_mark : Frame → List ℕ
+last_mark f =
+    codes "<g stroke=\"#555555\" stroke-width=\"100\">\n" ++ line f f.last
+    ++ codes "</g>\n<g font-size=\"1100\" font-weight=\"bold\""
+    ++ codes " text-anchor=\"middle\">\n"
+    ++ time_labels f f.last ++ codes "</g>\n"
+
+abbrev pub end_mark : Frame → List ℕ
+end_mark f = if shows_time f f.last then last_mark f else []
+
+-- a line and its time at each multiple of a step, and the last stop
+abbrev pub axis : Frame → ℕ → List ℕ
+axis f step =
     codes "<g stroke=\"#bbbbbb\" stroke-width=\"50\">\n"
-    ++ flat_map (line_at machines length step) (range_with_len 0 (length / step + 1))
+    ++ flat_map (line_at f step) (multiples f step)
     ++ codes "</g>\n<g font-size=\"1100\" text-anchor=\"middle\">\n"
-    ++ flat_map (time_labels_at machines length step) (range_with_len 0 (length / step + 1))
-    ++ codes "</g>\n"
+    ++ flat_map (time_labels_at f step) (multiples f step)
+    ++ codes "</g>\n" ++ end_mark f
 
--- all that comes before the bars
-unfoldable pub front : Heading → ℕ → ℕ → List ℕ
-front heading length step =
-    opening heading.machines ++ titles (title heading) ++ sizes heading length
-    ++ rows heading.machines ++ axis heading.machines length step
-    ++ codes "<g stroke=\"#222222\" stroke-width=\"60\">\n"
-
--- ---- behind the bars
+-- ---- the numbers in the bars
 
 abbrev pub digits_of : ℕ → ℕ
 digits_of number = length (decimal number)
 
 -- the job's number is less wide than the bar
-abbrev pub has_room : ℕ → ℕ → Piece → Bool
-has_room machines length p =
-    nat_le (digits_of p.job * font machines * 13 / 20 + 300) (width length p)
+abbrev pub has_room : Frame → Piece → Bool
+has_room f p =
+    nat_le (digits_of p.job * font f.machines * 13 / 20 + 300) (width f p)
 
 -- the job's number in the bar of a piece, where it has room
-abbrev pub number_if_shown : ℕ → ℕ → Piece → List ℕ
-number_if_shown machines length p =
-    if nat_le p.machine machines && has_room machines length p
-    then label ((across length (as_time p.start) + across length (as_time p.stop)) / 2)
-    (base machines p.machine) p.job
+abbrev pub number_if_shown : Frame → Bar → List ℕ
+number_if_shown f b =
+    if is_shown f b.piece && has_room f b.piece
+    then label ((across f (as_time b.piece.start) + across f (as_time b.piece.stop)) / 2)
+    (base f b.piece.machine) b.piece.job
     else []
 
-abbrev pub behind : ℕ → ℕ → List Piece → List ℕ
-behind machines length pieces =
-    part (codes "</g>\n<g text-anchor=\"middle\" font-size=\"") (font machines)
-    ++ codes "\" pointer-events=\"none\">\n"
-    ++ flat_map (number_if_shown machines length) pieces
-    ++ codes "</g>\n</svg>\n"
+-- ---- the whole
 
--- The sheet's picture: each piece on one of its machines has its bar, in some order, before an axis
--- in steps of some length.
-pub record IsPicture (sheet : SheetData) (out : List ℕ) : Type 0 where
+-- the strip with the bars, the lines between the pieces of a job, and the jobs' numbers
+unfoldable pub strip : ℕ → List Bar → List Piece → Frame → List ℕ
+strip step bars resumed f =
+    rows f ++ axis f step
+    ++ codes "<g stroke=\"#222222\" stroke-width=\"60\">\n"
+    ++ flat_map (bar_if_shown f) bars
+    ++ codes "</g>\n<g stroke=\"#222222\" stroke-width=\"70\""
+    ++ codes " stroke-dasharray=\"300 200\">\n"
+    ++ links f None resumed
+    ++ part (codes "</g>\n<g text-anchor=\"middle\" font-size=\"") (font f.machines)
+    ++ codes "\" pointer-events=\"none\">\n"
+    ++ flat_map (number_if_shown f) bars
+    ++ codes "</g>\n"
+
+abbrev pub strip_at : ℕ → List Bar → List Piece → Strips → ℕ → List ℕ
+strip_at step bars resumed strips n = strip step bars resumed (strip_of strips n)
+
+abbrev pub all_strips : ℕ → List Bar → List Piece → Strips → List ℕ
+all_strips step bars resumed strips =
+    flat_map (strip_at step bars resumed strips) (range_with_len 0 (count_of strips))
+
+-- The sheet's picture in a view: the pieces by machine and start, in strips with an axis in steps of
+-- some length.
+pub record IsPicture (view : View) (sheet : SheetData) (out : List ℕ) : Type 0 where
   pub pieces : List Piece
   pub kept : IsPermutation sheet.answer.pieces pieces
+  pub in_order : AllPairs (ComesBeforeBy machine_of) pieces
+  pub resumed : List Piece
+  pub by_job : IsResumed sheet.problem.prmp pieces resumed
   pub step : ℕ
   pub positive : 0 < step
-  pub text : out ≡ front (heading_of sheet) (greatest_stop pieces) step
-      ++ flat_map (bar_if_shown sheet.machines (greatest_stop pieces)) pieces
-      ++ behind sheet.machines (greatest_stop pieces) pieces
+  pub text : out ≡ front (heading_of sheet) view.size
+      (strips_of view sheet.machines (greatest_stop pieces))
+      ++ all_strips step (bars_of None pieces) resumed
+      (strips_of view sheet.machines (greatest_stop pieces))
+      ++ codes "</svg>\n"

@@ -1,40 +1,41 @@
 //! The axis of time.
-ghost use Rattle.std.specs.Prelude.{◌≡◌, ◌+◌, ◌*◌, ◌/◌, ◌<◌, ◌≤◌, ◌++◌, OnOk};
-ghost use Rattle.std.specs.List.{flat_map, range_with_len};
-ghost use Rattle.tf_picture.specs.Picture.{axis, line, line_at, time_labels, time_labels_at};
+ghost use Rattle.std.specs.Prelude.{◌≡◌, ◌*◌, ◌/◌, ◌<◌, ◌≤◌, ◌++◌, OnOk};
+ghost use Rattle.std.specs.List.{flat_map};
+ghost use Rattle.tf_picture.specs.Picture.{axis, end_mark, is_marked, last_mark, line, line_at, multiples, time_labels, time_labels_at};
 
-use crate::frame::{Frame, SPAN, TOP};
+use crate::frame::{Frame, SPAN};
+use crate::strips::Strips;
 use crate::writing::{push_label, push_part};
 use itoa::Buffer;
 use std::alloc::Allocator;
 use tf_model::memory::OutOfMemory;
 
 /// The round number of time steps from one line of the axis to the next.
-pub fn step_of(frame: &Frame) -> u64
+pub fn step_of(strips: &Strips) -> u64
     ensures { 0 < result }
 {
-    round_step(frame.length, most_steps(frame.length))
+    round_step(strips.length, most_steps(strips.to))
 }
 
-/// Adds a line through all rows for each multiple of a step, with its time above and below.
+/// Adds a line through all rows for each multiple of a step, with its time above and below, and one
+/// for the last stop.
 pub fn push_axis<A: Allocator>(
     text: &mut Vec<u8, A>,
     frame: &Frame,
     step: u64,
 ) -> Result<(), OutOfMemory>
     requires { 0 < step }
-    ensures { OnOk result (text.new.items
-        ≡ text.old.items ++ axis frame.now.machines frame.now.length step) }
+    ensures { OnOk result (text.new.items ≡ text.old.items ++ axis frame.now step) }
 {
     text.extend_from_slice(b"<g stroke=\"#bbbbbb\" stroke-width=\"50\">\n")?;
     push_lines(text, frame, step)?;
     text.extend_from_slice(b"</g>\n<g font-size=\"1100\" text-anchor=\"middle\">\n")?;
     push_times(text, frame, step)?;
     text.extend_from_slice(b"</g>\n")?;
-    Ok(())
+    push_end(text, frame)
 }
 
-#[tactic(auto, using(crate::proofs::Texts::each_more))]
+#[tactic(auto, using(crate::proofs::Texts::each_later))]
 fn push_lines<A: Allocator>(
     text: &mut Vec<u8, A>,
     frame: &Frame,
@@ -42,16 +43,15 @@ fn push_lines<A: Allocator>(
 ) -> Result<(), OutOfMemory>
     requires { 0 < step }
     ensures { OnOk result (text.new.items ≡ text.old.items
-        ++ flat_map (line_at frame.now.machines frame.now.length step)
-        (range_with_len 0 (frame.now.length / step + 1))) }
+        ++ flat_map (line_at frame.now step) (multiples frame.now step)) }
 {
-    for k in 0..=frame.length / step {
-        push_line(text, frame, time_at(frame, step, k))?;
+    for n in frame.from / step..=frame.to / step {
+        push_line_at(text, frame, step, n)?;
     }
     Ok(())
 }
 
-#[tactic(auto, using(crate::proofs::Texts::each_more))]
+#[tactic(auto, using(crate::proofs::Texts::each_later))]
 fn push_times<A: Allocator>(
     text: &mut Vec<u8, A>,
     frame: &Frame,
@@ -59,11 +59,44 @@ fn push_times<A: Allocator>(
 ) -> Result<(), OutOfMemory>
     requires { 0 < step }
     ensures { OnOk result (text.new.items ≡ text.old.items
-        ++ flat_map (time_labels_at frame.now.machines frame.now.length step)
-        (range_with_len 0 (frame.now.length / step + 1))) }
+        ++ flat_map (time_labels_at frame.now step) (multiples frame.now step)) }
 {
-    for k in 0..=frame.length / step {
-        push_time(text, frame, time_at(frame, step, k))?;
+    for n in frame.from / step..=frame.to / step {
+        push_time_at(text, frame, step, n)?;
+    }
+    Ok(())
+}
+
+fn push_line_at<A: Allocator>(
+    text: &mut Vec<u8, A>,
+    frame: &Frame,
+    step: u64,
+    n: u64,
+) -> Result<(), OutOfMemory>
+    requires positive { 0 < step }
+    requires within { n ≤ frame.now.to / step }
+    ensures { OnOk result (text.new.items ≡ text.old.items ++ line_at frame.now step n) }
+{
+    let time = time_at(frame, step, n);
+    if is_marked(frame, step, time) {
+        return push_line(text, frame, time);
+    }
+    Ok(())
+}
+
+fn push_time_at<A: Allocator>(
+    text: &mut Vec<u8, A>,
+    frame: &Frame,
+    step: u64,
+    n: u64,
+) -> Result<(), OutOfMemory>
+    requires positive { 0 < step }
+    requires within { n ≤ frame.now.to / step }
+    ensures { OnOk result (text.new.items ≡ text.old.items ++ time_labels_at frame.now step n) }
+{
+    let time = time_at(frame, step, n);
+    if is_marked(frame, step, time) {
+        return push_time(text, frame, time);
     }
     Ok(())
 }
@@ -71,11 +104,40 @@ fn push_times<A: Allocator>(
 // The time after so many steps.
 fn time_at(frame: &Frame, step: u64, steps: u64) -> u64
     requires positive { 0 < step }
-    requires within { steps ≤ frame.now.length / step }
+    requires within { steps ≤ frame.now.to / step }
     ensures value { result ≡ steps * step }
-    ensures within { result ≤ frame.now.length }
 {
     steps * step
+}
+
+// Whether a time lies in the strip and leaves room for the number of the last stop.
+fn is_marked(frame: &Frame, step: u64, time: u64) -> bool
+    ensures { result ≡ is_marked frame.now step time }
+{
+    let gap = time.max(frame.last) - time.min(frame.last);
+    frame.shows_time(time) && !(frame.shows_time(frame.last) && gap < step - step / 3)
+}
+
+// A darker line and a bold number at the last stop.
+fn push_end<A: Allocator>(text: &mut Vec<u8, A>, frame: &Frame) -> Result<(), OutOfMemory>
+    ensures { OnOk result (text.new.items ≡ text.old.items ++ end_mark frame.now) }
+{
+    if frame.shows_time(frame.last) {
+        return push_end_mark(text, frame);
+    }
+    Ok(())
+}
+
+fn push_end_mark<A: Allocator>(text: &mut Vec<u8, A>, frame: &Frame) -> Result<(), OutOfMemory>
+    ensures { OnOk result (text.new.items ≡ text.old.items ++ last_mark frame.now) }
+{
+    text.extend_from_slice(b"<g stroke=\"#555555\" stroke-width=\"100\">\n")?;
+    push_line(text, frame, frame.last)?;
+    text.extend_from_slice(b"</g>\n<g font-size=\"1100\" font-weight=\"bold\"")?;
+    text.extend_from_slice(b" text-anchor=\"middle\">\n")?;
+    push_time(text, frame, frame.last)?;
+    text.extend_from_slice(b"</g>\n")?;
+    Ok(())
 }
 
 fn push_line<A: Allocator>(
@@ -83,12 +145,10 @@ fn push_line<A: Allocator>(
     frame: &Frame,
     time: u64,
 ) -> Result<(), OutOfMemory>
-    requires { time ≤ frame.now.length }
-    ensures { OnOk result (text.new.items
-        ≡ text.old.items ++ line frame.now.machines frame.now.length time) }
+    ensures { OnOk result (text.new.items ≡ text.old.items ++ line frame.now time) }
 {
     push_part(text, b"<line x1=\"", frame.across(time))?;
-    push_part(text, b"\" y1=\"", TOP - 400)?;
+    push_part(text, b"\" y1=\"", frame.down() - 400)?;
     push_part(text, b"\" x2=\"", frame.across(time))?;
     push_part(text, b"\" y2=\"", frame.bottom() + 300)?;
     text.extend_from_slice(b"\"/>\n")?;
@@ -100,11 +160,9 @@ fn push_time<A: Allocator>(
     frame: &Frame,
     time: u64,
 ) -> Result<(), OutOfMemory>
-    requires { time ≤ frame.now.length }
-    ensures { OnOk result (text.new.items
-        ≡ text.old.items ++ time_labels frame.now.machines frame.now.length time) }
+    ensures { OnOk result (text.new.items ≡ text.old.items ++ time_labels frame.now time) }
 {
-    push_label(text, frame.across(time), TOP - 700, time)?;
+    push_label(text, frame.across(time), frame.down() - 700, time)?;
     push_label(text, frame.across(time), frame.bottom() + 1_500, time)
 }
 

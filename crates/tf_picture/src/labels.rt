@@ -2,10 +2,12 @@
 ghost use Rattle.std.specs.Prelude.{◌≡◌, ◌+◌, ◌/◌, ◌≤◌, ◌++◌, OnOk};
 ghost use Rattle.std.specs.List.{All, flat_map};
 ghost use Rattle.tf_schedule.specs.Piece.{as_time};
-ghost use Rattle.tf_picture.specs.Picture.{across, base, has_room, label, number_if_shown};
-ghost use Rattle.tf_picture.specs.Within.{LiesWithin};
+ghost use Rattle.tf_schedule.specs.Schedule.{IsPiece};
+ghost use Rattle.tf_picture.specs.Picture.{has_room, label, number_if_shown};
+ghost use Rattle.tf_picture.specs.Sound.{HasPiece};
+ghost use Rattle.tf_picture.specs.Strips.{across, base};
 
-use crate::bars::width;
+use crate::bars::{Bar, is_shown, width};
 use crate::frame::Frame;
 use crate::writing::push_label;
 use itoa::Buffer;
@@ -13,18 +15,18 @@ use std::alloc::Allocator;
 use tf_model::memory::OutOfMemory;
 use tf_schedule::piece::Piece;
 
-/// Adds the job's number for each piece on a machine of the frame whose bar has room for it.
+/// Adds the job's number for each bar that the frame shows and that has room for it.
 pub fn push_labels<A: Allocator>(
     text: &mut Vec<u8, A>,
     frame: &Frame,
-    pieces: &[Piece],
+    bars: &[Bar],
 ) -> Result<(), OutOfMemory>
-    requires { All (LiesWithin frame.now.length) pieces.now }
+    requires { All HasPiece bars.now }
     ensures { OnOk result (text.new.items ≡ text.old.items
-        ++ flat_map (number_if_shown frame.now.machines frame.now.length) pieces.now) }
+        ++ flat_map (number_if_shown frame.now) bars.now) }
 {
-    for piece in pieces {
-        push_if_shown(text, frame, piece)?;
+    for bar in bars {
+        push_if_shown(text, frame, bar)?;
     }
     Ok(())
 }
@@ -32,14 +34,14 @@ pub fn push_labels<A: Allocator>(
 fn push_if_shown<A: Allocator>(
     text: &mut Vec<u8, A>,
     frame: &Frame,
-    piece: &Piece,
+    bar: &Bar,
 ) -> Result<(), OutOfMemory>
-    requires { LiesWithin frame.now.length piece.now }
+    requires { HasPiece bar.now }
     ensures { OnOk result (text.new.items ≡ text.old.items
-        ++ number_if_shown frame.now.machines frame.now.length piece.now) }
+        ++ number_if_shown frame.now bar.now) }
 {
-    if piece.machine.get() <= frame.machines && has_room(frame, piece) {
-        return push_job(text, frame, piece);
+    if is_shown(frame, &bar.piece) && has_room(frame, &bar.piece) {
+        return push_job(text, frame, &bar.piece);
     }
     Ok(())
 }
@@ -49,11 +51,11 @@ fn push_job<A: Allocator>(
     frame: &Frame,
     piece: &Piece,
 ) -> Result<(), OutOfMemory>
-    requires { LiesWithin frame.now.length piece.now }
+    requires { IsPiece piece.now }
     ensures { OnOk result (text.new.items ≡ text.old.items
-        ++ label ((across frame.now.length (as_time piece.now.start)
-        + across frame.now.length (as_time piece.now.stop)) / 2)
-        (base frame.now.machines piece.now.machine) piece.now.job) }
+        ++ label ((across frame.now (as_time piece.now.start)
+        + across frame.now (as_time piece.now.stop)) / 2)
+        (base frame.now piece.now.machine) piece.now.job) }
 {
     let from = frame.across(piece.start as u64);
     let to = frame.across(piece.stop as u64);
@@ -63,8 +65,8 @@ fn push_job<A: Allocator>(
 
 // Whether the job's number is less wide than the bar.
 fn has_room(frame: &Frame, piece: &Piece) -> bool
-    requires { LiesWithin frame.now.length piece.now }
-    ensures { result ≡ has_room frame.now.machines frame.now.length piece.now }
+    requires { IsPiece piece.now }
+    ensures { result ≡ has_room frame.now piece.now }
 {
     let mut digits = Buffer::new();
     let wide = digits.format(piece.job.get()).len() as u64 * frame.font() * 13 / 20 + 300;

@@ -7,6 +7,7 @@ ghost use Rattle.tf_picture.specs.Picture.{IsPicture};
 
 use crate::front::Heading;
 use crate::picture::picture;
+use crate::view::View;
 use std::alloc::Allocator;
 use std::io::{Read, Write};
 use tf_engine::fault::RunFault;
@@ -14,7 +15,7 @@ use tf_engine::schedule_said::schedule_said;
 use tf_engine::sheet_read::sheet_read;
 use tf_text::counted::Counted;
 
-/// Reads an answer to its end and writes a picture of its schedule, as SVG.
+/// Reads an answer to its end and writes a picture of its schedule in this view, as SVG.
 ///
 /// The picture has a row for each machine that the answer names as its number of machines. Neither
 /// the fit nor the certificate is judged. The refusals are those of
@@ -23,10 +24,11 @@ use tf_text::counted::Counted;
 /// picture may have been.
 pub fn run_picture<A: Allocator + Copy, R: Read, W: Write>(
     alloc: A,
+    view: &View,
     reader: &mut Counted<R>,
     writer: &mut Counted<W>,
 ) -> Result<(), RunFault<A>>
-    ensures outcome { IsDrawingOf IsPicture (use_of R.remaining reader.old reader.new)
+    ensures outcome { IsDrawingOf (IsPicture view.now) (use_of R.remaining reader.old reader.new)
         (use_of W.contents writer.old writer.new) result }
     ensures devices { LeavesDrawing R.remaining reader.old reader.new writer.old writer.new
         (end_of result) }
@@ -34,7 +36,7 @@ pub fn run_picture<A: Allocator + Copy, R: Read, W: Write>(
     let sheet = sheet_read(alloc, reader)?;
     let heading = Heading::of(&sheet);
     let schedule = schedule_said(sheet)?;
-    let text = picture(alloc, &heading, &schedule)?;
+    let text = picture(alloc, view, &heading, &schedule)?;
     writer.push_all(text.as_slice())?;
     Ok(())
 }

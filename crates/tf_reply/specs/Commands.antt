@@ -2,6 +2,7 @@
 -- memory from.
 use Rattle.std.specs.Prelude.{ℕ, List}
 use Rattle.tf_text.specs.declared.answer.layout.Layout.TheVariants.{Two}
+use Rattle.tf_picture.specs.Strips.{whole}
 use Rattle.tf_options.specs.declared.options.Drawing.TheVariants.{Chart, Picture}
 use Rattle.tf_command.specs.Ending.{EndsSolving, EndsBounding, EndsChecking, EndsEvaluating, EndsDrawing}
 use Rattle.tf_reply.specs.declared.asking.Asking.{Asking}
@@ -41,4 +42,4 @@ Draws A asking answer =
 
 -- no request for a picture is malformed
 abbrev pub Pictures : Type 0 → List ℕ → Outcome
-Pictures A answer = IsOver (EndsDrawing A Picture) answer
+Pictures A answer = IsOver (EndsDrawing A (Picture whole)) answer

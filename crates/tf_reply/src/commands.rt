@@ -21,6 +21,7 @@ use tf_engine::run_check::run_check;
 use tf_engine::run_solve::run_solve;
 use tf_evaluate::evaluation::Detail;
 use tf_model::instance::Instance;
+use tf_picture::view::View;
 use tf_text::answer::layout::Layout;
 use tf_text::counted::Counted;
 
@@ -169,7 +170,7 @@ pub fn gantt<A: Allocator + Copy>(
 pub fn picture<A: Allocator + Copy>(alloc: A, answer: &[u8]) -> Result<Reply<A>, AllocError>
     ensures { IfOk result (Replies (Pictures A answer.now)) }
 {
-    drawn(alloc, Drawing::Picture, answer)
+    drawn(alloc, Drawing::Picture(View::whole()), answer)
 }
 
 #[tactic(auto, using(crate::proofs::Said::whole))]
