@@ -13,7 +13,9 @@ ghost use Rattle.tf_schedule.specs.Claims.{JobsOnce};
 ghost use Rattle.tf_schedule.specs.Condition.{FindsSmallestNot, IsMet, StartsAfter, is_asked};
 ghost use Rattle.tf_schedule.specs.Drawing.{Draws, drawing};
 ghost use Rattle.tf_schedule.specs.Lanes.{HasLanes};
-ghost use Rattle.tf_schedule.specs.Misfit.{IsFirstNot, IsKnown, HasFirstMisfit};
+ghost use Rattle.tf_schedule.specs.Misfit.{EachJob, IsFirstNot, IsKnown, HasFirstMisfit};
+ghost use Rattle.tf_schedule.specs.declared.fit.Condition.{Condition};
+ghost use Rattle.tf_schedule.specs.declared.fit.Condition.TheVariants.{Whole, InFlow};
 ghost use Rattle.tf_schedule.specs.declared.fit.Misfit.TheVariants.{OutOfMemory};
 
 use crate::judge::{Judged, judge};
@@ -135,6 +137,12 @@ fn judge_jobs<A: Allocator, B: Allocator>(
     ensures { MatchResult result (λ _. Fits task.now (drawing task.now.machines pieces.now))
         (HasFirstMisfit task.now pieces.now) }
 {
+    if are_all_met(task, lanes) {
+        return match first_out_of_order(task.arcs(), lanes) {
+            Some((before, after)) => Err(Misfit::OutOfOrder(before, after)),
+            None => Ok(()),
+        };
+    }
     if let Some(job) = first_unmet(task, lanes, Condition::Amount) {
         return Err(Misfit::WrongAmount(job));
     }
@@ -204,6 +212,45 @@ impl Condition {
             Condition::InFlow => first.stop <= second.start,
         }
     }
+}
+
+// Whether each job meets all that the class asks for, in one walk over the jobs.
+fn are_all_met<A: Allocator, B: Allocator>(task: &Task<A>, lanes: &Lanes<B>) -> bool
+    ensures { IsTrue result → (c : Condition) → IsTrue (is_asked c task.now.class) →
+        EachJob (length task.now.jobs) (IsMet c task.now lanes.now) }
+{
+    let whole = Condition::Whole.is_asked(task.class());
+    let in_flow = Condition::InFlow.is_asked(task.class());
+    for k in 0..task.len() {
+        if !meets(task, lanes, JobId::at(k), whole, in_flow) {
+            return false;
+        }
+    }
+    true
+}
+
+// Whether a job meets them, where the class may ask for two of them.
+fn meets<A: Allocator, B: Allocator>(
+    task: &Task<A>,
+    lanes: &Lanes<B>,
+    job: JobId,
+    whole: bool,
+    in_flow: bool,
+) -> bool
+    requires job { IsJob task.now job }
+    requires whole { whole ≡ is_asked Whole task.now.class }
+    requires in_flow { in_flow ≡ is_asked InFlow task.now.class }
+    ensures { IsTrue result → (c : Condition) → IsTrue (is_asked c task.now.class) →
+        IsMet c task.now lanes.now job }
+{
+    let row = task.job(job);
+    let first = lanes.first(job);
+    let second = lanes.second(job);
+    first.work == row.first
+        && second.work == row.second
+        && row.release <= first.start
+        && (!whole || (first.is_solid() && second.is_solid()))
+        && (!in_flow || first.stop <= second.start)
 }
 
 // The smallest job that does not meet the condition, where the class asks for it.
