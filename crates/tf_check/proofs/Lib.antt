@@ -4,8 +4,8 @@ pub mod JobLists
 pub mod NoFault
 pub mod Verdicts
 pub mod RatioOrder
+pub mod RatioRank
 pub mod KeyedJob
-pub mod ByTime
 pub mod RankedTimes
 pub mod Examples
 pub mod SolutionAccepted

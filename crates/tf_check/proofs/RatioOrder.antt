@@ -1,7 +1,7 @@
 -- Jobs by the ratio of weight to time: any two compare, as times are at least 1, and run in that
 -- order their weighted completions
 -- add up to the bound by pairs.
-use Rattle.std.proofs.Common.{◌≡◌, ℕ, zero, suc, ◌+◌, ◌*◌, ◌<◌, ◌≤◌, ◌&&◌, ◌||◌, Bool, true, false, ltb, eqb, List, [], ◌∷◌, ◌++◌, length, get_or, drop, sym, ap, subst, ◌∙◌, arith, inl, inr, mul-le-mul_left, mul-le-mul_right, IsTrue}
+use Rattle.std.proofs.Common.{◌≡◌, ℕ, zero, suc, ◌+◌, ◌*◌, ◌<◌, ◌≤◌, ◌&&◌, ◌||◌, Bool, true, false, ltb, eqb, List, [], ◌∷◌, ◌++◌, length, get_or, drop, refl, sym, ap, subst, ◌∙◌, arith, inl, inr, mul-le-mul_left, mul-le-mul_right, IsTrue}
 use Rattle.std.specs.List.{All, AllPairs, range_with_len, sum_by}
 use Rattle.std.specs.List.Sorted.{IsSortedBy, IsPermutation}
 use Rattle.std.specs.Cmp.{IsStrictWeakOrder}
@@ -16,13 +16,14 @@ use Rattle.std.proofs.lemmas.List.Sums.{sum_by-cons, sum_by-drop_more}
 use Rattle.tf_model.specs.Bounds.{pair_sum, pairs_value}
 use Rattle.tf_model.specs.ClassTable.{is_sum}
 use Rattle.tf_model.specs.Limit.{limit}
-use Rattle.tf_model.specs.SchedulingTask.{SchedulingTask, all_jobs, job_data, time_of}
+use Rattle.tf_model.specs.SchedulingTask.{SchedulingTask, IsJob, all_jobs, job_data, time_of}
 use Rattle.tf_model.specs.Sound.{IsSound}
+use Rattle.tf_model.proofs.Costs.{All-all_jobs}
 use Rattle.tf_model.proofs.Pairs.{pairs_value-by_ratio}
 use Rattle.tf_model.proofs.Sums.{sum_by-same_all}
 use Rattle.tf_schedule.proofs.Counting.{sum_by-map}
 use Rattle.tf_check.specs.declared.weighted_job.WeightedJob.{WeightedJob}
-use Rattle.tf_check.specs.Ratio.{IsOfTask, jobs_of, AreOfTask, IsNoLater, IsSmallerInTie, AreByRatio, completions_from}
+use Rattle.tf_check.specs.Ratio.{IsOfTask, jobs_of, AreOfTask, IsNoLater, IsSmallerInTie, AreByRatio, AreJobsByRatio, completions_from, completions_in}
 use Rattle.tf_check.specs.GoesBefore.{goes_before}
 
 -- ---- the order
@@ -37,7 +38,7 @@ test_one_way u v i j h = grind (arith, nat_tests)
 test_no : (u v i j : ℕ) → test u v i j ≡ false → (v ≤ u) × (u ≡ v → j ≤ i)
 test_no u v i j h = (grind (arith, nat_tests), λ e. grind (arith, nat_tests))
 
-no_test : (u v i j : ℕ) → v ≤ u → (u ≡ v → j ≤ i) → test u v i j ≡ false
+pub no_test : (u v i j : ℕ) → v ≤ u → (u ≡ v → j ≤ i) → test u v i j ≡ false
 no_test u v i j le tie = grind (arith, nat_tests)
 
 -- a/p is at most b/q, and that at most c/r
@@ -270,3 +271,85 @@ summed_more xs i s v x lt at summed =
         ap (λ y. y.time) at,
       );
     }
+
+-- ---- the same by the numbers of the jobs
+
+pub completions_in-is : (k : SchedulingTask) (s : ℕ) (xs : List WeightedJob) → All (IsOfTask k) xs
+    → completions_in k s (jobs_of xs) ≡ completions_from s xs
+completions_in-is k s [] told = refl
+completions_in-is k s (x ∷ xs) told =
+    let own = All-head (IsOfTask k) x xs told in
+    let weight : ℕ = (job_data k x.job).weight in
+    let time : ℕ = time_of k x.job in
+    let here : x.weight * (s + x.time) ≡ weight * (s + time) =
+    ap (λ a. a * (s + x.time)) own.weight ∙ ap (λ b. weight * (s + b)) own.time in
+    let next : completions_from (s + x.time) xs ≡ completions_from (s + time) xs =
+    ap (λ b. completions_from (s + b) xs) own.time in
+    let rest : completions_in k (s + time) (jobs_of xs) ≡ completions_from (s + time) xs =
+    completions_in-is k (s + time) xs (All-tail (IsOfTask k) x xs told) in
+    omega (arith, here, next, rest)
+
+module _ (k : SchedulingTask) (js : List ℕ) (by_ratio : AreJobsByRatio k js) where
+  pub in_is : completions_in k 0 js ≡ completions_from 0 by_ratio.jobs
+  in_is = ap (completions_in k 0) by_ratio.are
+      ∙ completions_in-is k 0 by_ratio.jobs by_ratio.by_ratio.jobs.told
+
+  pub all_in : IsPermutation (all_jobs k) js
+  all_in = subst (IsPermutation (all_jobs k)) (sym by_ratio.are) by_ratio.by_ratio.jobs.all
+
+  pub in_pairs : completions_in k 0 js ≡ pairs_value k
+  in_pairs = in_is ∙ completions-by_ratio k by_ratio.jobs by_ratio.by_ratio
+
+  pub in_known : All (IsJob k) js
+  in_known = All-permutation (IsJob k) (all_jobs k) js all_in (All-all_jobs k (IsJob k) (λ j known. known))
+
+  module _ (sound : IsSound k) where
+    pub in_work_within : sum_by (time_of k) js ≤ limit
+    in_work_within =
+        omega (arith, sum_by-IsPermutation (time_of k) (all_jobs k) js all_in, sound.total)
+
+    pub in_value_within : IsTrue (is_sum k.class) → completions_in k 0 js ≤ limit
+    in_value_within class =
+        omega (
+          arith,
+          in_is,
+          value_within k sound by_ratio.jobs by_ratio.by_ratio.jobs class,
+        )
+
+-- the jobs before place i are over at s, and v is their weighted sum of completions
+pub record AreSummedIn (k : SchedulingTask) (js : List ℕ) (i s v : ℕ) : Type 0 where
+  pub value : v + completions_in k s (drop i js) ≡ completions_in k 0 js
+  pub work : s + sum_by (time_of k) (drop i js) ≡ sum_by (time_of k) js
+
+pub summed_in_more : (k : SchedulingTask) (js : List ℕ) (i s v j : ℕ) → i < length js
+    → j ≡ get_or js i j → AreSummedIn k js i s v
+    → AreSummedIn k js (i + 1) (s + time_of k j)
+    (v + (job_data k j).weight * (s + time_of k j))
+summed_in_more k js i s v j lt at summed =
+    let next : completions_in k s (drop i js) ≡ completions_in k s (j ∷ drop (i + 1) js) =
+    at_drop_more (completions_in k s) js i j lt
+    ∙ ap (λ y. completions_in k s (y ∷ drop (i + 1) js)) (sym at) in
+    record {
+      value = omega (arith, summed.value, next);
+      work = omega (
+        arith,
+        summed.work,
+        sum_by-drop_more (time_of k) js i j lt,
+        ap (time_of k) at,
+      );
+    }
+
+-- the next completion and sum are within the limit
+pub summed_in_fits : (k : SchedulingTask) (js : List ℕ) (i s v j a b : ℕ) → AreJobsByRatio k js
+    → IsSound k → IsTrue (is_sum k.class) → i < length js → j ≡ get_or js i j
+    → AreSummedIn k js i s v → a ≡ (job_data k j).weight → b ≡ time_of k j
+    → (s + b ≤ limit) × (a * (s + b) ≤ limit) × (v + a * (s + b) ≤ limit)
+summed_in_fits k js i s v j a b by_ratio sound sum lt at summed weight time =
+    let more = summed_in_more k js i s v j lt at summed in
+    let same : a * (s + b) ≡ (job_data k j).weight * (s + time_of k j) =
+    ap (λ n. n * (s + b)) weight ∙ ap (λ n. (job_data k j).weight * (s + n)) time in
+    let work : s + b ≤ limit =
+    omega (arith, more.work, time, in_work_within k js by_ratio sound) in
+    let value : v + a * (s + b) ≤ limit =
+    omega (arith, more.value, same, in_value_within k js by_ratio sound sum) in
+    (work, omega (arith, value), value)

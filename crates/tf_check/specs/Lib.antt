@@ -12,6 +12,6 @@ pub mod Judgement
 -- within the crate
 pub mod Laws
 pub mod GoesBefore
-pub mod ByTime
+pub mod RatioRank
 pub mod Free
 pub mod Sides

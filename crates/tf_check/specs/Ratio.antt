@@ -37,3 +37,15 @@ pub record AreByRatio (k : SchedulingTask) (xs : List WeightedJob) : Type 0 wher
 abbrev pub completions_from : ℕ → List WeightedJob → ℕ
 completions_from t [] = 0
 completions_from t (x ∷ xs) = x.weight * (t + x.time) + completions_from (t + x.time) xs
+
+-- the jobs of a task in their order by ratio
+pub record AreJobsByRatio (k : SchedulingTask) (js : List ℕ) : Type 0 where
+  pub jobs : List WeightedJob
+  pub by_ratio : AreByRatio k jobs
+  pub are : js ≡ jobs_of jobs
+
+-- the same sum, of the jobs of a task
+abbrev pub completions_in : SchedulingTask → ℕ → List ℕ → ℕ
+completions_in k t [] = 0
+completions_in k t (j ∷ js) =
+    (job_data k j).weight * (t + time_of k j) + completions_in k (t + time_of k j) js

@@ -31,6 +31,6 @@ impl Evidence for Pairs {
         let Ok(jobs) = jobs_by_ratio(alloc, task) else {
             return Err(BoundFault::OutOfMemory);
         };
-        Ok(i128::from(weighted_completions(&jobs)))
+        Ok(i128::from(weighted_completions(task, &jobs)))
     }
 }

@@ -34,7 +34,7 @@ use Rattle.tf_check.specs.declared.weighted_job.WeightedJob.{WeightedJob}
 use Rattle.tf_check.specs.Accepted.{IsAccepted}
 use Rattle.tf_check.specs.Bound.{ranks_bound}
 use Rattle.tf_check.specs.Claim.{ByRanks}
-use Rattle.tf_check.specs.Ratio.{AreByRatio, jobs_of}
+use Rattle.tf_check.specs.Ratio.{AreByRatio, AreJobsByRatio, jobs_of}
 use Rattle.tf_check.proofs.Given.{sum_takes_ranks, ranks_given}
 use Rattle.tf_check.proofs.LaidAccepted.{laid_accepted}
 use Rattle.tf_check.proofs.NoFault.{no_list_fault}
@@ -322,3 +322,33 @@ module _ (k : SchedulingTask) (xs : List WeightedJob) (sound : IsSound k)
       laid_accepted InTurn k dealt_jobs sound (listed k js sound by_ratio.jobs.all)
       (laid dealt_jobs) (IsPermutation-refl (laid dealt_jobs)) dealt_fits
       (pos (ranks_value k longest_first)) (ByRanks longest_first) ranks_bounded dealt_cost
+
+-- ---- the same by the numbers of the jobs
+
+module _ (k : SchedulingTask) (js : List ℕ) (sound : IsSound k)
+    (sum : IsTrue (is_sum k.class)) (parallel : IsTrue (is_parallel k.class))
+    (by_ratio : AreJobsByRatio k js) where
+  pub ratio_known : All (IsJob k) (reverse js)
+  ratio_known =
+      subst (λ is. All (IsJob k) (reverse is)) (sym by_ratio.are)
+      (ranks_known k by_ratio.jobs sound sum parallel by_ratio.by_ratio)
+
+  pub ratio_limit : ranks_value k (reverse js) ≤ limit
+  ratio_limit =
+      subst (λ is. ranks_value k (reverse is) ≤ limit) (sym by_ratio.are)
+      (ranks_limit k by_ratio.jobs sound sum parallel by_ratio.by_ratio)
+
+  pub ratio_accepted : IsAccepted k
+      (record {
+        pieces = laid (operations_of k js);
+        value = pos (ranks_value k (reverse js));
+        certificate = ByRanks (reverse js);
+      })
+  ratio_accepted =
+      subst (λ is. IsAccepted k
+      (record {
+        pieces = laid (operations_of k is);
+        value = pos (ranks_value k (reverse is));
+        certificate = ByRanks (reverse is);
+      })) (sym by_ratio.are)
+      (dealt_accepted k by_ratio.jobs sound sum parallel by_ratio.by_ratio)

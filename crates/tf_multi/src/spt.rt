@@ -17,7 +17,7 @@ use std::alloc::Allocator;
 use tf_check::answer::Answer;
 use tf_check::certificate::Certificate;
 use tf_check::ranks::{Ranks, ranked_times};
-use tf_check::ratio::{jobs_by_ratio, numbers};
+use tf_check::ratio::jobs_by_ratio;
 use tf_model::ids::{JobId, MachineId};
 use tf_model::job_list::JobList;
 use tf_model::memory::OutOfMemory;
@@ -45,11 +45,8 @@ pub fn spt<A: Allocator + Copy, B: Allocator>(
 {
     // All jobs weigh the same, so that those of greater weight for their time are the shorter ones.
     let jobs = jobs_by_ratio(alloc, task)?;
-    // Their times are in the task too, so no more than their numbers has to be kept.
-    let order = numbers(alloc, &jobs)?;
-    drop(jobs);
-    let pieces = dealt(alloc, task, &order)?;
-    let longest_first = reversed(order);
+    let pieces = dealt(alloc, task, &jobs)?;
+    let longest_first = reversed(jobs);
     let value = ranked_times(task, &longest_first);
     Ok(Answer {
         pieces: PieceList::new(pieces),

@@ -24,10 +24,10 @@ use Rattle.tf_check.specs.declared.weighted_job.WeightedJob.{WeightedJob}
 use Rattle.tf_check.specs.Accepted.{IsAccepted}
 use Rattle.tf_check.specs.Bound.{pairs_bound}
 use Rattle.tf_check.specs.Claim.{ByPairs}
-use Rattle.tf_check.specs.Ratio.{IsOfTask, AreByRatio, completions_from}
+use Rattle.tf_check.specs.Ratio.{IsOfTask, AreByRatio, AreJobsByRatio, completions_from, completions_in}
 use Rattle.tf_check.proofs.LaidAccepted.{laid_accepted}
 use Rattle.tf_check.proofs.Given.{sum_takes_pairs, pairs_given}
-use Rattle.tf_check.proofs.RatioOrder.{completions-by_ratio}
+use Rattle.tf_check.proofs.RatioOrder.{completions-by_ratio, in_is}
 
 module _ (k : SchedulingTask) (xs : List WeightedJob) (sound : IsSound k)
     (sum : IsTrue (is_sum k.class)) (single : IsTrue (is_single k.class))
@@ -81,14 +81,27 @@ module _ (k : SchedulingTask) (xs : List WeightedJob) (sound : IsSound k)
   sequence_schedule = one_machine_schedule OtherJob k os sound
       (one_listed k os sound sequence_each) (sound.single single)
 
-  -- what the builder asks
-  pub sequence_known : All (IsJob k) order
-  sequence_known = All-permutation (IsJob k) (all_jobs k) order by_ratio.jobs.all
-      (All-all_jobs k (IsJob k) (λ j h. h))
+-- ---- the same by the numbers of the jobs
 
-  pub sequence_total : sum_by (time_of k) order ≤ limit
-  sequence_total = omega (
-    arith,
-    sum_by-IsPermutation (time_of k) (all_jobs k) order by_ratio.jobs.all,
-    sound.total,
-  )
+module _ (k : SchedulingTask) (js : List ℕ) (sound : IsSound k) (sum : IsTrue (is_sum k.class))
+    (single : IsTrue (is_single k.class)) (by_ratio : AreJobsByRatio k js) where
+  pub ratio_schedule : IsSchedule (laid (in_sequence k js))
+  ratio_schedule =
+      subst (λ is. IsSchedule (laid (in_sequence k is))) (sym by_ratio.are)
+      (sequence_schedule k by_ratio.jobs sound sum single by_ratio.by_ratio)
+
+  pub ratio_accepted : IsAccepted k
+      (record {
+        pieces = laid (in_sequence k js);
+        value = pos (completions_in k 0 js);
+        certificate = ByPairs;
+      })
+  ratio_accepted =
+      rw (in_is k js by_ratio)
+      (subst (λ is. IsAccepted k
+      (record {
+        pieces = laid (in_sequence k is);
+        value = pos (completions_from 0 by_ratio.jobs);
+        certificate = ByPairs;
+      })) (sym by_ratio.are)
+      (sequence_accepted k by_ratio.jobs sound sum single by_ratio.by_ratio))

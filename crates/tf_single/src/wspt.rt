@@ -10,7 +10,7 @@ use std::alloc::Allocator;
 use tf_check::answer::Answer;
 use tf_check::certificate::Certificate;
 use tf_check::pairs::Pairs;
-use tf_check::ratio::{jobs_by_ratio, numbers, weighted_completions};
+use tf_check::ratio::{jobs_by_ratio, weighted_completions};
 use tf_model::memory::OutOfMemory;
 use tf_model::task::Task;
 use tf_schedule::piece_list::PieceList;
@@ -33,11 +33,8 @@ pub fn wspt<A: Allocator + Copy, B: Allocator>(
     ensures rule { IfOk result (λ a. RunsByRatio task.now a.pieces) }
 {
     let jobs = jobs_by_ratio(alloc, task)?;
-    let value = weighted_completions(&jobs);
-    // Their times are in the task too, so no more than their numbers has to be kept.
-    let order = numbers(alloc, &jobs)?;
-    drop(jobs);
-    let pieces = in_sequence(alloc, task, &order)?;
+    let value = weighted_completions(task, &jobs);
+    let pieces = in_sequence(alloc, task, &jobs)?;
     Ok(Answer {
         pieces: PieceList::new(pieces),
         value: value as i64,

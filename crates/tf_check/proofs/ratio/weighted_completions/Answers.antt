@@ -1,34 +1,52 @@
-use Rattle.std.proofs.Common.{arith}
-use Rattle.std.proofs.lemmas.List.{at_drop_all}
-use Rattle.tf_check.specs.Ratio.{completions_from}
-use Rattle.tf_check.proofs.RatioOrder.{summed_more}
+use Rattle.std.proofs.Common.{◌+◌, ap, subst, sym, ◌∙◌, arith}
+use Rattle.tf_model.specs.SchedulingTask.{JobData, IsJob}
+use Rattle.tf_check.proofs.RatioOrder.{in_known, in_value_within, summed_in_fits}
 use Rattle.tf_check.proofs.ratio.weighted_completions.Goals as goal
 
-pub loop-job-preserved : goal.loop-job-preserved
-loop-job-preserved c =
-    summed_more _ _ _ _ _ c.loop-job-test.true c.job-item.is c.loop-job.invariant
+pub job-row-requires : goal.job-row-requires
+job-row-requires g c =
+    subst (IsJob c.args.task.now) (sym c.job-item.is)
+    (in_known c.args.task.now c.args.jobs.now c.requires.by_ratio c.loop-job.job-index
+    c.job-item.result c.loop-job-test.true)
 
 pub overflow_add-completion : goal.overflow_add-completion
-overflow_add-completion c =
-    let more = summed_more _ _ _ _ _ c.loop-job-test.true c.job-item.is c.loop-job.invariant in
-    omega (arith, more.work, c.requires.work)
+overflow_add-completion g c =
+    omega (
+      arith,
+      (summed_in_fits c.args.task.now c.args.jobs.now c.loop-job.job-index c.loop-job.completion
+          c.loop-job.value c.job-item.result c.row.inside.weight c.time-completion.result
+          c.requires.by_ratio c.requires.sound c.requires.sum c.loop-job-test.true c.job-item.is
+          c.loop-job.invariant (ap (λ (r : JobData). r.weight) (c.row.view_is ∙ c.job-row.ensures.value))
+          (c.time-completion.ensures ∙ ap (λ (r : JobData). r.first + r.second) c.job-row.ensures.value)).0,
+    )
 
 pub overflow_mul-value : goal.overflow_mul-value
-overflow_mul-value c =
-    let more = summed_more _ _ _ _ _ c.loop-job-test.true c.job-item.is c.loop-job.invariant in
-    omega (arith, more.value, c.requires.value)
+overflow_mul-value g c =
+    omega (
+      arith,
+      (summed_in_fits c.args.task.now c.args.jobs.now c.loop-job.job-index c.loop-job.completion
+          c.loop-job.value c.job-item.result c.row.inside.weight c.time-completion.result
+          c.requires.by_ratio c.requires.sound c.requires.sum c.loop-job-test.true c.job-item.is
+          c.loop-job.invariant (ap (λ (r : JobData). r.weight) (c.row.view_is ∙ c.job-row.ensures.value))
+          (c.time-completion.ensures ∙ ap (λ (r : JobData). r.first + r.second) c.job-row.ensures.value)).1,
+    )
 
 pub overflow_add-value : goal.overflow_add-value
-overflow_add-value c =
-    let more = summed_more _ _ _ _ _ c.loop-job-test.true c.job-item.is c.loop-job.invariant in
-    omega (arith, more.value, c.requires.value)
+overflow_add-value g c =
+    omega (
+      arith,
+      (summed_in_fits c.args.task.now c.args.jobs.now c.loop-job.job-index c.loop-job.completion
+          c.loop-job.value c.job-item.result c.row.inside.weight c.time-completion.result
+          c.requires.by_ratio c.requires.sound c.requires.sum c.loop-job-test.true c.job-item.is
+          c.loop-job.invariant (ap (λ (r : JobData). r.weight) (c.row.view_is ∙ c.job-row.ensures.value))
+          (c.time-completion.ensures ∙ ap (λ (r : JobData). r.first + r.second) c.job-row.ensures.value)).2,
+    )
 
-pub returns-clause-value : goal.returns-clause-value
-returns-clause-value c =
+pub returns-clause-small : goal.returns-clause-small
+returns-clause-small g c =
     omega (
       arith,
       c.loop-job.invariant.value,
-      at_drop_all
-          (completions_from c.loop-job.completion) c.args.jobs.now c.loop-job.job-index
-          c.loop-job-test.false,
+      in_value_within c.args.task.now c.args.jobs.now c.requires.by_ratio c.requires.sound
+          c.requires.sum,
     )
