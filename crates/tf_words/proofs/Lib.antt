@@ -10,3 +10,4 @@ pub mod NumeralOf
 pub mod Grows
 pub mod Scanned
 pub mod Pieces
+pub mod Numerals

@@ -14,7 +14,7 @@ use Rattle.tf_words.proofs.DigitsRead.{digit_is}
 use Rattle.tf_words.proofs.Limited.{in_limit}
 
 -- a word of digits does not begin with a hyphen
-no_minus : (word : List ℕ) → list_all is_ascii_digit word ≡ true → eqb (get_or word 0 0) 45 ≡ false
+pub no_minus : (word : List ℕ) → list_all is_ascii_digit word ≡ true → eqb (get_or word 0 0) 45 ≡ false
 no_minus [] h = refl
 no_minus (d ∷ ds) h =
     let low = (digit_is d (and_parts _ _ h).0).0 in ne_eqb d 45 (λ e. omega (arith, low, e))

@@ -10,13 +10,6 @@ pub byte_more : (fed piece : List ℕ) (k : ℕ) → k < length piece
 byte_more fed piece k lt = append_assoc fed _ _
     ∙ ap (λ (bs : List ℕ). fed ++ bs) (sym (take_more piece k 0 lt))
 
--- with its first byte
-pub first_byte : (fed piece : List ℕ) → 0 < length piece
-    → fed ++ get_or piece 0 0 ∷ [] ≡ fed ++ take 1 piece
-first_byte fed piece some =
-    ap (λ (bs : List ℕ). bs ++ get_or piece 0 0 ∷ []) (sym (append-nil fed))
-    ∙ byte_more fed piece 0 some
-
 -- and with all of it
 pub all_taken : (fed piece : List ℕ) (k : ℕ) → length piece ≤ k → fed ++ take k piece ≡ fed ++ piece
 all_taken fed piece k le =

@@ -106,19 +106,6 @@ word_byte first fed seen line shown next b black push at = record {
       (sym (append_assoc at.bytes (b ∷ []) more));
 }
 
-digit_is_no_minus : (b : ℕ) → is_ascii_digit b ≡ true → eqb b 45 ≡ false
-digit_is_no_minus b digit = grind (arith)
-
--- the first digit of a number
-pub digit_first : (first : ℕ) (fed : List ℕ) (seen : List Word) (line more b : ℕ)
-    → is_ascii_digit b ≡ true → more ≡ cut (more_by 0 b) → IsAt first fed seen line Empty
-    → IsAt first (fed ++ b ∷ []) seen line (Digits false more)
-digit_first first fed seen line more b digit is at =
-    word_byte first fed seen line Empty (Digits false more) b (digit_is_black b digit)
-    (λ word shown.
-    (let e : Digits false more ≡ next Empty b = rw (is, digit_is_no_minus b digit, digit) refl in e)
-    ∙ ap (λ s. next s b) shown ∙ step word b) at
-
 -- a digit more of a number
 pub digit_more : (first : ℕ) (fed : List ℕ) (seen : List Word) (line : ℕ) (negative : Bool)
     (size more b : ℕ)

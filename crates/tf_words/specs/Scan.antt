@@ -34,6 +34,10 @@ pub record IsAt (first : ℕ) (fed : List ℕ) (seen : List Word) (line : ℕ) (
     pub goes_on : (more : List ℕ)
         → words_from first (lines (fed ++ more)) ≡ seen ++ words_from line (lines (bytes ++ more))
 
+-- blanks, and nothing else
+abbrev pub AreBlanks : List ℕ → Type 0
+AreBlanks bytes = list_all (λ b. b == 32) bytes ≡ true
+
 -- a line's number and a number are those of a word
 pub record IsOf (word : Word) (line : ℕ) (read : Number) : Type 0 where
   pub line_is : line ≡ word.line

@@ -16,6 +16,7 @@ use crate::word::is;
 const MOST_DIGITS: usize = 18;
 
 /// The number of the digits with which a text begins, and how many these are.
+#[inline(always)]
 fn digits_at(text: &[u8]) -> (u64, usize)
     ensures within { result.1 ≤ length text.now }
     ensures digits { list_all is_ascii_digit (take result.1 text.now) ≡ true }
@@ -33,6 +34,7 @@ fn digits_at(text: &[u8]) -> (u64, usize)
 }
 
 /// The digits with which a text begins, as a number, and what follows them.
+#[inline(always)]
 pub fn digits_first(text: &[u8]) -> Option<(u64, &[u8])>
     ensures digits { IfSome result (λ x. (digits : List ℕ) × IsNumeralOf digits x.0
         × (text.now ≡ digits ++ x.1.now)) }

@@ -1,9 +1,10 @@
 //! Reading the words of a text byte by byte, as numbers.
-ghost use Rattle.std.specs.Prelude.{◌≡◌, ℕ, ◌+◌, ◌^◌, ◌<◌, ◌≤◌, ◌++◌, List, [], ◌∷◌, length, take, MatchOption, IfSome};
+ghost use Rattle.std.specs.Prelude.{◌≡◌, ℕ, ◌+◌, ◌^◌, ◌<◌, ◌≤◌, ◌++◌, List, [], ◌∷◌, length, take, MatchOption, IfSome, None};
 ghost use Rattle.tf_words.specs.Words.{Word, lines, words_from};
-ghost use Rattle.tf_words.specs.Scan.{number_shown, line_after, IsAt, IsOf, IsInRange};
+ghost use Rattle.tf_words.specs.Scan.{number_shown, line_after, AreBlanks, IsAt, IsOf, IsInRange};
 
 use crate::digits::with_digit;
+use crate::first_line::digits_first;
 use crate::number::{Number, number_sized};
 use crate::so_far::SoFar;
 use crate::word::is_white;
@@ -21,6 +22,18 @@ fn line_after(line: u32, byte: u8) -> u32
     ensures { result ≡ line_after line byte }
 {
     if byte == b'\n' { line + 1 } else { line }
+}
+
+/// What follows the blanks with which a text begins.
+#[inline(always)]
+fn behind_blanks(text: &[u8]) -> &[u8]
+    ensures { (blanks : List ℕ) × AreBlanks blanks × (text.now ≡ blanks ++ result.now) }
+{
+    let mut rest = text;
+    while let [b' ', from @ ..] = rest {
+        rest = from;
+    }
+    rest
 }
 
 fn number_shown(shown: SoFar) -> Number
@@ -107,39 +120,41 @@ impl Scan {
         piece.len()
     }
 
-    /// Of digits and a blank behind them, with which a piece begins where no word has begun: how
-    /// many bytes these are, and the number.
-    fn numeral(&self, piece: &[u8]) -> Option<(usize, Number)>
-        ensures within { IfSome result (λ w. (0 < w.0) × (w.0 ≤ length piece.now)) }
-        ensures range { IfSome result (λ w. IsInRange w.1) }
+    /// With the number with which a piece begins, maybe behind blanks, and the white byte that ends
+    /// it: the line, the number, and what follows. None where a word has begun before, and where
+    /// the piece begins otherwise.
+    #[inline(always)]
+    pub fn numeral<'a>(&mut self, piece: &'a [u8]) -> Option<(u32, i64, &'a [u8])>
+        requires { self.old.line + length piece.now < 2 ^ 32 }
+        ensures later { IfSome result (λ w.
+            self.new.line + length w.2.now ≤ self.old.line + length piece.now) }
+        ensures shorter { IfSome result (λ w. length w.2.now < length piece.now) }
+        ensures none { result ≡ None → self.new ≡ self.old }
+        ensures range { IfSome result (λ w. IsInRange (Number.Value w.1)) }
         ensures fed { IfSome result (λ w. (first : ℕ) (fed : List ℕ) (seen : List Word) →
-            IsAt first fed seen self.now.line self.now.shown →
-            (word : Word) × IsOf word self.now.line w.1
-            × IsAt first (fed ++ take w.0 piece.now) (seen ++ word ∷ []) self.now.line
-            self.now.shown) }
+            IsAt first fed seen self.old.line self.old.shown →
+            (word : Word) × (before : List ℕ) × IsOf word w.0 (Number.Value w.1)
+            × IsAt first before (seen ++ word ∷ []) self.new.line self.new.shown
+            × (before ++ w.2.now ≡ fed ++ piece.now)) }
     {
         let SoFar::Empty = self.shown else {
             return None;
         };
-        if piece.is_empty() || !piece[0].is_ascii_digit() {
+        let (size, behind) = digits_first(behind_blanks(piece))?;
+        let [end, rest @ ..] = behind else {
+            return None;
+        };
+        if !is_white(*end) {
             return None;
         }
-        let mut size = with_digit(0, piece[0]);
-        for k in 1..piece.len() {
-            let byte = piece[k];
-            if !byte.is_ascii_digit() {
-                if byte != b' ' {
-                    return None;
-                }
-                return Some((k + 1, number_shown(SoFar::Digits(false, size))));
-            }
-            size = with_digit(size, byte);
-        }
-        None
+        let line = self.line;
+        self.line = line_after(line, *end);
+        Some((line, size as i64, rest))
     }
 
     /// With the bytes of a piece up to the first that ends a word, or with all of them: how many
     /// these are, and the word.
+    #[inline(never)]
     pub fn advance(&mut self, piece: &[u8]) -> (usize, Option<(u32, Number)>)
         requires { self.old.line + length piece.now < 2 ^ 32 }
         ensures some { 0 < length piece.now → 0 < result.0 }
@@ -154,9 +169,6 @@ impl Scan {
             IsAt first (fed ++ take result.0 piece.now) (seen ++ word ∷ []) self.new.line
             self.new.shown) }
     {
-        if let Some((taken, number)) = self.numeral(piece) {
-            return (taken, Some((self.line, number)));
-        }
         let mut scan = *self;
         let mut k = 0;
         while k < piece.len() {

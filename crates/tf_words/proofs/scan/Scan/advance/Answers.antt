@@ -25,10 +25,10 @@ loop-k-preserved c = record {
   within = omega (arith, c.loop-k-test.true, c.digits.ensures.within, c.split_at.ensures.back_len);
 }
 
-pub returns-in-Some-push-clause-fed : goal.returns-in-Some-push-clause-fed
-returns-in-Some-push-clause-fed c = λ first fed seen at.
+pub returns-in-Some-clause-fed : goal.returns-in-Some-clause-fed
+returns-in-Some-clause-fed c = λ first fed seen at.
     let (word, of, next) =
-    c.in-Some-push.ensures.fed first (fed ++ take c.loop-k.k c.args.piece.now) seen
+    c.in-Some.ensures.fed first (fed ++ take c.loop-k.k c.args.piece.now) seen
     (c.loop-k.invariant.fed first fed seen at) in (
       word,
       of,

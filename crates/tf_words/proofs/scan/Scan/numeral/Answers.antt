@@ -1,47 +1,29 @@
-use Rattle.std.proofs.Common.{ℕ, ◌+◌, List, false, [], ◌∷◌, ◌++◌, get_or, take, refl, sym, ap, ◌∙◌, subst, rules}
-use Rattle.tf_words.specs.Scan.{IsAt}
+use Rattle.std.proofs.Common.{◌≤◌, get_or, refl, sym, subst, arith}
+use Rattle.tf_words.specs.Number.{limit}
 use Rattle.tf_words.specs.declared.so_far.SoFar.{SoFar}
-use Rattle.tf_words.specs.declared.so_far.SoFar.TheVariants.{Empty, Digits}
-use Rattle.tf_words.proofs.Pieces.{byte_more, first_byte}
-use Rattle.tf_words.proofs.Scanned.{digit_first, digit_more, ends_word}
+use Rattle.tf_words.specs.Scan.{IsAt}
+use Rattle.tf_words.proofs.FirstLine.{begins_with}
+use Rattle.tf_words.proofs.NumeralOf.{as_pos}
+use Rattle.tf_words.proofs.Numerals.{numeral_read, numeral_fed}
 use Rattle.tf_words.proofs.scan.Scan.numeral.Goals as goal
 
-pub loop-k-init : goal.loop-k-init
-loop-k-init c = λ first fed seen at.
+pub returns-clause-fed : goal.returns-clause-fed
+returns-clause-fed c = λ first fed seen at.
     let line = c.args.self.now.line in
-    let piece = c.args.piece.now in
-    subst (λ (bs : List ℕ). IsAt first bs seen line (Digits false c.with_digit-size.result))
-    (first_byte fed piece (search rules))
-    (digit_first first fed seen line c.with_digit-size.result (get_or piece 0 0)
-    (sym c.if-not-is_ascii_digit.ensures.value)
-    c.with_digit-size.ensures
-    (subst (λ (shown : SoFar). IsAt first fed seen line shown) c.in-Empty.is at))
-
-pub loop-k-preserved : goal.loop-k-preserved
-loop-k-preserved c = λ first fed seen at.
-    let line = c.args.self.now.line in
-    let piece = c.args.piece.now in
-    subst (λ (bs : List ℕ). IsAt first bs seen line
-    (Digits false c.with_digit-size-in-loop-k.result))
-    (byte_more fed piece c.loop-k.k c.loop-k-test.true)
-    (digit_more first (fed ++ take c.loop-k.k piece) seen line false c.loop-k.size _ _
-    (sym c.if-not-is_ascii_digit-2.ensures.value) c.with_digit-size-in-loop-k.ensures
-    (c.loop-k.invariant first fed seen at))
-
-pub returns-then-not-is_ascii_digit-2-clause-fed : goal.returns-then-not-is_ascii_digit-2-clause-fed
-returns-then-not-is_ascii_digit-2-clause-fed c = λ first fed seen at.
-    let line = c.args.self.now.line in
-    let piece = c.args.piece.now in
-    let k = c.loop-k.k in
+    let (blanks, all, piece-is) = c.behind_blanks.ensures in
+    let (digits, is, from-is) = c.in_ok-size.ensures.digits in
+    let size = c.in_ok-size.size in
+    let few : size ≤ limit = omega (arith, c.in_ok-size.ensures.few) in
+    let end = get_or c.in_ok-size.behind.now 0 0 in
     let (word, of, next) =
-    ends_word first (fed ++ take k piece) seen line 32 (Digits false c.loop-k.size) refl
-    (λ e. absurd (cc)) (c.loop-k.invariant first fed seen at) in
-    let here =
-    ap (λ (b : ℕ). (fed ++ take k piece) ++ b ∷ []) (sym c.if-byte-ne32.false)
-    ∙ byte_more fed piece k c.loop-k-test.true in (
+    numeral_read first fed seen line blanks digits size end all is few
+    (sym c.if-not-is_white.ensures)
+    (subst (λ (shown : SoFar). IsAt first fed seen line shown) c.in-Empty.is at) in (
       word,
-      rw c.number_shown.ensures.value of,
-      subst (λ (shown : SoFar). IsAt first (fed ++ take (k + 1) piece) (seen ++ word ∷ []) line shown)
-          (sym c.in-Empty.is)
-          (subst (λ (bs : List ℕ). IsAt first bs (seen ++ word ∷ []) line Empty) here next),
+      _,
+      rw (← as_pos size c.in_ok-size.ensures.few) of,
+      rw (c.line_after-self.ensures, c.in-Empty.is) next,
+      numeral_fed fed blanks digits c.args.piece.now c.behind_blanks.result.now
+          c.in_ok-size.behind.now _ end piece-is from-is
+          (begins_with _ _ end c.in-len1-up.len_at_least refl refl),
     )
