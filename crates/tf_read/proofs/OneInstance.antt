@@ -1,13 +1,15 @@
 -- The instance of the numbers that were read.
-use Rattle.std.proofs.Common.{◌≡◌, ℕ, zero, suc, ◌+◌, ◌-◌, ◌*◌, ◌%◌, ◌<◌, ◌≤◌, Bool, false, cond, eqb, leb, ltb, List, [], ◌∷◌, ◌++◌, length, map, take, drop, ℤ, pos, Option, Some, None, Result, Ok, Err, refl, sym, ap, subst, ◌∙◌, arith, inl, inr, IfOk, position, mul-le-mul_left, add-one}
+use Rattle.std.proofs.Common.{◌≡◌, ℕ, zero, suc, ◌+◌, ◌-◌, ◌*◌, ◌%◌, ◌<◌, ◌≤◌, Bool, false, cond, leb, ltb, List, [], ◌∷◌, ◌++◌, length, map, take, drop, ℤ, pos, negsuc, ◌≤ℤ◌, Option, Some, None, Result, Ok, Err, refl, sym, ap, subst, ◌∙◌, arith, inl, inr, IfOk, position, mul-le-mul_left}
 use Rattle.std.specs.List.{range_with_len, position_or_len}
 use Rattle.std.specs.Option.{option_or}
-use Rattle.std.proofs.lemmas.Bool.{cases_Bool, leb-true, leb-false, ltb-false, lt-leb, le-ltb, eqb-true, eqb-false}
+use Rattle.std.proofs.lemmas.Bool.{cases_Bool, leb-true, leb-false, ltb-false, lt-leb, le-ltb}
+use Rattle.std.proofs.lemmas.Int.{ints}
 use Rattle.std.proofs.lemmas.List.{get_or-drop}
 use Rattle.std.proofs.lemmas.List.FromFn.{length-map-range_with_len}
-use Rattle.std.proofs.Math.Nat.{mul-suc, mul-add-mod_self_left, mod-eq_of_lt, mod-lt, mod_self, suc-mod}
+use Rattle.std.proofs.Math.Nat.{mul-suc, mul-add-mod_self_left, mod-eq_of_lt}
 use Rattle.tf_words.specs.Words.{Word}
 use Rattle.tf_words.specs.declared.number.Number.{Number}
+use Rattle.tf_words.specs.declared.number.Number.TheVariants.{Value}
 use Rattle.tf_model.specs.JobFields.{JobFields}
 use Rattle.tf_model.specs.InstanceData.{IsInstance, is_negative, is_beyond, has_negative, has_beyond}
 use Rattle.tf_model.specs.Limit.{most_jobs}
@@ -113,19 +115,15 @@ whole_is p seen h m =
 place : (n k j : ℕ) → j < 3 * n → (3 * n * (k - 1) + j) % (3 * n) ≡ j
 place n k j lt = mul-add-mod_self_left (3 * n) (k - 1) j ∙ mod-eq_of_lt lt
 
--- the place behind a place among so many, of which the first is behind the last
-pub place_behind : (m c p next : ℕ) → 0 < m → p ≡ c % m
-    → next ≡ cond (eqb (p + 1) m) 0 (p + 1) → next ≡ (c + 1) % m
-place_behind m c p next some is then =
-    let within : c % m < m = mod-lt c some in
-    let on : suc p % m ≡ (c + 1) % m =
-    ap (λ (r : ℕ). suc r % m) is ∙ sym (suc-mod c m) ∙ ap (λ (n : ℕ). n % m) (sym (add-one c)) in
-    elim (cases_Bool (eqb (p + 1) m)) [
-      | inl e ↦
-          let last : suc p ≡ m = sym (add-one p) ∙ eqb-true (p + 1) m e in
-          then ∙ rw e (sym (mod_self m)) ∙ ap (λ (n : ℕ). n % m) (sym last) ∙ on
-      | inr e ↦ then ∙ rw e (add-one p ∙ sym (mod-eq_of_lt (omega (arith, is, within, eqb-false (p + 1) m e))) ∙ on)
-    ]
+-- a number that is not negative is read wherever it stands
+pub natural_anywhere : (n i line : ℕ) (number : Number) (z : ℤ) → number ≡ Value z → pos 0 ≤ℤ z
+    → tardiness_number_read n i line number ≡ Ok z
+natural_anywhere n i line number (negsuc m) is some = absurd (omega (arith, ints, some))
+natural_anywhere n i line number (pos m) is some =
+    rw is (elim (cases_Bool (ltb (i % (3 * n)) (2 * n))) [
+      | inl early ↦ rw early refl
+      | inr late ↦ rw late refl
+    ])
 
 -- a number that is read is within the limit, and not negative where a time or a weight stands
 read_number : (n i line : ℕ) (number : Number) (z : ℤ) → IsInRange number

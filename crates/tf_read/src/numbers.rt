@@ -27,8 +27,6 @@ pub(crate) struct Numbers<A: Allocator> {
     wanted: u64,
     /// The words that were judged.
     count: u64,
-    /// The place of the next word among those of its instance.
-    place: u64,
     numbers: Vec<i64, A>,
     /// Room for the jobs.
     room: Vec<Job<A>, A>,
@@ -60,7 +58,6 @@ impl<A: Allocator> Model for Numbers<A> {
       near : f.wanted < 2 ^ 62;
       room : 3 * f.jobs ≤ vec_capacity f.numbers;
       within : f.count ≤ f.wanted;
-      place : f.place ≡ f.count % (3 * f.jobs);
       tally : vec_len f.numbers ≡ f.count - f.skipped;
       jobs_room : f.jobs ≤ vec_capacity f.room;
       no_job : vec_len f.room ≡ 0;
@@ -88,7 +85,6 @@ impl<A: Allocator> Numbers<A> {
             skipped,
             wanted: skipped + 3 * jobs,
             count: 0,
-            place: 0,
             numbers,
             room,
             fault: None,
@@ -103,6 +99,23 @@ impl<A: Allocator> Numbers<A> {
         self.fault.is_some() || self.count >= self.wanted
     }
 
+    /// The number of the next word, which is not negative where a time or a weight stands.
+    fn number_or_fault(&self, line: u32, number: Number) -> Result<i64, ReadFault>
+        requires wanted { self.now.count < tardiness_wanted self.now }
+        requires in_range { IsInRange number }
+        ensures value { result ≡ tardiness_number_read self.now.jobs self.now.count line number }
+        ensures in_range { IfOk result
+            (λ z. AreInRange self.now.jobs (with_number self.now z).numbers) }
+    {
+        if self.count % (3 * self.jobs) < 2 * self.jobs {
+            natural_of(line, number)
+        } else {
+            integer_of(line, number)
+        }
+    }
+
+    /// The same. The place counts only where a number is negative.
+    #[inline(always)]
     fn number(&self, line: u32, number: Number) -> Result<i64, ReadFault>
         requires wanted { self.now.count < tardiness_wanted self.now }
         requires in_range { IsInRange number }
@@ -110,23 +123,22 @@ impl<A: Allocator> Numbers<A> {
         ensures in_range { IfOk result
             (λ z. AreInRange self.now.jobs (with_number self.now z).numbers) }
     {
-        if self.place < 2 * self.jobs {
-            natural_of(line, number)
-        } else {
-            integer_of(line, number)
+        let _ = &self.jobs;
+        if let Number::Value(value) = number {
+            if value >= 0 {
+                return Ok(value);
+            }
         }
+        self.number_or_fault(line, number)
     }
 
-    #[tactic(auto, using(crate::proofs::OneInstance::place_behind))]
     fn keep(&mut self, value: i64)
         requires wanted { self.old.count < tardiness_wanted self.old }
         requires in_range { AreInRange self.old.jobs (with_number self.old value).numbers }
         ensures { self.new ≡ with_number self.old value }
     {
         let count = self.count;
-        let place = self.place + 1;
         self.count = count + 1;
-        self.place = if place == 3 * self.jobs { 0 } else { place };
         if self.skipped <= count {
             self.numbers.push(value).unwrap();
         }
@@ -174,6 +186,7 @@ impl<A: Allocator> Judge for Numbers<A> {
 
     ghost HasRead = { ReadsTardiness };
 
+    #[inline(always)]
     fn judge(&mut self, line: u32, number: Number) {
         if self.is_over() {
             return;

@@ -200,6 +200,7 @@ impl<A: Allocator> Pairs<A> {
         }
     }
 
+    #[inline(always)]
     fn time(&mut self, line: u32, number: Number)
         requires wanted { self.old.job < self.old.jobs }
         requires in_range { IsInRange number }
@@ -273,6 +274,7 @@ impl<A: Allocator> Judge for Pairs<A> {
 
     ghost HasRead = { ReadsShop };
 
+    #[inline(always)]
     fn judge(&mut self, line: u32, number: Number) {
         if self.is_over() {
             return;

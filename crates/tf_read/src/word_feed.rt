@@ -6,6 +6,7 @@ ghost use Rattle.tf_read.specs.WordFeed.{HasFed};
 
 use tf_words::number::Number;
 use tf_words::scan::Scan;
+use tf_words::so_far::SoFar;
 
 /// What the words of a text are judged by, one after the other.
 pub(crate) trait Judge {
@@ -44,6 +45,35 @@ impl<J: Judge> WordFeed<J> {
         }
     }
 
+    /// With the numbers with which the next piece begins, as far as each has its usual form; what
+    /// follows them.
+    #[inline(never)]
+    fn numbers<'a>(&mut self, piece: &'a [u8]) -> &'a [u8]
+        requires { self.old.scan.line + length piece.now < 2 ^ 32 }
+        ensures within { length result.now ≤ length piece.now }
+        ensures later { self.new.scan.line + length result.now
+            ≤ self.old.scan.line + length piece.now }
+        ensures fed { (first : ℕ) (says : Says) (fed : List ℕ) →
+            HasFed J.HasRead first says self.old fed →
+            (before : List ℕ) × HasFed J.HasRead first says self.new before
+            × (before ++ result.now ≡ fed ++ piece.now) }
+    {
+        let SoFar::Empty = self.scan.shown else {
+            return piece;
+        };
+        let mut scan = Scan {
+            line: self.scan.line,
+            shown: SoFar::Empty,
+        };
+        let mut rest = piece;
+        while let Some((line, number, after)) = scan.numeral(rest) {
+            self.judge.judge(line, Number::Value(number));
+            rest = after;
+        }
+        self.scan = scan;
+        rest
+    }
+
     /// With the next piece of the text.
     pub(crate) fn feed(&mut self, piece: &[u8])
         requires { self.old.scan.line + length piece.now < 2 ^ 32 }
@@ -54,8 +84,9 @@ impl<J: Judge> WordFeed<J> {
     {
         let mut rest = piece;
         while !rest.is_empty() {
-            let (taken, word) = self.scan.advance(rest);
-            let (_, after) = rest.split_at(taken);
+            let from = self.numbers(rest);
+            let (taken, word) = self.scan.advance(from);
+            let (_, after) = from.split_at(taken);
             rest = after;
             match word {
                 None => {}

@@ -1,6 +1,5 @@
-use Rattle.std.proofs.Common.{◌*◌, refl, sym, arith}
+use Rattle.std.proofs.Common.{refl, arith}
 use Rattle.tf_read.proofs.OneInstance.{no_numbers, all_before, all_near}
-use Rattle.std.proofs.Math.Nat.{zero-mod}
 use Rattle.tf_read.proofs.Progress.{none_read}
 use Rattle.tf_read.proofs.numbers.Numbers.new.Goals as goal
 
@@ -14,7 +13,6 @@ invariant_of-result g c = record {
   near = all_near c.args.jobs c.args.index c.requires.few c.requires.from_one c.requires.near;
   room = omega (arith, c.in_ok-numbers.ensures.exact);
   within = omega arith;
-  place = sym (zero-mod (3 * c.args.jobs));
   tally = omega (arith, c.in_ok-numbers.ensures.len);
   jobs_room = omega (arith, c.in_ok-room.ensures.exact);
   no_job = c.in_ok-room.ensures.len;
