@@ -3,7 +3,7 @@ _threefield() {
     local word=${COMP_WORDS[COMP_CWORD]} before=${COMP_WORDS[COMP_CWORD - 1]} command=${COMP_WORDS[1]}
     local instance="--problem --format --jobs --index --name --pair --machines --explain --help"
     if [ "$COMP_CWORD" -eq 1 ]; then
-        COMPREPLY=($(compgen -W "solve bound trace check evaluate gantt problems help --help --version" -- "$word"))
+        COMPREPLY=($(compgen -W "solve bound trace check evaluate gantt random problems help --help --version" -- "$word"))
         return
     fi
     case $before in
@@ -13,7 +13,7 @@ _threefield() {
     esac
     if [[ $word != -* ]]; then
         if [ "$command" = help ]; then
-            COMPREPLY=($(compgen -W "solve bound trace check evaluate gantt problems" -- "$word"))
+            COMPREPLY=($(compgen -W "solve bound trace check evaluate gantt random problems" -- "$word"))
         else
             COMPREPLY=($(compgen -f -- "$word"))
         fi
@@ -26,6 +26,7 @@ _threefield() {
     check) COMPREPLY=($(compgen -W "$instance --json" -- "$word")) ;;
     evaluate) COMPREPLY=($(compgen -W "$instance --certificate --order --orders --schedule --json --csv" -- "$word")) ;;
     gantt) COMPREPLY=($(compgen -W "--columns --svg --fold --from --to --width --height --size --explain --help" -- "$word")) ;;
+    random) COMPREPLY=($(compgen -W "--problem --jobs --machines --seed --help" -- "$word")) ;;
     problems) COMPREPLY=($(compgen -W "--json --help" -- "$word")) ;;
     esac
 }

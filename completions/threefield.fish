@@ -1,5 +1,5 @@
 # Completions of threefield for fish: put this file into ~/.config/fish/completions.
-set -l commands solve bound trace check evaluate gantt problems help
+set -l commands solve bound trace check evaluate gantt random problems help
 set -l instance solve bound trace check evaluate
 
 complete -c threefield -n "not __fish_seen_subcommand_from $commands" -f
@@ -10,6 +10,7 @@ complete -c threefield -n "not __fish_seen_subcommand_from $commands" -a trace -
 complete -c threefield -n "not __fish_seen_subcommand_from $commands" -a check -d "Judge an answer"
 complete -c threefield -n "not __fish_seen_subcommand_from $commands" -a evaluate -d "Report how far an answer is from the optimum"
 complete -c threefield -n "not __fish_seen_subcommand_from $commands" -a gantt -d "Draw the schedule of an answer"
+complete -c threefield -n "not __fish_seen_subcommand_from $commands" -a random -d "Write a random job table"
 complete -c threefield -n "not __fish_seen_subcommand_from $commands" -a problems -d "List the problems that are solved"
 complete -c threefield -n "__fish_seen_subcommand_from help" -f -a "$commands"
 complete -c threefield -s h -l help -d "Print help"
@@ -39,3 +40,7 @@ complete -c threefield -n "__fish_seen_subcommand_from gantt" -l to -x -d "The l
 complete -c threefield -n "__fish_seen_subcommand_from gantt" -l width -x -d "Width in pixels"
 complete -c threefield -n "__fish_seen_subcommand_from gantt" -l height -x -d "Height in pixels"
 complete -c threefield -n "__fish_seen_subcommand_from gantt" -l size -x -a "a4 a3 16:9" -d "A page or a slide"
+complete -c threefield -n "__fish_seen_subcommand_from random" -s p -l problem -x -d "The problem in three-field notation"
+complete -c threefield -n "__fish_seen_subcommand_from random" -l jobs -x -d "Number of jobs"
+complete -c threefield -n "__fish_seen_subcommand_from random" -s m -l machines -x -d "Number of machines"
+complete -c threefield -n "__fish_seen_subcommand_from random" -l seed -x -d "Number of the table"

@@ -1,16 +1,18 @@
 -- What the program does of what is asked for: which run over which texts ends how.
 use Rattle.std.specs.Prelude.{◌≡◌, ◌⊎◌, ℕ, Bool, true, List, Option, None, Some, IfSome, codes}
 use Rattle.std.specs.declared.alloc.Global.{Global}
-use Rattle.std.specs.Io.KnownBytes.{Keeps}
+use Rattle.std.specs.Io.KnownBytes.{Appends, Keeps}
 use Rattle.tf_text.specs.Counted.{DeviceUse}
 use Rattle.tf_text.specs.declared.answer.layout.Layout.TheVariants.{Two}
 use Rattle.tf_orders.specs.declared.run_orders.OrderForm.{OrderForm}
 use Rattle.tf_orders.specs.declared.run_orders.OrderForm.TheVariants.{Single, Lines, Pieces}
 use Rattle.tf_options.specs.declared.options.Work.{Work as Asking}
-use Rattle.tf_options.specs.declared.options.Work.TheVariants.{Solve, Bound, Trace, Check, Evaluate, Rate, Gantt, Problems}
+use Rattle.tf_options.specs.declared.options.Work.TheVariants.{Solve, Bound, Trace, Check, Evaluate, Rate, Gantt, Random, Problems}
 use Rattle.tf_options.specs.declared.options.OrderSource.TheVariants.{Given, Named, Drawn}
 use Rattle.tf_options.specs.declared.options.Options.{Options}
 use Rattle.tf_options.specs.Asking.{requested}
+use Rattle.tf_random.specs.Asked.{IsTableFor}
+use Rattle.tf_random.specs.declared.run_random.Wanted.{Wanted}
 use Rattle.tf_command.specs.Ending.{EndsSolving, EndsBounding, EndsTracing, EndsChecking, EndsDrawing, EndsEvaluating, EndsRating}
 
 -- the bytes of the text of each name, where they are known
@@ -59,6 +61,14 @@ RatesNamed texts options name form writer says status =
     (λ instance other. EndsRating Global form (requested options Two) instance other writer said
     status)
 
+-- the random table that is wanted was written, or nothing where there is none
+abbrev pub EndsRandom : Wanted → DeviceUse → ℕ → Type 0
+EndsRandom wanted writer status =
+    ((status ≡ 0) × ((table : List ℕ) × IsTableFor wanted table
+    × Appends writer.before writer.after table))
+    ⊎ (status ≡ 4)
+    ⊎ (((status ≡ 2) ⊎ (status ≡ 3)) × Keeps writer.before writer.after)
+
 -- what is asked for is done over the texts that it names, and ends with this line on standard error
 -- and this status
 abbrev pub Performs : Texts → Asking → DeviceUse → (Bool → List ℕ → Type 0) → ℕ → Type 0
@@ -95,6 +105,7 @@ Performs texts (Rate options (Drawn name)) writer says status =
 Performs texts (Gantt answer drawing explain) writer says status =
     EndsOver texts answer.now writer (says explain) status
     (λ reader. EndsDrawing Global drawing reader writer (says explain) status)
+Performs texts (Random wanted) writer says status = EndsRandom wanted writer status
 Performs texts (Problems None) writer says status = EndsListing writer status
 Performs texts (Problems (Some table)) writer says status =
     EndsOver texts table.now writer (says true) status (λ _. EndsListing writer status)

@@ -5,16 +5,15 @@ ghost use Rattle.tf_options.specs.Columns.{HasWidth, IsSized};
 ghost use Rattle.tf_command.specs.Ending.{EndsSolving, EndsBounding, EndsTracing, EndsChecking, EndsEvaluating, EndsRating, EndsDrawing, SaysLine, drawn_as};
 ghost use Rattle.tf_engine.specs.Drawing.{IsDrawingOf};
 ghost use Rattle.std.specs.Prelude.{◌≡◌, ◌⊎◌, None, Some, IfSome, IfOk, IfErr, true, codes};
-ghost use Rattle.tf_command.specs.Performing.{EndsListing, EndsOver, Performs, RatesNamed};
+ghost use Rattle.tf_command.specs.Performing.{EndsListing, EndsOver, EndsRandom, Performs, RatesNamed};
 ghost use Rattle.tf_command.specs.Recorded.{bytes_left};
 ghost use Rattle.tf_text.specs.Counted.{inner_of, use_of};
 
 use crate::console::Console;
 use crate::explained::{Ended, Rated, tell, tell_drawn};
-use tf_options::options::{Drawing, Evaluating, Options, OrderSource, Work};
 use crate::recorded::{MOST_BESIDE, MOST_KEPT, Recorded, room};
 use crate::report::{
-    end_check, end_evaluation, end_rating, end_run, report, say_device, say_memory,
+    end_check, end_evaluation, end_rating, end_run, report, say_device, say_memory, say_no_table,
 };
 use crate::source::Sources;
 use std::alloc::{Allocator, Global};
@@ -28,8 +27,10 @@ use tf_engine::run_gantt::run_gantt;
 use tf_engine::run_solve::run_solve;
 use tf_explain::explain;
 use tf_model::instance::Instance;
+use tf_options::options::{Drawing, Evaluating, Options, OrderSource, Work};
 use tf_orders::run_orders::{OrderForm, run_orders};
 use tf_picture::run_picture::run_picture;
+use tf_random::run_random::{Wanted, run_random};
 use tf_read::job_table::read_table;
 use tf_text::answer::layout::Layout;
 use tf_text::counted::Counted;
@@ -71,6 +72,7 @@ pub fn perform<S: Sources, W: Write, E: Write>(
             drawing,
             explain,
         } => draw_named(console, sources, answer, *drawing, *explain),
+        Work::Random(wanted) => random(console, wanted),
         Work::Problems(None) => list(console, None),
         Work::Problems(Some(name)) => list_named(console, sources, name),
     }
@@ -560,6 +562,20 @@ pub fn draw<A: Allocator + Copy, R: Read, W: Write>(
     match drawing {
         Drawing::Chart { columns } => run_gantt(alloc, answer, writer, columns),
         Drawing::Picture(view) => run_picture(alloc, &view, answer, writer),
+    }
+}
+
+/// Writes a random job table, and gives the exit status.
+fn random<W: Write, E: Write>(console: &mut Console<W, E>, wanted: &Wanted<'_>) -> u8
+    ensures { EndsRandom wanted.now (use_of W.contents console.old.writer console.new.writer)
+        result }
+{
+    match run_random(console.alloc, wanted) {
+        Ok(text) => match console.writer.push_all(text.as_slice()) {
+            Ok(()) => 0,
+            Err(_) => say_device(&mut console.errors),
+        },
+        Err(fault) => say_no_table(fault, &mut console.errors),
     }
 }
 

@@ -1,5 +1,4 @@
 //! What is said, in plain words, of a run that has ended.
-use tf_options::options::{Idle, Telling};
 use crate::recorded::Recorded;
 use std::alloc::{AllocError, Global};
 use std::io;
@@ -11,6 +10,7 @@ use tf_engine::run_check::Checked;
 use tf_evaluate::evaluation::Standing;
 use tf_explain::explain;
 use tf_model::prepare::Refusal;
+use tf_options::options::{Idle, Telling};
 use tf_orders::run_orders::{OrderForm, OrdersRated};
 use tf_text::answer::fault::AnswerFault;
 use tf_text::counted::Counted;

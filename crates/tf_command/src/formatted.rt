@@ -8,9 +8,7 @@ ghost use Rattle.tf_text.specs.Counted.{inner_of, use_of};
 
 use crate::commands::perform;
 use crate::console::Console;
-use tf_options::format::Format;
 use crate::gathered::send;
-use tf_options::options::Work;
 use crate::source::Sources;
 use std::alloc::Global;
 use std::io::Write;
@@ -18,6 +16,8 @@ use tf_export::csv::csv;
 use tf_export::documents::json;
 use tf_export::faults::fault_json;
 use tf_model::memory::OutOfMemory;
+use tf_options::format::Format;
+use tf_options::options::Work;
 use tf_text::counted::Counted;
 
 /// Texts in a format: that of standard output, and that of standard error.

@@ -2,12 +2,12 @@
 ghost use Rattle.std.specs.Prelude.{◌≡◌, ◌⊎◌};
 
 use crate::gathered::send;
-use tf_options::grammar::command;
-use tf_options::options::{Asked, understand};
 use crate::report::say_memory;
 use std::alloc::{AllocError, Global};
 use std::io::Write;
 use tf_advice::page::escape;
+use tf_options::grammar::command;
+use tf_options::options::{Asked, understand};
 use tf_text::counted::Counted;
 
 /// Says what is wrong with a command line that is none of the program's, and gives the exit status.

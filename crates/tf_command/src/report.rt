@@ -1,5 +1,5 @@
 //! What the program says of a run that gave no answer.
-ghost use Rattle.std.specs.Prelude.{◌≡◌, ◌∷◌, ◌++◌, [], codes, map};
+ghost use Rattle.std.specs.Prelude.{◌≡◌, ◌⊎◌, ◌∷◌, ◌++◌, [], codes, map};
 ghost use Rattle.std.specs.Fmt.{decimal};
 ghost use Rattle.tf_text.specs.AnswerText.{line_text};
 ghost use Rattle.tf_engine.specs.VerdictLine.{piece_fault_words};
@@ -19,6 +19,7 @@ use tf_evaluate::evaluation::Standing;
 use tf_model::ids::JobId;
 use tf_model::prepare::{Field, Refusal};
 use tf_orders::run_orders::OrdersRated;
+use tf_random::run_random::RandomFault;
 use tf_read::fault::ReadFault;
 use tf_schedule::schedule::PieceFault;
 use tf_text::answer::fault::AnswerFault;
@@ -146,6 +147,27 @@ pub fn say_device<W: Write>(writer: &mut Counted<W>) -> u8
 {
     send(writer, b"threefield: device fault\n");
     4
+}
+
+/// Says why there is no random table.
+pub fn say_no_table<W: Write>(fault: RandomFault, writer: &mut Counted<W>) -> u8
+    ensures { (result ≡ 2) ⊎ (result ≡ 3) }
+{
+    match fault {
+        RandomFault::Notation(fault) => {
+            say(
+                writer,
+                REFUSED,
+                Said::One(b"NotationFault", fault.byte as u64),
+            );
+            2
+        }
+        RandomFault::NotInATable => {
+            say(writer, REFUSED, Said::Name(b"NoTable"));
+            2
+        }
+        RandomFault::OutOfMemory => say_memory(writer),
+    }
 }
 
 /// Says what is wrong with the command line.

@@ -1,7 +1,9 @@
 -- What a command line asks for, by the name of its command and by what clap found of that.
 use Rattle.std.specs.Prelude.{◌≡◌, ℕ, Bool, false, not, ◌&&◌, ◌||◌, List, Option, None, Some, IsTrue, is_some, option_map, codes, if◌then◌else◌}
 use Rattle.std.specs.Str.{bytes_eq}
-use Rattle.tf_options.specs.Matched.{Given, AreOptionsBy, IsFlagBy, IsNumberBy, explains_by, first_fault, has_arithmetic, is_latex, is_word, lacks, most_steps, options_fault, steps_fault}
+use Rattle.tf_model.specs.Limit.{most_jobs, most_machines}
+use Rattle.tf_random.specs.declared.run_random.Wanted.{Wanted}
+use Rattle.tf_options.specs.Matched.{Given, AreOptionsBy, IsFlagBy, IsNumberBy, explains_by, first_fault, has_arithmetic, is_latex, is_word, lacks, machines_fault, most_steps, number_by, options_fault, steps_fault, unless_some}
 use Rattle.tf_options.specs.Viewing.{IsDrawingBy, drawing_fault}
 use Rattle.tf_options.specs.FormatAsked.{IsSolvedLayoutBy}
 use Rattle.tf_options.specs.declared.options.Asked.{Asked}
@@ -9,7 +11,7 @@ use Rattle.tf_options.specs.declared.options.Asked.TheVariants.{Work, Formatted,
 use Rattle.tf_options.specs.declared.options.OrderSource.{OrderSource}
 use Rattle.tf_options.specs.declared.options.OrderSource.TheVariants.{Given as Written, Named, Drawn}
 use Rattle.tf_options.specs.declared.options.Work.{Work as Asking}
-use Rattle.tf_options.specs.declared.options.Work.TheVariants.{Solve, Bound, Trace, Check, Evaluate, Rate, Gantt, Problems}
+use Rattle.tf_options.specs.declared.options.Work.TheVariants.{Solve, Bound, Trace, Check, Evaluate, Rate, Gantt, Random, Problems}
 
 -- the orders that are evaluated: that of `--order`, or those of the text that `--orders` names; or the
 -- pieces of the text that `--schedule` names
@@ -44,6 +46,21 @@ input_fault (Drawn name) =
     fault_if (bytes_eq name.now (codes "-"))
     (codes "INPUT and --schedule cannot both be standard input")
 
+-- what a random table is to be like
+pub record IsWantedBy (given : Given) (wanted : Wanted) : Type 0 where
+  pub problem : given.value (codes "problem") ≡ Some wanted.problem.now
+  pub jobs : number_by given (codes "jobs") 1 most_jobs ≡ Some wanted.jobs
+  pub machines : IsNumberBy 1 most_machines (given.value (codes "machines")) wanted.machines
+  pub seed : number_by given (codes "seed") 0 4294967295 ≡ Some wanted.seed
+
+abbrev pub wanted_fault : Given → Option (List ℕ)
+wanted_fault given = first_fault (machines_fault given)
+    (first_fault
+    (unless_some (codes "--jobs takes a number from 1 to 100000")
+    (number_by given (codes "jobs") 1 most_jobs))
+    (unless_some (codes "--seed takes a number from 0 to 4294967295")
+    (number_by given (codes "seed") 0 4294967295)))
+
 -- the work of a command, and each of its options
 abbrev pub IsWorkBy : List ℕ → Given → Bool → Asking → Type 0
 IsWorkBy name given on_terminal (Solve options layout) =
@@ -77,6 +94,7 @@ IsWorkBy name given on_terminal (Gantt answer drawing explain) =
     × (given.value (codes "ANSWER") ≡ Some answer.now)
     × IsDrawingBy given drawing
     × (explain ≡ explains_by (given.value (codes "explain")) on_terminal)
+IsWorkBy name given on_terminal (Random wanted) = (name ≡ codes "random") × IsWantedBy given wanted
 IsWorkBy name given on_terminal (Problems table) =
     (name ≡ codes "problems")
     × (option_map (λ file. file.now) table ≡ given.value (codes "FILE"))
@@ -105,9 +123,9 @@ named_fault given =
     if is_some (given.value (codes "order")) then None
     else (if is_some (given.value (codes "orders"))
     then fault_if (is_word (given.value (codes "orders")) (codes "-"))
-        (codes "INPUT and --orders cannot both be standard input")
+    (codes "INPUT and --orders cannot both be standard input")
     else fault_if (is_word (given.value (codes "schedule")) (codes "-"))
-        (codes "INPUT and --schedule cannot both be standard input"))
+    (codes "INPUT and --schedule cannot both be standard input"))
 
 abbrev pub orders_fault : Given → Option (List ℕ)
 orders_fault given =
@@ -124,7 +142,8 @@ abbrev pub fault_by : List ℕ → Given → Option (List ℕ)
 fault_by name given =
     if bytes_eq name (codes "gantt") then drawing_fault given
     else (if bytes_eq name (codes "problems") then None
-    else first_fault (options_fault given) (own_fault name given))
+    else (if bytes_eq name (codes "random") then wanted_fault given
+    else first_fault (options_fault given) (own_fault name given)))
 
 -- a value is not there that clap always gives, or the command is none of the program's
 abbrev pub lacks_options : Given → Bool
@@ -141,8 +160,9 @@ abbrev pub is_incomplete : List ℕ → Given → Bool
 is_incomplete name given =
     if bytes_eq name (codes "gantt")
     then lacks given (codes "ANSWER") || lacks given (codes "columns")
+    else (if bytes_eq name (codes "random") then lacks given (codes "problem")
     else (if has_no_answer name || is_rating name given then lacks_options given
-    else lacks_options given || lacks_answer name given)
+    else lacks_options given || lacks_answer name given))
 
 -- the command's work, the first fault of its values, or want of memory where clap gave too little
 abbrev pub IsAskedBy : List ℕ → Given → Bool → Asked → Type 0

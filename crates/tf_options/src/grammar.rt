@@ -52,6 +52,12 @@ Example: threefield solve -p \"1||sumC\" table.txt | threefield gantt -c 40
 Exit status: 0 drawn, 2 refused, 3 want of memory,
              4 a file or a device failed, 5 the command line is wrong.";
 
+const ABOUT_RANDOM: &str = "\
+Example: threefield random -p \"1|rj,prmp|Lmax\" --jobs 20 --seed 7 > table.txt
+
+Exit status: 0 written, 2 refused, 3 want of memory,
+             4 a file or a device failed, 5 the command line is wrong.";
+
 const ABOUT_PROBLEMS: &str = "\
 Example: threefield problems examples/all_fields.txt
 
@@ -83,6 +89,7 @@ pub fn command<'a>(alloc: Global) -> Result<Command<'a>, AllocError> {
         .subcommand(check_command(alloc)?)?
         .subcommand(evaluate_command(alloc)?)?
         .subcommand(gantt_command(alloc)?)?
+        .subcommand(random_command(alloc)?)?
         .subcommand(problems_command(alloc)?)
 }
 
@@ -242,16 +249,26 @@ fn gantt_command<'a>(alloc: Global) -> Result<Command<'a>, AllocError> {
 
 // The command with what a picture shows of a schedule, and how large it is.
 fn with_view_options<'a>(alloc: Global, command: Command<'a>) -> Result<Command<'a>, AllocError> {
-    let fold = of_picture(alloc, "fold", "N", "With --svg: strips of N time steps, one below the other")?;
+    let fold = of_picture(
+        alloc,
+        "fold",
+        "N",
+        "With --svg: strips of N time steps, one below the other",
+    )?;
     let from = of_picture(alloc, "from", "T", "With --svg: the first time shown")?;
     let to = of_picture(alloc, "to", "T", "With --svg: the last time shown")?;
     let width = of_picture(alloc, "width", "PX", "With --svg: the width in pixels")?;
     let height = of_picture(alloc, "height", "PX", "With --svg: the height in pixels")?;
-    let size = of_picture(alloc, "size", "SIZE", "With --svg: a page, a4 or a3, or a slide, 16:9")?
-        .value_parser(SIZES.as_slice())
-        .hide_possible_values(true)
-        .conflicts_with("width")?
-        .conflicts_with("height")?;
+    let size = of_picture(
+        alloc,
+        "size",
+        "SIZE",
+        "With --svg: a page, a4 or a3, or a slide, 16:9",
+    )?
+    .value_parser(SIZES.as_slice())
+    .hide_possible_values(true)
+    .conflicts_with("width")?
+    .conflicts_with("height")?;
     command
         .arg(fold)?
         .arg(from)?
@@ -274,6 +291,48 @@ fn of_picture<'a>(
         .help(help)
         .allow_negative_numbers(true)
         .requires_arg("svg")
+}
+
+fn random_command<'a>(alloc: Global) -> Result<Command<'a>, AllocError> {
+    let problem = problem(alloc);
+    let jobs = Arg::new(alloc, "jobs")
+        .long("jobs")
+        .value_name("N")
+        .help("The number of jobs, 1 to 100000")
+        .allow_negative_numbers(true)
+        .required(true);
+    let machines = machines(alloc);
+    let seed = Arg::new(alloc, "seed")
+        .long("seed")
+        .value_name("S")
+        .help("Another number gives another table, 0 to 4294967295")
+        .allow_negative_numbers(true)
+        .default_value("1");
+    Command::new(alloc, "random")
+        .about("Writes a random job table for a problem")
+        .after_help(ABOUT_RANDOM)
+        .arg(problem)?
+        .arg(jobs)?
+        .arg(machines)?
+        .arg(seed)
+}
+
+fn problem<'a>(alloc: Global) -> Arg<'a> {
+    Arg::new(alloc, "problem")
+        .short('p')
+        .long("problem")
+        .value_name("TEXT")
+        .help("The problem, in quotes: \"P2|prmp|Cmax\"")
+        .required(true)
+}
+
+fn machines<'a>(alloc: Global) -> Arg<'a> {
+    Arg::new(alloc, "machines")
+        .short('m')
+        .long("machines")
+        .value_name("M")
+        .help("The number of machines, 1 to 1000")
+        .allow_negative_numbers(true)
 }
 
 fn problems_command<'a>(alloc: Global) -> Result<Command<'a>, AllocError> {
@@ -300,12 +359,7 @@ fn explain<'a>(alloc: Global) -> Arg<'a> {
 
 // The command with what names a problem and an instance.
 fn with_options<'a>(alloc: Global, command: Command<'a>) -> Result<Command<'a>, AllocError> {
-    let problem = Arg::new(alloc, "problem")
-        .short('p')
-        .long("problem")
-        .value_name("TEXT")
-        .help("The problem, in quotes: \"P2|prmp|Cmax\"")
-        .required(true);
+    let problem = problem(alloc);
     let format = Arg::new(alloc, "format")
         .short('f')
         .long("format")
@@ -314,12 +368,7 @@ fn with_options<'a>(alloc: Global, command: Command<'a>) -> Result<Command<'a>, 
         .value_parser(FORMATS.as_slice())
         .hide_possible_values(true)
         .default_value("table");
-    let machines = Arg::new(alloc, "machines")
-        .short('m')
-        .long("machines")
-        .value_name("M")
-        .help("The number of machines, 1 to 1000")
-        .allow_negative_numbers(true);
+    let machines = machines(alloc);
     let input = Arg::new(alloc, "INPUT")
         .help("The instance: a file, or - for standard input")
         .required(true);

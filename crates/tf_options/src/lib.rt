@@ -6,3 +6,4 @@ pub mod format;
 pub mod grammar;
 mod help;
 pub mod options;
+mod wanting;

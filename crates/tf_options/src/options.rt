@@ -16,6 +16,7 @@ ghost use Rattle.tf_options.specs.OptionNumber.{numeral_in};
 ghost use Rattle.tf_options.specs.Understood.{HasNoOrder, IsAskedBy, IsOrderBy, input_fault, lacks_options};
 
 use crate::format::Format;
+use crate::wanting::wanted_in;
 use clap::error::ErrorKind;
 use clap::{ArgMatches, Command, Error};
 use std::alloc::{AllocError, Allocator, Global};
@@ -26,6 +27,7 @@ use tf_export::csv::Table;
 use tf_export::documents::Document;
 use tf_model::limit::{LIMIT, MOST_JOBS, MOST_MACHINES};
 use tf_picture::view::{Size, View};
+use tf_random::run_random::Wanted;
 use tf_text::answer::layout::Layout;
 use tf_text::chart::MOST_COLUMNS;
 use tf_trace::board::Style;
@@ -155,6 +157,8 @@ pub enum Work<'a> {
         drawing: Drawing,
         explain: bool,
     },
+    /// Write a random job table.
+    Random(Wanted<'a>),
     /// List the problems that are solved, with a job table those that it has the fields for.
     Problems(Option<&'a str>),
 }
@@ -180,9 +184,13 @@ pub const MOST_STEPS: u32 = 1_000_000;
 pub const MOST_SIDE: u32 = 100_000;
 
 const FROM_TOLD: &str = "--from takes a number from 0 to 4000000000000000000";
+
 const TO_TOLD: &str = "--to takes a number from 0 to 4000000000000000000";
+
 const FOLD_TOLD: &str = "--fold takes a number from 1 to 4000000000000000000";
+
 const WIDTH_TOLD: &str = "--width takes a number from 1 to 100000";
+
 const HEIGHT_TOLD: &str = "--height takes a number from 1 to 100000";
 
 /// What the words ask for. With `--explain=auto`, the default, it is explained on a terminal.
@@ -275,6 +283,12 @@ pub fn asked_by<'a>(name: &str, given: &ArgMatches<'a>, on_terminal: bool) -> As
     }
     if name == "problems" {
         return Asked::Work(Work::Problems(given.get_str("FILE")));
+    }
+    if name == "random" {
+        return match wanted_in(given) {
+            Ok(wanted) => Asked::Work(Work::Random(wanted)),
+            Err(asked) => asked,
+        };
     }
     let options = match options_in(given, on_terminal) {
         Ok(options) => options,
@@ -572,7 +586,7 @@ fn options_in<'a>(given: &ArgMatches<'a>, on_terminal: bool) -> Result<Options<'
 }
 
 // The number of machines, where it is given.
-fn machines_in<'a>(given: &ArgMatches<'a>) -> Result<Option<u32>, Asked<'a>>
+pub(crate) fn machines_in<'a>(given: &ArgMatches<'a>) -> Result<Option<u32>, Asked<'a>>
     ensures columns { IfErr result HasColumns }
     ensures given { IfOk result
         (IsNumberBy 1 most_machines ((given_of given.now).value (codes "machines"))) }
@@ -683,7 +697,7 @@ fn pair_in(word: &str) -> Option<(u32, u32)>
 }
 
 // A number of digits alone, within a range.
-fn number_within(word: &str, least: u32, most: u32) -> Option<u32>
+pub(crate) fn number_within(word: &str, least: u32, most: u32) -> Option<u32>
     ensures { result ≡ numeral_in least most word.now }
 {
     let digits = word.as_bytes();

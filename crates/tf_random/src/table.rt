@@ -1,0 +1,86 @@
+//! A random job table.
+ghost use Rattle.std.specs.Prelude.{◌≡◌, ◌++◌, IfOk, OnOk};
+ghost use Rattle.std.specs.List.{flat_map, range_with_len};
+ghost use Rattle.tf_random.specs.Table.{arc_line, arc_lines, heading, job_line, machines_line, random_table};
+
+use crate::line::{push_arc_if, push_job};
+use crate::plan::Plan;
+use crate::writing::push_part;
+use std::alloc::Allocator;
+use tf_model::memory::OutOfMemory;
+use tf_model::problem::Problem;
+use tf_notation::writing::notation_text;
+
+/// The random table of a plan that was made for this problem. Its first line is a comment that names
+/// the problem and the seed.
+#[tactic(auto, unfolding(crate::specs::Table::random_table))]
+pub fn random_table<A: Allocator + Copy>(
+    alloc: A,
+    problem: &Problem,
+    plan: &Plan,
+) -> Result<Vec<u8, A>, OutOfMemory>
+    ensures { IfOk result (λ text. text.items ≡ random_table problem.now plan.now) }
+{
+    let notation = notation_text(alloc, problem)?;
+    let mut text = Vec::new(alloc);
+    push_heading(&mut text, notation.as_bytes(), plan)?;
+    push_jobs(&mut text, plan)?;
+    push_arcs(&mut text, plan)?;
+    Ok(text)
+}
+
+fn push_heading<A: Allocator>(
+    text: &mut Vec<u8, A>,
+    notation: &[u8],
+    plan: &Plan,
+) -> Result<(), OutOfMemory>
+    ensures { OnOk result (text.new.items ≡ text.old.items ++ heading notation.now plan.now) }
+{
+    text.extend_from_slice(b"# ")?;
+    text.extend_from_slice(notation)?;
+    push_part(text, b", seed ", u64::from(plan.seed))?;
+    text.extend_from_slice(b"\ntable 1\n")?;
+    push_machines(text, plan.machines)
+}
+
+fn push_machines<A: Allocator>(text: &mut Vec<u8, A>, machines: u32) -> Result<(), OutOfMemory>
+    ensures { OnOk result (text.new.items ≡ text.old.items ++ machines_line machines) }
+{
+    if machines == 0 {
+        return Ok(());
+    }
+    push_part(text, b"machines ", u64::from(machines))?;
+    text.extend_from_slice(b"\n")?;
+    Ok(())
+}
+
+#[tactic(auto, using(crate::proofs::Parts::each_more))]
+fn push_jobs<A: Allocator>(text: &mut Vec<u8, A>, plan: &Plan) -> Result<(), OutOfMemory>
+    ensures { OnOk result (text.new.items ≡ text.old.items
+        ++ flat_map (job_line plan.now) (range_with_len 1 plan.now.jobs)) }
+{
+    for place in 0..plan.jobs {
+        push_job(text, plan, place + 1)?;
+    }
+    Ok(())
+}
+
+fn push_arcs<A: Allocator>(text: &mut Vec<u8, A>, plan: &Plan) -> Result<(), OutOfMemory>
+    ensures { OnOk result (text.new.items ≡ text.old.items ++ arc_lines plan.now) }
+{
+    if plan.arcs {
+        return push_each_arc(text, plan);
+    }
+    Ok(())
+}
+
+#[tactic(auto, using(crate::proofs::Parts::each_more))]
+fn push_each_arc<A: Allocator>(text: &mut Vec<u8, A>, plan: &Plan) -> Result<(), OutOfMemory>
+    ensures { OnOk result (text.new.items ≡ text.old.items
+        ++ flat_map (arc_line plan.now) (range_with_len 1 plan.now.jobs)) }
+{
+    for place in 0..plan.jobs {
+        push_arc_if(text, plan, place + 1)?;
+    }
+    Ok(())
+}
