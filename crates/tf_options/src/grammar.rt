@@ -253,17 +253,17 @@ fn with_view_options<'a>(alloc: Global, command: Command<'a>) -> Result<Command<
         alloc,
         "fold",
         "N",
-        "With --svg: strips of N time steps, one below the other",
+        "Strips of N time steps, one below the other, with --svg",
     )?;
-    let from = of_picture(alloc, "from", "T", "With --svg: the first time shown")?;
-    let to = of_picture(alloc, "to", "T", "With --svg: the last time shown")?;
-    let width = of_picture(alloc, "width", "PX", "With --svg: the width in pixels")?;
-    let height = of_picture(alloc, "height", "PX", "With --svg: the height in pixels")?;
+    let from = of_picture(alloc, "from", "T", "The first time shown, with --svg")?;
+    let to = of_picture(alloc, "to", "T", "The last time shown, with --svg")?;
+    let width = of_picture(alloc, "width", "PX", "The width in pixels, with --svg")?;
+    let height = of_picture(alloc, "height", "PX", "The height in pixels, with --svg")?;
     let size = of_picture(
         alloc,
         "size",
         "SIZE",
-        "With --svg: a page, a4 or a3, or a slide, 16:9",
+        "A page, a4 or a3, or a slide, 16:9, with --svg",
     )?
     .value_parser(SIZES.as_slice())
     .hide_possible_values(true)

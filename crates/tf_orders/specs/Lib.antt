@@ -2,6 +2,7 @@
 pub mod Orders
 pub mod Laying
 pub mod Measuring
+pub mod Pieces
 pub mod OrderText
 pub mod RunOrders
 -- within the crate
