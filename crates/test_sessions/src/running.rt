@@ -4,10 +4,10 @@ use std::alloc::{AllocError, Global};
 use tf_command::commands::perform;
 use tf_command::console::Console;
 use tf_command::formatted::perform_formatted;
-use tf_options::grammar::command;
 use tf_command::misuse::say_misuse;
-use tf_options::options::{Asked, understand};
 use tf_command::report::{say_memory, say_usage};
+use tf_options::grammar::command;
+use tf_options::options::{Asked, understand};
 use tf_text::counted::Counted;
 
 /// What a command line gives: its status, and the bytes on standard output and standard error.

@@ -1,5 +1,5 @@
 -- Texts that are written part by part.
-use Rattle.std.proofs.Common.{◌≡◌, List, [], ◌∷◌, ◌++◌, codes, ℕ, suc, ◌+◌, ◌/◌, sym, ap, ◌∙◌, append-nil, arith}
+use Rattle.std.proofs.Common.{◌≡◌, List, [], ◌∷◌, ◌++◌, codes, ℕ, suc, ◌+◌, ◌-◌, ◌≤◌, sym, ap, ◌∙◌, append-nil, arith}
 use Rattle.std.specs.List.{flat_map, range_with_len}
 use Rattle.std.proofs.lemmas.Grind.{flat_map-append}
 use Rattle.std.proofs.lemmas.List.Concat.{flat_map-cons}
@@ -7,8 +7,13 @@ use Rattle.tf_model.proofs.Ranges.{range_push}
 use Rattle.tf_schedule.specs.declared.piece.Piece.{Piece}
 use Rattle.tf_schedule.specs.Piece.{as_time}
 use Rattle.tf_text.proofs.Written.{then}
-use Rattle.tf_picture.specs.Picture.{part, told, place, fill, edge, width, bar}
-use Rattle.tf_picture.specs.Picture.{axis, bottom, font, front, height, line_at, number, opening, row, rows, sizes, time_labels_at, title, titles}
+use Rattle.tf_picture.specs.Picture.{part, told, place, fill, edge, width, bar_text, sizes, titles}
+use Rattle.tf_picture.specs.Picture.{axis, bar_group, front, hatching, label_group, link_group, opening, rows, strip, title}
+use Rattle.tf_picture.specs.Strips.{height}
+use Rattle.tf_picture.specs.declared.strips.Strips.{Strips}
+use Rattle.tf_picture.specs.declared.view.Size.{Size}
+use Rattle.tf_picture.specs.declared.bars.Bar.{Bar}
+use Rattle.tf_picture.specs.declared.frame.Frame.{Frame}
 use Rattle.tf_picture.specs.declared.front.Heading.{Heading}
 
 -- parts that are written one after the other
@@ -35,22 +40,6 @@ pub six : (t0 t1 t2 t3 t4 t5 t6 a b c d e f : List ℕ)
 six t0 t1 t2 t3 t4 t5 t6 a b c d e f e1 e2 e3 e4 e5 e6 =
     then t0 t5 t6 (a ++ b ++ c ++ d ++ e) f (five t0 t1 t2 t3 t4 t5 a b c d e e1 e2 e3 e4 e5) e6
 
-pub seven : (t0 t1 t2 t3 t4 t5 t6 t7 a b c d e f h : List ℕ)
-    → t1 ≡ t0 ++ a → t2 ≡ t1 ++ b → t3 ≡ t2 ++ c → t4 ≡ t3 ++ d → t5 ≡ t4 ++ e → t6 ≡ t5 ++ f
-    → t7 ≡ t6 ++ h
-    → t7 ≡ t0 ++ (a ++ b ++ c ++ d ++ e ++ f ++ h)
-seven t0 t1 t2 t3 t4 t5 t6 t7 a b c d e f h e1 e2 e3 e4 e5 e6 e7 =
-    then t0 t6 t7 (a ++ b ++ c ++ d ++ e ++ f) h
-    (six t0 t1 t2 t3 t4 t5 t6 a b c d e f e1 e2 e3 e4 e5 e6) e7
-
-pub eight : (t0 t1 t2 t3 t4 t5 t6 t7 t8 a b c d e f h i : List ℕ)
-    → t1 ≡ t0 ++ a → t2 ≡ t1 ++ b → t3 ≡ t2 ++ c → t4 ≡ t3 ++ d → t5 ≡ t4 ++ e → t6 ≡ t5 ++ f
-    → t7 ≡ t6 ++ h → t8 ≡ t7 ++ i
-    → t8 ≡ t0 ++ (a ++ b ++ c ++ d ++ e ++ f ++ h ++ i)
-eight t0 t1 t2 t3 t4 t5 t6 t7 t8 a b c d e f h i e1 e2 e3 e4 e5 e6 e7 e8 =
-    then t0 t7 t8 (a ++ b ++ c ++ d ++ e ++ f ++ h) i
-    (seven t0 t1 t2 t3 t4 t5 t6 t7 a b c d e f h e1 e2 e3 e4 e5 e6 e7) e8
-
 -- one more of a row of numbered parts
 pub each_more : (f : ℕ → List ℕ) (a n : ℕ) (t0 t1 t2 : List ℕ)
     → t1 ≡ t0 ++ flat_map f (range_with_len a n) → t2 ≡ t1 ++ f (a + n)
@@ -67,22 +56,15 @@ each_more f a n t0 t1 t2 first next =
     then t0 t1 t2 (flat_map f (range_with_len a n)) (f (a + n)) first next
     ∙ ap (λ text. t0 ++ text) (sym whole)
 
--- the size of the picture
-pub opening_written : (machines : ℕ) (t0 t1 t2 t3 t4 t5 t6 : List ℕ)
-    → t1 ≡ t0 ++ codes "<svg xmlns=\"http://www.w3.org/2000/svg\""
-    → t2 ≡ t1 ++ part (codes " role=\"img\" width=\"") 1200
-    → t3 ≡ t2 ++ part (codes "\" height=\"") (height machines / 100)
-    → t4 ≡ t3 ++ part (codes "\" viewBox=\"0 0 ") 120000
-    → t5 ≡ t4 ++ part (codes " ") (height machines)
-    → t6 ≡ t5 ++ codes "\" font-family=\"sans-serif\">\n"
-    → t6 ≡ t0 ++ opening machines
-opening_written machines t0 t1 t2 t3 t4 t5 t6 e1 e2 e3 e4 e5 e6 =
-    six t0 t1 t2 t3 t4 t5 t6 (codes "<svg xmlns=\"http://www.w3.org/2000/svg\"")
-    (part (codes " role=\"img\" width=\"") 1200)
-    (part (codes "\" height=\"") (height machines / 100))
-    (part (codes "\" viewBox=\"0 0 ") 120000)
-    (part (codes " ") (height machines))
-    (codes "\" font-family=\"sans-serif\">\n") e1 e2 e3 e4 e5 e6
+-- the same of parts that are numbered from `a` on
+pub each_later : (f : ℕ → List ℕ) (a n : ℕ) (t0 t1 t2 : List ℕ) → a ≤ n
+    → t1 ≡ t0 ++ flat_map f (range_with_len a (n - a)) → t2 ≡ t1 ++ f n
+    → t2 ≡ t0 ++ flat_map f (range_with_len a (n + 1 - a))
+each_later f a n t0 t1 t2 from first next =
+    let here : a + (n - a) ≡ n = omega (arith, from) in
+    let more : (n - a) + 1 ≡ n + 1 - a = omega (arith, from) in
+    each_more f a (n - a) t0 t1 t2 first (next ∙ ap (λ m. t1 ++ f m) (sym here))
+    ∙ ap (λ m. t0 ++ flat_map f (range_with_len a m)) more
 
 -- the title, twice
 pub titles_written : (text t0 t1 t2 t3 t4 t5 t6 : List ℕ)
@@ -112,58 +94,6 @@ sizes_written heading length t0 t1 t2 t3 t4 t5 e1 e2 e3 e4 e5 =
     (part (codes "jobs ") heading.jobs) (part (codes ", machines ") heading.machines)
     (part (codes ", length ") length) (codes "</text>\n") e1 e2 e3 e4 e5
 
--- the rows and their numbers
-pub rows_written : (machines : ℕ) (t0 t1 t2 t3 t4 t5 t6 t7 t8 : List ℕ)
-    → t1 ≡ t0 ++ codes "<g fill=\"#fafafa\" stroke=\"#bbbbbb\" stroke-width=\"50\">\n"
-    → t2 ≡ t1 ++ flat_map (row machines) (range_with_len 1 machines)
-    → t3 ≡ t2 ++ part (codes "</g>\n<g text-anchor=\"end\" font-size=\"") (font machines)
-    → t4 ≡ t3 ++ codes "\">\n"
-    → t5 ≡ t4 ++ flat_map (number machines) (range_with_len 1 machines)
-    → t6 ≡ t5 ++ codes "<text x=\"5800\" y=\"7800\" font-size=\"1100\">machine</text>\n"
-    → t7 ≡ t6 ++ part (codes "<text x=\"5800\" y=\"") (bottom machines + 1500)
-    → t8 ≡ t7 ++ codes "\" font-size=\"1100\">time</text>\n</g>\n"
-    → t8 ≡ t0 ++ rows machines
-rows_written machines t0 t1 t2 t3 t4 t5 t6 t7 t8 e1 e2 e3 e4 e5 e6 e7 e8 =
-    eight t0 t1 t2 t3 t4 t5 t6 t7 t8
-    (codes "<g fill=\"#fafafa\" stroke=\"#bbbbbb\" stroke-width=\"50\">\n")
-    (flat_map (row machines) (range_with_len 1 machines))
-    (part (codes "</g>\n<g text-anchor=\"end\" font-size=\"") (font machines)) (codes "\">\n")
-    (flat_map (number machines) (range_with_len 1 machines))
-    (codes "<text x=\"5800\" y=\"7800\" font-size=\"1100\">machine</text>\n")
-    (part (codes "<text x=\"5800\" y=\"") (bottom machines + 1500))
-    (codes "\" font-size=\"1100\">time</text>\n</g>\n") e1 e2 e3 e4 e5 e6 e7 e8
-
--- the axis
-pub axis_written : (machines length step : ℕ) (t0 t1 t2 t3 t4 t5 : List ℕ)
-    → t1 ≡ t0 ++ codes "<g stroke=\"#bbbbbb\" stroke-width=\"50\">\n"
-    → t2 ≡ t1 ++ flat_map (line_at machines length step) (range_with_len 0 (length / step + 1))
-    → t3 ≡ t2 ++ codes "</g>\n<g font-size=\"1100\" text-anchor=\"middle\">\n"
-    → t4 ≡ t3
-    ++ flat_map (time_labels_at machines length step) (range_with_len 0 (length / step + 1))
-    → t5 ≡ t4 ++ codes "</g>\n"
-    → t5 ≡ t0 ++ axis machines length step
-axis_written machines length step t0 t1 t2 t3 t4 t5 e1 e2 e3 e4 e5 =
-    five t0 t1 t2 t3 t4 t5 (codes "<g stroke=\"#bbbbbb\" stroke-width=\"50\">\n")
-    (flat_map (line_at machines length step) (range_with_len 0 (length / step + 1)))
-    (codes "</g>\n<g font-size=\"1100\" text-anchor=\"middle\">\n")
-    (flat_map (time_labels_at machines length step) (range_with_len 0 (length / step + 1)))
-    (codes "</g>\n") e1 e2 e3 e4 e5
-
--- all that comes before the bars
-pub front_written : (heading : Heading) (length step : ℕ) (t0 t1 t2 t3 t4 t5 t6 : List ℕ)
-    → t1 ≡ t0 ++ opening heading.machines
-    → t2 ≡ t1 ++ titles (title heading)
-    → t3 ≡ t2 ++ sizes heading length
-    → t4 ≡ t3 ++ rows heading.machines
-    → t5 ≡ t4 ++ axis heading.machines length step
-    → t6 ≡ t5 ++ codes "<g stroke=\"#222222\" stroke-width=\"60\">\n"
-    → t6 ≡ t0 ++ front heading length step
-unfolding front
-front_written heading length step t0 t1 t2 t3 t4 t5 t6 e1 e2 e3 e4 e5 e6 =
-    six t0 t1 t2 t3 t4 t5 t6 (opening heading.machines) (titles (title heading))
-    (sizes heading length) (rows heading.machines) (axis heading.machines length step)
-    (codes "<g stroke=\"#222222\" stroke-width=\"60\">\n") e1 e2 e3 e4 e5 e6
-
 -- what is told of a piece
 pub told_written : (p : Piece) (t0 t1 t2 t3 t4 t5 : List ℕ)
     → t1 ≡ t0 ++ part (codes "<title>job ") p.job
@@ -176,16 +106,40 @@ told_written p t0 t1 t2 t3 t4 t5 e1 e2 e3 e4 e5 =
     then t0 t4 t5 _ _ (then t0 t3 t4 _ _ (then t0 t2 t3 _ _ (then t0 t1 t2 _ _ e1 e2) e3) e4) e5
 
 -- the bar of a piece
-pub bar_written : (machines length : ℕ) (p : Piece) (t0 t1 t2 t3 t4 t5 t6 : List ℕ)
-    → t1 ≡ t0 ++ place machines length p
+pub bar_written : (f : Frame) (b : Bar) (t0 t1 t2 t3 t4 t5 t6 : List ℕ)
+    → t1 ≡ t0 ++ place f b.piece
     → t2 ≡ t1 ++ codes "\" fill=\""
-    → t3 ≡ t2 ++ fill p.job
-    → t4 ≡ t3 ++ edge (width length p)
-    → t5 ≡ t4 ++ told p
+    → t3 ≡ t2 ++ fill b.fill
+    → t4 ≡ t3 ++ edge (width f b.piece) b.edged
+    → t5 ≡ t4 ++ told b.piece
     → t6 ≡ t5 ++ codes "</rect>\n"
-    → t6 ≡ t0 ++ bar machines length p
-unfolding bar
-bar_written machines length p t0 t1 t2 t3 t4 t5 t6 e1 e2 e3 e4 e5 e6 =
+    → t6 ≡ t0 ++ bar_text f b
+unfolding bar_text
+bar_written f b t0 t1 t2 t3 t4 t5 t6 e1 e2 e3 e4 e5 e6 =
     then t0 t5 t6 _ _
     (then t0 t4 t5 _ _
     (then t0 t3 t4 _ _ (then t0 t2 t3 _ _ (then t0 t1 t2 _ _ e1 e2) e3) e4) e5) e6
+
+-- a strip
+pub strip_written : (step : ℕ) (bars : List Bar) (resumed : List Piece) (f : Frame)
+    (t0 t1 t2 t3 t4 t5 : List ℕ)
+    → t1 ≡ t0 ++ rows f
+    → t2 ≡ t1 ++ axis f step
+    → t3 ≡ t2 ++ bar_group f bars
+    → t4 ≡ t3 ++ link_group f resumed
+    → t5 ≡ t4 ++ label_group f bars
+    → t5 ≡ t0 ++ strip step bars resumed f
+unfolding strip
+strip_written step bars resumed f t0 t1 t2 t3 t4 t5 e1 e2 e3 e4 e5 =
+    five t0 t1 t2 t3 t4 t5 _ _ _ _ _ e1 e2 e3 e4 e5
+
+-- all that comes before the strips
+pub front_written : (heading : Heading) (size : Size) (strips : Strips) (t0 t1 t2 t3 t4 : List ℕ)
+    → t1 ≡ t0 ++ opening size (height strips)
+    → t2 ≡ t1 ++ hatching
+    → t3 ≡ t2 ++ titles (title heading)
+    → t4 ≡ t3 ++ sizes heading strips.last
+    → t4 ≡ t0 ++ front heading size strips
+unfolding front
+front_written heading size strips t0 t1 t2 t3 t4 e1 e2 e3 e4 =
+    four t0 t1 t2 t3 t4 _ _ _ _ e1 e2 e3 e4

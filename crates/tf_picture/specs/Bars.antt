@@ -33,6 +33,6 @@ IsApart b before =
     → before.piece.job ≡ b.piece.job
 
 -- the bars of pieces by machine and start
-unfoldable pub bars_of : Option Bar → List Piece → List Bar
+abbrev pub bars_of : Option Bar → List Piece → List Bar
 bars_of before [] = []
 bars_of before (p ∷ ps) = bar_of before p ∷ bars_of (Some (bar_of before p)) ps

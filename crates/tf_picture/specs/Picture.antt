@@ -59,8 +59,8 @@ place f p =
     ++ part (codes "\" width=\"") (max (width f p) 50)
     ++ part (codes "\" height=\"") (bar_height f.machines)
 
-unfoldable pub bar : Frame → Bar → List ℕ
-bar f b =
+unfoldable pub bar_text : Frame → Bar → List ℕ
+bar_text f b =
     place f b.piece ++ codes "\" fill=\"" ++ fill b.fill ++ edge (width f b.piece) b.edged
     ++ told b.piece ++ codes "</rect>\n"
 
@@ -70,7 +70,13 @@ is_shown f p =
     nat_le p.machine f.machines && nat_lt (as_time p.start) f.to && nat_lt f.from (as_time p.stop)
 
 abbrev pub bar_if_shown : Frame → Bar → List ℕ
-bar_if_shown f b = if is_shown f b.piece then bar f b else []
+bar_if_shown f b = if is_shown f b.piece then bar_text f b else []
+
+abbrev pub bar_group : Frame → List Bar → List ℕ
+bar_group f bars =
+    codes "<g stroke=\"#222222\" stroke-width=\"60\">\n"
+    ++ flat_map (bar_if_shown f) bars
+    ++ codes "</g>\n"
 
 -- ---- the lines between the pieces of a job
 
@@ -78,14 +84,19 @@ bar_if_shown f b = if is_shown f b.piece then bar f b else []
 abbrev pub foot : Frame → ℕ → ℕ
 foot f machine = top f machine + bar_height f.machines * 9 / 10
 
--- a line from the end of a piece to the start of the next
-abbrev pub link : Frame → Piece → Piece → List ℕ
-link f p q =
+abbrev pub link_begin : Frame → Piece → List ℕ
+link_begin f p =
     part (codes "<line x1=\"") (across f (as_time p.stop))
     ++ part (codes "\" y1=\"") (foot f p.machine)
-    ++ part (codes "\" x2=\"") (across f (as_time q.start))
-    ++ part (codes "\" y2=\"") (foot f q.machine)
-    ++ codes "\"/>\n"
+
+abbrev pub link_end : Frame → Piece → List ℕ
+link_end f p =
+    part (codes "\" x2=\"") (across f (as_time p.start))
+    ++ part (codes "\" y2=\"") (foot f p.machine)
+
+-- a line from the end of a piece to the start of the next
+abbrev pub link : Frame → Piece → Piece → List ℕ
+link f p q = link_begin f p ++ link_end f q ++ codes "\"/>\n"
 
 -- they are pieces of one job, both shown, with both ends of the line in the strip
 abbrev pub is_linked : Frame → Piece → Piece → Bool
@@ -97,9 +108,16 @@ abbrev pub link_if_shown : Frame → Option Piece → Piece → List ℕ
 link_if_shown f None q = []
 link_if_shown f (Some p) q = if is_linked f p q then link f p q else []
 
-unfoldable pub links : Frame → Option Piece → List Piece → List ℕ
+abbrev pub links : Frame → Option Piece → List Piece → List ℕ
 links f before [] = []
 links f before (p ∷ ps) = link_if_shown f before p ++ links f (Some p) ps
+
+abbrev pub link_group : Frame → List Piece → List ℕ
+link_group f resumed =
+    codes "<g stroke=\"#222222\" stroke-width=\"70\""
+    ++ codes " stroke-dasharray=\"300 200\">\n"
+    ++ links f None resumed
+    ++ codes "</g>\n"
 
 -- the pieces by job and start, where a job may be preempted
 pub record IsByJob (pieces sorted : List Piece) : Type 0 where
@@ -133,13 +151,17 @@ title heading =
     canonical heading.problem ++ codes ", value" ++ 32 ∷ signed_decimal heading.value
 
 -- the size of the picture that is so many hundredths of a pixel high
+abbrev pub sides : Size → ℕ → List ℕ
+sides size high =
+    part (codes " role=\"img\" width=\"") (width_of size high) ++ unit_of size
+    ++ part (codes "\" height=\"") (height_of size high) ++ unit_of size
+
+abbrev pub view_box : ℕ → List ℕ
+view_box high = part (codes "\" viewBox=\"0 0 ") 120000 ++ part (codes " ") high
+
 abbrev pub opening : Size → ℕ → List ℕ
 opening size high =
-    codes "<svg xmlns=\"http://www.w3.org/2000/svg\""
-    ++ part (codes " role=\"img\" width=\"") (width_of size high) ++ unit_of size
-    ++ part (codes "\" height=\"") (height_of size high) ++ unit_of size
-    ++ part (codes "\" viewBox=\"0 0 ") 120000
-    ++ part (codes " ") high
+    codes "<svg xmlns=\"http://www.w3.org/2000/svg\"" ++ sides size high ++ view_box high
     ++ codes "\" font-family=\"sans-serif\">\n"
 
 -- the hatching of idle time
@@ -188,17 +210,30 @@ row f machine =
 abbrev pub number : Frame → ℕ → List ℕ
 number f machine = label 6200 (base f machine) machine
 
-abbrev pub rows : Frame → List ℕ
-rows f =
+abbrev pub row_group : Frame → List ℕ
+row_group f =
     codes "<g fill=\"url(#idle)\" stroke=\"#bbbbbb\" stroke-width=\"50\">\n"
     ++ flat_map (row f) (range_with_len 1 f.machines)
-    ++ part (codes "</g>\n<g text-anchor=\"end\" font-size=\"") (font f.machines)
+    ++ codes "</g>\n"
+
+-- what the numbers beside the rows and below them are
+abbrev pub names : Frame → List ℕ
+names f =
+    part (codes "<text x=\"4700\" y=\"") (down f - 700)
+    ++ codes "\" font-size=\"1100\">machine</text>\n"
+    ++ part (codes "<text x=\"4700\" y=\"") (bottom f + 1500)
+    ++ codes "\" font-size=\"1100\">time</text>\n"
+
+abbrev pub number_group : Frame → List ℕ
+number_group f =
+    part (codes "<g text-anchor=\"end\" font-size=\"") (font f.machines)
     ++ codes "\">\n"
     ++ flat_map (number f) (range_with_len 1 f.machines)
-    ++ part (codes "<text x=\"5800\" y=\"") (down f - 700)
-    ++ codes "\" font-size=\"1100\">machine</text>\n"
-    ++ part (codes "<text x=\"5800\" y=\"") (bottom f + 1500)
-    ++ codes "\" font-size=\"1100\">time</text>\n</g>\n"
+    ++ names f
+    ++ codes "</g>\n"
+
+abbrev pub rows : Frame → List ℕ
+rows f = row_group f ++ number_group f
 
 -- a line through all rows at a time, and the time above and below them
 abbrev pub line : Frame → ℕ → List ℕ
@@ -229,25 +264,38 @@ time_labels_at f step n = if is_marked f step (n * step) then time_labels f (n *
 abbrev pub multiples : Frame → ℕ → List ℕ
 multiples f step = range_with_len (f.from / step) (f.to / step + 1 - f.from / step)
 
+abbrev pub line_group : Frame → ℕ → List ℕ
+line_group f step =
+    codes "<g stroke=\"#bbbbbb\" stroke-width=\"50\">\n"
+    ++ flat_map (line_at f step) (multiples f step)
+    ++ codes "</g>\n"
+
+abbrev pub time_group : Frame → ℕ → List ℕ
+time_group f step =
+    codes "<g font-size=\"1100\" text-anchor=\"middle\">\n"
+    ++ flat_map (time_labels_at f step) (multiples f step)
+    ++ codes "</g>\n"
+
 -- a darker line and a bold number at the last stop
-abbrev pub last_mark : Frame → List ℕ
-last_mark f =
-    codes "<g stroke=\"#555555\" stroke-width=\"100\">\n" ++ line f f.last
-    ++ codes "</g>\n<g font-size=\"1100\" font-weight=\"bold\""
+abbrev pub last_line : Frame → List ℕ
+last_line f =
+    codes "<g stroke=\"#555555\" stroke-width=\"100\">\n" ++ line f f.last ++ codes "</g>\n"
+
+abbrev pub last_time : Frame → List ℕ
+last_time f =
+    codes "<g font-size=\"1100\" font-weight=\"bold\""
     ++ codes " text-anchor=\"middle\">\n"
     ++ time_labels f f.last ++ codes "</g>\n"
+
+abbrev pub last_mark : Frame → List ℕ
+last_mark f = last_line f ++ last_time f
 
 abbrev pub end_mark : Frame → List ℕ
 end_mark f = if shows_time f f.last then last_mark f else []
 
 -- a line and its time at each multiple of a step, and the last stop
 abbrev pub axis : Frame → ℕ → List ℕ
-axis f step =
-    codes "<g stroke=\"#bbbbbb\" stroke-width=\"50\">\n"
-    ++ flat_map (line_at f step) (multiples f step)
-    ++ codes "</g>\n<g font-size=\"1100\" text-anchor=\"middle\">\n"
-    ++ flat_map (time_labels_at f step) (multiples f step)
-    ++ codes "</g>\n" ++ end_mark f
+axis f step = line_group f step ++ time_group f step ++ end_mark f
 
 -- ---- the numbers in the bars
 
@@ -267,21 +315,19 @@ number_if_shown f b =
     (base f b.piece.machine) b.piece.job
     else []
 
+abbrev pub label_group : Frame → List Bar → List ℕ
+label_group f bars =
+    part (codes "<g text-anchor=\"middle\" font-size=\"") (font f.machines)
+    ++ codes "\" pointer-events=\"none\">\n"
+    ++ flat_map (number_if_shown f) bars
+    ++ codes "</g>\n"
+
 -- ---- the whole
 
 -- the strip with the bars, the lines between the pieces of a job, and the jobs' numbers
 unfoldable pub strip : ℕ → List Bar → List Piece → Frame → List ℕ
 strip step bars resumed f =
-    rows f ++ axis f step
-    ++ codes "<g stroke=\"#222222\" stroke-width=\"60\">\n"
-    ++ flat_map (bar_if_shown f) bars
-    ++ codes "</g>\n<g stroke=\"#222222\" stroke-width=\"70\""
-    ++ codes " stroke-dasharray=\"300 200\">\n"
-    ++ links f None resumed
-    ++ part (codes "</g>\n<g text-anchor=\"middle\" font-size=\"") (font f.machines)
-    ++ codes "\" pointer-events=\"none\">\n"
-    ++ flat_map (number_if_shown f) bars
-    ++ codes "</g>\n"
+    rows f ++ axis f step ++ bar_group f bars ++ link_group f resumed ++ label_group f bars
 
 abbrev pub strip_at : ℕ → List Bar → List Piece → Strips → ℕ → List ℕ
 strip_at step bars resumed strips n = strip step bars resumed (strip_of strips n)

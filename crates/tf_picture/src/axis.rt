@@ -1,7 +1,7 @@
 //! The axis of time.
 ghost use Rattle.std.specs.Prelude.{◌≡◌, ◌*◌, ◌/◌, ◌<◌, ◌≤◌, ◌++◌, OnOk};
 ghost use Rattle.std.specs.List.{flat_map};
-ghost use Rattle.tf_picture.specs.Picture.{axis, end_mark, is_marked, last_mark, line, line_at, multiples, time_labels, time_labels_at};
+ghost use Rattle.tf_picture.specs.Picture.{axis, end_mark, is_marked, last_line, last_mark, last_time, line, line_group, line_at, multiples, time_group, time_labels, time_labels_at};
 
 use crate::frame::{Frame, SPAN};
 use crate::strips::Strips;
@@ -19,6 +19,7 @@ pub fn step_of(strips: &Strips) -> u64
 
 /// Adds a line through all rows for each multiple of a step, with its time above and below, and one
 /// for the last stop.
+#[tactic(auto, using(crate::proofs::Texts::three))]
 pub fn push_axis<A: Allocator>(
     text: &mut Vec<u8, A>,
     frame: &Frame,
@@ -27,12 +28,39 @@ pub fn push_axis<A: Allocator>(
     requires { 0 < step }
     ensures { OnOk result (text.new.items ≡ text.old.items ++ axis frame.now step) }
 {
+    push_line_group(text, frame, step)?;
+    push_time_group(text, frame, step)?;
+    push_end(text, frame)
+}
+
+#[tactic(auto, using(crate::proofs::Texts::three))]
+fn push_line_group<A: Allocator>(
+    text: &mut Vec<u8, A>,
+    frame: &Frame,
+    step: u64,
+) -> Result<(), OutOfMemory>
+    requires { 0 < step }
+    ensures { OnOk result (text.new.items ≡ text.old.items ++ line_group frame.now step) }
+{
     text.extend_from_slice(b"<g stroke=\"#bbbbbb\" stroke-width=\"50\">\n")?;
     push_lines(text, frame, step)?;
-    text.extend_from_slice(b"</g>\n<g font-size=\"1100\" text-anchor=\"middle\">\n")?;
+    text.extend_from_slice(b"</g>\n")?;
+    Ok(())
+}
+
+#[tactic(auto, using(crate::proofs::Texts::three))]
+fn push_time_group<A: Allocator>(
+    text: &mut Vec<u8, A>,
+    frame: &Frame,
+    step: u64,
+) -> Result<(), OutOfMemory>
+    requires { 0 < step }
+    ensures { OnOk result (text.new.items ≡ text.old.items ++ time_group frame.now step) }
+{
+    text.extend_from_slice(b"<g font-size=\"1100\" text-anchor=\"middle\">\n")?;
     push_times(text, frame, step)?;
     text.extend_from_slice(b"</g>\n")?;
-    push_end(text, frame)
+    Ok(())
 }
 
 #[tactic(auto, using(crate::proofs::Texts::each_later))]
@@ -131,9 +159,25 @@ fn push_end<A: Allocator>(text: &mut Vec<u8, A>, frame: &Frame) -> Result<(), Ou
 fn push_end_mark<A: Allocator>(text: &mut Vec<u8, A>, frame: &Frame) -> Result<(), OutOfMemory>
     ensures { OnOk result (text.new.items ≡ text.old.items ++ last_mark frame.now) }
 {
+    push_last_line(text, frame)?;
+    push_last_time(text, frame)
+}
+
+#[tactic(auto, using(crate::proofs::Texts::three))]
+fn push_last_line<A: Allocator>(text: &mut Vec<u8, A>, frame: &Frame) -> Result<(), OutOfMemory>
+    ensures { OnOk result (text.new.items ≡ text.old.items ++ last_line frame.now) }
+{
     text.extend_from_slice(b"<g stroke=\"#555555\" stroke-width=\"100\">\n")?;
     push_line(text, frame, frame.last)?;
-    text.extend_from_slice(b"</g>\n<g font-size=\"1100\" font-weight=\"bold\"")?;
+    text.extend_from_slice(b"</g>\n")?;
+    Ok(())
+}
+
+#[tactic(auto, using(crate::proofs::Texts::four))]
+fn push_last_time<A: Allocator>(text: &mut Vec<u8, A>, frame: &Frame) -> Result<(), OutOfMemory>
+    ensures { OnOk result (text.new.items ≡ text.old.items ++ last_time frame.now) }
+{
+    text.extend_from_slice(b"<g font-size=\"1100\" font-weight=\"bold\"")?;
     text.extend_from_slice(b" text-anchor=\"middle\">\n")?;
     push_time(text, frame, frame.last)?;
     text.extend_from_slice(b"</g>\n")?;

@@ -3,7 +3,7 @@ ghost use Rattle.std.specs.Prelude.{◌≡◌, ◌++◌, ◌≤◌, None, IfOk, 
 ghost use Rattle.std.specs.List.{All, flat_map};
 ghost use Rattle.tf_schedule.specs.Schedule.{IsPiece};
 ghost use Rattle.tf_picture.specs.Bars.{IsApart, bar_of, bars_of, fill_of, has_fill, is_taken};
-ghost use Rattle.tf_picture.specs.Picture.{fill, edge, told, place, bar, bar_if_shown, is_shown, width};
+ghost use Rattle.tf_picture.specs.Picture.{bar_group, bar_if_shown, bar_text, edge, fill, told, place, is_shown, width};
 ghost use Rattle.tf_picture.specs.Sound.{HasPiece};
 
 use crate::frame::Frame;
@@ -39,9 +39,8 @@ pub fn bars_of<A: Allocator>(alloc: A, pieces: &[Piece]) -> Result<Vec<Bar, A>, 
     let mut bars = Vec::with_capacity(alloc, pieces.len())?;
     let mut before: Option<Bar> = None;
     for piece in pieces {
-        let bar = bar_of(&before, *piece);
-        bars.push(bar)?;
-        before = Some(bar);
+        bars.push(bar_of(&before, *piece))?;
+        before = Some(bar_of(&before, *piece));
     }
     Ok(bars)
 }
@@ -91,8 +90,23 @@ fn has_fill(before: &Option<Bar>, piece: &Piece, fill: u32) -> bool
     }
 }
 
-/// Adds each bar that the frame shows.
+/// Adds the bars that the frame shows.
+#[tactic(auto, using(crate::proofs::Texts::three))]
 pub fn push_bars<A: Allocator>(
+    text: &mut Vec<u8, A>,
+    frame: &Frame,
+    bars: &[Bar],
+) -> Result<(), OutOfMemory>
+    requires { All HasPiece bars.now }
+    ensures { OnOk result (text.new.items ≡ text.old.items ++ bar_group frame.now bars.now) }
+{
+    text.extend_from_slice(b"<g stroke=\"#222222\" stroke-width=\"60\">\n")?;
+    push_each(text, frame, bars)?;
+    text.extend_from_slice(b"</g>\n")?;
+    Ok(())
+}
+
+fn push_each<A: Allocator>(
     text: &mut Vec<u8, A>,
     frame: &Frame,
     bars: &[Bar],
@@ -137,7 +151,7 @@ fn push_bar<A: Allocator>(
     bar: &Bar,
 ) -> Result<(), OutOfMemory>
     requires { HasPiece bar.now }
-    ensures { OnOk result (text.new.items ≡ text.old.items ++ bar frame.now bar.now) }
+    ensures { OnOk result (text.new.items ≡ text.old.items ++ bar_text frame.now bar.now) }
 {
     push_place(text, frame, &bar.piece)?;
     text.extend_from_slice(b"\" fill=\"")?;

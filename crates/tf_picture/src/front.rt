@@ -1,6 +1,6 @@
 //! What a picture shows before its strips.
 ghost use Rattle.std.specs.Prelude.{◌≡◌, ◌++◌, IfOk, OnOk};
-ghost use Rattle.tf_picture.specs.Picture.{front, hatching, opening, sizes, title, titles};
+ghost use Rattle.tf_picture.specs.Picture.{front, hatching, opening, sides, sizes, title, titles, view_box};
 
 use crate::frame::WIDTH;
 use crate::strips::Strips;
@@ -57,7 +57,8 @@ pub fn push_front<A: Allocator + Copy>(
     push_opening(text, size, strips.height())?;
     push_hatching(text)?;
     push_titles(text, title.as_slice())?;
-    push_sizes(text, heading, strips.last)
+    push_sizes(text, heading, strips.last)?;
+    Ok(())
 }
 
 // The problem and the value that the answer claims.
@@ -72,6 +73,7 @@ fn title<A: Allocator + Copy>(alloc: A, heading: &Heading) -> Result<Vec<u8, A>,
 }
 
 // The size of the picture, which is so many hundredths of a pixel high.
+#[tactic(auto, using(crate::proofs::Texts::four))]
 fn push_opening<A: Allocator>(
     text: &mut Vec<u8, A>,
     size: Size,
@@ -80,17 +82,32 @@ fn push_opening<A: Allocator>(
     ensures { OnOk result (text.new.items ≡ text.old.items ++ opening size high) }
 {
     text.extend_from_slice(b"<svg xmlns=\"http://www.w3.org/2000/svg\"")?;
-    push_part(text, b" role=\"img\" width=\"", size.width(high))?;
-    text.extend_from_slice(size.unit())?;
-    push_part(text, b"\" height=\"", size.height(high))?;
-    text.extend_from_slice(size.unit())?;
-    push_part(text, b"\" viewBox=\"0 0 ", WIDTH)?;
-    push_part(text, b" ", high)?;
+    push_sides(text, size, high)?;
+    push_box(text, high)?;
     text.extend_from_slice(b"\" font-family=\"sans-serif\">\n")?;
     Ok(())
 }
 
+#[tactic(auto, using(crate::proofs::Texts::four))]
+fn push_sides<A: Allocator>(text: &mut Vec<u8, A>, size: Size, high: u64) -> Result<(), OutOfMemory>
+    ensures { OnOk result (text.new.items ≡ text.old.items ++ sides size high) }
+{
+    push_part(text, b" role=\"img\" width=\"", size.width(high))?;
+    text.extend_from_slice(size.unit())?;
+    push_part(text, b"\" height=\"", size.height(high))?;
+    text.extend_from_slice(size.unit())?;
+    Ok(())
+}
+
+fn push_box<A: Allocator>(text: &mut Vec<u8, A>, high: u64) -> Result<(), OutOfMemory>
+    ensures { OnOk result (text.new.items ≡ text.old.items ++ view_box high) }
+{
+    push_part(text, b"\" viewBox=\"0 0 ", WIDTH)?;
+    push_part(text, b" ", high)
+}
+
 // The hatching of idle time.
+#[tactic(auto, using(crate::proofs::Texts::five))]
 fn push_hatching<A: Allocator>(text: &mut Vec<u8, A>) -> Result<(), OutOfMemory>
     ensures { OnOk result (text.new.items ≡ text.old.items ++ hatching) }
 {

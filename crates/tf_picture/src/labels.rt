@@ -3,20 +3,40 @@ ghost use Rattle.std.specs.Prelude.{◌≡◌, ◌+◌, ◌/◌, ◌≤◌, ◌+
 ghost use Rattle.std.specs.List.{All, flat_map};
 ghost use Rattle.tf_schedule.specs.Piece.{as_time};
 ghost use Rattle.tf_schedule.specs.Schedule.{IsPiece};
-ghost use Rattle.tf_picture.specs.Picture.{has_room, label, number_if_shown};
+ghost use Rattle.tf_picture.specs.Picture.{has_room, label, label_group, number_if_shown};
 ghost use Rattle.tf_picture.specs.Sound.{HasPiece};
 ghost use Rattle.tf_picture.specs.Strips.{across, base};
 
 use crate::bars::{Bar, is_shown, width};
 use crate::frame::Frame;
-use crate::writing::push_label;
+use crate::writing::{push_label, push_part};
 use itoa::Buffer;
 use std::alloc::Allocator;
 use tf_model::memory::OutOfMemory;
 use tf_schedule::piece::Piece;
 
 /// Adds the job's number for each bar that the frame shows and that has room for it.
+#[tactic(auto, using(crate::proofs::Texts::four))]
 pub fn push_labels<A: Allocator>(
+    text: &mut Vec<u8, A>,
+    frame: &Frame,
+    bars: &[Bar],
+) -> Result<(), OutOfMemory>
+    requires { All HasPiece bars.now }
+    ensures { OnOk result (text.new.items ≡ text.old.items ++ label_group frame.now bars.now) }
+{
+    push_part(
+        text,
+        b"<g text-anchor=\"middle\" font-size=\"",
+        frame.font(),
+    )?;
+    text.extend_from_slice(b"\" pointer-events=\"none\">\n")?;
+    push_each(text, frame, bars)?;
+    text.extend_from_slice(b"</g>\n")?;
+    Ok(())
+}
+
+fn push_each<A: Allocator>(
     text: &mut Vec<u8, A>,
     frame: &Frame,
     bars: &[Bar],

@@ -1,10 +1,13 @@
 //! The picture of a schedule.
 ghost use Rattle.std.specs.Prelude.{◌≡◌, ◌++◌, ◌<◌, None, IfOk, OnOk};
-ghost use Rattle.std.specs.List.{All, flat_map};
+ghost use Rattle.std.specs.List.{All};
 ghost use Rattle.std.specs.List.Sorted.{IsPermutation};
 ghost use Rattle.tf_schedule.specs.Schedule.{IsPiece};
 ghost use Rattle.tf_text.specs.AnswerText.{SheetData};
-ghost use Rattle.tf_picture.specs.Picture.{IsPicture, all_strips, heading_of, strip};
+ghost use Rattle.tf_schedule.specs.Drawing.{greatest_stop};
+ghost use Rattle.tf_picture.specs.Bars.{bars_of};
+ghost use Rattle.tf_picture.specs.Picture.{IsPicture, IsResumed, all_strips, heading_of, strip};
+ghost use Rattle.tf_picture.specs.Strips.{strips_of};
 ghost use Rattle.tf_picture.specs.Sound.{HasPiece};
 
 use crate::axis::{push_axis, step_of};
@@ -16,7 +19,6 @@ use crate::links::{push_links, resumed};
 use crate::rows::push_rows;
 use crate::strips::Strips;
 use crate::view::View;
-use crate::writing::push_part;
 use std::alloc::Allocator;
 use tf_model::memory::OutOfMemory;
 use tf_schedule::piece::Piece;
@@ -35,12 +37,8 @@ pub fn picture<A: Allocator + Copy, B: Allocator>(
         IsPermutation sheet.answer.pieces schedule.now →
         IfOk result (λ text. IsPicture view.now sheet text.items) }
 {
-    let strips = Strips::of(view, heading.machines, schedule.length() as u64);
-    let shown = Shown {
-        step: step_of(&strips),
-        bars: bars_of(alloc, schedule.pieces())?,
-        resumed: resumed(alloc, heading.problem.prmp, schedule.pieces())?,
-    };
+    let strips = strips_for(view, heading, schedule);
+    let shown = shown_of(alloc, heading.problem.prmp, &strips, schedule.pieces())?;
     let mut text = Vec::new(alloc);
     push_front(alloc, &mut text, heading, view.size, &strips)?;
     push_strips(&mut text, &strips, &shown)?;
@@ -48,14 +46,42 @@ pub fn picture<A: Allocator + Copy, B: Allocator>(
     Ok(text)
 }
 
-// What is shown in each strip.
+fn strips_for<B: Allocator>(view: &View, heading: &Heading, schedule: &Schedule<B>) -> Strips
+    ensures { result ≡ strips_of view.now heading.now.machines (greatest_stop schedule.now) }
+{
+    Strips::of(view, heading.machines, schedule.length() as u64)
+}
+
+/// What is shown in each strip.
 #[derive(Drop)]
-struct Shown<A: Allocator> {
+pub struct Shown<A: Allocator> {
     // From one line of the axis to the next, in time steps.
     step: u64,
     bars: Vec<Bar, A>,
     // The pieces by job, where a job may be preempted.
     resumed: Vec<Piece, A>,
+}
+
+fn shown_of<A: Allocator + Copy>(
+    alloc: A,
+    preemptive: bool,
+    strips: &Strips,
+    pieces: &[Piece],
+) -> Result<Shown<A>, OutOfMemory>
+    requires { All IsPiece pieces.now }
+    ensures step { IfOk result (λ shown. 0 < shown.step) }
+    ensures bars { IfOk result (λ shown. shown.bars.items ≡ bars_of None pieces.now) }
+    ensures resumed { IfOk result (λ shown. IsResumed preemptive pieces.now shown.resumed.items) }
+    ensures sound { IfOk result (λ shown. All HasPiece shown.bars.items) }
+    ensures pieces { IfOk result (λ shown. All IsPiece shown.resumed.items) }
+{
+    let bars = bars_of(alloc, pieces)?;
+    let resumed = resumed(alloc, preemptive, pieces)?;
+    Ok(Shown {
+        step: step_of(strips),
+        bars,
+        resumed,
+    })
 }
 
 #[tactic(auto, using(crate::proofs::Texts::each_more))]
@@ -89,18 +115,8 @@ fn push_strip<A: Allocator>(
 {
     push_rows(text, frame)?;
     push_axis(text, frame, shown.step)?;
-    text.extend_from_slice(b"<g stroke=\"#222222\" stroke-width=\"60\">\n")?;
-    push_bars(text, frame, &shown.bars)?;
-    text.extend_from_slice(b"</g>\n<g stroke=\"#222222\" stroke-width=\"70\"")?;
-    text.extend_from_slice(b" stroke-dasharray=\"300 200\">\n")?;
-    push_links(text, frame, &shown.resumed)?;
-    push_part(
-        text,
-        b"</g>\n<g text-anchor=\"middle\" font-size=\"",
-        frame.font(),
-    )?;
-    text.extend_from_slice(b"\" pointer-events=\"none\">\n")?;
-    push_labels(text, frame, &shown.bars)?;
-    text.extend_from_slice(b"</g>\n")?;
+    push_bars(text, frame, shown.bars.as_slice())?;
+    push_links(text, frame, shown.resumed.as_slice())?;
+    push_labels(text, frame, shown.bars.as_slice())?;
     Ok(())
 }

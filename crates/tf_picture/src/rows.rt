@@ -1,7 +1,7 @@
 //! The rows of a strip.
 ghost use Rattle.std.specs.Prelude.{◌≡◌, ◌<◌, ◌++◌, OnOk};
 ghost use Rattle.std.specs.List.{flat_map, range_with_len};
-ghost use Rattle.tf_picture.specs.Picture.{number, row, rows};
+ghost use Rattle.tf_picture.specs.Picture.{names, number, number_group, row, row_group, rows};
 
 use crate::bars::LEAST;
 use crate::frame::{Frame, LEFT};
@@ -13,19 +13,41 @@ use tf_model::memory::OutOfMemory;
 pub fn push_rows<A: Allocator>(text: &mut Vec<u8, A>, frame: &Frame) -> Result<(), OutOfMemory>
     ensures { OnOk result (text.new.items ≡ text.old.items ++ rows frame.now) }
 {
+    push_row_group(text, frame)?;
+    push_number_group(text, frame)
+}
+
+#[tactic(auto, using(crate::proofs::Texts::three))]
+fn push_row_group<A: Allocator>(text: &mut Vec<u8, A>, frame: &Frame) -> Result<(), OutOfMemory>
+    ensures { OnOk result (text.new.items ≡ text.old.items ++ row_group frame.now) }
+{
     text.extend_from_slice(b"<g fill=\"url(#idle)\" stroke=\"#bbbbbb\" stroke-width=\"50\">\n")?;
     push_each_row(text, frame)?;
-    push_part(
-        text,
-        b"</g>\n<g text-anchor=\"end\" font-size=\"",
-        frame.font(),
-    )?;
+    text.extend_from_slice(b"</g>\n")?;
+    Ok(())
+}
+
+#[tactic(auto, using(crate::proofs::Texts::five))]
+fn push_number_group<A: Allocator>(text: &mut Vec<u8, A>, frame: &Frame) -> Result<(), OutOfMemory>
+    ensures { OnOk result (text.new.items ≡ text.old.items ++ number_group frame.now) }
+{
+    push_part(text, b"<g text-anchor=\"end\" font-size=\"", frame.font())?;
     text.extend_from_slice(b"\">\n")?;
     push_each_number(text, frame)?;
-    push_part(text, b"<text x=\"5800\" y=\"", frame.down() - 700)?;
+    push_names(text, frame)?;
+    text.extend_from_slice(b"</g>\n")?;
+    Ok(())
+}
+
+// What the numbers beside the rows and below them are.
+#[tactic(auto, using(crate::proofs::Texts::four))]
+fn push_names<A: Allocator>(text: &mut Vec<u8, A>, frame: &Frame) -> Result<(), OutOfMemory>
+    ensures { OnOk result (text.new.items ≡ text.old.items ++ names frame.now) }
+{
+    push_part(text, b"<text x=\"4700\" y=\"", frame.down() - 700)?;
     text.extend_from_slice(b"\" font-size=\"1100\">machine</text>\n")?;
-    push_part(text, b"<text x=\"5800\" y=\"", frame.bottom() + 1_500)?;
-    text.extend_from_slice(b"\" font-size=\"1100\">time</text>\n</g>\n")?;
+    push_part(text, b"<text x=\"4700\" y=\"", frame.bottom() + 1_500)?;
+    text.extend_from_slice(b"\" font-size=\"1100\">time</text>\n")?;
     Ok(())
 }
 

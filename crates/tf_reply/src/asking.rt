@@ -6,9 +6,9 @@ ghost use Rattle.tf_model.specs.Limit.{most_machines};
 ghost use Rattle.tf_reply.specs.Asked.{IsAsked, flagged, pair_said, form_said, request_said, problem_part, name_part, instance_part, answer_part, layout_said, detail_said};
 ghost use Rattle.tf_reply.specs.WellFormed.{HasAllowedColumns, HasAllowedSteps, IsAllowed, IsAllowedForm, IsWellFormed, IsWithin};
 
-use tf_options::options::{FormOption, Idle, MOST_STEPS, Options, Telling};
 use tf_evaluate::evaluation::Detail;
 use tf_model::limit::{MOST_JOBS, MOST_MACHINES};
+use tf_options::options::{FormOption, Idle, MOST_STEPS, Options, Telling};
 use tf_text::answer::layout::Layout;
 use tf_text::chart::MOST_COLUMNS;
 

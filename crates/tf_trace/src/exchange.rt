@@ -53,7 +53,9 @@ fn costs_exchanged<A: Allocator + Copy, B: Allocator>(
         exchanged.push(*piece)?;
     }
     if let (Some(piece), Some(next)) = (pieces.get(place), pieces.get(place.saturating_add(1))) {
-        let turn = piece.start.saturating_add(next.stop.saturating_sub(next.start));
+        let turn = piece
+            .start
+            .saturating_add(next.stop.saturating_sub(next.start));
         exchanged.push(moved(next, piece.start, turn))?;
         exchanged.push(moved(piece, turn, next.stop))?;
     }

@@ -12,12 +12,12 @@ use std::io::{IsTerminal, Write};
 use std::process::ExitCode;
 use tf_command::commands::perform;
 use tf_command::console::Console;
-use tf_options::format::Format;
 use tf_command::formatted::perform_formatted;
-use tf_options::grammar::command;
 use tf_command::misuse::say_misuse;
-use tf_options::options::{Asked, Work, understand};
 use tf_command::report::{say_device, say_memory, say_usage};
+use tf_options::format::Format;
+use tf_options::grammar::command;
+use tf_options::options::{Asked, Work, understand};
 use tf_text::counted::Counted;
 
 fn main(rt: HostRuntime) -> ExitCode {

@@ -35,8 +35,8 @@ width=\"90\" height=\"500\" fill=\"#cccccc\"/></pattern></defs>
 </g>
 <g text-anchor=\"end\" font-size=\"1300\">
 <text x=\"6200\" y=\"10968\">1</text>
-<text x=\"5800\" y=\"7800\" font-size=\"1100\">machine</text>
-<text x=\"5800\" y=\"14000\" font-size=\"1100\">time</text>
+<text x=\"4700\" y=\"7800\" font-size=\"1100\">machine</text>
+<text x=\"4700\" y=\"14000\" font-size=\"1100\">time</text>
 </g>
 <g stroke=\"#bbbbbb\" stroke-width=\"50\">
 <line x1=\"7000\" y1=\"8100\" x2=\"7000\" y2=\"12800\"/>
@@ -105,8 +105,8 @@ width=\"90\" height=\"500\" fill=\"#cccccc\"/></pattern></defs>
 <g text-anchor=\"end\" font-size=\"1300\">
 <text x=\"6200\" y=\"10968\">1</text>
 <text x=\"6200\" y=\"14968\">2</text>
-<text x=\"5800\" y=\"7800\" font-size=\"1100\">machine</text>
-<text x=\"5800\" y=\"18000\" font-size=\"1100\">time</text>
+<text x=\"4700\" y=\"7800\" font-size=\"1100\">machine</text>
+<text x=\"4700\" y=\"18000\" font-size=\"1100\">time</text>
 </g>
 <g stroke=\"#bbbbbb\" stroke-width=\"50\">
 <line x1=\"7000\" y1=\"8100\" x2=\"7000\" y2=\"16800\"/>
@@ -182,8 +182,8 @@ width=\"90\" height=\"500\" fill=\"#cccccc\"/></pattern></defs>
 <g text-anchor=\"end\" font-size=\"1300\">
 <text x=\"6200\" y=\"10968\">1</text>
 <text x=\"6200\" y=\"14968\">2</text>
-<text x=\"5800\" y=\"7800\" font-size=\"1100\">machine</text>
-<text x=\"5800\" y=\"18000\" font-size=\"1100\">time</text>
+<text x=\"4700\" y=\"7800\" font-size=\"1100\">machine</text>
+<text x=\"4700\" y=\"18000\" font-size=\"1100\">time</text>
 </g>
 <g stroke=\"#bbbbbb\" stroke-width=\"50\">
 </g>

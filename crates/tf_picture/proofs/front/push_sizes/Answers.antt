@@ -7,7 +7,7 @@ pub returns : goal.returns
 returns g c =
     let jobs : c.from.result ≡ c.args.heading.now.jobs = search rules in
     let machines : c.from-2.result ≡ c.args.heading.now.machines = search rules in
-    sizes_written c.args.heading.now c.args.frame.now.length _ _ _ _ _ _
+    sizes_written c.args.heading.now c.args.length _ _ _ _ _ _
     c.in_ok-extend_from_slice.ensures.items
     (c.in_ok-push_part.ensures
     ∙ ap (λ n. c.extend_from_slice.new.self.items ++ part (codes "jobs ") n) jobs)

@@ -13,8 +13,8 @@ use Rattle.tf_picture.proofs.run_picture.run_picture.Goals as goal
 
 pub returns-in_err-sheet-clause-outcome : goal.returns-in_err-sheet-clause-outcome
 returns-in_err-sheet-clause-outcome g c =
-    err_is (IsDrawingOf IsPicture _ _) c.in_err-sheet.field-0.0 _ c.from_residual.ensures.1
-    (undrawn_unsaid IsPicture g.row.A.Denot _ _ _ _ _ _ c.in_err-sheet.field-0.0
+    err_is (IsDrawingOf (IsPicture c.args.view.now) _ _) c.in_err-sheet.field-0.0 _ c.from_residual.ensures.1
+    (undrawn_unsaid (IsPicture c.args.view.now) g.row.A.Denot _ _ _ _ _ _ c.in_err-sheet.field-0.0
     c.in_err-sheet.ensures.read)
 
 pub returns-in_err-sheet-clause-devices : goal.returns-in_err-sheet-clause-devices
@@ -25,9 +25,9 @@ returns-in_err-sheet-clause-devices g c =
 
 pub returns-in_err-schedule-clause-outcome : goal.returns-in_err-schedule-clause-outcome
 returns-in_err-schedule-clause-outcome g c =
-    err_is (IsDrawingOf IsPicture _ _) c.in_err-schedule.field-0.0 _
+    err_is (IsDrawingOf (IsPicture c.args.view.now) _ _) c.in_err-schedule.field-0.0 _
     c.from_residual-in_err-schedule.ensures.1
-    (undrawn_unscheduled IsPicture g.row.A.Denot _ _ _ _ _ c.in_ok-sheet.ensures.read
+    (undrawn_unscheduled (IsPicture c.args.view.now) g.row.A.Denot _ _ _ _ _ c.in_ok-sheet.ensures.read
     _ _ c.in_err-schedule.field-0.0 c.in_err-schedule.ensures.refused)
 
 pub returns-in_err-schedule-clause-devices : goal.returns-in_err-schedule-clause-devices
@@ -45,8 +45,8 @@ returns-in_err-text-clause-devices g c =
 
 pub returns-in_err-push_all-clause-outcome : goal.returns-in_err-push_all-clause-outcome
 returns-in_err-push_all-clause-outcome g c =
-    err_is (IsDrawingOf IsPicture _ _) Device _ c.from_residual-in_err-push_all.ensures.1
-    (undrawn_unwritten IsPicture g.row.A.Denot _ _ _ _ _ c.in_ok-sheet.ensures.read _ _ _
+    err_is (IsDrawingOf (IsPicture c.args.view.now) _ _) Device _ c.from_residual-in_err-push_all.ensures.1
+    (undrawn_unwritten (IsPicture c.args.view.now) g.row.A.Denot _ _ _ _ _ c.in_ok-sheet.ensures.read _ _ _
     c.in_ok-schedule.ensures.kept
     c.in_ok-schedule.ensures.schedule (c.in_ok-text.ensures c.in_ok-sheet.sheet (sym c.of-heading.ensures)
     c.in_ok-schedule.ensures.kept)
@@ -64,7 +64,7 @@ returns-in_err-push_all-clause-devices g c =
 
 pub returns-clause-outcome : goal.returns-clause-outcome
 returns-clause-outcome g c =
-    drawn IsPicture g.row.A.Denot _ _ _ _ _ c.in_ok-sheet.ensures.read _ _ _
+    drawn (IsPicture c.args.view.now) g.row.A.Denot _ _ _ _ _ c.in_ok-sheet.ensures.read _ _ _
     c.in_ok-schedule.ensures.kept
     c.in_ok-schedule.ensures.schedule (c.in_ok-text.ensures c.in_ok-sheet.sheet (sym c.of-heading.ensures)
     c.in_ok-schedule.ensures.kept)

@@ -1,8 +1,8 @@
 use Rattle.std.proofs.Common.{◌≡◌, ◌++◌}
 use Rattle.std.specs.List.{flat_map, range_with_len}
-use Rattle.tf_picture.specs.Picture.{number}
-use Rattle.tf_picture.proofs.front.push_each_number.Given as goal
+use Rattle.tf_picture.specs.Picture.{row}
+use Rattle.tf_picture.proofs.rows.push_each_row.Given as goal
 
 abbrev pub invariant-loop-place : goal.invariant-loop-place
 invariant-loop-place g l = l.text.items ≡ l.initial.text.items
-    ++ flat_map (number l.frame.machines) (range_with_len 1 l.place)
+    ++ flat_map (row l.frame) (range_with_len 1 l.place)
