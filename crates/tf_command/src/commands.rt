@@ -543,7 +543,8 @@ fn gantt<R: Read, W: Write, E: Write>(
     let run = draw(console.alloc, drawing, answer, &mut console.writer);
     let status = end_run(&run, &mut console.errors);
     if explain {
-        tell_drawn(&run, answer.inner(), &mut console.errors, console.alloc);
+        let errors = &mut console.errors;
+        tell_drawn(&run, drawing, answer.inner(), errors, console.alloc);
     }
     status
 }

@@ -9,16 +9,27 @@ use tf_engine::request::Request;
 use tf_engine::run_check::Checked;
 use tf_evaluate::evaluation::Standing;
 use tf_explain::explain;
+use tf_model::limit::LIMIT;
 use tf_model::prepare::Refusal;
-use tf_options::options::{Idle, Telling};
+use tf_options::options::{Drawing, Idle, Telling};
 use tf_orders::run_orders::{OrderForm, OrdersRated};
 use tf_text::answer::fault::AnswerFault;
 use tf_text::counted::Counted;
+use tf_words::ranged::{Ranged, number_in};
 
 /// What is said of a problem that has no solver.
 const MAY_BE_BOUNDED: &str = "\
 For many problems without a solver \"threefield bound\" prints a lower bound, and
 \"threefield evaluate\" judges a schedule by it.
+";
+
+/// The signs of a chart: the digits and the letters.
+const SIGNS: i64 = 36;
+
+/// What is said of a chart with more jobs than signs.
+const SIGNS_SHARED: &str = "\
+There are more jobs than signs: jobs whose numbers differ by 36 have the same
+sign. \"threefield gantt --svg\" shows the numbers.
 ";
 
 /// What is said of an order that is malformed.
@@ -194,16 +205,38 @@ impl Ended<'_> {
 /// Says what is to be said of a drawing, where the answer was kept.
 pub fn tell_drawn<R, E: Write>(
     run: &Result<(), RunFault>,
+    drawing: Drawing,
     answer: &Recorded<'_, R>,
     errors: &mut Counted<E>,
     alloc: Global,
 ) {
-    if let (Err(fault), Some(text)) = (run, answer.source()) {
-        let explanation = match answer.failure() {
-            Some((name, error)) => explain::not_read(alloc, name, &error),
-            None => explain::not_drawn(alloc, fault, &text),
-        };
-        tell(explanation, errors);
+    let Some(text) = answer.source() else {
+        return;
+    };
+    match run {
+        Ok(()) => {
+            if matches!(drawing, Drawing::Chart { .. }) && shares_signs(&text) {
+                let _ = errors.push_all(SIGNS_SHARED.as_bytes());
+            }
+        }
+        Err(fault) => {
+            let explanation = match answer.failure() {
+                Some((name, error)) => explain::not_read(alloc, name, &error),
+                None => explain::not_drawn(alloc, fault, &text),
+            };
+            tell(explanation, errors);
+        }
+    }
+}
+
+/// Whether an answer has more jobs than a chart has signs.
+fn shares_signs(answer: &Source<'_>) -> bool {
+    let Some(line) = answer.line_beginning(&[b"jobs"]) else {
+        return false;
+    };
+    match line.word(1) {
+        Some(word) => matches!(number_in(word.bytes, SIGNS + 1, LIMIT), Ranged::Within(_)),
+        None => false,
     }
 }
 
