@@ -156,13 +156,26 @@ lacks_answer name given =
     lacks given (codes "ANSWER")
     || not (bytes_eq name (codes "check") || bytes_eq name (codes "evaluate"))
 
+abbrev pub lacks_own : List ℕ → Given → Bool
+lacks_own name given =
+    if has_no_answer name || is_rating name given then lacks_options given
+    else lacks_options given || lacks_answer name given
+
 abbrev pub is_incomplete : List ℕ → Given → Bool
 is_incomplete name given =
     if bytes_eq name (codes "gantt")
     then lacks given (codes "ANSWER") || lacks given (codes "columns")
     else (if bytes_eq name (codes "random") then lacks given (codes "problem")
-    else (if has_no_answer name || is_rating name given then lacks_options given
-    else lacks_options given || lacks_answer name given))
+    else lacks_own name given)
+
+-- of a command that reads an instance, where the options of that are sound
+abbrev pub IsAskedOver : List ℕ → Given → Bool → Asked → Type 0
+IsAskedOver name given on_terminal (Work work) = IsWorkBy name given on_terminal work
+IsAskedOver name given on_terminal (Formatted work format) = ⊥
+IsAskedOver name given on_terminal (Help error) = ⊥
+IsAskedOver name given on_terminal (Misused error) = ⊥
+IsAskedOver name given on_terminal (Unfit message) = own_fault name given ≡ Some message.now
+IsAskedOver name given on_terminal NoMemory = IsTrue (lacks_own name given)
 
 -- the command's work, the first fault of its values, or want of memory where clap gave too little
 abbrev pub IsAskedBy : List ℕ → Given → Bool → Asked → Type 0

@@ -13,7 +13,7 @@ ghost use Rattle.tf_options.specs.Matched.{machines_fault, most_steps, options_f
 ghost use Rattle.tf_options.specs.Matched.{number_by, steps_fault, wt_fault};
 ghost use Rattle.tf_options.specs.Viewing.{IsDrawingBy, IsViewBy, drawing_fault, most_side, number_fault, page_by, sides_fault, size_by, view_fault};
 ghost use Rattle.tf_options.specs.OptionNumber.{numeral_in};
-ghost use Rattle.tf_options.specs.Understood.{HasNoOrder, IsAskedBy, IsOrderBy, input_fault, lacks_options};
+ghost use Rattle.tf_options.specs.Understood.{HasNoOrder, IsAskedBy, IsAskedOver, IsOrderBy, input_fault, lacks_options};
 
 use crate::format::Format;
 use crate::wanting::wanted_in;
@@ -290,10 +290,23 @@ pub fn asked_by<'a>(name: &str, given: &ArgMatches<'a>, on_terminal: bool) -> As
             Err(asked) => asked,
         };
     }
-    let options = match options_in(given, on_terminal) {
-        Ok(options) => options,
-        Err(asked) => return asked,
-    };
+    match options_in(given, on_terminal) {
+        Ok(options) => asked_over(name, given, on_terminal, options),
+        Err(asked) => asked,
+    }
+}
+
+// What a command that reads an instance asks for, with these options.
+fn asked_over<'a>(
+    name: &str,
+    given: &ArgMatches<'a>,
+    on_terminal: bool,
+    options: Options<'a>,
+) -> Asked<'a>
+    requires { AreOptionsBy (given_of given.now) on_terminal options }
+    ensures columns { HasColumns result }
+    ensures asked { IsAskedOver name.now (given_of given.now) on_terminal result }
+{
     if name == "solve" {
         return Asked::Work(Work::Solve(options, solved_layout_in(given)));
     }
@@ -564,6 +577,7 @@ fn side_in<'a>(
 fn options_in<'a>(given: &ArgMatches<'a>, on_terminal: bool) -> Result<Options<'a>, Asked<'a>>
     ensures columns { IfErr result HasColumns }
     ensures given { IfOk result (AreOptionsBy (given_of given.now) on_terminal) }
+    ensures sound { IfOk result (λ _. options_fault (given_of given.now) ≡ None) }
     ensures fault { IfErr result
         (IsToldInstead (lacks_options (given_of given.now))
         (options_fault (given_of given.now))) }

@@ -5,3 +5,4 @@ mod Reading
 mod Rated
 mod Rows
 mod Running
+pub mod Past

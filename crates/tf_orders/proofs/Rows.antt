@@ -44,12 +44,14 @@ module _ (A : Type 0) (m : Measure A) where
       rows_fail text is (Refuses refused) (named, unordered) = (
         BadLine line.number,
         named,
-        line.number,
-        subst (λ (ls : List KeptLine). IsFirstBad m ls line.number) is
-            (so_far.bad line.number
-            (subst (λ (ls : List KeptLine). IsFirstBad m ls line.number) (sym first)
-            (inl (unordered, refl)))),
-        refl,
+        (
+          line.number,
+          subst (λ (ls : List KeptLine). IsFirstBad m ls line.number) is
+              (so_far.bad line.number
+              (subst (λ (ls : List KeptLine). IsFirstBad m ls line.number) (sym first)
+              (inl (unordered, refl)))),
+          refl,
+        ),
       )
       rows_fail text is Fails h = h
       rows_fail text is Wants h = tt

@@ -70,8 +70,9 @@ pub(crate) fn pieces_in<A: Allocator + Copy>(
 }
 
 /// The lines after those of a part.
+#[tactic(auto, unfolding(crate::specs::Pieces::past))]
 fn past(lines: Lines<'_>, part: Part) -> Lines<'_>
-    ensures { lines_of result ≡ past part (lines_of lines) }
+    ensures { lines_of result ≡ past part (lines_of lines.entry) }
 {
     let mut rest = lines;
     while let Some((line, more)) = rest.split_first() {
