@@ -5,9 +5,10 @@
 
 It needs the program that `rt run` in crates/threefield leaves in its out/, rustc and /usr/bin/time. Of `solve` and of
 `check` of each program's own answer it prints the least processor time (user and system) of the runs in milliseconds, and
-the peak memory in MB. The two answers are compared. A CASE is a problem in three-field notation, `wt`, `flow`, or one of the
-inputs `steps`, `pieces`, `chain`, `star`, `alike`, `minus` and `returns`; without one all are run. With --growth it prints
-how many times as long N jobs take as a tenth of them, by the least and the median times.
+the peak memory in MB. The two answers are compared. A CASE is a problem in three-field notation, `wt`, `flow`, the same in
+the layout of OR-Library's own files, `wt-padded` and `flow-padded`, or one of the inputs `steps`, `pieces`, `chain`, `star`,
+`alike`, `minus` and `returns`; without one all are run. With --growth it prints how many times as long N jobs take as a
+tenth of them, by the least and the median times.
 """
 import argparse
 import os
@@ -83,10 +84,34 @@ def write_wt(path, n, draw):
     return "1||sumwC", ["--format", "wt", "--jobs", str(n), "--index", str(count)]
 
 
+def write_wt_padded(path, n, draw):
+    """The same, twenty numbers a line, each on the right of five columns or more."""
+    rows = [(1, LONGEST), (1, HEAVIEST), (0, LONGEST * n // 2)]
+    lines = []
+    for row in rows:
+        words = [f"{draw.randint(*row):5d}" for _ in range(n)]
+        lines += [" ".join(words[k:k + 20]) + "\n" for k in range(0, n, 20)]
+    one = "".join(lines)
+    count = max(1, FILE_SIZE // len(one))
+    with open(path, "w", encoding="ascii") as out:
+        out.writelines(one for _ in range(count))
+    return "1||sumwC", ["--format", "wt", "--jobs", str(n), "--index", str(count)]
+
+
 def write_flow(path, n, draw):
     """A flow shop of many machines, of which the first and the last are asked for."""
     m = max(2, min(1000, FILE_SIZE // (n * 7)))
     rows = [" ".join(f"{i} {draw.randint(1, LONGEST)}" for i in range(m)) + "\n" for _ in range(min(n, 499))]
+    with open(path, "w", encoding="ascii") as out:
+        out.write(f" instance large\n ++++\n drawn\n {n} {m}\n")
+        out.writelines(draw.choice(rows) for _ in range(n))
+    return "F2||Cmax", ["--format", "flow", "--name", "large", "--pair", f"0,{m - 1}"]
+
+
+def write_flow_padded(path, n, draw):
+    """The same, each number on the right of four columns."""
+    m = max(2, min(1000, FILE_SIZE // (n * 9)))
+    rows = ["".join(f" {i:3d} {draw.randint(1, LONGEST - 1):3d}" for i in range(m)) + "\n" for _ in range(min(n, 499))]
     with open(path, "w", encoding="ascii") as out:
         out.write(f" instance large\n ++++\n drawn\n {n} {m}\n")
         out.writelines(draw.choice(rows) for _ in range(n))
@@ -132,8 +157,9 @@ def write_returns(path, n, draw):
     return "1||Lmax", []
 
 
-WRITERS = {"wt": write_wt, "flow": write_flow, "steps": write_steps, "chain": write_chain, "star": write_star,
-           "alike": write_alike, "minus": write_minus, "returns": write_returns}
+WRITERS = {"wt": write_wt, "wt-padded": write_wt_padded, "flow": write_flow, "flow-padded": write_flow_padded,
+           "steps": write_steps, "chain": write_chain, "star": write_star, "alike": write_alike, "minus": write_minus,
+           "returns": write_returns}
 
 
 def write_pieces(folder, n):
