@@ -37,6 +37,7 @@ STATUSES = {
     "check": {0, 1, 2, 3, 4, 5},
     "evaluate": {0, 1, 2, 3, 4, 5, 6},
     "gantt": {0, 2, 3, 4, 5},
+    "random": {0, 2, 3, 4, 5},
     "problems": {0, 2, 3, 4, 5},
 }
 OTHERWISE = {0, 5}  # help, the version, and what is no command
