@@ -1,4 +1,5 @@
-//! Tests of lower bounds, and of answers assessed by them, where memory is refused or a device fails.
+//! Tests of lower bounds, of answers assessed by them, and of orders, where memory is refused or a
+//! device fails.
 #![tactic(auto)]
 
 #[cfg(test)]
@@ -7,3 +8,5 @@ mod cases;
 mod devices;
 #[cfg(test)]
 mod growths;
+#[cfg(test)]
+mod orders;

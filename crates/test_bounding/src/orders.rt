@@ -1,0 +1,146 @@
+//! Orders and pieces that are rated, where memory is refused or a device fails.
+use refusing::Refusing;
+use std::alloc::{AllocError, Allocator, Global};
+use std::test::Fail;
+use test_runs::devices::{Failure, Sink, Source, Way};
+use test_runs::examples::Given;
+use test_runs::growths::{Ended, refuse_each_growth};
+use test_runs::runs::{ensure, request};
+use tf_engine::fault::RunFault;
+use tf_engine::request::Request;
+use tf_orders::run_orders::{OrderForm, OrdersRated, run_orders};
+use tf_text::answer::layout::Layout;
+use tf_text::counted::Counted;
+
+/// Jobs of 3, 1 and 2.
+const INSTANCE: &[u8] = b"table 1\njob 1 p=3\njob 2 p=1\njob 3 p=2\n";
+
+/// A problem, a text of orders or pieces, and what is written of it.
+#[derive(Clone, Copy)]
+struct Case {
+    problem: &'static str,
+    form: OrderForm,
+    text: &'static [u8],
+    written: &'static [u8],
+}
+
+/// In the order 2 1 3 the jobs complete at 4, 1 and 6.
+const ONE_ORDER: Case = Case {
+    problem: "1||sumC",
+    form: OrderForm::Single,
+    text: b"2 1 3",
+    written: b"evaluation 1\nproblem 1||sumC\njobs 3\nmachines 1\nfits\nvalue 11\nbest 10\n\
+        gap 1\njob 1 1 4 4\njob 2 0 1 1\njob 3 4 6 6\nend\n",
+};
+
+/// The same schedule by its pieces.
+const PIECES: Case = Case {
+    problem: "1||sumC",
+    form: OrderForm::Pieces,
+    text: b"piece 2 1 0 1\npiece 1 1 1 4\npiece 3 1 4 6\n",
+    written: b"evaluation 1\nproblem 1||sumC\njobs 3\nmachines 1\nfits\nvalue 11\nbest 10\n\
+        gap 1\njob 1 1 4 4\njob 2 0 1 1\njob 3 4 6 6\nend\n",
+};
+
+/// The second order is optimal.
+const TWO_ORDERS: Case = Case {
+    problem: "1||sumC",
+    form: OrderForm::Lines,
+    text: b"2 1 3\n2 3 1\n",
+    written: b"11 1\n10 0\n",
+};
+
+/// Machine 2 waits from 1 to 2. No schedule is shorter than job 1.
+const WAITING: Case = Case {
+    problem: "P2||Cmax",
+    form: OrderForm::Pieces,
+    text: b"piece 1 1 0 3\npiece 2 2 0 1\npiece 3 2 2 4\n",
+    written: b"evaluation 1\nproblem P2||Cmax\njobs 3\nmachines 2\nfits\nvalue 4\ngap 1\n\
+        bound 3\njob 1\nend\n",
+};
+
+const CASES: [Case; 4] = [ONE_ORDER, PIECES, TWO_ORDERS, WAITING];
+
+fn request_of(rt: &HostRuntime, case: &Case) -> Result<Request, AllocError> {
+    request(rt, case.problem, Given::Table, Layout::Two)
+}
+
+/// Rates the text of a case.
+fn rate<A: Allocator + Copy>(
+    alloc: A,
+    request: &Request,
+    form: OrderForm,
+    orders: &mut Source<'_>,
+    sink: &mut Sink,
+) -> Result<OrdersRated, RunFault<A>> {
+    let mut source = Source::new(INSTANCE);
+    let mut reader = Counted::new(&mut source);
+    let mut other = Counted::new(orders);
+    let mut writer = Counted::new(sink);
+    run_orders(alloc, request, form, &mut reader, &mut other, &mut writer)
+}
+
+/// All of it is written, or nothing is.
+fn rated_on(
+    heap: &Refusing<Global>,
+    global: Global,
+    request: &Request,
+    case: &Case,
+) -> Result<Ended, Fail> {
+    let mut orders = Source::new(case.text);
+    let mut sink = Sink::new(global);
+    match rate(heap, request, case.form, &mut orders, &mut sink) {
+        Ok(_) => {
+            ensure(sink.taken() == case.written, "another text")?;
+            Ok(Ended::Answered)
+        }
+        Err(RunFault::OutOfMemory) => {
+            ensure(sink.calls() == 0, "something was written")?;
+            Ok(Ended::OutOfMemory)
+        }
+        Err(_) => Err(Fail::new("another fault")),
+    }
+}
+
+#[test]
+fn orders_are_rated_or_memory_was_refused(rt: HostRuntime) -> Result<(), Fail> {
+    let global = rt.alloc();
+    for case in CASES.iter() {
+        let request = request_of(&rt, case)?;
+        let growths = refuse_each_growth(&rt, |heap| rated_on(heap, global, &request, case))?;
+        ensure(growths > 0, "no growth")?;
+    }
+    Ok(())
+}
+
+/// The reader of the orders fails at this call.
+fn orders_are_cut_off(
+    rt: &HostRuntime,
+    request: &Request,
+    case: &Case,
+    call: u64,
+) -> Result<(), Fail> {
+    let failure = Failure {
+        call,
+        way: Way::Error,
+        heals: true,
+    };
+    let mut orders = Source::new(case.text).by(5).failing(failure);
+    let mut sink = Sink::new(rt.alloc());
+    let ended = rate(rt.alloc(), request, case.form, &mut orders, &mut sink);
+    ensure(ended == Err(RunFault::Device), "another outcome")?;
+    ensure(orders.calls() == call, "another number of reads")?;
+    ensure(sink.calls() == 0, "something was written")
+}
+
+#[test]
+fn nothing_is_written_where_orders_cannot_be_read(rt: HostRuntime) -> Result<(), Fail> {
+    for case in CASES.iter() {
+        let request = request_of(&rt, case)?;
+        let calls = (case.text.len() as u64).div_ceil(5) + 1;
+        for call in 1..calls.saturating_add(1) {
+            orders_are_cut_off(&rt, &request, case, call)?;
+        }
+    }
+    Ok(())
+}
