@@ -123,6 +123,7 @@ impl<A: Allocator> JobRows<A> {
     }
 
     /// With one job more, of which it keeps what there is room for.
+    #[inline(always)]
     pub(crate) fn push(&mut self, row: JobRow) -> Result<(), AllocError>
         ensures rows { IfOk result (λ _.
             rows_of self.new ≡ rows_of self.old ++ kept_by self.old row ∷ []) }

@@ -38,6 +38,7 @@ impl JobTotals {
     }
 
     /// With one job more.
+    #[inline(always)]
     pub(crate) fn with(self, row: JobRow) -> Self
         requires { self.jobs < most_jobs }
         ensures summed { (rows : List JobData) →

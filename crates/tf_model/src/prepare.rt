@@ -224,6 +224,7 @@ fn zero_time_at<A: Allocator>(jobs: &[Job<A>]) -> Option<usize>
 }
 
 // Whether a job by itself is no reason to refuse.
+#[inline(always)]
 pub(crate) fn is_complete<A: Allocator>(class: Class, job: &Job<A>) -> bool
     ensures { result ≡ is_complete class job.now }
 {
@@ -246,6 +247,7 @@ fn as_time(number: i64) -> u64
 }
 
 // What the class uses of a job, and what is neutral for the rest.
+#[inline(always)]
 pub(crate) fn row_of<A: Allocator>(class: Class, job: &Job<A>) -> JobRow
     ensures { result ≡ data_of class job.now }
 {

@@ -84,6 +84,7 @@ impl<A: Allocator + Copy> TaskBuilder<A> {
     }
 
     /// With one job more. None where the job by itself is refused, or memory is wanting.
+    #[inline(always)]
     pub fn push(&mut self, job: Job<A>) -> Option<()>
         ensures { IfSome result (λ _. Takes self.old (job ∷ []) self.new) }
     {

@@ -74,6 +74,7 @@ fn job_at<A: Allocator + Copy>(alloc: A, k: u32, line: &Line<'_>) -> Result<Job<
 }
 
 /// Job k, whose line comes first, and the lines behind it.
+#[inline(always)]
 pub(crate) fn next_job<'a, A: Allocator + Copy>(
     alloc: A,
     k: u32,

@@ -56,6 +56,7 @@ fn signed_first(text: &[u8]) -> Option<(i64, &[u8])>
 
 impl<A: Allocator> Fields<A> {
     /// With the field of this key, of which the value begins the text; what follows that.
+    #[inline(always)]
     fn add_value<'a>(&mut self, key: u8, text: &'a [u8]) -> Option<&'a [u8]>
         ensures { IfSome result (λ rest. (value : List ℕ)
             × ((line : ℕ) → field_at line self.old (key ∷ 61 ∷ value) ≡ Ok self.new)
@@ -85,6 +86,7 @@ impl<A: Allocator> Fields<A> {
     }
 
     /// With the field behind one blank; what follows that.
+    #[inline(always)]
     fn add_next<'a>(&mut self, text: &'a [u8]) -> Option<&'a [u8]>
         ensures { IfSome result (λ rest. (word : List ℕ)
             × ((line : ℕ) → field_at line self.old word ≡ Ok self.new)
@@ -99,6 +101,7 @@ impl<A: Allocator> Fields<A> {
 }
 
 /// The job that the fields of the rest of a line are, and the text behind the line.
+#[inline(always)]
 fn job_first<A: Allocator>(text: &[u8]) -> Option<(Job<A>, &[u8])>
     ensures job { IfSome result (λ x. (line : ℕ) →
         fields_at line no_fields (line_words text.now) ≡ Ok x.0) }
@@ -124,6 +127,7 @@ fn job_first<A: Allocator>(text: &[u8]) -> Option<(Job<A>, &[u8])>
 }
 
 /// Job k, of which the first line that is left is one, and the lines behind that.
+#[inline(always)]
 pub(crate) fn usual_job<'a, A: Allocator>(k: u32, lines: &Lines<'a>) -> Option<(Job<A>, Lines<'a>)>
     ensures { IfSome result (λ x.
         BeginsWithJob k (word_lines_of lines.now) x.0 (word_lines_of x.1)) }

@@ -49,6 +49,7 @@ pub fn digits_first(text: &[u8]) -> Option<(u64, &[u8])>
 }
 
 /// Whether a word that ends here is over, as a blank or the end of a line tells.
+#[inline(always)]
 pub fn is_over(rest: &[u8]) -> bool
     ensures { result ≡ true → BeginsWhite rest.now }
 {
@@ -59,6 +60,7 @@ pub fn is_over(rest: &[u8]) -> bool
 }
 
 /// The word behind one blank, if it is a number, and what follows it.
+#[inline(always)]
 pub fn next_number(text: &[u8]) -> Option<(u64, &[u8])>
     ensures word { IfSome result (λ x. (word : List ℕ) × IsNumeralOf word x.0
         × IsWordBefore text.now word x.1.now × (text.now ≡ 32 ∷ (word ++ x.1.now))) }
