@@ -1,5 +1,5 @@
 //! The order by the ratio of weight to time.
-ghost use Rattle.std.specs.Prelude.{◌≡◌, ◌*◌, ◌<◌, ◌≤◌, map, IfOk, IfSome, IsTrue};
+ghost use Rattle.std.specs.Prelude.{◌≡◌, ◌*◌, ◌<◌, ◌≤◌, ◌++◌, map, IfOk, IfSome, IsTrue};
 ghost use Rattle.std.specs.List.{All};
 ghost use Rattle.std.specs.Ordering.{is_lt};
 ghost use Rattle.tf_model.specs.ClassTable.{is_sum};
@@ -50,9 +50,11 @@ fn jobs_by_rank<A: Allocator + Copy, B: Allocator>(
     ensures by_ratio { IfOk result (λ jobs. AreJobsByRatio task.now jobs.items) }
     ensures sound { IsSound task.now }
 {
+    let mut jobs = Vec::with_capacity(alloc, task.len())?;
     let mut ranks = ranks_of(alloc, task, scale)?;
     ranks.sort_unstable();
-    jobs_of_ranks(alloc, &ranks)
+    push_jobs(&mut jobs, &ranks)?;
+    Ok(jobs)
 }
 
 // What times are scaled by, so that times over weights that differ do so in their whole parts: the
@@ -120,16 +122,15 @@ fn scaled(weight: u64, time: u64, scale: u64) -> u64
     }
 }
 
-// The jobs of ranks.
-fn jobs_of_ranks<A: Allocator>(alloc: A, ranks: &[u64]) -> Result<Vec<JobId, A>, OutOfMemory>
+// Adds the jobs of ranks.
+fn push_jobs<A: Allocator>(jobs: &mut Vec<JobId, A>, ranks: &[u64]) -> Result<(), OutOfMemory>
     requires { All IsOfJob ranks.now }
-    ensures { IfOk result (λ jobs. jobs.items ≡ map job_in ranks.now) }
+    ensures { IfOk result (λ _. jobs.new.items ≡ jobs.old.items ++ map job_in ranks.now) }
 {
-    let mut jobs = Vec::with_capacity(alloc, ranks.len())?;
     for rank in ranks {
         jobs.push(JobId::at((*rank % NUMBERS) as usize - 1))?;
     }
-    Ok(jobs)
+    Ok(())
 }
 
 // The jobs where weights or times are too great for ranks.

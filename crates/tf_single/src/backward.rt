@@ -32,12 +32,14 @@ pub(crate) struct LastFirst<A: Allocator> {
 
 // All jobs: of those without a successor that is left, each is the cheapest when the work of those
 // that are left is over, the greatest number among equals. Where each that is left has a successor
-// that is left, a cycle. None is free before.
+// that is left, a cycle. None is taken and none is free before.
 pub(crate) fn last_first<A: Allocator + Copy, B: Allocator, F: FreeJobs + Drop>(
     alloc: A,
     task: &Task<B>,
+    taken: Vec<JobId, A>,
     free: F,
 ) -> Result<LastFirst<A>, LawlerFault<A>>
+    requires taken { taken.items ≡ [] }
     requires none { F.jobs_of free ≡ [] }
     requires kept { (work : ℕ) → work ≤ limit → F.IsKept free task.now work }
     ensures { MatchResult result
@@ -48,7 +50,7 @@ pub(crate) fn last_first<A: Allocator + Copy, B: Allocator, F: FreeJobs + Drop>(
 {
     let counts = ArcCounts::of(alloc, task)?;
     let arcs = ArcsInto::of(alloc, task, counts.predecessors)?;
-    let mut open = Open::new(alloc, task, counts.successors, free)?;
+    let mut open = Open::new(task, taken, counts.successors, free)?;
     let mut dearest = None;
     for place in 0..task.len() {
         if open.free.is_empty() {
@@ -99,11 +101,12 @@ impl<F: FreeJobs + Drop, A: Allocator + Copy> Open<F, A> {
     // No job is taken, and those that no arc leads from are free. The counts are those of the arcs
     // from each job.
     fn new<B: Allocator>(
-        alloc: A,
         task: &Task<B>,
+        taken: Vec<JobId, A>,
         counts: Vec<u32, A>,
         free: F,
     ) -> Result<Self, OutOfMemory>
+        requires taken { taken.items ≡ [] }
         requires counts { AreArcsFrom task.now counts.items }
         requires none { F.jobs_of free ≡ [] }
         requires kept { (work : ℕ) → work ≤ limit → F.IsKept free task.now work }
@@ -112,7 +115,6 @@ impl<F: FreeJobs + Drop, A: Allocator + Copy> Open<F, A> {
             (F.jobs_of start.free) start.work) }
         ensures kept { IfOk result (λ start. F.IsKept start.free task.now start.work) }
     {
-        let taken = Vec::with_capacity(alloc, task.len())?;
         let mut free = free;
         for k in 0..task.len() {
             if counts[k] == 0 {
