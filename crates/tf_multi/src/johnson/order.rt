@@ -1,5 +1,5 @@
 //! Johnson's order.
-ghost use Rattle.std.specs.Prelude.{◌≡◌, ◌≤◌, map, IfOk};
+ghost use Rattle.std.specs.Prelude.{◌≡◌, ◌≤◌, ◌++◌, map, IfOk};
 ghost use Rattle.std.specs.List.{All};
 ghost use Rattle.tf_model.specs.Limit.{limit};
 ghost use Rattle.tf_model.specs.SchedulingTask.{IsJob, all_jobs, time_of};
@@ -30,9 +30,11 @@ pub(super) fn johnson_order<A: Allocator + Copy, B: Allocator>(
 ) -> Result<Vec<JobId, A>, OutOfMemory>
     ensures { IfOk result (λ order. IsJohnsonOrder task.now order.items) }
 {
+    let mut order = Vec::with_capacity(alloc, task.len())?;
     let mut ranked = ranked_jobs(alloc, task)?;
     ranked.sort_unstable_by_key(|job| (job.rank, job.job));
-    jobs_of(alloc, &ranked)
+    push_jobs(&mut order, &ranked)?;
+    Ok(order)
 }
 
 fn ranked_jobs<A: Allocator, B: Allocator>(
@@ -68,9 +70,11 @@ fn ranked_job<B: Allocator>(task: &Task<B>, job: JobId) -> Ranked
     }
 }
 
-fn jobs_of<A: Allocator>(alloc: A, ranked: &[Ranked]) -> Result<Vec<JobId, A>, OutOfMemory>
-    ensures { IfOk result (λ jobs. jobs.items ≡ map (λ r. r.job) ranked.now) }
+fn push_jobs<A: Allocator>(jobs: &mut Vec<JobId, A>, ranked: &[Ranked]) -> Result<(), OutOfMemory>
+    ensures { IfOk result (λ _. jobs.new.items ≡ jobs.old.items ++ map (λ r. r.job) ranked.now) }
 {
-    let jobs: Vec<JobId, A> = ranked.iter().map(|job| job.job).collect(alloc)?;
-    Ok(jobs)
+    for job in ranked {
+        jobs.push(job.job)?;
+    }
+    Ok(())
 }

@@ -1,7 +1,6 @@
-use Rattle.std.proofs.Common.{rules, map, sym, ap, subst, ◌∙◌}
+use Rattle.std.proofs.Common.{rules, map, sym, ap, subst, ◌∙◌, ◌++◌}
 use Rattle.std.specs.List.{All}
 use Rattle.std.specs.List.Sorted.{IsPermutation}
-use Rattle.std.proofs.lemmas.Result.{IfOk-weaker}
 use Rattle.std.proofs.lemmas.List.Sorted.{answers_always, All-permutation, IsPermutation-map}
 use Rattle.tf_model.specs.SchedulingTask.{all_jobs}
 use Rattle.tf_multi.specs.declared.johnson.order.Ranked.{Ranked}
@@ -32,7 +31,8 @@ returns g c =
       in_order = order_from_ranks task items ranks (ranks_in_order items sorted)
           (apart_in_order task (map (λ (r : Ranked). r.job) items) from_all);
     } in
-    IfOk-weaker c.jobs_of.result _ _
-    (λ v e. subst (IsJohnsonOrder task)
-    (ap (map (λ (r : Ranked). r.job)) (sym c.deref.ensures.value) ∙ sym e) is_order)
-    c.jobs_of.ensures
+    subst (IsJohnsonOrder task)
+    (sym (c.in_ok-push_jobs.ensures
+    ∙ ap (λ jobs. jobs ++ map (λ (r : Ranked). r.job) c.deref.result.now) c.in_ok-order.ensures.items
+    ∙ ap (map (λ (r : Ranked). r.job)) c.deref.ensures.value))
+    is_order
