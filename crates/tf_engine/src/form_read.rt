@@ -6,6 +6,7 @@ ghost use Rattle.tf_engine.specs.Parts.{ReadsTo, instance_said, task_said};
 use crate::fault::RunFault;
 use std::alloc::Allocator;
 use std::io::Read;
+use tf_model::limit::MOST_JOBS;
 use tf_model::prepare::prepare;
 use tf_model::problem::Problem;
 use tf_model::task::Task;
@@ -16,6 +17,13 @@ use tf_read::table_task::table_task;
 use tf_read::weighted_tardiness::WtReader;
 use tf_text::counted::Counted;
 use tf_text::input::{drain, read_all};
+
+// Space for the rows of the most jobs. It is reserved before the text is read and freed after it, so
+// that the rows lie before the text in memory, and what is made of the rows takes the text's pages.
+fn place_for_rows<A: Allocator>(alloc: A, problem: &Problem) -> Option<Vec<u64, A>> {
+    let numbers = if problem.release { 3 } else { 2 };
+    Vec::with_capacity(alloc, numbers * MOST_JOBS).ok()
+}
 
 /// The task of a problem and of the job table that the reader's text holds, where the caller gives
 /// this number of machines or none. Where nothing is refused, no instance is made on the way.
@@ -28,7 +36,9 @@ pub(crate) fn table_task_read<A: Allocator + Copy, R: Read>(
     ensures { ReadsTo (task_said InTable problem.now machines) R.remaining reader.old reader.new
         result }
 {
+    let place = place_for_rows(alloc, problem);
     let text = read_all(alloc, reader)?;
+    drop(place);
     if let Some(task) = table_task(alloc, problem, machines, text.as_slice()) {
         return Ok(task);
     }

@@ -20,8 +20,21 @@ use tf_options::grammar::command;
 use tf_options::options::{Asked, Work, understand};
 use tf_text::counted::Counted;
 
+/// The largest freed block, in bytes, that the allocator keeps. A table of 100,000 jobs is seldom
+/// longer.
+const KEPT_BLOCK: usize = 12 << 20;
+
 fn main(rt: HostRuntime) -> ExitCode {
+    keep_blocks(&rt);
     ExitCode::from(program(&rt))
+}
+
+/// Reserves a block and frees it. After that the allocator of glibc keeps freed blocks up to this
+/// size and reuses them, instead of returning them to the system and asking for new pages. If the
+/// block cannot be reserved, nothing changes.
+fn keep_blocks(rt: &HostRuntime) {
+    let block: Result<Vec<u8>, AllocError> = Vec::with_capacity(rt.alloc(), KEPT_BLOCK);
+    drop(block);
 }
 
 /// The status that the process ends with.
