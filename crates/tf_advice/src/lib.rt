@@ -10,7 +10,6 @@ mod number;
 pub mod page;
 pub mod piece_lines;
 pub mod shop;
-pub mod solved;
 pub mod source;
 pub mod table;
 pub mod tardiness;

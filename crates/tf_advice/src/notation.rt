@@ -1,8 +1,8 @@
 //! What is wrong with a notation, and the problems nearest to one that is not solved.
 use crate::page::Page;
-use crate::solved::{CLASSES, push_class};
 use std::alloc::{AllocError, Global};
 use strsim::osa_distance;
+use tf_listing::listing::{CLASSES, push_class};
 use tf_model::problem::{Env, Goal, Problem};
 use tf_notation::reading::read;
 

@@ -7,6 +7,8 @@ use Rattle.tf_model.specs.declared.prepare.Refusal.{Refusal}
 use Rattle.tf_model.specs.declared.prepare.Refusal.TheVariants as refusals
 use Rattle.tf_read.specs.declared.fault.ReadFault.{ReadFault}
 use Rattle.tf_read.specs.declared.fault.ReadFault.TheVariants as texts
+use Rattle.tf_random.specs.declared.run_random.RandomFault.{RandomFault}
+use Rattle.tf_random.specs.declared.run_random.RandomFault.TheVariants as random_faults
 use Rattle.tf_text.specs.AnswerText.{line_text}
 use Rattle.tf_text.specs.declared.answer.fault.AnswerFault.{AnswerFault}
 use Rattle.tf_text.specs.declared.answer.fault.AnswerFault.TheVariants as answers
@@ -75,3 +77,10 @@ fault_line (Answer fault) = answer_refused_line (answer_fault_words fault)
 fault_line (Pieces fault) = answer_refused_line (piece_fault_words fault)
 fault_line OutOfMemory = codes "threefield: want of memory\n"
 fault_line Device = codes "threefield: device fault\n"
+
+-- the line where there is no random table
+abbrev pub no_table_line : RandomFault → List ℕ
+no_table_line (random_faults.Notation fault) =
+    refused_line (codes "NotationFault" ∷ decimal fault.byte ∷ [])
+no_table_line random_faults.NotInATable = refused_line (codes "NoTable" ∷ [])
+no_table_line random_faults.OutOfMemory = codes "threefield: want of memory\n"

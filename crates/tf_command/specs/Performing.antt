@@ -1,8 +1,12 @@
 -- What the program does of what is asked for: which run over which texts ends how.
-use Rattle.std.specs.Prelude.{◌≡◌, ◌⊎◌, ℕ, Bool, true, List, Option, None, Some, IfSome, codes}
+use Rattle.std.specs.Prelude.{◌≡◌, ◌⊎◌, ℕ, Bool, false, true, List, [], Option, None, Some, Ok, IfSome, codes}
 use Rattle.std.specs.declared.alloc.Global.{Global}
 use Rattle.std.specs.Io.KnownBytes.{Appends, Keeps}
-use Rattle.tf_text.specs.Counted.{DeviceUse}
+use Rattle.tf_listing.specs.Listing.{listing}
+use Rattle.tf_model.specs.InstanceData.{InstanceData}
+use Rattle.tf_read.specs.JobTable.{job_table}
+use Rattle.tf_text.specs.Counted.{DeviceUse, AppendsPrefix}
+use Rattle.tf_text.specs.Input.{IsTextOf}
 use Rattle.tf_text.specs.declared.answer.layout.Layout.TheVariants.{Two}
 use Rattle.tf_orders.specs.declared.run_orders.OrderForm.{OrderForm}
 use Rattle.tf_orders.specs.declared.run_orders.OrderForm.TheVariants.{Single, Lines, Pieces}
@@ -11,8 +15,12 @@ use Rattle.tf_options.specs.declared.options.Work.TheVariants.{Solve, Bound, Tra
 use Rattle.tf_options.specs.declared.options.OrderSource.TheVariants.{Given, Named, Drawn}
 use Rattle.tf_options.specs.declared.options.Options.{Options}
 use Rattle.tf_options.specs.Asking.{requested}
-use Rattle.tf_random.specs.Asked.{IsTableFor}
+use Rattle.tf_random.specs.Asked.{IsTableFor, IsFaultOf}
+use Rattle.tf_random.specs.declared.run_random.RandomFault.{RandomFault}
 use Rattle.tf_random.specs.declared.run_random.Wanted.{Wanted}
+use Rattle.tf_engine.specs.declared.fault.RunFault.{RunFault}
+use Rattle.tf_command.specs.FaultLine.{no_table_line}
+use Rattle.tf_command.specs.Statuses.{status_of, status_of_no_table}
 use Rattle.tf_command.specs.Ending.{EndsSolving, EndsBounding, EndsTracing, EndsChecking, EndsDrawing, EndsEvaluating, EndsRating}
 
 -- the bytes of the text of each name, where they are known
@@ -46,11 +54,32 @@ EndsOverBoth texts first second writer says status Ends =
     ⊎ ((reader : DeviceUse) × (other : DeviceUse) × ReadsNamed texts first reader
     × ReadsNamed texts second other × Ends reader other)
 
--- a list was written, or nothing where a table was refused or memory was wanting
-abbrev pub EndsListing : DeviceUse → ℕ → Type 0
-EndsListing writer status =
-    (status ≡ 0) ⊎ (status ≡ 4)
-    ⊎ (((status ≡ 2) ⊎ (status ≡ 3)) × Keeps writer.before writer.after)
+-- this text was written, or a part of it where the device failed, which is said
+abbrev pub EndsWriting : List ℕ → DeviceUse → (List ℕ → Type 0) → ℕ → Type 0
+EndsWriting text writer says status =
+    ((status ≡ 0) × Appends writer.before writer.after text × says [])
+    ⊎ ((status ≡ 4) × AppendsPrefix writer.before writer.after text
+    × says (codes "threefield: device fault\n"))
+
+-- the list of the problems was written, with an instance of those that it has the fields for; or
+-- there was no memory, which is said, and nothing was written
+abbrev pub EndsListing : Option InstanceData → DeviceUse → (List ℕ → Type 0) → ℕ → Type 0
+EndsListing instance writer says status =
+    EndsWriting (listing instance) writer says status
+    ⊎ ((status ≡ 3) × Keeps writer.before writer.after × says (codes "threefield: want of memory\n"))
+
+-- all the bytes that a reader gives are a job table of this instance
+abbrev pub IsInTable : Option (List ℕ) → InstanceData → Type 0
+IsInTable known instance =
+    (text : List ℕ) × IsTextOf known text × (job_table text ≡ Ok instance)
+
+-- the list was written for the instance of the table that was read; or there is none, and nothing
+-- was written
+abbrev pub EndsListingFor : DeviceUse → DeviceUse → (List ℕ → Type 0) → ℕ → Type 0
+EndsListingFor table writer says status =
+    ((instance : InstanceData) × IsInTable table.before instance
+    × EndsListing (Some instance) writer says status)
+    ⊎ ((fault : RunFault Global) × (status ≡ status_of fault) × Keeps writer.before writer.after)
 
 -- the orders or the pieces of the text of this name are rated
 abbrev pub RatesNamed : Texts → Options → List ℕ → OrderForm → DeviceUse → (Bool → List ℕ → Type 0)
@@ -61,13 +90,12 @@ RatesNamed texts options name form writer says status =
     (λ instance other. EndsRating Global form (requested options Two) instance other writer said
     status)
 
--- the random table that is wanted was written, or nothing where there is none
-abbrev pub EndsRandom : Wanted → DeviceUse → ℕ → Type 0
-EndsRandom wanted writer status =
-    ((status ≡ 0) × ((table : List ℕ) × IsTableFor wanted table
-    × Appends writer.before writer.after table))
-    ⊎ (status ≡ 4)
-    ⊎ (((status ≡ 2) ⊎ (status ≡ 3)) × Keeps writer.before writer.after)
+-- the random table that is wanted was written; or why there is none is said, and nothing was written
+abbrev pub EndsRandom : Wanted → DeviceUse → (List ℕ → Type 0) → ℕ → Type 0
+EndsRandom wanted writer says status =
+    ((table : List ℕ) × IsTableFor wanted table × EndsWriting table writer says status)
+    ⊎ ((fault : RandomFault) × IsFaultOf wanted fault × (status ≡ status_of_no_table fault)
+    × Keeps writer.before writer.after × says (no_table_line fault))
 
 -- what is asked for is done over the texts that it names, and ends with this line on standard error
 -- and this status
@@ -105,7 +133,9 @@ Performs texts (Rate options (Drawn name)) writer says status =
 Performs texts (Gantt answer drawing explain) writer says status =
     EndsOver texts answer.now writer (says explain) status
     (λ reader. EndsDrawing Global drawing reader writer (says explain) status)
-Performs texts (Random wanted) writer says status = EndsRandom wanted writer status
-Performs texts (Problems None) writer says status = EndsListing writer status
+Performs texts (Random wanted) writer says status =
+    EndsRandom wanted writer (says false) status
+Performs texts (Problems None) writer says status = EndsListing None writer (says false) status
 Performs texts (Problems (Some table)) writer says status =
-    EndsOver texts table.now writer (says true) status (λ _. EndsListing writer status)
+    EndsOver texts table.now writer (says true) status
+    (λ reader. EndsListingFor reader writer (says false) status)

@@ -4,6 +4,8 @@ use Rattle.tf_engine.specs.declared.fault.RunFault.{RunFault}
 use Rattle.tf_engine.specs.Faults.{Stop, Refuses, Fails, Wants, stop_of}
 use Rattle.tf_engine.specs.declared.run_check.Checked.{Checked}
 use Rattle.tf_engine.specs.declared.run_check.Checked.TheVariants.{Accepted, OtherTask, Rejected}
+use Rattle.tf_random.specs.declared.run_random.RandomFault.{RandomFault}
+use Rattle.tf_random.specs.declared.run_random.RandomFault.TheVariants.{Notation, NotInATable, OutOfMemory}
 use Rattle.tf_evaluate.specs.declared.evaluation.Standing.{Standing}
 use Rattle.tf_evaluate.specs.declared.evaluation.Standing.TheVariants.{Best, Beaten, Unfit}
 
@@ -27,3 +29,9 @@ abbrev pub status_of_standing : Standing → ℕ
 status_of_standing Best = 0
 status_of_standing Unfit = 1
 status_of_standing Beaten = 6
+
+-- where there is no random table: it is refused, or there was no memory
+abbrev pub status_of_no_table : RandomFault → ℕ
+status_of_no_table (Notation fault) = 2
+status_of_no_table NotInATable = 2
+status_of_no_table OutOfMemory = 3

@@ -4,8 +4,9 @@ ghost use Rattle.tf_options.specs.Asking.{requested};
 ghost use Rattle.tf_options.specs.Columns.{HasWidth, IsSized};
 ghost use Rattle.tf_command.specs.Ending.{EndsSolving, EndsBounding, EndsTracing, EndsChecking, EndsEvaluating, EndsRating, EndsDrawing, SaysLine, drawn_as};
 ghost use Rattle.tf_engine.specs.Drawing.{IsDrawingOf};
-ghost use Rattle.std.specs.Prelude.{◌≡◌, ◌⊎◌, None, Some, IfSome, IfOk, IfErr, true, codes};
-ghost use Rattle.tf_command.specs.Performing.{EndsListing, EndsOver, EndsRandom, Performs, RatesNamed};
+ghost use Rattle.std.specs.Prelude.{◌≡◌, ◌⊎◌, None, Some, IfSome, IfOk, IfErr, false, true, codes};
+ghost use Rattle.std.specs.Option.{option_map};
+ghost use Rattle.tf_command.specs.Performing.{EndsListing, EndsListingFor, EndsOver, EndsRandom, EndsWriting, IsInTable, Performs, RatesNamed};
 ghost use Rattle.tf_command.specs.Recorded.{bytes_left};
 ghost use Rattle.tf_text.specs.Counted.{inner_of, use_of};
 
@@ -18,7 +19,6 @@ use crate::report::{
 use crate::source::Sources;
 use std::alloc::{Allocator, Global};
 use std::io::{Read, Write};
-use tf_advice::solved::solved_problems;
 use tf_assess::run_rate::run_rate;
 use tf_bounding::run_bound::run_bound;
 use tf_engine::fault::RunFault;
@@ -26,6 +26,7 @@ use tf_engine::run_check::run_check;
 use tf_engine::run_gantt::run_gantt;
 use tf_engine::run_solve::run_solve;
 use tf_explain::explain;
+use tf_listing::listing::listing;
 use tf_model::instance::Instance;
 use tf_options::options::{Drawing, Evaluating, Options, OrderSource, Work};
 use tf_orders::run_orders::{OrderForm, run_orders};
@@ -260,7 +261,8 @@ fn list_named<S: Sources, W: Write, E: Write>(
     ensures { EndsOver (S.text_of sources.now) name.now
         (use_of W.contents console.old.writer console.new.writer)
         (SaysLine E.contents true console.old.errors console.new.errors) result
-        (λ _. EndsListing (use_of W.contents console.old.writer console.new.writer) result) }
+        (λ table. EndsListingFor table (use_of W.contents console.old.writer console.new.writer)
+        (SaysLine E.contents false console.old.errors console.new.errors) result) }
 {
     match open(console, sources, name, MOST_KEPT, true) {
         Ok(mut table) => list_for(console, &mut table),
@@ -569,14 +571,22 @@ pub fn draw<A: Allocator + Copy, R: Read, W: Write>(
 /// Writes a random job table, and gives the exit status.
 fn random<W: Write, E: Write>(console: &mut Console<W, E>, wanted: &Wanted<'_>) -> u8
     ensures { EndsRandom wanted.now (use_of W.contents console.old.writer console.new.writer)
-        result }
+        (SaysLine E.contents false console.old.errors console.new.errors) result }
 {
     match run_random(console.alloc, wanted) {
-        Ok(text) => match console.writer.push_all(text.as_slice()) {
-            Ok(()) => 0,
-            Err(_) => say_device(&mut console.errors),
-        },
-        Err(fault) => say_no_table(fault, &mut console.errors),
+        Ok(text) => write_out(console, text.as_slice()),
+        Err(fault) => say_no_table(&fault, &mut console.errors),
+    }
+}
+
+/// Writes a text, and gives the exit status.
+fn write_out<W: Write, E: Write>(console: &mut Console<W, E>, text: &[u8]) -> u8
+    ensures { EndsWriting text.now (use_of W.contents console.old.writer console.new.writer)
+        (SaysLine E.contents false console.old.errors console.new.errors) result }
+{
+    match console.writer.push_all(text) {
+        Ok(()) => 0,
+        Err(_) => say_device(&mut console.errors),
     }
 }
 
@@ -585,7 +595,9 @@ fn list_for<R: Read, W: Write, E: Write>(
     console: &mut Console<W, E>,
     table: &mut Counted<Recorded<'_, R>>,
 ) -> u8
-    ensures { EndsListing (use_of W.contents console.old.writer console.new.writer) result }
+    ensures { EndsListingFor (use_of (bytes_left R.remaining) table.old table.new)
+        (use_of W.contents console.old.writer console.new.writer)
+        (SaysLine E.contents false console.old.errors console.new.errors) result }
 {
     let alloc = console.alloc;
     let fault = match table_in(alloc, table) {
@@ -606,20 +618,21 @@ fn list_for<R: Read, W: Write, E: Write>(
 pub fn table_in<A: Allocator + Copy, R: Read>(
     alloc: A,
     table: &mut Counted<R>,
-) -> Result<Instance<A>, RunFault<A>> {
+) -> Result<Instance<A>, RunFault<A>>
+    ensures { IfOk result (IsInTable (R.remaining (inner_of table.old))) }
+{
     let text = read_all(alloc, table)?;
     Ok(read_table(alloc, text.as_slice())?)
 }
 
 /// Lists the problems that are solved, with an instance those that it has the fields for.
 fn list<W: Write, E: Write>(console: &mut Console<W, E>, instance: Option<&Instance>) -> u8
-    ensures { EndsListing (use_of W.contents console.old.writer console.new.writer) result }
+    ensures { EndsListing (option_map (λ i. i.now) instance.entry)
+        (use_of W.contents console.old.writer console.new.writer)
+        (SaysLine E.contents false console.old.errors console.new.errors) result }
 {
-    let Ok(text) = solved_problems(console.alloc, instance) else {
-        return say_memory(&mut console.errors);
-    };
-    match console.writer.push_all(text.as_bytes()) {
-        Ok(()) => 0,
-        Err(_) => say_device(&mut console.errors),
+    match listing(console.alloc, instance) {
+        Ok(text) => write_out(console, text.as_bytes()),
+        Err(_) => say_memory(&mut console.errors),
     }
 }

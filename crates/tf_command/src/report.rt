@@ -3,10 +3,10 @@ ghost use Rattle.std.specs.Prelude.{◌≡◌, ◌⊎◌, ◌∷◌, ◌++◌, [
 ghost use Rattle.std.specs.Fmt.{decimal};
 ghost use Rattle.tf_text.specs.AnswerText.{line_text};
 ghost use Rattle.tf_engine.specs.VerdictLine.{piece_fault_words};
-ghost use Rattle.tf_command.specs.FaultLine.{answer_fault_words, fault_line, field_word, read_fault_words, refusal_words, refused_line};
+ghost use Rattle.tf_command.specs.FaultLine.{answer_fault_words, fault_line, field_word, no_table_line, read_fault_words, refusal_words, refused_line};
 ghost use Rattle.tf_command.specs.Said.{said_words};
 ghost use Rattle.tf_command.specs.Wrote.{Wrote};
-ghost use Rattle.tf_command.specs.Statuses.{status_of, status_of_check, status_of_standing};
+ghost use Rattle.tf_command.specs.Statuses.{status_of, status_of_check, status_of_no_table, status_of_standing};
 ghost use Rattle.tf_command.specs.Ending.{line_of, status_of_run, status_of_checking, status_of_evaluating, status_of_rating};
 
 use crate::gathered::{Gathered, send};
@@ -150,8 +150,9 @@ pub fn say_device<W: Write>(writer: &mut Counted<W>) -> u8
 }
 
 /// Says why there is no random table.
-pub fn say_no_table<W: Write>(fault: RandomFault, writer: &mut Counted<W>) -> u8
-    ensures { (result ≡ 2) ⊎ (result ≡ 3) }
+pub fn say_no_table<W: Write>(fault: &RandomFault, writer: &mut Counted<W>) -> u8
+    ensures status { result ≡ status_of_no_table fault.now }
+    ensures line { Wrote W.contents writer.old writer.new (no_table_line fault.now) }
 {
     match fault {
         RandomFault::Notation(fault) => {

@@ -1,5 +1,8 @@
 -- How a command over texts in memory ends.
-use Rattle.std.specs.Prelude.{◌≡◌, ◌≢◌, ℕ, ◌⊎◌, List, [], Some}
+use Rattle.std.specs.Prelude.{◌≡◌, ◌≢◌, ℕ, ◌⊎◌, List, [], None, Some, Ok}
+use Rattle.tf_listing.specs.Listing.{listing}
+use Rattle.tf_model.specs.InstanceData.{InstanceData}
+use Rattle.tf_read.specs.JobTable.{job_table}
 use Rattle.tf_text.specs.Counted.{DeviceUse, inner_of}
 use Rattle.tf_engine.specs.declared.fault.RunFault.{RunFault}
 use Rattle.tf_command.specs.FaultLine.{fault_line}
@@ -74,7 +77,15 @@ pub record IsTableRefused (A : Type 0) (table output errors : List ℕ) (status 
   pub ends : status ≡ 2
   pub unprinted : output ≡ []
 
--- a list is printed and nothing is said of faults, or the table is refused
+-- the list of the problems: for the table that is given, or of all where none is
+abbrev pub IsListFor : List ℕ → List ℕ → Type 0
+IsListFor table output =
+    ((table ≡ []) × (output ≡ listing None))
+    ⊎ ((instance : InstanceData) × (job_table table ≡ Ok instance)
+    × (output ≡ listing (Some instance)))
+
+-- the list is printed and nothing is said of faults, or the table is refused
 abbrev pub IsListed : Type 0 → List ℕ → Outcome
 IsListed A table output errors status =
-    ((status ≡ 0) × (errors ≡ [])) ⊎ IsTableRefused A table output errors status
+    ((status ≡ 0) × (errors ≡ []) × IsListFor table output)
+    ⊎ IsTableRefused A table output errors status

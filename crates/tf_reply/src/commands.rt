@@ -1,17 +1,16 @@
 //! The commands, over texts in memory.
-ghost use Rattle.std.specs.Prelude.{◌≡◌, IfOk};
+ghost use Rattle.std.specs.Prelude.{◌≡◌, ◌++◌, IfOk, string_bytes};
 ghost use Rattle.tf_text.specs.Counted.{inner_of};
 ghost use Rattle.tf_options.specs.Asking.{requested};
 ghost use Rattle.tf_options.specs.Columns.{HasWidth};
 ghost use Rattle.tf_command.specs.Ending.{EndsSolving, EndsBounding, EndsChecking, EndsEvaluating, EndsDrawing};
 ghost use Rattle.tf_reply.specs.Commands.{Solves, Bounds, Checks, Evaluates, Draws, Pictures};
-ghost use Rattle.tf_reply.specs.Replies.{said, Replies, IsOver, IsOverBoth, IsListed};
+ghost use Rattle.tf_reply.specs.Replies.{printed, said, Replies, IsOver, IsOverBoth, IsListed};
 
 use crate::asking::{Asked, Asking};
 use crate::reply::{Console, Reply, misused};
 use crate::reserve::Reserve;
 use std::alloc::{AllocError, Allocator};
-use tf_advice::solved::solved_problems;
 use tf_assess::run_rate::run_rate;
 use tf_bounding::run_bound::run_bound;
 use tf_command::commands::{draw, table_in};
@@ -19,6 +18,7 @@ use tf_command::report::{end_check, end_evaluation, end_run, report, say_device}
 use tf_engine::run_check::run_check;
 use tf_engine::run_solve::run_solve;
 use tf_evaluate::evaluation::Detail;
+use tf_listing::listing::listing;
 use tf_model::instance::Instance;
 use tf_options::options::{Drawing, Options};
 use tf_picture::view::View;
@@ -197,12 +197,12 @@ pub fn problems<A: Allocator + Copy>(alloc: A, table: &[u8]) -> Result<Reply<A>,
     if table.is_empty() {
         return listed(
             console,
-            &solved_problems(alloc, None::<&Instance<Reserve>>)?,
+            &listing(alloc, None::<&Instance<Reserve>>)?,
         );
     }
     let mut table = Counted::new(table);
     match table_in(alloc, &mut table) {
-        Ok(instance) => listed(console, &solved_problems(alloc, Some(&instance))?),
+        Ok(instance) => listed(console, &listing(alloc, Some(&instance))?),
         Err(fault) => {
             let status = report(&fault, &mut console.errors);
             console.ended(status)
@@ -217,6 +217,8 @@ fn listed<A: Allocator + Copy>(
 ) -> Result<Reply<A>, AllocError>
     ensures status { IfOk result (λ r. r.status ≡ 0) }
     ensures said { IfOk result (λ r. said r ≡ (inner_of console.errors).items) }
+    ensures list { IfOk result
+        (λ r. printed r ≡ (inner_of console.output).items ++ string_bytes list.now) }
 {
     let status = match console.output.push_all(list.as_bytes()) {
         Ok(()) => 0,
