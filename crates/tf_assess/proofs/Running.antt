@@ -8,6 +8,7 @@ use Rattle.tf_engine.specs.declared.fault.RunFault.TheVariants.{Device, OutOfMem
 use Rattle.tf_engine.specs.RequestData.{RequestData}
 use Rattle.tf_engine.specs.Faults.{stop_of}
 use Rattle.tf_engine.proofs.Unread.{reading_stops}
+use Rattle.tf_bound_text.specs.BoundSheetData.{BoundSheetData}
 use Rattle.tf_assess.specs.declared.assessment.Assessed.{Assessed}
 use Rattle.tf_assess.specs.declared.assessment.Assessment.{Assessment}
 use Rattle.tf_assess.specs.declared.case_read.ProblemCase.{ProblemCase}
@@ -15,19 +16,19 @@ use Rattle.tf_assess.specs.Assessing.{bound_in, assessed_of, IsAssessment}
 use Rattle.tf_assess.specs.AssessmentText.{assessment_text}
 use Rattle.tf_assess.specs.RunAssessing.{SaysAssessment, IsAssessed, IsRefusedAssessment, HasProblemReaderFailed, IsAssessmentOf, ReadsProblemCase}
 
-module _ (A T U : Type 0) (request : RequestData) (remaining : T → Option (List ℕ))
-    (old new : Counted T) (giving : U → Option (List ℕ)) (before after : Counted U) where
+module _ (A T U : Type 0) (offer : Option BoundSheetData) (request : RequestData)
+    (remaining : T → Option (List ℕ)) (old new : Counted T) (giving : U → Option (List ℕ)) (before after : Counted U) where
   -- nothing was written where no case was read
   pub unread : (held : Option (List ℕ)) (writer : Bool) (e : RunFault A)
       → ReadsProblemCase request remaining old new giving before after (Err e)
-      → IsAssessmentOf request (use_of remaining old new) (use_of giving before after)
+      → IsAssessmentOf offer request (use_of remaining old new) (use_of giving before after)
       (unused held writer) (Err e)
   unread held writer e had = record {
     text = had.text;
     is_all = had.is_all;
     answer_text = had.answer_text;
     is_whole_answer = had.is_whole_answer;
-    outcome = reading_stops (SaysAssessment A request had.text had.answer_text)
+    outcome = reading_stops (SaysAssessment A offer request had.text had.answer_text)
         (IsRefusedAssessment request had.text had.answer_text)
         (IsRefusedAssessment request had.text had.answer_text)
         (HasProblemReaderFailed request had.text (use_of remaining old new)
@@ -42,7 +43,7 @@ module _ (A T U : Type 0) (request : RequestData) (remaining : T → Option (Lis
       (writer : DeviceUse) where
     -- nor where memory was wanting
     pub wanting : Keeps writer.before writer.after
-        → IsAssessmentOf {A = A} request (use_of remaining old new) (use_of giving before after)
+        → IsAssessmentOf {A = A} offer request (use_of remaining old new) (use_of giving before after)
         writer (Err OutOfMemory)
     wanting kept = record {
       text = had.text;
@@ -52,11 +53,11 @@ module _ (A T U : Type 0) (request : RequestData) (remaining : T → Option (Lis
       outcome = kept;
     }
 
-    module _ (a : Assessment A) (is : IsAssessment case.task case.sheet a) where
+    module _ (a : Assessment A) (is : IsAssessment case.task offer case.sheet a) where
       abbrev out : List ℕ
       out = assessment_text case.task (length case.task.jobs) a
 
-      says : IsAssessed request had.text had.answer_text out a
+      says : IsAssessed offer request had.text had.answer_text out a
       says = record {
         task = case.task;
         meant = had.given.meant;
@@ -68,7 +69,7 @@ module _ (A T U : Type 0) (request : RequestData) (remaining : T → Option (Lis
 
       -- a prefix of the assessment was written where the writer failed
       pub cut_off : writer.failed ≡ true → AppendsPrefix writer.before writer.after out
-          → IsAssessmentOf {A = A} request (use_of remaining old new) (use_of giving before after)
+          → IsAssessmentOf {A = A} offer request (use_of remaining old new) (use_of giving before after)
           writer (Err Device)
       cut_off failed prefix = record {
         text = had.text;
@@ -81,7 +82,7 @@ module _ (A T U : Type 0) (request : RequestData) (remaining : T → Option (Lis
       -- it was written
       pub said : (result : Assessed) → result ≡ assessed_of a.fit (bound_in a.bound)
           → Appends writer.before writer.after out
-          → IsAssessmentOf {A = A} request (use_of remaining old new) (use_of giving before after)
+          → IsAssessmentOf {A = A} offer request (use_of remaining old new) (use_of giving before after)
           writer (Ok result)
       said result same written = record {
         text = had.text;

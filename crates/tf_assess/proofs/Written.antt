@@ -10,7 +10,7 @@ use Rattle.tf_problem.specs.ProblemData.{ProblemData}
 use Rattle.tf_assess.specs.declared.assessment.Assessment.{Assessment}
 use Rattle.tf_evaluate.specs.EvaluationText.{claimed_lines}
 use Rattle.tf_assess.specs.Assessing.{value_in, bound_in, best_in}
-use Rattle.tf_assess.specs.AssessmentText.{fit_words, number_lines, gap_lines, bound_lines, judged_lines, assessment_text}
+use Rattle.tf_assess.specs.AssessmentText.{fit_words, number_lines, gap_lines, offered_lines, bound_lines, judged_lines, assessment_text}
 
 -- lines, and then others
 lines_then : (t0 t1 t2 : List ℕ) (first others : List (List (List ℕ)))
@@ -22,26 +22,29 @@ lines_then t0 t1 t2 first others e1 e2 =
 
 module _ (A : Type 0) (a : Assessment A) where
   -- the lines of the judgement
-  pub judged_written : (t0 t1 t2 t3 t4 t5 t6 : List ℕ) → t1 ≡ t0 ++ line_text (fit_words a.fit)
+  pub judged_written : (t0 t1 t2 t3 t4 t5 t6 t7 : List ℕ)
+      → t1 ≡ t0 ++ line_text (fit_words a.fit)
       → t2 ≡ t1 ++ flat_map line_text (claimed_lines a.claimed)
       → t3 ≡ t2 ++ flat_map line_text (number_lines (codes "value") (value_in a.fit))
       → t4 ≡ t3
       ++ flat_map line_text
       (number_lines (codes "best") (best_in (value_in a.fit) (bound_in a.bound)))
       → t5 ≡ t4 ++ flat_map line_text (gap_lines (value_in a.fit) (bound_in a.bound))
-      → t6 ≡ t5 ++ flat_map line_text (bound_lines a.bound)
-      → t6 ≡ t0 ++ flat_map line_text (judged_lines a)
-  judged_written t0 t1 t2 t3 t4 t5 t6 e1 e2 e3 e4 e5 e6 =
+      → t6 ≡ t5 ++ flat_map line_text (offered_lines a.offered)
+      → t7 ≡ t6 ++ flat_map line_text (bound_lines a.bound)
+      → t7 ≡ t0 ++ flat_map line_text (judged_lines a)
+  judged_written t0 t1 t2 t3 t4 t5 t6 t7 e1 e2 e3 e4 e5 e6 e7 =
       let gap = gap_lines (value_in a.fit) (bound_in a.bound) in
       let best = number_lines (codes "best") (best_in (value_in a.fit) (bound_in a.bound)) in
-      let from4 = lines_then t4 t5 t6 gap (bound_lines a.bound) e5 e6 in
-      let from3 = lines_then t3 t4 t6 best (gap ++ bound_lines a.bound) e4 from4 in
-      let from2 = lines_then t2 t3 t6 (number_lines (codes "value") (value_in a.fit))
-      (best ++ (gap ++ bound_lines a.bound)) e3 from3 in
-      let from1 = lines_then t1 t2 t6 (claimed_lines a.claimed)
-      (number_lines (codes "value") (value_in a.fit)
-      ++ (best ++ (gap ++ bound_lines a.bound))) e2 from2 in
-      then t0 t1 t6 _ _ e1 from1
+      let bounds = offered_lines a.offered ++ bound_lines a.bound in
+      let from5 = lines_then t5 t6 t7 (offered_lines a.offered) (bound_lines a.bound) e6 e7 in
+      let from4 = lines_then t4 t5 t7 gap bounds e5 from5 in
+      let from3 = lines_then t3 t4 t7 best (gap ++ bounds) e4 from4 in
+      let from2 = lines_then t2 t3 t7 (number_lines (codes "value") (value_in a.fit))
+      (best ++ (gap ++ bounds)) e3 from3 in
+      let from1 = lines_then t1 t2 t7 (claimed_lines a.claimed)
+      (number_lines (codes "value") (value_in a.fit) ++ (best ++ (gap ++ bounds))) e2 from2 in
+      then t0 t1 t7 _ _ e1 from1
 
   module _ (k : ProblemData) (jobs : ℕ) where
     -- the first two lines, and the others

@@ -1,5 +1,5 @@
 -- How an answer stands to the task of a problem.
-use Rattle.std.specs.Prelude.{◌≡◌, ℤ, List, length, Option, None, Some, IfSome, if◌then◌else◌}
+use Rattle.std.specs.Prelude.{◌≡◌, ℕ, ℤ, ◌≤ℤ◌, List, length, Option, None, Some, IfSome, if◌then◌else◌}
 use Rattle.std.specs.List.{All}
 use Rattle.std.specs.List.Sorted.{IsPermutation}
 use Rattle.std.specs.Ordering.{int_eq}
@@ -16,6 +16,12 @@ use Rattle.tf_fit.specs.ProblemMisfit.{HasFirstMisfit}
 use Rattle.tf_search.specs.declared.strongest.Found.{Found}
 use Rattle.tf_search.specs.Strongest.{IsFound}
 use Rattle.tf_text.specs.AnswerText.{SheetData}
+use Rattle.tf_problem.specs.ProblemCost.{IsLowerBound}
+use Rattle.tf_bound.specs.declared.certificate.BoundCertificate.{BoundCertificate}
+use Rattle.tf_bound_text.specs.BoundSheetData.{BoundSheetData, IsValueBy}
+use Rattle.tf_assess.specs.declared.assessment.Offered.{Offered}
+use Rattle.tf_assess.specs.declared.assessment.Offered.TheVariants.{Bounds, OtherTask, WrongValue, Faulty}
+use Rattle.tf_assess.specs.declared.offered.Weighed.{Weighed}
 use Rattle.tf_assess.specs.declared.assessment.ProblemFit.{ProblemFit}
 use Rattle.tf_assess.specs.declared.assessment.ProblemFit.TheVariants.{Fits, NoSchedule, Misfit}
 use Rattle.tf_assess.specs.declared.assessment.Assessed.{Assessed}
@@ -83,11 +89,58 @@ pub record IsSameProblem (p q : Problem) : Type 0 where
   pub jobs : HasSameJobs p q
   pub shop : HasSameShop p q
 
+-- a problem and sizes are those of the task
+pub record IsOfTask (k : ProblemData) (problem : Problem) (jobs machines : ℕ) : Type 0 where
+  pub problem : IsSameProblem problem k.problem
+  pub jobs : jobs ≡ length k.jobs
+  pub machines : machines ≡ k.machines
+
 -- the sheet is for the task: its problem is the task's, and so are its sizes
-pub record IsForProblem (k : ProblemData) (sheet : SheetData) : Type 0 where
-  pub problem : IsSameProblem sheet.problem k.problem
-  pub jobs : sheet.jobs ≡ length k.jobs
-  pub machines : sheet.machines ≡ k.machines
+abbrev pub IsForProblem : ProblemData → SheetData → Type 0
+IsForProblem k sheet = IsOfTask k sheet.problem sheet.jobs sheet.machines
+
+-- ---- a bound that is offered
+
+-- the bound's text is for the task
+abbrev pub IsOfferFor : ProblemData → BoundSheetData → Type 0
+IsOfferFor k sheet = IsOfTask k sheet.problem sheet.jobs sheet.machines
+
+-- the number is the value of the certificate, and no timetable that fits costs less
+pub record HasValue (k : ProblemData) (sheet : BoundSheetData) (value : ℤ) : Type 0 where
+  pub meant : IsOfferFor k sheet
+  pub value : IsValueBy k sheet.basis value
+  pub bound : IsLowerBound k value
+
+-- what the text of a bound comes to on the task
+abbrev pub IsOffer : ProblemData → BoundSheetData → Offered → Type 0
+IsOffer k sheet (Bounds value) = HasValue k sheet value × (value ≡ sheet.value)
+IsOffer k sheet OtherTask = ¬ (IsOfferFor k sheet)
+IsOffer k sheet (WrongValue value) = HasValue k sheet value × ¬ (value ≡ sheet.value)
+IsOffer k sheet (Faulty fault) = IsOfferFor k sheet
+
+abbrev pub HasOffered : ProblemData → Option BoundSheetData → Option Offered → Type 0
+HasOffered k None None = Unit {0}
+HasOffered k (Some sheet) (Some offered) = IsOffer k sheet offered
+HasOffered k _ _ = ⊥
+
+-- there is a bound, and it is this number or more
+abbrev pub IsAtLeast : {A : Type 0} → ℤ → Option (Found A) → Type 0
+IsAtLeast value None = ⊥
+IsAtLeast value (Some found) = value ≤ℤ found.value
+
+-- an offered bound counts: no weaker one is taken in its place
+abbrev pub Counts : {A : Type 0} → Option Offered → Option (Found A) → Type 0
+Counts (Some (Bounds value)) bound = IsAtLeast value bound
+Counts _ bound = Unit {0}
+
+-- what is offered, judged, and the stronger of it and of what was found
+pub record IsWeighed {A : Type 0} (k : ProblemData) (offer : Option BoundSheetData) (w : Weighed A)
+    : Type 0 where
+  pub offered : HasOffered k offer w.offered
+  pub bound : IfSome w.bound (IsFound k)
+  pub counts : Counts w.offered w.bound
+
+-- ---- the assessment
 
 -- how the pieces of a sheet stand to the task, which may be another one
 abbrev pub HasProblemFit : ProblemData → SheetData → Option ProblemFit → Type 0
@@ -102,9 +155,11 @@ HasAssessed k sheet Unproved = IsForProblem k sheet × (rows : Timetable)
     × DrawsProblem k sheet.answer.pieces rows
 HasAssessed k sheet Unfit = Unit {0}
 
-pub record IsAssessment {A : Type 0} (k : ProblemData) (sheet : SheetData) (a : Assessment A) : Type 0
-  where
+pub record IsAssessment {A : Type 0} (k : ProblemData) (offer : Option BoundSheetData)
+    (sheet : SheetData) (a : Assessment A) : Type 0 where
     pub fit : HasProblemFit k sheet a.fit
     pub claimed : a.claimed ≡ Some sheet.answer.value
+    pub offered : HasOffered k offer a.offered
     pub bound : IfSome a.bound (IsFound k)
+    pub counts : Counts a.offered a.bound
     pub standing : HasAssessed k sheet (assessed_of a.fit (bound_in a.bound))

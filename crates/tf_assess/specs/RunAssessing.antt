@@ -14,6 +14,7 @@ use Rattle.tf_engine.specs.RequestData.{RequestData}
 use Rattle.tf_engine.specs.Runs.{Leaves}
 use Rattle.tf_engine.specs.Devices.{LeavesBoth}
 use Rattle.tf_bounding.specs.RunBounding.{problem_in, problem_task_for, IsRefusedBound}
+use Rattle.tf_bound_text.specs.BoundSheetData.{BoundSheetData}
 use Rattle.tf_assess.specs.declared.assessment.Assessed.{Assessed}
 use Rattle.tf_assess.specs.declared.assessment.Assessment.{Assessment}
 use Rattle.tf_assess.specs.declared.case_read.ProblemCase.{ProblemCase}
@@ -21,20 +22,21 @@ use Rattle.tf_assess.specs.Assessing.{bound_in, assessed_of, IsAssessment}
 use Rattle.tf_assess.specs.AssessmentText.{assessment_text}
 
 -- the request and the instance text mean a task, the answer text says a sheet, and this is how it
--- stands to the task
-pub record IsAssessed {A : Type 0} (request : RequestData) (instance answer out : List ℕ)
-    (a : Assessment A) : Type 0 where
+-- stands to the task, beside the bound that is offered, if any is
+pub record IsAssessed {A : Type 0} (offer : Option BoundSheetData) (request : RequestData)
+    (instance answer out : List ℕ) (a : Assessment A) : Type 0 where
   pub task : ProblemData
   pub meant : problem_task_for request instance ≡ Ok task
   pub sheet : SheetData
   pub said : answer_in answer ≡ Ok sheet
-  pub is : IsAssessment task sheet a
+  pub is : IsAssessment task offer sheet a
   pub written : out ≡ assessment_text task (length task.jobs) a
 
 -- a text that says the assessment
-abbrev pub SaysAssessment : Type 0 → RequestData → List ℕ → List ℕ → List ℕ → Type 0
-SaysAssessment A request instance answer out =
-    (a : Assessment A) × IsAssessed request instance answer out a
+abbrev pub SaysAssessment : Type 0 → Option BoundSheetData → RequestData → List ℕ → List ℕ
+    → List ℕ → Type 0
+SaysAssessment A offer request instance answer out =
+    (a : Assessment A) × IsAssessed offer request instance answer out a
 
 -- the refusal is one of a bound, or there is a task and the answer text is at fault
 abbrev pub IsRefusedAssessment : RequestData → List ℕ → List ℕ → Refused → Type 0
@@ -50,24 +52,25 @@ HasProblemReaderFailed request text instance answer =
 -- An assessment is written, or the one refusal is given. Where memory was wanting there is neither.
 -- Nothing was written then, nor after a refusal or where a reader failed; where the writer failed a
 -- prefix of the text was.
-abbrev pub AssessingOutcome : {A : Type 0} → RequestData → List ℕ → List ℕ → DeviceUse → DeviceUse
-    → DeviceUse → Result Assessed (RunFault A) → Type 0
-AssessingOutcome {A = A} request text answer_text instance answer writer (Ok assessed) =
-    (out : List ℕ) × (a : Assessment A) × IsAssessed request text answer_text out a
+abbrev pub AssessingOutcome : {A : Type 0} → Option BoundSheetData → RequestData → List ℕ → List ℕ
+    → DeviceUse → DeviceUse → DeviceUse → Result Assessed (RunFault A) → Type 0
+AssessingOutcome {A = A} offer request text answer_text instance answer writer (Ok assessed) =
+    (out : List ℕ) × (a : Assessment A) × IsAssessed offer request text answer_text out a
     × (assessed ≡ assessed_of a.fit (bound_in a.bound)) × Appends writer.before writer.after out
-AssessingOutcome {A = A} request text answer_text instance answer writer (Err e) =
-    Leaves (SaysAssessment A request text answer_text) (IsRefusedAssessment request text answer_text)
+AssessingOutcome {A = A} offer request text answer_text instance answer writer (Err e) =
+    Leaves (SaysAssessment A offer request text answer_text)
+    (IsRefusedAssessment request text answer_text)
     (HasProblemReaderFailed request text instance answer) writer (stop_of e)
 
 -- The outcome is that of two texts, which are all bytes of the readers up to their ends where they
 -- are known.
-pub record IsAssessmentOf {A : Type 0} (request : RequestData) (instance answer writer : DeviceUse)
-    (result : Result Assessed (RunFault A)) : Type 0 where
+pub record IsAssessmentOf {A : Type 0} (offer : Option BoundSheetData) (request : RequestData)
+    (instance answer writer : DeviceUse) (result : Result Assessed (RunFault A)) : Type 0 where
   pub text : List ℕ
   pub is_all : IsTextOf instance.before text
   pub answer_text : List ℕ
   pub is_whole_answer : IsTextOf answer.before answer_text
-  pub outcome : AssessingOutcome request text answer_text instance answer writer result
+  pub outcome : AssessingOutcome offer request text answer_text instance answer writer result
 
 -- ---- reading
 

@@ -1,5 +1,5 @@
 -- What an evaluation of an answer to any problem leaves behind.
-use Rattle.std.specs.Prelude.{◌≡◌, ℕ, Bool, false, List, is_some, Result, Ok, Err, IsTrue, IsFalse}
+use Rattle.std.specs.Prelude.{◌≡◌, ℕ, Bool, false, List, None, is_some, Result, Ok, Err, IsTrue, IsFalse}
 use Rattle.tf_model.specs.declared.problem.Problem.{Problem}
 use Rattle.tf_model.specs.ClassTable.{class_of}
 use Rattle.tf_notation.specs.Reading.{notation}
@@ -39,5 +39,5 @@ pub record IsRatingOf {A : Type 0} (detail : Detail) (request : RequestData)
   pub solved : IsTrue (is_solved request.problem)
       → IsEvaluationOf detail request instance answer writer result
   pub unsolved : IsFalse (is_solved request.problem)
-      → (run : Result Assessed (RunFault A)) × IsAssessmentOf request instance answer writer run
+      → (run : Result Assessed (RunFault A)) × IsAssessmentOf None request instance answer writer run
       × (result ≡ rated run)

@@ -1,9 +1,10 @@
 //! An answer to a problem, assessed.
 ghost use Rattle.std.specs.Prelude.{◌≡◌, ◌↔◌, IfOk, IsTrue};
 ghost use Rattle.tf_text.specs.AnswerText.{SheetData};
-ghost use Rattle.tf_assess.specs.Assessing.{HasSameJobs, HasSameShop, IsSameProblem, IsAssessment, IsForProblem, IsProblemJudged, HasProblemFit};
+ghost use Rattle.tf_assess.specs.Assessing.{HasSameJobs, HasSameShop, IsSameProblem, IsAssessment, IsForProblem, IsOfTask, IsProblemJudged, HasProblemFit};
 
 use crate::assessment::{Assessment, ProblemFit};
+use crate::offered::{Aids, Weighed, weigh};
 use std::alloc::Allocator;
 use tf_bound::task::ProblemTask;
 use tf_check::answer::Answer;
@@ -16,19 +17,21 @@ use tf_schedule::schedule::Schedule;
 use tf_search::strongest::strongest;
 use tf_text::answer::sheet::Sheet;
 
-/// How an answer stands to the task of a problem, with the strongest lower bound that is found. The
-/// answer is given up, so that its pieces are sorted where they stand. Its certificate is not looked
-/// at. Only want of memory is an error.
+/// How an answer stands to the task of a problem, with the strongest lower bound that is found or
+/// offered. The answer is given up, so that its pieces are sorted where they stand. Its certificate
+/// is not looked at. Only want of memory is an error.
 pub fn assess<A: Allocator + Copy, B: Allocator, C: Allocator>(
     alloc: A,
     task: &ProblemTask<B>,
     sheet: Sheet<C>,
-    steps: Option<u32>,
+    aids: Aids<A>,
 ) -> Result<Assessment<A>, OutOfMemory>
-    ensures { IfOk result (IsAssessment task.now sheet) }
+    ensures { IfOk result (IsAssessment task.now aids.offered sheet) }
 {
-    let bound = strongest(alloc, task, steps)?;
-    let is_its = is_for(task, &sheet);
+    let Aids { steps, offered } = aids;
+    let found = strongest(alloc, task, steps)?;
+    let Weighed { offered, bound } = weigh(alloc, task, offered, found)?;
+    let is_its = is_for(task, &sheet.problem, sheet.jobs, sheet.machines);
     let Answer {
         pieces,
         value: claimed,
@@ -38,17 +41,23 @@ pub fn assess<A: Allocator + Copy, B: Allocator, C: Allocator>(
     Ok(Assessment {
         fit,
         claimed: Some(claimed),
+        offered,
         bound,
     })
 }
 
-// Whether the problem of a sheet is the task's, and its sizes are the task's.
-fn is_for<B: Allocator, C: Allocator>(task: &ProblemTask<B>, sheet: &Sheet<C>) -> bool
-    ensures { IsTrue result ↔ IsForProblem task.now sheet.now }
+// Whether a problem and sizes are those of the task.
+pub(crate) fn is_for<B: Allocator>(
+    task: &ProblemTask<B>,
+    problem: &Problem,
+    jobs: u32,
+    machines: u32,
+) -> bool
+    ensures { IsTrue result ↔ IsOfTask task.now problem.now jobs machines }
 {
-    is_same(&sheet.problem, &task.problem())
-        && sheet.jobs as usize == task.len()
-        && sheet.machines == task.machines()
+    is_same(problem, &task.problem())
+        && jobs as usize == task.len()
+        && machines == task.machines()
 }
 
 // Whether two problems are the same, whether or not they name a number of machines.

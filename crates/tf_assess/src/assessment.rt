@@ -3,6 +3,7 @@ ghost use Rattle.std.specs.Prelude.{◌≡◌};
 ghost use Rattle.tf_assess.specs.Assessing.{bound_in};
 
 use std::alloc::{Allocator, Global};
+use tf_bound::fault::BoundFault;
 use tf_fit::misfit::ProblemMisfit;
 use tf_schedule::schedule::PieceFault;
 use tf_search::strongest::Found;
@@ -29,6 +30,19 @@ pub enum Assessed {
     Unfit,
 }
 
+/// What an offered bound comes to on a task.
+#[derive(Clone, Copy, Debug, PartialEq, Eq)]
+pub enum Offered {
+    /// It is proved, and this is the value that it states.
+    Bounds(i128),
+    /// It is for another problem, or for other numbers of jobs or machines.
+    OtherTask,
+    /// Its certificate has this value, and it states another one.
+    WrongValue(i128),
+    /// Its certificate bounds nothing.
+    Faulty(BoundFault),
+}
+
 /// The value of a lower bound, where one was found.
 pub fn bound_in<A: Allocator>(bound: &Option<Found<A>>) -> Option<i128>
     ensures { result ≡ bound_in bound.now }
@@ -46,7 +60,9 @@ pub struct Assessment<A: Allocator = Global> {
     pub fit: Option<ProblemFit>,
     /// The value that the answer claims; `None` for a schedule of which nothing is claimed.
     pub claimed: Option<i64>,
-    /// The strongest lower bound that was found. None where each certificate that was tried has a
+    /// What the bound that was offered comes to; `None` where none was.
+    pub offered: Option<Offered>,
+    /// The strongest lower bound that was found or offered. None where each certificate that was tried has a
     /// number beyond the limit.
     pub bound: Option<Found<A>>,
 }

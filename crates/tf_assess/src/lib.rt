@@ -4,6 +4,7 @@
 pub mod assess;
 pub mod assessment;
 mod case_read;
+pub mod offered;
 pub mod run_assess;
 pub mod run_rate;
 pub mod writing;

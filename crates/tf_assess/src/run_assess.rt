@@ -8,6 +8,7 @@ ghost use Rattle.tf_assess.specs.RunAssessing.{IsAssessmentOf};
 use crate::assess::assess;
 use crate::assessment::Assessed;
 use crate::case_read::{ProblemCase, problem_case_read};
+use crate::offered::Aids;
 use crate::writing::assessment_bytes;
 use std::alloc::Allocator;
 use std::io::{Read, Write};
@@ -16,7 +17,8 @@ use tf_engine::request::Request;
 use tf_text::counted::Counted;
 
 /// Reads an instance and an answer to their ends, and writes how the answer stands to the task of
-/// the problem, with the strongest lower bound that is found.
+/// the problem, with the strongest lower bound that is found, or with the one that is offered, if
+/// that is stronger.
 ///
 /// The refusals come in the order of [`tf_engine::run_check::run_check`]: notation, a problem that
 /// no kind of certificate bounds, reading the instance, its text, the rest of what makes no task,
@@ -25,12 +27,12 @@ use tf_text::counted::Counted;
 pub fn run_assess<A: Allocator + Copy, B: Allocator, R: Read, S: Read, W: Write>(
     alloc: A,
     request: &Request<B>,
-    steps: Option<u32>,
+    aids: Aids<A>,
     instance: &mut Counted<R>,
     answer: &mut Counted<S>,
     writer: &mut Counted<W>,
 ) -> Result<Assessed, RunFault<A>>
-    ensures outcome { IsAssessmentOf request.now (use_of R.remaining instance.old instance.new)
+    ensures outcome { IsAssessmentOf aids.offered request.now (use_of R.remaining instance.old instance.new)
         (use_of S.remaining answer.old answer.new) (use_of W.contents writer.old writer.new)
         result }
     ensures devices { LeavesCase (problem_in request.now.problem) R.remaining instance.old
@@ -38,7 +40,7 @@ pub fn run_assess<A: Allocator + Copy, B: Allocator, R: Read, S: Read, W: Write>
 {
     let case = problem_case_read(alloc, request, instance, answer)?;
     let ProblemCase { task, sheet } = case;
-    let assessment = assess(alloc, &task, sheet, steps)?;
+    let assessment = assess(alloc, &task, sheet, aids)?;
     let text = assessment_bytes(alloc, &task, &assessment)?;
     writer.push_all(text.as_slice())?;
     Ok(assessment.assessed())

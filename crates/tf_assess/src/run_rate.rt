@@ -4,6 +4,7 @@ ghost use Rattle.tf_text.specs.Counted.{use_of};
 ghost use Rattle.tf_assess.specs.RunRating.{IsRatingOf, is_solved, rated, standing_as};
 
 use crate::assessment::Assessed;
+use crate::offered::Aids;
 use crate::run_assess::run_assess;
 use std::alloc::Allocator;
 use std::io::{Read, Write};
@@ -33,11 +34,15 @@ pub fn run_rate<A: Allocator + Copy, B: Allocator, R: Read, S: Read, W: Write>(
     if is_solved(request.problem.as_str()) {
         return run_evaluate(alloc, request, detail, instance, answer, writer);
     }
-    rated(run_assess(alloc, request, None, instance, answer, writer))
+    let aids = Aids {
+        steps: None,
+        offered: None,
+    };
+    rated(run_assess(alloc, request, aids, instance, answer, writer))
 }
 
-// What is told of an assessment.
-fn rated<A: Allocator>(run: Result<Assessed, RunFault<A>>) -> Result<Standing, RunFault<A>>
+/// What is told of an assessment.
+pub fn rated<A: Allocator>(run: Result<Assessed, RunFault<A>>) -> Result<Standing, RunFault<A>>
     ensures { result ≡ rated run }
 {
     match run {

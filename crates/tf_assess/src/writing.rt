@@ -3,10 +3,11 @@ ghost use Rattle.std.specs.Prelude.{◌≡◌, [], ◌∷◌, ◌++◌, length, 
 ghost use Rattle.std.specs.List.{flat_map, join_with_byte};
 ghost use Rattle.std.specs.Fmt.{decimal};
 ghost use Rattle.tf_text.specs.AnswerText.{line_text};
-ghost use Rattle.tf_assess.specs.AssessmentText.{problem_misfit_words, fit_words, number_lines, gap_lines, bound_lines, judged_lines, assessment_text};
+ghost use Rattle.tf_assess.specs.AssessmentText.{certificate_fault_words, problem_misfit_words, fit_words, number_lines, gap_lines, offered_words, offered_lines, bound_lines, judged_lines, assessment_text};
 
-use crate::assessment::{Assessment, ProblemFit};
+use crate::assessment::{Assessment, Offered, ProblemFit};
 use std::alloc::Allocator;
+use tf_bound::fault::BoundFault;
 use tf_bound::task::ProblemTask;
 use tf_bounding::writing::push_certificate;
 use tf_engine::verdict_line::{push_misfit, push_piece_fault};
@@ -51,6 +52,7 @@ fn push_judged<A: Allocator, M: Allocator>(
     push_some(text, b"value", assessment.value())?;
     push_some(text, b"best", assessment.best())?;
     push_gap(text, assessment.value(), assessment.bound_value())?;
+    push_offered(text, assessment.offered)?;
     push_bound(text, &assessment.bound)?;
     Ok(())
 }
@@ -96,7 +98,7 @@ fn push_problem_misfit<A: Allocator>(
     Ok(())
 }
 
-// A misfit of a job.
+// A name and a job.
 fn push_named<A: Allocator>(
     text: &mut Vec<u8, A>,
     name: &[u8],
@@ -136,6 +138,56 @@ fn push_gap<A: Allocator>(
         (Some(value), Some(bound)) => push_number_line(text, b"gap", value.abs_diff(bound)),
         _ => Ok(()),
     }
+}
+
+// What an offered bound comes to, if one was offered.
+fn push_offered<A: Allocator>(
+    text: &mut Vec<u8, A>,
+    offered: Option<Offered>,
+) -> Result<(), OutOfMemory>
+    ensures { OnOk result
+        (text.new.items ≡ text.old.items ++ flat_map line_text (offered_lines offered)) }
+{
+    match offered {
+        None => Ok(()),
+        Some(Offered::Bounds(value)) => push_number_line(text, b"offered", value),
+        Some(Offered::WrongValue(value)) => {
+            push_number_line(text, b"offered WrongValue", value)
+        }
+        Some(Offered::OtherTask) => Ok(text.extend_from_slice(b"offered OtherTask\n")?),
+        Some(Offered::Faulty(fault)) => {
+            text.extend_from_slice(b"offered ")?;
+            push_certificate_fault(text, fault)?;
+            text.push(b'\n')?;
+            Ok(())
+        }
+    }
+}
+
+// Why a certificate bounds nothing, by its name and its arguments.
+fn push_certificate_fault<A: Allocator>(
+    text: &mut Vec<u8, A>,
+    fault: BoundFault,
+) -> Result<(), OutOfMemory>
+    ensures { OnOk result
+        (text.new.items ≡ text.old.items ++ join_with_byte 32 (certificate_fault_words fault)) }
+{
+    match fault {
+        BoundFault::OtherKind => text.extend_from_slice(b"OtherKind")?,
+        BoundFault::NoDenominator => text.extend_from_slice(b"NoDenominator")?,
+        BoundFault::BadMachine(machine) => {
+            text.extend_from_slice(b"BadMachine")?;
+            push_number(text, machine as u128 + 1)?;
+        }
+        BoundFault::BadJob(job) => push_named(text, b"BadJob", job)?,
+        BoundFault::Repeated(job) => push_named(text, b"Repeated", job)?,
+        BoundFault::TooFew => text.extend_from_slice(b"TooFew")?,
+        BoundFault::Numerators => text.extend_from_slice(b"Numerators")?,
+        BoundFault::Condition(job) => push_named(text, b"Condition", job)?,
+        BoundFault::TooLarge => text.extend_from_slice(b"TooLarge")?,
+        BoundFault::OutOfMemory => text.extend_from_slice(b"OutOfMemory")?,
+    }
+    Ok(())
 }
 
 // The bound and its certificate.

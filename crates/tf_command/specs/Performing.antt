@@ -11,7 +11,7 @@ use Rattle.tf_text.specs.declared.answer.layout.Layout.TheVariants.{Two}
 use Rattle.tf_orders.specs.declared.run_orders.OrderForm.{OrderForm}
 use Rattle.tf_orders.specs.declared.run_orders.OrderForm.TheVariants.{Single, Lines, Pieces}
 use Rattle.tf_options.specs.declared.options.Work.{Work as Asking}
-use Rattle.tf_options.specs.declared.options.Work.TheVariants.{Solve, Bound, Trace, Check, Evaluate, Rate, Gantt, Random, Problems}
+use Rattle.tf_options.specs.declared.options.Work.TheVariants.{Solve, Bound, Trace, Check, Evaluate, Assess, Rate, Gantt, Random, Problems}
 use Rattle.tf_options.specs.declared.options.OrderSource.TheVariants.{Given, Named, Drawn}
 use Rattle.tf_options.specs.declared.options.Options.{Options}
 use Rattle.tf_options.specs.Asking.{requested}
@@ -22,6 +22,7 @@ use Rattle.tf_engine.specs.declared.fault.RunFault.{RunFault}
 use Rattle.tf_command.specs.FaultLine.{no_table_line}
 use Rattle.tf_command.specs.Statuses.{status_of, status_of_no_table}
 use Rattle.tf_command.specs.Ending.{EndsSolving, EndsBounding, EndsTracing, EndsChecking, EndsDrawing, EndsEvaluating, EndsRating}
+use Rattle.tf_command.specs.Assessing.{EndsAssessing}
 
 -- the bytes of the text of each name, where they are known
 abbrev pub Texts : Type 0
@@ -121,6 +122,12 @@ Performs texts (Evaluate evaluating) writer says status =
     EndsOverBoth texts evaluating.options.input.now evaluating.answer.now writer said status
     (λ instance other. EndsEvaluating Global evaluating.detail (requested evaluating.options Two)
     instance other writer said status)
+Performs texts (Assess assessing) writer says status =
+    let said = says assessing.options.telling.explain in
+    EndsOverBoth texts assessing.options.input.now assessing.answer.now writer said status
+    (λ instance other. EndsOver texts assessing.bound.now writer said status
+    (λ bound. EndsAssessing Global (requested assessing.options Two) instance other bound writer said
+    status))
 Performs texts (Rate options (Given order)) writer says status =
     let said = says options.telling.explain in
     EndsOver texts options.input.now writer said status

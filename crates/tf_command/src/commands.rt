@@ -3,6 +3,7 @@ ghost use Rattle.std.specs.declared.alloc.Global.{Global};
 ghost use Rattle.tf_options.specs.Asking.{requested};
 ghost use Rattle.tf_options.specs.Columns.{HasWidth, IsSized};
 ghost use Rattle.tf_command.specs.Ending.{EndsSolving, EndsBounding, EndsTracing, EndsChecking, EndsEvaluating, EndsRating, EndsDrawing, SaysLine, drawn_as};
+ghost use Rattle.tf_command.specs.Assessing.{EndsAssessing};
 ghost use Rattle.tf_engine.specs.Drawing.{IsDrawingOf};
 ghost use Rattle.std.specs.Prelude.{◌≡◌, ◌⊎◌, None, Some, IfSome, IfOk, IfErr, false, true, codes};
 ghost use Rattle.std.specs.Option.{option_map};
@@ -14,12 +15,16 @@ use crate::console::Console;
 use crate::explained::{Ended, Rated, tell, tell_drawn};
 use crate::recorded::{MOST_BESIDE, MOST_KEPT, Recorded, room};
 use crate::report::{
-    end_check, end_evaluation, end_rating, end_run, report, say_device, say_memory, say_no_table,
+    end_check, end_evaluation, end_rating, end_run, report, report_bound, say_device, say_memory,
+    say_no_table,
 };
 use crate::source::Sources;
 use std::alloc::{Allocator, Global};
 use std::io::{Read, Write};
-use tf_assess::run_rate::run_rate;
+use tf_assess::offered::Aids;
+use tf_assess::run_assess::run_assess;
+use tf_assess::run_rate::{rated, run_rate};
+use tf_bound_text::bound_read::bound_read;
 use tf_bounding::run_bound::run_bound;
 use tf_engine::fault::RunFault;
 use tf_engine::run_check::run_check;
@@ -28,7 +33,7 @@ use tf_engine::run_solve::run_solve;
 use tf_explain::explain;
 use tf_listing::listing::listing;
 use tf_model::instance::Instance;
-use tf_options::options::{Drawing, Evaluating, Options, OrderSource, Work};
+use tf_options::options::{Assessing, Drawing, Evaluating, Options, OrderSource, Work};
 use tf_orders::run_orders::{OrderForm, run_orders};
 use tf_picture::run_picture::run_picture;
 use tf_random::run_random::{Wanted, run_random};
@@ -59,6 +64,7 @@ pub fn perform<S: Sources, W: Write, E: Write>(
         Work::Trace(options, style) => trace_named(console, sources, options, *style),
         Work::Check(options, answer) => check_named(console, sources, options, answer),
         Work::Evaluate(evaluating) => evaluate_named(console, sources, evaluating),
+        Work::Assess(assessing) => assess_named(console, sources, assessing),
         Work::Rate(options, OrderSource::Given(order)) => {
             rate_given(console, sources, options, order)
         }
@@ -178,6 +184,30 @@ fn evaluate_named<S: Sources, W: Write, E: Write>(
     match open_both(console, sources, &evaluating.options, evaluating.answer) {
         Ok((mut instance, mut answer)) => {
             evaluate(console, evaluating, &mut instance, &mut answer)
+        }
+        Err(status) => status,
+    }
+}
+
+/// Assesses the answer of that name, beside the bound of that name.
+fn assess_named<S: Sources, W: Write, E: Write>(
+    console: &mut Console<W, E>,
+    sources: &S,
+    assessing: &Assessing<'_>,
+) -> u8
+    ensures { Performs (S.text_of sources.now) (Work.Assess assessing.now)
+        (use_of W.contents console.old.writer console.new.writer)
+        (λ explain. SaysLine E.contents explain console.old.errors console.new.errors) result }
+{
+    let explain = assessing.options.telling.explain;
+    match open_both(console, sources, &assessing.options, assessing.answer) {
+        Ok((mut instance, mut answer)) => {
+            match open(console, sources, assessing.bound, MOST_BESIDE, explain) {
+                Ok(mut bound) => {
+                    assess(console, &assessing.options, &mut instance, &mut answer, &mut bound)
+                }
+                Err(status) => status,
+            }
         }
         Err(status) => status,
     }
@@ -489,6 +519,49 @@ fn evaluate<R: Read, S: Read, W: Write, E: Write>(
         let ended = Ended {
             alloc,
             telling: evaluating.options.telling,
+            request: &request,
+        };
+        ended.tell_evaluated(&run, instance.inner(), answer.inner(), &mut console.errors);
+    }
+    status
+}
+
+/// Tells how good an answer is by lower bounds, of which a text offers one, and the exit status. The
+/// text of the bound is read first.
+fn assess<R: Read, S: Read, T: Read, W: Write, E: Write>(
+    console: &mut Console<W, E>,
+    options: &Options<'_>,
+    instance: &mut Counted<Recorded<'_, R>>,
+    answer: &mut Counted<Recorded<'_, S>>,
+    bound: &mut Counted<Recorded<'_, T>>,
+) -> u8
+    ensures { EndsAssessing Global (requested options.now Layout.Two)
+        (use_of (bytes_left R.remaining) instance.old instance.new)
+        (use_of (bytes_left S.remaining) answer.old answer.new)
+        (use_of (bytes_left T.remaining) bound.old bound.new)
+        (use_of W.contents console.old.writer console.new.writer)
+        (SaysLine E.contents options.now.telling.explain console.old.errors console.new.errors)
+        result }
+{
+    let alloc = console.alloc;
+    let offered = match bound_read(alloc, bound) {
+        Ok(sheet) => Some(sheet),
+        Err(fault) => return report_bound(&fault, &mut console.errors),
+    };
+    let Ok(request) = options.request(alloc, Layout::Two) else {
+        return say_memory(&mut console.errors);
+    };
+    let aids = Aids {
+        steps: None,
+        offered,
+    };
+    let writer = &mut console.writer;
+    let run = rated(run_assess(alloc, &request, aids, instance, answer, writer));
+    let status = end_evaluation(&run, &mut console.errors);
+    if options.telling.explain {
+        let ended = Ended {
+            alloc,
+            telling: options.telling,
             request: &request,
         };
         ended.tell_evaluated(&run, instance.inner(), answer.inner(), &mut console.errors);

@@ -3,6 +3,7 @@ ghost use Rattle.std.specs.Prelude.{◌≡◌, ◌⊎◌, ◌∷◌, ◌++◌, [
 ghost use Rattle.std.specs.Fmt.{decimal};
 ghost use Rattle.tf_text.specs.AnswerText.{line_text};
 ghost use Rattle.tf_engine.specs.VerdictLine.{piece_fault_words};
+ghost use Rattle.tf_command.specs.BoundLine.{bound_fault_words, bound_fault_line, status_of_bound};
 ghost use Rattle.tf_command.specs.FaultLine.{answer_fault_words, fault_line, field_word, no_table_line, read_fault_words, refusal_words, refused_line};
 ghost use Rattle.tf_command.specs.Said.{said_words};
 ghost use Rattle.tf_command.specs.Wrote.{Wrote};
@@ -13,6 +14,7 @@ use crate::gathered::{Gathered, send};
 use itoa::Buffer;
 use std::alloc::Allocator;
 use std::io::Write;
+use tf_bound_text::fault::{BoundReadFault, BoundTextFault};
 use tf_engine::fault::RunFault;
 use tf_engine::run_check::Checked;
 use tf_evaluate::evaluation::Standing;
@@ -54,6 +56,21 @@ pub fn report<A: Allocator, W: Write>(fault: &RunFault<A>, writer: &mut Counted<
         RunFault::Device => return say_device(writer),
     }
     2
+}
+
+/// Writes the line of a fault of a bound's text in the same way, and gives the exit status.
+pub fn report_bound<W: Write>(fault: &BoundReadFault, writer: &mut Counted<W>) -> u8
+    ensures status { result ≡ status_of_bound fault.now }
+    ensures line { Wrote W.contents writer.old writer.new (bound_fault_line fault.now) }
+{
+    match fault {
+        BoundReadFault::Text(fault) => {
+            say(writer, BOUND_REFUSED, said_of_bound(fault));
+            2
+        }
+        BoundReadFault::OutOfMemory => say_memory(writer),
+        BoundReadFault::Device => say_device(writer),
+    }
 }
 
 /// The exit status of a check that said its verdict.
@@ -183,6 +200,8 @@ const REFUSED: &[u8] = b"threefield: refused: ";
 
 const ANSWER_REFUSED: &[u8] = b"threefield: refused: answer ";
 
+const BOUND_REFUSED: &[u8] = b"threefield: refused: bound ";
+
 // A fault by its name and its arguments.
 #[derive(Clone, Copy)]
 enum Said {
@@ -254,6 +273,19 @@ fn said_of_answer(fault: &AnswerFault) -> Said
         AnswerFault::BadNotation => Said::Name(b"BadNotation"),
         AnswerFault::EndsEarly => Said::Name(b"EndsEarly"),
         AnswerFault::OutOfMemory => Said::Name(b"OutOfMemory"),
+    }
+}
+
+fn said_of_bound(fault: &BoundTextFault) -> Said
+    ensures { said_words result ≡ bound_fault_words fault.now }
+{
+    match *fault {
+        BoundTextFault::TooLong => Said::Name(b"TooLong"),
+        BoundTextFault::BadLine(line) => Said::One(b"BadLine", u64::from(line)),
+        BoundTextFault::OutOfRange(line) => Said::One(b"OutOfRange", u64::from(line)),
+        BoundTextFault::BadNotation => Said::Name(b"BadNotation"),
+        BoundTextFault::EndsEarly => Said::Name(b"EndsEarly"),
+        BoundTextFault::OutOfMemory => Said::Name(b"OutOfMemory"),
     }
 }
 

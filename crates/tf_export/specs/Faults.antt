@@ -19,11 +19,15 @@ behind_line text = drop (line_end text + 1) text
 abbrev pub refusal : List (List ℕ) → List (List ℕ)
 refusal row = fields (words (codes "refusal")) (codes "arguments") row
 
--- that of an answer text says so
+-- that of the text of this name says so
+abbrev pub refused_text : List ℕ → List (List ℕ) → List (List ℕ)
+refused_text name row = member (codes "text") (string name) ∷ refusal (drop 1 row)
+
+-- that of an answer text, of the text of a bound, or another one
 abbrev pub refused : List (List ℕ) → List (List ℕ)
 refused row =
-    if first_is (codes "answer") row
-    then member (codes "text") (string (codes "answer")) ∷ refusal (drop 1 row) else refusal row
+    if first_is (codes "answer") row then refused_text (codes "answer") row
+    else (if first_is (codes "bound") row then refused_text (codes "bound") row else refusal row)
 
 -- what the line of a fault says behind the name of the program
 abbrev pub fault : List (List ℕ) → List (List ℕ)

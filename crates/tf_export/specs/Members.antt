@@ -83,7 +83,8 @@ abbrev pub is_plain_key : List ℕ → Bool
 is_plain_key key =
     bytes_eq key (codes "problem") || bytes_eq key (codes "jobs") || bytes_eq key (codes "machines")
     || bytes_eq key (codes "value") || bytes_eq key (codes "claimed")
-    || bytes_eq key (codes "best") || bytes_eq key (codes "gap") || bytes_eq key (codes "bound")
+    || bytes_eq key (codes "best") || bytes_eq key (codes "gap") || bytes_eq key (codes "offered")
+    || bytes_eq key (codes "bound")
 
 -- a verdict: whether it is a good one, and if not the fault and its arguments
 abbrev pub verdict : List ℕ → List ℕ → List ℕ → List (List ℕ) → List (List ℕ)

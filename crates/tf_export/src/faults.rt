@@ -1,5 +1,6 @@
 //! What is said on standard error, as JSON.
-ghost use Rattle.std.specs.Prelude.{◌≡◌, ◌∷◌, ◌<◌, [], length, IfOk, OnOk};
+ghost use Rattle.std.specs.Prelude.{◌≡◌, ◌∷◌, ◌<◌, [], codes, length, IfOk, OnOk};
+ghost use Rattle.tf_export.specs.Json.{string, member};
 ghost use Rattle.tf_words.specs.Words.{words};
 ghost use Rattle.tf_export.specs.Faults.{refused, refusal, fault, explanation, fault_members, fault_json};
 
@@ -18,17 +19,26 @@ impl<A: Allocator + Copy> Json<A> {
         self.fields(b"refusal", b"arguments", row)
     }
 
+    // The refusal of the text of this name, from the words behind that.
+    fn refused_text(&mut self, name: &[u8], row: &[u8]) -> Result<(), OutOfMemory>
+        ensures { OnOk result (Adds self.old self.new
+            (member (codes "text") (string name.now) ∷ refusal (words row.now))) }
+    {
+        self.string_member(b"text", name)?;
+        self.refusal(row)?;
+        Ok(())
+    }
+
     fn refused(&mut self, row: &[u8]) -> Result<(), OutOfMemory>
         ensures { OnOk result (Adds self.old self.new (refused (words row.now))) }
     {
-        match behind_key(row, b"answer") {
-            None => self.refusal(row),
-            Some(row) => {
-                self.string_member(b"text", b"answer")?;
-                self.refusal(row)?;
-                Ok(())
-            }
+        if let Some(row) = behind_key(row, b"answer") {
+            return self.refused_text(b"answer", row);
         }
+        if let Some(row) = behind_key(row, b"bound") {
+            return self.refused_text(b"bound", row);
+        }
+        self.refusal(row)
     }
 
     fn fault(&mut self, alloc: A, row: &[u8]) -> Result<(), OutOfMemory>

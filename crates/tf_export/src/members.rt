@@ -80,6 +80,7 @@ fn is_plain_key(key: &[u8]) -> bool
         || is(key, b"claimed")
         || is(key, b"best")
         || is(key, b"gap")
+        || is(key, b"offered")
         || is(key, b"bound")
 }
 

@@ -11,7 +11,7 @@ use Rattle.tf_options.specs.declared.options.Asked.TheVariants.{Work, Formatted,
 use Rattle.tf_options.specs.declared.options.OrderSource.{OrderSource}
 use Rattle.tf_options.specs.declared.options.OrderSource.TheVariants.{Given as Written, Named, Drawn}
 use Rattle.tf_options.specs.declared.options.Work.{Work as Asking}
-use Rattle.tf_options.specs.declared.options.Work.TheVariants.{Solve, Bound, Trace, Check, Evaluate, Rate, Gantt, Random, Problems}
+use Rattle.tf_options.specs.declared.options.Work.TheVariants.{Solve, Bound, Trace, Check, Evaluate, Assess, Rate, Gantt, Random, Problems}
 
 -- the orders that are evaluated: that of `--order`, or those of the text that `--orders` names; or the
 -- pieces of the text that `--schedule` names
@@ -84,7 +84,14 @@ IsWorkBy name given on_terminal (Evaluate evaluating) =
     × AreOptionsBy given on_terminal evaluating.options
     × HasNoOrder given
     × (given.value (codes "ANSWER") ≡ Some evaluating.answer.now)
+    × (given.value (codes "bound") ≡ None)
     × IsFlagBy (given.flag (codes "certificate")) (has_arithmetic evaluating.detail)
+IsWorkBy name given on_terminal (Assess assessing) =
+    (name ≡ codes "evaluate")
+    × AreOptionsBy given on_terminal assessing.options
+    × HasNoOrder given
+    × (given.value (codes "ANSWER") ≡ Some assessing.answer.now)
+    × (given.value (codes "bound") ≡ Some assessing.bound.now)
 IsWorkBy name given on_terminal (Rate options orders) =
     (name ≡ codes "evaluate")
     × AreOptionsBy given on_terminal options
@@ -113,6 +120,22 @@ answer_fault given =
     then Some (codes "INPUT and ANSWER cannot both be standard input")
     else None
 
+-- the text that is named so is standard input
+abbrev pub is_standard_input : Given → List ℕ → Bool
+is_standard_input given name = is_word (given.value name) (codes "-")
+
+-- both the text of a bound and another text are standard input
+abbrev pub bound_fault : Given → Option (List ℕ)
+bound_fault given =
+    if is_standard_input given (codes "bound")
+    && (is_standard_input given (codes "ANSWER") || is_standard_input given (codes "INPUT"))
+    then Some (codes "--bound and INPUT or ANSWER cannot both be standard input")
+    else None
+
+-- the same of a command of this name
+abbrev pub offer_fault : List ℕ → Given → Option (List ℕ)
+offer_fault name given = if bytes_eq name (codes "evaluate") then bound_fault given else None
+
 -- orders or pieces are evaluated
 abbrev pub is_rating : List ℕ → Given → Bool
 is_rating name given = bytes_eq name (codes "evaluate") && has_order given
@@ -136,7 +159,8 @@ abbrev pub own_fault : List ℕ → Given → Option (List ℕ)
 own_fault name given =
     if bytes_eq name (codes "bound") then steps_fault given
     else (if has_no_answer name then None
-    else (if is_rating name given then orders_fault given else answer_fault given))
+    else (if is_rating name given then orders_fault given
+    else first_fault (answer_fault given) (offer_fault name given)))
 
 abbrev pub fault_by : List ℕ → Given → Option (List ℕ)
 fault_by name given =

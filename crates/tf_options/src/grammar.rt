@@ -40,6 +40,7 @@ const ABOUT_EVALUATE: &str = "\
 Example: threefield evaluate -p \"P2|prmp|Cmax\" examples/table.txt answer.txt
          threefield evaluate -p \"1||sumC\" --certificate table.txt answer.txt
          threefield evaluate -p \"1||sumC\" --order \"2 1 3\" table.txt
+         threefield evaluate -p \"P2||Cmax\" --bound bound.txt table.txt answer.txt
 
 Exit status: 0 best, 1 does not fit, 2 refused, 3 want of memory,
              4 a file or a device failed, 5 the command line is wrong,
@@ -160,12 +161,24 @@ fn evaluate_command<'a>(alloc: Global) -> Result<Command<'a>, AllocError> {
         .after_help(ABOUT_EVALUATE)
         .after_long_help(help::OF_EVALUATE)
         .arg(certificate)?
+        .arg(bound(alloc)?)?
         .arg(json(alloc))?
         .arg(csv(alloc)?)?
         .arg(order(alloc)?)?
         .arg(orders(alloc)?)?
         .arg(schedule(alloc)?)?
         .arg(answer)
+}
+
+fn bound<'a>(alloc: Global) -> Result<Arg<'a>, AllocError> {
+    Arg::new(alloc, "bound")
+        .long("bound")
+        .value_name("FILE")
+        .help("Judges the lower bound of FILE too, and uses it if it is the stronger")
+        .conflicts_with("order")?
+        .conflicts_with("orders")?
+        .conflicts_with("schedule")?
+        .conflicts_with("certificate")
 }
 
 fn order<'a>(alloc: Global) -> Result<Arg<'a>, AllocError> {

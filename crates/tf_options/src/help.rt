@@ -102,12 +102,16 @@ the lines \"piece JOB MACHINE START STOP\" of a file, which need no other lines;
 --order that of jobs one after another as early as possible; with --orders that of
 each line of a file, for which one line is printed, with its cost and its gap.
 
+--bound takes a lower bound as \"bound\" prints it, or one of your own. It is judged,
+and used where it is stronger than the one that is found.
+
 Example: threefield evaluate -p \"P2|prmp|Cmax\" examples/table.txt answer.txt
          threefield evaluate -p \"1||sumC\" --certificate table.txt answer.txt
          threefield evaluate -p \"1||sumC\" --order \"2 1 3\" table.txt
          threefield evaluate -p \"P2||sumC\" --order \"2 1 / 3\" table.txt
          threefield evaluate -p \"1||sumwT\" --orders orders.txt table.txt
          threefield evaluate -p \"1|rj|Lmax\" --schedule pieces.txt table.txt
+         threefield evaluate -p \"P2||Cmax\" --bound bound.txt table.txt answer.txt
 
 Exit status: 0 best, 1 does not fit, 2 refused, 3 want of memory,
              4 a file or a device failed, 5 the command line is wrong,

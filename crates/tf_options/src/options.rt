@@ -13,7 +13,7 @@ ghost use Rattle.tf_options.specs.Matched.{machines_fault, most_steps, options_f
 ghost use Rattle.tf_options.specs.Matched.{number_by, steps_fault, wt_fault};
 ghost use Rattle.tf_options.specs.Viewing.{IsDrawingBy, IsViewBy, drawing_fault, most_side, number_fault, page_by, sides_fault, size_by, view_fault};
 ghost use Rattle.tf_options.specs.OptionNumber.{numeral_in};
-ghost use Rattle.tf_options.specs.Understood.{HasNoOrder, IsAskedBy, IsAskedOver, IsOrderBy, input_fault, lacks_options};
+ghost use Rattle.tf_options.specs.Understood.{HasNoOrder, IsAskedBy, IsAskedOver, IsOrderBy, bound_fault, input_fault, is_standard_input, lacks_options};
 
 use crate::format::Format;
 use crate::wanting::wanted_in;
@@ -116,6 +116,16 @@ pub struct Evaluating<'a> {
     pub detail: Detail,
 }
 
+/// Which answer is assessed, to what, and beside which bound.
+#[derive(Drop)]
+pub struct Assessing<'a> {
+    pub options: Options<'a>,
+    /// The name of the answer.
+    pub answer: &'a str,
+    /// The name of the text of a bound.
+    pub bound: &'a str,
+}
+
 /// Where the orders of jobs or the pieces come from whose schedules are evaluated.
 #[derive(Clone, Copy, Debug)]
 pub enum OrderSource<'a> {
@@ -149,6 +159,8 @@ pub enum Work<'a> {
     Check(Options<'a>, &'a str),
     /// Tell how good an answer is.
     Evaluate(Evaluating<'a>),
+    /// Tell how good an answer is by lower bounds, of which a text offers one.
+    Assess(Assessing<'a>),
     /// Tell how good the semi-active schedules of orders are, or a schedule.
     Rate(Options<'a>, OrderSource<'a>),
     /// Draw the answer of this name.
@@ -336,11 +348,19 @@ fn asked_over<'a>(
                 return Asked::Unfit("INPUT and ANSWER cannot both be standard input");
             }
             if name == "evaluate" {
-                return Asked::Work(Work::Evaluate(Evaluating {
-                    options,
-                    answer,
-                    detail: detail_in(given),
-                }));
+                return match bound_in(given) {
+                    Err(fault) => Asked::Unfit(fault),
+                    Ok(None) => Asked::Work(Work::Evaluate(Evaluating {
+                        options,
+                        answer,
+                        detail: detail_in(given),
+                    })),
+                    Ok(Some(bound)) => Asked::Work(Work::Assess(Assessing {
+                        options,
+                        answer,
+                        bound,
+                    })),
+                };
             }
             if name == "check" {
                 return Asked::Work(Work::Check(options, answer));
@@ -427,6 +447,31 @@ fn input_fault(orders: &OrderSource<'_>) -> Option<&'static str>
             Some("INPUT and --schedule cannot both be standard input")
         }
         _ => None,
+    }
+}
+
+// The name of the text of a bound, if one is given. The instance and the answer cannot be standard
+// input beside it.
+fn bound_in<'a>(given: &ArgMatches<'a>) -> Result<Option<&'a str>, &'static str>
+    ensures given { IfOk result (λ bound. option_map (λ name. name.now) bound
+        ≡ (given_of given.now).value (codes "bound")) }
+    ensures fault { IfErr result (λ fault. bound_fault (given_of given.now) ≡ Some fault.now) }
+{
+    if is_standard_input(given, "bound")
+        && (is_standard_input(given, "ANSWER") || is_standard_input(given, "INPUT"))
+    {
+        return Err("--bound and INPUT or ANSWER cannot both be standard input");
+    }
+    Ok(given.get_str("bound"))
+}
+
+// Whether the text that is named so is standard input.
+fn is_standard_input(given: &ArgMatches<'_>, name: &str) -> bool
+    ensures { result ≡ is_standard_input (given_of given.now) name.now }
+{
+    match given.get_str(name) {
+        Some(word) => word == "-",
+        None => false,
     }
 }
 

@@ -57,7 +57,12 @@ pub record IsScheduleAssessment {A : Type 0} (k : ProblemData) (found : Option (
     (ps : List Piece) (a : Assessment A) : Type 0 where
   pub fit : ProblemFit
   pub judged : IsProblemJudged k ps fit
-  pub is : a ≡ record { fit = Some fit; claimed = None; bound = found }
+  pub is : a ≡ record {
+    fit = Some fit;
+    claimed = None;
+    offered = None;
+    bound = found;
+  }
 
 -- the text is the evaluation of the pieces, which come to this
 abbrev pub IsEvaluated : {A : Type 0} → Measure A → List Piece → List ℕ → Standing → Type 0

@@ -164,6 +164,7 @@ fn assessment_of<A: Allocator + Copy, B: Allocator>(
     Ok(Assessment {
         fit: Some(fit),
         claimed: None,
+        offered: None,
         bound: found,
     })
 }

@@ -18,7 +18,9 @@ returns g c =
       fit = fit;
       claimed = ap Some (to_z-of_z w64 c.pieces.inside.value fits
           ∙ ap (λ (a : AnswerData). a.value) (c.pieces.view_is ∙ c.into_answer.ensures));
-      bound = c.in_ok-bound.ensures;
-      standing = standing_is k c.args.sheet c.in_ok-fit.fit c.in_ok-bound.bound fit
-          c.in_ok-bound.ensures;
+      offered = c.in_ok-weigh.ensures.offered;
+      bound = c.in_ok-weigh.ensures.bound;
+      counts = c.in_ok-weigh.ensures.counts;
+      standing = standing_is k c.args.sheet c.in_ok-fit.fit c.in_ok-weigh.bound fit
+          c.in_ok-weigh.ensures.bound;
     }

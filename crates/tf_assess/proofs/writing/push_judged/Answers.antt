@@ -32,4 +32,5 @@ returns g c =
     ++ flat_map line_text (gap_lines v c.bound_value.result)) c.value-2.ensures
     ∙ ap (λ (b : Option ℤ). c.push_some-2.new.text.items
     ++ flat_map line_text (gap_lines (value_in a.fit) b)) c.bound_value.ensures in
-    judged_written _ a _ _ _ _ _ _ _ fit claimed value best gap c.in_ok-push_bound.ensures
+    judged_written _ a _ _ _ _ _ _ _ _ fit claimed value best gap c.in_ok-push_offered.ensures
+    c.in_ok-push_bound.ensures

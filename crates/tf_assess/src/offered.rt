@@ -1,0 +1,95 @@
+//! A bound that a text offers, judged for the task of a problem.
+ghost use Rattle.std.specs.Prelude.{◌≡◌, ◌⊎◌, Some, IfOk, IfSome};
+ghost use Rattle.tf_search.specs.Strongest.{IsFound};
+ghost use Rattle.tf_assess.specs.Assessing.{IsOffer, IsAtLeast, IsWeighed};
+
+use crate::assess::is_for;
+use crate::assessment::Offered;
+use std::alloc::{Allocator, Global};
+use tf_bound::certificate::BoundCertificate;
+use tf_bound::fault::BoundFault;
+use tf_bound::task::ProblemTask;
+use tf_bound_text::sheet::BoundSheet;
+use tf_model::memory::OutOfMemory;
+use tf_search::strongest::Found;
+
+/// What the search for a lower bound goes by.
+#[derive(Drop)]
+pub struct Aids<A: Allocator = Global> {
+    /// The steps of the search for prices; as many as usual where there is none.
+    pub steps: Option<u32>,
+    /// What the text of a bound says, which is judged beside the bounds that are found.
+    pub offered: Option<BoundSheet<A>>,
+}
+
+/// The stronger of what was found and what is offered.
+#[derive(Drop)]
+pub(crate) struct Weighed<A: Allocator = Global> {
+    pub offered: Option<Offered>,
+    pub bound: Option<Found<A>>,
+}
+
+/// What an offered bound comes to on a task. Only want of memory is an error.
+fn judge_offer<A: Allocator + Copy, B: Allocator>(
+    alloc: A,
+    task: &ProblemTask<B>,
+    sheet: &BoundSheet<A>,
+) -> Result<Offered, OutOfMemory>
+    ensures { IfOk result (IsOffer task.now sheet.now) }
+{
+    if !is_for(task, &sheet.problem, sheet.jobs, sheet.machines) {
+        return Ok(Offered::OtherTask);
+    }
+    match sheet.certificate.bound(alloc, task) {
+        Ok(value) if value == i128::from(sheet.value) => Ok(Offered::Bounds(value)),
+        Ok(value) => Ok(Offered::WrongValue(value)),
+        Err(BoundFault::OutOfMemory) => Err(OutOfMemory),
+        Err(fault) => Ok(Offered::Faulty(fault)),
+    }
+}
+
+// The bound that was found, or the certificate of this value where that is greater.
+fn stronger<A: Allocator>(
+    found: Option<Found<A>>,
+    value: i128,
+    certificate: BoundCertificate<A>,
+) -> Option<Found<A>>
+    ensures either { (result ≡ found) ⊎ (result ≡ Some (record {
+      value = value;
+      certificate = certificate;
+    })) }
+    ensures least { IsAtLeast value result }
+{
+    match found {
+        Some(found) if value <= found.value => Some(found),
+        _ => Some(Found { value, certificate }),
+    }
+}
+
+/// The bound that was found beside the one that is offered, if any is. Only want of memory is an
+/// error.
+pub(crate) fn weigh<A: Allocator + Copy, B: Allocator>(
+    alloc: A,
+    task: &ProblemTask<B>,
+    offer: Option<BoundSheet<A>>,
+    found: Option<Found<A>>,
+) -> Result<Weighed<A>, OutOfMemory>
+    requires { IfSome found (IsFound task.now) }
+    ensures { IfOk result (IsWeighed task.now offer) }
+{
+    let Some(sheet) = offer else {
+        return Ok(Weighed {
+            offered: None,
+            bound: found,
+        });
+    };
+    let offered = judge_offer(alloc, task, &sheet)?;
+    let bound = match offered {
+        Offered::Bounds(value) => stronger(found, value, sheet.certificate),
+        _ => found,
+    };
+    Ok(Weighed {
+        offered: Some(offered),
+        bound,
+    })
+}

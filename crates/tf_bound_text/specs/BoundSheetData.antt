@@ -1,0 +1,43 @@
+-- What the text of a bound says.
+use Rattle.std.specs.Prelude.{◌≡◌, ℕ, ℤ, List}
+use Rattle.tf_model.specs.declared.problem.Problem.{Problem}
+use Rattle.tf_problem.specs.ProblemData.{ProblemData}
+use Rattle.tf_problem.specs.ProblemBounds.{machine_value, window_value, crowd_value, one_job_value, multiplier_value}
+use Rattle.tf_bound.specs.Prices.{IsPricesBound}
+use Rattle.tf_bound.specs.declared.certificate.BoundCertificate.{BoundCertificate}
+use Rattle.tf_bound.specs.declared.certificate.BoundCertificate.TheVariants.{Machine, Window, Crowd, OneJob, Multipliers, Prices}
+
+-- what a certificate names: a machine, counted from 0, or how many jobs each machine takes, and jobs;
+-- or a machine, a denominator and numerators, job by job; or a denominator and prices, row by row
+pub data Basis : Type 0 where
+  ByMachine : ℕ → List ℕ → Basis
+  ByWindow : List ℕ → Basis
+  ByCrowd : ℕ → List ℕ → Basis
+  ByOneJob : ℕ → Basis
+  ByMultipliers : ℕ → ℕ → List ℕ → Basis
+  ByPrices : ℕ → List ℕ → Basis
+
+abbrev pub basis_of : {A : Type 0} → BoundCertificate A → Basis
+basis_of (Machine machine jobs) = ByMachine machine jobs.items
+basis_of (Window jobs) = ByWindow jobs.items
+basis_of (Crowd h jobs) = ByCrowd h jobs.items
+basis_of (OneJob job) = ByOneJob job
+basis_of (Multipliers machine q numerators) = ByMultipliers machine q numerators.items
+basis_of (Prices q rows) = ByPrices q rows.items
+
+-- the number is what a certificate that names this bounds a task by
+abbrev pub IsValueBy : ProblemData → Basis → ℤ → Type 0
+IsValueBy k (ByMachine machine jobs) b = b ≡ machine_value k machine jobs
+IsValueBy k (ByWindow jobs) b = b ≡ window_value k jobs
+IsValueBy k (ByCrowd h jobs) b = b ≡ crowd_value k h jobs
+IsValueBy k (ByOneJob job) b = b ≡ one_job_value k job
+IsValueBy k (ByMultipliers machine q v) b = b ≡ multiplier_value k machine v q
+IsValueBy k (ByPrices q rows) b = IsPricesBound k q rows b
+
+-- a certificate, and the problem, the sizes and the value that are stated beside it
+pub record BoundSheetData : Type 0 where
+  pub problem : Problem
+  pub jobs : ℕ
+  pub machines : ℕ
+  pub value : ℤ
+  pub basis : Basis

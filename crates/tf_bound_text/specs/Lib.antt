@@ -1,0 +1,4 @@
+-- what a caller has to believe
+pub mod BoundSheetData
+pub mod BoundReading
+pub mod BoundRead

@@ -1,0 +1,146 @@
+//! The line of a certificate: its kind, its numbers and its jobs.
+ghost use Rattle.std.specs.Prelude.{◌≡◌};
+ghost use Rattle.tf_words.specs.Words.{words};
+ghost use Rattle.tf_bound_text.specs.BoundSheetData.{basis_of};
+ghost use Rattle.tf_bound_text.specs.BoundReading.{Gives, machine_basis, crowd_basis, multiplier_basis, price_basis, one_job_basis, window_basis, kind_in, basis_in};
+
+use crate::fault::BoundTextFault;
+use crate::number::{first_number, jobs_from, natural, numbers_from, only};
+use std::alloc::Allocator;
+use tf_bound::certificate::BoundCertificate;
+use tf_model::ids::JobId;
+use tf_model::limit::{LIMIT, MOST_JOBS, MOST_MACHINES};
+use tf_words::word::{first_word, is};
+
+/// Reads a machine and jobs.
+#[tactic(auto, unfolding(crate::specs::BoundReading::machine_basis))]
+fn machine_in<A: Allocator>(
+    alloc: A,
+    line: u32,
+    text: &[u8],
+) -> Result<BoundCertificate<A>, BoundTextFault>
+    ensures { Gives basis_of result (machine_basis line (words text.now)) }
+{
+    let (machine, rest) = first_number(line, 1, u64::from(MOST_MACHINES), text)?;
+    let jobs = jobs_from(alloc, line, rest)?;
+    Ok(BoundCertificate::Machine {
+        machine: machine as usize - 1,
+        jobs,
+    })
+}
+
+/// Reads jobs of a window.
+#[tactic(auto, unfolding(crate::specs::BoundReading::window_basis))]
+fn window_in<A: Allocator>(
+    alloc: A,
+    line: u32,
+    text: &[u8],
+) -> Result<BoundCertificate<A>, BoundTextFault>
+    ensures { Gives basis_of result (window_basis line (words text.now)) }
+{
+    let jobs = jobs_from(alloc, line, text)?;
+    Ok(BoundCertificate::Window { jobs })
+}
+
+/// Reads how many jobs each machine takes, and jobs.
+#[tactic(auto, unfolding(crate::specs::BoundReading::crowd_basis))]
+fn crowd_in<A: Allocator>(
+    alloc: A,
+    line: u32,
+    text: &[u8],
+) -> Result<BoundCertificate<A>, BoundTextFault>
+    ensures { Gives basis_of result (crowd_basis line (words text.now)) }
+{
+    let (h, rest) = first_number(line, 0, MOST_JOBS as u64, text)?;
+    let jobs = jobs_from(alloc, line, rest)?;
+    Ok(BoundCertificate::Crowd { h: h as u32, jobs })
+}
+
+/// Reads one job.
+#[tactic(auto, unfolding(crate::specs::BoundReading::one_job_basis))]
+fn one_job_in<A: Allocator>(
+    line: u32,
+    text: &[u8],
+) -> Result<BoundCertificate<A>, BoundTextFault>
+    ensures { Gives basis_of result (one_job_basis line (words text.now)) }
+{
+    let word = only(line, text)?;
+    let number = natural(line, 1, MOST_JOBS as u64, word)?;
+    Ok(BoundCertificate::OneJob {
+        job: JobId::at(number as usize - 1),
+    })
+}
+
+/// Reads a machine, a denominator and numerators.
+#[tactic(auto, unfolding(crate::specs::BoundReading::multiplier_basis))]
+fn multipliers_in<A: Allocator>(
+    alloc: A,
+    line: u32,
+    text: &[u8],
+) -> Result<BoundCertificate<A>, BoundTextFault>
+    ensures { Gives basis_of result (multiplier_basis line (words text.now)) }
+{
+    let (machine, rest) = first_number(line, 1, u64::from(MOST_MACHINES), text)?;
+    let (q, rest) = first_number(line, 0, LIMIT as u64, rest)?;
+    let numerators = numbers_from(alloc, line, rest)?;
+    Ok(BoundCertificate::Multipliers {
+        machine: machine as usize - 1,
+        q,
+        numerators,
+    })
+}
+
+/// Reads a denominator and prices.
+#[tactic(auto, unfolding(crate::specs::BoundReading::price_basis))]
+fn prices_in<A: Allocator>(
+    alloc: A,
+    line: u32,
+    text: &[u8],
+) -> Result<BoundCertificate<A>, BoundTextFault>
+    ensures { Gives basis_of result (price_basis line (words text.now)) }
+{
+    let (q, rest) = first_number(line, 0, LIMIT as u64, text)?;
+    let rows = numbers_from(alloc, line, rest)?;
+    Ok(BoundCertificate::Prices { q, rows })
+}
+
+/// Reads a certificate of this kind from the words that follow it.
+#[tactic(auto, unfolding(crate::specs::BoundReading::kind_in))]
+fn kind_in<A: Allocator>(
+    alloc: A,
+    line: u32,
+    kind: &[u8],
+    text: &[u8],
+) -> Result<BoundCertificate<A>, BoundTextFault>
+    ensures { Gives basis_of result (kind_in line kind.now (words text.now)) }
+{
+    if is(kind, b"machine") {
+        machine_in(alloc, line, text)
+    } else if is(kind, b"window") {
+        window_in(alloc, line, text)
+    } else if is(kind, b"crowd") {
+        crowd_in(alloc, line, text)
+    } else if is(kind, b"job") {
+        one_job_in(line, text)
+    } else if is(kind, b"multipliers") {
+        multipliers_in(alloc, line, text)
+    } else if is(kind, b"prices") {
+        prices_in(alloc, line, text)
+    } else {
+        Err(BoundTextFault::BadLine(line))
+    }
+}
+
+/// Reads the line of a certificate.
+pub(crate) fn certificate_in<A: Allocator>(
+    alloc: A,
+    line: u32,
+    text: &[u8],
+) -> Result<BoundCertificate<A>, BoundTextFault>
+    ensures { Gives basis_of result (basis_in line (words text.now)) }
+{
+    match first_word(text) {
+        None => Err(BoundTextFault::BadLine(line)),
+        Some((kind, rest)) => kind_in(alloc, line, kind, rest),
+    }
+}
