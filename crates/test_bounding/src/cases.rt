@@ -4,6 +4,7 @@ use test_runs::devices::{Sink, Source};
 use test_runs::examples::Given;
 use test_runs::runs::request;
 use tf_assess::assessment::Assessed;
+use tf_assess::offered::Aids;
 use tf_assess::run_assess::run_assess;
 use tf_bounding::run_bound::run_bound;
 use tf_engine::fault::RunFault;
@@ -93,5 +94,9 @@ pub fn assess<A: Allocator + Copy>(
     let mut reader = Counted::new(instance);
     let mut other = Counted::new(answer);
     let mut writer = Counted::new(sink);
-    run_assess(alloc, request, STEPS, &mut reader, &mut other, &mut writer)
+    let aids = Aids {
+        steps: STEPS,
+        offered: None,
+    };
+    run_assess(alloc, request, aids, &mut reader, &mut other, &mut writer)
 }

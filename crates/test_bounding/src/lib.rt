@@ -9,4 +9,6 @@ mod devices;
 #[cfg(test)]
 mod growths;
 #[cfg(test)]
+mod offers;
+#[cfg(test)]
 mod orders;

@@ -1,3 +1,5 @@
+mod BoundRead
+mod Offering
 mod Assessing
 pub mod Reading
 mod Running

@@ -157,9 +157,9 @@ HasAssessed k sheet Unfit = Unit {0}
 
 pub record IsAssessment {A : Type 0} (k : ProblemData) (offer : Option BoundSheetData)
     (sheet : SheetData) (a : Assessment A) : Type 0 where
-    pub fit : HasProblemFit k sheet a.fit
-    pub claimed : a.claimed ≡ Some sheet.answer.value
-    pub offered : HasOffered k offer a.offered
-    pub bound : IfSome a.bound (IsFound k)
-    pub counts : Counts a.offered a.bound
-    pub standing : HasAssessed k sheet (assessed_of a.fit (bound_in a.bound))
+  pub fit : HasProblemFit k sheet a.fit
+  pub claimed : a.claimed ≡ Some sheet.answer.value
+  pub offered : HasOffered k offer a.offered
+  pub bound : IfSome a.bound (IsFound k)
+  pub counts : Counts a.offered a.bound
+  pub standing : HasAssessed k sheet (assessed_of a.fit (bound_in a.bound))

@@ -1,4 +1,5 @@
 -- what a caller has to believe
+pub mod BoundRead
 pub mod Assessing
 pub mod AssessmentText
 pub mod RunAssessing

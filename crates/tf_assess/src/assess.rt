@@ -55,9 +55,7 @@ pub(crate) fn is_for<B: Allocator>(
 ) -> bool
     ensures { IsTrue result ↔ IsOfTask task.now problem.now jobs machines }
 {
-    is_same(problem, &task.problem())
-        && jobs as usize == task.len()
-        && machines == task.machines()
+    is_same(problem, &task.problem()) && jobs as usize == task.len() && machines == task.machines()
 }
 
 // Whether two problems are the same, whether or not they name a number of machines.

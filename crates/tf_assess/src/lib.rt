@@ -3,6 +3,7 @@
 
 pub mod assess;
 pub mod assessment;
+pub mod bound_read;
 mod case_read;
 pub mod offered;
 pub mod run_assess;

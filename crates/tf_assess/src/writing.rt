@@ -151,9 +151,7 @@ fn push_offered<A: Allocator>(
     match offered {
         None => Ok(()),
         Some(Offered::Bounds(value)) => push_number_line(text, b"offered", value),
-        Some(Offered::WrongValue(value)) => {
-            push_number_line(text, b"offered WrongValue", value)
-        }
+        Some(Offered::WrongValue(value)) => { push_number_line(text, b"offered WrongValue", value) }
         Some(Offered::OtherTask) => Ok(text.extend_from_slice(b"offered OtherTask\n")?),
         Some(Offered::Faulty(fault)) => {
             text.extend_from_slice(b"offered ")?;

@@ -1,4 +1,3 @@
 -- what a caller has to believe
 pub mod BoundSheetData
 pub mod BoundReading
-pub mod BoundRead

@@ -58,16 +58,13 @@ fn crowd_in<A: Allocator>(
 
 /// Reads one job.
 #[tactic(auto, unfolding(crate::specs::BoundReading::one_job_basis))]
-fn one_job_in<A: Allocator>(
-    line: u32,
-    text: &[u8],
-) -> Result<BoundCertificate<A>, BoundTextFault>
+fn one_job_in<A: Allocator>(line: u32, text: &[u8]) -> Result<BoundCertificate<A>, BoundTextFault>
     ensures { Gives basis_of result (one_job_basis line (words text.now)) }
 {
     let word = only(line, text)?;
     let number = natural(line, 1, MOST_JOBS as u64, word)?;
     Ok(BoundCertificate::OneJob {
-        job: JobId::at(number as usize - 1),
+        job: JobId::new(number as u32).unwrap(),
     })
 }
 

@@ -1,10 +1,8 @@
 //! Why the text of a bound was not read.
 ghost use Rattle.std.specs.Prelude.{◌≡◌};
 ghost use Rattle.tf_bound_text.specs.declared.fault.BoundTextFault.TheVariants.{OutOfMemory as NoMemory};
-ghost use Rattle.tf_bound_text.specs.BoundRead.{of_text, of_input};
 
 use std::alloc::{AllocError, AllocFailed};
-use tf_text::input::InputFault;
 use thiserror::Error;
 
 /// Why the text of a bound was not read. Lines count from 1.
@@ -43,42 +41,5 @@ impl<T: Drop> From<AllocFailed<T>> for BoundTextFault {
 
     fn from(_: AllocFailed<T>) -> BoundTextFault {
         BoundTextFault::OutOfMemory
-    }
-}
-
-/// Why no bound was read. Want of memory is never within another variant.
-#[derive(Clone, Copy, Debug, PartialEq, Eq, Error)]
-pub enum BoundReadFault {
-    /// The text is at fault.
-    #[error("the bound's text is at fault: {0}")]
-    Text(BoundTextFault),
-    /// The reader failed.
-    #[error("device fault")]
-    Device,
-    /// An allocation failed.
-    #[error("want of memory")]
-    OutOfMemory,
-}
-
-impl From<BoundTextFault> for BoundReadFault {
-    ghost from_gives = { λ f e. e ≡ of_text f };
-
-    fn from(fault: BoundTextFault) -> BoundReadFault {
-        match fault {
-            BoundTextFault::OutOfMemory => BoundReadFault::OutOfMemory,
-            fault => BoundReadFault::Text(fault),
-        }
-    }
-}
-
-impl From<InputFault> for BoundReadFault {
-    ghost from_gives = { λ f e. e ≡ of_input f };
-
-    fn from(fault: InputFault) -> BoundReadFault {
-        match fault {
-            InputFault::Device => BoundReadFault::Device,
-            InputFault::TooLong => BoundReadFault::Text(BoundTextFault::TooLong),
-            InputFault::OutOfMemory => BoundReadFault::OutOfMemory,
-        }
     }
 }

@@ -1,7 +1,6 @@
 //! The text of a lower bound, read.
 #![tactic(auto)]
 
-pub mod bound_read;
 mod certificate;
 pub mod fault;
 mod number;

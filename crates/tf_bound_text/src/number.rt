@@ -12,12 +12,7 @@ use tf_words::ranged::{Ranged, number_in};
 use tf_words::word::first_word;
 
 /// Reads a whole number from `least` to `most`.
-pub(crate) fn natural(
-    line: u32,
-    least: u32,
-    most: u64,
-    word: &[u8],
-) -> Result<u64, BoundTextFault>
+pub(crate) fn natural(line: u32, least: u32, most: u64, word: &[u8]) -> Result<u64, BoundTextFault>
     requires { most ≤ limit }
     ensures read { Gives (λ n. n) result (natural line least most word.now) }
     ensures within { IfOk result (λ n. (least ≤ n) × (n ≤ most)) }
@@ -86,7 +81,7 @@ pub(crate) fn jobs_from<A: Allocator>(
     let mut rest = text;
     while let Some((word, after)) = first_word(rest) {
         let number = natural(line, 1, MOST_JOBS as u64, word)?;
-        jobs.push(JobId::at(number as usize - 1))?;
+        jobs.push(JobId::new(number as u32).unwrap())?;
         rest = after;
     }
     Ok(jobs)

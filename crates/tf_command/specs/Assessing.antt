@@ -7,8 +7,8 @@ use Rattle.tf_engine.specs.declared.fault.RunFault.{RunFault}
 use Rattle.tf_engine.specs.RequestData.{RequestData}
 use Rattle.tf_bound_text.specs.BoundSheetData.{BoundSheetData}
 use Rattle.tf_bound_text.specs.BoundReading.{bound_in}
-use Rattle.tf_bound_text.specs.BoundRead.{IsUnread}
-use Rattle.tf_bound_text.specs.declared.fault.BoundReadFault.{BoundReadFault}
+use Rattle.tf_assess.specs.BoundRead.{IsUnread}
+use Rattle.tf_assess.specs.declared.bound_read.BoundReadFault.{BoundReadFault}
 use Rattle.tf_assess.specs.declared.assessment.Assessed.{Assessed}
 use Rattle.tf_assess.specs.RunAssessing.{IsAssessmentOf}
 use Rattle.tf_assess.specs.RunRating.{rated}

@@ -4,8 +4,8 @@ use Rattle.std.specs.Fmt.{decimal}
 use Rattle.tf_text.specs.AnswerText.{line_text}
 use Rattle.tf_bound_text.specs.declared.fault.BoundTextFault.{BoundTextFault}
 use Rattle.tf_bound_text.specs.declared.fault.BoundTextFault.TheVariants as texts
-use Rattle.tf_bound_text.specs.declared.fault.BoundReadFault.{BoundReadFault}
-use Rattle.tf_bound_text.specs.declared.fault.BoundReadFault.TheVariants.{Text, Device, OutOfMemory}
+use Rattle.tf_assess.specs.declared.bound_read.BoundReadFault.{BoundReadFault}
+use Rattle.tf_assess.specs.declared.bound_read.BoundReadFault.TheVariants.{Text, Device, OutOfMemory}
 
 -- each fault by its name and its arguments
 abbrev pub bound_fault_words : BoundTextFault → List (List ℕ)

@@ -21,10 +21,10 @@ use crate::report::{
 use crate::source::Sources;
 use std::alloc::{Allocator, Global};
 use std::io::{Read, Write};
+use tf_assess::bound_read::bound_read;
 use tf_assess::offered::Aids;
 use tf_assess::run_assess::run_assess;
 use tf_assess::run_rate::{rated, run_rate};
-use tf_bound_text::bound_read::bound_read;
 use tf_bounding::run_bound::run_bound;
 use tf_engine::fault::RunFault;
 use tf_engine::run_check::run_check;
@@ -204,7 +204,13 @@ fn assess_named<S: Sources, W: Write, E: Write>(
         Ok((mut instance, mut answer)) => {
             match open(console, sources, assessing.bound, MOST_BESIDE, explain) {
                 Ok(mut bound) => {
-                    assess(console, &assessing.options, &mut instance, &mut answer, &mut bound)
+                    assess(
+                        console,
+                        &assessing.options,
+                        &mut instance,
+                        &mut answer,
+                        &mut bound,
+                    )
                 }
                 Err(status) => status,
             }

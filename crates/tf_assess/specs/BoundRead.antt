@@ -2,24 +2,17 @@
 use Rattle.std.specs.Prelude.{◌≡◌, ℕ, true, List, Result, Ok, Err, MatchResult}
 use Rattle.tf_text.specs.Counted.{DeviceUse}
 use Rattle.tf_text.specs.Input.{IsTextOf}
-use Rattle.tf_text.specs.declared.input.InputFault.{InputFault}
-use Rattle.tf_text.specs.declared.input.InputFault.TheVariants as inputs
 use Rattle.tf_bound_text.specs.BoundSheetData.{BoundSheetData}
 use Rattle.tf_bound_text.specs.BoundReading.{bound_in}
 use Rattle.tf_bound_text.specs.declared.fault.BoundTextFault.{BoundTextFault}
 use Rattle.tf_bound_text.specs.declared.fault.BoundTextFault.TheVariants as texts
-use Rattle.tf_bound_text.specs.declared.fault.BoundReadFault.{BoundReadFault}
-use Rattle.tf_bound_text.specs.declared.fault.BoundReadFault.TheVariants.{Text, Device, OutOfMemory}
+use Rattle.tf_assess.specs.declared.bound_read.BoundReadFault.{BoundReadFault}
+use Rattle.tf_assess.specs.declared.bound_read.BoundReadFault.TheVariants.{Text, Device, OutOfMemory}
 
 -- want of memory stands by itself
 abbrev pub of_text : BoundTextFault → BoundReadFault
 of_text texts.OutOfMemory = OutOfMemory
 of_text fault = Text fault
-
-abbrev pub of_input : InputFault → BoundReadFault
-of_input inputs.Device = Device
-of_input inputs.TooLong = Text texts.TooLong
-of_input inputs.OutOfMemory = OutOfMemory
 
 -- why there is no sheet: the fault of the text, the reader failed, or memory was wanting
 abbrev pub IsUnread : DeviceUse → List ℕ → BoundReadFault → Type 0
