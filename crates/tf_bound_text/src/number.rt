@@ -12,6 +12,7 @@ use tf_words::ranged::{Ranged, number_in};
 use tf_words::word::first_word;
 
 /// Reads a whole number from `least` to `most`.
+#[tactic(auto, unfolding(crate::specs::BoundReading::natural))]
 pub(crate) fn natural(line: u32, least: u32, most: u64, word: &[u8]) -> Result<u64, BoundTextFault>
     requires { most ≤ limit }
     ensures read { Gives (λ n. n) result (natural line least most word.now) }

@@ -1,9 +1,9 @@
-use Rattle.std.proofs.Common.{ℕ, List, Ok, sym, ap, ◌∙◌}
+use Rattle.std.proofs.Common.{◌≡◌, ℕ, [], ◌∷◌, ◌++◌, List, sym, ap, ◌∙◌, rules}
 use Rattle.std.proofs.lemmas.Result.{err_from_is_err_and}
 use Rattle.tf_model.specs.Limit.{most_jobs}
 use Rattle.tf_words.specs.Words.{words}
 use Rattle.tf_bound_text.specs.BoundReading.{naturals}
-use Rattle.tf_bound_text.proofs.Reading.{with_numbers, number_read, number_fails, numbers_end}
+use Rattle.tf_bound_text.proofs.Naturals.{with_numbers, number_read, number_fails, numbers_end}
 use Rattle.tf_bound_text.proofs.number.jobs_from.Goals as goal
 
 pub returns-in_err-number : goal.returns-in_err-number
@@ -15,12 +15,13 @@ returns-in_err-number g c =
 
 pub loop-word-preserved : goal.loop-word-preserved
 loop-word-preserved g c =
+    let same : c.unwrap.result ≡ c.in_ok-number.number = search rules in
     ap (λ (numbers : List ℕ). with_numbers numbers
     (naturals c.args.line 1 most_jobs (words c.in-Some.after.now)))
-    c.in_ok-push.ensures.items
+    (c.in_ok-push.ensures.items ∙ ap (λ job. c.loop-word.jobs.items ++ job ∷ []) same)
     ∙ sym (number_read _ _ _ _ _ _ _ _ c.in-Some.ensures.words c.in_ok-number.ensures.read)
     ∙ c.loop-word.invariant
 
 pub returns : goal.returns
-returns g c = sym c.loop-word.invariant ∙ numbers_end _ _ _ _ _ c.in_default.ensures.words
-    ∙ ap (λ (numbers : List ℕ). Ok numbers) (sym c.new.ensures)
+returns g c =
+    sym c.loop-word.invariant ∙ numbers_end _ _ _ _ _ c.in_default.ensures.words

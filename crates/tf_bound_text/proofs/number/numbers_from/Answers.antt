@@ -1,9 +1,9 @@
-use Rattle.std.proofs.Common.{ℕ, List, Ok, sym, ap, ◌∙◌}
+use Rattle.std.proofs.Common.{ℕ, List, sym, ap, ◌∙◌}
 use Rattle.std.proofs.lemmas.Result.{err_from_is_err_and}
 use Rattle.tf_model.specs.Limit.{limit}
 use Rattle.tf_words.specs.Words.{words}
 use Rattle.tf_bound_text.specs.BoundReading.{naturals}
-use Rattle.tf_bound_text.proofs.Reading.{with_numbers, number_read, number_fails, numbers_end}
+use Rattle.tf_bound_text.proofs.Naturals.{with_numbers, number_read, number_fails, numbers_end}
 use Rattle.tf_bound_text.proofs.number.numbers_from.Goals as goal
 
 pub returns-in_err-number : goal.returns-in_err-number
@@ -22,5 +22,5 @@ loop-word-preserved g c =
     ∙ c.loop-word.invariant
 
 pub returns : goal.returns
-returns g c = sym c.loop-word.invariant ∙ numbers_end _ _ _ _ _ c.in_default.ensures.words
-    ∙ ap (λ (numbers : List ℕ). Ok numbers) (sym c.new.ensures)
+returns g c =
+    sym c.loop-word.invariant ∙ numbers_end _ _ _ _ _ c.in_default.ensures.words

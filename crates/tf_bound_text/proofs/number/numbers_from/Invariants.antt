@@ -2,7 +2,7 @@ use Rattle.std.proofs.Common.{◌≡◌, length}
 use Rattle.tf_model.specs.Limit.{limit}
 use Rattle.tf_words.specs.Words.{words}
 use Rattle.tf_bound_text.specs.BoundReading.{naturals}
-use Rattle.tf_bound_text.proofs.Reading.{with_numbers}
+use Rattle.tf_bound_text.proofs.Naturals.{with_numbers}
 use Rattle.tf_bound_text.proofs.number.numbers_from.Given as goal
 
 -- the numbers so far, and those of the words that are left
