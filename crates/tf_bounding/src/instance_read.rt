@@ -67,7 +67,7 @@ fn problem_in<A: Allocator>(text: &str) -> Result<Problem, RunFault<A>>
 }
 
 /// The instance that the reader's text of this form holds.
-pub(crate) fn instance_read<A: Allocator + Copy, B: Allocator, R: Read>(
+pub fn instance_read<A: Allocator + Copy, B: Allocator, R: Read>(
     alloc: A,
     form: &Form<B>,
     reader: &mut Counted<R>,

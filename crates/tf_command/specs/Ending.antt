@@ -1,6 +1,6 @@
 -- How a command ends: after a run of what was asked for, with the status of what the run gave, and
 -- with its line on standard error. A is the allocator that the run took its memory from.
-use Rattle.std.specs.Prelude.{◌≡◌, ℕ, Bool, false, List, [], Option, Result, Ok, Err}
+use Rattle.std.specs.Prelude.{◌≡◌, ℕ, Bool, false, List, [], ◌∷◌, codes, Option, Result, Ok, Err}
 use Rattle.tf_text.specs.Counted.{DeviceUse}
 use Rattle.tf_engine.specs.declared.fault.RunFault.{RunFault}
 use Rattle.tf_engine.specs.declared.run_check.Checked.{Checked}
@@ -9,7 +9,12 @@ use Rattle.tf_engine.specs.Headline.{IsRunOf}
 use Rattle.tf_engine.specs.Checking.{IsCheckOf}
 use Rattle.tf_text.specs.AnswerText.{SheetData}
 use Rattle.tf_engine.specs.Drawing.{IsDrawingOf, IsChart}
+use Rattle.tf_engine.specs.FormData.{FormData}
+use Rattle.tf_picture.specs.Dated.{IsDatedRunOf}
 use Rattle.tf_picture.specs.Picture.{IsPicture}
+use Rattle.tf_picture.specs.declared.run_dated.Pictured.{Pictured}
+use Rattle.tf_picture.specs.declared.run_dated.Pictured.TheVariants.{Drawn, OtherTask}
+use Rattle.tf_picture.specs.declared.view.View.{View}
 use Rattle.tf_evaluate.specs.declared.evaluation.Detail.{Detail}
 use Rattle.tf_evaluate.specs.declared.evaluation.Standing.{Standing}
 use Rattle.tf_assess.specs.RunRating.{IsRatingOf}
@@ -23,7 +28,7 @@ use Rattle.tf_options.specs.declared.options.Drawing.{Drawing}
 use Rattle.tf_options.specs.declared.options.Drawing.TheVariants.{Chart, Picture}
 use Rattle.tf_text.specs.declared.counted.Counted.{Counted}
 use Rattle.tf_command.specs.Statuses.{status_of, status_of_check, status_of_standing}
-use Rattle.tf_command.specs.FaultLine.{fault_line}
+use Rattle.tf_command.specs.FaultLine.{fault_line, refused_line}
 use Rattle.tf_command.specs.Wrote.{Wrote}
 
 -- after a run: 0 where it gave an answer, and otherwise the status of its fault
@@ -47,6 +52,18 @@ abbrev pub status_of_rating : {A : Type 0} → Result OrdersRated (RunFault A) �
 status_of_rating (Ok (Single standing)) = status_of_standing standing
 status_of_rating (Ok Lines) = 0
 status_of_rating (Err fault) = status_of fault
+
+-- after a picture with the dates of an instance: refused where the answer is for other jobs
+abbrev pub status_of_picturing : {A : Type 0} → Result Pictured (RunFault A) → ℕ
+status_of_picturing (Ok Drawn) = 0
+status_of_picturing (Ok OtherTask) = 2
+status_of_picturing (Err fault) = status_of fault
+
+-- its line on standard error
+abbrev pub line_of_picturing : {A : Type 0} → Result Pictured (RunFault A) → List ℕ
+line_of_picturing (Ok Drawn) = []
+line_of_picturing (Ok OtherTask) = refused_line (codes "OtherTask" ∷ [])
+line_of_picturing (Err fault) = fault_line fault
 
 -- the line on standard error: that of the fault, where there is one
 abbrev pub line_of : {X A : Type 0} → Result X (RunFault A) → List ℕ
@@ -97,6 +114,13 @@ pub record EndsDrawing (A : Type 0) (drawing : Drawing) (answer writer : DeviceU
   pub outcome : IsDrawingOf (drawn_as drawing) answer writer run
   pub ends : status ≡ status_of_run run
   pub said : says (line_of run)
+
+pub record EndsPicturing (A : Type 0) (view : View) (form : FormData)
+    (instance answer writer : DeviceUse) (says : List ℕ → Type 0) (status : ℕ) : Type 0 where
+  pub run : Result Pictured (RunFault A)
+  pub outcome : IsDatedRunOf view form instance answer writer run
+  pub ends : status ≡ status_of_picturing run
+  pub said : says (line_of_picturing run)
 
 pub record EndsEvaluating (A : Type 0) (detail : Detail) (request : RequestData)
     (instance answer writer : DeviceUse) (says : List ℕ → Type 0) (status : ℕ) : Type 0 where

@@ -11,17 +11,17 @@ use Rattle.tf_text.specs.declared.answer.layout.Layout.TheVariants.{Two}
 use Rattle.tf_orders.specs.declared.run_orders.OrderForm.{OrderForm}
 use Rattle.tf_orders.specs.declared.run_orders.OrderForm.TheVariants.{Single, Lines, Pieces}
 use Rattle.tf_options.specs.declared.options.Work.{Work as Asking}
-use Rattle.tf_options.specs.declared.options.Work.TheVariants.{Solve, Bound, Trace, Check, Evaluate, Assess, Rate, Gantt, Random, Problems}
+use Rattle.tf_options.specs.declared.options.Work.TheVariants.{Solve, Bound, Trace, Check, Evaluate, Assess, Rate, Gantt, Random, Problems, Picture}
 use Rattle.tf_options.specs.declared.options.OrderSource.TheVariants.{Given, Named, Drawn}
 use Rattle.tf_options.specs.declared.options.Options.{Options}
-use Rattle.tf_options.specs.Asking.{requested}
+use Rattle.tf_options.specs.Asking.{requested, form_asked}
 use Rattle.tf_random.specs.Asked.{IsTableFor, IsFaultOf}
 use Rattle.tf_random.specs.declared.run_random.RandomFault.{RandomFault}
 use Rattle.tf_random.specs.declared.run_random.Wanted.{Wanted}
 use Rattle.tf_engine.specs.declared.fault.RunFault.{RunFault}
 use Rattle.tf_command.specs.FaultLine.{no_table_line}
 use Rattle.tf_command.specs.Statuses.{status_of, status_of_no_table}
-use Rattle.tf_command.specs.Ending.{EndsSolving, EndsBounding, EndsTracing, EndsChecking, EndsDrawing, EndsEvaluating, EndsRating}
+use Rattle.tf_command.specs.Ending.{EndsSolving, EndsBounding, EndsTracing, EndsChecking, EndsDrawing, EndsEvaluating, EndsRating, EndsPicturing}
 use Rattle.tf_command.specs.Assessing.{EndsAssessing}
 
 -- the bytes of the text of each name, where they are known
@@ -140,6 +140,11 @@ Performs texts (Rate options (Drawn name)) writer says status =
 Performs texts (Gantt answer drawing explain) writer says status =
     EndsOver texts answer.now writer (says explain) status
     (λ reader. EndsDrawing Global drawing reader writer (says explain) status)
+Performs texts (Picture picturing) writer says status =
+    let said = says picturing.telling.explain in
+    EndsOverBoth texts picturing.input.now picturing.answer.now writer said status
+    (λ instance other. EndsPicturing Global picturing.view (form_asked picturing.form) instance
+    other writer said status)
 Performs texts (Random wanted) writer says status =
     EndsRandom wanted writer (says false) status
 Performs texts (Problems None) writer says status = EndsListing None writer (says false) status

@@ -13,6 +13,7 @@ ghost use Rattle.tf_text.specs.Counted.{inner_of, use_of};
 
 use crate::console::Console;
 use crate::explained::{Ended, Rated, tell, tell_drawn};
+use crate::picturing::picture_named;
 use crate::recorded::{MOST_BESIDE, MOST_KEPT, Recorded, room};
 use crate::report::{
     end_check, end_evaluation, end_rating, end_run, report, report_bound, say_device, say_memory,
@@ -27,6 +28,7 @@ use tf_assess::run_assess::run_assess;
 use tf_assess::run_rate::{rated, run_rate};
 use tf_bounding::run_bound::run_bound;
 use tf_engine::fault::RunFault;
+use tf_engine::request::Form;
 use tf_engine::run_check::run_check;
 use tf_engine::run_gantt::run_gantt;
 use tf_engine::run_solve::run_solve;
@@ -45,7 +47,7 @@ use tf_trace::board::Style;
 use tf_trace::run_trace::run_trace;
 
 /// A text that was opened.
-type Opened<'a, S> = Counted<Recorded<'a, <S as Sources>::Source>>;
+pub(crate) type Opened<'a, S> = Counted<Recorded<'a, <S as Sources>::Source>>;
 
 /// Does what is asked for, once all files that it names are open, and gives the exit status.
 pub fn perform<S: Sources, W: Write, E: Write>(
@@ -79,6 +81,7 @@ pub fn perform<S: Sources, W: Write, E: Write>(
             drawing,
             explain,
         } => draw_named(console, sources, answer, *drawing, *explain),
+        Work::Picture(picturing) => picture_named(console, sources, picturing),
         Work::Random(wanted) => random(console, wanted),
         Work::Problems(None) => list(console, None),
         Work::Problems(Some(name)) => list_named(console, sources, name),
@@ -326,7 +329,30 @@ fn open_both<'a, S: Sources, W: Write, E: Write>(
         console.old.errors console.new.errors (codes "threefield: device fault\n")) }
 {
     let explain = options.telling.explain;
-    let instance = open(console, sources, options.input, MOST_KEPT, explain)?;
+    open_pair(console, sources, options.input, answer, explain)
+}
+
+/// Opens the instance and the answer of these names, the instance first.
+pub(crate) fn open_pair<'a, S: Sources, W: Write, E: Write>(
+    console: &mut Console<W, E>,
+    sources: &S,
+    instance: &'a str,
+    answer: &'a str,
+    explain: bool,
+) -> Result<(Opened<'a, S>, Opened<'a, S>), u8>
+    ensures opened { IfOk result (λ r. (IfSome (S.text_of sources.now instance.now)
+        (λ text. bytes_left S.Source.remaining (inner_of r.0) ≡ Some text))
+        × (IfSome (S.text_of sources.now answer.now)
+        (λ text. bytes_left S.Source.remaining (inner_of r.1) ≡ Some text))) }
+    ensures unopened { IfErr result (λ status. (status ≡ 4)
+        × ((S.text_of sources.now instance.now ≡ None)
+        ⊎ (S.text_of sources.now answer.now ≡ None))) }
+    ensures unwritten { console.new.writer ≡ console.old.writer }
+    ensures unsaid { IfOk result (λ _. console.new.errors ≡ console.old.errors) }
+    ensures said { IfErr result (λ _. SaysLine E.contents explain console.old.errors
+        console.new.errors (codes "threefield: device fault\n")) }
+{
+    let instance = open(console, sources, instance, MOST_KEPT, explain)?;
     let answer = open(console, sources, answer, MOST_BESIDE, explain)?;
     Ok((instance, answer))
 }
@@ -686,7 +712,9 @@ fn list_for<R: Read, W: Write, E: Write>(
     let status = report(&fault, &mut console.errors);
     let explanation = match (&fault, table.inner().failure(), table.inner().source()) {
         (_, Some((name, error)), _) => explain::not_read(alloc, name, &error),
-        (RunFault::Text(fault), None, Some(text)) => explain::not_listed(alloc, fault, &text),
+        (RunFault::Text(fault), None, Some(text)) => {
+            explain::not_an_instance(alloc, fault, &Form::Table, &text)
+        }
         _ => return status,
     };
     tell(explanation, &mut console.errors);

@@ -5,7 +5,7 @@ use std::io;
 use std::io::Write;
 use tf_advice::source::Source;
 use tf_engine::fault::RunFault;
-use tf_engine::request::Request;
+use tf_engine::request::{Form, Request};
 use tf_engine::run_check::Checked;
 use tf_evaluate::evaluation::Standing;
 use tf_explain::explain;
@@ -13,6 +13,7 @@ use tf_model::limit::LIMIT;
 use tf_model::prepare::Refusal;
 use tf_options::options::{Drawing, Idle, Telling};
 use tf_orders::run_orders::{OrderForm, OrdersRated};
+use tf_picture::run_dated::Pictured;
 use tf_text::answer::fault::AnswerFault;
 use tf_text::counted::Counted;
 use tf_words::ranged::{Ranged, number_in};
@@ -42,6 +43,12 @@ parallel machines it has one list for each machine, with / between: \"1 3 / 2\".
 const WHAT_A_SCHEDULE_IS: &str = "\
 A schedule has a line \"piece JOB MACHINE START STOP\" for each piece, with times
 from 0. The other lines of an answer may stand before and after them.
+";
+
+/// What is said of a picture of an answer that is for other jobs than the instance has.
+const OTHER_JOBS: &str = "\
+The line \"jobs\" of the answer has not the number of the instance's jobs: the answer
+is for another instance, or --input names the wrong one.
 ";
 
 /// What a run over an instance read, and the source that failed.
@@ -86,6 +93,47 @@ impl<'a> Told<'a> {
             None => {
                 explain::refused(alloc, fault, request, &self.instance, self.answer.as_ref())
             }
+        }
+    }
+}
+
+/// A picture with the dates of an instance that was asked for.
+#[derive(Clone, Copy)]
+pub struct Dated<'a> {
+    pub alloc: Global,
+    pub telling: Telling,
+    /// The form of the instance.
+    pub form: &'a Form,
+}
+
+impl Dated<'_> {
+    /// Says what is to be said of the options and of the picture, where the instance was kept.
+    pub fn tell<R, S, E: Write>(
+        &self,
+        run: &Result<Pictured, RunFault>,
+        instance: &Recorded<'_, R>,
+        answer: &Recorded<'_, S>,
+        errors: &mut Counted<E>,
+    ) {
+        if let Some(told) = Told::of_both(instance, answer) {
+            let explanation = match run {
+                Ok(Pictured::Drawn) => Ok(String::new(self.alloc)),
+                Ok(Pictured::OtherTask) => String::from_str(self.alloc, OTHER_JOBS),
+                Err(fault) => self.undrawn(&told, fault),
+            };
+            tell_behind(self.telling, explanation, errors);
+        }
+    }
+
+    /// What is to be said of a picture that was not drawn.
+    fn undrawn(&self, told: &Told<'_>, fault: &RunFault) -> Result<String, AllocError> {
+        match (&told.failure, fault, &told.answer) {
+            (Some((name, error)), _, _) => explain::not_read(self.alloc, name, error),
+            (None, RunFault::Text(fault), _) => {
+                explain::not_an_instance(self.alloc, fault, self.form, &told.instance)
+            }
+            (None, fault, Some(answer)) => explain::not_drawn(self.alloc, fault, answer),
+            (None, _, None) => Ok(String::new(self.alloc)),
         }
     }
 }

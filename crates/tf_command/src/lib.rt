@@ -8,6 +8,7 @@ mod explained;
 pub mod formatted;
 mod gathered;
 pub mod misuse;
+mod picturing;
 mod recorded;
 pub mod report;
 pub mod source;

@@ -8,7 +8,7 @@ ghost use Rattle.tf_command.specs.FaultLine.{answer_fault_words, fault_line, fie
 ghost use Rattle.tf_command.specs.Said.{said_words};
 ghost use Rattle.tf_command.specs.Wrote.{Wrote};
 ghost use Rattle.tf_command.specs.Statuses.{status_of, status_of_check, status_of_no_table, status_of_standing};
-ghost use Rattle.tf_command.specs.Ending.{line_of, status_of_run, status_of_checking, status_of_evaluating, status_of_rating};
+ghost use Rattle.tf_command.specs.Ending.{line_of, status_of_run, status_of_checking, status_of_evaluating, status_of_rating, line_of_picturing, status_of_picturing};
 
 use crate::gathered::{Gathered, send};
 use itoa::Buffer;
@@ -22,6 +22,7 @@ use tf_evaluate::evaluation::Standing;
 use tf_model::ids::JobId;
 use tf_model::prepare::{Field, Refusal};
 use tf_orders::run_orders::OrdersRated;
+use tf_picture::run_dated::Pictured;
 use tf_random::run_random::RandomFault;
 use tf_read::fault::ReadFault;
 use tf_schedule::schedule::PieceFault;
@@ -145,6 +146,24 @@ pub fn end_rating<A: Allocator, W: Write>(
     match run {
         Ok(OrdersRated::Single(standing)) => status_of_standing(standing),
         Ok(OrdersRated::Lines) => 0,
+        Err(fault) => report(fault, writer),
+    }
+}
+
+/// Ends a picture with the dates of an instance in the same way.
+pub fn end_picture<A: Allocator, W: Write>(
+    run: &Result<Pictured, RunFault<A>>,
+    writer: &mut Counted<W>,
+) -> u8
+    ensures status { result ≡ status_of_picturing run.now }
+    ensures line { Wrote W.contents writer.old writer.new (line_of_picturing run.now) }
+{
+    match run {
+        Ok(Pictured::Drawn) => 0,
+        Ok(Pictured::OtherTask) => {
+            say(writer, REFUSED, Said::Name(b"OtherTask"));
+            2
+        }
         Err(fault) => report(fault, writer),
     }
 }

@@ -118,18 +118,19 @@ fn say_output(page: &mut Page) -> Result<(), AllocError> {
     page.say("Standard output failed: the disk is full, or the reader closed the pipe.")
 }
 
-/// What is wrong with a job table by itself.
+/// What is wrong with an instance of this form by itself.
 ///
 /// # Errors
 ///
 /// There was no memory.
-pub fn not_listed(
+pub fn not_an_instance(
     alloc: Global,
     fault: &ReadFault,
-    table: &Source<'_>,
+    form: &Form,
+    instance: &Source<'_>,
 ) -> Result<String, AllocError> {
     let mut page = Page::new(alloc);
-    explain_text(alloc, &mut page, table, &Form::Table, fault)?;
+    explain_text(alloc, &mut page, instance, form, fault)?;
     Ok(page.text)
 }
 

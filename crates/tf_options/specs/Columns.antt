@@ -4,7 +4,7 @@ use Rattle.tf_text.specs.Chart.{most_columns}
 use Rattle.tf_options.specs.declared.options.Drawing.{Drawing}
 use Rattle.tf_options.specs.declared.options.Drawing.TheVariants.{Chart, Picture}
 use Rattle.tf_options.specs.declared.options.Work.{Work as Asking}
-use Rattle.tf_options.specs.declared.options.Work.TheVariants.{Solve, Bound, Trace, Check, Evaluate, Assess, Rate, Gantt, Random, Problems}
+use Rattle.tf_options.specs.declared.options.Work.TheVariants.{Solve, Bound, Trace, Check, Evaluate, Assess, Rate, Gantt, Random, Problems, Picture as Dated}
 use Rattle.tf_options.specs.declared.options.Asked.{Asked}
 use Rattle.tf_options.specs.declared.options.Asked.TheVariants.{Work, Formatted}
 
@@ -23,6 +23,7 @@ IsSized (Evaluate evaluating) = Unit {0}
 IsSized (Assess assessing) = Unit {0}
 IsSized (Rate options orders) = Unit {0}
 IsSized (Gantt answer drawing explain) = HasWidth drawing
+IsSized (Dated picturing) = Unit {0}
 IsSized (Random wanted) = Unit {0}
 IsSized (Problems table) = Unit {0}
 

@@ -4,14 +4,14 @@ use Rattle.std.specs.Str.{bytes_eq}
 use Rattle.tf_model.specs.Limit.{most_jobs, most_machines}
 use Rattle.tf_random.specs.declared.run_random.Wanted.{Wanted}
 use Rattle.tf_options.specs.Matched.{Given, AreOptionsBy, IsFlagBy, IsNumberBy, explains_by, first_fault, has_arithmetic, is_latex, is_word, lacks, machines_fault, most_steps, number_by, options_fault, steps_fault, unless_some}
-use Rattle.tf_options.specs.Viewing.{IsDrawingBy, drawing_fault}
+use Rattle.tf_options.specs.Viewing.{IsDrawingBy, IsPicturingBy, gantt_fault}
 use Rattle.tf_options.specs.FormatAsked.{IsSolvedLayoutBy}
 use Rattle.tf_options.specs.declared.options.Asked.{Asked}
 use Rattle.tf_options.specs.declared.options.Asked.TheVariants.{Work, Formatted, Help, Misused, Unfit, NoMemory}
 use Rattle.tf_options.specs.declared.options.OrderSource.{OrderSource}
 use Rattle.tf_options.specs.declared.options.OrderSource.TheVariants.{Given as Written, Named, Drawn}
 use Rattle.tf_options.specs.declared.options.Work.{Work as Asking}
-use Rattle.tf_options.specs.declared.options.Work.TheVariants.{Solve, Bound, Trace, Check, Evaluate, Assess, Rate, Gantt, Random, Problems}
+use Rattle.tf_options.specs.declared.options.Work.TheVariants.{Solve, Bound, Trace, Check, Evaluate, Assess, Rate, Gantt, Random, Problems, Picture}
 
 -- the orders that are evaluated: that of `--order`, or those of the text that `--orders` names; or the
 -- pieces of the text that `--schedule` names
@@ -98,9 +98,12 @@ IsWorkBy name given on_terminal (Rate options orders) =
     × IsOrderBy given orders
 IsWorkBy name given on_terminal (Gantt answer drawing explain) =
     (name ≡ codes "gantt")
+    × (given.value (codes "input") ≡ None)
     × (given.value (codes "ANSWER") ≡ Some answer.now)
     × IsDrawingBy given drawing
     × (explain ≡ explains_by (given.value (codes "explain")) on_terminal)
+IsWorkBy name given on_terminal (Picture picturing) =
+    (name ≡ codes "gantt") × IsPicturingBy given on_terminal picturing
 IsWorkBy name given on_terminal (Random wanted) = (name ≡ codes "random") × IsWantedBy given wanted
 IsWorkBy name given on_terminal (Problems table) =
     (name ≡ codes "problems")
@@ -164,7 +167,7 @@ own_fault name given =
 
 abbrev pub fault_by : List ℕ → Given → Option (List ℕ)
 fault_by name given =
-    if bytes_eq name (codes "gantt") then drawing_fault given
+    if bytes_eq name (codes "gantt") then gantt_fault given
     else (if bytes_eq name (codes "problems") then None
     else (if bytes_eq name (codes "random") then wanted_fault given
     else first_fault (options_fault given) (own_fault name given)))
@@ -185,10 +188,15 @@ lacks_own name given =
     if has_no_answer name || is_rating name given then lacks_options given
     else lacks_options given || lacks_answer name given
 
+abbrev pub lacks_drawing : Given → Bool
+lacks_drawing given =
+    if is_some (given.value (codes "input"))
+    then lacks given (codes "ANSWER") || lacks given (codes "format")
+    else lacks given (codes "ANSWER") || lacks given (codes "columns")
+
 abbrev pub is_incomplete : List ℕ → Given → Bool
 is_incomplete name given =
-    if bytes_eq name (codes "gantt")
-    then lacks given (codes "ANSWER") || lacks given (codes "columns")
+    if bytes_eq name (codes "gantt") then lacks_drawing given
     else (if bytes_eq name (codes "random") then lacks given (codes "problem")
     else lacks_own name given)
 

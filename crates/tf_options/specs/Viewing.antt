@@ -1,15 +1,16 @@
 -- How `gantt` draws a schedule, by what clap found of its options.
-use Rattle.std.specs.Prelude.{◌≡◌, ℕ, Bool, true, false, List, Option, None, Some, unwrap_or, codes, if◌then◌else◌}
+use Rattle.std.specs.Prelude.{◌≡◌, ℕ, Bool, true, false, ◌&&◌, List, Option, None, Some, is_some, unwrap_or, codes, if◌then◌else◌}
 use Rattle.std.specs.Option.{option_and_then}
 use Rattle.tf_model.specs.Limit.{limit}
 use Rattle.tf_picture.specs.declared.view.Size.{Size}
 use Rattle.tf_picture.specs.declared.view.Size.TheVariants.{Natural, Width, Height, Pixels, Millimetres}
 use Rattle.tf_picture.specs.declared.view.View.{View}
 use Rattle.tf_text.specs.Chart.{most_columns}
-use Rattle.tf_options.specs.Matched.{Given, IsFlagBy, columns_fault, first_fault, is_word, number_by, unless_some}
+use Rattle.tf_options.specs.Matched.{AreIdleBy, Given, IsFlagBy, IsFormBy, columns_fault, explains_by, first_fault, form_fault, is_word, number_by, unless_some}
 use Rattle.tf_options.specs.OptionNumber.{numeral_in}
 use Rattle.tf_options.specs.declared.options.Drawing.{Drawing}
 use Rattle.tf_options.specs.declared.options.Drawing.TheVariants.{Chart, Picture}
+use Rattle.tf_options.specs.declared.options.Picturing.{Picturing}
 
 -- the most pixels of a side
 abbrev pub most_side : ℕ
@@ -48,6 +49,16 @@ IsDrawingBy given (Chart columns) =
 IsDrawingBy given (Picture view) =
     IsFlagBy (given.flag (codes "svg")) true × IsViewBy given view
 
+-- a picture with the dates of the instance that `--input` names
+pub record IsPicturingBy (given : Given) (on_terminal : Bool) (picturing : Picturing) : Type 0 where
+  pub input : given.value (codes "input") ≡ Some picturing.input.now
+  pub answer : given.value (codes "ANSWER") ≡ Some picturing.answer.now
+  pub form : IsFormBy given picturing.form
+  pub view : IsViewBy given picturing.view
+  pub explain : picturing.telling.explain
+      ≡ explains_by (given.value (codes "explain")) on_terminal
+  pub idle : AreIdleBy given picturing.form picturing.telling.idle
+
 -- ---- the first fault of these options
 
 -- the option is given, and gives no number of this range
@@ -76,3 +87,21 @@ view_fault given = first_fault
 
 abbrev pub drawing_fault : Given → Option (List ℕ)
 drawing_fault given = first_fault (view_fault given) (columns_fault given)
+
+-- both the instance and the answer are standard input
+abbrev pub twice_fault : Given → Option (List ℕ)
+twice_fault given =
+    if is_word (given.value (codes "ANSWER")) (codes "-")
+    && is_word (given.value (codes "input")) (codes "-")
+    then Some (codes "--input and ANSWER cannot both be standard input")
+    else None
+
+-- where `--input` is given
+abbrev pub picturing_fault : Given → Option (List ℕ)
+picturing_fault given = first_fault (twice_fault given)
+    (first_fault (view_fault given) (form_fault given))
+
+-- of `gantt`
+abbrev pub gantt_fault : Given → Option (List ℕ)
+gantt_fault given =
+    if is_some (given.value (codes "input")) then picturing_fault given else drawing_fault given

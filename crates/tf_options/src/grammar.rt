@@ -49,6 +49,7 @@ Exit status: 0 best, 1 does not fit, 2 refused, 3 want of memory,
 const ABOUT_GANTT: &str = "\
 Example: threefield solve -p \"1||sumC\" table.txt | threefield gantt -c 40
          threefield gantt --svg --fold 50 answer.txt > answer.svg
+         threefield gantt --svg --input table.txt answer.txt > answer.svg
 
 Exit status: 0 drawn, 2 refused, 3 want of memory,
              4 a file or a device failed, 5 the command line is wrong.";
@@ -255,9 +256,21 @@ fn gantt_command<'a>(alloc: Global) -> Result<Command<'a>, AllocError> {
         .after_help(ABOUT_GANTT)
         .arg(columns)?
         .arg(svg)?;
-    with_view_options(alloc, command)?
+    let command = with_view_options(alloc, command)?;
+    with_instance(alloc, command)?
         .arg(explain(alloc))?
         .arg(answer)
+}
+
+// The command with the instance whose dates a picture shows.
+fn with_instance<'a>(alloc: Global, command: Command<'a>) -> Result<Command<'a>, AllocError> {
+    let input = Arg::new(alloc, "input")
+        .long("input")
+        .value_name("INPUT")
+        .help("The instance, whose dates are marked, with --svg")
+        .requires_arg("svg")?;
+    let format = format(alloc).requires_arg("input")?;
+    with_form_options(alloc, command.arg(input)?.arg(format)?)
 }
 
 // The command with what a picture shows of a schedule, and how large it is.
@@ -370,17 +383,21 @@ fn explain<'a>(alloc: Global) -> Arg<'a> {
         .default_value("auto")
 }
 
-// The command with what names a problem and an instance.
-fn with_options<'a>(alloc: Global, command: Command<'a>) -> Result<Command<'a>, AllocError> {
-    let problem = problem(alloc);
-    let format = Arg::new(alloc, "format")
+fn format<'a>(alloc: Global) -> Arg<'a> {
+    Arg::new(alloc, "format")
         .short('f')
         .long("format")
         .value_name("FORM")
         .help("Format of INPUT: table, wt or flow")
         .value_parser(FORMATS.as_slice())
         .hide_possible_values(true)
-        .default_value("table");
+        .default_value("table")
+}
+
+// The command with what names a problem and an instance.
+fn with_options<'a>(alloc: Global, command: Command<'a>) -> Result<Command<'a>, AllocError> {
+    let problem = problem(alloc);
+    let format = format(alloc);
     let machines = machines(alloc);
     let input = Arg::new(alloc, "INPUT")
         .help("The instance: a file, or - for standard input")

@@ -11,7 +11,7 @@ ghost use Rattle.tf_options.specs.Matched.{explains_by, flow_fault, form_fault, 
 ghost use Rattle.tf_options.specs.Matched.{has_arithmetic, is_latex, lacks, layout_by};
 ghost use Rattle.tf_options.specs.Matched.{machines_fault, most_steps, options_fault, pair_in};
 ghost use Rattle.tf_options.specs.Matched.{number_by, steps_fault, wt_fault};
-ghost use Rattle.tf_options.specs.Viewing.{IsDrawingBy, IsViewBy, drawing_fault, most_side, number_fault, page_by, sides_fault, size_by, view_fault};
+ghost use Rattle.tf_options.specs.Viewing.{IsDrawingBy, IsPicturingBy, IsViewBy, drawing_fault, most_side, number_fault, page_by, picturing_fault, sides_fault, size_by, view_fault};
 ghost use Rattle.tf_options.specs.OptionNumber.{numeral_in};
 ghost use Rattle.tf_options.specs.Understood.{HasNoOrder, IsAskedBy, IsAskedOver, IsOrderBy, bound_fault, input_fault, is_standard_input, lacks_options};
 
@@ -74,8 +74,8 @@ pub enum FormOption<'a> {
 }
 
 impl FormOption<'_> {
-    // The form of an instance text.
-    fn form<A: Allocator>(&self, alloc: A) -> Result<Form<A>, AllocError>
+    /// The form of an instance text.
+    pub fn form<A: Allocator>(&self, alloc: A) -> Result<Form<A>, AllocError>
         ensures { IfOk result (λ form. form_of form ≡ form_asked self.now) }
     {
         match *self {
@@ -146,6 +146,18 @@ pub enum Drawing {
     Picture(View),
 }
 
+/// Which answer is drawn as a picture, with the dates of which instance.
+#[derive(Drop)]
+pub struct Picturing<'a> {
+    /// The name of the instance.
+    pub input: &'a str,
+    pub form: FormOption<'a>,
+    /// The name of the answer.
+    pub answer: &'a str,
+    pub view: View,
+    pub telling: Telling,
+}
+
 /// What a command line that is well formed asks for.
 #[derive(Drop)]
 pub enum Work<'a> {
@@ -169,6 +181,8 @@ pub enum Work<'a> {
         drawing: Drawing,
         explain: bool,
     },
+    /// Draw an answer as a picture, with the dates of an instance.
+    Picture(Picturing<'a>),
     /// Write a random job table.
     Random(Wanted<'a>),
     /// List the problems that are solved, with a job table those that it has the fields for.
@@ -493,6 +507,12 @@ fn gantt_in<'a>(given: &ArgMatches<'a>, on_terminal: bool) -> Asked<'a>
     let Some(answer) = given.get_str("ANSWER") else {
         return Asked::NoMemory;
     };
+    if let Some(input) = given.get_str("input") {
+        return match picturing_in(given, on_terminal, input, answer) {
+            Ok(picturing) => Asked::Work(Work::Picture(picturing)),
+            Err(asked) => asked,
+        };
+    }
     match drawing_in(given) {
         Ok(drawing) => Asked::Work(Work::Gantt {
             answer,
@@ -501,6 +521,38 @@ fn gantt_in<'a>(given: &ArgMatches<'a>, on_terminal: bool) -> Asked<'a>
         }),
         Err(asked) => asked,
     }
+}
+
+// A picture of this answer with the dates of this instance.
+fn picturing_in<'a>(
+    given: &ArgMatches<'a>,
+    on_terminal: bool,
+    input: &'a str,
+    answer: &'a str,
+) -> Result<Picturing<'a>, Asked<'a>>
+    requires input { (given_of given.now).value (codes "input") ≡ Some input.now }
+    requires answer { (given_of given.now).value (codes "ANSWER") ≡ Some answer.now }
+    ensures columns { IfErr result HasColumns }
+    ensures given { IfOk result (IsPicturingBy (given_of given.now) on_terminal) }
+    ensures fault { IfErr result
+        (IsToldInstead (lacks (given_of given.now) (codes "format"))
+        (picturing_fault (given_of given.now))) }
+{
+    if answer == "-" && input == "-" {
+        return Err(Asked::Unfit("--input and ANSWER cannot both be standard input"));
+    }
+    let view = view_in(given)?;
+    let form = form_in(given)?;
+    Ok(Picturing {
+        input,
+        form,
+        answer,
+        view,
+        telling: Telling {
+            explain: is_explained(given, on_terminal),
+            idle: idle_in(given, &form),
+        },
+    })
 }
 
 // A picture where it is asked for, otherwise a chart of so many columns.

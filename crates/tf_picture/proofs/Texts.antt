@@ -8,11 +8,12 @@ use Rattle.tf_schedule.specs.declared.piece.Piece.{Piece}
 use Rattle.tf_schedule.specs.Piece.{as_time}
 use Rattle.tf_text.proofs.Written.{then}
 use Rattle.tf_picture.specs.Picture.{part, told, place, fill, edge, width, bar_text, sizes, titles}
-use Rattle.tf_picture.specs.Picture.{axis, bar_group, front, hatching, label_group, link_group, opening, rows, strip, title}
+use Rattle.tf_picture.specs.Picture.{axis, bar_group, front, hatching, label_group, link_group, marks, opening, rows, strip, title}
 use Rattle.tf_picture.specs.Strips.{height}
 use Rattle.tf_picture.specs.declared.strips.Strips.{Strips}
 use Rattle.tf_picture.specs.declared.view.Size.{Size}
 use Rattle.tf_picture.specs.declared.bars.Bar.{Bar}
+use Rattle.tf_picture.specs.declared.dates.JobDates.{JobDates}
 use Rattle.tf_picture.specs.declared.frame.Frame.{Frame}
 use Rattle.tf_picture.specs.declared.front.Heading.{Heading}
 
@@ -121,17 +122,18 @@ bar_written f b t0 t1 t2 t3 t4 t5 t6 e1 e2 e3 e4 e5 e6 =
     (then t0 t3 t4 _ _ (then t0 t2 t3 _ _ (then t0 t1 t2 _ _ e1 e2) e3) e4) e5) e6
 
 -- a strip
-pub strip_written : (step : ℕ) (bars : List Bar) (resumed : List Piece) (f : Frame)
-    (t0 t1 t2 t3 t4 t5 : List ℕ)
+pub strip_written : (step : ℕ) (bars : List Bar) (resumed : List Piece) (dates : List JobDates)
+    (f : Frame) (t0 t1 t2 t3 t4 t5 t6 : List ℕ)
     → t1 ≡ t0 ++ rows f
     → t2 ≡ t1 ++ axis f step
     → t3 ≡ t2 ++ bar_group f bars
     → t4 ≡ t3 ++ link_group f resumed
-    → t5 ≡ t4 ++ label_group f bars
-    → t5 ≡ t0 ++ strip step bars resumed f
+    → t5 ≡ t4 ++ marks f dates bars
+    → t6 ≡ t5 ++ label_group f bars
+    → t6 ≡ t0 ++ strip step bars resumed dates f
 unfolding strip
-strip_written step bars resumed f t0 t1 t2 t3 t4 t5 e1 e2 e3 e4 e5 =
-    five t0 t1 t2 t3 t4 t5 _ _ _ _ _ e1 e2 e3 e4 e5
+strip_written step bars resumed dates f t0 t1 t2 t3 t4 t5 t6 e1 e2 e3 e4 e5 e6 =
+    six t0 t1 t2 t3 t4 t5 t6 _ _ _ _ _ _ e1 e2 e3 e4 e5 e6
 
 -- all that comes before the strips
 pub front_written : (heading : Heading) (size : Size) (strips : Strips) (t0 t1 t2 t3 t4 : List ℕ)

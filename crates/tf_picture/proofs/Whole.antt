@@ -10,10 +10,11 @@ use Rattle.tf_schedule.specs.Piece.{machine_of}
 use Rattle.tf_schedule.specs.Schedule.{ComesBeforeBy, IsPiece}
 use Rattle.tf_text.specs.AnswerText.{SheetData}
 use Rattle.tf_picture.specs.Bars.{bar_of, bars_of}
-use Rattle.tf_picture.specs.Picture.{IsPicture, IsResumed, all_strips, front, heading_of}
+use Rattle.tf_picture.specs.Picture.{IsDatedPicture, IsResumed, all_strips, front, heading_of}
 use Rattle.tf_picture.specs.Sound.{HasPiece}
 use Rattle.tf_picture.specs.Strips.{strips_of}
 use Rattle.tf_picture.specs.declared.bars.Bar.{Bar}
+use Rattle.tf_picture.specs.declared.dates.JobDates.{JobDates}
 use Rattle.tf_picture.specs.declared.front.Heading.{Heading}
 use Rattle.tf_picture.specs.declared.strips.Strips.{Strips}
 use Rattle.tf_picture.specs.declared.view.View.{View}
@@ -34,7 +35,8 @@ resumed_sound true ps sorted sound by_job = All-permutation IsPiece ps sorted by
 resumed_sound false ps sorted sound by_job = subst (All IsPiece) (sym by_job) (All-nil IsPiece)
 
 pub picture_written : (view : View) (sheet : SheetData) (heading : Heading) (pieces : List Piece)
-    (strips : Strips) (step : ℕ) (bars : List Bar) (resumed : List Piece) (t0 t1 t2 t3 : List ℕ)
+    (strips : Strips) (step : ℕ) (bars : List Bar) (resumed : List Piece) (dates : List JobDates)
+    (t0 t1 t2 t3 : List ℕ)
     → heading_of sheet ≡ heading → IsPermutation sheet.answer.pieces pieces
     → AllPairs (ComesBeforeBy machine_of) pieces → 0 < step
     → strips ≡ strips_of view heading.machines (greatest_stop pieces)
@@ -42,10 +44,10 @@ pub picture_written : (view : View) (sheet : SheetData) (heading : Heading) (pie
     → IsResumed heading.problem.prmp pieces resumed
     → t0 ≡ []
     → t1 ≡ t0 ++ front heading view.size strips
-    → t2 ≡ t1 ++ all_strips step bars resumed strips
+    → t2 ≡ t1 ++ all_strips step bars resumed dates strips
     → t3 ≡ t2 ++ codes "</svg>\n"
-    → IsPicture view sheet t3
-picture_written view sheet heading pieces strips step bars resumed t0 t1 t2 t3 same kept in_order
+    → IsDatedPicture dates view sheet t3
+picture_written view sheet heading pieces strips step bars resumed dates t0 t1 t2 t3 same kept in_order
     positive strips_is bars_is by_job empty e1 e2 e3 =
     record {
       pieces = pieces;
@@ -57,14 +59,14 @@ picture_written view sheet heading pieces strips step bars resumed t0 t1 t2 t3 s
       positive = positive;
       text = e3
           ∙ ap (λ t. t ++ codes "</svg>\n") e2
-          ∙ ap (λ t. t ++ all_strips step bars resumed strips ++ codes "</svg>\n") e1
-          ∙ ap (λ t. t ++ front heading view.size strips ++ all_strips step bars resumed strips
+          ∙ ap (λ t. t ++ all_strips step bars resumed dates strips ++ codes "</svg>\n") e1
+          ∙ ap (λ t. t ++ front heading view.size strips ++ all_strips step bars resumed dates strips
           ++ codes "</svg>\n") empty
-          ∙ ap (λ b. front heading view.size strips ++ all_strips step b resumed strips
+          ∙ ap (λ b. front heading view.size strips ++ all_strips step b resumed dates strips
           ++ codes "</svg>\n") bars_is
-          ∙ ap (λ s. front heading view.size s ++ all_strips step (bars_of None pieces) resumed s
+          ∙ ap (λ s. front heading view.size s ++ all_strips step (bars_of None pieces) resumed dates s
           ++ codes "</svg>\n") strips_is
           ∙ ap (λ (h : Heading). front h view.size (strips_of view h.machines (greatest_stop pieces))
-          ++ all_strips step (bars_of None pieces) resumed
+          ++ all_strips step (bars_of None pieces) resumed dates
           (strips_of view h.machines (greatest_stop pieces)) ++ codes "</svg>\n") (sym same);
     }

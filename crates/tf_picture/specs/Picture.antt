@@ -1,6 +1,6 @@
 -- The text of a picture: its title and sizes, and in each strip of time a row for each machine, an
 -- axis of time, and a bar for each piece, to scale and with its numbers.
-use Rattle.std.specs.Prelude.{◌≡◌, ℕ, ◌+◌, ◌-◌, ◌*◌, ◌/◌, ◌%◌, ◌<◌, min, max, ◌&&◌, not, Bool, true, false, nat_le, nat_lt, ◌==◌, Option, Some, None, List, [], ◌∷◌, ◌++◌, codes, length, take, drop, if◌then◌else◌}
+use Rattle.std.specs.Prelude.{◌≡◌, ℕ, ℤ, pos, int_le, ◌+◌, ◌-◌, ◌*◌, ◌/◌, ◌%◌, ◌<◌, min, max, ◌&&◌, not, Bool, true, false, nat_le, nat_lt, ◌==◌, Option, Some, None, List, [], ◌∷◌, ◌++◌, codes, length, take, drop, if◌then◌else◌}
 use Rattle.std.specs.List.{AllPairs, flat_map, range_with_len}
 use Rattle.std.specs.List.Sorted.{IsPermutation}
 use Rattle.std.specs.Fmt.{decimal, signed_decimal}
@@ -11,10 +11,14 @@ use Rattle.tf_schedule.specs.Schedule.{ComesBeforeBy}
 use Rattle.tf_schedule.specs.Drawing.{greatest_stop}
 use Rattle.tf_text.specs.AnswerText.{SheetData}
 use Rattle.tf_picture.specs.Bars.{bars_of}
-use Rattle.tf_picture.specs.Strips.{across, bar_height, base, bottom, count_of, down, font, height, height_of, shows_time, strip_of, strips_of, top, unit_of, width_of}
+use Rattle.tf_picture.specs.Dates.{due_of, release_of, tardiness}
+use Rattle.tf_picture.specs.Strips.{across, bar_height, base, bottom, count_of, down, font, height, height_of, row_height, shows_time, strip_of, strips_of, top, unit_of, width_of}
 use Rattle.tf_picture.specs.declared.bars.Bar.{Bar}
+use Rattle.tf_picture.specs.declared.dates.JobDates.{JobDates}
 use Rattle.tf_picture.specs.declared.frame.Frame.{Frame}
 use Rattle.tf_picture.specs.declared.front.Heading.{Heading}
+use Rattle.tf_picture.specs.declared.marks.DateKind.{DateKind}
+use Rattle.tf_picture.specs.declared.marks.DateKind.TheVariants.{Release, Due}
 use Rattle.tf_picture.specs.declared.strips.Strips.{Strips}
 use Rattle.tf_picture.specs.declared.view.Size.{Size}
 use Rattle.tf_picture.specs.declared.view.View.{View}
@@ -51,13 +55,16 @@ told p =
 abbrev pub width : Frame → Piece → ℕ
 width f p = across f (as_time p.stop) - across f (as_time p.start)
 
--- where the bar lies
-abbrev pub place : Frame → Piece → List ℕ
-place f p =
+-- where the bar begins, and how wide it is
+abbrev pub extent : Frame → Piece → List ℕ
+extent f p =
     part (codes "<rect x=\"") (across f (as_time p.start))
     ++ part (codes "\" y=\"") (top f p.machine)
     ++ part (codes "\" width=\"") (max (width f p) 50)
-    ++ part (codes "\" height=\"") (bar_height f.machines)
+
+-- where the bar lies
+abbrev pub place : Frame → Piece → List ℕ
+place f p = extent f p ++ part (codes "\" height=\"") (bar_height f.machines)
 
 unfoldable pub bar_text : Frame → Bar → List ℕ
 bar_text f b =
@@ -127,6 +134,89 @@ pub record IsByJob (pieces sorted : List Piece) : Type 0 where
 abbrev pub IsResumed : Bool → List Piece → List Piece → Type 0
 IsResumed true pieces sorted = IsByJob pieces sorted
 IsResumed false pieces sorted = sorted ≡ []
+
+-- ---- the dates of the jobs
+
+-- a strip along the upper edge of the bar of a piece that stops so many steps too late
+unfoldable pub late_mark : Frame → ℕ → Piece → List ℕ
+late_mark f steps p =
+    extent f p
+    ++ part (codes "\" height=\"") (bar_height f.machines / 8)
+    ++ part (codes "\"><title>job ") p.job
+    ++ part (codes ", late by ") steps
+    ++ codes "</title></rect>\n"
+
+-- the piece is shown, and it stops after the due date of its job
+abbrev pub late_if_shown : Frame → List JobDates → Bar → List ℕ
+late_if_shown f dates b =
+    if is_shown f b.piece && nat_lt 0 (tardiness dates b.piece)
+    then late_mark f (tardiness dates b.piece) b.piece else []
+
+abbrev pub late_group : Frame → List JobDates → List Bar → List ℕ
+late_group f dates bars =
+    codes "<g fill=\"#000000\">\n"
+    ++ flat_map (late_if_shown f dates) bars
+    ++ codes "</g>\n"
+
+-- the date as a time, where it is one and lies in the strip
+abbrev pub shown_at : Frame → Option ℤ → Option ℕ
+shown_at f None = None
+shown_at f (Some date) =
+    if int_le (pos 0) date && shows_time f (as_time date) then Some (as_time date) else None
+
+-- A triangle whose tip is at the edge of the bars: above them and pointing down for a release date,
+-- below them and pointing up for a due date.
+abbrev pub mark_tip : Frame → DateKind → Piece → List ℕ
+mark_tip f Release p =
+    part (codes " ") (top f p.machine) ++ part (codes "l-400 -") (row_height f.machines / 10)
+mark_tip f Due p =
+    part (codes " ") (top f p.machine + bar_height f.machines)
+    ++ part (codes "l-400 ") (row_height f.machines / 10)
+
+abbrev pub mark_place : Frame → DateKind → ℕ → Piece → List ℕ
+mark_place f kind time p =
+    part (codes "<path d=\"M") (across f time) ++ mark_tip f kind p
+    ++ codes "h800z\" fill=\""
+
+-- what a reader sees who points at the mark
+abbrev pub date_told : DateKind → ℕ → List ℕ
+date_told Release time = part (codes ", release date ") time
+date_told Due time = part (codes ", due date ") time
+
+abbrev pub mark_title : DateKind → ℕ → Piece → List ℕ
+mark_title kind time p =
+    part (codes "\"><title>job ") p.job ++ date_told kind time ++ codes "</title></path>\n"
+
+-- the mark of a date that is this time, with the fill of the bar
+abbrev pub date_mark : Frame → DateKind → ℕ → Bar → List ℕ
+date_mark f kind time b =
+    mark_place f kind time b.piece ++ fill b.fill ++ mark_title kind time b.piece
+
+abbrev pub mark_if_some : Frame → DateKind → Option ℕ → Bar → List ℕ
+mark_if_some f kind None b = []
+mark_if_some f kind (Some time) b =
+    if nat_le b.piece.machine f.machines then date_mark f kind time b else []
+
+-- the mark of a date that lies in the strip, on the machine of the bar
+abbrev pub date_if_shown : Frame → DateKind → Option ℤ → Bar → List ℕ
+date_if_shown f kind date b = mark_if_some f kind (shown_at f date) b
+
+-- the release date and the due date of a bar's job
+abbrev pub dates_shown : Frame → List JobDates → Bar → List ℕ
+dates_shown f dates b =
+    date_if_shown f Release (release_of dates b.piece.job) b
+    ++ date_if_shown f Due (due_of dates b.piece.job) b
+
+abbrev pub date_group : Frame → List JobDates → List Bar → List ℕ
+date_group f dates bars =
+    codes "<g stroke=\"#222222\" stroke-width=\"60\">\n"
+    ++ flat_map (dates_shown f dates) bars
+    ++ codes "</g>\n"
+
+-- where dates are known, which pieces are late, and the dates
+abbrev pub marks : Frame → List JobDates → List Bar → List ℕ
+marks f [] bars = []
+marks f (d ∷ ds) bars = late_group f (d ∷ ds) bars ++ date_group f (d ∷ ds) bars
 
 -- ---- before the strips
 
@@ -324,21 +414,23 @@ label_group f bars =
 
 -- ---- the whole
 
--- the strip with the bars, the lines between the pieces of a job, and the jobs' numbers
-unfoldable pub strip : ℕ → List Bar → List Piece → Frame → List ℕ
-strip step bars resumed f =
-    rows f ++ axis f step ++ bar_group f bars ++ link_group f resumed ++ label_group f bars
+-- the strip with the bars, the lines between the pieces of a job, the dates and the jobs' numbers
+unfoldable pub strip : ℕ → List Bar → List Piece → List JobDates → Frame → List ℕ
+strip step bars resumed dates f =
+    rows f ++ axis f step ++ bar_group f bars ++ link_group f resumed ++ marks f dates bars
+    ++ label_group f bars
 
-abbrev pub strip_at : ℕ → List Bar → List Piece → Strips → ℕ → List ℕ
-strip_at step bars resumed strips n = strip step bars resumed (strip_of strips n)
+abbrev pub strip_at : ℕ → List Bar → List Piece → List JobDates → Strips → ℕ → List ℕ
+strip_at step bars resumed dates strips n = strip step bars resumed dates (strip_of strips n)
 
-abbrev pub all_strips : ℕ → List Bar → List Piece → Strips → List ℕ
-all_strips step bars resumed strips =
-    flat_map (strip_at step bars resumed strips) (range_with_len 0 (count_of strips))
+abbrev pub all_strips : ℕ → List Bar → List Piece → List JobDates → Strips → List ℕ
+all_strips step bars resumed dates strips =
+    flat_map (strip_at step bars resumed dates strips) (range_with_len 0 (count_of strips))
 
--- The sheet's picture in a view: the pieces by machine and start, in strips with an axis in steps of
--- some length.
-pub record IsPicture (view : View) (sheet : SheetData) (out : List ℕ) : Type 0 where
+-- The sheet's picture in a view with dates of the jobs: the pieces by machine and start, in strips
+-- with an axis in steps of some length.
+pub record IsDatedPicture (dates : List JobDates) (view : View) (sheet : SheetData) (out : List ℕ)
+    : Type 0 where
   pub pieces : List Piece
   pub kept : IsPermutation sheet.answer.pieces pieces
   pub in_order : AllPairs (ComesBeforeBy machine_of) pieces
@@ -348,6 +440,10 @@ pub record IsPicture (view : View) (sheet : SheetData) (out : List ℕ) : Type 0
   pub positive : 0 < step
   pub text : out ≡ front (heading_of sheet) view.size
       (strips_of view sheet.machines (greatest_stop pieces))
-      ++ all_strips step (bars_of None pieces) resumed
+      ++ all_strips step (bars_of None pieces) resumed dates
       (strips_of view sheet.machines (greatest_stop pieces))
       ++ codes "</svg>\n"
+
+-- the same where no dates are known
+abbrev pub IsPicture : View → SheetData → List ℕ → Type 0
+IsPicture view sheet out = IsDatedPicture [] view sheet out

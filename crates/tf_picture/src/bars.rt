@@ -3,7 +3,7 @@ ghost use Rattle.std.specs.Prelude.{◌≡◌, ◌++◌, ◌≤◌, None, IfOk, 
 ghost use Rattle.std.specs.List.{All, flat_map};
 ghost use Rattle.tf_schedule.specs.Schedule.{IsPiece};
 ghost use Rattle.tf_picture.specs.Bars.{IsApart, bar_of, bars_of, fill_of, has_fill, is_taken};
-ghost use Rattle.tf_picture.specs.Picture.{bar_group, bar_if_shown, bar_text, edge, fill, told, place, is_shown, width};
+ghost use Rattle.tf_picture.specs.Picture.{bar_group, bar_if_shown, bar_text, edge, extent, fill, told, place, is_shown, width};
 ghost use Rattle.tf_picture.specs.Sound.{HasPiece};
 
 use crate::frame::Frame;
@@ -172,10 +172,23 @@ fn push_place<A: Allocator>(
     ensures { OnOk result (text.new.items
         ≡ text.old.items ++ place frame.now piece.now) }
 {
+    push_extent(text, frame, piece)?;
+    push_part(text, b"\" height=\"", frame.bar())
+}
+
+/// Adds where the bar of a piece begins, and how wide it is.
+pub fn push_extent<A: Allocator>(
+    text: &mut Vec<u8, A>,
+    frame: &Frame,
+    piece: &Piece,
+) -> Result<(), OutOfMemory>
+    requires { IsPiece piece.now }
+    ensures { OnOk result (text.new.items
+        ≡ text.old.items ++ extent frame.now piece.now) }
+{
     push_part(text, b"<rect x=\"", frame.across(piece.start as u64))?;
     push_part(text, b"\" y=\"", frame.top(piece.machine.get()))?;
-    push_part(text, b"\" width=\"", width(frame, piece).max(LEAST))?;
-    push_part(text, b"\" height=\"", frame.bar())
+    push_part(text, b"\" width=\"", width(frame, piece).max(LEAST))
 }
 
 /// How wide the bar of a piece is, to scale.
@@ -200,7 +213,8 @@ fn push_told<A: Allocator>(text: &mut Vec<u8, A>, piece: &Piece) -> Result<(), O
     Ok(())
 }
 
-fn fill(number: u32) -> &'static [u8]
+/// The fill of this number, which counts on from 0 after 10.
+pub fn fill(number: u32) -> &'static [u8]
     ensures { result.now ≡ fill number }
 {
     let at = (number % 11) as usize * 7;

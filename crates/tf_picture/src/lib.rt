@@ -3,12 +3,15 @@
 
 mod axis;
 mod bars;
+pub mod dates;
 mod frame;
 mod front;
 mod labels;
 mod links;
+mod marks;
 pub mod picture;
 mod rows;
+pub mod run_dated;
 pub mod run_picture;
 mod strips;
 pub mod view;

@@ -36,7 +36,7 @@ pub fn run_picture<A: Allocator + Copy, R: Read, W: Write>(
     let sheet = sheet_read(alloc, reader)?;
     let heading = Heading::of(&sheet);
     let schedule = schedule_said(sheet)?;
-    let text = picture(alloc, view, &heading, &schedule)?;
+    let text = picture(alloc, view, &heading, &[], &schedule)?;
     writer.push_all(text.as_slice())?;
     Ok(())
 }

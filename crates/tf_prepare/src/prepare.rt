@@ -40,8 +40,8 @@ fn uses_weight(goal: Goal) -> bool
     matches!(goal, Goal::SumWC | Goal::SumWT | Goal::SumWU)
 }
 
-// Whether the objective uses due dates.
-fn uses_due(goal: Goal) -> bool
+/// Whether the objective uses due dates.
+pub fn uses_due(goal: Goal) -> bool
     ensures { result ≡ uses_due goal }
 {
     matches!(

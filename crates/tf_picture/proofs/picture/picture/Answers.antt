@@ -12,7 +12,8 @@ shown_of-requires g c =
 
 pub returns : goal.returns
 returns g c sheet same kept =
-    picture_written c.args.view.now sheet c.args.heading.now c.args.schedule.now _ _ _ _ _ _ _ _
+    picture_written c.args.view.now sheet c.args.heading.now c.args.schedule.now _ _ _ _
+    c.args.dates.now _ _ _ _
     same kept c.pieces.ensures.schedule.in_order c.in_ok-shown.ensures.step
     c.strips_for-strips.ensures
     (c.in_ok-shown.ensures.bars ∙ ap (bars_of None) c.pieces.ensures.all)
