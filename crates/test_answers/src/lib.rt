@@ -4,6 +4,8 @@
 #[cfg(test)]
 mod checked;
 #[cfg(test)]
+mod dated;
+#[cfg(test)]
 mod drawn;
 #[cfg(test)]
 mod evaluated;

@@ -34,7 +34,7 @@ fn picture_of(rt: &HostRuntime, answer: &[u8]) -> Result<Vec<u8>, Fail> {
 }
 
 /// Whether the text has the words.
-fn has(text: &[u8], words: &[u8]) -> bool {
+pub(crate) fn has(text: &[u8], words: &[u8]) -> bool {
     for at in 0..text.len() {
         if text[at..].starts_with(words) {
             return true;

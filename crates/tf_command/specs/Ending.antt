@@ -10,10 +10,10 @@ use Rattle.tf_engine.specs.Checking.{IsCheckOf}
 use Rattle.tf_text.specs.AnswerText.{SheetData}
 use Rattle.tf_engine.specs.Drawing.{IsDrawingOf, IsChart}
 use Rattle.tf_engine.specs.FormData.{FormData}
-use Rattle.tf_picture.specs.Dated.{IsDatedRunOf}
+use Rattle.tf_dated.specs.Dated.{IsDatedRunOf}
 use Rattle.tf_picture.specs.Picture.{IsPicture}
-use Rattle.tf_picture.specs.declared.run_dated.Pictured.{Pictured}
-use Rattle.tf_picture.specs.declared.run_dated.Pictured.TheVariants.{Drawn, OtherTask}
+use Rattle.tf_dated.specs.declared.run_dated.Pictured.{Pictured}
+use Rattle.tf_dated.specs.declared.run_dated.Pictured.TheVariants.{Drawn, OtherTask}
 use Rattle.tf_picture.specs.declared.view.View.{View}
 use Rattle.tf_evaluate.specs.declared.evaluation.Detail.{Detail}
 use Rattle.tf_evaluate.specs.declared.evaluation.Standing.{Standing}

@@ -28,7 +28,6 @@ use tf_assess::run_assess::run_assess;
 use tf_assess::run_rate::{rated, run_rate};
 use tf_bounding::run_bound::run_bound;
 use tf_engine::fault::RunFault;
-use tf_engine::request::Form;
 use tf_engine::run_check::run_check;
 use tf_engine::run_gantt::run_gantt;
 use tf_engine::run_solve::run_solve;
@@ -712,9 +711,7 @@ fn list_for<R: Read, W: Write, E: Write>(
     let status = report(&fault, &mut console.errors);
     let explanation = match (&fault, table.inner().failure(), table.inner().source()) {
         (_, Some((name, error)), _) => explain::not_read(alloc, name, &error),
-        (RunFault::Text(fault), None, Some(text)) => {
-            explain::not_an_instance(alloc, fault, &Form::Table, &text)
-        }
+        (RunFault::Text(fault), None, Some(text)) => explain::not_listed(alloc, fault, &text),
         _ => return status,
     };
     tell(explanation, &mut console.errors);

@@ -14,8 +14,8 @@ use crate::recorded::Recorded;
 use crate::report::{end_picture, say_memory};
 use crate::source::Sources;
 use std::io::{Read, Write};
+use tf_dated::run_dated::run_dated;
 use tf_options::options::{Picturing, Work};
-use tf_picture::run_dated::run_dated;
 use tf_text::counted::Counted;
 
 /// Draws the answer of that name with the dates of the instance of that name.

@@ -118,6 +118,19 @@ fn say_output(page: &mut Page) -> Result<(), AllocError> {
     page.say("Standard output failed: the disk is full, or the reader closed the pipe.")
 }
 
+/// What is wrong with a job table by itself.
+///
+/// # Errors
+///
+/// There was no memory.
+pub fn not_listed(
+    alloc: Global,
+    fault: &ReadFault,
+    table: &Source<'_>,
+) -> Result<String, AllocError> {
+    not_an_instance(alloc, fault, &Form::Table, table)
+}
+
 /// What is wrong with an instance of this form by itself.
 ///
 /// # Errors

@@ -1,3 +1,2 @@
-pub mod Dated
 pub mod Texts
 pub mod Whole

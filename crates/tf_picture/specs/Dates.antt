@@ -1,23 +1,9 @@
 -- The dates of jobs, and how late a piece is.
-use Rattle.std.specs.Prelude.{ℕ, ℤ, ◌-◌, ◌-ℤ◌, List, map, slice_get, Option, None, Some, if◌then◌else◌}
+use Rattle.std.specs.Prelude.{ℕ, ℤ, ◌-◌, ◌-ℤ◌, List, slice_get, Option, None, Some}
 use Rattle.std.specs.Option.{option_and_then}
-use Rattle.tf_model.specs.JobFields.{JobFields}
 use Rattle.tf_model.specs.Whole.{as_time}
-use Rattle.tf_model.specs.declared.problem.Problem.{Problem}
-use Rattle.tf_prepare.specs.Preparing.{uses_due}
 use Rattle.tf_schedule.specs.declared.piece.Piece.{Piece}
 use Rattle.tf_picture.specs.declared.dates.JobDates.{JobDates}
-
--- the dates of a job that a problem uses
-abbrev pub dates_of : Problem → JobFields → JobDates
-dates_of p job = record {
-  release = if p.release then job.release else None;
-  due = if uses_due p.goal then job.due else None;
-}
-
--- those of all jobs of an instance
-abbrev pub dates_in : Problem → List JobFields → List JobDates
-dates_in p jobs = map (dates_of p) jobs
 
 -- the dates of a job, counted from 1, where there are any
 abbrev pub release_of : List JobDates → ℕ → Option ℤ

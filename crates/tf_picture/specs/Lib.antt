@@ -1,7 +1,6 @@
 -- what a caller has to believe
 pub mod Dates
 pub mod Picture
-pub mod Dated
 pub mod Bars
 pub mod Strips
 -- within the crate

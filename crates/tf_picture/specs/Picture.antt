@@ -1,6 +1,6 @@
 -- The text of a picture: its title and sizes, and in each strip of time a row for each machine, an
 -- axis of time, and a bar for each piece, to scale and with its numbers.
-use Rattle.std.specs.Prelude.{◌≡◌, ℕ, ℤ, pos, int_le, ◌+◌, ◌-◌, ◌*◌, ◌/◌, ◌%◌, ◌<◌, min, max, ◌&&◌, not, Bool, true, false, nat_le, nat_lt, ◌==◌, Option, Some, None, List, [], ◌∷◌, ◌++◌, codes, length, take, drop, if◌then◌else◌}
+use Rattle.std.specs.Prelude.{◌≡◌, ℕ, ℤ, pos, negsuc, ◌+◌, ◌-◌, ◌*◌, ◌/◌, ◌%◌, ◌<◌, min, max, ◌&&◌, not, Bool, true, false, nat_le, nat_lt, ◌==◌, Option, Some, None, List, [], ◌∷◌, ◌++◌, codes, length, take, drop, if◌then◌else◌}
 use Rattle.std.specs.List.{AllPairs, flat_map, range_with_len}
 use Rattle.std.specs.List.Sorted.{IsPermutation}
 use Rattle.std.specs.Fmt.{decimal, signed_decimal}
@@ -158,11 +158,14 @@ late_group f dates bars =
     ++ flat_map (late_if_shown f dates) bars
     ++ codes "</g>\n"
 
--- the date as a time, where it is one and lies in the strip
+-- the date as a time, where it is not negative and lies in the strip
+abbrev pub time_shown : Frame → ℤ → Option ℕ
+time_shown f (pos time) = if shows_time f time then Some time else None
+time_shown f (negsuc n) = None
+
 abbrev pub shown_at : Frame → Option ℤ → Option ℕ
 shown_at f None = None
-shown_at f (Some date) =
-    if int_le (pos 0) date && shows_time f (as_time date) then Some (as_time date) else None
+shown_at f (Some date) = time_shown f date
 
 -- A triangle whose tip is at the edge of the bars: above them and pointing down for a release date,
 -- below them and pointing up for a due date.

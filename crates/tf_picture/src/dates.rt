@@ -1,14 +1,9 @@
 //! The dates of jobs.
-ghost use Rattle.std.specs.Prelude.{◌≡◌, ◌-◌, map, option_map, slice_get, IfOk};
-ghost use Rattle.tf_picture.specs.Dates.{date_of, dates_in, dates_of, due_of, release_of, tardiness};
+ghost use Rattle.std.specs.Prelude.{◌≡◌, ◌-ℤ◌};
+ghost use Rattle.tf_model.specs.Whole.{as_time};
+ghost use Rattle.tf_picture.specs.Dates.{due_of, release_of, tardiness};
 
-use std::alloc::Allocator;
 use tf_model::ids::JobId;
-use tf_model::instance::Instance;
-use tf_model::job::Job;
-use tf_model::memory::OutOfMemory;
-use tf_model::problem::Problem;
-use tf_prepare::prepare::uses_due;
 use tf_schedule::piece::Piece;
 
 /// The dates of a job, in time steps, as far as the problem uses them.
@@ -18,34 +13,6 @@ pub struct JobDates {
     pub release: Option<i64>,
     /// The due date, which may be negative: a job that is completed later is late.
     pub due: Option<i64>,
-}
-
-/// The dates of an instance's jobs that a problem uses.
-pub fn dates_of<A: Allocator, B: Allocator>(
-    alloc: A,
-    problem: &Problem,
-    jobs: &[Job<B>],
-) -> Result<Vec<JobDates, A>, OutOfMemory>
-    ensures { IfOk result (λ dates. dates.items ≡ map (dates_of problem.now) jobs.now) }
-{
-    let mut dates = Vec::with_capacity(alloc, jobs.len())?;
-    for job in jobs {
-        dates.push(job_dates(problem, job))?;
-    }
-    Ok(dates)
-}
-
-fn job_dates<B: Allocator>(problem: &Problem, job: &Job<B>) -> JobDates
-    ensures { result ≡ dates_of problem.now job.now }
-{
-    JobDates {
-        release: if problem.release { job.release } else { None },
-        due: if uses_due(problem.goal) {
-            job.due
-        } else {
-            None
-        },
-    }
 }
 
 /// The release date of a job, where it has one.
@@ -73,7 +40,15 @@ pub fn tardiness(dates: &[JobDates], piece: &Piece) -> u64
     ensures { result ≡ tardiness dates.now piece.now }
 {
     match due_of(dates, piece.job) {
-        Some(due) => (i128::from(piece.stop) - i128::from(due)).max(0) as u64,
+        Some(due) => steps_after(due, piece.stop),
         None => 0,
     }
+}
+
+// How many time steps after a date a time is: 0 where it is not.
+fn steps_after(date: i64, time: i64) -> u64
+    ensures { result ≡ as_time (time -ℤ date) }
+{
+    let late = i128::from(time) - i128::from(date);
+    late.max(0) as u64
 }

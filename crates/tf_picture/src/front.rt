@@ -43,7 +43,7 @@ impl Heading {
 }
 
 /// Adds the picture up to its strips.
-pub fn push_front<A: Allocator + Copy>(
+pub(crate) fn push_front<A: Allocator + Copy>(
     alloc: A,
     text: &mut Vec<u8, A>,
     heading: &Heading,

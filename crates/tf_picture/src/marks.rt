@@ -3,7 +3,8 @@ ghost use Rattle.std.specs.Prelude.{◌≡◌, ◌++◌, ◌<◌, OnOk};
 ghost use Rattle.std.specs.List.{All, flat_map};
 ghost use Rattle.tf_schedule.specs.Schedule.{IsPiece};
 ghost use Rattle.tf_picture.specs.Dates.{due_of, release_of, tardiness};
-ghost use Rattle.tf_picture.specs.Picture.{date_mark, date_group, date_if_shown, dates_shown, late_group, late_if_shown, late_mark, mark_place, mark_title, marks, shown_at};
+ghost use Rattle.tf_picture.specs.Picture.{date_mark, date_group, date_if_shown, date_told, dates_shown, late_group, late_if_shown, late_mark};
+ghost use Rattle.tf_picture.specs.Picture.{mark_place, mark_tip, mark_title, marks, shown_at, time_shown};
 ghost use Rattle.tf_picture.specs.Sound.{HasPiece};
 
 use crate::bars::{Bar, fill, is_shown, push_extent};
@@ -179,8 +180,22 @@ fn shown_at(frame: &Frame, date: Option<i64>) -> Option<u64>
     ensures { result ≡ shown_at frame.now date }
 {
     match date {
-        Some(date) if 0 <= date && frame.shows_time(date as u64) => Some(date as u64),
-        _ => None,
+        Some(date) => time_shown(frame, date),
+        None => None,
+    }
+}
+
+fn time_shown(frame: &Frame, date: i64) -> Option<u64>
+    ensures { result ≡ time_shown frame.now date }
+{
+    if date < 0 {
+        return None;
+    }
+    let time = date as u64;
+    if frame.shows_time(time) {
+        Some(time)
+    } else {
+        None
     }
 }
 
@@ -211,20 +226,31 @@ fn push_place<A: Allocator>(
     ensures { OnOk result (text.new.items
         ≡ text.old.items ++ mark_place frame.now kind time piece.now) }
 {
-    let top = frame.top(piece.machine.get());
     push_part(text, b"<path d=\"M", frame.across(time))?;
+    push_tip(text, frame, kind, piece)?;
+    text.extend_from_slice(b"h800z\" fill=\"")?;
+    Ok(())
+}
+
+fn push_tip<A: Allocator>(
+    text: &mut Vec<u8, A>,
+    frame: &Frame,
+    kind: DateKind,
+    piece: &Piece,
+) -> Result<(), OutOfMemory>
+    ensures { OnOk result (text.new.items ≡ text.old.items ++ mark_tip frame.now kind piece.now) }
+{
+    let top = frame.top(piece.machine.get());
     match kind {
         DateKind::Release => {
             push_part(text, b" ", top)?;
-            push_part(text, b"l-400 -", frame.row() / 10)?;
+            push_part(text, b"l-400 -", frame.row() / 10)
         }
         DateKind::Due => {
             push_part(text, b" ", top + frame.bar())?;
-            push_part(text, b"l-400 ", frame.row() / 10)?;
+            push_part(text, b"l-400 ", frame.row() / 10)
         }
     }
-    text.extend_from_slice(b"h800z\" fill=\"")?;
-    Ok(())
 }
 
 // What a reader sees who points at the mark.
@@ -237,10 +263,20 @@ fn push_title<A: Allocator>(
     ensures { OnOk result (text.new.items ≡ text.old.items ++ mark_title kind time piece.now) }
 {
     push_part(text, b"\"><title>job ", u64::from(piece.job.get()))?;
-    match kind {
-        DateKind::Release => push_part(text, b", release date ", time)?,
-        DateKind::Due => push_part(text, b", due date ", time)?,
-    }
+    push_date(text, kind, time)?;
     text.extend_from_slice(b"</title></path>\n")?;
     Ok(())
+}
+
+fn push_date<A: Allocator>(
+    text: &mut Vec<u8, A>,
+    kind: DateKind,
+    time: u64,
+) -> Result<(), OutOfMemory>
+    ensures { OnOk result (text.new.items ≡ text.old.items ++ date_told kind time) }
+{
+    match kind {
+        DateKind::Release => push_part(text, b", release date ", time),
+        DateKind::Due => push_part(text, b", due date ", time),
+    }
 }

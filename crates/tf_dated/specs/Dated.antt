@@ -14,10 +14,10 @@ use Rattle.tf_engine.specs.Faults.{Refused, stop_of}
 use Rattle.tf_engine.specs.FormData.{FormData}
 use Rattle.tf_engine.specs.Parts.{IsOfAnswer, StopsReading, instance_said}
 use Rattle.tf_engine.specs.Runs.{Leaves}
-use Rattle.tf_picture.specs.Dates.{dates_in}
+use Rattle.tf_dated.specs.Dates.{dates_in}
 use Rattle.tf_picture.specs.Picture.{IsDatedPicture}
-use Rattle.tf_picture.specs.declared.run_dated.Pictured.{Pictured}
-use Rattle.tf_picture.specs.declared.run_dated.Pictured.TheVariants.{Drawn, OtherTask}
+use Rattle.tf_dated.specs.declared.run_dated.Pictured.{Pictured}
+use Rattle.tf_dated.specs.declared.run_dated.Pictured.TheVariants.{Drawn, OtherTask}
 use Rattle.tf_picture.specs.declared.view.View.{View}
 
 -- the sheet is for as many jobs as the instance has

@@ -19,11 +19,11 @@ use Rattle.tf_engine.specs.Faults.{stop_of}
 use Rattle.tf_engine.specs.FormData.{FormData}
 use Rattle.tf_engine.specs.Parts.{ReadsSheet, ReadsTo, IsOfAnswer, StopsBy, instance_said}
 use Rattle.tf_engine.proofs.Unread.{part_stops, reading_stops}
-use Rattle.tf_picture.specs.Dates.{dates_in}
-use Rattle.tf_picture.specs.Dated.{IsDated, IsDatedOver, IsDatedRunOf, IsDrawnSheet, IsForJobs, IsRefusedDated}
+use Rattle.tf_dated.specs.Dates.{dates_in}
+use Rattle.tf_dated.specs.Dated.{IsDated, IsDatedOver, IsDatedRunOf, IsDrawnSheet, IsForJobs, IsRefusedDated}
 use Rattle.tf_picture.specs.Picture.{IsDatedPicture}
-use Rattle.tf_picture.specs.declared.run_dated.Pictured.{Pictured}
-use Rattle.tf_picture.specs.declared.run_dated.Pictured.TheVariants.{Drawn, OtherTask}
+use Rattle.tf_dated.specs.declared.run_dated.Pictured.{Pictured}
+use Rattle.tf_dated.specs.declared.run_dated.Pictured.TheVariants.{Drawn, OtherTask}
 use Rattle.tf_picture.specs.declared.view.View.{View}
 
 -- the picture of a schedule that keeps a sheet's pieces is the picture of the sheet

@@ -1,8 +1,8 @@
 use Rattle.tf_engine.specs.FormData.{form_of}
 use Rattle.tf_engine.proofs.Unread.{err_is}
-use Rattle.tf_picture.specs.Dated.{IsDatedRunOf}
-use Rattle.tf_picture.proofs.Dated.{unread, over}
-use Rattle.tf_picture.proofs.run_dated.run_dated.Goals as goal
+use Rattle.tf_dated.specs.Dated.{IsDatedRunOf}
+use Rattle.tf_dated.proofs.Dated.{unread, over}
+use Rattle.tf_dated.proofs.run_dated.run_dated.Goals as goal
 
 pub returns-in_err-instance : goal.returns-in_err-instance
 returns-in_err-instance g c =

@@ -5,13 +5,9 @@ ghost use Rattle.tf_engine.specs.Drawing.{IsOfPieces};
 ghost use Rattle.tf_engine.specs.Faults.{stop_of};
 ghost use Rattle.tf_engine.specs.FormData.{form_of};
 ghost use Rattle.tf_engine.specs.Parts.{StopsBy};
-ghost use Rattle.tf_picture.specs.Dates.{dates_in};
-ghost use Rattle.tf_picture.specs.Dated.{IsDatedOver, IsDatedRunOf, IsDrawnSheet};
+ghost use Rattle.tf_dated.specs.Dated.{IsDatedOver, IsDatedRunOf, IsDrawnSheet};
 
 use crate::dates::dates_of;
-use crate::front::Heading;
-use crate::picture::picture;
-use crate::view::View;
 use std::alloc::Allocator;
 use std::io::{Read, Write};
 use tf_bounding::instance_read::instance_read;
@@ -20,6 +16,9 @@ use tf_engine::request::Form;
 use tf_engine::schedule_said::schedule_said;
 use tf_engine::sheet_read::sheet_read;
 use tf_model::instance::Instance;
+use tf_picture::front::Heading;
+use tf_picture::picture::picture;
+use tf_picture::view::View;
 use tf_text::answer::sheet::Sheet;
 use tf_text::counted::Counted;
 
