@@ -1,11 +1,11 @@
 //! Picturing an answer with the dates of an instance, from bytes to bytes.
-ghost use Rattle.std.specs.Prelude.{◌≡◌, MatchResult};
+ghost use Rattle.std.specs.Prelude.{IsTrue, MatchResult, ◌↔◌};
 ghost use Rattle.tf_text.specs.Counted.{use_of};
 ghost use Rattle.tf_engine.specs.Drawing.{IsOfPieces};
 ghost use Rattle.tf_engine.specs.Faults.{stop_of};
 ghost use Rattle.tf_engine.specs.FormData.{form_of};
 ghost use Rattle.tf_engine.specs.Parts.{StopsBy};
-ghost use Rattle.tf_dated.specs.Dated.{IsDatedOver, IsDatedRunOf, IsDrawnSheet};
+ghost use Rattle.tf_dated.specs.Dated.{IsDatedOver, IsDatedRunOf, IsDrawnSheet, IsForJobs};
 
 use crate::dates::dates_of;
 use std::alloc::Allocator;
@@ -67,12 +67,19 @@ fn draw_beside<A: Allocator + Copy, B: Allocator, S: Read, W: Write>(
         (use_of W.contents writer.old writer.new) result }
 {
     let sheet = sheet_read(alloc, answer)?;
-    if sheet.jobs as usize != instance.len() {
+    if !is_for_jobs(instance, &sheet) {
         return Ok(Pictured::OtherTask);
     }
     let text = dated_text(alloc, view, instance, sheet)?;
     writer.push_all(text.as_slice())?;
     Ok(Pictured::Drawn)
+}
+
+// Whether the sheet is for as many jobs as the instance has.
+fn is_for_jobs<A: Allocator, B: Allocator>(instance: &Instance<A>, sheet: &Sheet<B>) -> bool
+    ensures { IsTrue result ↔ IsForJobs instance.now sheet.now }
+{
+    sheet.jobs as usize == instance.len()
 }
 
 // The picture of a sheet with the dates of this instance, or the first fault of its pieces.

@@ -1,5 +1,5 @@
 -- Texts that are written part by part.
-use Rattle.std.proofs.Common.{◌≡◌, List, [], ◌∷◌, ◌++◌, codes, ℕ, suc, ◌+◌, ◌-◌, ◌≤◌, sym, ap, ◌∙◌, append-nil, arith}
+use Rattle.std.proofs.Common.{◌≡◌, List, [], ◌∷◌, ◌++◌, codes, ℕ, suc, ◌+◌, ◌-◌, ◌/◌, ◌≤◌, sym, ap, ◌∙◌, append-nil, arith}
 use Rattle.std.specs.List.{flat_map, range_with_len}
 use Rattle.std.proofs.lemmas.Grind.{flat_map-append}
 use Rattle.std.proofs.lemmas.List.Concat.{flat_map-cons}
@@ -7,15 +7,16 @@ use Rattle.tf_model.proofs.Ranges.{range_push}
 use Rattle.tf_schedule.specs.declared.piece.Piece.{Piece}
 use Rattle.tf_schedule.specs.Piece.{as_time}
 use Rattle.tf_text.proofs.Written.{then}
-use Rattle.tf_picture.specs.Picture.{part, told, place, fill, edge, width, bar_text, sizes, titles}
+use Rattle.tf_picture.specs.Picture.{part, told, place, extent, fill, edge, width, bar_text, date_told, late_mark, mark_title, sizes, titles}
 use Rattle.tf_picture.specs.Picture.{axis, bar_group, front, hatching, label_group, link_group, marks, opening, rows, strip, title}
-use Rattle.tf_picture.specs.Strips.{height}
+use Rattle.tf_picture.specs.Strips.{bar_height, height}
 use Rattle.tf_picture.specs.declared.strips.Strips.{Strips}
 use Rattle.tf_picture.specs.declared.view.Size.{Size}
 use Rattle.tf_picture.specs.declared.bars.Bar.{Bar}
 use Rattle.tf_picture.specs.declared.dates.JobDates.{JobDates}
 use Rattle.tf_picture.specs.declared.frame.Frame.{Frame}
 use Rattle.tf_picture.specs.declared.front.Heading.{Heading}
+use Rattle.tf_picture.specs.declared.marks.DateKind.{DateKind}
 
 -- parts that are written one after the other
 pub three : (t0 t1 t2 t3 a b c : List ℕ)
@@ -120,6 +121,27 @@ bar_written f b t0 t1 t2 t3 t4 t5 t6 e1 e2 e3 e4 e5 e6 =
     then t0 t5 t6 _ _
     (then t0 t4 t5 _ _
     (then t0 t3 t4 _ _ (then t0 t2 t3 _ _ (then t0 t1 t2 _ _ e1 e2) e3) e4) e5) e6
+
+-- the strip at a bar that is late
+pub late_written : (f : Frame) (steps : ℕ) (p : Piece) (t0 t1 t2 t3 t4 t5 : List ℕ)
+    → t1 ≡ t0 ++ extent f p
+    → t2 ≡ t1 ++ part (codes "\" height=\"") (bar_height f.machines / 8)
+    → t3 ≡ t2 ++ part (codes "\"><title>job ") p.job
+    → t4 ≡ t3 ++ part (codes ", late by ") steps
+    → t5 ≡ t4 ++ codes "</title></rect>\n"
+    → t5 ≡ t0 ++ late_mark f steps p
+unfolding late_mark
+late_written f steps p t0 t1 t2 t3 t4 t5 e1 e2 e3 e4 e5 =
+    five t0 t1 t2 t3 t4 t5 _ _ _ _ _ e1 e2 e3 e4 e5
+
+-- what is told of the mark of a date
+pub title_written : (kind : DateKind) (time : ℕ) (p : Piece) (t0 t1 t2 t3 : List ℕ)
+    → t1 ≡ t0 ++ part (codes "\"><title>job ") p.job
+    → t2 ≡ t1 ++ date_told kind time
+    → t3 ≡ t2 ++ codes "</title></path>\n"
+    → t3 ≡ t0 ++ mark_title kind time p
+title_written kind time p t0 t1 t2 t3 e1 e2 e3 =
+    then t0 t2 t3 _ _ (then t0 t1 t2 _ _ e1 e2) e3
 
 -- a strip
 pub strip_written : (step : ℕ) (bars : List Bar) (resumed : List Piece) (dates : List JobDates)

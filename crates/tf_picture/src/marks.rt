@@ -41,7 +41,6 @@ pub fn push_marks<A: Allocator>(
     push_date_group(text, frame, dates, bars)
 }
 
-#[tactic(auto, using(crate::proofs::Texts::three))]
 fn push_late_group<A: Allocator>(
     text: &mut Vec<u8, A>,
     frame: &Frame,
@@ -92,7 +91,6 @@ fn push_late_if_shown<A: Allocator>(
 }
 
 // A strip along the upper edge of the bar of a piece that stops so many steps too late.
-#[tactic(auto, using(crate::proofs::Texts::five))]
 fn push_late<A: Allocator>(
     text: &mut Vec<u8, A>,
     frame: &Frame,
@@ -111,7 +109,6 @@ fn push_late<A: Allocator>(
     Ok(())
 }
 
-#[tactic(auto, using(crate::proofs::Texts::three))]
 fn push_date_group<A: Allocator>(
     text: &mut Vec<u8, A>,
     frame: &Frame,
