@@ -1,5 +1,5 @@
 -- How an answer stands to the task of a problem.
-use Rattle.std.specs.Prelude.{◌≡◌, ℕ, ℤ, ◌≤ℤ◌, List, length, Option, None, Some, IfSome, if◌then◌else◌}
+use Rattle.std.specs.Prelude.{◌≡◌, ℕ, ℤ, ◌≤ℤ◌, ◌⊎◌, List, length, Option, None, Some, IfSome, if◌then◌else◌}
 use Rattle.std.specs.List.{All}
 use Rattle.std.specs.List.Sorted.{IsPermutation}
 use Rattle.std.specs.Ordering.{int_eq}
@@ -90,10 +90,10 @@ pub record IsSameProblem (p q : Problem) : Type 0 where
   pub shop : HasSameShop p q
 
 -- a problem and sizes are those of the task
-pub record IsOfTask (k : ProblemData) (problem : Problem) (jobs machines : ℕ) : Type 0 where
-  pub problem : IsSameProblem problem k.problem
-  pub jobs : jobs ≡ length k.jobs
-  pub machines : machines ≡ k.machines
+pub record IsOfTask (k : ProblemData) (p : Problem) (n m : ℕ) : Type 0 where
+  pub problem : IsSameProblem p k.problem
+  pub jobs : n ≡ length k.jobs
+  pub machines : m ≡ k.machines
 
 -- the sheet is for the task: its problem is the task's, and so are its sizes
 abbrev pub IsForProblem : ProblemData → SheetData → Type 0
@@ -106,10 +106,10 @@ abbrev pub IsOfferFor : ProblemData → BoundSheetData → Type 0
 IsOfferFor k sheet = IsOfTask k sheet.problem sheet.jobs sheet.machines
 
 -- the number is the value of the certificate, and no timetable that fits costs less
-pub record HasValue (k : ProblemData) (sheet : BoundSheetData) (value : ℤ) : Type 0 where
+pub record HasValue (k : ProblemData) (sheet : BoundSheetData) (b : ℤ) : Type 0 where
   pub meant : IsOfferFor k sheet
-  pub value : IsValueBy k sheet.basis value
-  pub bound : IsLowerBound k value
+  pub value : IsValueBy k sheet.basis b
+  pub bound : IsLowerBound k b
 
 -- what the text of a bound comes to on the task
 abbrev pub IsOffer : ProblemData → BoundSheetData → Offered → Type 0
@@ -132,6 +132,14 @@ IsAtLeast value (Some found) = value ≤ℤ found.value
 abbrev pub Counts : {A : Type 0} → Option Offered → Option (Found A) → Type 0
 Counts (Some (Bounds value)) bound = IsAtLeast value bound
 Counts _ bound = Unit {0}
+
+-- the bound is the one that was found, or the certificate of an offered one
+abbrev pub IsUsed : {A : Type 0} → Option (Found A) → Offered → BoundCertificate A
+    → Option (Found A) → Type 0
+IsUsed found offered certificate bound =
+    (bound ≡ found)
+    ⊎ ((value : ℤ) × (offered ≡ Bounds value)
+    × (bound ≡ Some (record { value = value; certificate = certificate })))
 
 -- what is offered, judged, and the stronger of it and of what was found
 pub record IsWeighed {A : Type 0} (k : ProblemData) (offer : Option BoundSheetData) (w : Weighed A)

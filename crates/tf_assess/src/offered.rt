@@ -1,7 +1,7 @@
 //! A bound that a text offers, judged for the task of a problem.
 ghost use Rattle.std.specs.Prelude.{◌≡◌, ◌⊎◌, Some, IfOk, IfSome};
 ghost use Rattle.tf_search.specs.Strongest.{IsFound};
-ghost use Rattle.tf_assess.specs.Assessing.{IsOffer, IsAtLeast, IsWeighed};
+ghost use Rattle.tf_assess.specs.Assessing.{Counts, IsOffer, IsAtLeast, IsUsed, IsWeighed};
 
 use crate::assess::is_for;
 use crate::assessment::Offered;
@@ -66,6 +66,21 @@ fn stronger<A: Allocator>(
     }
 }
 
+// The bound that was found, or the certificate where what it offers is a stronger one.
+fn used<A: Allocator>(
+    found: Option<Found<A>>,
+    offered: &Offered,
+    certificate: BoundCertificate<A>,
+) -> Option<Found<A>>
+    ensures either { IsUsed found offered.now certificate result }
+    ensures counts { Counts (Some offered.now) result }
+{
+    match offered {
+        Offered::Bounds(value) => stronger(found, *value, certificate),
+        _ => found,
+    }
+}
+
 /// The bound that was found beside the one that is offered, if any is. Only want of memory is an
 /// error.
 pub(crate) fn weigh<A: Allocator + Copy, B: Allocator>(
@@ -84,10 +99,7 @@ pub(crate) fn weigh<A: Allocator + Copy, B: Allocator>(
         });
     };
     let offered = judge_offer(alloc, task, &sheet)?;
-    let bound = match offered {
-        Offered::Bounds(value) => stronger(found, value, sheet.certificate),
-        _ => found,
-    };
+    let bound = used(found, &offered, sheet.certificate);
     Ok(Weighed {
         offered: Some(offered),
         bound,

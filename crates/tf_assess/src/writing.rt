@@ -52,7 +52,7 @@ fn push_judged<A: Allocator, M: Allocator>(
     push_some(text, b"value", assessment.value())?;
     push_some(text, b"best", assessment.best())?;
     push_gap(text, assessment.value(), assessment.bound_value())?;
-    push_offered(text, assessment.offered)?;
+    push_offered(text, &assessment.offered)?;
     push_bound(text, &assessment.bound)?;
     Ok(())
 }
@@ -143,15 +143,17 @@ fn push_gap<A: Allocator>(
 // What an offered bound comes to, if one was offered.
 fn push_offered<A: Allocator>(
     text: &mut Vec<u8, A>,
-    offered: Option<Offered>,
+    offered: &Option<Offered>,
 ) -> Result<(), OutOfMemory>
     ensures { OnOk result
-        (text.new.items ≡ text.old.items ++ flat_map line_text (offered_lines offered)) }
+        (text.new.items ≡ text.old.items ++ flat_map line_text (offered_lines offered.now)) }
 {
     match offered {
         None => Ok(()),
-        Some(Offered::Bounds(value)) => push_number_line(text, b"offered", value),
-        Some(Offered::WrongValue(value)) => { push_number_line(text, b"offered WrongValue", value) }
+        Some(Offered::Bounds(value)) => push_number_line(text, b"offered", *value),
+        Some(Offered::WrongValue(value)) => {
+            push_number_line(text, b"offered WrongValue", *value)
+        }
         Some(Offered::OtherTask) => Ok(text.extend_from_slice(b"offered OtherTask\n")?),
         Some(Offered::Faulty(fault)) => {
             text.extend_from_slice(b"offered ")?;
@@ -165,12 +167,12 @@ fn push_offered<A: Allocator>(
 // Why a certificate bounds nothing, by its name and its arguments.
 fn push_certificate_fault<A: Allocator>(
     text: &mut Vec<u8, A>,
-    fault: BoundFault,
+    fault: &BoundFault,
 ) -> Result<(), OutOfMemory>
     ensures { OnOk result
-        (text.new.items ≡ text.old.items ++ join_with_byte 32 (certificate_fault_words fault)) }
+        (text.new.items ≡ text.old.items ++ join_with_byte 32 (certificate_fault_words fault.now)) }
 {
-    match fault {
+    match *fault {
         BoundFault::OtherKind => text.extend_from_slice(b"OtherKind")?,
         BoundFault::NoDenominator => text.extend_from_slice(b"NoDenominator")?,
         BoundFault::BadMachine(machine) => {

@@ -1,7 +1,8 @@
-use Rattle.std.proofs.Common.{rules, ◌≡◌, Some, SFits, w64, ap, sym, ◌∙◌}
+use Rattle.std.proofs.Common.{rules, ◌≡◌, ◌↔◌, IsTrue, Some, subst, SFits, w64, ap, sym, ◌∙◌}
 use Rattle.std.proofs.lemmas.Int.{to_z-of_z}
 use Rattle.tf_check.specs.Claim.{AnswerData}
-use Rattle.tf_assess.specs.Assessing.{HasProblemFit}
+use Rattle.tf_text.specs.AnswerText.{SheetData}
+use Rattle.tf_assess.specs.Assessing.{HasProblemFit, IsForProblem}
 use Rattle.tf_assess.proofs.Assessing.{standing_is}
 use Rattle.tf_assess.proofs.assess.assess.Goals as goal
 
@@ -11,16 +12,19 @@ returns g c =
     let pieces : c.args.sheet.answer.pieces ≡ c.into_vec.result.items =
     sym (c.into_vec.ensures
     ∙ ap (λ (a : AnswerData). a.pieces) (c.pieces.view_is ∙ c.into_answer.ensures)) in
+    let is_its : IsTrue c.is_for-is_its.result ↔ IsForProblem k c.args.sheet =
+    subst (λ (s : SheetData). IsTrue c.is_for-is_its.result ↔ IsForProblem k s) c.sheet.view_is
+    c.is_for-is_its.ensures in
     let fit : HasProblemFit k c.args.sheet c.in_ok-fit.fit =
-    c.in_ok-fit.ensures c.args.sheet pieces c.is_for-is_its.ensures in
+    c.in_ok-fit.ensures c.args.sheet pieces is_its in
     let fits : SFits w64 c.pieces.inside.value = search rules in
     record {
       fit = fit;
       claimed = ap Some (to_z-of_z w64 c.pieces.inside.value fits
           ∙ ap (λ (a : AnswerData). a.value) (c.pieces.view_is ∙ c.into_answer.ensures));
-      offered = c.in_ok-weigh.ensures.offered;
-      bound = c.in_ok-weigh.ensures.bound;
-      counts = c.in_ok-weigh.ensures.counts;
-      standing = standing_is k c.args.sheet c.in_ok-fit.fit c.in_ok-weigh.bound fit
-          c.in_ok-weigh.ensures.bound;
+      offered = c.in_ok-offered.ensures.offered;
+      bound = c.in_ok-offered.ensures.bound;
+      counts = c.in_ok-offered.ensures.counts;
+      standing = standing_is k c.args.sheet c.in_ok-fit.fit _ fit
+          c.in_ok-offered.ensures.bound;
     }
