@@ -83,11 +83,6 @@ pub verdict_none : (key : List ℕ) (row : List (List ℕ)) → bytes_eq key (co
     → bytes_eq key (codes "rejected:") ≡ false → verdict_members key row ≡ []
 verdict_none key row e1 e2 e3 e4 = rw (e1, e2, e3, e4) refl
 
-pub refused_answer : (row after : List (List ℕ)) → first_is (codes "answer") row ≡ true
-    → after ≡ drop 1 row
-    → (member (codes "text") (string (codes "answer")) ∷ []) ++ refusal after ≡ refused row
-refused_answer row after is after-is = rw (is, after-is) refl
-
 pub unfaulted : (text line : List ℕ) → line ≡ first_line text
     → first_is (codes "threefield:") (words line) ≡ false
     → explanation text ≡ fault_members text
