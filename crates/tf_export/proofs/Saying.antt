@@ -8,10 +8,10 @@ use Rattle.std.proofs.lemmas.Grind.{flat_map-append}
 use Rattle.tf_words.specs.Words.{words, lines, first_is}
 use Rattle.tf_words.proofs.Lines.{line_none}
 use Rattle.tf_export.specs.Csv.{csv_line}
-use Rattle.tf_export.specs.Json.{string, scalar, member, object}
+use Rattle.tf_export.specs.Json.{scalar, member, object}
 use Rattle.tf_export.specs.Members.{phrase, fields, rest_members, row_in, rows, verdict_members}
 use Rattle.tf_export.specs.Documents.{step_in}
-use Rattle.tf_export.specs.Faults.{explanation, fault, refusal, refused, first_line, behind_line, fault_members, fault_json}
+use Rattle.tf_export.specs.Faults.{explanation, fault, first_line, behind_line, fault_members, fault_json}
 
 -- a word by its name, and the others
 pub fields_next : (names more row others : List (List ℕ)) (rest name word : List ℕ)
