@@ -1,5 +1,5 @@
 -- A part of a run that reads the text of a bound.
-use Rattle.std.proofs.Common.{◌≡◌, ◌<◌, true, Err, IfSome, length}
+use Rattle.std.proofs.Common.{◌≡◌, ◌<◌, true, Err, IfSome, length, refl}
 use Rattle.std.proofs.lemmas.Bool.{lt-ltb}
 use Rattle.tf_model.specs.Limit.{most_bytes}
 use Rattle.tf_text.specs.Counted.{DeviceUse}

@@ -1,5 +1,5 @@
 -- What an offered certificate is worth.
-use Rattle.std.proofs.Common.{◌≡◌, ℤ, Option, Some, IfSome, inl, inr, sym, subst}
+use Rattle.std.proofs.Common.{◌≡◌, ℤ, Option, IfSome, inl, inr, sym, subst}
 use Rattle.tf_problem.specs.ProblemData.{ProblemData}
 use Rattle.tf_bound.specs.Certified.{IsBoundBy}
 use Rattle.tf_bound.specs.declared.certificate.BoundCertificate.{BoundCertificate}
@@ -8,7 +8,6 @@ use Rattle.tf_search.specs.declared.strongest.Found.{Found}
 use Rattle.tf_search.specs.Strongest.{IsFound}
 use Rattle.tf_bound_text.specs.BoundSheetData.{Basis, BoundSheetData, basis_of, IsValueBy}
 use Rattle.tf_assess.specs.declared.assessment.Offered.{Offered}
-use Rattle.tf_assess.specs.declared.assessment.Offered.TheVariants.{Bounds}
 use Rattle.tf_assess.specs.Assessing.{IsOffer, IsUsed}
 
 -- the value of a certificate is that of what it names

@@ -1,5 +1,4 @@
 use Rattle.std.proofs.Common.{Err, ap, ◌∙◌}
-use Rattle.tf_text.specs.Counted.{use_of}
 use Rattle.tf_text.specs.Input.{is_device}
 use Rattle.tf_assess.proofs.BoundRead.{unread_failing, unread_wanting, unread_too_long}
 use Rattle.tf_assess.proofs.bound_read.bound_read.Goals as goal

@@ -1,5 +1,4 @@
-use Rattle.std.proofs.Common.{◌≡◌, IfSome, Some, Option, ap, sym, subst}
-use Rattle.tf_search.specs.Strongest.{IsFound}
+use Rattle.std.proofs.Common.{◌≡◌, Some, Option, ap, sym, subst}
 use Rattle.tf_bound_text.specs.BoundSheetData.{BoundSheetData, basis_of}
 use Rattle.tf_assess.specs.Assessing.{HasOffered}
 use Rattle.tf_assess.proofs.Offering.{used_found}
