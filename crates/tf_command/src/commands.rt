@@ -201,22 +201,36 @@ fn assess_named<S: Sources, W: Write, E: Write>(
         (use_of W.contents console.old.writer console.new.writer)
         (λ explain. SaysLine E.contents explain console.old.errors console.new.errors) result }
 {
-    let explain = assessing.options.telling.explain;
     match open_both(console, sources, &assessing.options, assessing.answer) {
         Ok((mut instance, mut answer)) => {
-            match open(console, sources, assessing.bound, MOST_BESIDE, explain) {
-                Ok(mut bound) => {
-                    assess(
-                        console,
-                        &assessing.options,
-                        &mut instance,
-                        &mut answer,
-                        &mut bound,
-                    )
-                }
-                Err(status) => status,
-            }
+            assess_beside(console, sources, assessing, &mut instance, &mut answer)
         }
+        Err(status) => status,
+    }
+}
+
+/// Assesses an answer beside the bound of that name.
+fn assess_beside<S: Sources, R: Read, T: Read, W: Write, E: Write>(
+    console: &mut Console<W, E>,
+    sources: &S,
+    assessing: &Assessing<'_>,
+    instance: &mut Counted<Recorded<'_, R>>,
+    answer: &mut Counted<Recorded<'_, T>>,
+) -> u8
+    ensures { EndsOver (S.text_of sources.now) assessing.now.bound.now
+        (use_of W.contents console.old.writer console.new.writer)
+        (SaysLine E.contents assessing.now.options.telling.explain console.old.errors
+        console.new.errors) result
+        (λ bound. EndsAssessing Global (requested assessing.now.options Layout.Two)
+        (use_of (bytes_left R.remaining) instance.old instance.new)
+        (use_of (bytes_left T.remaining) answer.old answer.new) bound
+        (use_of W.contents console.old.writer console.new.writer)
+        (SaysLine E.contents assessing.now.options.telling.explain console.old.errors
+        console.new.errors) result) }
+{
+    let explain = assessing.options.telling.explain;
+    match open(console, sources, assessing.bound, MOST_BESIDE, explain) {
+        Ok(mut bound) => assess(console, &assessing.options, instance, answer, &mut bound),
         Err(status) => status,
     }
 }
