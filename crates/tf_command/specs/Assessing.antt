@@ -1,5 +1,5 @@
 -- How a command ends that assesses an answer beside the bound of a text.
-use Rattle.std.specs.Prelude.{◌≡◌, ◌⊎◌, ℕ, List, Some, Result, Ok}
+use Rattle.std.specs.Prelude.{◌≡◌, ◌⊎◌, ℕ, List, Option, Some, Result, Ok}
 use Rattle.std.specs.Io.KnownBytes.{Keeps}
 use Rattle.tf_text.specs.Counted.{DeviceUse}
 use Rattle.tf_text.specs.Input.{IsTextOf}
@@ -27,17 +27,22 @@ pub record EndsUnread (bound writer : DeviceUse) (says : List ℕ → Type 0) (s
     pub ends : status ≡ status_of_bound fault
     pub said : says (bound_fault_line fault)
 
--- it says a sheet, beside which the answer was assessed
+-- the answer was assessed beside what is offered
+pub record EndsAssessed (A : Type 0) (offer : Option BoundSheetData) (request : RequestData)
+    (instance answer writer : DeviceUse) (says : List ℕ → Type 0) (status : ℕ) : Type 0 where
+  pub run : Result Assessed (RunFault A)
+  pub outcome : IsAssessmentOf offer request instance answer writer run
+  pub ends : status ≡ status_of_evaluating (rated run)
+  pub said : says (line_of (rated run))
+
+-- the text of the bound says a sheet, beside which the answer was assessed
 pub record EndsBeside (A : Type 0) (request : RequestData) (instance answer bound writer : DeviceUse)
     (says : List ℕ → Type 0) (status : ℕ) : Type 0 where
   pub text : List ℕ
   pub is_all : IsTextOf bound.before text
   pub sheet : BoundSheetData
   pub offered : bound_in text ≡ Ok sheet
-  pub run : Result Assessed (RunFault A)
-  pub outcome : IsAssessmentOf (Some sheet) request instance answer writer run
-  pub ends : status ≡ status_of_evaluating (rated run)
-  pub said : says (line_of (rated run))
+  pub assessed : EndsAssessed A (Some sheet) request instance answer writer says status
 
 abbrev pub EndsAssessing : Type 0 → RequestData → DeviceUse → DeviceUse → DeviceUse → DeviceUse
     → (List ℕ → Type 0) → ℕ → Type 0

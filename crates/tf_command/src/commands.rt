@@ -3,7 +3,7 @@ ghost use Rattle.std.specs.declared.alloc.Global.{Global};
 ghost use Rattle.tf_options.specs.Asking.{requested};
 ghost use Rattle.tf_options.specs.Columns.{HasWidth, IsSized};
 ghost use Rattle.tf_command.specs.Ending.{EndsSolving, EndsBounding, EndsTracing, EndsChecking, EndsEvaluating, EndsRating, EndsDrawing, SaysLine, drawn_as};
-ghost use Rattle.tf_command.specs.Assessing.{EndsAssessing};
+ghost use Rattle.tf_command.specs.Assessing.{EndsAssessed, EndsAssessing};
 ghost use Rattle.tf_engine.specs.Drawing.{IsDrawingOf};
 ghost use Rattle.std.specs.Prelude.{◌≡◌, ◌⊎◌, None, Some, IfSome, IfOk, IfErr, false, true, codes};
 ghost use Rattle.std.specs.Option.{option_map};
@@ -26,6 +26,7 @@ use tf_assess::bound_read::bound_read;
 use tf_assess::offered::Aids;
 use tf_assess::run_assess::run_assess;
 use tf_assess::run_rate::{rated, run_rate};
+use tf_bound_text::sheet::BoundSheet;
 use tf_bounding::run_bound::run_bound;
 use tf_engine::fault::RunFault;
 use tf_engine::run_check::run_check;
@@ -588,17 +589,34 @@ fn assess<R: Read, S: Read, T: Read, W: Write, E: Write>(
         (SaysLine E.contents options.now.telling.explain console.old.errors console.new.errors)
         result }
 {
+    match bound_read(console.alloc, bound) {
+        Ok(sheet) => assess_offered(console, options, instance, answer, sheet),
+        Err(fault) => report_bound(&fault, &mut console.errors),
+    }
+}
+
+/// The same beside the bound that a text says.
+fn assess_offered<R: Read, S: Read, W: Write, E: Write>(
+    console: &mut Console<W, E>,
+    options: &Options<'_>,
+    instance: &mut Counted<Recorded<'_, R>>,
+    answer: &mut Counted<Recorded<'_, S>>,
+    sheet: BoundSheet<Global>,
+) -> u8
+    ensures { EndsAssessed Global (Some sheet) (requested options.now Layout.Two)
+        (use_of (bytes_left R.remaining) instance.old instance.new)
+        (use_of (bytes_left S.remaining) answer.old answer.new)
+        (use_of W.contents console.old.writer console.new.writer)
+        (SaysLine E.contents options.now.telling.explain console.old.errors console.new.errors)
+        result }
+{
     let alloc = console.alloc;
-    let offered = match bound_read(alloc, bound) {
-        Ok(sheet) => Some(sheet),
-        Err(fault) => return report_bound(&fault, &mut console.errors),
-    };
     let Ok(request) = options.request(alloc, Layout::Two) else {
         return say_memory(&mut console.errors);
     };
     let aids = Aids {
         steps: None,
-        offered,
+        offered: Some(sheet),
     };
     let writer = &mut console.writer;
     let run = rated(run_assess(alloc, &request, aids, instance, answer, writer));
