@@ -592,7 +592,8 @@ def first_answer(page):
 # ---- much ----
 
 def large(page):
-    """100,000 jobs: how long until the plan is there, how long the page stands still, and how much memory it takes."""
+    """100,000 jobs: how long until the plan is there, how long the page stands still, and how much memory it takes, after
+    one change and at most in forty."""
     numbers = random.Random(7)
     lines = [f"job {k} p={numbers.randint(1, 99)} d={numbers.randint(1, 5_000_000)} r={numbers.randint(0, 5_000_000)} "
              f"w={numbers.randint(1, 99)}" for k in range(1, 100_001)]
@@ -613,19 +614,38 @@ def large(page):
         again = time.monotonic() - begun
         page.run("new Promise((resolve) => setTimeout(resolve, 500))")
         print(f"    {problem}: opened and solved in {opened:.2f} s, again after a change in {again:.2f} s; the page "
-              f"stood still for {page.run('window.longest'):.0f} ms; {page.text('#engine')} {memory(page)}")
+              f"stood still for {page.run('window.longest'):.0f} ms; {page.text('#engine')}")
+        own, whole = memory(page)
+        most = max(after_change(page, k, numbers) for k in range(40))
+        print(f"        memory of the page's process: {own} MB of its own, {whole} MB with what is shared; of its own at most "
+              f"{most} MB in 40 changes")
+
+
+def after_change(page, k, numbers):
+    """The page's own memory after a change of another kind: of a time or a due date, back, with another zoom or order."""
+    page.run("document.querySelector('#engine').textContent = ''")
+    if k % 5 == 3:
+        page.click("#undo")
+    else:
+        page.type(page.cell(numbers.randint(1, 90), "due" if k % 5 == 4 else "time"), str(numbers.randint(1, 99)))
+    page.wait("document.querySelector('#engine').textContent", 120)
+    if k % 5 == 1:
+        page.run("document.querySelector('[data-zoom=in]').click()")
+    elif k % 5 == 2:
+        page.browser.choose("#sort", ["completion", "lateness", "name", "start"][k // 5 % 4])
+    page.run("new Promise((resolve) => setTimeout(resolve, 400))")
+    return memory(page)[0]
 
 
 def memory(page):
-    """The memory of the page's process, by the system: its own, and with what it shares with the browser's other processes."""
+    """The memory of the page's process in MB, by the system: its own, and with what it shares with other processes."""
     processes = page.browser.call("SystemInfo.getProcessInfo")["processInfo"]
     sizes = []
     for pid in [each["id"] for each in processes if each["type"] == "renderer"]:
         status = Path(f"/proc/{pid}/status").read_text()
         kinds = [re.search(rf"{kind}:\s+(\d+) kB", status) for kind in ("RssAnon", "VmRSS")]
         sizes.append([int(found.group(1)) // 1024 for found in kinds])
-    own, whole = max(sizes)
-    return f"Memory of the page's process: {own} MB of its own, {whole} MB with what is shared."
+    return max(sizes)
 
 
 # ---- the module in the browser and the native program ----

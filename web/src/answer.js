@@ -163,9 +163,3 @@ export function readBound(bytes) {
   }
   return found;
 }
-
-/** The buffers of a schedule or an evaluation, to be handed over between threads. */
-export function buffersOf(...parts) {
-  return parts.flatMap((part) => Object.values(part ?? {}))
-    .filter((value) => value instanceof Float64Array).map((value) => value.buffer);
-}

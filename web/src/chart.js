@@ -307,8 +307,8 @@ function drawMarks(group, plan, frame, row) {
     if (at.due !== null && isHere(at.due)) marks.push({ step: at.due, job, isDue: true });
     const isReleased = plan.usesRelease && at.hasRelease && isHere(at.release);
     if (isReleased) marks.push({ step: at.release, job, isDue: false });
+    if (marks.length * ROOM_FOR_MARK > frame.width) return;
   }
-  if (marks.length * ROOM_FOR_MARK > frame.width) return;
   marks.sort((a, b) => a.step - b.step).forEach((mark, k) => {
     const next = k + 1 < marks.length ? row.x(marks[k + 1].step) - 6 : frame.width;
     drawMark(group, plan, frame, row, mark, next);

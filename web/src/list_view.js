@@ -2,11 +2,15 @@
 
 import { latenessWords } from "./chart.js";
 import { lengthText, momentText } from "./calendar.js";
+import { release } from "./memory.js";
 import { Pager } from "./pager.js";
 import { lateness } from "./plan.js";
-import { html } from "./svg.js";
+import { html, setChildren } from "./svg.js";
 
 const MOST_PRINTED = 3000;
+// The columns of a line that are more than words.
+const NAME = 1;
+const LATENESS = 6;
 const alphabet = new Intl.Collator(undefined, { numeric: true });
 
 export class ListView {
@@ -18,6 +22,7 @@ export class ListView {
     this.pager = new Pager(document.getElementById("list-pager"), "Jobs", () => this.draw());
     this.onChoose = onChoose;
     this.plan = null;
+    this.lines = new Map();
     for (const input of [this.sort, this.lateOnly]) {
       input.addEventListener("change", () => this.arrange());
     }
@@ -47,9 +52,13 @@ export class ListView {
       name: (a, b) => alphabet.compare(plan.jobs[a].name, plan.jobs[b].name),
       row: () => 0,
     }[this.sort.value];
-    const all = Uint32Array.from(plan.jobs, (_, job) => job);
-    const shown = this.lateOnly.checked ? all.filter((job) => late(job) > 0) : all;
-    this.order = shown.sort((a, b) => by(a, b) || a - b);
+    if (this.order) release({ order: this.order });
+    const all = new Uint32Array(plan.jobs.length);
+    let count = 0;
+    plan.jobs.forEach((_, job) => {
+      if (!this.lateOnly.checked || late(job) > 0) all[count++] = job;
+    });
+    this.order = all.subarray(0, count).sort((a, b) => by(a, b) || a - b);
     this.draw();
   }
 
@@ -63,32 +72,50 @@ export class ListView {
     const heads = ["#", "Job", "Machine", "Start", "Completion",
       ...(hasDue ? ["Due", "Lateness"] : []), ...(hasCounts ? ["Cost"] : []),
       ...(this.comparison ? ["Against the kept plan"] : [])];
-    this.table.tHead.replaceChildren(html("tr", {},
-      heads.map((words) => html("th", { scope: "col" }, words))));
-    this.table.tBodies[0].replaceChildren(
-      ...Array.from(this.order.subarray(first, end), (job) => this.line(job, hasDue, hasCounts)));
+    if (heads.join() !== this.heads) {
+      this.heads = heads.join();
+      this.table.tHead.replaceChildren(html("tr", {},
+        heads.map((words) => html("th", { scope: "col" }, words))));
+    }
+    const before = this.lines;
+    this.lines = new Map();
+    for (const job of this.order.subarray(first, end)) {
+      const words = this.wordsOf(job, hasDue, hasCounts);
+      const known = before.get(job);
+      const isSame = known && known.words.join("\n") === words.join("\n");
+      this.lines.set(job, isSame ? known : { words, line: this.line(job, words, hasDue) });
+    }
+    setChildren(this.table.tBodies[0], [...this.lines.values()].map(({ line }) => line));
   }
 
-  line(job, hasDue, hasCounts) {
+  /** What stands in the cells of a job's line. */
+  wordsOf(job, hasDue, hasCounts) {
     const { plan } = this;
     const { calendar } = plan;
     const late = lateness(plan, job);
-    const cells = [
-      html("td", {}, String(plan.jobs[job].row + 1)),
-      html("th", { scope: "row" }, html("button", { type: "button", class: "link",
-        click: () => this.onChoose(job) }, plan.jobs[job].name)),
-      html("td", {}, this.machineWords(job)),
-      html("td", {}, momentText(calendar, plan.start[job], false)),
-      html("td", {}, momentText(calendar, plan.completion[job], true)),
-    ];
-    if (hasDue) {
-      const due = late === null ? "" : momentText(calendar, plan.jobs[job].due, true);
-      cells.push(html("td", {}, due), html("td", {}, late === null ? "" : html("span",
-        { class: late > 0 ? "late-words" : "" }, latenessWords(calendar, late))));
+    const words = [String(plan.jobs[job].row + 1), plan.jobs[job].name, this.machineWords(job),
+      momentText(calendar, plan.start[job], false),
+      momentText(calendar, plan.completion[job], true)];
+    if (hasDue && late === null) words.push("", "");
+    else if (hasDue) {
+      words.push(momentText(calendar, plan.jobs[job].due, true), latenessWords(calendar, late));
     }
-    if (hasCounts) cells.push(html("td", {}, plan.counts[job]));
-    if (this.comparison) cells.push(html("td", {}, this.movedWords(job)));
-    return html("tr", { class: late > 0 ? "is-late" : "" }, cells);
+    if (hasCounts) words.push(plan.counts[job]);
+    if (this.comparison) words.push(this.movedWords(job));
+    return words;
+  }
+
+  line(job, words, hasDue) {
+    const isLate = lateness(this.plan, job) > 0;
+    const cells = words.map((each, column) => {
+      if (column === NAME) {
+        return html("th", { scope: "row" }, html("button", { type: "button", class: "link",
+          click: () => this.onChoose(job) }, each));
+      }
+      const isMarked = hasDue && column === LATENESS && isLate;
+      return html("td", {}, isMarked ? html("span", { class: "late-words" }, each) : each);
+    });
+    return html("tr", { class: isLate ? "is-late" : "" }, cells);
   }
 
   /** The machines of a job, and in how many pieces it is where it is preempted. */

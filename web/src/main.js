@@ -6,6 +6,7 @@ import { EXAMPLE_TITLES, exampleState } from "./examples.js";
 import { Files } from "./files.js";
 import { ImportView } from "./import_view.js";
 import { JudgeView } from "./judge_view.js";
+import { hasShown, release } from "./memory.js";
 import { keepPlan, makePlan } from "./plan.js";
 import { PlanView, startOfText } from "./plan_view.js";
 import { PrecedenceView } from "./precedence_view.js";
@@ -31,6 +32,7 @@ class Page {
     this.version = 0;
     this.now = null;
     this.shown = null;
+    this.drawn = null;
     this.problemView = new ProblemView(this.store);
     this.calendarView = new CalendarView(this.store);
     this.rowsView = new RowsView(this.store);
@@ -119,7 +121,7 @@ class Page {
   async update() {
     const version = ++this.version;
     const { state } = this.store;
-    this.now = null;
+    this.forget();
     const calendar = this.calendarOf(state.settings);
     if (calendar === undefined) return this.wait("The calendar has to be corrected first.");
     const problem = readNotation(state.problem);
@@ -130,19 +132,26 @@ class Page {
       return version === this.version;
     });
     if (!table || version !== this.version) return undefined;
-    const instance = new TextEncoder().encode(table.text);
     const machines = readMachines(state, problem);
-    this.showTable(table, instance, machines);
+    this.showTable(table, machines);
     if (table.jobs.length === 0) return this.wait(WELCOME, true);
     if (table.faults.length > 0) return this.wait("Some rows have to be corrected first.");
     if (machines.fault) return this.wait("The number of machines has to be corrected first.");
     return this.solve(version, { table, calendar, problem: state.problem, request: {
-      problem: state.problem, machines: machines.count, format: { kind: "table" }, instance } });
+      problem: state.problem, machines: machines.count, format: { kind: "table" },
+      instance: table.bytes } });
   }
 
-  showTable(table, instance, machines) {
+  /** Forgets the request of before, and gives the memory of its job table back. */
+  forget() {
+    const instance = this.now?.request.instance;
+    this.now = null;
+    if (instance && !this.solving.needs(instance)) release({ instance });
+  }
+
+  showTable(table, machines) {
     this.rowsView.setFindings(table);
-    document.getElementById("table-text").textContent = startOfText(instance);
+    document.getElementById("table-text").textContent = startOfText(table.bytes);
     const faults = machines.fault ? [{ isFault: true, message: machines.fault }] : [];
     this.problemView.show(faults, table);
   }
@@ -163,8 +172,11 @@ class Page {
     if (!reply) return this.wait("Stopped. Any change solves again.");
     if (reply.status !== 0) return this.refused(version, reply);
     const plan = makePlan(now.table, reply.schedule, reply.evaluation, now.calendar);
+    const before = this.drawn;
     this.shown = { plan, evaluation: reply.evaluation, answer: reply.answer };
+    this.drawn = this.shown;
     this.showPlan();
+    if (before) release(before.plan, before.plan.schedule, before);
     document.getElementById("engine").textContent = `Solved and evaluated in `
       + `${Math.round(reply.milliseconds)} ms.`;
     return undefined;
@@ -186,6 +198,7 @@ class Page {
     this.showPrintHead();
     this.planView.setBusy(false);
     performance.mark("plan shown");
+    hasShown(plan.jobs.length);
   }
 
   // ---- refusals ----
@@ -258,7 +271,8 @@ class Page {
   }
 
   async picture(then) {
-    const reply = await this.solving.ask({ kind: "picture", answer: this.shown.answer });
+    const answer = this.shown.answer.slice();
+    const reply = await this.solving.ask({ kind: "picture", answer });
     if (reply?.status === 0) then(reply.output);
     else this.notify("The solver could not draw its picture.");
   }

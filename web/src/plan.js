@@ -1,5 +1,7 @@
 // A plan: the schedule that the module made, by job and by machine, with what the page adds to it.
 
+import { release } from "./memory.js";
+
 /** How many letters of colours the chart has; neighbours on a machine never share one. */
 export const COLOURS = 8;
 
@@ -74,6 +76,7 @@ function colourJobs({ job, machine }, order, count) {
     isColoured[own] = 1;
     next = (next + 1) % COLOURS;
   }
+  release(neighbours);
   return colour;
 }
 
@@ -108,15 +111,22 @@ export function lateness(plan, job) {
  */
 export function measures(plan) {
   const { jobs, completion } = plan;
-  const lates = jobs.map((_, job) => lateness(plan, job));
-  const dated = lates.filter((late) => late !== null);
+  const dated = { jobs: 0, tardy: 0, most: -Infinity, total: 0 };
+  jobs.forEach((_, job) => {
+    const late = lateness(plan, job);
+    if (late === null) return;
+    dated.jobs++;
+    dated.most = Math.max(dated.most, late);
+    if (late <= 0) return;
+    dated.tardy++;
+    dated.total += late;
+  });
   const found = [{ words: "Makespan", steps: plan.length }];
-  if (dated.length > 0) {
-    const tardy = dated.filter((late) => late > 0);
+  if (dated.jobs > 0) {
     found.push(
-      { words: "Late jobs", number: `${tardy.length} of ${dated.length}` },
-      { words: "Maximum lateness", steps: dated.reduce((a, b) => Math.max(a, b), -Infinity) },
-      { words: "Total tardiness", steps: tardy.reduce((sum, late) => sum + late, 0) },
+      { words: "Late jobs", number: `${dated.tardy} of ${dated.jobs}` },
+      { words: "Maximum lateness", steps: dated.most },
+      { words: "Total tardiness", steps: dated.total },
     );
   }
   const sum = completion.reduce((total, each) => total + each, 0);

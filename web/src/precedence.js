@@ -40,17 +40,19 @@ export function quoteName(name) {
 
 /** The jobs by their names; a name that several jobs have stands with all of them. */
 export class NameIndex {
-  /** @param {{name: string}[]} jobs in the order of the table */
-  constructor(jobs) {
+  /**
+   * @param {{name: string}[]} jobs in the order of the table
+   * @param {?NameIndex} before the index of an earlier table, of use where no name has changed
+   */
+  constructor(jobs, before = null) {
     this.jobs = jobs;
-    this.byName = new Map();
+    this.byName = before?.isOfNames(jobs) ? before.byName : placesByName(jobs);
     this.suggested = 0;
-    jobs.forEach((job, place) => {
-      const known = this.byName.get(job.name);
-      if (known === undefined) this.byName.set(job.name, place);
-      else if (typeof known === "number") this.byName.set(job.name, [known, place]);
-      else known.push(place);
-    });
+  }
+
+  isOfNames(jobs) {
+    return jobs.length === this.jobs.length
+      && jobs.every((job, place) => job.name === this.jobs[place].name);
   }
 
   has(name) {
@@ -100,6 +102,18 @@ export class NameIndex {
     }
     return best;
   }
+}
+
+/** For each name its place, or the places of all the jobs that have it. */
+function placesByName(jobs) {
+  const byName = new Map();
+  jobs.forEach((job, place) => {
+    const known = byName.get(job.name);
+    if (known === undefined) byName.set(job.name, place);
+    else if (typeof known === "number") byName.set(job.name, [known, place]);
+    else known.push(place);
+  });
+  return byName;
 }
 
 /** The least number of letters to change, add or take out, or `limit` where it is no less. */

@@ -32,10 +32,10 @@ export class RowsView {
 
   /** Shows these columns as used by the problem. */
   setUsed(used) {
-    const columns = this.columns().join();
+    const before = [this.columns().join(), [...this.used].join()];
     this.used = used;
-    if (this.columns().join() !== columns) this.draw();
-    else this.drawHead();
+    if (this.columns().join() !== before[0]) this.draw();
+    else if ([...used].join() !== before[1]) this.drawHead();
   }
 
   columns() {

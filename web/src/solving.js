@@ -46,6 +46,11 @@ export class Solving {
     });
   }
 
+  /** Whether a request that waits has these bytes. */
+  needs(instance) {
+    return [...this.waiting.values()].some(({ request }) => request.instance === instance);
+  }
+
   /** Whether the run under way is not worth waiting for: a search, or a long run of this kind. */
   isObsolete(request) {
     const { kind } = this.running.request;

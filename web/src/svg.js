@@ -22,6 +22,20 @@ function filled(element, attributes, children) {
   return element;
 }
 
+/** Gives an element these children; those that are in their place already are not touched. */
+export function setChildren(element, children) {
+  let next = element.firstElementChild;
+  for (const child of children) {
+    if (child === next) next = next.nextElementSibling;
+    else element.insertBefore(child, next);
+  }
+  while (next) {
+    const old = next;
+    next = next.nextElementSibling;
+    old.remove();
+  }
+}
+
 let canvas = null;
 
 /** The width of a text in pixels, in the font of the chart. */

@@ -16,6 +16,9 @@ const MOST_TOTAL = 9e15;
 const MOST_JOBS = 100000;
 const MOST_ARCS = 200000;
 const AT_ONCE = 20;
+const LINES_AT_ONCE = 500;
+// The letters of a line of the job table beside a job's fields are no more.
+const MOST_BESIDE = 16;
 const NONE = [];
 
 let lastId = 0;
@@ -57,6 +60,13 @@ export class RowReader {
     this.calendar = calendar;
     this.used = used;
     this.known = new WeakMap();
+    this.index = null;
+  }
+
+  /** The jobs of a table by their names. */
+  indexOf(jobs) {
+    this.index = new NameIndex(jobs, this.index);
+    return this.index;
   }
 
   /**
@@ -105,10 +115,11 @@ function readRow(row, place, number, { calendar, used }) {
   const start = release ?? (used.has("release") ? 0 : null);
   const weight = take("weight", readWeight);
   const cost = take("cost", readCost);
-  const fields = `p=${time}${time2 === null ? "" : `,${time2}`}`
-    + `${weight === null ? "" : ` w=${weight}`}${due === null ? "" : ` d=${due}`}`
-    + `${start === null ? "" : ` r=${start}`}${cost === null ? "" : ` h=${cost}`}`;
-  return { row: place, number, id: row.id, name: nameOf(row, number), fields,
+  const fields = [`p=${time}${time2 === null ? "" : `,${time2}`}`];
+  for (const [letter, value] of [["w", weight], ["d", due], ["r", start], ["h", cost]]) {
+    if (value !== null) fields.push(`${letter}=${value}`);
+  }
+  return { row: place, number, id: row.id, name: nameOf(row, number), fields: fields.join(" "),
     time: time + time2, due, release: start ?? 0, hasRelease: release !== null,
     weight, hasCost: cost !== null, ...findings };
 }
@@ -136,7 +147,8 @@ function readCost(_, text) {
  * @param {object[]} rows
  * @param {RowReader} reader
  * @param {() => Promise<boolean>} pause lets the page breathe; false means to give up
- * @returns {Promise<?object>} the jobs, the table's text, its arcs, faults and notes by row
+ * @returns {Promise<?object>} the jobs, the bytes of the table's text, its arcs, faults and notes
+ *   by row
  */
 export async function makeTable(rows, reader, pause) {
   const jobs = [];
@@ -153,14 +165,35 @@ export async function makeTable(rows, reader, pause) {
     for (const each of job.notes) findings.notes.push({ row: place, ...each });
     jobs.push(job);
   }
-  const index = new NameIndex(jobs);
+  const index = reader.indexOf(jobs);
   noteSameNames(index, findings);
   const found = reader.used.has("after") ? findings.faults : findings.notes;
   const arcs = readArcs(rows, jobs, index, found);
   judgeTotals(jobs, arcs, reader.calendar, findings);
-  const lines = jobs.map((job, place) => `job ${place + 1} ${job.fields}\n`);
-  lines.push(...arcs.map(([from, to]) => `prec ${from + 1} ${to + 1}\n`));
-  return { jobs, index, arcs, text: `table 1\n${lines.join("")}`, ...findings };
+  return { jobs, index, arcs, bytes: bytesOf(jobs, arcs), ...findings };
+}
+
+/** The bytes of a job table, some lines at a time, so that a long one takes little memory. */
+function bytesOf(jobs, arcs) {
+  const heading = "table 1\n";
+  const most = jobs.reduce((sum, job) => sum + job.fields.length + MOST_BESIDE,
+    heading.length + arcs.length * 2 * MOST_BESIDE);
+  const bytes = new Uint8Array(most);
+  const encoder = new TextEncoder();
+  let end = 0;
+  const write = (words) => {
+    end += encoder.encodeInto(words, bytes.subarray(end)).written;
+  };
+  const writeAll = (items, lineOf) => {
+    for (let from = 0; from < items.length; from += LINES_AT_ONCE) {
+      const some = items.slice(from, from + LINES_AT_ONCE);
+      write(some.map((item, k) => lineOf(item, from + k)).join(""));
+    }
+  };
+  write(heading);
+  writeAll(jobs, (job, place) => `job ${place + 1} ${job.fields}\n`);
+  writeAll(arcs, ([from, to]) => `prec ${from + 1} ${to + 1}\n`);
+  return bytes.subarray(0, end);
 }
 
 function noteSameNames(index, findings) {
@@ -215,7 +248,7 @@ export function placeOfLine(table, line) {
 
 /** The table's text with a comment for the name of each job, as it is saved. */
 export function namedText(table) {
-  const lines = table.text.split("\n");
+  const lines = new TextDecoder().decode(table.bytes).split("\n");
   const heading = lines.shift();
   const named = table.jobs.flatMap((job, place) => {
     const name = job.name.replace(/[\r\n\t]+/g, " ");

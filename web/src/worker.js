@@ -1,6 +1,7 @@
 // Runs the module beside the page, so that the page never waits for it.
 
-import { buffersOf, readAnswer, readBound, readEvaluation } from "./answer.js";
+import { readAnswer, readBound, readEvaluation } from "./answer.js";
+import { buffersOf } from "./memory.js";
 import { loadSolver } from "./solver.js";
 
 // Some plans of this many jobs, so soon after the start, let the browser compile well what large tables need.
@@ -84,5 +85,5 @@ onmessage = async ({ data }) => {
     reply = { status: 4, errors: `the module stopped: ${error}` };
   }
   reply.milliseconds = performance.now() - begun;
-  postMessage(reply, buffersOf(reply.schedule, reply.evaluation));
+  postMessage(reply, buffersOf(reply, reply.schedule, reply.evaluation));
 };
