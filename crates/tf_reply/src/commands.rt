@@ -195,10 +195,7 @@ pub fn problems<A: Allocator + Copy>(alloc: A, table: &[u8]) -> Result<Reply<A>,
 {
     let mut console = Console::new(alloc);
     if table.is_empty() {
-        return listed(
-            console,
-            &listing(alloc, None::<&Instance<Reserve>>)?,
-        );
+        return listed(console, &listing(alloc, None::<&Instance<Reserve>>)?);
     }
     let mut table = Counted::new(table);
     match table_in(alloc, &mut table) {
