@@ -3,7 +3,9 @@ ghost use Rattle.std.specs.Prelude.{◌≡◌, ◌≤◌, ◌++◌, min, not, fi
 ghost use Rattle.std.specs.Prelude.{IfOk, IsTrue, IsFalse};
 ghost use Rattle.tf_model.specs.ClassTable.{is_shop, is_flow};
 ghost use Rattle.tf_model.specs.SchedulingTask.{IsJob, all_jobs};
+ghost use Rattle.tf_model.specs.Sound.{IsSound};
 ghost use Rattle.tf_schedule.specs.Schedule.{IsSchedule};
+ghost use Rattle.tf_schedule.specs.SemiActive.{laid};
 ghost use Rattle.tf_check.specs.Accepted.{IsAccepted};
 ghost use Rattle.tf_multi.specs.TwoMachines.{time_at, routed};
 ghost use Rattle.tf_multi.specs.OpenShop.{is_early, goes_ahead, IsLeader, IsLed, is_in_group};
@@ -21,8 +23,9 @@ use tf_model::job_rows::JobRow;
 use tf_model::memory::OutOfMemory;
 use tf_model::task::Task;
 use tf_schedule::machine_order::by_machine;
+use tf_schedule::piece::Piece;
 use tf_schedule::piece_list::PieceList;
-use tf_schedule::semi_active::{Operation, semi_active};
+use tf_schedule::semi_active::{Operation, SemiActive};
 
 /// A shortest timetable of an open shop with two machines (Gonzalez and Sahni 1976).
 ///
@@ -45,9 +48,7 @@ pub fn open_two<A: Allocator + Copy, B: Allocator>(
     ensures rule { IfOk result (λ a. IsLed task.now a.pieces a.certificate) }
 {
     let leader = leader(task);
-    let operations = operations_led_by(alloc, task, leader)?;
-    let laid = semi_active(alloc, task.len(), 2, &operations)?;
-    drop(operations);
+    let laid = laid_by_leader(alloc, task, leader)?;
     let pieces = by_machine(alloc, &laid)?;
     drop(laid);
     let first = task.work_on(machine_of(true));
@@ -96,6 +97,25 @@ fn goes_ahead(job: JobRow, other: JobRow) -> bool
         return job.first <= job.second && other.first > other.second;
     }
     lesser > other_lesser
+}
+
+// The pieces of all jobs, in the order in which they are laid.
+fn laid_by_leader<A: Allocator + Copy, B: Allocator>(
+    alloc: A,
+    task: &Task<B>,
+    leader: JobId,
+) -> Result<Vec<Piece, A>, OutOfMemory>
+    requires shop { IsTrue (is_shop task.now.class) }
+    requires any_order { IsFalse (is_flow task.now.class) }
+    requires leader { IsLeader task.now leader }
+    ensures laid { IfOk result (λ pieces.
+        pieces.items ≡ laid (operations_led_by task.now leader)) }
+    ensures sound { IfOk result (λ _. IsSound task.now) }
+{
+    let mut timetable = SemiActive::new(alloc, 2 * task.len(), task.len(), 2)?;
+    let operations = operations_led_by(alloc, task, leader)?;
+    timetable.lay_all(&operations)?;
+    Ok(timetable.into_pieces())
 }
 
 // The operations of all jobs, in the order in which they are laid.

@@ -1,9 +1,4 @@
 //! Semi-active schedules.
-ghost use Rattle.std.specs.Prelude.{◌≡◌, ℕ, ◌+◌, ◌<◌, ◌≤◌, length, max, IfOk};
-ghost use Rattle.std.specs.List.{All, sum_by};
-ghost use Rattle.tf_model.specs.Limit.{limit};
-ghost use Rattle.tf_schedule.specs.SemiActive.{laid, IsOperation};
-
 use crate::piece::Piece;
 use std::alloc::{Allocator, Global};
 use std::marker::Model;
@@ -52,6 +47,7 @@ impl<A: Allocator> Model for SemiActive<A> {
 
 impl<A: Allocator + Copy> SemiActive<A> {
     ghost use Rattle.std.specs.Prelude.{◌≡◌, [], ◌+◌, ◌≤◌, IfOk};
+    ghost use Rattle.std.specs.List.{All, fold, sum_by};
     ghost use Rattle.tf_model.specs.Limit.{limit};
     ghost use Rattle.tf_schedule.specs.Drawing.{greatest_stop};
     ghost use Rattle.tf_schedule.specs.SemiActive.{with_operation, IsOperation};
@@ -73,6 +69,7 @@ impl<A: Allocator + Copy> SemiActive<A> {
     }
 
     /// Lays one more operation behind those that are there. Only want of memory is an error.
+    #[inline(always)]
     pub fn lay(&mut self, operation: Operation) -> Result<(), OutOfMemory>
         requires known { IsOperation self.old.jobs self.old.machines operation }
         requires within { greatest_stop self.old.pieces + operation.time ≤ limit }
@@ -95,28 +92,27 @@ impl<A: Allocator + Copy> SemiActive<A> {
         Ok(())
     }
 
+    /// Lays operations behind those that are there, one after another. Only want of memory is an
+    /// error.
+    pub fn lay_all(&mut self, operations: &[Operation]) -> Result<(), OutOfMemory>
+        requires known { All (IsOperation self.old.jobs self.old.machines) operations.now }
+        requires within { greatest_stop self.old.pieces
+            + sum_by (λ o. o.time) operations.now ≤ limit }
+        ensures pieces { IfOk result (λ _.
+            self.new.pieces ≡ fold with_operation self.old.pieces operations.now) }
+        ensures jobs { self.new.jobs ≡ self.old.jobs }
+        ensures machines { self.new.machines ≡ self.old.machines }
+    {
+        for operation in operations {
+            self.lay(*operation)?;
+        }
+        Ok(())
+    }
+
     /// The pieces, in the order in which they were laid.
     pub fn into_pieces(self) -> Vec<Piece, A>
         ensures { result.items ≡ self.pieces }
     {
         self.pieces
     }
-}
-
-/// The pieces of these operations in their order. Only want of memory is an error.
-pub fn semi_active<A: Allocator + Copy>(
-    alloc: A,
-    jobs: usize,
-    machines: usize,
-    operations: &[Operation],
-) -> Result<Vec<Piece, A>, OutOfMemory>
-    requires known { All (IsOperation jobs machines) operations.now }
-    requires total { sum_by (λ o. o.time) operations.now ≤ limit }
-    ensures { IfOk result (λ pieces. pieces.items ≡ laid operations.now) }
-{
-    let mut timetable = SemiActive::new(alloc, operations.len(), jobs, machines)?;
-    for operation in operations {
-        timetable.lay(*operation)?;
-    }
-    Ok(timetable.into_pieces())
 }

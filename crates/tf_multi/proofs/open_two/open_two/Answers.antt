@@ -6,32 +6,16 @@ use Rattle.tf_check.specs.Certificate.{claim_of}
 use Rattle.tf_check.proofs.Given.{open_takes_machine, open_takes_one_job, machine_given, one_job_given}
 use Rattle.tf_multi.specs.OpenShop.{machine_time, open_claim}
 use Rattle.tf_multi.proofs.Numbers.{cast_value}
-use Rattle.tf_multi.proofs.OpenShop.{first_claim, second_claim, job_claim, led_operations, led_total, led_schedule, led_accepted}
+use Rattle.tf_multi.proofs.OpenShop.{first_claim, second_claim, job_claim, led_schedule, led_accepted}
 use Rattle.tf_multi.proofs.open_two.open_two.Goals as goal
 use Rattle.tf_multi.proofs.open_two.open_two.Goals.{then-first-value, else-first-value+then-second-value, else-first-value+else-second-value}
-
-pub semi_active-requires-clause-known : goal.semi_active-requires-clause-known
-semi_active-requires-clause-known g c =
-    rw (c.deref.ensures.value, c.in_ok-operations.ensures, c.len.ensures.value)
-    (led_operations _ c.len.ensures.sound c.requires.shop c.requires.any_order _
-    c.leader-leader.ensures)
-
-pub semi_active-requires-clause-total : goal.semi_active-requires-clause-total
-semi_active-requires-clause-total g c =
-    rw (c.deref.ensures.value, c.in_ok-operations.ensures)
-    (led_total _ c.len.ensures.sound c.requires.shop c.requires.any_order _ c.leader-leader.ensures)
 
 pub returns-clause-schedule : goal.returns-clause-schedule
 returns-clause-schedule g c =
     rw c.new.ensures
-    (led_schedule _ c.len.ensures.sound c.requires.shop c.requires.any_order _
+    (led_schedule _ c.in_ok-laid.ensures.sound c.requires.shop c.requires.any_order _
     c.leader-leader.ensures _
-    (rw (
-      c.deref-2.ensures.value,
-      c.in_ok-laid.ensures,
-      c.deref.ensures.value,
-      c.in_ok-operations.ensures,
-    ) at c.in_ok-pieces.ensures.kept) c.in_ok-pieces.ensures.in_order)
+    (rw (c.deref.ensures.value, c.in_ok-laid.ensures.laid) at c.in_ok-pieces.ensures.kept) c.in_ok-pieces.ensures.in_order)
 
 pub returns-clause-accepted : goal.returns-clause-accepted
 returns-clause-accepted g c =
@@ -70,14 +54,9 @@ returns-clause-accepted g c =
           (omega (arith, value, first, second, w.if-first-value.false, w.if-second-value.false)))
     ] in
     rw (c.new.ensures, cast_value v within)
-    (led_accepted task c.len.ensures.sound c.requires.shop c.requires.any_order _
+    (led_accepted task c.in_ok-laid.ensures.sound c.requires.shop c.requires.any_order _
     c.leader-leader.ensures _
-    (rw (
-      c.deref-2.ensures.value,
-      c.in_ok-laid.ensures,
-      c.deref.ensures.value,
-      c.in_ok-operations.ensures,
-    ) at c.in_ok-pieces.ensures.kept) l v
+    (rw (c.deref.ensures.value, c.in_ok-laid.ensures.laid) at c.in_ok-pieces.ensures.kept) l v
     (λ j job. c.first_longest-longest.ensures.longest j job) value _ bounded)
 
 pub returns-clause-rule : goal.returns-clause-rule
@@ -107,12 +86,7 @@ returns-clause-rule g c =
       leader = c.leader-leader.result;
       leads = c.leader-leader.ensures;
       are = rw (c.new.ensures)
-          (rw (
-            c.deref-2.ensures.value,
-            c.in_ok-laid.ensures,
-            c.deref.ensures.value,
-            c.in_ok-operations.ensures,
-          ) at c.in_ok-pieces.ensures.kept);
+          (rw (c.deref.ensures.value, c.in_ok-laid.ensures.laid) at c.in_ok-pieces.ensures.kept);
       longest = l;
       is_longest = c.first_longest-longest.ensures;
       certificate = claim ∙ ap (open_claim task l) value;

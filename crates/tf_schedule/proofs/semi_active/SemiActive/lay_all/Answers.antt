@@ -1,8 +1,8 @@
-use Rattle.std.proofs.Common.{[], ap, arith}
+use Rattle.std.proofs.Common.{ap, arith}
 use Rattle.tf_schedule.specs.Drawing.{greatest_stop}
 use Rattle.tf_schedule.specs.declared.semi_active.Operation.{Operation}
 use Rattle.tf_schedule.proofs.Laying.{fold_within}
-use Rattle.tf_schedule.proofs.semi_active.semi_active.Goals as goal
+use Rattle.tf_schedule.proofs.semi_active.SemiActive.lay_all.Goals as goal
 
 pub lay-requires-clause-within : goal.lay-requires-clause-within
 lay-requires-clause-within g c =
@@ -11,8 +11,9 @@ lay-requires-clause-within g c =
     let time = ap (λ (o : Operation). o.time) c.operation-item.is in
     omega (
       arith,
-      fold_within os [] c.loop-operation.operation-index item c.loop-operation-test.true,
+      fold_within os c.args.self.now.pieces c.loop-operation.operation-index item
+          c.loop-operation-test.true,
       ap greatest_stop c.loop-operation.invariant.pieces,
       time,
-      c.requires.total,
+      c.requires.within,
     )
