@@ -166,6 +166,7 @@ impl<A: Allocator> JobRows<A> {
     }
 
     /// What is known of the job at this place.
+    #[inline(always)]
     pub(crate) fn row(&self, place: usize) -> JobRow
         requires { place < length (rows_of self.now) }
         ensures { (d : JobData) → slice_index_or (rows_of self.now) place d ≡ result }

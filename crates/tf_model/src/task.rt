@@ -122,6 +122,7 @@ impl<A: Allocator> Task<A> {
     }
 
     /// What is known of a job that is there.
+    #[inline(always)]
     pub fn job(&self, job: JobId) -> JobRow
         requires { IsJob self.now job }
         ensures value { result ≡ job_data self.now job }

@@ -35,6 +35,7 @@ impl CostedJob {
 
     /// What it costs if it completes at `end`. Its cost function is asked only where its level is
     /// of later times.
+    #[inline(always)]
     pub(crate) fn cost_at<B: Allocator, C: Cost>(
         &mut self,
         task: &Task<B>,
