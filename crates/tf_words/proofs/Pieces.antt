@@ -29,13 +29,6 @@ pub both_parts : (fed piece : List ℕ) (k n : ℕ)
 both_parts fed piece k n =
     append_assoc fed _ _ ∙ ap (λ (bs : List ℕ). fed ++ bs) (sym (take-add k n piece))
 
--- and where the first part ends in one byte more
-pub byte_and_part : (fed piece : List ℕ) (k n : ℕ)
-    → (fed ++ take (k + 1) piece) ++ take n (drop (k + 1) piece) ≡ fed ++ take (k + (1 + n)) piece
-byte_and_part fed piece k n =
-    both_parts fed piece (k + 1) n
-    ∙ ap (λ (m : ℕ). fed ++ take m piece) (let e : k + 1 + n ≡ k + (1 + n) = omega arith in e)
-
 -- nothing is left of what has no length
 pub none_left : (piece : List ℕ) → length piece ≡ 0 → piece ≡ []
 none_left [] h = refl

@@ -6,15 +6,13 @@ use Rattle.std.specs.Str.Parse.{digits_value}
 use Rattle.std.proofs.lemmas.Bool.{cases_Bool, lt-ltb, eqb-true}
 use Rattle.std.proofs.lemmas.Int.{ints}
 use Rattle.std.proofs.lemmas.List.{append-nil}
-use Rattle.std.proofs.lemmas.List.Folds.{list_all-append}
 use Rattle.tf_words.specs.Words.{Word, is_white, lines, words_from}
-use Rattle.tf_words.specs.Digits.{signed, cut, more_by, written, numeral}
+use Rattle.tf_words.specs.Digits.{signed, cut, written, numeral}
 use Rattle.tf_words.specs.Ranged.{judged, placed}
 use Rattle.tf_words.specs.Number.{number, limit, within_limit}
-use Rattle.tf_words.specs.SoFar.{next, so_far, behind_sign}
+use Rattle.tf_words.specs.SoFar.{so_far, behind_sign}
 use Rattle.tf_words.specs.declared.so_far.SoFar.{SoFar}
 use Rattle.tf_words.specs.declared.so_far.SoFar.TheVariants.{Empty, Digits, Bad}
-use Rattle.tf_words.proofs.Grows.{step}
 use Rattle.tf_words.proofs.Saturated.{saturated}
 use Rattle.tf_words.proofs.Stream.{gap_byte, line_feed, word_ends, word_last, nothing_left}
 use Rattle.tf_words.specs.Scan.{number_shown, line_after, IsAt, IsOf}
@@ -84,40 +82,6 @@ at_front first =
       early = omega arith;
       goes_on = λ more. refl;
     }
-
--- a digit is no white byte
-digit_is_black : (b : ℕ) → is_ascii_digit b ≡ true → is_white b ≡ false
-digit_is_black b digit = grind (arith)
-
--- a byte of a word
-pub word_byte : (first : ℕ) (fed : List ℕ) (seen : List Word) (line : ℕ) (shown next : SoFar)
-    (b : ℕ)
-    → is_white b ≡ false → ((word : List ℕ) → shown ≡ so_far word → next ≡ so_far (word ++ b ∷ []))
-    → IsAt first fed seen line shown → IsAt first (fed ++ b ∷ []) seen line next
-word_byte first fed seen line shown next b black push at = record {
-  bytes = at.bytes ++ b ∷ [];
-  shown_by = push at.bytes at.shown_by;
-  one_word = list_all-append (λ c. not (is_white c)) at.bytes (b ∷ [])
-      ∙ rw (at.one_word, black) refl;
-  early = omega (arith, at.early, length-append fed (b ∷ []));
-  goes_on = λ more. ap (λ text. words_from first (lines text)) (append_assoc fed (b ∷ []) more)
-      ∙ at.goes_on (b ∷ more)
-      ∙ ap (λ text. seen ++ words_from line (lines text))
-      (sym (append_assoc at.bytes (b ∷ []) more));
-}
-
--- a digit more of a number
-pub digit_more : (first : ℕ) (fed : List ℕ) (seen : List Word) (line : ℕ) (negative : Bool)
-    (size more b : ℕ)
-    → is_ascii_digit b ≡ true → more ≡ cut (more_by size b)
-    → IsAt first fed seen line (Digits negative size)
-    → IsAt first (fed ++ b ∷ []) seen line (Digits negative more)
-digit_more first fed seen line negative size more b digit is at =
-    word_byte first fed seen line (Digits negative size) (Digits negative more) b
-    (digit_is_black b digit)
-    (λ word shown.
-    (let e : Digits negative more ≡ next (Digits negative size) b = rw (is, digit) refl in e)
-    ∙ ap (λ s. next s b) shown ∙ step word b) at
 
 -- a white byte between words
 gap : (line b : ℕ) (more : List ℕ) → is_white b ≡ true

@@ -3,7 +3,6 @@ ghost use Rattle.std.specs.Prelude.{◌≡◌, ℕ, ◌+◌, ◌^◌, ◌<◌, �
 ghost use Rattle.tf_words.specs.Words.{Word, lines, words_from};
 ghost use Rattle.tf_words.specs.Scan.{number_shown, line_after, AreBlanks, IsAt, IsOf, IsInRange};
 
-use crate::digits::with_digit;
 use crate::first_line::digits_first;
 use crate::number::{Number, number_sized};
 use crate::so_far::SoFar;
@@ -98,28 +97,6 @@ impl Scan {
         }
     }
 
-    /// With the digits with which a piece begins, where a number has begun: how many these are.
-    fn digits(&mut self, piece: &[u8]) -> usize
-        ensures within { result ≤ length piece.now }
-        ensures line { self.new.line ≡ self.old.line }
-        ensures fed { (first : ℕ) (fed : List ℕ) (seen : List Word) →
-            IsAt first fed seen self.old.line self.old.shown →
-            IsAt first (fed ++ take result piece.now) seen self.new.line self.new.shown }
-    {
-        let SoFar::Digits(negative, mut size) = self.shown else {
-            return 0;
-        };
-        for k in 0..piece.len() {
-            if !piece[k].is_ascii_digit() {
-                self.shown = SoFar::Digits(negative, size);
-                return k;
-            }
-            size = with_digit(size, piece[k]);
-        }
-        self.shown = SoFar::Digits(negative, size);
-        piece.len()
-    }
-
     /// With the number with which a piece begins, maybe behind blanks, and the white byte that ends
     /// it: the line, the number, and what follows. None where a word has begun before, and where
     /// the piece begins otherwise.
@@ -170,13 +147,9 @@ impl Scan {
             self.new.shown) }
     {
         let mut scan = *self;
-        let mut k = 0;
-        while k < piece.len() {
+        for k in 0..piece.len() {
             match scan.push(piece[k]) {
-                None => {
-                    let (_, rest) = piece.split_at(k + 1);
-                    k += 1 + scan.digits(rest);
-                }
+                None => {}
                 Some(word) => {
                     *self = scan;
                     return (k + 1, Some(word));
@@ -184,6 +157,6 @@ impl Scan {
             }
         }
         *self = scan;
-        (k, None)
+        (piece.len(), None)
     }
 }

@@ -1,28 +1,15 @@
-use Rattle.std.proofs.Common.{ℕ, List, ◌+◌, ◌++◌, ◌∷◌, [], take, ap, ◌∙◌, subst, arith}
+use Rattle.std.proofs.Common.{ℕ, List, ◌++◌, ◌∷◌, [], take, subst, arith}
 use Rattle.tf_words.specs.Scan.{IsAt}
-use Rattle.tf_words.proofs.Pieces.{byte_more, byte_and_part}
+use Rattle.tf_words.proofs.Pieces.{byte_more}
 use Rattle.tf_words.proofs.scan.Scan.advance.Goals as goal
 
 pub loop-k-preserved : goal.loop-k-preserved
 loop-k-preserved c = record {
   fed = λ first fed seen at.
-      let next : IsAt first (fed ++ take (c.loop-k.k + 1) c.args.piece.now) seen
-      c.push.new.self.line c.push.new.self.shown =
       subst (λ (bs : List ℕ). IsAt first bs seen c.push.new.self.line c.push.new.self.shown)
       (byte_more fed c.args.piece.now c.loop-k.k c.loop-k-test.true)
-      (c.in-None.ensures.fed first _ seen (c.loop-k.invariant.fed first fed seen at)) in
-      subst (λ (bs : List ℕ). IsAt first bs seen c.digits.new.self.line c.digits.new.self.shown)
-      (ap (λ (bs : List ℕ). (fed ++ take (c.loop-k.k + 1) c.args.piece.now)
-      ++ take c.digits.result bs) c.split_at.ensures.back
-      ∙ byte_and_part fed c.args.piece.now c.loop-k.k c.digits.result)
-      (c.digits.ensures.fed first _ seen next);
-  line = omega (
-    arith,
-    c.loop-k.invariant.line,
-    c.in-None.ensures.later,
-    c.digits.ensures.line,
-  );
-  within = omega (arith, c.loop-k-test.true, c.digits.ensures.within, c.split_at.ensures.back_len);
+      (c.in-None.ensures.fed first _ seen (c.loop-k.invariant.fed first fed seen at));
+  line = omega (arith, c.loop-k.invariant.line, c.in-None.ensures.later);
 }
 
 pub returns-in-Some-clause-fed : goal.returns-in-Some-clause-fed

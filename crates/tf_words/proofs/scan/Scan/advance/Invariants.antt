@@ -1,4 +1,4 @@
-use Rattle.std.proofs.Common.{ℕ, List, ◌+◌, ◌-◌, ◌≤◌, ◌++◌, length, take}
+use Rattle.std.proofs.Common.{ℕ, List, ◌+◌, ◌≤◌, ◌++◌, take}
 use Rattle.tf_words.specs.Words.{Word}
 use Rattle.tf_words.specs.Scan.{IsAt}
 use Rattle.tf_words.proofs.scan.Scan.advance.Given as goal
@@ -10,8 +10,4 @@ invariant-loop-k l = record {
       → IsAt first fed seen l.fn.self.line l.fn.self.shown
       → IsAt first (fed ++ take l.k l.piece) seen l.scan.line l.scan.shown;
   line : l.scan.line ≤ l.fn.self.line + l.k;
-  within : l.k ≤ length l.piece;
 }
-
-abbrev pub decreases-loop-k : goal.decreases-loop-k
-decreases-loop-k l = length l.piece - l.k
