@@ -24,7 +24,7 @@ _threefield() {
     bound) COMPREPLY=($(compgen -W "$instance --steps --json" -- "$word")) ;;
     trace) COMPREPLY=($(compgen -W "$instance --tex" -- "$word")) ;;
     check) COMPREPLY=($(compgen -W "$instance --json" -- "$word")) ;;
-    evaluate) COMPREPLY=($(compgen -W "$instance --certificate --bound --order --orders --schedule --json --csv" -- "$word")) ;;
+    evaluate) COMPREPLY=($(compgen -W "$instance --certificate --bound --steps --order --orders --schedule --json --csv" -- "$word")) ;;
     gantt) COMPREPLY=($(compgen -W "--columns --svg --fold --from --to --width --height --size --input --format --jobs --index --name --pair --explain --help" -- "$word")) ;;
     random) COMPREPLY=($(compgen -W "--problem --jobs --machines --seed --help" -- "$word")) ;;
     problems) COMPREPLY=($(compgen -W "--json --help" -- "$word")) ;;

@@ -16,26 +16,34 @@ use tf_model::class::class_of;
 use tf_notation::reading::read;
 use tf_text::counted::Counted;
 
+/// How an answer is evaluated.
+#[derive(Clone, Copy, Debug)]
+pub struct EvaluationOptions {
+    /// How much is told of the certificate of an answer to a problem of a class.
+    pub detail: Detail,
+    /// The steps of the search for prices for another problem; as many as usual where there is none.
+    pub steps: Option<u32>,
+}
+
 /// Evaluates an answer to a problem of a class as [`run_evaluate`] does, and assesses one to another
-/// problem as [`run_assess`] does, of which the detail is not looked at. The search for prices takes
-/// the usual number of steps.
+/// problem as [`run_assess`] does. The former takes no steps, and the latter looks at no detail.
 pub fn run_rate<A: Allocator + Copy, B: Allocator, R: Read, S: Read, W: Write>(
     alloc: A,
     request: &Request<B>,
-    detail: Detail,
+    options: EvaluationOptions,
     instance: &mut Counted<R>,
     answer: &mut Counted<S>,
     writer: &mut Counted<W>,
 ) -> Result<Standing, RunFault<A>>
-    ensures { IsRatingOf detail request.now (use_of R.remaining instance.old instance.new)
+    ensures { IsRatingOf options.detail request.now (use_of R.remaining instance.old instance.new)
         (use_of S.remaining answer.old answer.new) (use_of W.contents writer.old writer.new)
         result }
 {
     if is_solved(request.problem.as_str()) {
-        return run_evaluate(alloc, request, detail, instance, answer, writer);
+        return run_evaluate(alloc, request, options.detail, instance, answer, writer);
     }
     let aids = Aids {
-        steps: None,
+        steps: options.steps,
         offered: None,
     };
     rated(run_assess(alloc, request, aids, instance, answer, writer))

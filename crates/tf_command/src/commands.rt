@@ -25,7 +25,7 @@ use std::io::{Read, Write};
 use tf_assess::bound_read::bound_read;
 use tf_assess::offered::Aids;
 use tf_assess::run_assess::run_assess;
-use tf_assess::run_rate::{rated, run_rate};
+use tf_assess::run_rate::{EvaluationOptions, rated, run_rate};
 use tf_bound_text::sheet::BoundSheet;
 use tf_bounding::run_bound::run_bound;
 use tf_engine::fault::RunFault;
@@ -231,7 +231,7 @@ fn assess_beside<S: Sources, R: Read, T: Read, W: Write, E: Write>(
 {
     let explain = assessing.options.telling.explain;
     match open(console, sources, assessing.bound, MOST_BESIDE, explain) {
-        Ok(mut bound) => assess(console, &assessing.options, instance, answer, &mut bound),
+        Ok(mut bound) => assess(console, assessing, instance, answer, &mut bound),
         Err(status) => status,
     }
 }
@@ -551,11 +551,14 @@ fn evaluate<R: Read, S: Read, W: Write, E: Write>(
     let Ok(request) = evaluating.options.request(alloc, Layout::Two) else {
         return say_memory(&mut console.errors);
     };
-    let detail = evaluating.detail;
+    let options = EvaluationOptions {
+        detail: evaluating.detail,
+        steps: evaluating.steps,
+    };
     let run = run_rate(
         alloc,
         &request,
-        detail,
+        options,
         instance,
         answer,
         &mut console.writer,
@@ -576,21 +579,21 @@ fn evaluate<R: Read, S: Read, W: Write, E: Write>(
 /// text of the bound is read first.
 fn assess<R: Read, S: Read, T: Read, W: Write, E: Write>(
     console: &mut Console<W, E>,
-    options: &Options<'_>,
+    assessing: &Assessing<'_>,
     instance: &mut Counted<Recorded<'_, R>>,
     answer: &mut Counted<Recorded<'_, S>>,
     bound: &mut Counted<Recorded<'_, T>>,
 ) -> u8
-    ensures { EndsAssessing Global (requested options.now Layout.Two)
+    ensures { EndsAssessing Global (requested assessing.now.options Layout.Two)
         (use_of (bytes_left R.remaining) instance.old instance.new)
         (use_of (bytes_left S.remaining) answer.old answer.new)
         (use_of (bytes_left T.remaining) bound.old bound.new)
         (use_of W.contents console.old.writer console.new.writer)
-        (SaysLine E.contents options.now.telling.explain console.old.errors console.new.errors)
-        result }
+        (SaysLine E.contents assessing.now.options.telling.explain console.old.errors
+        console.new.errors) result }
 {
     match bound_read(console.alloc, bound) {
-        Ok(sheet) => assess_offered(console, options, instance, answer, sheet),
+        Ok(sheet) => assess_offered(console, assessing, instance, answer, sheet),
         Err(fault) => report_bound(&fault, &mut console.errors),
     }
 }
@@ -598,24 +601,25 @@ fn assess<R: Read, S: Read, T: Read, W: Write, E: Write>(
 /// The same beside the bound that a text says.
 fn assess_offered<R: Read, S: Read, W: Write, E: Write>(
     console: &mut Console<W, E>,
-    options: &Options<'_>,
+    assessing: &Assessing<'_>,
     instance: &mut Counted<Recorded<'_, R>>,
     answer: &mut Counted<Recorded<'_, S>>,
     sheet: BoundSheet<Global>,
 ) -> u8
-    ensures { EndsAssessed Global (Some sheet) (requested options.now Layout.Two)
+    ensures { EndsAssessed Global (Some sheet) (requested assessing.now.options Layout.Two)
         (use_of (bytes_left R.remaining) instance.old instance.new)
         (use_of (bytes_left S.remaining) answer.old answer.new)
         (use_of W.contents console.old.writer console.new.writer)
-        (SaysLine E.contents options.now.telling.explain console.old.errors console.new.errors)
-        result }
+        (SaysLine E.contents assessing.now.options.telling.explain console.old.errors
+        console.new.errors) result }
 {
     let alloc = console.alloc;
+    let options = &assessing.options;
     let Ok(request) = options.request(alloc, Layout::Two) else {
         return say_memory(&mut console.errors);
     };
     let aids = Aids {
-        steps: None,
+        steps: assessing.steps,
         offered: Some(sheet),
     };
     let writer = &mut console.writer;

@@ -6,6 +6,7 @@ use Rattle.tf_random.specs.declared.run_random.Wanted.{Wanted}
 use Rattle.tf_options.specs.Matched.{Given, AreOptionsBy, IsFlagBy, IsNumberBy, explains_by, first_fault, has_arithmetic, is_latex, is_word, lacks, machines_fault, most_steps, number_by, options_fault, steps_fault, unless_some}
 use Rattle.tf_options.specs.Viewing.{IsDrawingBy, IsPicturingBy, gantt_fault}
 use Rattle.tf_options.specs.FormatAsked.{IsSolvedLayoutBy}
+use Rattle.tf_options.specs.declared.options.Aids.{Aids}
 use Rattle.tf_options.specs.declared.options.Asked.{Asked}
 use Rattle.tf_options.specs.declared.options.Asked.TheVariants.{Work, Formatted, Help, Misused, Unfit, NoMemory}
 use Rattle.tf_options.specs.declared.options.OrderSource.{OrderSource}
@@ -61,6 +62,11 @@ wanted_fault given = first_fault (machines_fault given)
     (unless_some (codes "--seed takes a number from 0 to 4294967295")
     (number_by given (codes "seed") 0 4294967295)))
 
+-- the text of a bound and the steps of the search for prices, where they are given
+pub record AreAidsBy (given : Given) (aids : Aids) : Type 0 where
+  pub bound : option_map (λ name. name.now) aids.bound ≡ given.value (codes "bound")
+  pub steps : IsNumberBy 1 most_steps (given.value (codes "steps")) aids.steps
+
 -- the work of a command, and each of its options
 abbrev pub IsWorkBy : List ℕ → Given → Bool → Asking → Type 0
 IsWorkBy name given on_terminal (Solve options layout) =
@@ -86,12 +92,14 @@ IsWorkBy name given on_terminal (Evaluate evaluating) =
     × (given.value (codes "ANSWER") ≡ Some evaluating.answer.now)
     × (given.value (codes "bound") ≡ None)
     × IsFlagBy (given.flag (codes "certificate")) (has_arithmetic evaluating.detail)
+    × IsNumberBy 1 most_steps (given.value (codes "steps")) evaluating.steps
 IsWorkBy name given on_terminal (Assess assessing) =
     (name ≡ codes "evaluate")
     × AreOptionsBy given on_terminal assessing.options
     × HasNoOrder given
     × (given.value (codes "ANSWER") ≡ Some assessing.answer.now)
     × (given.value (codes "bound") ≡ Some assessing.bound.now)
+    × IsNumberBy 1 most_steps (given.value (codes "steps")) assessing.steps
 IsWorkBy name given on_terminal (Rate options orders) =
     (name ≡ codes "evaluate")
     × AreOptionsBy given on_terminal options
@@ -135,9 +143,14 @@ bound_fault given =
     then Some (codes "--bound and INPUT or ANSWER cannot both be standard input")
     else None
 
+-- the fault of what an answer is evaluated by: that, or the steps of the search for prices
+abbrev pub aids_fault : Given → Option (List ℕ)
+aids_fault given = first_fault (bound_fault given) (steps_fault given)
+
 -- the same of a command of this name
-abbrev pub offer_fault : List ℕ → Given → Option (List ℕ)
-offer_fault name given = if bytes_eq name (codes "evaluate") then bound_fault given else None
+abbrev pub evaluating_fault : List ℕ → Given → Option (List ℕ)
+evaluating_fault name given =
+    if bytes_eq name (codes "evaluate") then aids_fault given else None
 
 -- orders or pieces are evaluated
 abbrev pub is_rating : List ℕ → Given → Bool
@@ -163,7 +176,7 @@ own_fault name given =
     if bytes_eq name (codes "bound") then steps_fault given
     else (if has_no_answer name then None
     else (if is_rating name given then orders_fault given
-    else first_fault (answer_fault given) (offer_fault name given)))
+    else first_fault (answer_fault given) (evaluating_fault name given)))
 
 abbrev pub fault_by : List ℕ → Given → Option (List ℕ)
 fault_by name given =

@@ -41,6 +41,7 @@ Example: threefield evaluate -p \"P2|prmp|Cmax\" examples/table.txt answer.txt
          threefield evaluate -p \"1||sumC\" --certificate table.txt answer.txt
          threefield evaluate -p \"1||sumC\" --order \"2 1 3\" table.txt
          threefield evaluate -p \"P2||Cmax\" --bound bound.txt table.txt answer.txt
+         threefield evaluate -p \"1||sumwT\" --steps 1000 table.txt answer.txt
 
 Exit status: 0 best, 1 does not fit, 2 refused, 3 want of memory,
              4 a file or a device failed, 5 the command line is wrong,
@@ -113,16 +114,11 @@ fn solve_command<'a>(alloc: Global) -> Result<Command<'a>, AllocError> {
 }
 
 fn bound_command<'a>(alloc: Global) -> Result<Command<'a>, AllocError> {
-    let steps = Arg::new(alloc, "steps")
-        .long("steps")
-        .value_name("N")
-        .help("The steps of the search for prices, 1 to 1000000")
-        .allow_negative_numbers(true);
     with_options(alloc, Command::new(alloc, "bound"))?
         .about("Prints a lower bound of an NP-hard problem, and its certificate")
         .after_help(ABOUT_BOUND)
         .after_long_help(help::OF_BOUND)
-        .arg(steps)?
+        .arg(steps(alloc))?
         .arg(json(alloc))
 }
 
@@ -163,6 +159,7 @@ fn evaluate_command<'a>(alloc: Global) -> Result<Command<'a>, AllocError> {
         .after_long_help(help::OF_EVALUATE)
         .arg(certificate)?
         .arg(bound(alloc)?)?
+        .arg(steps_of_answer(alloc)?)?
         .arg(json(alloc))?
         .arg(csv(alloc)?)?
         .arg(order(alloc)?)?
@@ -180,6 +177,22 @@ fn bound<'a>(alloc: Global) -> Result<Arg<'a>, AllocError> {
         .conflicts_with("orders")?
         .conflicts_with("schedule")?
         .conflicts_with("certificate")
+}
+
+fn steps<'a>(alloc: Global) -> Arg<'a> {
+    Arg::new(alloc, "steps")
+        .long("steps")
+        .value_name("N")
+        .help("The steps of the search for prices, 1 to 1000000")
+        .allow_negative_numbers(true)
+}
+
+// The same where an answer is evaluated.
+fn steps_of_answer<'a>(alloc: Global) -> Result<Arg<'a>, AllocError> {
+    steps(alloc)
+        .conflicts_with("order")?
+        .conflicts_with("orders")?
+        .conflicts_with("schedule")
 }
 
 fn order<'a>(alloc: Global) -> Result<Arg<'a>, AllocError> {

@@ -103,7 +103,8 @@ the lines \"piece JOB MACHINE START STOP\" of a file, which need no other lines;
 each line of a file, for which one line is printed, with its cost and its gap.
 
 --bound takes a lower bound as \"bound\" prints it, or one of your own. It is judged,
-and used where it is stronger than the one that is found.
+and used where it is stronger than the one that is found. --steps lets the search
+for that one take more time, or less.
 
 Example: threefield evaluate -p \"P2|prmp|Cmax\" examples/table.txt answer.txt
          threefield evaluate -p \"1||sumC\" --certificate table.txt answer.txt
@@ -112,6 +113,7 @@ Example: threefield evaluate -p \"P2|prmp|Cmax\" examples/table.txt answer.txt
          threefield evaluate -p \"1||sumwT\" --orders orders.txt table.txt
          threefield evaluate -p \"1|rj|Lmax\" --schedule pieces.txt table.txt
          threefield evaluate -p \"P2||Cmax\" --bound bound.txt table.txt answer.txt
+         threefield evaluate -p \"1||sumwT\" --steps 1000 table.txt answer.txt
 
 Exit status: 0 best, 1 does not fit, 2 refused, 3 want of memory,
              4 a file or a device failed, 5 the command line is wrong,

@@ -13,7 +13,7 @@ ghost use Rattle.tf_options.specs.Matched.{machines_fault, most_steps, options_f
 ghost use Rattle.tf_options.specs.Matched.{number_by, steps_fault, wt_fault};
 ghost use Rattle.tf_options.specs.Viewing.{IsDrawingBy, IsPicturingBy, IsViewBy, drawing_fault, most_side, number_fault, page_by, picturing_fault, sides_fault, size_by, view_fault};
 ghost use Rattle.tf_options.specs.OptionNumber.{numeral_in};
-ghost use Rattle.tf_options.specs.Understood.{HasNoOrder, IsAskedBy, IsAskedOver, IsOrderBy, bound_fault, input_fault, is_standard_input, lacks_options};
+ghost use Rattle.tf_options.specs.Understood.{AreAidsBy, HasNoOrder, IsAskedBy, IsAskedOver, IsOrderBy, aids_fault, input_fault, is_standard_input, lacks_options};
 
 use crate::format::Format;
 use crate::wanting::wanted_in;
@@ -114,6 +114,8 @@ pub struct Evaluating<'a> {
     /// The name of the answer.
     pub answer: &'a str,
     pub detail: Detail,
+    /// The steps of the search for prices, where they are given.
+    pub steps: Option<u32>,
 }
 
 /// Which answer is assessed, to what, and beside which bound.
@@ -124,6 +126,17 @@ pub struct Assessing<'a> {
     pub answer: &'a str,
     /// The name of the text of a bound.
     pub bound: &'a str,
+    /// The steps of the search for prices, where they are given.
+    pub steps: Option<u32>,
+}
+
+// What an answer is evaluated by, where the problem has no solver.
+#[derive(Clone, Copy)]
+struct Aids<'a> {
+    // The name of the text of a bound.
+    bound: Option<&'a str>,
+    // The steps of the search for prices.
+    steps: Option<u32>,
 }
 
 /// Where the orders of jobs or the pieces come from whose schedules are evaluated.
@@ -355,33 +368,36 @@ fn asked_over<'a>(
         }
         return Asked::Work(Work::Rate(options, orders));
     }
-    match given.get_str("ANSWER") {
-        None => Asked::NoMemory,
-        Some(answer) => {
-            if answer == "-" && options.input == "-" {
-                return Asked::Unfit("INPUT and ANSWER cannot both be standard input");
-            }
-            if name == "evaluate" {
-                return match bound_in(given) {
-                    Err(fault) => Asked::Unfit(fault),
-                    Ok(None) => Asked::Work(Work::Evaluate(Evaluating {
-                        options,
-                        answer,
-                        detail: detail_in(given),
-                    })),
-                    Ok(Some(bound)) => Asked::Work(Work::Assess(Assessing {
-                        options,
-                        answer,
-                        bound,
-                    })),
-                };
-            }
-            if name == "check" {
-                return Asked::Work(Work::Check(options, answer));
-            }
-            Asked::NoMemory
-        }
+    let Some(answer) = given.get_str("ANSWER") else {
+        return Asked::NoMemory;
+    };
+    if answer == "-" && options.input == "-" {
+        return Asked::Unfit("INPUT and ANSWER cannot both be standard input");
     }
+    if name == "check" {
+        return Asked::Work(Work::Check(options, answer));
+    }
+    if name == "evaluate" {
+        let Aids { bound, steps } = match aids_in(given) {
+            Ok(aids) => aids,
+            Err(asked) => return asked,
+        };
+        return Asked::Work(match bound {
+            None => Work::Evaluate(Evaluating {
+                options,
+                answer,
+                detail: detail_in(given),
+                steps,
+            }),
+            Some(bound) => Work::Assess(Assessing {
+                options,
+                answer,
+                bound,
+                steps,
+            }),
+        });
+    }
+    Asked::NoMemory
 }
 
 // The version of the answer text that is solved for: 1 for JSON, which names each job of a
@@ -464,19 +480,22 @@ fn input_fault(orders: &OrderSource<'_>) -> Option<&'static str>
     }
 }
 
-// The name of the text of a bound, if one is given. The instance and the answer cannot be standard
-// input beside it.
-fn bound_in<'a>(given: &ArgMatches<'a>) -> Result<Option<&'a str>, &'static str>
-    ensures given { IfOk result (λ bound. option_map (λ name. name.now) bound
-        ≡ (given_of given.now).value (codes "bound")) }
-    ensures fault { IfErr result (λ fault. bound_fault (given_of given.now) ≡ Some fault.now) }
+// The text of a bound and the steps of the search for prices, where they are given. The instance and
+// the answer cannot be standard input beside the text.
+fn aids_in<'a>(given: &ArgMatches<'a>) -> Result<Aids<'a>, Asked<'a>>
+    ensures columns { IfErr result HasColumns }
+    ensures given { IfOk result (AreAidsBy (given_of given.now)) }
+    ensures fault { IfErr result (IsToldInstead false (aids_fault (given_of given.now))) }
 {
     if is_standard_input(given, "bound")
         && (is_standard_input(given, "ANSWER") || is_standard_input(given, "INPUT"))
     {
-        return Err("--bound and INPUT or ANSWER cannot both be standard input");
+        return Err(Asked::Unfit("--bound and INPUT or ANSWER cannot both be standard input"));
     }
-    Ok(given.get_str("bound"))
+    Ok(Aids {
+        bound: given.get_str("bound"),
+        steps: steps_in(given)?,
+    })
 }
 
 // Whether the text that is named so is standard input.

@@ -11,7 +11,7 @@ use crate::asking::{Asked, Asking};
 use crate::reply::{Console, Reply, misused};
 use crate::reserve::Reserve;
 use std::alloc::{AllocError, Allocator};
-use tf_assess::run_rate::run_rate;
+use tf_assess::run_rate::{EvaluationOptions, run_rate};
 use tf_bounding::run_bound::run_bound;
 use tf_command::commands::{draw, table_in};
 use tf_command::report::{end_check, end_evaluation, end_run, report, say_device};
@@ -147,7 +147,11 @@ fn evaluated<A: Allocator + Copy>(
     let mut answer = Counted::new(asked.answer);
     let mut console = Console::new(alloc);
     let output = &mut console.output;
-    let run = run_rate(alloc, &request, detail, &mut instance, &mut answer, output);
+    let options = EvaluationOptions {
+        detail,
+        steps: None,
+    };
+    let run = run_rate(alloc, &request, options, &mut instance, &mut answer, output);
     let status = end_evaluation(&run, &mut console.errors);
     console.ended(status)
 }
