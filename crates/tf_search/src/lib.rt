@@ -3,6 +3,7 @@
 //! Nothing is promised of what they find: the judges of `tf_bound` compute what it bounds.
 #![tactic(auto)]
 
+mod job_starts;
 pub mod machine_search;
 pub mod multiplier_search;
 pub mod price_search;

@@ -7,16 +7,15 @@ ghost use Rattle.std.specs.List.{All};
 ghost use Rattle.tf_model.specs.ClassTable.{is_shop_env};
 ghost use Rattle.tf_problem.specs.ProblemData.{IsProblemJob};
 ghost use Rattle.tf_problem.specs.ProblemCost.{IsLowerBound};
-ghost use Rattle.tf_problem.specs.ProblemBounds.{is_sum_goal};
-ghost use Rattle.tf_bound.specs.RowSums.{AreSums};
 
+use crate::job_starts::JobStarts;
 use crate::sequence::{Placed, best_order, place_all};
 use std::alloc::{Allocator, Global};
 use tf_bound::fault::BoundFault;
-use tf_bound::prices::{cheapest_of, is_by_unit, prices_bound, takes_prices};
-use tf_bound::row_sums::sum_rows;
+use tf_bound::prices::{is_by_unit, prices_bound, takes_prices};
 use tf_bound::task::ProblemTask;
 use tf_model::ids::JobId;
+use tf_model::limit::LIMIT;
 
 /// The denominator of the prices that are found.
 pub const DENOMINATOR: u64 = 1_000;
@@ -40,20 +39,12 @@ struct Pace {
 }
 
 impl Pace {
-    // Long steps from prices 0 for numbers of late jobs, and shorter ones from a suggestion.
-    fn new(by_unit: bool) -> Pace {
-        if by_unit {
-            Pace {
-                length: LENGTH,
-                patience: 60,
-                waited: 0,
-            }
-        } else {
-            Pace {
-                length: LENGTH / 2,
-                patience: 15,
-                waited: 0,
-            }
+    // Full steps, which get shorter in so many steps by and by; later for numbers of late jobs.
+    fn new(by_unit: bool, steps: u32) -> Pace {
+        Pace {
+            length: LENGTH,
+            patience: if by_unit { 60 } else { (steps / 50).max(3) },
+            waited: 0,
         }
     }
 
@@ -75,10 +66,20 @@ impl Pace {
     }
 }
 
-// What a search writes: the prices, their sums, how many more jobs than before each row has at their
-// cheapest starts, the direction of the steps, and the best prices.
+// What a search asks of the task: its machines, the cost that it heads for, and whether the objective
+// counts late jobs.
+#[derive(Clone, Copy)]
+struct Plan {
+    machines: u32,
+    target: u64,
+    by_unit: bool,
+}
+
+// What a search writes: the starts of the jobs, the prices, their sums, how many more jobs than before
+// each row has at their cheapest starts, the direction of the steps, and the best prices.
 #[derive(Drop)]
 struct Tables<A: Allocator> {
+    jobs: Vec<JobStarts, A>,
     rows: Vec<u64, A>,
     sums: Vec<u64, A>,
     counts: Vec<i64, A>,
@@ -141,8 +142,14 @@ pub fn search_prices<A: Allocator + Copy, B: Allocator>(
         return Err(BoundFault::TooLarge);
     };
     let mut tables = tables_for(alloc, task, &placed, horizon)?;
-    improve(task, target, steps, &mut tables);
+    let plan = Plan {
+        machines: task.machines(),
+        target,
+        by_unit: is_by_unit(task.problem().goal),
+    };
+    improve(plan, steps, &mut tables);
     let Tables {
+        jobs: _,
         rows: _,
         sums: _,
         counts: _,
@@ -163,19 +170,45 @@ fn tables_for<A: Allocator + Copy, B: Allocator>(
     horizon: usize,
 ) -> Result<Tables<A>, BoundFault>
     requires jobs { All (λ p. IsProblemJob task.now p.job) placed.now }
+    requires one_time { IsFalse (is_shop_env task.now.problem.env) }
     requires few { horizon ≤ 10000000 }
 {
+    let jobs = starts_of(alloc, task, horizon)?;
+    let longest = jobs.iter().map(|job| job.time()).max().unwrap_or(0);
     let mut rows = zeros(alloc, horizon)?;
     if !is_by_unit(task.problem().goal) {
         suggest(alloc, task, placed, &mut rows)?;
     }
     Ok(Tables {
+        jobs,
         rows,
-        sums: zeros(alloc, horizon + 1)?,
+        sums: zeros(alloc, longest.saturating_add(horizon + 1))?,
         counts: signed_zeros(alloc, horizon + 1)?,
         direction: signed_zeros(alloc, horizon)?,
         best: zeros(alloc, horizon)?,
     })
+}
+
+// The starts of each job.
+fn starts_of<A: Allocator, B: Allocator>(
+    alloc: A,
+    task: &ProblemTask<B>,
+    horizon: usize,
+) -> Result<Vec<JobStarts, A>, BoundFault>
+    requires { IsFalse (is_shop_env task.now.problem.env) }
+{
+    let Ok(mut jobs) = Vec::with_capacity(alloc, task.len()) else {
+        return Err(BoundFault::OutOfMemory);
+    };
+    for k in 0..task.len() {
+        let Some(starts) = JobStarts::new(task, JobId::at(k), horizon, DENOMINATOR) else {
+            return Err(BoundFault::TooLarge);
+        };
+        let Ok(()) = jobs.push(starts) else {
+            return Err(BoundFault::OutOfMemory);
+        };
+    }
+    Ok(jobs)
 }
 
 // When the last job completes, where that is not too late.
@@ -275,20 +308,12 @@ impl Share {
 }
 
 // Takes so many steps, and keeps the prices of the greatest value.
-fn improve<A: Allocator, B: Allocator>(
-    task: &ProblemTask<B>,
-    target: u64,
-    steps: u32,
-    tables: &mut Tables<A>,
-)
-    requires one_time { IsFalse (is_shop_env task.now.problem.env) }
-    requires goal { IsTrue (is_sum_goal task.now.problem.goal) }
-{
-    let goal = i128::from(target) * i128::from(DENOMINATOR);
-    let mut pace = Pace::new(is_by_unit(task.problem().goal));
+fn improve<A: Allocator>(plan: Plan, steps: u32, tables: &mut Tables<A>) {
+    let goal = i128::from(plan.target) * i128::from(DENOMINATOR);
+    let mut pace = Pace::new(plan.by_unit, steps);
     let mut most: i128 = -1;
     for _ in 0..steps {
-        let Some(value) = valued(task, tables) else {
+        let Some(value) = tables.value(plan.machines) else {
             return;
         };
         if value > most {
@@ -297,13 +322,21 @@ fn improve<A: Allocator, B: Allocator>(
         pace = pace.after(value > most);
         most = most.max(value);
         let gap = goal.saturating_sub(value);
-        if gap <= 0 || pace.length == 0 || !tables.advance(task.machines(), gap, pace.length) {
+        if gap <= 0 || pace.length == 0 || !tables.advance(plan.machines, gap, pace.length) {
             return;
         }
     }
 }
 
 impl<A: Allocator> Tables<A> {
+    // The value of the prices, where their sums are within the limit. Counts the jobs in the rows of
+    // their cheapest starts.
+    fn value(&mut self, machines: u32) -> Option<i128> {
+        let all = sum_up(&self.rows, &mut self.sums)?;
+        let cost = count_cheapest(&mut self.jobs, &self.sums, &mut self.counts);
+        Some(cost.saturating_sub(i128::from(machines) * i128::from(all)))
+    }
+
     // Keeps the prices as the best ones.
     fn keep(&mut self) {
         if self.best.len() == self.rows.len() {
@@ -330,63 +363,34 @@ impl<A: Allocator> Tables<A> {
     }
 }
 
-// The value of the prices, where their sums are within the limit.
-fn valued<A: Allocator, B: Allocator>(task: &ProblemTask<B>, tables: &mut Tables<A>) -> Option<i128>
-    requires one_time { IsFalse (is_shop_env task.now.problem.env) }
-    requires goal { IsTrue (is_sum_goal task.now.problem.goal) }
-{
-    let rows = tables.rows.len();
-    if tables.sums.len() != rows + 1 || tables.counts.len() != rows + 1 {
+// Writes the sum of the prices before each row, and that of all of them for each row after the last.
+// None where they are beyond the limit.
+fn sum_up(rows: &[u64], sums: &mut [u64]) -> Option<u64> {
+    let mut total: u64 = 0;
+    for (sum, price) in sums.iter_mut().zip(rows) {
+        *sum = total;
+        total = total.saturating_add(*price);
+    }
+    for sum in sums.iter_mut().skip(rows.len()) {
+        *sum = total;
+    }
+    if total > LIMIT as u64 {
         return None;
     }
-    value_in(task, &tables.rows, &mut tables.sums, &mut tables.counts)
+    Some(total)
 }
 
-fn value_in<B: Allocator>(
-    task: &ProblemTask<B>,
-    rows: &[u64],
-    sums: &mut [u64],
-    counts: &mut [i64],
-) -> Option<i128>
-    requires one_time { IsFalse (is_shop_env task.now.problem.env) }
-    requires goal { IsTrue (is_sum_goal task.now.problem.goal) }
-    requires sums { length sums.old ≡ length rows.now + 1 }
-    requires counts { length counts.old ≡ length rows.now + 1 }
-{
-    if !sum_rows(rows, sums) {
-        return None;
-    }
-    value_at(task, rows, sums, counts)
-}
-
-// The value of prices, and how many more jobs than before each row has at their cheapest starts.
-fn value_at<B: Allocator>(
-    task: &ProblemTask<B>,
-    rows: &[u64],
-    sums: &[u64],
-    counts: &mut [i64],
-) -> Option<i128>
-    requires one_time { IsFalse (is_shop_env task.now.problem.env) }
-    requires goal { IsTrue (is_sum_goal task.now.problem.goal) }
-    requires sums { AreSums rows.now sums.now }
-    requires counts { length counts.old ≡ length rows.now + 1 }
-{
+// What the jobs cost together at their cheapest starts, which are counted.
+fn count_cheapest(jobs: &mut [JobStarts], sums: &[u64], counts: &mut [i64]) -> i128 {
     for count in counts.iter_mut() {
         *count = 0;
     }
-    let last = rows.len() as u64;
-    let mut value: i128 = 0;
-    for k in 0..task.len() {
-        let job = JobId::at(k);
-        let found = cheapest_of(task, DENOMINATOR, rows, sums, job)?;
-        value = value.saturating_add(i128::from(found.price));
-        let start = found.start.min(last) as usize;
-        let end = found.start.saturating_add(task.time(job)).min(last) as usize;
-        counts[start] = counts[start].saturating_add(1);
-        counts[end] = counts[end].saturating_sub(1);
+    let mut total: i128 = 0;
+    for job in jobs.iter_mut() {
+        total = total.saturating_add(i128::from(job.find_cheapest(sums)));
+        job.count_in(counts);
     }
-    let all = i128::from(task.machines()) * i128::from(sums[rows.len()]);
-    Some(value.saturating_sub(all))
+    total
 }
 
 // The new direction: a tenth of how many jobs too many a row has, and nine tenths of the old one.
@@ -407,8 +411,8 @@ fn turn(rows: &[u64], counts: &[i64], machines: i64, direction: &mut [i64]) -> u
             turned
         };
         direction[row] = kept;
-        let size = u128::from(kept.unsigned_abs());
-        norm = norm.saturating_add(size.saturating_mul(size));
+        let size = kept.unsigned_abs();
+        norm = norm.saturating_add(u128::from(size) * u128::from(size));
     }
     norm
 }

@@ -24,7 +24,7 @@ const MOST_SEQUENCED: usize = 1_000;
 const MOST_VISITS: u64 = 500_000_000;
 
 // The steps that a search for prices takes at most, where the caller does not say how many.
-const USUAL_STEPS: u64 = 300;
+const USUAL_STEPS: u64 = 1_000;
 
 /// A certificate of a task, and its value.
 #[derive(Drop)]
