@@ -88,7 +88,7 @@ pub(crate) fn window_front<B: Allocator>(task: &ProblemTask<B>, jobs: &[JobId]) 
     let mut len = 0;
     for (place, job) in jobs.iter().enumerate() {
         front = front.with(task, *job);
-        let share = front.work / u64::from(task.machines()).max(1);
+        let share = front.work.div_ceil(u64::from(task.machines()).max(1));
         let value = i128::from(front.release) + i128::from(share) - i128::from(front.due);
         if value > most {
             most = value;
