@@ -1,50 +1,39 @@
 -- Jobs that were sorted by rank are in Johnson's order.
-use Rattle.std.proofs.Common.{Ordering, ◌≡◌, ◌≢◌, ℕ, ◌+◌, ◌-◌, ◌*◌, ◌<◌, ◌≤◌, false, List, [], ◌∷◌, map, length, get_or, sym, ◌∙◌, subst, arith, ⊎_elim}
+use Rattle.std.proofs.Common.{◌≡◌, ◌≢◌, ℕ, ◌+◌, ◌-◌, ◌*◌, ◌/◌, ◌<◌, ◌≤◌, List, map, length, get_or, sym, ◌∙◌, subst, arith, ⊎_elim}
 use Rattle.std.specs.List.{All, AllPairs}
-use Rattle.std.specs.List.Sorted.{IsSortedByKey}
-use Rattle.std.specs.Ordering.{nat_cmp, ordering_then, is_lt}
-use Rattle.std.specs.Cmp.{IsTotalOrder}
-use Rattle.std.proofs.lemmas.Cmp.{then_total, on_total, nat_cmp_total}
+use Rattle.std.specs.List.Sorted.{IsSorted}
+use Rattle.std.specs.Ordering.{nat_cmp, is_lt}
+use Rattle.std.proofs.lemmas.Cmp.{nat_cmp_total}
 use Rattle.std.proofs.lemmas.List.{get_or-map, length-map}
 use Rattle.std.proofs.lemmas.List.Sorted.{ranks_by, sorted_far}
 use Rattle.std.proofs.lemmas.Bool.{cases_lt}
 use Rattle.std.proofs.lemmas.Bool.Decides.{nat_tests}
 use Rattle.tf_model.specs.Limit.{limit}
 use Rattle.tf_model.specs.SchedulingTask.{SchedulingTask}
-use Rattle.tf_multi.specs.declared.johnson.order.Ranked.{Ranked}
+use Rattle.tf_check.specs.RatioRank.{job_in}
+use Rattle.tf_check.proofs.KeyedJob.{not_less}
 use Rattle.tf_multi.specs.FlowShop.{rank_of, IsRanked}
 use Rattle.tf_multi.specs.Johnson.{MayPrecede, Precedes, IsJohnsonOrder}
 use Rattle.tf_multi.specs.TwoMachines.{time_at}
 
 -- ---- the sort
 
-abbrev pub place_of : Ranked → ℕ × ℕ
-place_of r = (r.rank, r.job)
+-- by place, and by number among equals
+pub record IsBefore (p q : ℕ) : Type 0 where
+  pub place : p / 4294967296 ≤ q / 4294967296
+  pub job : p / 4294967296 ≡ q / 4294967296 → job_in p ≤ job_in q
 
-abbrev pub place_cmp : ℕ × ℕ → ℕ × ℕ → Ordering
-place_cmp a b = ordering_then (nat_cmp a.0 b.0) (nat_cmp a.1 b.1)
-
-place_total : IsTotalOrder place_cmp
-place_total = then_total (on_total (λ (a : ℕ × ℕ). a.0) nat_cmp_total)
-    (on_total (λ (a : ℕ × ℕ). a.1) nat_cmp_total)
-
--- by rank, and by number among equals
-pub record IsBefore (p q : Ranked) : Type 0 where
-  pub rank : p.rank ≤ q.rank
-  pub job : p.rank ≡ q.rank → p.job ≤ q.job
-
-before_from_order : (p q : Ranked) → is_lt (place_cmp (place_of q) (place_of p)) ≡ false
-    → IsBefore p q
-before_from_order p q h = record {
-  rank = grind (arith, nat_tests);
-  job = λ same. grind (arith, nat_tests);
+before_from_order : (p q : ℕ) → p ≤ q → IsBefore p q
+before_from_order p q le = record {
+  place = omega (arith, le);
+  job = λ same. omega (arith, le, same);
 }
 
-pub ranks_in_order : (rs : List Ranked) → IsSortedByKey place_of place_cmp rs
-    → AllPairs IsBefore rs
+pub ranks_in_order : (rs : List ℕ) → IsSorted nat_cmp rs → AllPairs IsBefore rs
 ranks_in_order rs sorted i j d lt h = before_from_order (get_or rs i d) (get_or rs j d)
-    (sorted_far (λ x y. is_lt (place_cmp (place_of x) (place_of y))) (ranks_by place_total place_of)
-    rs sorted i j d (omega arith) h)
+    (not_less (get_or rs i d) (get_or rs j d)
+    (sorted_far (λ x y. is_lt (nat_cmp x y)) (ranks_by nat_cmp_total (λ x. x)) rs sorted i j d
+    (omega arith) h))
 
 -- ---- the ranks
 
@@ -95,46 +84,43 @@ back f i j small small' may = ⊎_elim
     ))
     (cases_lt (f i 2) (f i 1))
 
-any_ranked : (rs : List Ranked) (n : ℕ) → n < length rs → Ranked
-any_ranked [] n h = absurd (omega arith)
-any_ranked (r ∷ rs) n h = r
-
 -- rising ranks are Johnson's order
-pub order_from_ranks : (task : SchedulingTask) (rs : List Ranked) → All (IsRanked task) rs
-    → AllPairs IsBefore rs → AllPairs (λ i j. i ≢ j) (map (λ r. r.job) rs)
-    → AllPairs (Precedes (time_at task)) (map (λ r. r.job) rs)
+pub order_from_ranks : (task : SchedulingTask) (rs : List ℕ) → All (IsRanked task) rs
+    → AllPairs IsBefore rs → AllPairs (λ i j. i ≢ j) (map job_in rs)
+    → AllPairs (Precedes (time_at task)) (map job_in rs)
 order_from_ranks task rs ranked pairs apart i j d lt h =
-    let in_j : j < length rs = omega (arith, h, length-map rs (λ r. r.job)) in
-    let r = any_ranked rs j in_j in
-    let p = get_or rs i r in
-    let q = get_or rs j r in
-    let at_p = ranked i r (omega arith) in
-    let at_q = ranked j r in_j in
+    let in_j : j < length rs = omega (arith, h, length-map rs job_in) in
+    let p : ℕ = get_or rs i 0 in
+    let q : ℕ = get_or rs j 0 in
+    let a : ℕ = job_in p in
+    let b : ℕ = job_in q in
+    let at_p = ranked i 0 (omega arith) in
+    let at_q = ranked j 0 in_j in
     let f : ℕ → ℕ → ℕ = time_at task in
-    let before = pairs i j r lt in_j in
-    let le : rank_of (f p.job 1) (f p.job 2) ≤ rank_of (f q.job 1) (f q.job 2) =
-    omega (arith, before.rank, at_p.rank, at_q.rank) in
-    let at_i = sym (get_or-map (λ r. r.job) rs i r d (omega arith)) in
-    let at_j = sym (get_or-map (λ r. r.job) rs j r d in_j) in
-    let other : p.job ≢ q.job = λ same. apart i j d lt h (sym at_i ∙ same ∙ at_j) in
-    let may : MayPrecede f p.job q.job = record {
-      rising = rising (f p.job 1) (f p.job 2) (f q.job 1) (f q.job 2) at_p.within at_q.within le;
-      falling = falling (f p.job 1) (f p.job 2) (f q.job 1) (f q.job 2) at_p.within at_q.within le;
+    let before = pairs i j 0 lt in_j in
+    let le : rank_of (f a 1) (f a 2) ≤ rank_of (f b 1) (f b 2) =
+    omega (arith, before.place, at_p.place, at_q.place) in
+    let at_i = sym (get_or-map job_in rs i 0 d (omega arith)) in
+    let at_j = sym (get_or-map job_in rs j 0 d in_j) in
+    let other : a ≢ b = λ same. apart i j d lt h (sym at_i ∙ same ∙ at_j) in
+    let may : MayPrecede f a b = record {
+      rising = rising (f a 1) (f a 2) (f b 1) (f b 2) at_p.within at_q.within le;
+      falling = falling (f a 1) (f a 2) (f b 1) (f b 2) at_p.within at_q.within le;
     } in
-    let precedes : Precedes f p.job q.job = record {
+    let precedes : Precedes f a b = record {
       may = may;
-      tie = λ turned. smaller p.job q.job
+      tie = λ turned. smaller a b
           (before.job (omega (
             arith,
-            before.rank,
-            at_p.rank,
-            at_q.rank,
-            back f p.job q.job at_p.within at_q.within turned,
+            before.place,
+            at_p.place,
+            at_q.place,
+            back f a b at_p.within at_q.within turned,
           )))
           other;
     } in
-    subst (λ x. Precedes f x (get_or (map (λ r. r.job) rs) j d)) at_i
-    (subst (λ y. Precedes f p.job y) at_j precedes)
+    subst (λ x. Precedes f x (get_or (map job_in rs) j d)) at_i
+    (subst (λ y. Precedes f a y) at_j precedes)
   where
     smaller : (a b : ℕ) → a ≤ b → a ≢ b → a < b
     smaller a b le other = ⊎_elim

@@ -1,8 +1,9 @@
 //! Johnson's order.
-ghost use Rattle.std.specs.Prelude.{◌≡◌, ◌≤◌, ◌++◌, map, IfOk};
+ghost use Rattle.std.specs.Prelude.{◌≡◌, ◌<◌, ◌≤◌, ◌++◌, map, IfOk};
 ghost use Rattle.std.specs.List.{All};
 ghost use Rattle.tf_model.specs.Limit.{limit};
 ghost use Rattle.tf_model.specs.SchedulingTask.{IsJob, all_jobs, time_of};
+ghost use Rattle.tf_check.specs.RatioRank.{IsOfJob, job_in};
 ghost use Rattle.tf_multi.specs.FlowShop.{IsRanked};
 ghost use Rattle.tf_multi.specs.Johnson.{IsJohnsonOrder};
 
@@ -12,15 +13,11 @@ use tf_model::limit::LIMIT;
 use tf_model::memory::OutOfMemory;
 use tf_model::task::Task;
 
-// A job and where it belongs in the order.
-#[derive(Clone, Copy)]
-struct Ranked {
-    rank: u64,
-    job: JobId,
-}
+// How many numbers a job may have.
+const NUMBERS: u128 = 1 << 32;
 
-// No rank is above it.
-const LAST_RANK: u64 = 2 * LIMIT as u64;
+// No place in the order is above it.
+const LAST_PLACE: u64 = 2 * LIMIT as u64;
 
 // First the jobs that take no longer on machine 1, by rising time there, then the others, by
 // falling time on machine 2; jobs that tie in the order of their numbers.
@@ -31,50 +28,51 @@ pub(super) fn johnson_order<A: Allocator + Copy, B: Allocator>(
     ensures { IfOk result (λ order. IsJohnsonOrder task.now order.items) }
 {
     let mut order = Vec::with_capacity(alloc, task.len())?;
-    let mut ranked = ranked_jobs(alloc, task)?;
-    ranked.sort_unstable_by_key(|job| (job.rank, job.job));
-    push_jobs(&mut order, &ranked)?;
+    let mut ranks = ranks_of(alloc, task)?;
+    ranks.sort_unstable();
+    push_jobs(&mut order, &ranks)?;
     Ok(order)
 }
 
-fn ranked_jobs<A: Allocator, B: Allocator>(
+// The ranks of all jobs.
+fn ranks_of<A: Allocator, B: Allocator>(
     alloc: A,
     task: &Task<B>,
-) -> Result<Vec<Ranked, A>, OutOfMemory>
-    ensures jobs { IfOk result (λ ranked. map (λ r. r.job) ranked.items ≡ all_jobs task.now) }
-    ensures ranks { IfOk result (λ ranked. All (IsRanked task.now) ranked.items) }
+) -> Result<Vec<u128, A>, OutOfMemory>
+    ensures jobs { IfOk result (λ ranks. map job_in ranks.items ≡ all_jobs task.now) }
+    ensures ranks { IfOk result (λ ranks. All (IsRanked task.now) ranks.items) }
 {
-    let mut ranked = Vec::with_capacity(alloc, task.len())?;
+    let mut ranks = Vec::with_capacity(alloc, task.len())?;
     for k in 0..task.len() {
-        ranked.push(ranked_job(task, JobId::at(k)))?;
+        ranks.push(rank_in(task, JobId::at(k)))?;
     }
-    Ok(ranked)
+    Ok(ranks)
 }
 
-fn ranked_job<B: Allocator>(task: &Task<B>, job: JobId) -> Ranked
+// Where a job belongs in the order, and then its number, as one number.
+fn rank_in<B: Allocator>(task: &Task<B>, job: JobId) -> u128
     requires job { IsJob task.now job }
     requires within { time_of task.now job ≤ limit }
-    ensures job { result.job ≡ job }
+    requires few { job < 4294967296 }
+    ensures job { job_in result ≡ job }
     ensures ranked { IsRanked task.now result }
 {
     let row = task.job(job);
-    if row.first <= row.second {
-        return Ranked {
-            rank: row.first,
-            job,
-        };
-    }
-    Ranked {
-        rank: LAST_RANK - row.second,
-        job,
-    }
+    let place = if row.first <= row.second {
+        row.first
+    } else {
+        LAST_PLACE - row.second
+    };
+    u128::from(place) * NUMBERS + u128::from(job.get())
 }
 
-fn push_jobs<A: Allocator>(jobs: &mut Vec<JobId, A>, ranked: &[Ranked]) -> Result<(), OutOfMemory>
-    ensures { IfOk result (λ _. jobs.new.items ≡ jobs.old.items ++ map (λ r. r.job) ranked.now) }
+// Adds the jobs of ranks.
+fn push_jobs<A: Allocator>(jobs: &mut Vec<JobId, A>, ranks: &[u128]) -> Result<(), OutOfMemory>
+    requires { All IsOfJob ranks.now }
+    ensures { IfOk result (λ _. jobs.new.items ≡ jobs.old.items ++ map job_in ranks.now) }
 {
-    for job in ranked {
-        jobs.push(job.job)?;
+    for rank in ranks {
+        jobs.push(JobId::at((*rank % NUMBERS) as usize - 1))?;
     }
     Ok(())
 }

@@ -1,7 +1,7 @@
-use Rattle.std.proofs.Common.{◌≡◌, length, true, false, rules, sym, ap, ◌∙◌, subst, arith}
+use Rattle.std.proofs.Common.{sym, ap, ◌∙◌, arith}
 use Rattle.tf_model.specs.SchedulingTask.{JobData, job_data}
 use Rattle.tf_multi.specs.OpenShop.{goes_ahead}
-use Rattle.tf_multi.proofs.Leader.{IsLeaderOf, first_leader, leader_taken, leader_kept, leader_of_all}
+use Rattle.tf_multi.proofs.Leader.{first_leader, leader_taken, leader_kept, leader_of_all}
 use Rattle.tf_multi.proofs.open_two.leader.Goals as goal
 use Rattle.tf_multi.proofs.open_two.leader.Goals.{then-goes_ahead, else-goes_ahead}
 

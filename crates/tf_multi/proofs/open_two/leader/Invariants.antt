@@ -1,4 +1,3 @@
-use Rattle.std.proofs.Common.{ℕ, ◌<◌, ◌≤◌}
 use Rattle.tf_multi.proofs.Leader.{IsLeaderOf}
 use Rattle.tf_multi.proofs.open_two.leader.Given as goal
 
