@@ -39,11 +39,12 @@ struct Pace {
 }
 
 impl Pace {
-    // Full steps, which get shorter in so many steps by and by; later for numbers of late jobs.
-    fn new(by_unit: bool, steps: u32) -> Pace {
+    // Full steps at first. A fortieth of all steps without a better value shortens them, but no fewer
+    // than 3, and no more than 60.
+    fn new(steps: u32) -> Pace {
         Pace {
             length: LENGTH,
-            patience: if by_unit { 60 } else { (steps / 50).max(3) },
+            patience: (steps / 40).clamp(3, 60),
             waited: 0,
         }
     }
@@ -64,15 +65,6 @@ impl Pace {
             ..self
         }
     }
-}
-
-// What a search asks of the task: its machines, the cost that it heads for, and whether the objective
-// counts late jobs.
-#[derive(Clone, Copy)]
-struct Plan {
-    machines: u32,
-    target: u64,
-    by_unit: bool,
 }
 
 // What a search writes: the starts of the jobs, the prices, their sums, how many more jobs than before
@@ -142,12 +134,7 @@ pub fn search_prices<A: Allocator + Copy, B: Allocator>(
         return Err(BoundFault::TooLarge);
     };
     let mut tables = tables_for(alloc, task, &placed, horizon)?;
-    let plan = Plan {
-        machines: task.machines(),
-        target,
-        by_unit: is_by_unit(task.problem().goal),
-    };
-    improve(plan, steps, &mut tables);
+    improve(task.machines(), target, steps, &mut tables);
     let Tables {
         jobs: _,
         rows: _,
@@ -307,13 +294,14 @@ impl Share {
     }
 }
 
-// Takes so many steps, and keeps the prices of the greatest value.
-fn improve<A: Allocator>(plan: Plan, steps: u32, tables: &mut Tables<A>) {
-    let goal = i128::from(plan.target) * i128::from(DENOMINATOR);
-    let mut pace = Pace::new(plan.by_unit, steps);
+// Takes so many steps, and keeps the prices of the greatest value. Ends where that bounds the target,
+// since a bound is rounded up.
+fn improve<A: Allocator>(machines: u32, target: u64, steps: u32, tables: &mut Tables<A>) {
+    let goal = i128::from(target) * i128::from(DENOMINATOR);
+    let mut pace = Pace::new(steps);
     let mut most: i128 = -1;
     for _ in 0..steps {
-        let Some(value) = tables.value(plan.machines) else {
+        let Some(value) = tables.value(machines) else {
             return;
         };
         if value > most {
@@ -322,7 +310,8 @@ fn improve<A: Allocator>(plan: Plan, steps: u32, tables: &mut Tables<A>) {
         pace = pace.after(value > most);
         most = most.max(value);
         let gap = goal.saturating_sub(value);
-        if gap <= 0 || pace.length == 0 || !tables.advance(plan.machines, gap, pace.length) {
+        let is_reached = gap < i128::from(DENOMINATOR);
+        if is_reached || pace.length == 0 || !tables.advance(machines, gap, pace.length) {
             return;
         }
     }
