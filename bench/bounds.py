@@ -3,13 +3,13 @@
 
     python3 bench/bounds.py PROGRAM [STEPS]
 
-The instances are made here, from fixed seeds. Weighted tardiness: 125 instances of 40 jobs by the published recipe of
-OR-Library's files (processing times 1 to 100, weights 1 to 10, due dates from P(1 - TF - RDD/2) to P(1 - TF + RDD/2)). One machine
-with release dates: 20 instances of 30 jobs. Three machines: 40 instances each of 10, 15, 20 and 50 jobs, times 20 to 100. Flow
-shops: Taillard's ten instances of 20 jobs on five machines, made by his published generator from his seeds, beside the lower
-bounds that he published (1993), and ten of 500 jobs on 20 machines. The heuristics are short and plain: a priority rule, then the
-best of all insertions and exchanges until none helps, from several starts. A gap is the heuristic's cost less the bound, in percent
-of the cost; where both are equal the schedule is proved optimal.
+The instances are made here, from fixed seeds. Weighted tardiness: 125 instances of 40 jobs and 50 of 100 by the published recipe
+of OR-Library's files (processing times 1 to 100, weights 1 to 10, due dates from P(1 - TF - RDD/2) to P(1 - TF + RDD/2)). One
+machine with release dates: 20 instances of 30 jobs. Three machines: 40 instances each of 10, 15, 20 and 50 jobs, times 20 to 100.
+Flow shops: Taillard's ten instances of 20 jobs on five machines, made by his published generator from his seeds, beside the lower
+bounds that he published (1993), and ten of 500 jobs on 20 machines. The heuristics are short and plain: a priority rule, then
+insertions and exchanges until none helps, for weighted tardiness from several starts. A gap is the heuristic's cost less the bound,
+in percent of the cost; where both are equal the schedule is proved optimal.
 """
 import os
 import random
@@ -70,19 +70,33 @@ def descent(order, cost):
     return order, best
 
 
-def tardiness_of(jobs):
-    """The total weighted tardiness of an order."""
-    triples = [(job["p"], job["w"], job["d"]) for job in jobs]
+def tardiness_from(triples, order, at):
+    """The total weighted tardiness of jobs that run one after another from a time on."""
+    total = 0
+    for k in order:
+        p, w, d = triples[k]
+        at += p
+        if at > d:
+            total += w * (at - d)
+    return total
 
-    def cost(order):
-        at = total = 0
-        for k in order:
-            p, w, d = triples[k]
-            at += p
-            if at > d:
-                total += w * (at - d)
-        return total
-    return cost
+
+def tardy_descent(triples, order):
+    """What `descent` does for the total weighted tardiness: only the jobs between the two places are costed anew."""
+    improved = True
+    while improved:
+        improved = False
+        for i in range(len(order)):
+            at = sum(triples[k][0] for k in order[:i])
+            for j in range(i + 1, len(order)):
+                part = order[i:j + 1]
+                others = (part[1:] + part[:1], part[-1:] + part[:-1], part[-1:] + part[1:-1] + part[:1])
+                best = tardiness_from(triples, part, at)
+                for other in others:
+                    value = tardiness_from(triples, other, at)
+                    if value < best:
+                        order[i:j + 1], best, improved = other, value, True
+    return order, tardiness_from(triples, order, 0)
 
 
 def urgent_order(jobs):
@@ -101,16 +115,18 @@ def urgent_order(jobs):
     return order
 
 
-def best_tardiness(jobs, draw):
-    cost = tardiness_of(jobs)
-    order, best = descent(urgent_order(jobs), cost)
-    for _ in range(3):
+def best_tardiness(jobs, rounds):
+    """The least total weighted tardiness of a descent, and of so many more from exchanges in the best order."""
+    draw = random.Random(len(jobs))
+    triples = [(job["p"], job["w"], job["d"]) for job in jobs]
+    order, best = tardy_descent(triples, urgent_order(jobs))
+    for _ in range(rounds):
         kicked = order[:]
         for _ in range(4):
             i, j = draw.randrange(len(jobs)), draw.randrange(len(jobs))
             kicked[i], kicked[j] = kicked[j], kicked[i]
-        kicked, value = descent(kicked, cost)
-        if value < best:
+        kicked, value = tardy_descent(triples, kicked)
+        if value <= best:
             order, best = kicked, value
     return best
 
@@ -204,20 +220,27 @@ def row(name, gaps, seconds):
     print(f"| {name} | {len(gaps)} | {mean:.2f} | {max(gaps):.2f} | {proved} | {sum(seconds) / len(seconds):.3f} |", flush=True)
 
 
-def weighted_tardiness(program, steps, draw):
+def tardy_jobs(n, factor, spread, draw):
+    """Jobs of a tardiness factor and a spread of due dates."""
+    times = [draw.randint(1, 100) for _ in range(n)]
+    total = sum(times)
+    low, high = int(total * (1 - factor - spread / 2)), int(total * (1 - factor + spread / 2))
+    return [{"p": p, "w": draw.randint(1, 10), "d": max(draw.randint(low, high), 0)} for p in times]
+
+
+def weighted_tardiness(program, steps, n, number):
+    """Bounds of `number` instances of n jobs for each factor and spread, beside 200 / n rounds of the heuristic."""
     words = [program, "bound", "-p", "1||sumwT", *(["--steps", steps] if steps else [])]
+    draw = random.Random(n)
     for factor in RANGES:
         gaps, seconds = [], []
         for spread in RANGES:
-            for _ in range(5):
-                times = [draw.randint(1, 100) for _ in range(40)]
-                total = sum(times)
-                low, high = int(total * (1 - factor - spread / 2)), int(total * (1 - factor + spread / 2))
-                jobs = [{"p": p, "w": draw.randint(1, 10), "d": max(draw.randint(low, high), 0)} for p in times]
+            for _ in range(number):
+                jobs = tardy_jobs(n, factor, spread, draw)
                 run = Measured(words, table(jobs))
-                gaps.append(gap(best_tardiness(jobs, draw), run.value))
+                gaps.append(gap(best_tardiness(jobs, 200 // n), run.value))
                 seconds.append(run.seconds)
-        row(f"`1\\|\\|sumwT`, 40 jobs, tardiness factor {factor}", gaps, seconds)
+        row(f"`1\\|\\|sumwT`, {n} jobs, tardiness factor {factor}", gaps, seconds)
     return run.memory
 
 
@@ -274,7 +297,8 @@ def flow_shops(program):
 def main(program, steps=None):
     draw = random.Random(20261126)
     print("| Instances | Number | Mean gap, percent | Greatest gap | Proved optimal | Seconds each |\n|---|---|---|---|---|---|")
-    memory = max(released(program, draw), parallel(program, draw), flow_shops(program), weighted_tardiness(program, steps, draw))
+    memory = max(released(program, draw), parallel(program, draw), flow_shops(program),
+                 weighted_tardiness(program, steps, 40, 5), weighted_tardiness(program, steps, 100, 2))
     print(f"\nAt most {memory:.0f} MB.")
 
 
