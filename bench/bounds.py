@@ -1,5 +1,5 @@
 #!/usr/bin/env python3
-"""Measures how strong the printed lower bounds are: their gaps to a heuristic, with seconds and memory.
+"""Measures how strong the printed lower bounds are: their gaps to a heuristic, with processor seconds and memory.
 
     python3 bench/bounds.py PROGRAM [STEPS]
 
@@ -17,7 +17,6 @@ import resource
 import subprocess
 import sys
 import tempfile
-import time
 
 RANGES = (0.2, 0.4, 0.6, 0.8, 1.0)
 
@@ -27,20 +26,21 @@ TAILLARD = ((873654221, 1232), (379008056, 1290), (1866992158, 1073), (216771124
 
 
 class Measured:
-    """What one run of the program gave: the value, the seconds, and the most memory in MB of any run so far."""
+    """What one run of the program gave: the value, the processor seconds, and the most memory in MB of any run so far."""
 
     def __init__(self, words, text):
         with tempfile.NamedTemporaryFile("w", suffix=".txt", delete=False) as file:
             file.write(text)
-        start = time.monotonic()
+        before = resource.getrusage(resource.RUSAGE_CHILDREN)
         done = subprocess.run([*words, file.name], capture_output=True, text=True, check=False)
-        self.seconds = time.monotonic() - start
+        after = resource.getrusage(resource.RUSAGE_CHILDREN)
+        self.seconds = after.ru_utime + after.ru_stime - before.ru_utime - before.ru_stime
         os.unlink(file.name)
         if done.returncode != 0:
             raise SystemExit(f"{' '.join(words)}: status {done.returncode}: {done.stderr}")
         fields = dict(line.split(" ", 1) for line in done.stdout.splitlines() if " " in line)
         self.value = int(fields["value"])
-        self.memory = resource.getrusage(resource.RUSAGE_CHILDREN).ru_maxrss / 1024
+        self.memory = after.ru_maxrss / 1024
 
 
 def table(jobs):
@@ -296,7 +296,7 @@ def flow_shops(program):
 
 def main(program, steps=None):
     draw = random.Random(20261126)
-    print("| Instances | Number | Mean gap, percent | Greatest gap | Proved optimal | Seconds each |\n|---|---|---|---|---|---|")
+    print("| Instances | Number | Mean gap, percent | Greatest gap | Proved optimal | Processor seconds each |\n|---|---|---|---|---|---|")
     memory = max(released(program, draw), parallel(program, draw), flow_shops(program),
                  weighted_tardiness(program, steps, 40, 5), weighted_tardiness(program, steps, 100, 2))
     print(f"\nAt most {memory:.0f} MB.")

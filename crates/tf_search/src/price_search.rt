@@ -39,12 +39,12 @@ struct Pace {
 }
 
 impl Pace {
-    // Full steps at first. A fortieth of all steps without a better value shortens them, but no fewer
+    // Full steps at first. A fiftieth of all steps without a better value shortens them, but no fewer
     // than 3, and no more than 60.
     fn new(steps: u32) -> Pace {
         Pace {
             length: LENGTH,
-            patience: (steps / 40).clamp(3, 60),
+            patience: (steps / 50).clamp(3, 60),
             waited: 0,
         }
     }
