@@ -1,11 +1,14 @@
 -- What an evaluation of an answer to any problem leaves behind.
-use Rattle.std.specs.Prelude.{◌≡◌, ℕ, Bool, false, List, None, is_some, Result, Ok, Err, IsTrue, IsFalse}
+use Rattle.std.specs.Prelude.{◌≡◌, ℕ, Bool, false, List, None, is_some, Result, Ok, Err, IsTrue, IsFalse, if◌then◌else◌}
 use Rattle.tf_model.specs.declared.problem.Problem.{Problem}
 use Rattle.tf_model.specs.ClassTable.{class_of}
 use Rattle.tf_notation.specs.Reading.{notation}
 use Rattle.tf_text.specs.Counted.{DeviceUse}
 use Rattle.tf_engine.specs.declared.fault.RunFault.{RunFault}
+use Rattle.tf_engine.specs.Faults.{Refused}
+use Rattle.tf_engine.specs.Refusal.{problem_for}
 use Rattle.tf_engine.specs.RequestData.{RequestData}
+use Rattle.tf_bounding.specs.RunBounding.{problem_in}
 use Rattle.tf_evaluate.specs.declared.evaluation.Detail.{Detail}
 use Rattle.tf_evaluate.specs.declared.evaluation.Standing.{Standing}
 use Rattle.tf_evaluate.specs.declared.evaluation.Standing.TheVariants as standings
@@ -32,6 +35,10 @@ standing_as Unfit = standings.Unfit
 abbrev pub rated : {A : Type 0} → Result Assessed (RunFault A) → Result Standing (RunFault A)
 rated (Ok assessed) = Ok (standing_as assessed)
 rated (Err fault) = Err fault
+
+-- the problem of a line: of a class, or one of which some kind of certificate bounds the tasks
+abbrev pub posed_problem : List ℕ → Result Problem Refused
+posed_problem text = if is_solved text then problem_for text else problem_in text
 
 -- An answer to a problem of a class is evaluated, and one to another problem is assessed.
 pub record IsRatingOf {A : Type 0} (detail : Detail) (request : RequestData)

@@ -1,7 +1,9 @@
 //! Evaluating somebody's answer to any problem, from bytes to bytes.
 ghost use Rattle.std.specs.Prelude.{◌≡◌};
 ghost use Rattle.tf_text.specs.Counted.{use_of};
-ghost use Rattle.tf_assess.specs.RunRating.{IsRatingOf, is_solved, rated, standing_as};
+ghost use Rattle.tf_engine.specs.Devices.{LeavesCase};
+ghost use Rattle.tf_engine.specs.Faults.{end_of};
+ghost use Rattle.tf_assess.specs.RunRating.{IsRatingOf, is_solved, posed_problem, rated, standing_as};
 
 use crate::assessment::Assessed;
 use crate::offered::Aids;
@@ -35,9 +37,11 @@ pub fn run_rate<A: Allocator + Copy, B: Allocator, R: Read, S: Read, W: Write>(
     answer: &mut Counted<S>,
     writer: &mut Counted<W>,
 ) -> Result<Standing, RunFault<A>>
-    ensures { IsRatingOf options.detail request.now (use_of R.remaining instance.old instance.new)
+    ensures outcome { IsRatingOf options.detail request.now (use_of R.remaining instance.old instance.new)
         (use_of S.remaining answer.old answer.new) (use_of W.contents writer.old writer.new)
         result }
+    ensures devices { LeavesCase (posed_problem request.now.problem) R.remaining instance.old
+        instance.new S.remaining answer.old answer.new writer.old writer.new (end_of result) }
 {
     if is_solved(request.problem.as_str()) {
         return run_evaluate(alloc, request, options.detail, instance, answer, writer);

@@ -1,3 +1,4 @@
 -- what a caller has to believe
 pub mod Dates
 pub mod Dated
+pub mod Leaving

@@ -6,6 +6,7 @@ ghost use Rattle.tf_engine.specs.Faults.{stop_of};
 ghost use Rattle.tf_engine.specs.FormData.{form_of};
 ghost use Rattle.tf_engine.specs.Parts.{StopsBy};
 ghost use Rattle.tf_dated.specs.Dated.{IsDatedOver, IsDatedRunOf, IsDrawnSheet, IsForJobs};
+ghost use Rattle.tf_dated.specs.Leaving.{LeavesBeside, LeavesDated};
 
 use crate::dates::dates_of;
 use std::alloc::Allocator;
@@ -46,10 +47,12 @@ pub fn run_dated<A: Allocator + Copy, B: Allocator, R: Read, S: Read, W: Write>(
     answer: &mut Counted<S>,
     writer: &mut Counted<W>,
 ) -> Result<Pictured, RunFault<A>>
-    ensures { IsDatedRunOf view.now (form_of form.now)
+    ensures outcome { IsDatedRunOf view.now (form_of form.now)
         (use_of R.remaining instance.old instance.new)
         (use_of S.remaining answer.old answer.new) (use_of W.contents writer.old writer.new)
         result }
+    ensures devices { LeavesDated R.remaining instance.old instance.new S.remaining answer.old
+        answer.new writer.old writer.new result }
 {
     let instance = instance_read(alloc, form, instance)?;
     draw_beside(alloc, view, &instance, answer, writer)
@@ -63,8 +66,9 @@ fn draw_beside<A: Allocator + Copy, B: Allocator, S: Read, W: Write>(
     answer: &mut Counted<S>,
     writer: &mut Counted<W>,
 ) -> Result<Pictured, RunFault<A>>
-    ensures { IsDatedOver view.now instance.now (use_of S.remaining answer.old answer.new)
+    ensures outcome { IsDatedOver view.now instance.now (use_of S.remaining answer.old answer.new)
         (use_of W.contents writer.old writer.new) result }
+    ensures devices { LeavesBeside S.remaining answer.old answer.new writer.old writer.new result }
 {
     let sheet = sheet_read(alloc, answer)?;
     if !is_for_jobs(instance, &sheet) {

@@ -22,13 +22,13 @@ use Rattle.tf_engine.proofs.CaseRead.{refusal_first}
 use Rattle.tf_engine.proofs.Devices.{instance_later}
 use Rattle.tf_engine.proofs.Unread.{text_for, long_text_for}
 use Rattle.tf_bounding.specs.RunBounding.{problem_in, problem_task_for, IsRefusedBound, ReadsProblemTask}
-use Rattle.tf_assess.specs.RunRating.{is_solved}
+use Rattle.tf_assess.specs.RunRating.{is_solved, posed_problem}
 use Rattle.tf_assess.proofs.Reading.{bound_first, stops_as}
 use Rattle.tf_orders.specs.declared.case_read.OrderCase.{OrderCase}
 use Rattle.tf_orders.specs.declared.case_read.Posed.{Posed}
 use Rattle.tf_orders.specs.declared.case_read.Posed.TheVariants.{Solved, Unsolved}
 use Rattle.tf_orders.specs.OrderParts.{Means, ReadsPosed, IsLong, ReadsOrders, IsRefusedCase, ReadsOrderCase}
-use Rattle.tf_orders.specs.RunOrders.{posed_problem, IsPosed, IsRefusedInstance, HasOrderReaderFailed}
+use Rattle.tf_orders.specs.RunOrders.{IsPosed, IsRefusedInstance, HasOrderReaderFailed}
 
 never : (b : Bool) → b ≡ true → b ≡ false → ⊥
 never b holds fails = let both : true ≡ false = sym holds ∙ fails in cc

@@ -19,7 +19,7 @@ use Rattle.tf_bounding.specs.RunBounding.{problem_task_for}
 use Rattle.tf_search.specs.declared.strongest.Found.{Found}
 use Rattle.tf_search.specs.Strongest.{IsFound}
 use Rattle.tf_evaluate.specs.Evaluating.{IsLeastCost}
-use Rattle.tf_assess.specs.RunRating.{is_solved}
+use Rattle.tf_assess.specs.RunRating.{is_solved, posed_problem}
 use Rattle.tf_orders.specs.declared.case_read.OrderCase.{OrderCase}
 use Rattle.tf_orders.specs.declared.case_read.Posed.{Posed}
 use Rattle.tf_orders.specs.declared.case_read.Posed.TheVariants.{Solved, Unsolved}
@@ -28,7 +28,7 @@ use Rattle.tf_orders.specs.declared.measure.Measure.TheVariants.{Optimum, Bound}
 use Rattle.tf_orders.specs.declared.run_orders.OrderForm.{OrderForm}
 use Rattle.tf_orders.specs.Measuring.{IsUnordered}
 use Rattle.tf_orders.specs.OrderText.{IsMalformed}
-use Rattle.tf_orders.specs.RunOrders.{posed_problem, IsPosed, IsRefusedInstance, IsTooLong, HasOrderReaderFailed}
+use Rattle.tf_orders.specs.RunOrders.{IsPosed, IsRefusedInstance, IsTooLong, HasOrderReaderFailed}
 
 -- the request and the text mean the task
 abbrev pub Means : {A : Type 0} → RequestData → List ℕ → Posed A → Type 0

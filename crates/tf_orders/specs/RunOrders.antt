@@ -1,8 +1,7 @@
 -- What a run over an instance and orders leaves behind.
-use Rattle.std.specs.Prelude.{◌≡◌, ℕ, ◌<◌, ◌⊎◌, true, List, length, Result, Ok, Err, IsTrue, IsFalse, IsOk, if◌then◌else◌}
+use Rattle.std.specs.Prelude.{◌≡◌, ℕ, ◌<◌, ◌⊎◌, true, List, length, Result, Ok, Err, IsTrue, IsFalse, IsOk}
 use Rattle.std.specs.Io.KnownBytes.{Appends}
 use Rattle.tf_model.specs.Limit.{most_bytes}
-use Rattle.tf_model.specs.declared.problem.Problem.{Problem}
 use Rattle.tf_text.specs.Counted.{DeviceUse}
 use Rattle.tf_text.specs.Input.{IsTextOf}
 use Rattle.tf_text.specs.declared.answer.fault.AnswerFault.{AnswerFault}
@@ -11,19 +10,15 @@ use Rattle.tf_engine.specs.declared.fault.RunFault.{RunFault}
 use Rattle.tf_engine.specs.Faults.{Refused, ByCycle, ByAnswer, stop_of}
 use Rattle.tf_engine.specs.Headline.{IsCyclic}
 use Rattle.tf_engine.specs.RequestData.{RequestData}
-use Rattle.tf_engine.specs.Refusal.{problem_for, task_for}
+use Rattle.tf_engine.specs.Refusal.{task_for}
 use Rattle.tf_engine.specs.Runs.{Leaves}
-use Rattle.tf_bounding.specs.RunBounding.{problem_in, problem_task_for, IsRefusedBound}
+use Rattle.tf_bounding.specs.RunBounding.{problem_task_for, IsRefusedBound}
 use Rattle.tf_assess.specs.RunRating.{is_solved}
 use Rattle.tf_orders.specs.declared.measure.Measure.{Measure}
 use Rattle.tf_orders.specs.declared.run_orders.OrderForm.{OrderForm}
 use Rattle.tf_orders.specs.declared.run_orders.OrdersRated.{OrdersRated}
 use Rattle.tf_orders.specs.Measuring.{IsMeasure}
 use Rattle.tf_orders.specs.OrderText.{AreRated, IsMalformed}
-
--- the problem of a line: of a class, or one of which some kind of certificate bounds the tasks
-abbrev pub posed_problem : List ℕ → Result Problem Refused
-posed_problem text = if is_solved text then problem_for text else problem_in text
 
 -- the request and the text mean a task
 pub record IsPosed (request : RequestData) (text : List ℕ) : Type 0 where

@@ -2,7 +2,8 @@
 ghost use Rattle.tf_text.specs.Counted.{use_of};
 ghost use Rattle.tf_engine.specs.Devices.{LeavesCase};
 ghost use Rattle.tf_engine.specs.Faults.{end_of};
-ghost use Rattle.tf_orders.specs.RunOrders.{IsOrdersRunOf, posed_problem};
+ghost use Rattle.tf_assess.specs.RunRating.{posed_problem};
+ghost use Rattle.tf_orders.specs.RunOrders.{IsOrdersRunOf};
 
 use crate::case_read::{OrderCase, order_case_read};
 use crate::measure::measured;

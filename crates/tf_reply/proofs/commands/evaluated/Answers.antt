@@ -27,7 +27,7 @@ returns g c =
           (use_of left c.new-instance.result run.new.instance)
           (use_of left c.new-answer.result run.new.answer)
           (use_of held console.output run.new.writer) run.result)
-          c.in_ok-request.ensures run.ensures;
+          c.in_ok-request.ensures run.ensures.outcome;
       ends = ended.ensures.status;
       said = said;
     })
