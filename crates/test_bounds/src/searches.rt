@@ -15,5 +15,7 @@ fn each_search_finds_the_optimum_of_a_small_task(rt: HostRuntime) -> Result<(), 
     assert!(rt; price_bound(rt.alloc(), &tardy, 100)?.value == 3);
     let late = task_of(rt.alloc(), Sample::Late)?;
     assert!(rt; price_bound(rt.alloc(), &late, 100)?.value == 2);
+    let overlapping = task_of(rt.alloc(), Sample::Overlapping)?;
+    assert!(rt; price_bound(rt.alloc(), &overlapping, 100)?.value == 6);
     Ok(())
 }

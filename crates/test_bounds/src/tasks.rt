@@ -17,6 +17,8 @@ pub enum Sample {
     Fours,
     /// `1||sumU`: three jobs of time 2 that are due at 2, of optimum 2.
     Late,
+    /// `1|rj|sumwC`: two jobs of time 2, the second released at 1, of optimum 6.
+    Overlapping,
 }
 
 // Its environment, objective and number of machines.
@@ -27,6 +29,7 @@ fn frame(sample: Sample) -> (Env, Goal, u32) {
         Sample::Released => (Env::Single, Goal::Lmax, 1),
         Sample::Fours => (Env::Parallel, Goal::Cmax, 2),
         Sample::Late => (Env::Single, Goal::SumU, 1),
+        Sample::Overlapping => (Env::Single, Goal::SumWC, 1),
     }
 }
 
@@ -47,6 +50,8 @@ const FOURS: &[Row] = &[(&[4], 1, 0, 0), (&[4], 1, 0, 0), (&[4], 1, 0, 0)];
 
 const LATE: &[Row] = &[(&[2], 1, 0, 2), (&[2], 1, 0, 2), (&[2], 1, 0, 2)];
 
+const OVERLAPPING: &[Row] = &[(&[2], 1, 0, 0), (&[2], 1, 1, 0)];
+
 fn rows_of(sample: Sample) -> &'static [Row] {
     match sample {
         Sample::Tardy => TARDY,
@@ -54,6 +59,7 @@ fn rows_of(sample: Sample) -> &'static [Row] {
         Sample::Released => RELEASED,
         Sample::Fours => FOURS,
         Sample::Late => LATE,
+        Sample::Overlapping => OVERLAPPING,
     }
 }
 
@@ -70,7 +76,7 @@ pub fn numbers(alloc: Global, values: &[u64]) -> Result<Vec<u64>, Fail> {
 pub fn task_of(alloc: Global, sample: Sample) -> Result<ProblemTask, Fail> {
     let (env, goal, machines) = frame(sample);
     let problem = Problem {
-        release: sample == Sample::Released,
+        release: matches!(sample, Sample::Released | Sample::Overlapping),
         prmu: sample == Sample::Flow,
         ..Problem::plain(env, goal)
     };

@@ -1,8 +1,8 @@
-//! The starts of a job, and the cheapest of them: what a search for prices asks for each job in each
-//! step.
+//! The starts of a job, and the cheapest of them, which a search for prices finds for each job in
+//! each step.
 //!
-//! The walks use wrapping sums, which do not wrap: prices and costs are within the limit each, and so
-//! twice the limit together. Nothing rests on it, since the judge computes what prices bound.
+//! Wrapping sums are used, and none wraps: the prices of all rows are within the limit together, and
+//! so is the cost of a job. Nothing rests on it, since the judge computes what prices bound.
 ghost use Rattle.std.specs.Prelude.{◌≡◌, IsFalse};
 ghost use Rattle.tf_model.specs.ClassTable.{is_shop_env};
 ghost use Rattle.tf_problem.specs.ProblemData.{IsProblemJob};
@@ -13,8 +13,8 @@ use tf_bound::task::ProblemTask;
 use tf_model::ids::JobId;
 use tf_model::limit::LIMIT;
 
-/// The starts of a job from its release date to the last row. Those that are in time come first, and
-/// cost nothing; the late ones cost the more the later they are, or all the same.
+/// The starts of a job from its release date to the last row. Those that are in time come first,
+/// and cost nothing; the late ones cost more the later they are, or all the same.
 #[derive(Clone, Copy, Debug)]
 pub struct JobStarts {
     // The release date.
@@ -82,8 +82,8 @@ impl JobStarts {
         self.time
     }
 
-    /// Finds the cheapest start, and returns what the job costs there. `sums` has the sum of the prices
-    /// before each row, and that of all of them for each row after the last.
+    /// Finds the cheapest start, and returns what the job costs there. `sums` has the sum of the
+    /// prices before each row, and that of all prices for each row after the last.
     pub fn find_cheapest(&mut self, sums: &[u64]) -> u64 {
         let known = Start {
             row: self.cheapest,
@@ -96,8 +96,8 @@ impl JobStarts {
         best.price
     }
 
-    /// Counts the job in the rows of its cheapest start: one more from its first row on, and one less
-    /// after its last row.
+    /// Counts the job at its cheapest start: one more from its first row on, and one less after its
+    /// last row.
     pub fn count_in(self, counts: &mut [i64]) {
         if let Some(count) = counts.get_mut(self.cheapest) {
             *count = count.saturating_add(1);
@@ -140,8 +140,7 @@ impl JobStarts {
         best
     }
 
-    // What the job costs at a start, and how much more at each start after it, up to its last start that
-    // is in time, if it is in time.
+    // What the job costs at a start, and how much more at each start after it of the same part.
     fn cost_from(self, row: usize) -> (u64, u64) {
         if row < self.late {
             return (0, 0);

@@ -39,8 +39,8 @@ struct Pace {
 }
 
 impl Pace {
-    // Full steps at first. A fiftieth of all steps without a better value shortens them, but no fewer
-    // than 3, and no more than 60.
+    // Full steps at first. A fiftieth of all steps without a better value shortens them, but at
+    // least 3 and at most 60.
     fn new(steps: u32) -> Pace {
         Pace {
             length: LENGTH,
@@ -67,8 +67,8 @@ impl Pace {
     }
 }
 
-// What a search writes: the starts of the jobs, the prices, their sums, how many more jobs than before
-// each row has at their cheapest starts, the direction of the steps, and the best prices.
+// What a search writes: the starts of the jobs, the prices, their sums, how many more jobs than
+// before each row has at their cheapest starts, the direction of the steps, and the best prices.
 #[derive(Drop)]
 struct Tables<A: Allocator> {
     jobs: Vec<JobStarts, A>,
@@ -294,8 +294,8 @@ impl Share {
     }
 }
 
-// Takes so many steps, and keeps the prices of the greatest value. Ends where that bounds the target,
-// since a bound is rounded up.
+// Takes so many steps, and keeps the prices of the greatest value. Ends where that is the target,
+// rounded up as a bound is.
 fn improve<A: Allocator>(machines: u32, target: u64, steps: u32, tables: &mut Tables<A>) {
     let goal = i128::from(target) * i128::from(DENOMINATOR);
     let mut pace = Pace::new(steps);
@@ -318,8 +318,8 @@ fn improve<A: Allocator>(machines: u32, target: u64, steps: u32, tables: &mut Ta
 }
 
 impl<A: Allocator> Tables<A> {
-    // The value of the prices, where their sums are within the limit. Counts the jobs in the rows of
-    // their cheapest starts.
+    // The value of the prices, where their sum is within the limit. Counts the jobs at their
+    // cheapest starts.
     fn value(&mut self, machines: u32) -> Option<i128> {
         let all = sum_up(&self.rows, &mut self.sums)?;
         let cost = count_cheapest(&mut self.jobs, &self.sums, &mut self.counts);
@@ -352,8 +352,8 @@ impl<A: Allocator> Tables<A> {
     }
 }
 
-// Writes the sum of the prices before each row, and that of all of them for each row after the last.
-// None where they are beyond the limit.
+// Writes the sum of the prices before each row, and that of all prices for each row after the last.
+// Returns the sum of all, and None where it is beyond the limit.
 fn sum_up(rows: &[u64], sums: &mut [u64]) -> Option<u64> {
     let mut total: u64 = 0;
     for (sum, price) in sums.iter_mut().zip(rows) {
