@@ -1,5 +1,5 @@
 -- What the program does of what is asked for: which run over which texts ends how.
-use Rattle.std.specs.Prelude.{◌≡◌, ◌⊎◌, ℕ, Bool, false, true, List, [], Option, None, Some, Ok, IfSome, codes}
+use Rattle.std.specs.Prelude.{◌≡◌, ◌⊎◌, ◌++◌, ℕ, Bool, false, true, List, [], Option, None, Some, Ok, Err, IfSome, codes}
 use Rattle.std.specs.declared.alloc.Global.{Global}
 use Rattle.std.specs.Io.KnownBytes.{Appends, Keeps}
 use Rattle.tf_listing.specs.Listing.{listing}
@@ -19,7 +19,10 @@ use Rattle.tf_random.specs.Asked.{IsTableFor, IsFaultOf}
 use Rattle.tf_random.specs.declared.run_random.RandomFault.{RandomFault}
 use Rattle.tf_random.specs.declared.run_random.Wanted.{Wanted}
 use Rattle.tf_engine.specs.declared.fault.RunFault.{RunFault}
-use Rattle.tf_command.specs.FaultLine.{no_table_line}
+use Rattle.tf_engine.specs.Faults.{ByText, stop_of}
+use Rattle.tf_engine.specs.Parts.{StopsReading}
+use Rattle.tf_engine.specs.Refusal.{refused_by}
+use Rattle.tf_command.specs.FaultLine.{fault_line, no_table_line}
 use Rattle.tf_command.specs.Statuses.{status_of, status_of_no_table}
 use Rattle.tf_command.specs.Ending.{EndsSolving, EndsBounding, EndsTracing, EndsChecking, EndsDrawing, EndsEvaluating, EndsRating, EndsPicturing}
 use Rattle.tf_command.specs.Assessing.{EndsAssessing}
@@ -74,13 +77,31 @@ abbrev pub IsInTable : Option (List ℕ) → InstanceData → Type 0
 IsInTable known instance =
     (text : List ℕ) × IsTextOf known text × (job_table text ≡ Ok instance)
 
--- the list was written for the instance of the table that was read; or there is none, and nothing
--- was written
+-- the table, which is all bytes of its reader where they are known, has this first fault; or its
+-- reader failed, or memory was wanting
+abbrev pub IsNoTable : List ℕ → DeviceUse → RunFault Global → Type 0
+IsNoTable text table fault =
+    StopsReading (λ refused. refused_by ByText (job_table text) ≡ Err refused) (table.failed ≡ true)
+    (stop_of fault)
+
+-- there is no table, for which the line is told and then explained, and nothing was written
+pub record EndsUnlisted (table writer : DeviceUse) (says : List ℕ → Type 0) (status : ℕ) : Type 0
+  where
+    pub text : List ℕ
+    pub is_all : IsTextOf table.before text
+    pub fault : RunFault Global
+    pub none : IsNoTable text table fault
+    pub unwritten : Keeps writer.before writer.after
+    pub ends : status ≡ status_of fault
+    pub explanation : List ℕ
+    pub said : says (fault_line fault ++ explanation)
+
+-- the list was written for the instance of the table that was read, or there is none
 abbrev pub EndsListingFor : DeviceUse → DeviceUse → (List ℕ → Type 0) → ℕ → Type 0
 EndsListingFor table writer says status =
     ((instance : InstanceData) × IsInTable table.before instance
     × EndsListing (Some instance) writer says status)
-    ⊎ ((fault : RunFault Global) × (status ≡ status_of fault) × Keeps writer.before writer.after)
+    ⊎ EndsUnlisted table writer says status
 
 -- the orders or the pieces of the text of this name are rated
 abbrev pub RatesNamed : Texts → Options → List ℕ → OrderForm → DeviceUse → (Bool → List ℕ → Type 0)

@@ -5,10 +5,15 @@ ghost use Rattle.tf_options.specs.Columns.{HasWidth, IsSized};
 ghost use Rattle.tf_command.specs.Ending.{EndsSolving, EndsBounding, EndsTracing, EndsChecking, EndsEvaluating, EndsRating, EndsDrawing, SaysLine, drawn_as};
 ghost use Rattle.tf_command.specs.Assessing.{EndsAssessed, EndsAssessing};
 ghost use Rattle.tf_engine.specs.Drawing.{IsDrawingOf};
-ghost use Rattle.std.specs.Prelude.{◌≡◌, ◌⊎◌, None, Some, IfSome, IfOk, IfErr, false, true, codes};
+ghost use Rattle.tf_engine.specs.FormData.{InTable};
+ghost use Rattle.tf_engine.specs.Parts.{ReadsTo, instance_said};
+ghost use Rattle.std.specs.Prelude.{◌≡◌, ◌⊎◌, ◌++◌, List, ℕ, None, Some, IfSome, IfOk, IfErr, false, true, codes};
 ghost use Rattle.std.specs.Option.{option_map};
 ghost use Rattle.tf_command.specs.Performing.{EndsListing, EndsListingFor, EndsOver, EndsRandom, EndsWriting, IsInTable, Performs, RatesNamed};
 ghost use Rattle.tf_command.specs.Recorded.{bytes_left};
+ghost use Rattle.tf_command.specs.FaultLine.{fault_line};
+ghost use Rattle.tf_command.specs.Statuses.{status_of};
+ghost use Rattle.tf_command.specs.Wrote.{Wrote};
 ghost use Rattle.tf_text.specs.Counted.{inner_of, use_of};
 
 use crate::console::Console;
@@ -27,8 +32,10 @@ use tf_assess::offered::Aids;
 use tf_assess::run_assess::run_assess;
 use tf_assess::run_rate::{EvaluationOptions, rated, run_rate};
 use tf_bound_text::sheet::BoundSheet;
+use tf_bounding::instance_read::instance_read;
 use tf_bounding::run_bound::run_bound;
 use tf_engine::fault::RunFault;
+use tf_engine::request::Form;
 use tf_engine::run_check::run_check;
 use tf_engine::run_gantt::run_gantt;
 use tf_engine::run_solve::run_solve;
@@ -39,10 +46,8 @@ use tf_options::options::{Assessing, Drawing, Evaluating, Options, OrderSource, 
 use tf_orders::run_orders::{OrderForm, run_orders};
 use tf_picture::run_picture::run_picture;
 use tf_random::run_random::{Wanted, run_random};
-use tf_read::job_table::read_table;
 use tf_text::answer::layout::Layout;
 use tf_text::counted::Counted;
-use tf_text::input::read_all;
 use tf_trace::board::Style;
 use tf_trace::run_trace::run_trace;
 
@@ -739,16 +744,29 @@ fn list_for<R: Read, W: Write, E: Write>(
         (use_of W.contents console.old.writer console.new.writer)
         (SaysLine E.contents false console.old.errors console.new.errors) result }
 {
+    match table_in(console.alloc, table) {
+        Ok(instance) => list(console, Some(&instance)),
+        Err(fault) => refuse_table(console, &fault, table.inner()),
+    }
+}
+
+/// Says and explains why there is no list for a table, and gives the exit status.
+fn refuse_table<R, W, E: Write>(
+    console: &mut Console<W, E>,
+    fault: &RunFault,
+    table: &Recorded<'_, R>,
+) -> u8
+    ensures unwritten { console.new.writer ≡ console.old.writer }
+    ensures status { result ≡ status_of fault.now }
+    ensures line { (explanation : List ℕ) × Wrote E.contents console.old.errors console.new.errors
+        (fault_line fault.now ++ explanation) }
+{
     let alloc = console.alloc;
-    let fault = match table_in(alloc, table) {
-        Ok(instance) => return list(console, Some(&instance)),
-        Err(fault) => fault,
-    };
-    let status = report(&fault, &mut console.errors);
-    let explanation = match (&fault, table.inner().failure(), table.inner().source()) {
+    let status = report(fault, &mut console.errors);
+    let explanation = match (fault, table.failure(), table.source()) {
         (_, Some((name, error)), _) => explain::not_read(alloc, name, &error),
         (RunFault::Text(fault), None, Some(text)) => explain::not_listed(alloc, fault, &text),
-        _ => return status,
+        _ => Ok(String::new(alloc)),
     };
     tell(explanation, &mut console.errors);
     status
@@ -759,10 +777,11 @@ pub fn table_in<A: Allocator + Copy, R: Read>(
     alloc: A,
     table: &mut Counted<R>,
 ) -> Result<Instance<A>, RunFault<A>>
-    ensures { IfOk result (IsInTable (R.remaining (inner_of table.old))) }
+    ensures table { IfOk result (IsInTable (R.remaining (inner_of table.old))) }
+    ensures read { ReadsTo (instance_said InTable) R.remaining table.old table.new result }
 {
-    let text = read_all(alloc, table)?;
-    Ok(read_table(alloc, text.as_slice())?)
+    let form: Form = Form::Table;
+    instance_read(alloc, &form, table)
 }
 
 /// Lists the problems that are solved, with an instance those that it has the fields for.

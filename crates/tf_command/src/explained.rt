@@ -1,4 +1,8 @@
 //! What is said, in plain words, of a run that has ended.
+ghost use Rattle.std.specs.Prelude.{List, ℕ};
+ghost use Rattle.tf_command.specs.Wrote.{Wrote};
+
+use crate::gathered::send;
 use crate::recorded::Recorded;
 use std::alloc::{AllocError, Global};
 use std::io;
@@ -321,8 +325,10 @@ fn tell_idle<E: Write>(idle: Idle, errors: &mut Counted<E>) {
 }
 
 /// Says what is explained, if there was memory for it.
-pub fn tell<E: Write>(explanation: Result<String, AllocError>, errors: &mut Counted<E>) {
+pub fn tell<E: Write>(explanation: Result<String, AllocError>, errors: &mut Counted<E>)
+    ensures { (text : List ℕ) × Wrote E.contents errors.old errors.new text }
+{
     if let Ok(text) = explanation {
-        let _ = errors.push_all(text.as_bytes());
+        send(errors, text.as_bytes());
     }
 }
