@@ -780,7 +780,7 @@ pub fn table_in<A: Allocator + Copy, R: Read>(
     ensures table { IfOk result (IsInTable (R.remaining (inner_of table.old))) }
     ensures read { ReadsTo (instance_said InTable) R.remaining table.old table.new result }
 {
-    let form: Form = Form::Table;
+    let form: Form<A> = Form::Table;
     instance_read(alloc, &form, table)
 }
 
