@@ -144,24 +144,35 @@ fn check_command<'a>(alloc: Global) -> Result<Command<'a>, AllocError> {
 }
 
 fn evaluate_command<'a>(alloc: Global) -> Result<Command<'a>, AllocError> {
+    let command = with_options(alloc, Command::new(alloc, "evaluate"))?
+        .about("Reports how far an answer is from the optimum, job by job")
+        .after_help(ABOUT_EVALUATE)
+        .after_long_help(help::OF_EVALUATE);
+    with_schedules(alloc, with_bounds(alloc, command)?)
+}
+
+// What is told of bounds, and in which format.
+fn with_bounds<'a>(alloc: Global, command: Command<'a>) -> Result<Command<'a>, AllocError> {
     let certificate = Arg::new(alloc, "certificate")
         .long("certificate")
         .help("Writes the certificate's arithmetic, step by step")
         .action(ArgAction::SetTrue);
+    command
+        .arg(certificate)?
+        .arg(bound(alloc)?)?
+        .arg(steps_of_answer(alloc)?)?
+        .arg(json(alloc))?
+        .arg(csv(alloc)?)
+}
+
+// The schedules that are evaluated.
+fn with_schedules<'a>(alloc: Global, command: Command<'a>) -> Result<Command<'a>, AllocError> {
     let answer = answer(alloc)
         .required(false)
         .required_unless_present("order")?
         .required_unless_present("orders")?
         .required_unless_present("schedule")?;
-    with_options(alloc, Command::new(alloc, "evaluate"))?
-        .about("Reports how far an answer is from the optimum, job by job")
-        .after_help(ABOUT_EVALUATE)
-        .after_long_help(help::OF_EVALUATE)
-        .arg(certificate)?
-        .arg(bound(alloc)?)?
-        .arg(steps_of_answer(alloc)?)?
-        .arg(json(alloc))?
-        .arg(csv(alloc)?)?
+    command
         .arg(order(alloc)?)?
         .arg(orders(alloc)?)?
         .arg(schedule(alloc)?)?
