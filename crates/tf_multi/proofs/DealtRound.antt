@@ -1,15 +1,16 @@
 -- The jobs by time, dealt round the machines: the timetable fits, and costs at most the bound by
 -- the ranks of the reverse order.
-use Rattle.std.proofs.Common.{◌≡◌, ℕ, zero, suc, ◌+◌, ◌-◌, ◌*◌, ◌<◌, ◌≤◌, ◌≤ℤ◌, pos, cond, eqb, List, [], ◌∷◌, ◌++◌, length, get_or, drop, map, reverse, Ok, refl, sym, ap, subst, ◌∙◌, arith, inl, inr, IsTrue}
+use Rattle.std.proofs.Common.{◌≡◌, ◌≢◌, ℕ, zero, suc, ◌+◌, ◌-◌, ◌*◌, ◌<◌, ◌≤◌, ◌≤ℤ◌, pos, cond, eqb, List, [], ◌∷◌, ◌++◌, length, get_or, drop, reverse, Ok, refl, sym, ap, subst, ◌∙◌, arith, inl, inr, IsTrue}
 use Rattle.std.specs.List.{All, AllPairs, fold, sum_by}
 use Rattle.std.specs.List.Sorted.{IsPermutation}
 use Rattle.std.proofs.lemmas.Bool.{cases_eq}
-use Rattle.std.proofs.lemmas.List.{get_or-reverse, length-reverse, map-append, map-id, drop-drop, drop_more, drop_all}
+use Rattle.std.proofs.lemmas.List.Kept.{AllPairs-cons}
+use Rattle.std.proofs.lemmas.List.{get_or-map, get_or-reverse, length-map, length-reverse, map-append, map-id, drop-drop, drop_more, drop_all}
 use Rattle.std.proofs.lemmas.Simd.{map-map}
 use Rattle.std.proofs.lemmas.List.Elements.{All-append, All-cons, All-head, All-map, All-tail, All-nil}
 use Rattle.std.proofs.lemmas.List.FromFn.{length-range_with_len}
 use Rattle.std.proofs.lemmas.List.Sorted.{All-permutation, sum_by-IsPermutation, IsPermutation-refl, IsPermutation-reverse, IsPermutation-trans, length_permutation}
-use Rattle.std.proofs.lemmas.List.Sums.{sum_by-cons, sum_by-append, fold-append}
+use Rattle.std.proofs.lemmas.List.Sums.{sum_by-append, fold-append}
 use Rattle.tf_model.specs.Bounds.{ranks_value}
 use Rattle.tf_model.specs.ClassTable.{is_sum, is_parallel}
 use Rattle.tf_model.specs.Cost.{cost}
@@ -23,12 +24,14 @@ use Rattle.tf_model.proofs.Loads.{IsDistinct-all_jobs}
 use Rattle.tf_model.proofs.Work.{IsDistinct}
 use Rattle.tf_schedule.specs.declared.piece.Piece.{Piece}
 use Rattle.tf_schedule.specs.declared.semi_active.Operation.{Operation}
-use Rattle.tf_schedule.specs.Drawing.{drawing, greatest_stop}
+use Rattle.tf_schedule.specs.Drawing.{drawing}
+use Rattle.tf_schedule.specs.Piece.{machine_of, job_of}
 use Rattle.tf_schedule.specs.Schedule.{IsSchedule}
-use Rattle.tf_schedule.specs.SemiActive.{laid, with_operation}
-use Rattle.tf_schedule.proofs.Laying.{stop_fold}
+use Rattle.tf_schedule.specs.SemiActive.{stretch, laid, with_operation}
+use Rattle.tf_schedule.proofs.Counting.{sum_by-map}
+use Rattle.tf_schedule.proofs.Laying.{Keeps}
 use Rattle.tf_schedule.proofs.LaidFits.{IsListed, is_laid, laid_schedule}
-use Rattle.tf_schedule.proofs.Parts.{AllPairs-append}
+use Rattle.tf_schedule.proofs.Parts.{AllPairs-append, AllPairs-left, AllPairs-across, AllPairs-head, AllPairs-tail}
 use Rattle.tf_schedule.proofs.OneOperation.{jobs_of as jobs_of_operations, IsOneEach, OtherJob, one_listed, one_fits, one_cost}
 use Rattle.tf_check.specs.declared.weighted_job.WeightedJob.{WeightedJob}
 use Rattle.tf_check.specs.Accepted.{IsAccepted}
@@ -40,18 +43,30 @@ use Rattle.tf_check.proofs.LaidAccepted.{laid_accepted}
 use Rattle.tf_check.proofs.NoFault.{no_list_fault}
 use Rattle.tf_check.proofs.RankedTimes.{ranks_within, ranks_fault_none}
 use Rattle.tf_check.proofs.RatioOrder.{jobs_falling}
-use Rattle.tf_multi.specs.Dealing.{turns, run_on, share, dealt}
+use Rattle.tf_multi.specs.Dealing.{turns, run_on, share, dealt, AreFree}
 use Rattle.tf_multi.proofs.Dealing.{all_turns, turned_all, ends-dealt}
+use Rattle.tf_multi.proofs.Numbers.{apart_in_order}
+use Rattle.tf_multi.proofs.OneByOne.{IsLeft, left_next, other_stops}
 
 -- ---- the operations
 
--- what holds of each job holds of those of a machine
+-- what holds of each job, and of all pairs, holds of those of a machine
 All-turns : (P : ℕ → Type 0) (m d : ℕ) (js : List ℕ) → All P js → All P (turns m d js)
 All-turns P m d [] all = all
 All-turns P m zero (j ∷ js) all =
     All-cons P j (turns m (m - 1) js) (All-head P j js all)
     (All-turns P m (m - 1) js (All-tail P j js all))
 All-turns P m (suc d) (j ∷ js) all = All-turns P m d js (All-tail P j js all)
+
+AllPairs-turns : (R : ℕ → ℕ → Type 0) (m d : ℕ) (js : List ℕ) → AllPairs R js
+    → AllPairs R (turns m d js)
+AllPairs-turns R m d [] pairs = pairs
+AllPairs-turns R m zero (j ∷ js) pairs =
+    AllPairs-cons R j (turns m (m - 1) js)
+    (All-turns (R j) m (m - 1) js (AllPairs-head R j js pairs))
+    (AllPairs-turns R m (m - 1) js (AllPairs-tail R j js pairs))
+AllPairs-turns R m (suc d) (j ∷ js) pairs =
+    AllPairs-turns R m d js (AllPairs-tail R j js pairs)
 
 module _ (f : ℕ → ℕ) (m : ℕ) where
   -- the jobs of the operations are what the machines get
@@ -101,21 +116,28 @@ module _ (f : ℕ → ℕ) (m : ℕ) where
 
   -- the next machine's time is within that of all
   pub share_within : (c n : ℕ) (js : List ℕ) → c < n
-      → greatest_stop (laid (dealt f m c js)) + sum_by (λ o. o.time) (share f m c js)
-      ≤ sum_by (λ o. o.time) (dealt f m n js)
+      → sum_by f (turns m c js) ≤ sum_by (λ o. o.time) (dealt f m n js)
   share_within c zero js lt = absurd (omega arith)
-  share_within c (suc n) js lt = elim (cases_eq c n) [
-    | inl same ↦ omega (
-      arith,
-      stop_fold (dealt f m c js) [],
-      sum_by-append (λ o. o.time) (dealt f m c js) (share f m c js),
-      ap (λ b. sum_by (λ o. o.time) (dealt f m (suc b) js)) same,
-    )
-    | inr differ ↦ omega (
-      arith,
-      share_within c n js (omega arith),
-      sum_by-append (λ o. o.time) (dealt f m n js) (share f m n js),
-    )
+  share_within c (suc n) js lt =
+      let parts = sum_by-append (λ o. o.time) (dealt f m n js) (share f m n js) in
+      elim (cases_eq c n) [
+        | inl same ↦ omega (
+          arith,
+          parts,
+          sum_by-map (λ (o : Operation). o.time) (run_on f (suc n)) (turns m n js),
+          ap (λ b. sum_by f (turns m b js)) same,
+        )
+        | inr differ ↦ omega (arith, parts, share_within c n js (omega arith))
+      ]
+
+  -- what holds of all pairs holds of those of the machines up to the next one
+  pairs_until : (R : Operation → Operation → Type 0) (c n : ℕ) (js : List ℕ) → c < n
+      → AllPairs R (dealt f m n js) → AllPairs R (dealt f m (suc c) js)
+  pairs_until R c zero js lt pairs = absurd (omega arith)
+  pairs_until R c (suc n) js lt pairs = elim (cases_eq c n) [
+    | inl same ↦ subst (λ b. AllPairs R (dealt f m (suc b) js)) (sym same) pairs
+    | inr differ ↦ pairs_until R c n js (omega arith)
+        (AllPairs-left R (dealt f m n js) (share f m n js) pairs)
   ]
 
 -- to let d others come first is to leave out the first d jobs
@@ -124,50 +146,33 @@ turns-drop m zero js = refl
 turns-drop m (suc d) [] = refl
 turns-drop m (suc d) (j ∷ js) = turns-drop m d js
 
--- the operations that are left come to the wanted pieces, within the limit
-pub record IsLeft (wanted ps : List Piece) (os : List Operation) : Type 0 where
-  pub pieces : fold with_operation ps os ≡ wanted
-  pub within : greatest_stop ps + sum_by (λ o. o.time) os ≤ limit
+-- behind the last job none is left
+pub turns_none : (m p : ℕ) (js : List ℕ) → length js ≤ p → turns m 0 (drop p js) ≡ []
+turns_none m p js none = ap (turns m 0) (drop_all p js none)
 
-module _ (f : ℕ → ℕ) (m i : ℕ) (js : List ℕ) where
-  -- a machine's jobs from a place on
-  abbrev pub left : ℕ → List Operation
-  left p = map (run_on f (suc i)) (turns m 0 (drop p js))
+-- the job at a place comes before those of the later rounds
+pub turns_next : (m p j : ℕ) (js : List ℕ) → 0 < m → p < length js → j ≡ get_or js p j
+    → turns m 0 (drop p js) ≡ j ∷ turns m 0 (drop (p + m) js)
+turns_next m p j js some here is =
+    let e : p + 1 + (m - 1) ≡ p + m = omega arith in
+    ap (turns m 0) (drop_more js p j here ∙ ap (λ h. h ∷ drop (p + 1) js) (sym is))
+    ∙ ap (λ hs. j ∷ hs)
+    (sym (turns-drop m (m - 1) (drop (p + 1) js))
+    ∙ ap (turns m 0) (drop-drop (m - 1) (p + 1) js ∙ ap (λ n. drop n js) e))
 
-  -- behind the last job none is left
-  pub left_none : (p : ℕ) → length js ≤ p → left p ≡ []
-  left_none p none = ap (λ hs. map (run_on f (suc i)) (turns m 0 hs)) (drop_all p js none)
-
-  -- with the job at the place
-  pub left_next : {wanted ps qs : List Piece} {p h j t : ℕ} → 0 < m → p < length js
-      → j ≡ get_or js p j → h ≡ i + 1 → t ≡ f j
-      → qs ≡ with_operation ps (record { job = j; machine = h; time = t })
-      → IsLeft wanted ps (left p) → IsLeft wanted qs (left (p + m))
-  left_next {ps = ps} {qs = qs} {p = p} {h = h} {j = j} {t = t} some here is on time laid_one
-      before =
-      let o : Operation = record { job = j; machine = h; time = t } in
-      let e : p + 1 + (m - 1) ≡ p + m = omega arith in
-      let e' : suc i ≡ h = omega (arith, on) in
-      let next : left p ≡ o ∷ left (p + m) =
-      ap (λ hs. map (run_on f (suc i)) (turns m 0 hs))
-      (drop_more js p j here ∙ ap (λ h. h ∷ drop (p + 1) js) (sym is))
-      ∙ ap (λ hs. run_on f (suc i) j ∷ map (run_on f (suc i)) hs)
-      (sym (turns-drop m (m - 1) (drop (p + 1) js))
-      ∙ ap (turns m 0) (drop-drop (m - 1) (p + 1) js ∙ ap (λ n. drop n js) e))
-      ∙ ap (λ n. run_on f n j ∷ left (p + m)) e'
-      ∙ ap (λ n. record { job = j; machine = h; time = n } ∷ left (p + m)) (sym time) in
-      record {
-        pieces = ap (λ rs. fold with_operation rs (left (p + m))) laid_one
-            ∙ ap (fold with_operation ps) (sym next) ∙ before.pieces;
-        within = omega (
-          arith,
-          before.within,
-          ap greatest_stop laid_one,
-          stop_fold (o ∷ []) ps,
-          ap (sum_by (λ o. o.time)) next,
-          sum_by-cons (λ o. o.time) o (left (p + m)),
-        );
-      }
+-- with the job at a place
+pub after_turn : (f : ℕ → ℕ) (m i p : ℕ) (js : List ℕ) {wanted ps qs : List Piece}
+    {now j h t : ℕ} → IsLeft f (suc i) wanted ps now (turns m 0 (drop p js))
+    → 0 < m → p < length js → j ≡ get_or js p j → h ≡ i + 1 → t ≡ f j
+    → qs ≡ ps ++ stretch j h now t
+    → IsLeft f (suc i) wanted qs (now + f j) (turns m 0 (drop (p + m) js))
+after_turn f m i p js {wanted = wanted} {ps = ps} {qs = qs} {now = now} {j = j} {t = t} left
+    some here is on time more =
+    let e : suc i ≡ i + 1 = omega arith in
+    left_next f (suc i) wanted ps qs now j (turns m 0 (drop (p + m) js))
+    (subst (IsLeft f (suc i) wanted ps now) (turns_next m p j js some here is) left)
+    (more ∙ ap (λ n. ps ++ stretch j n now t) (on ∙ sym e)
+    ∙ ap (λ n. ps ++ stretch j (suc i) now n) time)
 
 -- ---- the timetable
 
@@ -211,9 +216,31 @@ module _ (k : SchedulingTask) (js : List ℕ) (sound : IsSound k)
         total = one.total;
       }
 
-  -- what the builder asks
   pub dealt_total : sum_by (λ o. o.time) os ≤ limit
   dealt_total = listed.total
+
+  -- where the machines before it have their jobs, a machine and its jobs are free
+  pub turns_free : (c : ℕ) → c < k.machines
+      → AreFree (laid (dealt (time_of k) k.machines c js)) (c + 1) (turns k.machines c js)
+  turns_free c lt =
+      let m : ℕ = k.machines in
+      let before : List Operation = dealt (time_of k) m c js in
+      let hs : List ℕ = turns m c js in
+      let differ = AllPairs-across (Keeps OtherJob) before (share (time_of k) m c js)
+      (pairs_until (time_of k) m (Keeps OtherJob) c m js lt
+      (one_listed k os sound dealt_each).keeps) in
+      record {
+        machine = other_stops machine_of (λ o. o.machine) (λ o s e. refl) before [] (c + 1)
+            (All-dealt (time_of k) m (λ o. o.machine ≢ c + 1) c js
+            (λ a d h i on same. absurd (omega (arith, on.1, same))));
+        jobs = λ a d h. other_stops job_of (λ o. o.job) (λ o s e. refl) before [] (get_or hs a d)
+            (λ b o in'. λ same.
+            let run : Operation = run_on (time_of k) (suc c) d in
+            differ b o in' a run (omega (arith, h, length-map hs (run_on (time_of k) (suc c))))
+            (same ∙ sym (ap (λ (u : Operation). u.job)
+            (get_or-map (run_on (time_of k) (suc c)) hs a d run h))));
+        apart = AllPairs-turns (λ a b. a ≢ b) m c js (apart_in_order k js whole);
+      }
 
   pub dealt_schedule : IsSchedule (laid os)
   dealt_schedule = laid_schedule InTurn k os sound listed

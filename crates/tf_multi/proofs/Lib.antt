@@ -14,3 +14,4 @@ pub mod Splitting
 pub mod Certified
 pub mod Dealing
 pub mod DealtRound
+pub mod OneByOne

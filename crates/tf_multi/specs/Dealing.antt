@@ -1,6 +1,9 @@
 -- Jobs that are dealt to machines in turn. f gives the times of the jobs.
-use Rattle.std.specs.Prelude.{List, [], ℕ, zero, suc, ◌-◌, ◌∷◌, ◌++◌, map}
+use Rattle.std.specs.Prelude.{List, [], ℕ, zero, suc, ◌-◌, ◌∷◌, ◌++◌, ◌≡◌, ◌≢◌, map}
+use Rattle.std.specs.List.{All, AllPairs}
+use Rattle.tf_schedule.specs.declared.piece.Piece.{Piece}
 use Rattle.tf_schedule.specs.declared.semi_active.Operation.{Operation}
+use Rattle.tf_schedule.specs.SemiActive.{machine_stop, job_stop}
 
 -- what one of m machines gets in turn, where d others come first
 abbrev pub turns : {X : Type 0} → ℕ → ℕ → List X → List X
@@ -20,3 +23,9 @@ share f m i js = map (run_on f (suc i)) (turns m i js)
 abbrev pub dealt : (ℕ → ℕ) → ℕ → ℕ → List ℕ → List Operation
 dealt f m zero js = []
 dealt f m (suc c) js = dealt f m c js ++ share f m c js
+
+-- machine i has no piece, and neither have the jobs, which are different ones
+pub record AreFree (ps : List Piece) (i : ℕ) (js : List ℕ) : Type 0 where
+  pub machine : machine_stop ps i ≡ 0
+  pub jobs : All (λ j. job_stop ps j ≡ 0) js
+  pub apart : AllPairs (λ a b. a ≢ b) js

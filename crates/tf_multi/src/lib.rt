@@ -6,4 +6,5 @@ mod longest;
 pub mod mcnaughton;
 pub mod open_two;
 pub mod spt;
+mod stretch;
 mod two_machines;

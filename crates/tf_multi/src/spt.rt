@@ -1,18 +1,18 @@
 //! Parallel machines with a sum of completions.
-ghost use Rattle.std.specs.Prelude.{◌≡◌, ◌+◌, ◌<◌, ◌≤◌, length, IfOk, IsTrue};
+ghost use Rattle.std.specs.Prelude.{◌≡◌, ◌+◌, ◌<◌, ◌≤◌, IfOk, IsTrue};
 ghost use Rattle.std.specs.List.{All, fold, sum_by};
 ghost use Rattle.std.specs.List.Sorted.{IsPermutation};
 ghost use Rattle.tf_model.specs.ClassTable.{is_parallel, is_sum};
 ghost use Rattle.tf_model.specs.Limit.{limit};
 ghost use Rattle.tf_model.specs.SchedulingTask.{IsJob, all_jobs, time_of};
 ghost use Rattle.tf_model.specs.Sound.{IsSound};
-ghost use Rattle.tf_schedule.specs.Drawing.{greatest_stop};
 ghost use Rattle.tf_schedule.specs.Schedule.{IsSchedule};
 ghost use Rattle.tf_schedule.specs.SemiActive.{laid, with_operation};
 ghost use Rattle.tf_check.specs.Accepted.{IsAccepted};
 ghost use Rattle.tf_multi.specs.Dealt.{AreDealt, IsReverseRanks};
-ghost use Rattle.tf_multi.specs.Dealing.{share, dealt};
+ghost use Rattle.tf_multi.specs.Dealing.{AreFree, turns, share, dealt};
 
+use crate::stretch::push_stretch;
 use std::alloc::Allocator;
 use tf_check::answer::Answer;
 use tf_check::certificate::Certificate;
@@ -24,7 +24,7 @@ use tf_model::memory::OutOfMemory;
 use tf_model::task::Task;
 use tf_schedule::piece::Piece;
 use tf_schedule::piece_list::PieceList;
-use tf_schedule::semi_active::{Operation, SemiActive};
+use tf_schedule::semi_active::Operation;
 use tf_schedule::sequence::reversed;
 
 /// A timetable of least sum of completions on parallel machines (Conway, Maxwell and Miller 1967).
@@ -58,7 +58,7 @@ pub fn spt<A: Allocator + Copy, B: Allocator>(
 }
 
 // The pieces of the jobs that machine 1 gets in turn, then of those of machine 2, and so on.
-fn dealt<A: Allocator + Copy, B: Allocator>(
+fn dealt<A: Allocator, B: Allocator>(
     alloc: A,
     task: &Task<B>,
     order: &[JobId],
@@ -68,42 +68,39 @@ fn dealt<A: Allocator + Copy, B: Allocator>(
         ≡ laid (dealt (time_of task.now) task.now.machines task.now.machines order.now)) }
     ensures sound { IfOk result (λ _. IsSound task.now) }
 {
-    let machines = task.machines();
-    let mut timetable = SemiActive::new(alloc, task.len(), task.len(), machines as usize)?;
-    for machine in 0..machines {
-        lay_turns(&mut timetable, task, order, machine)?;
+    let mut pieces = Vec::with_capacity(alloc, task.len())?;
+    for machine in 0..task.machines() {
+        lay_turns(&mut pieces, task, order, machine)?;
     }
-    Ok(timetable.into_pieces())
+    Ok(pieces)
 }
 
-// Lays the jobs of a machine, counted from 0: one job from each round of the machines.
-fn lay_turns<A: Allocator + Copy, B: Allocator>(
-    timetable: &mut SemiActive<A>,
+// Lays the jobs of a machine, counted from 0, one after another: one job from each round of the
+// machines.
+fn lay_turns<A: Allocator, B: Allocator>(
+    pieces: &mut Vec<Piece, A>,
     task: &Task<B>,
     order: &[JobId],
     machine: u32,
 ) -> Result<(), OutOfMemory>
     requires order { All (IsJob task.now) order.now }
-    requires all { length task.now.jobs ≤ timetable.old.jobs }
     requires machine { machine < task.now.machines }
-    requires machines { task.now.machines ≤ timetable.old.machines }
-    requires within { greatest_stop timetable.old.pieces + sum_by (λ o. o.time)
-        (share (time_of task.now) task.now.machines machine order.now) ≤ limit }
-    ensures pieces { IfOk result (λ _. timetable.new.pieces
-        ≡ fold with_operation timetable.old.pieces
+    requires free { AreFree pieces.old.items (machine + 1)
+        (turns task.now.machines machine order.now) }
+    requires within { sum_by (time_of task.now) (turns task.now.machines machine order.now)
+        ≤ limit }
+    ensures { IfOk result (λ _. pieces.new.items ≡ fold with_operation pieces.old.items
         (share (time_of task.now) task.now.machines machine order.now)) }
-    ensures jobs { timetable.new.jobs ≡ timetable.old.jobs }
-    ensures machines { timetable.new.machines ≡ timetable.old.machines }
 {
-    let machines = task.machines();
-    let id = MachineId::at(machine as usize);
-    for place in (machine as usize..order.len()).step_by(machines as usize) {
+    let mut now: u64 = 0;
+    for place in (machine as usize..order.len()).step_by(task.machines() as usize) {
         let job = order[place];
-        timetable.lay(Operation {
+        let operation = Operation {
             job,
-            machine: id,
+            machine: MachineId::at(machine as usize),
             time: task.time(job),
-        })?;
+        };
+        now = push_stretch(pieces, operation, now)?;
     }
     Ok(())
 }

@@ -1,39 +1,38 @@
-use Rattle.std.proofs.Common.{◌+◌, ◌≤◌, length, refl, sym, ap, ◌∙◌, arith}
-use Rattle.std.specs.List.{fold}
+use Rattle.std.proofs.Common.{suc, ◌≡◌, ◌+◌, ◌≤◌, length, refl, ap, ◌∙◌, sym, arith}
 use Rattle.tf_model.specs.SchedulingTask.{time_of}
-use Rattle.tf_schedule.specs.SemiActive.{with_operation}
-use Rattle.tf_multi.proofs.DealtRound.{turns-drop, left_none, left_next}
+use Rattle.tf_schedule.specs.SemiActive.{machine_stop}
+use Rattle.tf_multi.proofs.DealtRound.{turns-drop, turns_none, after_turn}
+use Rattle.tf_multi.proofs.OneByOne.{left_none}
 use Rattle.tf_multi.proofs.spt.lay_turns.Goals as goal
 
 pub loop-place-init : goal.loop-place-init
 loop-place-init g c =
+    let e : c.args.machine + 1 ≡ suc c.args.machine = omega arith in
     rw (turns-drop c.args.task.now.machines c.args.machine c.args.order.now)
     (record {
-      left = record { pieces = refl; within = c.requires.within };
-      jobs = refl;
-      machines = refl;
+      pieces = refl;
+      within = omega (arith, c.requires.within);
+      machine = ap (machine_stop _) (sym e) ∙ c.requires.free.machine;
+      jobs = c.requires.free.jobs;
+      apart = c.requires.free.apart;
     })
 
 pub loop-place-preserved : goal.loop-place-preserved
 loop-place-preserved g c =
-    rw c.machines-machines.ensures.value
-    (record {
-      left = left_next (time_of c.args.task.now) c.args.task.now.machines c.args.machine
-          c.args.order.now (omega (arith, c.requires.machine)) c.loop-place-test.true
-          c.index-order-place.is c.at-id.ensures c.time.ensures.value c.in_ok-lay.ensures.pieces
-          c.loop-place.invariant.left;
-      jobs = c.lay.ensures.jobs ∙ c.loop-place.invariant.jobs;
-      machines = c.lay.ensures.machines ∙ c.loop-place.invariant.machines;
-    })
+    rw (c.machines-place-step.ensures.value, c.in_ok-now.ensures.end, c.time.ensures.value)
+    (after_turn (time_of c.args.task.now) c.args.task.now.machines c.args.machine
+    c.loop-place.place c.args.order.now c.loop-place.invariant
+    (omega (arith, c.requires.machine)) c.loop-place-test.true c.index-order-place.is
+    c.at.ensures c.time.ensures.value c.in_ok-now.ensures.pieces)
 
-pub returns-in_ok-lay-clause-pieces : goal.returns-in_ok-lay-clause-pieces
-returns-in_ok-lay-clause-pieces g c =
-    let last : length c.args.order.now ≤ c.loop-place.place + c.machines-machines.result =
+pub returns-in_ok-now : goal.returns-in_ok-now
+returns-in_ok-now g c =
+    let last : length c.args.order.now ≤ c.loop-place.place + c.machines-place-step.result =
     omega arith in
-    let next = left_next (time_of c.args.task.now) c.args.task.now.machines c.args.machine
-    c.args.order.now (omega (arith, c.requires.machine)) c.loop-place-test.true
-    c.index-order-place.is c.at-id.ensures c.time.ensures.value c.in_ok-lay.ensures.pieces
-    c.loop-place.invariant.left in
-    sym (ap (fold with_operation _)
-    (left_none (time_of c.args.task.now) c.args.task.now.machines c.args.machine c.args.order.now _
-    (omega (arith, last, c.machines-machines.ensures.value)))) ∙ next.pieces
+    let left = after_turn (time_of c.args.task.now) c.args.task.now.machines c.args.machine
+    c.loop-place.place c.args.order.now c.loop-place.invariant
+    (omega (arith, c.requires.machine)) c.loop-place-test.true c.index-order-place.is
+    c.at.ensures c.time.ensures.value c.in_ok-now.ensures.pieces in
+    left_none (time_of c.args.task.now) (suc c.args.machine) left
+    (turns_none c.args.task.now.machines _ c.args.order.now
+    (omega (arith, last, c.machines-place-step.ensures.value)))
