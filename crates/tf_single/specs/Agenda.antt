@@ -1,5 +1,5 @@
 -- What is still to come, and the released unfinished jobs.
-use Rattle.std.specs.Prelude.{◌≡◌, ℕ, pos, ◌+◌, ◌≤◌, ◌==◌, nat_lt, if◌then◌else◌, List, [], ◌∷◌, ◌++◌, length}
+use Rattle.std.specs.Prelude.{◌≡◌, ℕ, pos, ◌+◌, ◌/◌, ◌≤◌, ◌==◌, nat_lt, if◌then◌else◌, List, [], ◌∷◌, ◌++◌, length}
 use Rattle.std.specs.List.{All, sum, sum_by, count_by}
 use Rattle.std.specs.List.Sorted.{IsNonDecreasingBy}
 use Rattle.std.specs.BinaryHeap.{IsHeap}
@@ -8,6 +8,7 @@ use Rattle.std.specs.declared.cmp.Ordering.{Ordering}
 use Rattle.tf_schedule.specs.declared.piece.Piece.{Piece}
 use Rattle.tf_model.specs.Limit.{limit}
 use Rattle.tf_model.specs.SchedulingTask.{SchedulingTask, IsJob, all_jobs, job_data, time_of}
+use Rattle.tf_check.specs.RatioRank.{IsOfJob, job_in}
 use Rattle.tf_single.specs.declared.timeline.Urgency.{Urgency}
 use Rattle.tf_single.specs.Horn.{IsContinued}
 use Rattle.tf_single.specs.Progress.{run_of, of_job, IsProgress}
@@ -15,6 +16,11 @@ use Rattle.tf_single.specs.Progress.{run_of, of_job, IsProgress}
 -- the jobs are in order of their release dates
 abbrev pub AreByRelease : SchedulingTask → List ℕ → Type 0
 AreByRelease k jobs = IsNonDecreasingBy (λ j. (job_data k j).release) jobs
+
+-- the release date of a job and its number, as one number
+pub record IsReleaseRank (k : SchedulingTask) (r : ℕ) : Type 0 where
+  pub job : IsOfJob r
+  pub release : r / 4294967296 ≡ (job_data k (job_in r)).release
 
 -- the job is one of the task, with its due date
 pub record IsUrgency (k : SchedulingTask) (u : Urgency) : Type 0 where

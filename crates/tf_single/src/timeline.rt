@@ -1,13 +1,15 @@
 //! The timetable of earliest due dates.
-ghost use Rattle.std.specs.Prelude.{◌≡◌, ℕ, ◌+◌, ◌*◌, ◌<◌, ◌≤◌, ◌⊎◌, length, map, [], IfOk};
+ghost use Rattle.std.specs.Prelude.{◌≡◌, ℕ, ◌+◌, ◌*◌, ◌<◌, ◌≤◌, ◌⊎◌, ◌++◌, length, map, [], IfOk};
+ghost use Rattle.std.specs.List.{All};
 ghost use Rattle.std.specs.List.Sorted.{IsPermutation};
 ghost use Rattle.std.specs.BinaryHeap.{heap_items};
 ghost use Rattle.tf_model.specs.Limit.{limit};
 ghost use Rattle.tf_model.specs.SchedulingTask.{all_jobs, job_data, time_of};
 ghost use Rattle.tf_model.specs.Sound.{IsSound};
 ghost use Rattle.tf_model.specs.declared.class.Class.TheVariants.{ReleaseLmax};
+ghost use Rattle.tf_check.specs.RatioRank.{IsOfJob, job_in};
 ghost use Rattle.tf_single.specs.Progress.{IsTimeline};
-ghost use Rattle.tf_single.specs.Agenda.{AreByRelease, IsUnderway, IsLonger};
+ghost use Rattle.tf_single.specs.Agenda.{AreByRelease, IsReleaseRank, IsUnderway, IsLonger};
 
 use std::alloc::Allocator;
 use std::cmp::Reverse;
@@ -48,6 +50,9 @@ pub(crate) fn timeline<A: Allocator + Copy, B: Allocator>(
     Ok(machine.pieces)
 }
 
+// How many numbers a job may have.
+const NUMBERS: u128 = 1 << 32;
+
 // The jobs in order of their release dates, and by number among equals.
 fn jobs_by_release<A: Allocator + Copy, B: Allocator>(
     alloc: A,
@@ -57,17 +62,39 @@ fn jobs_by_release<A: Allocator + Copy, B: Allocator>(
     ensures all { IfOk result (λ v. IsPermutation (all_jobs task.now) v.items) }
     ensures in_order { IfOk result (λ v. AreByRelease task.now v.items) }
 {
-    let mut releases = Vec::with_capacity(alloc, task.len())?;
+    let mut jobs = Vec::with_capacity(alloc, task.len())?;
+    let mut ranks = ranks_of(alloc, task)?;
+    ranks.sort_unstable();
+    push_jobs(&mut jobs, &ranks)?;
+    Ok(jobs)
+}
+
+// Of each job the release date and then the number, as one number.
+fn ranks_of<A: Allocator, B: Allocator>(
+    alloc: A,
+    task: &Task<B>,
+) -> Result<Vec<u128, A>, OutOfMemory>
+    requires { task.now.class ≡ ReleaseLmax }
+    ensures jobs { IfOk result (λ v. map job_in v.items ≡ all_jobs task.now) }
+    ensures ranks { IfOk result (λ v. All (IsReleaseRank task.now) v.items) }
+{
+    let mut ranks = Vec::with_capacity(alloc, task.len())?;
     for k in 0..task.len() {
         let job = JobId::at(k);
-        releases.push((task.release(job), job))?;
+        ranks.push(u128::from(task.release(job)) * NUMBERS + u128::from(job.get()))?;
     }
-    releases.sort_unstable();
-    let mut jobs = Vec::with_capacity(alloc, task.len())?;
-    for (_, job) in &releases {
-        jobs.push(*job)?;
+    Ok(ranks)
+}
+
+// Adds the jobs of ranks.
+fn push_jobs<A: Allocator>(jobs: &mut Vec<JobId, A>, ranks: &[u128]) -> Result<(), OutOfMemory>
+    requires { All IsOfJob ranks.now }
+    ensures { IfOk result (λ _. jobs.new.items ≡ jobs.old.items ++ map job_in ranks.now) }
+{
+    for rank in ranks {
+        jobs.push(JobId::at((*rank % NUMBERS) as usize - 1))?;
     }
-    Ok(jobs)
+    Ok(())
 }
 
 // The time of each job.

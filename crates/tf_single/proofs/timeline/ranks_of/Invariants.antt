@@ -1,0 +1,12 @@
+use Rattle.std.proofs.Common.{◌≡◌, map}
+use Rattle.std.specs.List.{All, range_with_len}
+use Rattle.tf_check.specs.RatioRank.{job_in}
+use Rattle.tf_single.specs.Agenda.{IsReleaseRank}
+use Rattle.tf_single.proofs.timeline.ranks_of.Given as goal
+
+-- the jobs so far, with their release dates
+abbrev pub invariant-loop-k : goal.invariant-loop-k
+invariant-loop-k g l = record {
+  jobs : map job_in l.ranks.items ≡ range_with_len 1 l.k;
+  ranks : All (IsReleaseRank l.task) l.ranks.items;
+}
