@@ -1,6 +1,6 @@
 -- Johnson's rule: the split at the turning place reaches the end of the line, and so the answer is
 -- accepted.
-use Rattle.std.proofs.Common.{IsTrue, ◌≡◌, ◌≢◌, ℕ, ◌+◌, ◌<◌, ◌≤◌, pos, true, false, Ok, List, [], length, get_or, take, drop, refl, sym, ap, ◌∙◌, arith}
+use Rattle.std.proofs.Common.{IsTrue, ◌≡◌, ◌≢◌, ℕ, ◌+◌, ◌<◌, ◌≤◌, pos, true, false, Ok, List, length, get_or, take, drop, refl, sym, ap, ◌∙◌, arith}
 use Rattle.std.specs.List.{AllPairs, sum_by}
 use Rattle.std.specs.List.Sorted.{IsPermutation}
 use Rattle.std.proofs.lemmas.Int.{ints}
@@ -17,8 +17,6 @@ use Rattle.tf_schedule.specs.Drawing.{drawing, greatest_stop}
 use Rattle.tf_schedule.specs.Schedule.{IsSchedule}
 use Rattle.tf_schedule.specs.SemiActive.{laid}
 use Rattle.tf_schedule.proofs.LaidFits.{IsListed, laid_cost}
-use Rattle.tf_schedule.proofs.Counting.{sum_by-map}
-use Rattle.tf_schedule.proofs.Laying.{stop_fold}
 use Rattle.tf_model.proofs.Sums.{sum_by-plus}
 use Rattle.std.proofs.lemmas.List.Sorted.{IsPermutation-refl, sum_by-IsPermutation}
 use Rattle.tf_check.specs.Accepted.{IsAccepted}
@@ -27,7 +25,7 @@ use Rattle.tf_check.specs.Claim.{Claim}
 use Rattle.tf_check.proofs.Given.{flow_takes_split}
 use Rattle.tf_check.proofs.LaidAccepted.{laid_accepted}
 use Rattle.tf_multi.specs.Johnson.{MayPrecede, line_end}
-use Rattle.tf_multi.specs.TwoMachines.{time_at, operation_of, on_machine, in_line}
+use Rattle.tf_multi.specs.TwoMachines.{time_at, in_line}
 use Rattle.tf_multi.proofs.FlowShop.{ByMachine, flow_listed, flow_fits, flow_stop, flow_schedule}
 use Rattle.tf_multi.proofs.Numbers.{apart_in_order}
 use Rattle.tf_multi.proofs.Splitting.{split_first, split_second}
@@ -104,7 +102,7 @@ module _ (task : SchedulingTask) (sound : IsSound task) (flow : IsTrue (is_flow 
   listed : IsListed ByMachine task os
   listed = flow_listed task sound flow order whole apart
 
-  -- the work on each machine is within the limit with what stands on the other
+  -- the work on both machines is within the limit
   pub line_total : firsts (time_at task) order + seconds (time_at task) order ≤ limit
   line_total = omega (
     arith,
@@ -113,24 +111,15 @@ module _ (task : SchedulingTask) (sound : IsSound task) (flow : IsTrue (is_flow 
     sound.total,
   )
 
-  pub second_within : greatest_stop (laid (on_machine (time_at task) 1 order))
-      + seconds (time_at task) order ≤ limit
-  second_within = omega (
-    arith,
-    stop_fold (on_machine (time_at task) 1 order) [],
-    sum_by-map (λ o. o.time) (λ j. operation_of (time_at task) j 1) order,
-    line_total,
-  )
-
   pub line_schedule : IsSchedule (laid os)
   line_schedule = flow_schedule task sound flow order whole apart
 
   -- a certificate that shows the end of the line
-  pub line_accepted : (v : ℕ) → v ≡ line_end (time_at task) 0 0 order → (claim : Claim)
+  pub line_accepted : AllPairs (MayPrecede (time_at task)) order → (v : ℕ) → v ≡ line_end (time_at task) 0 0 order → (claim : Claim)
       → bound_by claim task ≡ Ok (pos v)
       → IsAccepted task (record { pieces = laid os; value = pos v; certificate = claim })
-  line_accepted v is claim bounded =
-      let stop = flow_stop task sound flow order whole apart in
+  line_accepted in_order v is claim bounded =
+      let stop = flow_stop task sound flow order whole apart in_order in
       let price : cost task (drawing task.machines (laid os)) ≡ pos (greatest_stop (laid os)) =
       laid_cost ByMachine task os sound listed
       (shop_by_makespan task.class (flow_is_shop task.class flow)) in

@@ -1,11 +1,11 @@
 -- Jobs of a flow shop that are laid in an order, all on machine 1 and then all on machine 2: the
 -- timetable fits the task, and stops when the line of the jobs ends.
-use Rattle.std.proofs.Common.{IsTrue, ◌≡◌, ◌≢◌, ◌⊎◌, ℕ, zero, suc, ◌+◌, ◌<◌, ◌≤◌, cond, ◌&&◌, eqb, max, List, [], ◌∷◌, length, get_or, refl, sym, ap, ◌∙◌, arith, inl, inr}
+use Rattle.std.proofs.Common.{IsTrue, ◌≡◌, ◌≢◌, ◌⊎◌, ℕ, zero, suc, ◌+◌, ◌-◌, ◌<◌, ◌≤◌, Bool, true, false, cond, ◌&&◌, eqb, max, List, [], ◌∷◌, ◌++◌, length, get_or, drop, subst, refl, sym, ap, ◌∙◌, arith, inl, inr}
 use Rattle.std.specs.List.{All, AllPairs, sum_by, fold}
 use Rattle.std.specs.List.Sorted.{IsPermutation}
 use Rattle.std.proofs.lemmas.Bool.{cases_eq, cases_lt}
 use Rattle.std.proofs.lemmas.Bool.Decides.{nat_tests}
-use Rattle.std.proofs.lemmas.List.{get_or-map}
+use Rattle.std.proofs.lemmas.List.{drop_more}
 use Rattle.std.proofs.lemmas.List.Elements.{All-map, All-head, All-tail, All-append}
 use Rattle.std.proofs.lemmas.List.Kept.{AllPairs-cons}
 use Rattle.std.proofs.lemmas.List.Sorted.{sum_by-IsPermutation, All-permutation}
@@ -18,17 +18,17 @@ use Rattle.tf_model.specs.ClassTable.{is_shop, is_flow}
 use Rattle.tf_model.specs.Sound.{IsSound}
 use Rattle.tf_model.proofs.Costs.{All-all_jobs}
 use Rattle.tf_schedule.specs.declared.piece.Piece.{Piece}
-use Rattle.tf_schedule.specs.Piece.{machine_of, job_of}
+use Rattle.tf_schedule.specs.Piece.{machine_of, job_of, piece_of}
 use Rattle.tf_schedule.specs.Drawing.{drawing, greatest_stop}
 use Rattle.tf_schedule.proofs.Counting.{sum_by-same, sum_by-map, sum_single_in}
 use Rattle.tf_schedule.specs.Schedule.{IsSchedule}
 use Rattle.tf_model.proofs.Sums.{sum_by-plus}
 use Rattle.tf_schedule.proofs.Drawing.{greatest_stop_le}
 use Rattle.tf_schedule.specs.declared.semi_active.Operation.{Operation}
-use Rattle.tf_schedule.specs.SemiActive.{machine_stop, job_stop, start_after, with_operation, laid, IsOperation}
-use Rattle.tf_multi.specs.Johnson.{line_end}
+use Rattle.tf_schedule.specs.SemiActive.{line_stop, machine_stop, job_stop, stretch, start_after, with_operation, laid, IsOperation}
+use Rattle.tf_multi.specs.Johnson.{MayPrecede, line_end}
 use Rattle.tf_multi.specs.TwoMachines.{time_at, operation_of, on_machine, in_line}
-use Rattle.tf_schedule.proofs.Laying.{Keeps, stop-le-line_stop, line_stop-own, line_stop-other}
+use Rattle.tf_schedule.proofs.Laying.{Keeps, stop-le-line_stop, line_stop_push, line_stop-own, line_stop-other}
 use Rattle.tf_schedule.proofs.Parts.{AllPairs-head, AllPairs-tail, AllPairs-append}
 use Rattle.tf_schedule.proofs.LaidFits.{IsListed, is_laid, laid_fits_shop, laid_schedule}
 
@@ -47,11 +47,24 @@ line_end-ge f e g (j ∷ js) le =
 
 -- ---- when the machines are free
 
+-- a job that is not done in no time is over when its stretch stops
+on_step : (b : Bool) (g s : ℕ) → b ≡ true → g ≤ s → cond b (max g s) g ≡ s
+on_step true g s e le = omega arith
+on_step false g s e le = absurd (cc)
+
+full_stop : (line : Piece → ℕ) (ps : List Piece) (j i s t n : ℕ) → line (piece_of j i s (s + t)) ≡ n
+    → line_stop line ps n ≤ s → 0 < t → line_stop line (ps ++ stretch j i s t) n ≡ s + t
+full_stop line ps j i s zero n on le some = absurd (omega arith)
+full_stop line ps j i s (suc t) n on le some =
+    line_stop_push line ps (piece_of j i s (s + suc t)) n
+    ∙ on_step (eqb (line (piece_of j i s (s + suc t))) n) (line_stop line ps n) (s + suc t)
+    (grind (arith, nat_tests)) (omega arith)
+
 module _ (f : ℕ → ℕ → ℕ) where
-  -- the jobs are over by the ends of their times on machine 1, one after another from e on
+  -- the jobs are over at the ends of their times on machine 1, one after another from e on
   abbrev IsReady : ℕ → List Piece → List ℕ → Type 0
   IsReady e ps [] = Unit
-  IsReady e ps (j ∷ js) = (job_stop ps j ≤ e + f j 1) × IsReady (e + f j 1) ps js
+  IsReady e ps (j ∷ js) = (job_stop ps j ≡ e + f j 1) × IsReady (e + f j 1) ps js
 
   ready-same : (e : ℕ) (ps qs : List Piece) (js : List ℕ)
       → All (λ j. job_stop qs j ≡ job_stop ps j) js → IsReady e ps js → IsReady e qs js
@@ -62,6 +75,13 @@ module _ (f : ℕ → ℕ → ℕ) where
         ready.1,
   )
 
+  -- behind a job that takes time on machine 1 so do all
+  later_some : (i j : ℕ) → MayPrecede f i j → 0 < f i 1 → 0 < f j 1
+  later_some i j may some = elim (cases_lt 0 (f j 1)) [
+    | inl done ↦ done
+    | inr none ↦ absurd (omega (arith, (may.rising (omega arith)).1))
+  ]
+
   -- what jobs on machine 1 leave
   record IsFirstRun (e : ℕ) (ps qs : List Piece) (js : List ℕ) : Type 0 where
     first : machine_stop qs 1 ≡ e + sum_by (λ j. f j 1) js
@@ -70,37 +90,119 @@ module _ (f : ℕ → ℕ → ℕ) where
     others : (k : ℕ) → All (λ j. j ≢ k) js → job_stop qs k ≡ job_stop ps k
 
   first_run : (js : List ℕ) (ps : List Piece) (e : ℕ) → All (λ j. job_stop ps j ≡ 0) js
-      → AllPairs (λ i j. i ≢ j) js → machine_stop ps 1 ≡ e
-      → IsFirstRun e ps (fold with_operation ps (on_machine f 1 js)) js
-  first_run [] ps e free apart at =
+      → AllPairs (λ i j. i ≢ j) js → AllPairs (MayPrecede f) js → (0 < e → All (λ j. 0 < f j 1) js)
+      → machine_stop ps 1 ≡ e → IsFirstRun e ps (fold with_operation ps (on_machine f 1 js)) js
+  first_run [] ps e free apart may some at =
       record { first = omega arith; second = refl; ready = tt; others = λ k other. refl }
-  first_run (j ∷ js) ps e free apart at =
+  first_run (j ∷ js) ps e free apart may some at =
       let s = start_after ps (operation_of f j 1) in
       let qs = with_operation ps (operation_of f j 1) in
       let own = line_stop-own machine_of ps j 1 s (f j 1) 1 refl (omega arith) in
       let own_job = line_stop-own job_of ps j 1 s (f j 1) j refl (omega arith) in
       let here : job_stop ps j ≡ 0 = free zero j (omega arith) in
       let differ = AllPairs-head (λ a b. a ≢ b) j js apart in
+      let over : job_stop qs j ≡ e + f j 1 = elim (cases_lt 0 (f j 1)) [
+        | inl time ↦ omega (
+          arith,
+          full_stop job_of ps j 1 s (f j 1) j refl (omega arith) time,
+          at,
+          here,
+        )
+        | inr none ↦ elim (cases_lt 0 e) [
+          | inl late ↦ absurd (omega (arith, All-head (λ k. 0 < f k 1) j js (some late)))
+          | inr start ↦ omega (arith, own_job.1, at, here)
+        ]
+      ] in
       let rest = first_run js qs (e + f j 1)
       (λ n d h. line_stop-other job_of ps j 1 s (f j 1) (get_or js n d) (differ n d h)
       ∙ free (suc n) d (omega arith)) (AllPairs-tail (λ a b. a ≢ b) j js apart)
+      (AllPairs-tail (MayPrecede f) j js may)
+      (λ late. elim (cases_lt 0 e) [
+        | inl early ↦ All-tail (λ k. 0 < f k 1) j js (some early)
+        | inr start ↦ λ n d h. later_some j (get_or js n d)
+            (AllPairs-head (MayPrecede f) j js may n d h) (omega arith)
+      ])
       (omega (arith, own.0, own.1, at, here)) in
       record {
         first = omega (arith, rest.first, sum_by-cons (λ i. f i 1) j js);
         second = rest.second ∙ line_stop-other machine_of ps j 1 s (f j 1) 2 two_machines;
-        ready = (
-          omega (
-            arith,
-            rest.others j (λ n d h e. differ n d h (sym e)),
-            own_job.1,
-            at,
-            here,
-          ),
-          rest.ready,
-        );
+        ready = (rest.others j (λ n d h e. differ n d h (sym e)) ∙ over, rest.ready);
         others = λ k other. rest.others k (All-tail (λ i. i ≢ k) j js other)
             ∙ line_stop-other job_of ps j 1 s (f j 1) k (All-head (λ i. i ≢ k) j js other);
       }
+
+  first_of_all : (js : List ℕ) → AllPairs (λ i j. i ≢ j) js → AllPairs (MayPrecede f) js
+      → IsFirstRun 0 [] (laid (on_machine f 1 js)) js
+  first_of_all js apart may =
+      first_run js [] 0 (λ n d h. refl) apart may (λ some. absurd (omega arith)) refl
+
+  -- machine 2 runs the jobs that are left, from g on and as machine 1 has run them from e on; with
+  -- them the pieces are the wanted ones
+  pub record IsWaiting (wanted ps : List Piece) (e g : ℕ) (js : List ℕ) : Type 0 where
+    pub pieces : fold with_operation ps (on_machine f 2 js) ≡ wanted
+    pub low : machine_stop ps 2 ≤ g
+    pub high : g ≤ max e (machine_stop ps 2)
+    pub ready : IsReady e ps js
+    pub apart : AllPairs (λ i j. i ≢ j) js
+
+  pub waiting_start : (js : List ℕ) → AllPairs (λ i j. i ≢ j) js → AllPairs (MayPrecede f) js
+      → IsWaiting (laid (in_line f js)) (laid (on_machine f 1 js)) 0 0 js
+  waiting_start js apart may =
+      let one = first_of_all js apart may in
+      record {
+        pieces = sym (fold-append with_operation [] (on_machine f 1 js) (on_machine f 2 js));
+        low = omega (arith, one.second);
+        high = omega arith;
+        ready = one.ready;
+        apart = apart;
+      }
+
+  waiting_next : (wanted ps qs : List Piece) (e g j : ℕ) (js : List ℕ)
+      → IsWaiting wanted ps e g (j ∷ js) → qs ≡ ps ++ stretch j 2 (max (e + f j 1) g) (f j 2)
+      → IsWaiting wanted qs (e + f j 1) (max (e + f j 1) g + f j 2) js
+  waiting_next wanted ps qs e g j js waiting more =
+      let s : ℕ = max (e + f j 1) g in
+      let start : start_after ps (operation_of f j 2) ≡ s =
+      omega (arith, waiting.ready.0, waiting.low, waiting.high) in
+      let own = line_stop-own machine_of ps j 2 s (f j 2) 2 refl (omega (arith, waiting.low)) in
+      let stop = ap (λ rs. machine_stop rs 2) more in
+      let differ = AllPairs-head (λ a b. a ≢ b) j js waiting.apart in
+      record {
+        pieces = ap (λ rs. fold with_operation rs (on_machine f 2 js))
+            (more ∙ ap (λ n. ps ++ stretch j 2 n (f j 2)) (sym start)) ∙ waiting.pieces;
+        low = omega (arith, stop, own.1);
+        high = elim (cases_lt 0 (f j 2)) [
+          | inl time ↦ omega (
+            arith,
+            stop,
+            full_stop machine_of ps j 2 s (f j 2) 2 refl (omega (arith, waiting.low)) time,
+          )
+          | inr none ↦ omega (arith, stop, own.0, waiting.high)
+        ];
+        ready = ready-same (e + f j 1) ps qs js
+            (λ n d h. ap (λ rs. job_stop rs (get_or js n d)) more
+            ∙ line_stop-other job_of ps j 2 s (f j 2) (get_or js n d) (differ n d h))
+            waiting.ready.1;
+        apart = AllPairs-tail (λ a b. a ≢ b) j js waiting.apart;
+      }
+
+  -- with the job at place i, which is laid as the operation o
+  pub waiting_more : {wanted ps qs : List Piece} {e g e' g' : ℕ} (order : List ℕ) (i x : ℕ)
+      (o : Operation) → IsWaiting wanted ps e g (drop i order) → i < length order
+      → x ≡ get_or order i x → o ≡ operation_of f x 2 → e' ≡ e + f x 1
+      → g' ≡ max (e + f x 1) g + f x 2
+      → qs ≡ ps ++ stretch o.job o.machine (g' - o.time) o.time
+      → IsWaiting wanted qs e' g' (drop (i + 1) order)
+  waiting_more {wanted = wanted} {ps = ps} {qs = qs} {e = e} {g = g} {g' = g'} order i x o waiting
+      here is is_o first second more =
+      let start : g' - f x 2 ≡ max (e + f x 1) g = omega (arith, second) in
+      rw (first, second)
+      (waiting_next wanted ps qs e g x (drop (i + 1) order)
+      (subst (IsWaiting wanted ps e g)
+      (drop_more order i x here ∙ ap (λ y. y ∷ drop (i + 1) order) (sym is)) waiting)
+      (more
+      ∙ ap (λ (u : Operation). ps ++ stretch u.job u.machine (g' - u.time) u.time) is_o
+      ∙ ap (λ n. ps ++ stretch x 2 n (f x 2)) start))
 
   -- and then on machine 2
   second_run : (js : List ℕ) (ps : List Piece) (e g : ℕ) → IsReady e ps js
@@ -120,11 +222,11 @@ module _ (f : ℕ → ℕ → ℕ) where
       (rest.0 ∙ line_stop-other machine_of ps j 2 s (f j 2) 1 (λ e. two_machines (sym e)), rest.1)
 
   -- no machine works past the end of the line
-  line_stops : (js : List ℕ) → AllPairs (λ i j. i ≢ j) js
+  line_stops : (js : List ℕ) → AllPairs (λ i j. i ≢ j) js → AllPairs (MayPrecede f) js
       → (machine_stop (laid (in_line f js)) 1 ≤ line_end f 0 0 js) ×
       (machine_stop (laid (in_line f js)) 2 ≤ line_end f 0 0 js)
-  line_stops js apart =
-      let one = first_run js [] 0 (λ n d h. refl) apart refl in
+  line_stops js apart may =
+      let one = first_of_all js apart may in
       let two = second_run js (laid (on_machine f 1 js)) 0 0 one.ready apart
       (omega (arith, one.second)) in
       let whole = fold-append with_operation [] (on_machine f 1 js) (on_machine f 2 js) in (
@@ -145,13 +247,6 @@ abbrev pub ByMachine : ℕ → ℕ → ℕ → ℕ → Type 0
 ByMachine j i k h = (i ≤ h) × (j ≡ k → i < h)
 
 module _ (f : ℕ → ℕ → ℕ) where
-  -- the next operation on a machine
-  pub next_on : (i : ℕ) (js : List ℕ) (k job : ℕ) → k < length js → job ≡ get_or js k job
-      → operation_of f job i ≡ get_or (on_machine f i js) k (operation_of f job i)
-  next_on i js k job h is =
-      ap (λ j. operation_of f j i) is
-      ∙ sym (get_or-map (λ j. operation_of f j i) js k job (operation_of f job i) h)
-
   -- what holds of both operations of each job
   All-in_line : (P : Operation → Type 0) (js : List ℕ)
       → All (λ j. P (operation_of f j 1) × P (operation_of f j 2)) js → All P (in_line f js)
@@ -267,10 +362,11 @@ module _ (task : SchedulingTask) (sound : IsSound task) (flow : IsTrue (is_flow 
   flow_fits = laid_fits_shop ByMachine task os sound flow_listed shop flow_times
       (λ _ j a b before. before.1 refl)
 
-  pub flow_stop : greatest_stop (laid os) ≤ line_end (time_at task) 0 0 order
-  flow_stop =
+  pub flow_stop : AllPairs (MayPrecede (time_at task)) order
+      → greatest_stop (laid os) ≤ line_end (time_at task) 0 0 order
+  flow_stop may =
       let laid_is = is_laid ByMachine task os sound flow_listed in
-      let stops = line_stops (time_at task) order apart in
+      let stops = line_stops (time_at task) order apart may in
       greatest_stop_le (laid os) (line_end (time_at task) 0 0 order) (λ k d h.
       let p = laid_is.placed k d h in
       elim (cases_lt (get_or (laid os) k d).machine 2) [

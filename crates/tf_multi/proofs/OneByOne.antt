@@ -1,6 +1,7 @@
 -- Jobs that one machine runs one after another: their pieces are those of their operations.
-use Rattle.std.proofs.Common.{◌≡◌, ◌≢◌, ℕ, ◌+◌, ◌≤◌, List, [], ◌∷◌, ◌++◌, get_or, map, refl, sym, ap, ◌∙◌, arith}
+use Rattle.std.proofs.Common.{◌≡◌, ◌≢◌, ℕ, ◌+◌, ◌≤◌, List, [], ◌∷◌, ◌++◌, ◌<◌, length, get_or, drop, map, refl, sym, ap, subst, ◌∙◌, arith}
 use Rattle.std.specs.List.{All, AllPairs, fold, sum_by}
+use Rattle.std.proofs.lemmas.List.{drop_more}
 use Rattle.std.proofs.lemmas.List.Elements.{All-head, All-tail}
 use Rattle.std.proofs.lemmas.List.Sums.{sum_by-cons}
 use Rattle.tf_model.specs.Limit.{limit}
@@ -48,6 +49,20 @@ left_next f i wanted ps qs now j js left more =
           ∙ All-tail (λ a. job_stop ps a ≡ 0) j js left.jobs k d h;
       apart = AllPairs-tail (λ a b. a ≢ b) j js left.apart;
     }
+
+-- with the job at place k of a list, which is laid as the operation o
+pub left_more : (f : ℕ → ℕ) (i : ℕ) {wanted ps qs : List Piece} {now now' : ℕ} (order : List ℕ)
+    (k j : ℕ) (o : Operation) → IsLeft f i wanted ps now (drop k order) → k < length order
+    → j ≡ get_or order k j → o ≡ run_on f i j
+    → qs ≡ ps ++ stretch o.job o.machine now o.time → now' ≡ now + o.time
+    → IsLeft f i wanted qs now' (drop (k + 1) order)
+left_more f i {wanted = wanted} {ps = ps} {qs = qs} {now = now} order k j o left here is is_o more
+    end =
+    rw (end ∙ ap (λ (u : Operation). now + u.time) is_o)
+    (left_next f i wanted ps qs now j (drop (k + 1) order)
+    (subst (IsLeft f i wanted ps now)
+    (drop_more order k j here ∙ ap (λ x. x ∷ drop (k + 1) order) (sym is)) left)
+    (more ∙ ap (λ (u : Operation). ps ++ stretch u.job u.machine now u.time) is_o))
 
 -- operations leave the stops of a line that they are not on
 pub other_stops : (line : Piece → ℕ) (of : Operation → ℕ)

@@ -1,25 +1,25 @@
 //! Flow shops with two machines.
-ghost use Rattle.std.specs.Prelude.{◌≡◌, ◌+◌, ◌<◌, ◌≤◌, length, take, pos, Ok, IfOk, IsTrue};
-ghost use Rattle.std.specs.List.{All, fold, sum_by};
+ghost use Rattle.std.specs.Prelude.{◌≡◌, ◌+◌, ◌≤◌, take, pos, Ok, IfOk, IsTrue};
+ghost use Rattle.std.specs.List.{sum_by};
 ghost use Rattle.std.specs.List.Sorted.{IsPermutation, IsNonDecreasing};
 ghost use Rattle.tf_model.specs.ClassTable.{is_flow};
 ghost use Rattle.tf_model.specs.Limit.{limit};
-ghost use Rattle.tf_model.specs.SchedulingTask.{IsJob, all_jobs};
+ghost use Rattle.tf_model.specs.SchedulingTask.{all_jobs};
 ghost use Rattle.tf_model.specs.Sound.{IsSound};
-ghost use Rattle.tf_schedule.specs.Drawing.{greatest_stop};
 ghost use Rattle.tf_schedule.specs.Schedule.{IsSchedule};
-ghost use Rattle.tf_schedule.specs.SemiActive.{laid, with_operation};
+ghost use Rattle.tf_schedule.specs.SemiActive.{laid};
 ghost use Rattle.tf_check.specs.Accepted.{IsAccepted};
 ghost use Rattle.tf_check.specs.Bound.{split_bound};
 ghost use Rattle.tf_check.specs.Claim.{BySplit};
 ghost use Rattle.tf_multi.specs.Johnson.{IsJohnsonOrder, IsTurn, IsTurnSplit, RunsByJohnson};
-ghost use Rattle.tf_multi.specs.TwoMachines.{time_at, on_machine, in_line};
+ghost use Rattle.tf_multi.specs.TwoMachines.{time_at, on_machine};
 
 mod order;
 mod turning;
 
 use crate::johnson::order::johnson_order;
-use crate::johnson::turning::{Turn, turning_place};
+use crate::johnson::turning::{Turn, lay_second};
+use crate::stretch::push_stretch;
 use crate::two_machines::{machine_of, operation};
 use std::alloc::Allocator;
 use tf_check::answer::Answer;
@@ -31,7 +31,6 @@ use tf_model::memory::OutOfMemory;
 use tf_model::task::Task;
 use tf_schedule::piece::Piece;
 use tf_schedule::piece_list::PieceList;
-use tf_schedule::semi_active::SemiActive;
 
 /// A shortest timetable of a flow shop with two machines (Johnson 1954).
 ///
@@ -55,8 +54,8 @@ pub fn johnson<A: Allocator + Copy, B: Allocator>(
     ensures rule { IfOk result (λ a. RunsByJohnson task.now a.pieces a.certificate) }
 {
     let order = johnson_order(alloc, task)?;
-    let pieces = laid_in_line(alloc, task, &order)?;
-    let turn = turning_place(task, &order);
+    let mut pieces = first_pieces(alloc, task, &order)?;
+    let turn = lay_second(&mut pieces, task, &order)?;
     let split = split_at(alloc, task, &order, turn)?;
     Ok(Answer {
         pieces: PieceList::new(pieces),
@@ -65,8 +64,8 @@ pub fn johnson<A: Allocator + Copy, B: Allocator>(
     })
 }
 
-// The pieces of the jobs in this order, of all of them on machine 1 and then on machine 2.
-fn laid_in_line<A: Allocator + Copy, B: Allocator>(
+// The pieces of the jobs on machine 1, one after another, with room for those on machine 2.
+fn first_pieces<A: Allocator, B: Allocator>(
     alloc: A,
     task: &Task<B>,
     order: &[JobId],
@@ -74,37 +73,15 @@ fn laid_in_line<A: Allocator + Copy, B: Allocator>(
     requires flow { IsTrue (is_flow task.now.class) }
     requires order { IsPermutation (all_jobs task.now) order.now }
     ensures laid { IfOk result (λ pieces.
-        pieces.items ≡ laid (in_line (time_at task.now) order.now)) }
+        pieces.items ≡ laid (on_machine (time_at task.now) 1 order.now)) }
     ensures sound { IfOk result (λ _. IsSound task.now) }
 {
-    let mut timetable = SemiActive::new(alloc, 2 * task.len(), task.len(), 2)?;
-    lay_on(&mut timetable, task, order, machine_of(true))?;
-    lay_on(&mut timetable, task, order, machine_of(false))?;
-    Ok(timetable.into_pieces())
-}
-
-// Lays the jobs on a machine, one after another.
-fn lay_on<A: Allocator + Copy, B: Allocator>(
-    timetable: &mut SemiActive<A>,
-    task: &Task<B>,
-    order: &[JobId],
-    machine: MachineId,
-) -> Result<(), OutOfMemory>
-    requires jobs { All (IsJob task.now) order.now }
-    requires all { length task.now.jobs ≤ timetable.old.jobs }
-    requires machine { (0 < machine) × (machine ≤ timetable.old.machines) }
-    requires within { greatest_stop timetable.old.pieces
-        + sum_by (λ j. time_at task.now j machine) order.now ≤ limit }
-    ensures pieces { IfOk result (λ _. timetable.new.pieces
-        ≡ fold with_operation timetable.old.pieces
-        (on_machine (time_at task.now) machine order.now)) }
-    ensures jobs { timetable.new.jobs ≡ timetable.old.jobs }
-    ensures machines { timetable.new.machines ≡ timetable.old.machines }
-{
+    let mut pieces = Vec::with_capacity(alloc, 2 * task.len())?;
+    let mut now: u64 = 0;
     for job in order {
-        timetable.lay(operation(task, *job, machine))?;
+        now = push_stretch(&mut pieces, operation(task, *job, machine_of(true)), now)?;
     }
-    Ok(())
+    Ok(pieces)
 }
 
 // The split at the place of a turn, whose bound is when the line of the jobs ends.
