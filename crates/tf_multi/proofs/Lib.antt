@@ -6,6 +6,7 @@ pub mod Routes
 pub mod Fronts
 pub mod Leading
 pub mod Leader
+pub mod LedParts
 pub mod OpenShop
 pub mod FlowShop
 pub mod Turning

@@ -28,15 +28,12 @@ use Rattle.tf_multi.specs.TwoMachines.{time_at, first_machine, second_machine}
 use Rattle.tf_multi.specs.OpenShop.{is_early, IsLeader, is_in_group, followers, operations_led_by, machine_time, open_claim}
 use Rattle.tf_schedule.proofs.Laying.{IsLaid, Keeps, stop-le-line_stop}
 use Rattle.tf_multi.proofs.Fronts.{enclosed_fronts}
+use Rattle.tf_multi.proofs.LedParts.{machines_differ}
 use Rattle.tf_multi.proofs.Routes.{OnceEach, All-enclosed, differ_enclosed, sum_enclosed}
 use Rattle.tf_schedule.proofs.LaidFits.{IsListed, is_laid, laid_fits_shop, laid_cost, sorted_schedule}
 use Rattle.tf_multi.proofs.Leading.{sum_led, led_apart, led_jobs, leads, all_ours_fast, all_theirs_fast}
 
 -- ---- the two machines
-
-machines_differ : (e : Bool) → first_machine e ≢ second_machine e
-machines_differ true same = absurd (omega arith)
-machines_differ false same = absurd (omega arith)
 
 first_there : (e : Bool) → (0 < first_machine e) × (first_machine e ≤ 2)
 first_there true = (omega arith, omega arith)

@@ -1,6 +1,6 @@
 -- Operations of jobs that visit two machines one after another, between the two operations of
 -- another job.
-use Rattle.std.proofs.Common.{◌≡◌, ◌≢◌, ℕ, suc, ◌+◌, Bool, true, false, not, cond, List, [], ◌∷◌, ◌++◌, filter, refl, sym, ap, ◌∙◌, arith, append_assoc}
+use Rattle.std.proofs.Common.{◌≡◌, ◌≢◌, ℕ, suc, ◌+◌, Bool, true, false, cond, List, [], ◌∷◌, ◌++◌, filter, refl, sym, ap, ◌∙◌, arith, append_assoc}
 use Rattle.std.specs.List.{All, AllPairs, sum_by, range_with_len}
 use Rattle.std.proofs.lemmas.List.{append-nil}
 use Rattle.std.proofs.lemmas.List.Elements.{All-cons, All-nil, All-tail, All-head, All-push, filter-append}
@@ -8,9 +8,8 @@ use Rattle.std.proofs.lemmas.List.Kept.{AllPairs-cons}
 use Rattle.std.proofs.lemmas.List.Quantifiers.{all_pairs_push}
 use Rattle.std.proofs.lemmas.List.Sums.{sum_by-cons, sum_by_push}
 use Rattle.tf_schedule.specs.declared.semi_active.Operation.{Operation}
-use Rattle.tf_model.specs.SchedulingTask.{SchedulingTask, all_jobs}
-use Rattle.tf_multi.specs.TwoMachines.{time_at, operation_of, routed, first_machine, second_machine}
-use Rattle.tf_multi.specs.OpenShop.{is_early, is_in_group, enclosed, followers, operations_led_by}
+use Rattle.tf_multi.specs.TwoMachines.{operation_of, routed}
+use Rattle.tf_multi.specs.OpenShop.{enclosed}
 use Rattle.tf_schedule.proofs.Laying.{Keeps}
 use Rattle.tf_model.proofs.Ranges.{range_push}
 use Rattle.tf_schedule.proofs.Parts.{AllPairs-head, AllPairs-tail}
@@ -103,57 +102,30 @@ module _ (f : ℕ → ℕ → ℕ) (x y : ℕ) where
     sum_by-cons (λ i. g (operation_of f i x) + g (operation_of f i y)) r js,
   )
 
--- ---- the operations as they are pushed
+-- ---- the jobs of a group as they are pushed
 
-module _ (f : ℕ → ℕ → ℕ) (x y : ℕ) (p : ℕ → Bool) where
-  filter_more : (k job : ℕ) (b : Bool) → job ≡ k + 1 → p job ≡ b
+module _ (p : ℕ → Bool) (before now : List ℕ) (k job : ℕ)
+    (so_far : now ≡ before ++ filter p (range_with_len 1 k)) (is : job ≡ k + 1) where
+  more : (b : Bool) → p job ≡ b
       → filter p (range_with_len 1 (k + 1)) ≡ filter p (range_with_len 1 k) ++ cond b (job ∷ []) []
-  filter_more k job b is e =
-      let more : k + 1 ≡ suc k = omega arith in
+  more b e =
+      let next : k + 1 ≡ suc k = omega arith in
       let last : 1 + k ≡ job = omega arith in
-      ap (λ n. filter p (range_with_len 1 n)) more
+      ap (λ n. filter p (range_with_len 1 n)) next
       ∙ ap (filter p) (range_push 1 k ∙ ap (λ m. range_with_len 1 k ++ m ∷ []) last)
       ∙ filter-append p (range_with_len 1 k) (job ∷ [])
       ∙ ap (λ (c : Bool). filter p (range_with_len 1 k) ++ cond c (job ∷ []) []) e
 
-  -- the operations of one more job that passes
-  pub pushed_more : (os : List Operation) (k job : ℕ) → job ≡ k + 1 → p job ≡ true
-      → ((os ++ routed f x y (filter p (range_with_len 1 k))) ++ operation_of f job x ∷ [])
-      ++ operation_of f job y ∷ [] ≡ os ++ routed f x y (filter p (range_with_len 1 (k + 1)))
-  pushed_more os k job is e =
-      append_assoc (os ++ routed f x y (filter p (range_with_len 1 k))) (operation_of f job x ∷ [])
-      (operation_of f job y ∷ [])
-      ∙ append_assoc os (routed f x y (filter p (range_with_len 1 k)))
-      (operation_of f job x ∷ operation_of f job y ∷ [])
-      ∙ ap (λ us. os ++ us)
-      (sym (ap (routed f x y) (filter_more k job true is e)
-      ∙ routed-append f x y (filter p (range_with_len 1 k)) (job ∷ [])))
+  -- one that is in it
+  pub group_more : p job ≡ true
+      → now ++ job ∷ [] ≡ before ++ filter p (range_with_len 1 (k + 1))
+  group_more e =
+      ap (λ js. js ++ job ∷ []) so_far ∙ append_assoc before (filter p (range_with_len 1 k)) (job ∷ [])
+      ∙ ap (λ js. before ++ js) (sym (more true e))
 
-  -- and of one that does not
-  pub pushed_same : (os : List Operation) (k job : ℕ) → job ≡ k + 1 → p job ≡ false
-      → os ++ routed f x y (filter p (range_with_len 1 k)) ≡ os
-      ++ routed f x y (filter p (range_with_len 1 (k + 1)))
-  pushed_same os k job is e = ap (λ js. os ++ routed f x y js)
-      (sym (filter_more k job false is e ∙ append-nil (filter p (range_with_len 1 k))))
-
-other_machine : (e : Bool) → first_machine (not e) ≡ second_machine e
-other_machine true = refl
-other_machine false = refl
-
--- the leader, its group, the other group, and the leader again
-pub pushed_all : (task : SchedulingTask) (r : ℕ) (e : Bool) (x y : ℕ) → e ≡ is_early task r
-    → x ≡ first_machine e → y ≡ first_machine (not e)
-    → ((operation_of (time_at task) r y ∷ []
-    ++ routed (time_at task) x y (filter (is_in_group task r e) (all_jobs task)))
-    ++ routed (time_at task) x y (filter (is_in_group task r (not e)) (all_jobs task)))
-    ++ operation_of (time_at task) r x ∷ []
-    ≡ operations_led_by task r
-pushed_all task r e x y is_e is_x is_y =
-    ap (λ os. operation_of (time_at task) r y ∷ (os ++ operation_of (time_at task) r x ∷ []))
-    (sym (routed-append (time_at task) x y (filter (is_in_group task r e) (all_jobs task))
-    (filter (is_in_group task r (not e)) (all_jobs task))))
-    ∙ ap (λ n. enclosed (time_at task) n y r (followers task r e)) is_x
-    ∙ ap (λ n. enclosed (time_at task) (first_machine e) n r (followers task r e))
-    (is_y ∙ other_machine e)
-    ∙ ap (λ (b : Bool). enclosed (time_at task) (first_machine b) (second_machine b) r
-    (followers task r b)) is_e
+  -- and one that is not
+  pub group_same : p job ≡ false → now ≡ before ++ filter p (range_with_len 1 (k + 1))
+  group_same e =
+      so_far
+      ∙ ap (λ js. before ++ js)
+      (sym (more false e ∙ append-nil (filter p (range_with_len 1 k))))

@@ -1,5 +1,5 @@
 -- The order of Gonzalez and Sahni's rule for two machines. Machines count from 1.
-use Rattle.std.specs.Prelude.{◌≡◌, ℕ, ◌≤◌, ◌<◌, ◌==◌, min, max, Bool, not, ◌&&◌, ◌||◌, nat_le, nat_lt, List, [], ◌∷◌, ◌++◌, filter, if◌then◌else◌}
+use Rattle.std.specs.Prelude.{◌≡◌, ℕ, zero, suc, ◌+◌, ◌≤◌, ◌<◌, ◌==◌, min, max, Bool, not, ◌&&◌, ◌||◌, nat_le, nat_lt, List, [], ◌∷◌, ◌++◌, filter, if◌then◌else◌}
 use Rattle.tf_model.specs.SchedulingTask.{SchedulingTask, IsJob, all_jobs, time_of}
 use Rattle.std.specs.List.{sum_by}
 use Rattle.std.specs.List.Sorted.{IsPermutation}
@@ -49,11 +49,20 @@ followers task r early =
     filter (is_in_group task r early) (all_jobs task)
     ++ filter (is_in_group task r (not early)) (all_jobs task)
 
--- the operations of all jobs, where r leads
-abbrev pub operations_led_by : SchedulingTask → ℕ → List Operation
-operations_led_by task r =
+-- when an operation of time t is over that starts at s, 0 where it takes no time
+abbrev pub over_at : ℕ → ℕ → ℕ
+over_at s zero = 0
+over_at s (suc t) = s + suc t
+
+-- the operations of the jobs, where r leads them
+abbrev pub led : SchedulingTask → ℕ → List ℕ → List Operation
+led task r js =
     let early = is_early task r in
-    enclosed (time_at task) (first_machine early) (second_machine early) r (followers task r early)
+    enclosed (time_at task) (first_machine early) (second_machine early) r js
+
+-- the operations of all jobs
+abbrev pub operations_led_by : SchedulingTask → ℕ → List Operation
+operations_led_by task r = led task r (followers task r (is_early task r))
 
 -- the time of all jobs on a machine
 abbrev pub machine_time : SchedulingTask → ℕ → ℕ

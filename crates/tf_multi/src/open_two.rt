@@ -1,15 +1,18 @@
 //! Open shops with two machines.
-ghost use Rattle.std.specs.Prelude.{◌≡◌, ◌≤◌, ◌++◌, min, not, filter, if◌then◌else◌};
-ghost use Rattle.std.specs.Prelude.{IfOk, IsTrue, IsFalse};
+ghost use Rattle.std.specs.Prelude.{◌≡◌, ◌≢◌, ◌+◌, ◌≤◌, ◌∷◌, ◌++◌, min, not, filter};
+ghost use Rattle.std.specs.Prelude.{if◌then◌else◌, IfOk, IsTrue, IsFalse};
+ghost use Rattle.std.specs.List.{All, AllPairs, sum_by};
+ghost use Rattle.std.specs.List.Sorted.{IsPermutation};
 ghost use Rattle.tf_model.specs.ClassTable.{is_shop, is_flow};
+ghost use Rattle.tf_model.specs.Limit.{limit};
 ghost use Rattle.tf_model.specs.SchedulingTask.{IsJob, all_jobs};
 ghost use Rattle.tf_model.specs.Sound.{IsSound};
-ghost use Rattle.tf_schedule.specs.Schedule.{IsSchedule};
-ghost use Rattle.tf_schedule.specs.SemiActive.{laid};
+ghost use Rattle.tf_schedule.specs.MachinePart.{is_in_part};
+ghost use Rattle.tf_schedule.specs.Schedule.{ComesBefore, IsSchedule};
+ghost use Rattle.tf_schedule.specs.SemiActive.{laid, stretch};
 ghost use Rattle.tf_check.specs.Accepted.{IsAccepted};
-ghost use Rattle.tf_multi.specs.TwoMachines.{time_at, routed};
 ghost use Rattle.tf_multi.specs.OpenShop.{is_early, goes_ahead, IsLeader, IsLed, is_in_group};
-ghost use Rattle.tf_multi.specs.OpenShop.{operations_led_by};
+ghost use Rattle.tf_multi.specs.OpenShop.{over_at, followers, led, operations_led_by};
 
 use crate::longest::first_longest;
 use crate::two_machines::{machine_of, operation};
@@ -18,14 +21,14 @@ use tf_check::answer::Answer;
 use tf_check::certificate::Certificate;
 use tf_check::machine_load::MachineLoad;
 use tf_check::one_job::OneJob;
-use tf_model::ids::{JobId, MachineId};
+use tf_model::ids::JobId;
 use tf_model::job_rows::JobRow;
 use tf_model::memory::OutOfMemory;
 use tf_model::task::Task;
-use tf_schedule::machine_order::by_machine;
 use tf_schedule::piece::Piece;
 use tf_schedule::piece_list::PieceList;
-use tf_schedule::semi_active::{Operation, SemiActive};
+use tf_schedule::schedule::sort_by_machine;
+use tf_schedule::semi_active::Operation;
 
 /// A shortest timetable of an open shop with two machines (Gonzalez and Sahni 1976).
 ///
@@ -48,9 +51,7 @@ pub fn open_two<A: Allocator + Copy, B: Allocator>(
     ensures rule { IfOk result (λ a. IsLed task.now a.pieces a.certificate) }
 {
     let leader = leader(task);
-    let laid = laid_by_leader(alloc, task, leader)?;
-    let pieces = by_machine(alloc, &laid)?;
-    drop(laid);
+    let pieces = pieces_led_by(alloc, task, leader)?;
     let first = task.work_on(machine_of(true));
     let second = task.work_on(machine_of(false));
     let longest = first_longest(task);
@@ -99,8 +100,8 @@ fn goes_ahead(job: JobRow, other: JobRow) -> bool
     lesser > other_lesser
 }
 
-// The pieces of all jobs, in the order in which they are laid.
-fn laid_by_leader<A: Allocator + Copy, B: Allocator>(
+// The pieces of all jobs, by machine and start.
+fn pieces_led_by<A: Allocator + Copy, B: Allocator>(
     alloc: A,
     task: &Task<B>,
     leader: JobId,
@@ -108,58 +109,111 @@ fn laid_by_leader<A: Allocator + Copy, B: Allocator>(
     requires shop { IsTrue (is_shop task.now.class) }
     requires any_order { IsFalse (is_flow task.now.class) }
     requires leader { IsLeader task.now leader }
-    ensures laid { IfOk result (λ pieces.
-        pieces.items ≡ laid (operations_led_by task.now leader)) }
+    ensures kept { IfOk result (λ pieces.
+        IsPermutation (laid (operations_led_by task.now leader)) pieces.items) }
+    ensures in_order { IfOk result (λ pieces. AllPairs ComesBefore pieces.items) }
     ensures sound { IfOk result (λ _. IsSound task.now) }
 {
-    let mut timetable = SemiActive::new(alloc, 2 * task.len(), task.len(), 2)?;
-    let operations = operations_led_by(alloc, task, leader)?;
-    timetable.lay_all(&operations)?;
-    Ok(timetable.into_pieces())
+    let mut pieces = Vec::with_capacity(alloc, 2 * task.len())?;
+    let followers = followers(alloc, task, leader)?;
+    lay_part(&mut pieces, task, leader, &followers, true)?;
+    lay_part(&mut pieces, task, leader, &followers, false)?;
+    sort_by_machine(&mut pieces);
+    Ok(pieces)
 }
 
-// The operations of all jobs, in the order in which they are laid.
-fn operations_led_by<A: Allocator, B: Allocator>(
+// The jobs but the leader: those that are early as it is, or not as it, and then the others.
+fn followers<A: Allocator, B: Allocator>(
     alloc: A,
     task: &Task<B>,
     leader: JobId,
-) -> Result<Vec<Operation, A>, OutOfMemory>
+) -> Result<Vec<JobId, A>, OutOfMemory>
     requires { IsJob task.now leader }
-    ensures { IfOk result (λ operations. operations.items ≡ operations_led_by task.now leader) }
+    ensures { IfOk result (λ jobs.
+        jobs.items ≡ followers task.now leader (is_early task.now leader)) }
 {
     let early = is_early(task, leader);
-    let first = machine_of(early);
-    let second = machine_of(!early);
-    let mut operations = Vec::with_capacity(alloc, 2 * task.len())?;
-    operations.push(operation(task, leader, second))?;
-    push_group(&mut operations, task, leader, early, first, second)?;
-    push_group(&mut operations, task, leader, !early, first, second)?;
-    operations.push(operation(task, leader, first))?;
-    Ok(operations)
+    let mut jobs = Vec::with_capacity(alloc, task.len())?;
+    push_group(&mut jobs, task, leader, early)?;
+    push_group(&mut jobs, task, leader, !early)?;
+    Ok(jobs)
 }
 
-// The jobs but the leader that are early, or those that are not, each on the one machine and then
-// on the other.
+// Adds the jobs but the leader that are early, or those that are not.
 fn push_group<A: Allocator, B: Allocator>(
-    operations: &mut Vec<Operation, A>,
+    jobs: &mut Vec<JobId, A>,
     task: &Task<B>,
     leader: JobId,
     early: bool,
-    first: MachineId,
-    second: MachineId,
 ) -> Result<(), OutOfMemory>
-    ensures { IfOk result (λ _. operations.new.items ≡ operations.old.items
-        ++ routed (time_at task.now) first second
-        (filter (is_in_group task.now leader early) (all_jobs task.now))) }
+    ensures { IfOk result (λ _. jobs.new.items
+        ≡ jobs.old.items ++ filter (is_in_group task.now leader early) (all_jobs task.now)) }
 {
     for k in 0..task.len() {
         let job = JobId::at(k);
         if is_in_group(task, leader, early, job) {
-            operations.push(operation(task, job, first))?;
-            operations.push(operation(task, job, second))?;
+            jobs.push(job)?;
         }
     }
     Ok(())
+}
+
+// Lays all jobs, the leader on the second machine first and on the first machine last, and adds the
+// pieces on machine 1, or those on machine 2.
+fn lay_part<A: Allocator, B: Allocator>(
+    pieces: &mut Vec<Piece, A>,
+    task: &Task<B>,
+    leader: JobId,
+    followers: &[JobId],
+    on_first: bool,
+) -> Result<(), OutOfMemory>
+    requires known { All (IsJob task.now) (leader ∷ followers.now) }
+    requires apart { AllPairs (λ i j. i ≢ j) (leader ∷ followers.now) }
+    requires within { sum_by (λ o. o.time) (led task.now leader followers.now) ≤ limit }
+    ensures { IfOk result (λ _. pieces.new.items ≡ pieces.old.items
+        ++ filter (is_in_part on_first) (laid (led task.now leader followers.now))) }
+{
+    let early = is_early(task, leader);
+    let first = machine_of(early);
+    let second = machine_of(!early);
+    let leader_over = push_in_part(pieces, operation(task, leader, second), 0, on_first)?;
+    let mut first_free: u64 = 0;
+    let mut second_free: u64 = leader_over;
+    for job in followers {
+        let over = push_in_part(pieces, operation(task, *job, first), first_free, on_first)?;
+        first_free = first_free.max(over);
+        let start = second_free.max(over);
+        let last = push_in_part(pieces, operation(task, *job, second), start, on_first)?;
+        second_free = second_free.max(last);
+    }
+    let start = first_free.max(leader_over);
+    push_in_part(pieces, operation(task, leader, first), start, on_first)?;
+    Ok(())
+}
+
+// Adds an operation that starts at `start`, if it is on machine 1 as asked or not as asked, and
+// returns its completion time: 0 for an operation of time 0, which has no piece.
+fn push_in_part<A: Allocator>(
+    pieces: &mut Vec<Piece, A>,
+    operation: Operation,
+    start: u64,
+    on_first: bool,
+) -> Result<u64, OutOfMemory>
+    requires { start + operation.time ≤ limit }
+    ensures pieces { IfOk result (λ _. pieces.new.items ≡ pieces.old.items
+        ++ filter (is_in_part on_first)
+        (stretch operation.job operation.machine start operation.time)) }
+    ensures over { IfOk result (λ over. over ≡ over_at start operation.time) }
+{
+    if operation.time == 0 {
+        return Ok(0);
+    }
+    let over = start + operation.time;
+    if (operation.machine.get() == 1) != on_first {
+        return Ok(over);
+    }
+    pieces.push(Piece::of(operation.job, operation.machine, start, over))?;
+    Ok(over)
 }
 
 fn is_in_group<B: Allocator>(task: &Task<B>, leader: JobId, early: bool, job: JobId) -> bool

@@ -13,9 +13,9 @@ use Rattle.tf_multi.proofs.open_two.open_two.Goals.{then-first-value, else-first
 pub returns-clause-schedule : goal.returns-clause-schedule
 returns-clause-schedule g c =
     rw c.new.ensures
-    (led_schedule _ c.in_ok-laid.ensures.sound c.requires.shop c.requires.any_order _
+    (led_schedule _ c.in_ok-pieces.ensures.sound c.requires.shop c.requires.any_order _
     c.leader-leader.ensures _
-    (rw (c.deref.ensures.value, c.in_ok-laid.ensures.laid) at c.in_ok-pieces.ensures.kept) c.in_ok-pieces.ensures.in_order)
+    c.in_ok-pieces.ensures.kept c.in_ok-pieces.ensures.in_order)
 
 pub returns-clause-accepted : goal.returns-clause-accepted
 returns-clause-accepted g c =
@@ -54,9 +54,9 @@ returns-clause-accepted g c =
           (omega (arith, value, first, second, w.if-first-value.false, w.if-second-value.false)))
     ] in
     rw (c.new.ensures, cast_value v within)
-    (led_accepted task c.in_ok-laid.ensures.sound c.requires.shop c.requires.any_order _
+    (led_accepted task c.in_ok-pieces.ensures.sound c.requires.shop c.requires.any_order _
     c.leader-leader.ensures _
-    (rw (c.deref.ensures.value, c.in_ok-laid.ensures.laid) at c.in_ok-pieces.ensures.kept) l v
+    c.in_ok-pieces.ensures.kept l v
     (λ j job. c.first_longest-longest.ensures.longest j job) value _ bounded)
 
 pub returns-clause-rule : goal.returns-clause-rule
@@ -85,8 +85,7 @@ returns-clause-rule g c =
     record {
       leader = c.leader-leader.result;
       leads = c.leader-leader.ensures;
-      are = rw (c.new.ensures)
-          (rw (c.deref.ensures.value, c.in_ok-laid.ensures.laid) at c.in_ok-pieces.ensures.kept);
+      are = rw c.new.ensures c.in_ok-pieces.ensures.kept;
       longest = l;
       is_longest = c.first_longest-longest.ensures;
       certificate = claim ∙ ap (open_claim task l) value;
