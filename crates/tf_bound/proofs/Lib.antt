@@ -5,3 +5,4 @@ pub mod Sound
 pub mod Marks
 pub mod Routes
 pub mod Weighed
+pub mod Dates

@@ -3,15 +3,20 @@ use Rattle.std.specs.Prelude.{◌≡◌, ℤ}
 use Rattle.tf_problem.specs.ProblemData.{ProblemData}
 use Rattle.tf_problem.specs.ProblemBounds.{machine_value, window_value, crowd_value, one_job_value, multiplier_value}
 use Rattle.tf_bound.specs.Prices.{IsPricesBound}
+use Rattle.tf_bound.specs.Judged.{IsJudgedTask}
 use Rattle.tf_bound.specs.declared.certificate.BoundCertificate.{BoundCertificate}
 use Rattle.tf_bound.specs.declared.certificate.BoundCertificate.TheVariants.{Machine, Window, Crowd, OneJob, Multipliers, Prices}
 
 -- the number is the value of the certificate's kind, by its jobs or numbers
-abbrev pub IsBoundBy : {A : Type 0} → ProblemData → BoundCertificate A → ℤ → Type 0
-IsBoundBy k (Machine machine jobs) b = b ≡ machine_value k machine jobs.items
-IsBoundBy k (Window jobs) b = b ≡ window_value k jobs.items
-IsBoundBy k (Crowd h jobs) b = b ≡ crowd_value k h jobs.items
-IsBoundBy k (OneJob job) b = b ≡ one_job_value k job
-IsBoundBy k (Multipliers machine q numerators) b =
+abbrev pub IsValueOn : {A : Type 0} → ProblemData → BoundCertificate A → ℤ → Type 0
+IsValueOn k (Machine machine jobs) b = b ≡ machine_value k machine jobs.items
+IsValueOn k (Window jobs) b = b ≡ window_value k jobs.items
+IsValueOn k (Crowd h jobs) b = b ≡ crowd_value k h jobs.items
+IsValueOn k (OneJob job) b = b ≡ one_job_value k job
+IsValueOn k (Multipliers machine q numerators) b =
     b ≡ multiplier_value k machine numerators.items q
-IsBoundBy k (Prices q rows) b = IsPricesBound k q rows.items b
+IsValueOn k (Prices q rows) b = IsPricesBound k q rows.items b
+
+-- the number is that value on the task on which the certificate is judged
+abbrev pub IsBoundBy : {A : Type 0} → ProblemData → BoundCertificate A → ℤ → Type 0
+IsBoundBy k c b = (other : ProblemData) × IsJudgedTask k other × IsValueOn other c b

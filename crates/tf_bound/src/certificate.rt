@@ -1,13 +1,14 @@
 //! Certificates of lower bounds, of every kind, and their judge.
 ghost use Rattle.std.specs.Prelude.{IfOk};
 ghost use Rattle.tf_problem.specs.ProblemCost.{IsLowerBound};
-ghost use Rattle.tf_bound.specs.Certified.{IsBoundBy};
+ghost use Rattle.tf_bound.specs.Certified.{IsBoundBy, IsValueOn};
 
 use crate::alike::{crowd_bound, one_job_bound, window_bound};
 use crate::fault::BoundFault;
 use crate::machine::machine_bound;
 use crate::multipliers::multipliers_bound;
 use crate::prices::prices_bound;
+use crate::pushed::pushed_task;
 use crate::task::ProblemTask;
 use std::alloc::{Allocator, Global};
 use tf_model::ids::JobId;
@@ -47,13 +48,29 @@ pub enum BoundCertificate<A: Allocator = Global> {
 }
 
 impl<A: Allocator> BoundCertificate<A> {
-    /// Its value on a task. No timetable that fits the task costs less.
+    /// Its value on a task, whose dates are those that follow by its arcs, for the makespan or the
+    /// maximum lateness. No timetable that fits the task costs less.
     pub fn bound<B: Allocator + Copy, C: Allocator>(
         &self,
         alloc: B,
         task: &ProblemTask<C>,
     ) -> Result<i128, BoundFault>
         ensures value { IfOk result (IsBoundBy task.now self.now) }
+        ensures bound { IfOk result (IsLowerBound task.now) }
+    {
+        match pushed_task(alloc, task)? {
+            Some(pushed) => self.bound_on(alloc, &pushed),
+            None => self.bound_on(alloc, task),
+        }
+    }
+
+    /// Its value on a task as it is, whatever its arcs. No timetable that fits the task costs less.
+    pub fn bound_on<B: Allocator + Copy, C: Allocator>(
+        &self,
+        alloc: B,
+        task: &ProblemTask<C>,
+    ) -> Result<i128, BoundFault>
+        ensures value { IfOk result (IsValueOn task.now self.now) }
         ensures bound { IfOk result (IsLowerBound task.now) }
     {
         match self {

@@ -2,11 +2,13 @@
 #![tactic(auto)]
 
 pub mod alike;
+mod along;
 pub mod certificate;
 pub mod fault;
 mod jobs;
 pub mod machine;
 pub mod multipliers;
 pub mod prices;
+pub mod pushed;
 pub mod row_sums;
 pub mod task;

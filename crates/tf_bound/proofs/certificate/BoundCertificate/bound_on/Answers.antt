@@ -1,6 +1,6 @@
 use Rattle.std.proofs.Common.{IfOk, ◌≡◌, ℤ, List, ℕ, subst}
 use Rattle.tf_problem.specs.ProblemBounds.{multiplier_value}
-use Rattle.tf_bound.proofs.certificate.BoundCertificate.bound.Goals as goal
+use Rattle.tf_bound.proofs.certificate.BoundCertificate.bound_on.Goals as goal
 
 pub returns-in-Multipliers-clause-value : goal.returns-in-Multipliers-clause-value
 returns-in-Multipliers-clause-value g c =

@@ -1,0 +1,204 @@
+//! The task whose release dates and due dates follow by its arcs.
+ghost use Rattle.std.specs.Prelude.{◌≡◌, ℕ, ℤ, ◌<◌, ◌≤◌, pos, ◌-ℤ◌, length, map, slice_index, slice_index_or, IfOk, IfSome, IsTrue};
+ghost use Rattle.tf_model.specs.Limit.{limit};
+ghost use Rattle.tf_problem.specs.ProblemData.{IsProblemJob, problem_jobs};
+ghost use Rattle.tf_problem.specs.ProblemCost.{IsLowerBound};
+ghost use Rattle.tf_problem.specs.ProblemBounds.{is_max_goal, problem_work};
+ghost use Rattle.tf_problem.specs.Pushed.{pushed, pushed_job};
+ghost use Rattle.tf_bound.specs.JobNumbers.{number_by};
+ghost use Rattle.tf_bound.specs.Judged.{AreDeadlines, AreHeads, IsPushedTask};
+
+use crate::along::dates_along;
+use crate::task::{ProblemJob, ProblemTask};
+use std::alloc::Allocator;
+use tf_model::ids::JobId;
+use tf_model::limit::LIMIT;
+use tf_model::memory::OutOfMemory;
+use tf_model::problem::{Goal, Problem};
+use tf_problem::laws::pushed_law;
+
+// Which number of a job.
+#[derive(Clone, Copy)]
+enum Number {
+    Release,
+    Work,
+    // How long before the limit the job is due.
+    Tail,
+}
+
+/// The task whose dates follow by the arcs, for the makespan or the maximum lateness. None where
+/// there is no arc, or another objective; where the arcs form a cycle; or where a date is beyond the
+/// limit.
+pub fn pushed_task<A: Allocator + Copy, B: Allocator>(
+    alloc: A,
+    task: &ProblemTask<B>,
+) -> Result<Option<ProblemTask<A>>, OutOfMemory>
+    ensures pushed { IfOk result (λ found. IfSome found (IsPushedTask task.now)) }
+    ensures bound { IfOk result (λ found. IfSome found (λ other.
+        (b : ℤ) → IsLowerBound other b → IsLowerBound task.now b)) }
+{
+    if !is_pushed(task.problem()) || task.arcs().is_empty() {
+        return Ok(None);
+    }
+    let work = numbers(alloc, task, Number::Work)?;
+    let Some(releases) = heads(alloc, task, &work)? else {
+        return Ok(None);
+    };
+    let Some(dues) = deadlines(alloc, task, &work)? else {
+        return Ok(None);
+    };
+    pushed_law();
+    with_dates(alloc, task, &releases, &dues)
+}
+
+// Whether arcs move the dates of a problem's tasks.
+fn is_pushed(problem: Problem) -> bool
+    ensures prec { IsTrue result → IsTrue problem.prec }
+    ensures goal { IsTrue result → IsTrue (is_max_goal problem.goal) }
+{
+    problem.prec && matches!(problem.goal, Goal::Cmax | Goal::Lmax)
+}
+
+fn number_of<B: Allocator>(task: &ProblemTask<B>, number: Number, job: JobId) -> u64
+    requires { IsProblemJob task.now job }
+    ensures { result ≡ number_by number task.now job }
+{
+    match number {
+        Number::Release => task.release(job),
+        Number::Work => task.work(job),
+        Number::Tail => (LIMIT - task.due(job)) as u64,
+    }
+}
+
+// The numbers of all jobs, in their order.
+fn numbers<A: Allocator, B: Allocator>(
+    alloc: A,
+    task: &ProblemTask<B>,
+    number: Number,
+) -> Result<Vec<u64, A>, OutOfMemory>
+    ensures { IfOk result (λ xs. xs.items ≡ map (number_by number task.now) (problem_jobs task.now)) }
+{
+    let mut numbers = Vec::with_capacity(alloc, task.len())?;
+    for k in 0..task.len() {
+        numbers.push(number_of(task, number, JobId::at(k)))?;
+    }
+    Ok(numbers)
+}
+
+// The release dates that follow by the arcs.
+fn heads<A: Allocator + Copy, B: Allocator>(
+    alloc: A,
+    task: &ProblemTask<B>,
+    work: &[u64],
+) -> Result<Option<Vec<u64, A>>, OutOfMemory>
+    requires { work.now ≡ map (problem_work task.now) (problem_jobs task.now) }
+    ensures { IfOk result (λ found. IfSome found (λ dates. AreHeads task.now dates.items)) }
+{
+    let own = numbers(alloc, task, Number::Release)?;
+    dates_along(alloc, &own, work, task.arcs())
+}
+
+// The due dates that follow by the arcs: counted back from the limit, they are dates along the arcs
+// the other way round.
+fn deadlines<A: Allocator + Copy, B: Allocator>(
+    alloc: A,
+    task: &ProblemTask<B>,
+    work: &[u64],
+) -> Result<Option<Vec<i64, A>>, OutOfMemory>
+    requires { work.now ≡ map (problem_work task.now) (problem_jobs task.now) }
+    ensures { IfOk result (λ found. IfSome found (λ dues. AreDeadlines task.now dues.items)) }
+{
+    let own = numbers(alloc, task, Number::Tail)?;
+    let back = reversed(alloc, task.arcs())?;
+    match dates_along(alloc, &own, work, &back)? {
+        Some(tails) => before_limit(alloc, &tails),
+        None => Ok(None),
+    }
+}
+
+// The arcs the other way round.
+fn reversed<A: Allocator>(
+    alloc: A,
+    arcs: &[(JobId, JobId)],
+) -> Result<Vec<(JobId, JobId), A>, OutOfMemory>
+    ensures { IfOk result (λ back. back.items ≡ map (λ arc. (arc.1, arc.0)) arcs.now) }
+{
+    let mut back = Vec::with_capacity(alloc, arcs.len())?;
+    for (before, after) in arcs {
+        back.push((*after, *before))?;
+    }
+    Ok(back)
+}
+
+// The dates that are so long before the limit. None where one is below the least date.
+fn before_limit<A: Allocator>(alloc: A, tails: &[u64]) -> Result<Option<Vec<i64, A>>, OutOfMemory>
+    ensures { IfOk result (λ found. IfSome found
+        (λ dates. dates.items ≡ map (λ tail. pos limit -ℤ pos tail) tails.now)) }
+{
+    let mut dates = Vec::with_capacity(alloc, tails.len())?;
+    for tail in tails {
+        if *tail > 2 * LIMIT as u64 {
+            return Ok(None);
+        }
+        dates.push(LIMIT - *tail as i64)?;
+    }
+    Ok(Some(dates))
+}
+
+// The task with other dates, for the maximum lateness. None where one is beyond the limit.
+fn with_dates<A: Allocator + Copy, B: Allocator>(
+    alloc: A,
+    task: &ProblemTask<B>,
+    releases: &[u64],
+    dues: &[i64],
+) -> Result<Option<ProblemTask<A>>, OutOfMemory>
+    requires releases { length releases.now ≡ length task.now.jobs }
+    requires dues { length dues.now ≡ length task.now.jobs }
+    ensures { IfOk result (λ found. IfSome found
+        (λ other. other ≡ pushed task.now releases.now dues.now)) }
+{
+    let jobs = jobs_with(alloc, task, releases, dues)?;
+    let arcs = Vec::from_slice(alloc, task.arcs())?;
+    let problem = Problem {
+        release: true,
+        goal: Goal::Lmax,
+        ..task.problem()
+    };
+    Ok(ProblemTask::new(problem, task.machines(), jobs, arcs).ok())
+}
+
+// The jobs with other dates.
+fn jobs_with<A: Allocator + Copy, B: Allocator>(
+    alloc: A,
+    task: &ProblemTask<B>,
+    releases: &[u64],
+    dues: &[i64],
+) -> Result<Vec<ProblemJob<A>, A>, OutOfMemory>
+    requires releases { length releases.now ≡ length task.now.jobs }
+    requires dues { length dues.now ≡ length task.now.jobs }
+    ensures { IfOk result (λ jobs. jobs.items
+        ≡ map (pushed_job task.now releases.now dues.now) (problem_jobs task.now)) }
+{
+    let mut jobs = Vec::with_capacity(alloc, task.len())?;
+    for k in 0..task.len() {
+        let job = with_date(alloc, task.job(JobId::at(k)), releases[k], dues[k])?;
+        jobs.push(job)?;
+    }
+    Ok(jobs)
+}
+
+fn with_date<A: Allocator, B: Allocator>(
+    alloc: A,
+    job: &ProblemJob<B>,
+    release: u64,
+    due: i64,
+) -> Result<ProblemJob<A>, OutOfMemory>
+    ensures { IfOk result (λ other. other ≡ record job.now { release = release; due = due }) }
+{
+    Ok(ProblemJob {
+        times: Vec::from_slice(alloc, &job.times)?,
+        weight: job.weight,
+        release,
+        due,
+    })
+}
