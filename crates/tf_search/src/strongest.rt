@@ -1,7 +1,7 @@
 //! The strongest of the lower bounds that judges and searches give of a task.
 ghost use Rattle.std.specs.Prelude.{◌≡◌, ◌⊎◌, IfOk, IfSome, IsFalse};
 ghost use Rattle.tf_model.specs.ClassTable.{is_shop_env};
-ghost use Rattle.tf_search.specs.Strongest.{IsFound};
+ghost use Rattle.tf_search.specs.Strongest.{IsFound, IsFoundOn};
 
 use crate::machine_search::search_machines;
 use crate::multiplier_search::multiplier_bound;
@@ -11,6 +11,7 @@ use crate::sequence::best_order;
 use std::alloc::{Allocator, Global};
 use tf_bound::certificate::BoundCertificate;
 use tf_bound::fault::BoundFault;
+use tf_bound::pushed::pushed_task;
 use tf_bound::task::ProblemTask;
 use tf_model::ids::JobId;
 use tf_model::memory::OutOfMemory;
@@ -42,6 +43,20 @@ pub fn strongest<A: Allocator + Copy, B: Allocator>(
 ) -> Result<Option<Found<A>>, OutOfMemory>
     ensures { IfOk result (λ best. IfSome best (IsFound task.now)) }
 {
+    match pushed_task(alloc, task)? {
+        Some(pushed) => strongest_on(alloc, &pushed, steps),
+        None => strongest_on(alloc, task, steps),
+    }
+}
+
+// The strongest bound of the task as it is.
+fn strongest_on<A: Allocator + Copy, B: Allocator>(
+    alloc: A,
+    task: &ProblemTask<B>,
+    steps: Option<u32>,
+) -> Result<Option<Found<A>>, OutOfMemory>
+    ensures { IfOk result (λ best. IfSome best (IsFoundOn task.now)) }
+{
     match task.problem().goal {
         Goal::Cmax | Goal::Lmax => of_maximum(alloc, task),
         _ => of_sum(alloc, task, steps),
@@ -54,9 +69,9 @@ fn judged<A: Allocator + Copy, B: Allocator>(
     task: &ProblemTask<B>,
     certificate: BoundCertificate<A>,
 ) -> Result<Option<Found<A>>, OutOfMemory>
-    ensures { IfOk result (λ best. IfSome best (IsFound task.now)) }
+    ensures { IfOk result (λ best. IfSome best (IsFoundOn task.now)) }
 {
-    match certificate.bound(alloc, task) {
+    match certificate.bound_on(alloc, task) {
         Ok(value) => Ok(Some(Found { value, certificate })),
         Err(BoundFault::OutOfMemory) => Err(OutOfMemory),
         Err(_) => Ok(None),
@@ -95,7 +110,7 @@ fn of_maximum<A: Allocator + Copy, B: Allocator>(
     alloc: A,
     task: &ProblemTask<B>,
 ) -> Result<Option<Found<A>>, OutOfMemory>
-    ensures { IfOk result (λ best. IfSome best (IsFound task.now)) }
+    ensures { IfOk result (λ best. IfSome best (IsFoundOn task.now)) }
 {
     let job = longest_job(task);
     let mut best = judged(alloc, task, BoundCertificate::OneJob { job })?;
@@ -134,7 +149,7 @@ fn by_window<A: Allocator + Copy, B: Allocator>(
     task: &ProblemTask<B>,
     rank: Rank,
 ) -> Result<Option<Found<A>>, OutOfMemory>
-    ensures { IfOk result (λ best. IfSome best (IsFound task.now)) }
+    ensures { IfOk result (λ best. IfSome best (IsFoundOn task.now)) }
 {
     let mut jobs = jobs_by_rank(alloc, task, rank)?;
     let len = window_front(task, &jobs);
@@ -146,7 +161,7 @@ fn by_crowd<A: Allocator + Copy, B: Allocator>(
     alloc: A,
     task: &ProblemTask<B>,
 ) -> Result<Option<Found<A>>, OutOfMemory>
-    ensures { IfOk result (λ best. IfSome best (IsFound task.now)) }
+    ensures { IfOk result (λ best. IfSome best (IsFoundOn task.now)) }
 {
     let mut jobs = jobs_by_rank(alloc, task, Rank::Longest)?;
     let (h, len) = crowd_front(task, &jobs);
@@ -158,7 +173,7 @@ fn by_machine<A: Allocator + Copy, B: Allocator>(
     alloc: A,
     task: &ProblemTask<B>,
 ) -> Result<Option<Found<A>>, OutOfMemory>
-    ensures { IfOk result (λ best. IfSome best (IsFound task.now)) }
+    ensures { IfOk result (λ best. IfSome best (IsFoundOn task.now)) }
 {
     let Some(Some(set)) = searched(search_machines(alloc, task))? else {
         return Ok(None);
@@ -176,7 +191,7 @@ fn of_sum<A: Allocator + Copy, B: Allocator>(
     task: &ProblemTask<B>,
     steps: Option<u32>,
 ) -> Result<Option<Found<A>>, OutOfMemory>
-    ensures { IfOk result (λ best. IfSome best (IsFound task.now)) }
+    ensures { IfOk result (λ best. IfSome best (IsFoundOn task.now)) }
 {
     let mut best = by_weights(alloc, task)?;
     if !task.problem().env.is_shop() && task.len() <= MOST_SEQUENCED {
@@ -193,7 +208,7 @@ fn by_weights<A: Allocator + Copy, B: Allocator>(
     alloc: A,
     task: &ProblemTask<B>,
 ) -> Result<Option<Found<A>>, OutOfMemory>
-    ensures { IfOk result (λ best. IfSome best (IsFound task.now)) }
+    ensures { IfOk result (λ best. IfSome best (IsFoundOn task.now)) }
 {
     let mut best: Option<Found<A>> = None;
     if matches!(task.problem().env, Env::Parallel) {
@@ -226,7 +241,7 @@ fn by_multipliers<A: Allocator + Copy, B: Allocator>(
     alloc: A,
     task: &ProblemTask<B>,
 ) -> Result<Option<Found<A>>, OutOfMemory>
-    ensures { IfOk result (λ best. IfSome best (IsFound task.now)) }
+    ensures { IfOk result (λ best. IfSome best (IsFoundOn task.now)) }
 {
     let Some(found) = searched(multiplier_bound(alloc, task))? else {
         return Ok(None);
@@ -245,7 +260,7 @@ fn by_prices<A: Allocator + Copy, B: Allocator>(
     steps: Option<u32>,
 ) -> Result<Option<Found<A>>, OutOfMemory>
     requires { IsFalse (is_shop_env task.now.problem.env) }
-    ensures { IfOk result (λ best. IfSome best (IsFound task.now)) }
+    ensures { IfOk result (λ best. IfSome best (IsFoundOn task.now)) }
 {
     let steps = steps_for(task, steps);
     if steps == 0 {
