@@ -1,34 +1,42 @@
 -- What an offered certificate is worth.
 use Rattle.std.proofs.Common.{◌≡◌, ℤ, Option, IfSome, inl, inr, sym, subst}
 use Rattle.tf_problem.specs.ProblemData.{ProblemData}
-use Rattle.tf_bound.specs.Certified.{IsBoundBy}
+use Rattle.tf_bound.specs.Certified.{IsBoundBy, IsValueOn}
 use Rattle.tf_bound.specs.declared.certificate.BoundCertificate.{BoundCertificate}
 use Rattle.tf_bound.specs.declared.certificate.BoundCertificate.TheVariants.{Machine, Window, Crowd, OneJob, Multipliers, Prices}
 use Rattle.tf_search.specs.declared.strongest.Found.{Found}
 use Rattle.tf_search.specs.Strongest.{IsFound}
 use Rattle.tf_bound_text.specs.BoundSheetData.{Basis, BoundSheetData, basis_of, IsValueBy}
 use Rattle.tf_assess.specs.declared.assessment.Offered.{Offered}
-use Rattle.tf_assess.specs.Assessing.{IsOffer, IsUsed}
+use Rattle.tf_assess.specs.Assessing.{IsJudgedValue, IsOffer, IsUsed}
 
 -- the value of a certificate is that of what it names
-pub value_by : {A : Type 0} (k : ProblemData) (c : BoundCertificate A) (b : ℤ) → IsBoundBy k c b
+value_on : {A : Type 0} (k : ProblemData) (c : BoundCertificate A) (b : ℤ) → IsValueOn k c b
     → IsValueBy k (basis_of c) b
-value_by k (Machine machine jobs) b h = h
-value_by k (Window jobs) b h = h
-value_by k (Crowd h0 jobs) b h = h
-value_by k (OneJob job) b h = h
-value_by k (Multipliers machine q numerators) b h = h
-value_by k (Prices q rows) b h = h
+value_on k (Machine machine jobs) b h = h
+value_on k (Window jobs) b h = h
+value_on k (Crowd h0 jobs) b h = h
+value_on k (OneJob job) b h = h
+value_on k (Multipliers machine q numerators) b h = h
+value_on k (Prices q rows) b h = h
+
+pub value_by : {A : Type 0} (k : ProblemData) (c : BoundCertificate A) (b : ℤ) → IsBoundBy k c b
+    → IsJudgedValue k (basis_of c) b
+value_by k c b (other, judged, h) = (other, judged, value_on other c b h)
 
 -- and the other way round
+on_value : {A : Type 0} (k : ProblemData) (c : BoundCertificate A) (b : ℤ)
+    → IsValueBy k (basis_of c) b → IsValueOn k c b
+on_value k (Machine machine jobs) b h = h
+on_value k (Window jobs) b h = h
+on_value k (Crowd h0 jobs) b h = h
+on_value k (OneJob job) b h = h
+on_value k (Multipliers machine q numerators) b h = h
+on_value k (Prices q rows) b h = h
+
 pub bound_by : {A : Type 0} (k : ProblemData) (c : BoundCertificate A) (b : ℤ)
-    → IsValueBy k (basis_of c) b → IsBoundBy k c b
-bound_by k (Machine machine jobs) b h = h
-bound_by k (Window jobs) b h = h
-bound_by k (Crowd h0 jobs) b h = h
-bound_by k (OneJob job) b h = h
-bound_by k (Multipliers machine q numerators) b h = h
-bound_by k (Prices q rows) b h = h
+    → IsJudgedValue k (basis_of c) b → IsBoundBy k c b
+bound_by k c b (other, judged, h) = (other, judged, on_value other c b h)
 
 -- the bound that is used is one
 pub used_found : {A : Type 0} (k : ProblemData) (sheet : BoundSheetData)
@@ -41,6 +49,6 @@ used_found k sheet found bound offered c h offer same (inr (value, meant, is)) =
     let has = (subst (IsOffer k sheet) meant offer).0 in
     subst (λ (b : Option (Found _)). IfSome b (IsFound k)) (sym is) (record {
       value = bound_by k c value
-          (subst (λ (basis : Basis). IsValueBy k basis value) (sym same) has.value);
+          (subst (λ (basis : Basis). IsJudgedValue k basis value) (sym same) has.value);
       bound = has.bound;
     })

@@ -18,7 +18,8 @@ use Rattle.tf_search.specs.Strongest.{IsFound}
 use Rattle.tf_text.specs.AnswerText.{SheetData}
 use Rattle.tf_problem.specs.ProblemCost.{IsLowerBound}
 use Rattle.tf_bound.specs.declared.certificate.BoundCertificate.{BoundCertificate}
-use Rattle.tf_bound_text.specs.BoundSheetData.{BoundSheetData, IsValueBy}
+use Rattle.tf_bound.specs.Judged.{IsJudgedTask}
+use Rattle.tf_bound_text.specs.BoundSheetData.{Basis, BoundSheetData, IsValueBy}
 use Rattle.tf_assess.specs.declared.assessment.Offered.{Offered}
 use Rattle.tf_assess.specs.declared.assessment.Offered.TheVariants.{Bounds, OtherTask, WrongValue, Faulty}
 use Rattle.tf_assess.specs.declared.offered.Weighed.{Weighed}
@@ -105,10 +106,14 @@ IsForProblem k sheet = IsOfTask k sheet.problem sheet.jobs sheet.machines
 abbrev pub IsOfferFor : ProblemData → BoundSheetData → Type 0
 IsOfferFor k sheet = IsOfTask k sheet.problem sheet.jobs sheet.machines
 
+-- the number is the value of what the text names, on the task on which it is judged
+abbrev pub IsJudgedValue : ProblemData → Basis → ℤ → Type 0
+IsJudgedValue k basis b = (other : ProblemData) × IsJudgedTask k other × IsValueBy other basis b
+
 -- the number is the value of the certificate, and no timetable that fits costs less
 pub record HasValue (k : ProblemData) (sheet : BoundSheetData) (b : ℤ) : Type 0 where
   pub meant : IsOfferFor k sheet
-  pub value : IsValueBy k sheet.basis b
+  pub value : IsJudgedValue k sheet.basis b
   pub bound : IsLowerBound k b
 
 -- what the text of a bound comes to on the task
