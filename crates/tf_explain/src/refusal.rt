@@ -11,7 +11,9 @@ use tf_model::instance::Instance;
 use tf_model::job::Job;
 use tf_model::limit::{LIMIT, MOST_COSTED_JOBS};
 use tf_model::prepare::{Field, Refusal};
+use tf_model::problem::Problem;
 use tf_notation::reading::read;
+use tf_notation::writing::notation_text;
 
 /// Why the source's instance is no task of what was asked for.
 pub(crate) fn explain_refusal(
@@ -33,7 +35,7 @@ pub(crate) fn explain_refusal(
         }
         Refusal::MachinesMissing => say_no_machines(page, problem),
         Refusal::MachinesDisagree => say_machines(alloc, page, request, source),
-        Refusal::MachineCount(m) => say_count(page, m),
+        Refusal::MachineCount(m) => say_count(alloc, page, request, m),
         Refusal::WrongTimes(job) => say_times(page, request, source, job),
         Refusal::MissingField(job, field) => say_field(page, request, source, job, field),
         Refusal::ZeroTime(job) => {
@@ -67,16 +69,48 @@ const ONE_MACHINE: &str =
     "On one machine the makespan is the same in every order without idle time.";
 
 // Another number of machines than the two of a shop.
-fn say_count(page: &mut Page, machines: u32) -> Result<(), AllocError> {
+fn say_count(
+    alloc: Global,
+    page: &mut Page,
+    request: &Request,
+    machines: u32,
+) -> Result<(), AllocError> {
     writeln!(
         page.text,
         "Shops are solved on two machines, and here are {machines}."
     )?;
-    if machines > 2 {
-        page.say("Take two machines of a flow shop file with --pair, as in --pair 0,2.")
-    } else {
-        page.say(ONE_MACHINE)
+    if machines <= 2 {
+        return page.say(ONE_MACHINE);
     }
+    page.say("Take two machines of a flow shop file with --pair, as in --pair 0,2.")?;
+    match request.form {
+        Form::Flow { .. } => say_all_machines(alloc, page, request, machines),
+        _ => Ok(()),
+    }
+}
+
+// The problem of a shop on all machines of a flow shop file, which has lower bounds.
+fn say_all_machines(
+    alloc: Global,
+    page: &mut Page,
+    request: &Request,
+    machines: u32,
+) -> Result<(), AllocError> {
+    let Ok(problem) = read(request.problem.as_str().as_bytes()) else {
+        return Ok(());
+    };
+    let shop = Problem {
+        count: Some(machines),
+        ..problem
+    };
+    let Ok(notation) = notation_text(alloc, &shop) else {
+        return Err(AllocError);
+    };
+    let notation = notation.as_str();
+    writeln!(
+        page.text,
+        "\"threefield bound\" and \"threefield evaluate\" take all of them, as {notation}."
+    )
 }
 
 // The line of a job, where the instance is a table: other files have no line for each.
@@ -126,7 +160,7 @@ fn say_machines(
 
 // What to do about a flow shop file of this number of machines.
 fn say_flow_machines(page: &mut Page, request: &Request, machines: u32) -> Result<(), AllocError> {
-    if machines == 2 || !is_shop(request) {
+    if machines == 2 || !is_solved_shop(request) {
         page.say("A flow shop file always gives this number: leave it out in the other places.")
     } else if machines > 2 {
         page.say("Take two machines of the file with --pair, as in --pair 0,2.")
@@ -139,6 +173,12 @@ fn say_flow_machines(page: &mut Page, request: &Request, machines: u32) -> Resul
 // Whether the problem is one of a shop.
 fn is_shop(request: &Request) -> bool {
     read(request.problem.as_str().as_bytes()).is_ok_and(|problem| problem.env.is_shop())
+}
+
+// Whether the problem is of a class of shops, which have two machines.
+fn is_solved_shop(request: &Request) -> bool {
+    read(request.problem.as_str().as_bytes()).is_ok_and(|problem| problem.env.is_shop()
+        && class_of(&problem).is_some())
 }
 
 fn say_times(
