@@ -2,7 +2,7 @@
 use crate::page::Page;
 use std::alloc::{AllocError, Global};
 use strsim::osa_distance;
-use tf_listing::listing::{CLASSES, push_class};
+use tf_listing::listing::{CLASSES, push_problem};
 use tf_model::problem::{Env, Goal, Problem};
 use tf_notation::reading::read;
 
@@ -292,7 +292,7 @@ pub fn explain_unsolved(alloc: Global, page: &mut Page, problem: &str) -> Result
     for class in &CLASSES {
         if distance(&asked, &class.notation()) == least {
             page.text.push_str("    ")?;
-            push_class(alloc, &mut page.text, *class)?;
+            push_problem(alloc, &mut page.text, &class.notation())?;
         }
     }
     page.say("\"threefield problems\" lists them all.")

@@ -3,6 +3,7 @@ use Rattle.std.specs.Prelude.{◌≡◌, ◌⊎◌, ◌++◌, ℕ, Bool, false, 
 use Rattle.std.specs.declared.alloc.Global.{Global}
 use Rattle.std.specs.Io.KnownBytes.{Appends, Keeps}
 use Rattle.tf_listing.specs.Listing.{listing}
+use Rattle.tf_listing.specs.declared.listing.Listed.{Listed}
 use Rattle.tf_model.specs.InstanceData.{InstanceData}
 use Rattle.tf_read.specs.JobTable.{job_table}
 use Rattle.tf_text.specs.Counted.{DeviceUse, AppendsPrefix}
@@ -65,11 +66,12 @@ EndsWriting text writer says status =
     ⊎ ((status ≡ 4) × AppendsPrefix writer.before writer.after text
     × says (codes "threefield: device fault\n"))
 
--- the list of the problems was written, with an instance of those that it has the fields for; or
--- there was no memory, which is said, and nothing was written
-abbrev pub EndsListing : Option InstanceData → DeviceUse → (List ℕ → Type 0) → ℕ → Type 0
-EndsListing instance writer says status =
-    EndsWriting (listing instance) writer says status
+-- this list of problems was written, with an instance of those that it has the fields for; or there
+-- was no memory, which is said, and nothing was written
+abbrev pub EndsListing : Listed → Option InstanceData → DeviceUse → (List ℕ → Type 0) → ℕ
+    → Type 0
+EndsListing listed instance writer says status =
+    EndsWriting (listing listed instance) writer says status
     ⊎ ((status ≡ 3) × Keeps writer.before writer.after × says (codes "threefield: want of memory\n"))
 
 -- all the bytes that a reader gives are a job table of this instance
@@ -97,10 +99,10 @@ pub record EndsUnlisted (table writer : DeviceUse) (says : List ℕ → Type 0) 
     pub said : says (fault_line fault ++ explanation)
 
 -- the list was written for the instance of the table that was read, or there is none
-abbrev pub EndsListingFor : DeviceUse → DeviceUse → (List ℕ → Type 0) → ℕ → Type 0
-EndsListingFor table writer says status =
+abbrev pub EndsListingFor : Listed → DeviceUse → DeviceUse → (List ℕ → Type 0) → ℕ → Type 0
+EndsListingFor listed table writer says status =
     ((instance : InstanceData) × IsInTable table.before instance
-    × EndsListing (Some instance) writer says status)
+    × EndsListing listed (Some instance) writer says status)
     ⊎ EndsUnlisted table writer says status
 
 -- the orders or the pieces of the text of this name are rated
@@ -168,7 +170,8 @@ Performs texts (Picture picturing) writer says status =
     other writer said status)
 Performs texts (Random wanted) writer says status =
     EndsRandom wanted writer (says false) status
-Performs texts (Problems None) writer says status = EndsListing None writer (says false) status
-Performs texts (Problems (Some table)) writer says status =
+Performs texts (Problems listed None) writer says status =
+    EndsListing listed None writer (says false) status
+Performs texts (Problems listed (Some table)) writer says status =
     EndsOver texts table.now writer (says true) status
-    (λ reader. EndsListingFor reader writer (says false) status)
+    (λ reader. EndsListingFor listed reader writer (says false) status)

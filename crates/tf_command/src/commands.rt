@@ -5,23 +5,18 @@ ghost use Rattle.tf_options.specs.Columns.{HasWidth, IsSized};
 ghost use Rattle.tf_command.specs.Ending.{EndsSolving, EndsBounding, EndsTracing, EndsChecking, EndsEvaluating, EndsRating, EndsDrawing, SaysLine, drawn_as};
 ghost use Rattle.tf_command.specs.Assessing.{EndsAssessed, EndsAssessing};
 ghost use Rattle.tf_engine.specs.Drawing.{IsDrawingOf};
-ghost use Rattle.tf_engine.specs.FormData.{InTable};
-ghost use Rattle.tf_engine.specs.Parts.{ReadsTo, instance_said};
-ghost use Rattle.std.specs.Prelude.{◌≡◌, ◌⊎◌, ◌++◌, List, ℕ, None, Some, IfSome, IfOk, IfErr, false, true, codes};
-ghost use Rattle.std.specs.Option.{option_map};
-ghost use Rattle.tf_command.specs.Performing.{EndsListing, EndsListingFor, EndsOver, EndsRandom, EndsWriting, IsInTable, Performs, RatesNamed};
+ghost use Rattle.std.specs.Prelude.{◌≡◌, ◌⊎◌, None, Some, IfSome, IfOk, IfErr, false, codes};
+ghost use Rattle.tf_command.specs.Performing.{EndsOver, EndsRandom, EndsWriting, Performs, RatesNamed};
 ghost use Rattle.tf_command.specs.Recorded.{bytes_left};
-ghost use Rattle.tf_command.specs.FaultLine.{fault_line};
-ghost use Rattle.tf_command.specs.Statuses.{status_of};
-ghost use Rattle.tf_command.specs.Wrote.{Wrote};
 ghost use Rattle.tf_text.specs.Counted.{inner_of, use_of};
 
 use crate::console::Console;
 use crate::explained::{Ended, Rated, tell, tell_drawn};
 use crate::picturing::picture_named;
+use crate::problems::list_problems;
 use crate::recorded::{MOST_BESIDE, MOST_KEPT, Recorded, room};
 use crate::report::{
-    end_check, end_evaluation, end_rating, end_run, report, report_bound, say_device, say_memory,
+    end_check, end_evaluation, end_rating, end_run, report_bound, say_device, say_memory,
     say_no_table,
 };
 use crate::source::Sources;
@@ -32,16 +27,12 @@ use tf_assess::offered::Aids;
 use tf_assess::run_assess::run_assess;
 use tf_assess::run_rate::{EvaluationOptions, rated, run_rate};
 use tf_bound_text::sheet::BoundSheet;
-use tf_bounding::instance_read::instance_read;
 use tf_bounding::run_bound::run_bound;
 use tf_engine::fault::RunFault;
-use tf_engine::request::Form;
 use tf_engine::run_check::run_check;
 use tf_engine::run_gantt::run_gantt;
 use tf_engine::run_solve::run_solve;
 use tf_explain::explain;
-use tf_listing::listing::listing;
-use tf_model::instance::Instance;
 use tf_options::options::{Assessing, Drawing, Evaluating, Options, OrderSource, Work};
 use tf_orders::run_orders::{OrderForm, run_orders};
 use tf_picture::run_picture::run_picture;
@@ -88,8 +79,7 @@ pub fn perform<S: Sources, W: Write, E: Write>(
         } => draw_named(console, sources, answer, *drawing, *explain),
         Work::Picture(picturing) => picture_named(console, sources, picturing),
         Work::Random(wanted) => random(console, wanted),
-        Work::Problems(None) => list(console, None),
-        Work::Problems(Some(name)) => list_named(console, sources, name),
+        Work::Problems(listed, name) => list_problems(console, sources, *listed, *name),
     }
 }
 
@@ -310,24 +300,6 @@ fn draw_named<S: Sources, W: Write, E: Write>(
     }
 }
 
-/// Lists the problems that the table of that name has the fields for.
-fn list_named<S: Sources, W: Write, E: Write>(
-    console: &mut Console<W, E>,
-    sources: &S,
-    name: &str,
-) -> u8
-    ensures { EndsOver (S.text_of sources.now) name.now
-        (use_of W.contents console.old.writer console.new.writer)
-        (SaysLine E.contents true console.old.errors console.new.errors) result
-        (λ table. EndsListingFor table (use_of W.contents console.old.writer console.new.writer)
-        (SaysLine E.contents false console.old.errors console.new.errors) result) }
-{
-    match open(console, sources, name, MOST_KEPT, true) {
-        Ok(mut table) => list_for(console, &mut table),
-        Err(status) => status,
-    }
-}
-
 /// Opens an instance and an answer, the instance first.
 fn open_both<'a, S: Sources, W: Write, E: Write>(
     console: &mut Console<W, E>,
@@ -378,7 +350,7 @@ pub(crate) fn open_pair<'a, S: Sources, W: Write, E: Write>(
 
 /// Opens the text of that name, which is kept up to so many bytes where it is to be explained. Where
 /// it cannot be opened, says so, and gives the status.
-fn open<'a, S: Sources, W: Write, E: Write>(
+pub(crate) fn open<'a, S: Sources, W: Write, E: Write>(
     console: &mut Console<W, E>,
     sources: &S,
     name: &'a str,
@@ -725,73 +697,12 @@ fn random<W: Write, E: Write>(console: &mut Console<W, E>, wanted: &Wanted<'_>) 
 }
 
 /// Writes a text, and gives the exit status.
-fn write_out<W: Write, E: Write>(console: &mut Console<W, E>, text: &[u8]) -> u8
+pub(crate) fn write_out<W: Write, E: Write>(console: &mut Console<W, E>, text: &[u8]) -> u8
     ensures { EndsWriting text.now (use_of W.contents console.old.writer console.new.writer)
         (SaysLine E.contents false console.old.errors console.new.errors) result }
 {
     match console.writer.push_all(text) {
         Ok(()) => 0,
         Err(_) => say_device(&mut console.errors),
-    }
-}
-
-/// Lists the problems that a table has the fields for.
-fn list_for<R: Read, W: Write, E: Write>(
-    console: &mut Console<W, E>,
-    table: &mut Counted<Recorded<'_, R>>,
-) -> u8
-    ensures { EndsListingFor (use_of (bytes_left R.remaining) table.old table.new)
-        (use_of W.contents console.old.writer console.new.writer)
-        (SaysLine E.contents false console.old.errors console.new.errors) result }
-{
-    match table_in(console.alloc, table) {
-        Ok(instance) => list(console, Some(&instance)),
-        Err(fault) => refuse_table(console, &fault, table.inner()),
-    }
-}
-
-/// Says and explains why there is no list for a table, and gives the exit status.
-fn refuse_table<R, W, E: Write>(
-    console: &mut Console<W, E>,
-    fault: &RunFault,
-    table: &Recorded<'_, R>,
-) -> u8
-    ensures unwritten { console.new.writer ≡ console.old.writer }
-    ensures status { result ≡ status_of fault.now }
-    ensures line { (explanation : List ℕ) × Wrote E.contents console.old.errors console.new.errors
-        (fault_line fault.now ++ explanation) }
-{
-    let alloc = console.alloc;
-    let status = report(fault, &mut console.errors);
-    let explanation = match (fault, table.failure(), table.source()) {
-        (_, Some((name, error)), _) => explain::not_read(alloc, name, &error),
-        (RunFault::Text(fault), None, Some(text)) => explain::not_listed(alloc, fault, &text),
-        _ => Ok(String::new(alloc)),
-    };
-    tell(explanation, &mut console.errors);
-    status
-}
-
-/// The instance of a job table.
-pub fn table_in<A: Allocator + Copy, R: Read>(
-    alloc: A,
-    table: &mut Counted<R>,
-) -> Result<Instance<A>, RunFault<A>>
-    ensures table { IfOk result (IsInTable (R.remaining (inner_of table.old))) }
-    ensures read { ReadsTo (instance_said InTable) R.remaining table.old table.new result }
-{
-    let form: Form<A> = Form::Table;
-    instance_read(alloc, &form, table)
-}
-
-/// Lists the problems that are solved, with an instance those that it has the fields for.
-fn list<W: Write, E: Write>(console: &mut Console<W, E>, instance: Option<&Instance>) -> u8
-    ensures { EndsListing (option_map (λ i. i.now) instance.entry)
-        (use_of W.contents console.old.writer console.new.writer)
-        (SaysLine E.contents false console.old.errors console.new.errors) result }
-{
-    match listing(console.alloc, instance) {
-        Ok(text) => write_out(console, text.as_bytes()),
-        Err(_) => say_memory(&mut console.errors),
     }
 }

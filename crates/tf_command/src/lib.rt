@@ -9,6 +9,7 @@ pub mod formatted;
 mod gathered;
 pub mod misuse;
 mod picturing;
+pub mod problems;
 mod recorded;
 pub mod report;
 pub mod source;

@@ -1,48 +1,57 @@
--- One class more of the list.
-use Rattle.std.proofs.Common.{◌≡◌, ℕ, ◌+◌, ◌<◌, true, false, List, [], ◌∷◌, ◌++◌, length, take, get_or, refl, sym, ap, ◌∙◌, append_assoc, append-nil, Option}
+-- One problem more of a list.
+use Rattle.std.proofs.Common.{◌≡◌, ℕ, ◌+◌, ◌<◌, Bool, true, false, List, [], ◌∷◌, ◌++◌, length, map, take, get_or, refl, sym, ap, ◌∙◌, append_assoc, append-nil, Option}
 use Rattle.std.specs.List.{filter, flat_map}
 use Rattle.std.proofs.lemmas.Grind.{flat_map-append}
-use Rattle.std.proofs.lemmas.List.{take_more}
+use Rattle.std.proofs.lemmas.List.{map-append, take_more}
 use Rattle.std.proofs.lemmas.List.Elements.{filter-append}
 use Rattle.tf_model.specs.InstanceData.{InstanceData}
-use Rattle.tf_model.specs.declared.class.Class.{Class}
+use Rattle.tf_model.specs.declared.problem.Problem.{Problem}
 use Rattle.tf_listing.specs.Fields.{is_listed}
-use Rattle.tf_listing.specs.Listing.{class_line}
+use Rattle.tf_listing.specs.Listing.{line_if, lines_of, problem_line}
+use Rattle.tf_listing.specs.declared.listing.Listed.{Listed}
 
-abbrev pub lines : Option InstanceData → List Class → List ℕ
-lines o cs = flat_map class_line (filter (λ c. is_listed c o) cs)
+module _ (s : Listed) (o : Option InstanceData) where
+  -- the problem is listed
+  more_yes : (ps : List Problem) (p : Problem) → is_listed s p o ≡ true
+      → lines_of s o (ps ++ p ∷ []) ≡ lines_of s o ps ++ problem_line p
+  more_yes ps p h =
+      let kept : filter (λ q. is_listed s q o) (ps ++ p ∷ [])
+      ≡ filter (λ q. is_listed s q o) ps ++ p ∷ [] =
+      filter-append (λ q. is_listed s q o) ps (p ∷ []) ∙ rw h refl in
+      ap (flat_map problem_line) kept
+      ∙ flat_map-append problem_line (filter (λ q. is_listed s q o) ps) (p ∷ [])
+      ∙ ap (λ (t : List ℕ). lines_of s o ps ++ t) (append-nil (problem_line p))
 
-lines_yes : (o : Option InstanceData) (cs : List Class) (c : Class) → is_listed c o ≡ true
-    → lines o (cs ++ c ∷ []) ≡ lines o cs ++ class_line c
-lines_yes o cs c h =
-    let kept : filter (λ d. is_listed d o) (cs ++ c ∷ []) ≡ filter (λ d. is_listed d o) cs ++ c ∷ [] =
-    filter-append (λ d. is_listed d o) cs (c ∷ []) ∙ rw h refl in
-    ap (flat_map class_line) kept
-    ∙ flat_map-append class_line (filter (λ d. is_listed d o) cs) (c ∷ [])
-    ∙ ap (λ (t : List ℕ). lines o cs ++ t) (append-nil (class_line c))
+  -- or not
+  more_no : (ps : List Problem) (p : Problem) → is_listed s p o ≡ false
+      → lines_of s o (ps ++ p ∷ []) ≡ lines_of s o ps
+  more_no ps p h =
+      let kept : filter (λ q. is_listed s q o) (ps ++ p ∷ []) ≡ filter (λ q. is_listed s q o) ps =
+      filter-append (λ q. is_listed s q o) ps (p ∷ []) ∙ rw h (append-nil _) in
+      ap (flat_map problem_line) kept
 
-lines_no : (o : Option InstanceData) (cs : List Class) (c : Class) → is_listed c o ≡ false
-    → lines o (cs ++ c ∷ []) ≡ lines o cs
-lines_no o cs c h =
-    let kept : filter (λ d. is_listed d o) (cs ++ c ∷ []) ≡ filter (λ d. is_listed d o) cs =
-    filter-append (λ d. is_listed d o) cs (c ∷ []) ∙ rw h (append-nil _) in
-    ap (flat_map class_line) kept
+  -- the lines of one problem more are its line more, where it has one
+  more : (ps : List Problem) (p : Problem)
+      → lines_of s o (ps ++ p ∷ []) ≡ lines_of s o ps ++ line_if s o p
+  more ps p = by (is_listed s p o) refl
+    where
+      by : (b : Bool) → is_listed s p o ≡ b
+          → lines_of s o (ps ++ p ∷ []) ≡ lines_of s o ps ++ line_if s o p
+      by true h = more_yes ps p h ∙ ap (λ (t : List ℕ). lines_of s o ps ++ t) (rw h refl)
+      by false h = more_no ps p h ∙ rw h (sym (append-nil (lines_of s o ps)))
 
-pub step_yes : (o : Option InstanceData) (all : List Class) (i : ℕ) (d : Class)
-    (heading old new : List ℕ)
-    → i < length all → is_listed (get_or all i d) o ≡ true → old ≡ heading ++ lines o (take i all)
-    → new ≡ old ++ class_line (get_or all i d) → new ≡ heading ++ lines o (take (i + 1) all)
-step_yes o all i d heading old new lt h old-is new-is =
-    let last = get_or all i d in
-    new-is ∙ ap (λ (t : List ℕ). t ++ class_line last) old-is
-    ∙ append_assoc heading (lines o (take i all)) (class_line last)
-    ∙ sym (ap (λ (t : List ℕ). heading ++ t)
-    (ap (lines o) (take_more all i d lt) ∙ lines_yes o (take i all) last h))
-
-pub step_no : (o : Option InstanceData) (all : List Class) (i : ℕ) (d : Class)
-    (heading old : List ℕ)
-    → i < length all → is_listed (get_or all i d) o ≡ false → old ≡ heading ++ lines o (take i all)
-    → old ≡ heading ++ lines o (take (i + 1) all)
-step_no o all i d heading old lt h old-is = old-is
-    ∙ sym (ap (λ (t : List ℕ). heading ++ t)
-    (ap (lines o) (take_more all i d lt) ∙ lines_no o (take i all) (get_or all i d) h))
+  -- the same of the problems of the first so many
+  pub step : (X : Type 0) (problem : X → Problem) (all : List X) (i : ℕ) (d : X)
+      (start old new : List ℕ)
+      → i < length all → old ≡ start ++ lines_of s o (map problem (take i all))
+      → new ≡ old ++ line_if s o (problem (get_or all i d))
+      → new ≡ start ++ lines_of s o (map problem (take (i + 1) all))
+  step X problem all i d start old new lt old-is new-is =
+      let seen : List Problem = map problem (take i all) in
+      let last : Problem = problem (get_or all i d) in
+      let kept : map problem (take (i + 1) all) ≡ seen ++ last ∷ [] =
+      ap (map problem) (take_more all i d lt)
+      ∙ map-append problem (take i all) (get_or all i d ∷ []) in
+      new-is ∙ ap (λ (t : List ℕ). t ++ line_if s o last) old-is
+      ∙ append_assoc start (lines_of s o seen) (line_if s o last)
+      ∙ sym (ap (λ (t : List ℕ). start ++ t) (ap (lines_of s o) kept ∙ more seen last))

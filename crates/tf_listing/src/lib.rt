@@ -1,6 +1,8 @@
-//! The list of the problems that are solved: what each needs of an instance, and what it means.
+//! The lists of the problems that are solved or bounded: what each needs of an instance, and what
+//! it means.
 #![tactic(auto)]
 
 mod fields;
 pub mod listing;
+mod unsolved;
 mod words;

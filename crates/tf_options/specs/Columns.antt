@@ -25,7 +25,7 @@ IsSized (Rate options orders) = Unit {0}
 IsSized (Gantt answer drawing explain) = HasWidth drawing
 IsSized (Dated picturing) = Unit {0}
 IsSized (Random wanted) = Unit {0}
-IsSized (Problems table) = Unit {0}
+IsSized (Problems listed table) = Unit {0}
 
 -- and of what a command line asks for
 abbrev pub HasColumns : Asked → Type 0

@@ -13,6 +13,8 @@ use Rattle.tf_trace.specs.declared.board.Style.{Style}
 use Rattle.tf_trace.specs.declared.board.Style.TheVariants.{Plain, Latex}
 use Rattle.tf_evaluate.specs.declared.evaluation.Detail.{Detail}
 use Rattle.tf_evaluate.specs.declared.evaluation.Detail.TheVariants.{Summary, WithArithmetic}
+use Rattle.tf_listing.specs.declared.listing.Listed.{Listed}
+use Rattle.tf_listing.specs.declared.listing.Listed.TheVariants.{Solved, Bounded}
 use Rattle.tf_options.specs.OptionNumber.{numeral_in}
 use Rattle.tf_options.specs.declared.options.Asked.{Asked}
 use Rattle.tf_options.specs.declared.options.Asked.TheVariants.{Work, Formatted, Help, Misused, Unfit, NoMemory}
@@ -62,6 +64,10 @@ IsFlagBy (Some word) on = (word ≡ codes "true" → on ≡ true) × (word ≡ c
 abbrev pub is_latex : Style → Bool
 is_latex Plain = false
 is_latex Latex = true
+
+abbrev pub lists_bounded : Listed → Bool
+lists_bounded Solved = false
+lists_bounded Bounded = true
 
 abbrev pub has_arithmetic : Detail → Bool
 has_arithmetic Summary = false

@@ -3,7 +3,7 @@ use Rattle.std.specs.Prelude.{◌≡◌, ℕ, Bool, false, not, ◌&&◌, ◌||�
 use Rattle.std.specs.Str.{bytes_eq}
 use Rattle.tf_model.specs.Limit.{most_jobs, most_machines}
 use Rattle.tf_random.specs.declared.run_random.Wanted.{Wanted}
-use Rattle.tf_options.specs.Matched.{Given, AreOptionsBy, IsFlagBy, IsNumberBy, explains_by, first_fault, has_arithmetic, is_latex, is_word, lacks, machines_fault, most_steps, number_by, options_fault, steps_fault, unless_some}
+use Rattle.tf_options.specs.Matched.{Given, AreOptionsBy, IsFlagBy, IsNumberBy, explains_by, first_fault, has_arithmetic, is_latex, is_word, lacks, lists_bounded, machines_fault, most_steps, number_by, options_fault, steps_fault, unless_some}
 use Rattle.tf_options.specs.Viewing.{IsDrawingBy, IsPicturingBy, gantt_fault}
 use Rattle.tf_options.specs.FormatAsked.{IsSolvedLayoutBy}
 use Rattle.tf_options.specs.declared.options.Aids.{Aids}
@@ -113,8 +113,9 @@ IsWorkBy name given on_terminal (Gantt answer drawing explain) =
 IsWorkBy name given on_terminal (Picture picturing) =
     (name ≡ codes "gantt") × IsPicturingBy given on_terminal picturing
 IsWorkBy name given on_terminal (Random wanted) = (name ≡ codes "random") × IsWantedBy given wanted
-IsWorkBy name given on_terminal (Problems table) =
+IsWorkBy name given on_terminal (Problems listed table) =
     (name ≡ codes "problems")
+    × IsFlagBy (given.flag (codes "bounds")) (lists_bounded listed)
     × (option_map (λ file. file.now) table ≡ given.value (codes "FILE"))
 
 -- the commands that have options and no answer

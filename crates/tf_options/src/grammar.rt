@@ -63,6 +63,11 @@ Exit status: 0 written, 2 refused, 3 want of memory,
 
 const ABOUT_PROBLEMS: &str = "\
 Example: threefield problems examples/all_fields.txt
+         threefield problems --bounds
+
+--bounds lists one problem for each machine environment and objective. Conditions
+may be added: rj, prec, prmu and nwt; prmp too, except for sums on machines in
+parallel and for numbers of late jobs.
 
 Exit status: 0 listed, 2 the table is refused, 3 want of memory,
              4 a file or a device failed, 5 the command line is wrong.";
@@ -386,10 +391,15 @@ fn machines<'a>(alloc: Global) -> Arg<'a> {
 }
 
 fn problems_command<'a>(alloc: Global) -> Result<Command<'a>, AllocError> {
+    let bounds = Arg::new(alloc, "bounds")
+        .long("bounds")
+        .help("Lists problems that have lower bounds and no solver")
+        .action(ArgAction::SetTrue);
     let file = Arg::new(alloc, "FILE").help("A job table: lists what it has the fields for");
     Command::new(alloc, "problems")
         .about("Lists the problems that are solved, and what each needs")
         .after_help(ABOUT_PROBLEMS)
+        .arg(bounds)?
         .arg(json(alloc))?
         .arg(file)
 }

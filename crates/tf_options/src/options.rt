@@ -8,7 +8,7 @@ ghost use Rattle.tf_options.specs.FormatAsked.{IsFormatBy, IsSolvedLayoutBy, ask
 ghost use Rattle.tf_options.specs.Matched.{AreIdleBy, AreOptionsBy, IsFlagBy};
 ghost use Rattle.tf_options.specs.Matched.{IsFormBy, IsNumberBy, IsToldInstead};
 ghost use Rattle.tf_options.specs.Matched.{explains_by, flow_fault, form_fault, given_of};
-ghost use Rattle.tf_options.specs.Matched.{has_arithmetic, is_latex, lacks, layout_by};
+ghost use Rattle.tf_options.specs.Matched.{has_arithmetic, is_latex, lacks, layout_by, lists_bounded};
 ghost use Rattle.tf_options.specs.Matched.{machines_fault, most_steps, options_fault, pair_in};
 ghost use Rattle.tf_options.specs.Matched.{number_by, steps_fault, wt_fault};
 ghost use Rattle.tf_options.specs.Viewing.{IsDrawingBy, IsPicturingBy, IsViewBy, drawing_fault, most_side, number_fault, page_by, picturing_fault, sides_fault, size_by, view_fault};
@@ -25,6 +25,7 @@ use tf_engine::text::Text;
 use tf_evaluate::evaluation::Detail;
 use tf_export::csv::Table;
 use tf_export::documents::Document;
+use tf_listing::listing::Listed;
 use tf_model::limit::{LIMIT, MOST_JOBS, MOST_MACHINES};
 use tf_picture::view::{Size, View};
 use tf_random::run_random::Wanted;
@@ -198,8 +199,9 @@ pub enum Work<'a> {
     Picture(Picturing<'a>),
     /// Write a random job table.
     Random(Wanted<'a>),
-    /// List the problems that are solved, with a job table those that it has the fields for.
-    Problems(Option<&'a str>),
+    /// List the problems that are solved or bounded, with a job table those that it has the fields
+    /// for.
+    Problems(Listed, Option<&'a str>),
 }
 
 /// What the command line asks for.
@@ -321,7 +323,7 @@ pub fn asked_by<'a>(name: &str, given: &ArgMatches<'a>, on_terminal: bool) -> As
         return gantt_in(given, on_terminal);
     }
     if name == "problems" {
-        return Asked::Work(Work::Problems(given.get_str("FILE")));
+        return Asked::Work(Work::Problems(listed_in(given), given.get_str("FILE")));
     }
     if name == "random" {
         return match wanted_in(given) {
@@ -430,6 +432,17 @@ fn style_in(given: &ArgMatches<'_>) -> Style
         Style::Latex
     } else {
         Style::Plain
+    }
+}
+
+// The problems that are solved, unless those that have bounds are asked for.
+fn listed_in(given: &ArgMatches<'_>) -> Listed
+    ensures { IsFlagBy ((given_of given.now).flag (codes "bounds")) (lists_bounded result) }
+{
+    if given.get_flag("bounds") {
+        Listed::Bounded
+    } else {
+        Listed::Solved
     }
 }
 

@@ -1,6 +1,7 @@
 -- How a command over texts in memory ends.
 use Rattle.std.specs.Prelude.{◌≡◌, ◌≢◌, ℕ, ◌⊎◌, List, [], None, Some, Ok}
 use Rattle.tf_listing.specs.Listing.{listing}
+use Rattle.tf_listing.specs.declared.listing.Listed.TheVariants.{Solved}
 use Rattle.tf_model.specs.InstanceData.{InstanceData}
 use Rattle.tf_read.specs.JobTable.{job_table}
 use Rattle.tf_text.specs.Counted.{DeviceUse, inner_of}
@@ -80,9 +81,9 @@ pub record IsTableRefused (A : Type 0) (table output errors : List ℕ) (status 
 -- the list of the problems: for the table that is given, or of all where none is
 abbrev pub IsListFor : List ℕ → List ℕ → Type 0
 IsListFor table output =
-    ((table ≡ []) × (output ≡ listing None))
+    ((table ≡ []) × (output ≡ listing Solved None))
     ⊎ ((instance : InstanceData) × (job_table table ≡ Ok instance)
-    × (output ≡ listing (Some instance)))
+    × (output ≡ listing Solved (Some instance)))
 
 -- the list is printed and nothing is said of faults, or the table is refused
 abbrev pub IsListed : Type 0 → List ℕ → Outcome

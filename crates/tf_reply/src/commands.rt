@@ -13,12 +13,13 @@ use crate::reserve::Reserve;
 use std::alloc::{AllocError, Allocator};
 use tf_assess::run_rate::{EvaluationOptions, run_rate};
 use tf_bounding::run_bound::run_bound;
-use tf_command::commands::{draw, table_in};
+use tf_command::commands::draw;
+use tf_command::problems::table_in;
 use tf_command::report::{end_check, end_evaluation, end_run, report, say_device};
 use tf_engine::run_check::run_check;
 use tf_engine::run_solve::run_solve;
 use tf_evaluate::evaluation::Detail;
-use tf_listing::listing::listing;
+use tf_listing::listing::{Listed, listing};
 use tf_model::instance::Instance;
 use tf_options::options::{Drawing, Options};
 use tf_picture::view::View;
@@ -199,11 +200,12 @@ pub fn problems<A: Allocator + Copy>(alloc: A, table: &[u8]) -> Result<Reply<A>,
 {
     let mut console = Console::new(alloc);
     if table.is_empty() {
-        return listed(console, &listing(alloc, None::<&Instance<Reserve>>)?);
+        let list = listing(alloc, Listed::Solved, None::<&Instance<Reserve>>)?;
+        return listed(console, &list);
     }
     let mut table = Counted::new(table);
     match table_in(alloc, &mut table) {
-        Ok(instance) => listed(console, &listing(alloc, Some(&instance))?),
+        Ok(instance) => listed(console, &listing(alloc, Listed::Solved, Some(&instance))?),
         Err(fault) => {
             let status = report(&fault, &mut console.errors);
             console.ended(status)

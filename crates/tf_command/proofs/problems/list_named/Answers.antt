@@ -3,7 +3,7 @@ use Rattle.tf_text.specs.Counted.{use_of}
 use Rattle.tf_command.specs.Ending.{SaysLine}
 use Rattle.tf_command.specs.Performing.{EndsListingFor}
 use Rattle.tf_command.specs.Recorded.{bytes_left}
-use Rattle.tf_command.proofs.commands.list_named.Goals as goal
+use Rattle.tf_command.proofs.problems.list_named.Goals as goal
 
 pub returns-in-Ok : goal.returns-in-Ok
 returns-in-Ok g c =
@@ -11,11 +11,11 @@ returns-in-Ok g c =
     inr (
       table,
       c.in-Ok.ensures.opened,
-      subst (λ w. EndsListingFor table
+      subst (λ w. EndsListingFor c.args.listed table
           (use_of g.W.Write.contents w c.list_for.new.console.writer)
           (SaysLine g.E.Write.contents false c.args.console.now.errors
           c.list_for.new.console.errors) c.list_for.result) c.in-Ok.ensures.unwritten
-          (subst (λ e. EndsListingFor table
+          (subst (λ e. EndsListingFor c.args.listed table
           (use_of g.W.Write.contents c.open.new.console.writer
           c.list_for.new.console.writer)
           (SaysLine g.E.Write.contents false e c.list_for.new.console.errors)

@@ -2,7 +2,7 @@ use Rattle.std.proofs.Common.{false, inl, subst, ◌∙◌}
 use Rattle.tf_text.specs.Counted.{use_of}
 use Rattle.tf_command.specs.Ending.{SaysLine}
 use Rattle.tf_command.specs.Performing.{EndsWriting}
-use Rattle.tf_command.proofs.commands.list.Goals as goal
+use Rattle.tf_command.proofs.problems.list.Goals as goal
 
 pub returns-in-Ok : goal.returns-in-Ok
 returns-in-Ok g c = inl (subst

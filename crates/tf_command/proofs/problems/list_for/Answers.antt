@@ -2,7 +2,7 @@ use Rattle.std.proofs.Common.{inr, subst, sym}
 use Rattle.std.specs.Io.KnownBytes.{Keeps}
 use Rattle.std.proofs.KnownBytes.{Keeps-refl}
 use Rattle.tf_text.specs.Counted.{inner_of}
-use Rattle.tf_command.proofs.commands.list_for.Goals as goal
+use Rattle.tf_command.proofs.problems.list_for.Goals as goal
 
 pub returns-in-Err : goal.returns-in-Err
 returns-in-Err g c =

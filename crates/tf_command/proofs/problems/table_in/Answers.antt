@@ -1,5 +1,5 @@
 use Rattle.tf_command.proofs.Listing.{in_table}
-use Rattle.tf_command.proofs.commands.table_in.Goals as goal
+use Rattle.tf_command.proofs.problems.table_in.Goals as goal
 
 pub returns-clause-table : goal.returns-clause-table
 returns-clause-table g c =

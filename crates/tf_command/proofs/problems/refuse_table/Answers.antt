@@ -1,5 +1,5 @@
 use Rattle.tf_command.proofs.Writing.{both}
-use Rattle.tf_command.proofs.commands.refuse_table.Goals as goal
+use Rattle.tf_command.proofs.problems.refuse_table.Goals as goal
 
 pub returns-clause-line : goal.returns-clause-line
 returns-clause-line g c =
