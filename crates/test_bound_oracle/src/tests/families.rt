@@ -12,6 +12,12 @@ const RELEASED_LATENESS: Problem = Problem {
     ..PLAIN
 };
 
+// `1|rj,prec|Lmax`
+const ORDERED_LATENESS: Problem = Problem {
+    prec: true,
+    ..RELEASED_LATENESS
+};
+
 // `1||sumwT`
 const WEIGHTED_TARDINESS: Problem = Problem {
     goal: Goal::SumWT,
@@ -143,6 +149,7 @@ type Case = (Problem, Size, u64, u64);
 
 const ONE_MACHINE: &[Case] = &[
     (RELEASED_LATENESS, FOUR_JOBS, 2_400, 88),
+    (ORDERED_LATENESS, FOUR_JOBS, 2_400, 96),
     (WEIGHTED_TARDINESS, FOUR_JOBS, 2_400, 95),
     (TARDINESS, FOUR_JOBS, 2_400, 95),
     (RELEASED_COMPLETIONS, FOUR_JOBS, 2_400, 95),
