@@ -64,7 +64,18 @@ const TARDINESS: Case = Case {
     assessed: Assessed::Unfit,
 };
 
-pub const CASES: [Case; 3] = [TWO_MACHINES, THREE_MACHINES, TARDINESS];
+/// A chain of 3, 2 and 4 steps.
+const CHAIN: Case = Case {
+    problem: "P2|prec|Cmax",
+    given: Given::Table,
+    instance: b"table 1\njob 1 p=3\njob 2 p=2\njob 3 p=4\nprec 1 2\nprec 2 3\n",
+    bound: b"bound 1\nproblem P2|prec|Cmax\njobs 3\nmachines 2\nvalue 9\njob 1\nend\n",
+    answer: b"answer 1\nproblem P2|prec|Cmax\njobs 3\nmachines 2\nvalue 9\npiece 1 1 0 3\n\
+        piece 3 1 5 9\npiece 2 2 3 5\ncert load\nend\n",
+    assessed: Assessed::Best,
+};
+
+pub const CASES: [Case; 4] = [TWO_MACHINES, THREE_MACHINES, TARDINESS, CHAIN];
 
 /// What is asked for.
 pub fn request_of(rt: &HostRuntime, case: &Case) -> Result<Request, AllocError> {
