@@ -1,7 +1,7 @@
 //! Words of a command line, and what they ask for.
 use std::alloc::AllocError;
 use std::test::Fail;
-use tf_options::grammar::command;
+use tf_grammar::grammar::command;
 use tf_options::options::{Asked, Drawing, FormOption, Options, Work, understand};
 use tf_picture::view::{Size, View};
 use tf_text::answer::layout::Layout;

@@ -6,7 +6,9 @@ use tf_command::console::Console;
 use tf_command::formatted::perform_formatted;
 use tf_command::misuse::say_misuse;
 use tf_command::report::{say_memory, say_usage};
-use tf_options::grammar::command;
+use tf_grammar::grammar::command;
+use tf_held::measured::perform_measured;
+use tf_held::series::perform_series;
 use tf_options::options::{Asked, understand};
 use tf_text::counted::Counted;
 
@@ -31,6 +33,8 @@ pub fn run(alloc: Global, line: &str, texts: Texts<'_>) -> Result<Ended, AllocEr
     let status = match understand(command(alloc)?, words.as_slice(), false) {
         Asked::Work(work) => perform(&mut console, &texts, &work),
         Asked::Formatted(work, format) => { perform_formatted(&mut console, &texts, &work, format) }
+        Asked::Series(series) => perform_series(&mut console, &texts, &series),
+        Asked::Measured(evaluating) => perform_measured(&mut console, &texts, evaluating),
         Asked::Help(text) => {
             let _ = console.writer.push_all(text.to_string(alloc)?.as_bytes());
             0

@@ -29,7 +29,7 @@ pub const MOST_READ: u64 = 2_000_000_000;
 /// The instance that the reader's text of this form holds, with the times of its jobs. Where it is
 /// for a shop, and a flow shop file is read of which no pair of machines is named, the times are
 /// those on all machines of the file.
-pub(crate) fn timed_read<A: Allocator + Copy, B: Allocator, R: Read>(
+pub fn timed_read<A: Allocator + Copy, B: Allocator, R: Read>(
     alloc: A,
     form: &Form<B>,
     is_shop: bool,

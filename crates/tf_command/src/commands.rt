@@ -697,7 +697,7 @@ fn random<W: Write, E: Write>(console: &mut Console<W, E>, wanted: &Wanted<'_>) 
 }
 
 /// Writes a text, and gives the exit status.
-pub(crate) fn write_out<W: Write, E: Write>(console: &mut Console<W, E>, text: &[u8]) -> u8
+pub fn write_out<W: Write, E: Write>(console: &mut Console<W, E>, text: &[u8]) -> u8
     ensures { EndsWriting text.now (use_of W.contents console.old.writer console.new.writer)
         (SaysLine E.contents false console.old.errors console.new.errors) result }
 {

@@ -71,7 +71,7 @@ fn device_line(format: Format) -> &'static [u8]
 }
 
 /// A console that keeps in memory what is written.
-fn memory(alloc: Global) -> Console<Vec<u8>, Vec<u8>>
+pub fn memory(alloc: Global) -> Console<Vec<u8>, Vec<u8>>
     ensures blank { (inner_of result.writer).items ≡ [] }
     ensures silent { (inner_of result.errors).items ≡ [] }
 {

@@ -59,7 +59,7 @@ impl<const ROOM: usize> Gathered<ROOM> {
 }
 
 /// Writes a text, or a prefix of it where the writer fails. After a failure it is left alone.
-pub(crate) fn send<W: Write>(writer: &mut Counted<W>, text: &[u8])
+pub fn send<W: Write>(writer: &mut Counted<W>, text: &[u8])
     ensures { Wrote W.contents writer.old writer.new text.now }
 {
     let _ = writer.push_all(text);

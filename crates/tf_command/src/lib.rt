@@ -6,7 +6,7 @@ pub mod commands;
 pub mod console;
 mod explained;
 pub mod formatted;
-mod gathered;
+pub mod gathered;
 pub mod misuse;
 mod picturing;
 pub mod problems;

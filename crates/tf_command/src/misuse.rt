@@ -6,7 +6,7 @@ use crate::report::say_memory;
 use std::alloc::{AllocError, Global};
 use std::io::Write;
 use tf_advice::page::escape;
-use tf_options::grammar::command;
+use tf_grammar::grammar::command;
 use tf_options::options::{Asked, understand};
 use tf_text::counted::Counted;
 

@@ -3,4 +3,5 @@ pub mod Members
 pub mod Documents
 pub mod Faults
 pub mod Csv
+pub mod Entry
 pub mod Adds

@@ -5,6 +5,7 @@
 
 pub mod csv;
 pub mod documents;
+pub mod entry;
 pub mod faults;
 mod json;
 mod line;

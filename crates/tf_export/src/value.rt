@@ -115,7 +115,7 @@ pub(crate) fn push_scalar<A: Allocator>(
 }
 
 /// Adds words, each behind this byte.
-fn push_behind<A: Allocator>(
+pub(crate) fn push_behind<A: Allocator>(
     text: &mut Vec<u8, A>,
     separator: u8,
     row: &[u8],

@@ -5,7 +5,7 @@ use Rattle.std.specs.Str.{bytes_eq}
 use Rattle.tf_options.specs.Matched.{Given, IsToldInstead, options_fault}
 use Rattle.tf_options.specs.Understood.{IsAskedBy, IsAskedOver, has_no_answer, is_rating, lacks_answer, lacks_options}
 use Rattle.tf_options.specs.declared.options.Asked.{Asked}
-use Rattle.tf_options.specs.declared.options.Asked.TheVariants.{Work, Formatted, Help, Misused, Unfit, NoMemory}
+use Rattle.tf_options.specs.declared.options.Asked.TheVariants.{Work, Formatted, Series, Measured, Help, Misused, Unfit, NoMemory}
 
 -- by its own definition, and so by that of all commands
 pub asked_over : (name : List ℕ) (given : Given) (on_terminal : Bool) (asked : Asked)
@@ -14,6 +14,8 @@ pub asked_over : (name : List ℕ) (given : Given) (on_terminal : Bool) (asked :
     → IsAskedOver name given on_terminal asked → IsAskedBy name given on_terminal asked
 asked_over name given on_terminal (Work work) gantt problems random sound h = h
 asked_over name given on_terminal (Formatted work format) gantt problems random sound h = absurd h
+asked_over name given on_terminal (Series series) gantt problems random sound h = absurd h
+asked_over name given on_terminal (Measured evaluating) gantt problems random sound h = absurd h
 asked_over name given on_terminal (Help error) gantt problems random sound h = absurd h
 asked_over name given on_terminal (Misused error) gantt problems random sound h = absurd h
 asked_over name given on_terminal (Unfit message) gantt problems random sound h =
@@ -33,6 +35,8 @@ pub told_instead : (name : List ℕ) (given : Given) (on_terminal : Bool) (asked
     → IsAskedBy name given on_terminal asked
 told_instead name given on_terminal (Work work) gantt problems random h = absurd h
 told_instead name given on_terminal (Formatted work format) gantt problems random h = absurd h
+told_instead name given on_terminal (Series series) gantt problems random h = absurd h
+told_instead name given on_terminal (Measured evaluating) gantt problems random h = absurd h
 told_instead name given on_terminal (Help error) gantt problems random h = absurd h
 told_instead name given on_terminal (Misused error) gantt problems random h = absurd h
 told_instead name given on_terminal (Unfit message) gantt problems random h =

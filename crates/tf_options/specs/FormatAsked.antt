@@ -9,7 +9,7 @@ use Rattle.tf_options.specs.Matched.{layout_by}
 use Rattle.tf_options.specs.declared.format.Format.{Format}
 use Rattle.tf_options.specs.declared.format.Format.TheVariants.{Json, Csv}
 use Rattle.tf_options.specs.declared.options.Asked.{Asked}
-use Rattle.tf_options.specs.declared.options.Asked.TheVariants.{Work, Formatted, Help, Misused, Unfit, NoMemory}
+use Rattle.tf_options.specs.declared.options.Asked.TheVariants.{Work, Formatted, Series, Measured, Help, Misused, Unfit, NoMemory}
 
 -- the value of each option that has one, by the option's name
 abbrev pub Values : Type 0
@@ -53,6 +53,8 @@ pub record IsSolvedLayoutBy (given : Values) (version : Option (List ℕ)) (layo
 abbrev pub work_in_format : Asked → Format → Asked
 work_in_format (Work work) format = Formatted work format
 work_in_format (Formatted work other) format = Formatted work other
+work_in_format (Series series) format = Series series
+work_in_format (Measured evaluating) format = Measured evaluating
 work_in_format (Help error) format = Help error
 work_in_format (Misused error) format = Misused error
 work_in_format (Unfit text) format = Unfit text

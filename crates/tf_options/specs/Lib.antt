@@ -5,3 +5,5 @@ pub mod Matched
 pub mod Viewing
 pub mod FormatAsked
 pub mod Understood
+pub mod SeriesAsked
+pub mod MeasuresAsked

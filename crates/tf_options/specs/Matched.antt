@@ -17,7 +17,7 @@ use Rattle.tf_listing.specs.declared.listing.Listed.{Listed}
 use Rattle.tf_listing.specs.declared.listing.Listed.TheVariants.{Solved, Bounded}
 use Rattle.tf_options.specs.OptionNumber.{numeral_in}
 use Rattle.tf_options.specs.declared.options.Asked.{Asked}
-use Rattle.tf_options.specs.declared.options.Asked.TheVariants.{Work, Formatted, Help, Misused, Unfit, NoMemory}
+use Rattle.tf_options.specs.declared.options.Asked.TheVariants.{Work, Formatted, Series, Measured, Help, Misused, Unfit, NoMemory}
 use Rattle.tf_options.specs.declared.options.FormOption.{FormOption}
 use Rattle.tf_options.specs.declared.options.FormOption.TheVariants.{Table, Wt, Flow}
 use Rattle.tf_options.specs.declared.options.Idle.{Idle}
@@ -196,6 +196,8 @@ columns_fault given = unless_some (codes "--columns takes a number from 1 to 100
 abbrev pub IsToldInstead : Bool → Option (List ℕ) → Asked → Type 0
 IsToldInstead lacking fault (Work work) = ⊥
 IsToldInstead lacking fault (Formatted work format) = ⊥
+IsToldInstead lacking fault (Series series) = ⊥
+IsToldInstead lacking fault (Measured evaluating) = ⊥
 IsToldInstead lacking fault (Help error) = ⊥
 IsToldInstead lacking fault (Misused error) = ⊥
 IsToldInstead lacking fault (Unfit message) = fault ≡ Some message.now

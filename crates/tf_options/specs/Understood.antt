@@ -8,7 +8,7 @@ use Rattle.tf_options.specs.Viewing.{IsDrawingBy, IsPicturingBy, gantt_fault}
 use Rattle.tf_options.specs.FormatAsked.{IsSolvedLayoutBy}
 use Rattle.tf_options.specs.declared.options.Aids.{Aids}
 use Rattle.tf_options.specs.declared.options.Asked.{Asked}
-use Rattle.tf_options.specs.declared.options.Asked.TheVariants.{Work, Formatted, Help, Misused, Unfit, NoMemory}
+use Rattle.tf_options.specs.declared.options.Asked.TheVariants.{Work, Formatted, Series, Measured, Help, Misused, Unfit, NoMemory}
 use Rattle.tf_options.specs.declared.options.OrderSource.{OrderSource}
 use Rattle.tf_options.specs.declared.options.OrderSource.TheVariants.{Given as Written, Named, Drawn}
 use Rattle.tf_options.specs.declared.options.Work.{Work as Asking}
@@ -218,6 +218,8 @@ is_incomplete name given =
 abbrev pub IsAskedOver : List ℕ → Given → Bool → Asked → Type 0
 IsAskedOver name given on_terminal (Work work) = IsWorkBy name given on_terminal work
 IsAskedOver name given on_terminal (Formatted work format) = ⊥
+IsAskedOver name given on_terminal (Series series) = ⊥
+IsAskedOver name given on_terminal (Measured evaluating) = ⊥
 IsAskedOver name given on_terminal (Help error) = ⊥
 IsAskedOver name given on_terminal (Misused error) = ⊥
 IsAskedOver name given on_terminal (Unfit message) = own_fault name given ≡ Some message.now
@@ -227,6 +229,8 @@ IsAskedOver name given on_terminal NoMemory = IsTrue (lacks_own name given)
 abbrev pub IsAskedBy : List ℕ → Given → Bool → Asked → Type 0
 IsAskedBy name given on_terminal (Work work) = IsWorkBy name given on_terminal work
 IsAskedBy name given on_terminal (Formatted work format) = ⊥
+IsAskedBy name given on_terminal (Series series) = ⊥
+IsAskedBy name given on_terminal (Measured evaluating) = ⊥
 IsAskedBy name given on_terminal (Help error) = ⊥
 IsAskedBy name given on_terminal (Misused error) = ⊥
 IsAskedBy name given on_terminal (Unfit message) = fault_by name given ≡ Some message.now

@@ -3,7 +3,7 @@
 #![tactic(auto)]
 
 pub mod format;
-pub mod grammar;
-mod help;
 pub mod options;
+pub mod series;
+mod viewing;
 mod wanting;

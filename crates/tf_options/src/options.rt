@@ -1,9 +1,9 @@
 //! The command line.
 ghost use Rattle.std.specs.Prelude.{◌≡◌, ◌≤◌, None, Some, false, codes, option_map, IfOk, IfErr, MatchOption};
 ghost use Rattle.tf_engine.specs.FormData.{form_of};
-ghost use Rattle.tf_model.specs.Limit.{limit, most_machines};
+ghost use Rattle.tf_model.specs.Limit.{most_machines};
 ghost use Rattle.tf_options.specs.Asking.{form_asked, requested};
-ghost use Rattle.tf_options.specs.Columns.{HasColumns, HasWidth};
+ghost use Rattle.tf_options.specs.Columns.{HasColumns};
 ghost use Rattle.tf_options.specs.FormatAsked.{IsFormatBy, IsSolvedLayoutBy, asked_in_format, csv_format, json_format};
 ghost use Rattle.tf_options.specs.Matched.{AreIdleBy, AreOptionsBy, IsFlagBy};
 ghost use Rattle.tf_options.specs.Matched.{IsFormBy, IsNumberBy, IsToldInstead};
@@ -11,11 +11,13 @@ ghost use Rattle.tf_options.specs.Matched.{explains_by, flow_fault, form_fault, 
 ghost use Rattle.tf_options.specs.Matched.{has_arithmetic, is_latex, lacks, layout_by, lists_bounded};
 ghost use Rattle.tf_options.specs.Matched.{machines_fault, most_steps, options_fault, pair_in};
 ghost use Rattle.tf_options.specs.Matched.{number_by, steps_fault, wt_fault};
-ghost use Rattle.tf_options.specs.Viewing.{IsDrawingBy, IsPicturingBy, IsViewBy, drawing_fault, most_side, number_fault, page_by, picturing_fault, sides_fault, size_by, view_fault};
+ghost use Rattle.tf_options.specs.MeasuresAsked.{IsMeasuredBy};
 ghost use Rattle.tf_options.specs.OptionNumber.{numeral_in};
 ghost use Rattle.tf_options.specs.Understood.{AreAidsBy, HasNoOrder, IsAskedBy, IsAskedOver, IsOrderBy, aids_fault, input_fault, is_standard_input, lacks_options};
 
 use crate::format::Format;
+use crate::series::{Series, series_asked, span_for};
+use crate::viewing::gantt_in;
 use crate::wanting::wanted_in;
 use clap::error::ErrorKind;
 use clap::{ArgMatches, Command, Error};
@@ -26,11 +28,10 @@ use tf_evaluate::evaluation::Detail;
 use tf_export::csv::Table;
 use tf_export::documents::Document;
 use tf_listing::listing::Listed;
-use tf_model::limit::{LIMIT, MOST_JOBS, MOST_MACHINES};
-use tf_picture::view::{Size, View};
+use tf_model::limit::{MOST_JOBS, MOST_MACHINES};
+use tf_picture::view::View;
 use tf_random::run_random::Wanted;
 use tf_text::answer::layout::Layout;
-use tf_text::chart::MOST_COLUMNS;
 use tf_trace::board::Style;
 use tf_words::digits::is_numeral;
 use tf_words::ranged::{Ranged, number_in};
@@ -210,6 +211,10 @@ pub enum Asked<'a> {
     Work(Work<'a>),
     /// The same, with its output in a format.
     Formatted(Work<'a>, Format),
+    /// Tell a line of each of several instances.
+    Series(Series<'a>),
+    /// Tell how good an answer is, and what its schedule comes to by each objective.
+    Measured(Evaluating<'a>),
     /// Help, or the version.
     Help(Error),
     /// The command line is none of the program's.
@@ -221,18 +226,8 @@ pub enum Asked<'a> {
 /// The most steps of the search for prices.
 pub const MOST_STEPS: u32 = 1_000_000;
 
-/// The most pixels of a side of a picture.
-pub const MOST_SIDE: u32 = 100_000;
-
-const FROM_TOLD: &str = "--from takes a number from 0 to 4000000000000000000";
-
-const TO_TOLD: &str = "--to takes a number from 0 to 4000000000000000000";
-
-const FOLD_TOLD: &str = "--fold takes a number from 1 to 4000000000000000000";
-
-const WIDTH_TOLD: &str = "--width takes a number from 1 to 100000";
-
-const HEIGHT_TOLD: &str = "--height takes a number from 1 to 100000";
+const ONE_INSTANCE: &str = "\
+--json, --csv, --measures and --certificate take one instance, and --index names several";
 
 /// What the words ask for. With `--explain=auto`, the default, it is explained on a terminal.
 pub fn understand<'a>(command: Command<'a>, words: &'a [String], on_terminal: bool) -> Asked<'a>
@@ -244,13 +239,45 @@ pub fn understand<'a>(command: Command<'a>, words: &'a [String], on_terminal: bo
     };
     match matches.subcommand() {
         None => Asked::NoMemory,
-        Some((name, given)) => {
-            in_format(asked_by(name, given, on_terminal), format_in(name, given))
-        }
+        Some((name, given)) => match span_for(name, given) {
+            Some(span) if tells_lines(name, given) => {
+                series_asked(name, given, on_terminal, span)
+            }
+            Some(_) => Asked::Unfit(ONE_INSTANCE),
+            None => measured(given, formatted_by(name, given, on_terminal)),
+        },
     }
 }
 
+// Whether nothing but a line of each instance is asked for.
+fn tells_lines(name: &str, given: &ArgMatches<'_>) -> bool {
+    let more = given.get_flag("measures") || given.get_flag("certificate");
+    format_in(name, given).is_none() && !more
+}
+
 // What is asked for, with its output in a format where one is named.
+fn formatted_by<'a>(name: &str, given: &ArgMatches<'a>, on_terminal: bool) -> Asked<'a>
+    ensures { HasColumns result }
+{
+    in_format(asked_by(name, given, on_terminal), format_in(name, given))
+}
+
+// An evaluation, with what the schedule comes to by each objective where that is asked for.
+fn measured<'a>(given: &ArgMatches<'a>, asked: Asked<'a>) -> Asked<'a>
+    requires { HasColumns asked }
+    ensures columns { HasColumns result }
+    ensures measures { IsMeasuredBy ((given_of given.now).flag (codes "measures")) asked.entry result }
+{
+    if !given.get_flag("measures") {
+        return asked;
+    }
+    match asked {
+        Asked::Work(Work::Evaluate(evaluating)) => Asked::Measured(evaluating),
+        other => other,
+    }
+}
+
+// What is asked for, with its output in this format, if it is one.
 fn in_format<'a>(asked: Asked<'a>, format: Option<Format>) -> Asked<'a>
     requires { HasColumns asked }
     ensures columns { HasColumns result }
@@ -447,7 +474,7 @@ fn listed_in(given: &ArgMatches<'_>) -> Listed
 }
 
 // The steps of the search for prices, where they are given.
-fn steps_in<'a>(given: &ArgMatches<'a>) -> Result<Option<u32>, Asked<'a>>
+pub(crate) fn steps_in<'a>(given: &ArgMatches<'a>) -> Result<Option<u32>, Asked<'a>>
     ensures columns { IfErr result HasColumns }
     ensures given { IfOk result
         (IsNumberBy 1 most_steps ((given_of given.now).value (codes "steps"))) }
@@ -512,7 +539,7 @@ fn aids_in<'a>(given: &ArgMatches<'a>) -> Result<Aids<'a>, Asked<'a>>
 }
 
 // Whether the text that is named so is standard input.
-fn is_standard_input(given: &ArgMatches<'_>, name: &str) -> bool
+pub(crate) fn is_standard_input(given: &ArgMatches<'_>, name: &str) -> bool
     ensures { result ≡ is_standard_input (given_of given.now) name.now }
 {
     match given.get_str(name) {
@@ -529,176 +556,6 @@ fn detail_in(given: &ArgMatches<'_>) -> Detail
         Detail::WithArithmetic
     } else {
         Detail::Summary
-    }
-}
-
-fn gantt_in<'a>(given: &ArgMatches<'a>, on_terminal: bool) -> Asked<'a>
-    ensures columns { HasColumns result }
-    ensures asked { IsAskedBy (codes "gantt") (given_of given.now) on_terminal result }
-{
-    let Some(answer) = given.get_str("ANSWER") else {
-        return Asked::NoMemory;
-    };
-    if let Some(input) = given.get_str("input") {
-        return match picturing_in(given, on_terminal, input, answer) {
-            Ok(picturing) => Asked::Work(Work::Picture(picturing)),
-            Err(asked) => asked,
-        };
-    }
-    match drawing_in(given) {
-        Ok(drawing) => Asked::Work(Work::Gantt {
-            answer,
-            drawing,
-            explain: is_explained(given, on_terminal),
-        }),
-        Err(asked) => asked,
-    }
-}
-
-// A picture of this answer with the dates of this instance.
-fn picturing_in<'a>(
-    given: &ArgMatches<'a>,
-    on_terminal: bool,
-    input: &'a str,
-    answer: &'a str,
-) -> Result<Picturing<'a>, Asked<'a>>
-    requires input { (given_of given.now).value (codes "input") ≡ Some input.now }
-    requires answer { (given_of given.now).value (codes "ANSWER") ≡ Some answer.now }
-    ensures columns { IfErr result HasColumns }
-    ensures given { IfOk result (IsPicturingBy (given_of given.now) on_terminal) }
-    ensures fault { IfErr result
-        (IsToldInstead (lacks (given_of given.now) (codes "format"))
-        (picturing_fault (given_of given.now))) }
-{
-    if answer == "-" && input == "-" {
-        return Err(Asked::Unfit("--input and ANSWER cannot both be standard input"));
-    }
-    let view = view_in(given)?;
-    let form = form_in(given)?;
-    Ok(Picturing {
-        input,
-        form,
-        answer,
-        view,
-        telling: Telling {
-            explain: is_explained(given, on_terminal),
-            idle: idle_in(given, &form),
-        },
-    })
-}
-
-// A picture where it is asked for, otherwise a chart of so many columns.
-fn drawing_in<'a>(given: &ArgMatches<'a>) -> Result<Drawing, Asked<'a>>
-    ensures sized { IfOk result HasWidth }
-    ensures columns { IfErr result HasColumns }
-    ensures given { IfOk result (IsDrawingBy (given_of given.now)) }
-    ensures fault { IfErr result
-        (IsToldInstead (lacks (given_of given.now) (codes "columns"))
-        (drawing_fault (given_of given.now))) }
-{
-    let view = view_in(given)?;
-    if given.get_flag("svg") {
-        return Ok(Drawing::Picture(view));
-    }
-    let Some(word) = given.get_str("columns") else {
-        return Err(Asked::NoMemory);
-    };
-    match number_within(word, 1, MOST_COLUMNS) {
-        Some(columns) => Ok(Drawing::Chart { columns }),
-        None => Err(Asked::Unfit("--columns takes a number from 1 to 1000")),
-    }
-}
-
-// What a picture shows of a schedule, and how large it is.
-fn view_in<'a>(given: &ArgMatches<'a>) -> Result<View, Asked<'a>>
-    ensures columns { IfErr result HasColumns }
-    ensures given { IfOk result (IsViewBy (given_of given.now)) }
-    ensures unhurt { IfOk result (λ _. view_fault (given_of given.now) ≡ None) }
-    ensures fault { IfErr result (IsToldInstead false (view_fault (given_of given.now))) }
-{
-    let from = time_in(given, "from", 0, FROM_TOLD)?;
-    let to = time_in(given, "to", 0, TO_TOLD)?;
-    let fold = time_in(given, "fold", 1, FOLD_TOLD)?;
-    Ok(View {
-        from: from.unwrap_or(0),
-        to,
-        fold,
-        size: size_in(given)?,
-    })
-}
-
-// The time that an option gives, or the number of time steps, where it is given.
-fn time_in<'a>(
-    given: &ArgMatches<'a>,
-    name: &'static str,
-    least: u32,
-    told: &'static str,
-) -> Result<Option<u64>, Asked<'a>>
-    ensures columns { IfErr result HasColumns }
-    ensures given { IfOk result (λ time. time ≡ number_by (given_of given.now) name.now least limit) }
-    ensures unhurt { IfOk result (λ _. number_fault (given_of given.now) name.now least limit
-        told.now ≡ None) }
-    ensures fault { IfErr result (IsToldInstead false
-        (number_fault (given_of given.now) name.now least limit told.now)) }
-{
-    let Some(word) = given.get_str(name) else {
-        return Ok(None);
-    };
-    match time_within(word, least) {
-        Some(time) => Ok(Some(time)),
-        None => Err(Asked::Unfit(told)),
-    }
-}
-
-// How large a picture is.
-fn size_in<'a>(given: &ArgMatches<'a>) -> Result<Size, Asked<'a>>
-    ensures columns { IfErr result HasColumns }
-    ensures given { IfOk result (λ size. size ≡ size_by (given_of given.now)) }
-    ensures unhurt { IfOk result (λ _. sides_fault (given_of given.now) ≡ None) }
-    ensures fault { IfErr result (IsToldInstead false (sides_fault (given_of given.now))) }
-{
-    let width = side_in(given, "width", WIDTH_TOLD)?;
-    let height = side_in(given, "height", HEIGHT_TOLD)?;
-    Ok(match (page_in(given), width, height) {
-        (Some(size), _, _) => size,
-        (None, Some(width), Some(height)) => Size::Pixels(width, height),
-        (None, Some(width), None) => Size::Width(width),
-        (None, None, Some(height)) => Size::Height(height),
-        (None, None, None) => Size::Natural,
-    })
-}
-
-// The page or slide that is asked for by name.
-fn page_in(given: &ArgMatches<'_>) -> Option<Size>
-    ensures { result ≡ page_by ((given_of given.now).value (codes "size")) }
-{
-    match given.get_str("size") {
-        Some("a4") => Some(Size::Millimetres(297, 210)),
-        Some("a3") => Some(Size::Millimetres(420, 297)),
-        Some("16:9") => Some(Size::Pixels(1_600, 900)),
-        _ => None,
-    }
-}
-
-// The width or height of a picture in pixels, where it is given.
-fn side_in<'a>(
-    given: &ArgMatches<'a>,
-    name: &'static str,
-    told: &'static str,
-) -> Result<Option<u32>, Asked<'a>>
-    ensures columns { IfErr result HasColumns }
-    ensures given { IfOk result (λ side. side ≡ number_by (given_of given.now) name.now 1 most_side) }
-    ensures unhurt { IfOk result (λ _. number_fault (given_of given.now) name.now 1 most_side
-        told.now ≡ None) }
-    ensures fault { IfErr result (IsToldInstead false
-        (number_fault (given_of given.now) name.now 1 most_side told.now)) }
-{
-    let Some(word) = given.get_str(name) else {
-        return Ok(None);
-    };
-    match number_within(word, 1, MOST_SIDE) {
-        Some(side) => Ok(Some(side)),
-        None => Err(Asked::Unfit(told)),
     }
 }
 
@@ -746,7 +603,7 @@ pub(crate) fn machines_in<'a>(given: &ArgMatches<'a>) -> Result<Option<u32>, Ask
 }
 
 // Whether what is wrong is explained.
-fn is_explained(given: &ArgMatches<'_>, on_terminal: bool) -> bool
+pub(crate) fn is_explained(given: &ArgMatches<'_>, on_terminal: bool) -> bool
     ensures { result ≡ explains_by ((given_of given.now).value (codes "explain")) on_terminal }
 {
     match given.get_str("explain") {
@@ -757,7 +614,7 @@ fn is_explained(given: &ArgMatches<'_>, on_terminal: bool) -> bool
 }
 
 // The options that were given, and that the form does not use.
-fn idle_in(given: &ArgMatches<'_>, form: &FormOption<'_>) -> Idle
+pub(crate) fn idle_in(given: &ArgMatches<'_>, form: &FormOption<'_>) -> Idle
     ensures { AreIdleBy (given_of given.now) form.now result }
 {
     let is_wt = matches!(form, FormOption::Wt { .. });
@@ -770,7 +627,7 @@ fn idle_in(given: &ArgMatches<'_>, form: &FormOption<'_>) -> Idle
 }
 
 // The form that was chosen. The options of the others are not looked at.
-fn form_in<'a>(given: &ArgMatches<'a>) -> Result<FormOption<'a>, Asked<'a>>
+pub(crate) fn form_in<'a>(given: &ArgMatches<'a>) -> Result<FormOption<'a>, Asked<'a>>
     ensures columns { IfErr result HasColumns }
     ensures given { IfOk result (IsFormBy (given_of given.now)) }
     ensures fault { IfErr result
@@ -849,20 +706,6 @@ pub(crate) fn number_within(word: &str, least: u32, most: u32) -> Option<u32>
     }
     match number_in(digits, i64::from(least), i64::from(most)) {
         Ranged::Within(n) => Some(n as u32),
-        _ => None,
-    }
-}
-
-// A time of digits alone, from this one on.
-fn time_within(word: &str, least: u32) -> Option<u64>
-    ensures { result ≡ numeral_in least limit word.now }
-{
-    let digits = word.as_bytes();
-    if !is_numeral(digits) {
-        return None;
-    }
-    match number_in(digits, i64::from(least), LIMIT) {
-        Ranged::Within(n) => Some(n as u64),
         _ => None,
     }
 }

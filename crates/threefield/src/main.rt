@@ -8,15 +8,17 @@ mod files;
 use files::Files;
 use std::alloc::AllocError;
 use std::io;
-use std::io::{IsTerminal, Write};
+use std::io::{IsTerminal, Stdout, Write};
 use std::process::ExitCode;
 use tf_command::commands::perform;
 use tf_command::console::Console;
 use tf_command::formatted::perform_formatted;
 use tf_command::misuse::say_misuse;
 use tf_command::report::{say_device, say_memory, say_usage};
+use tf_grammar::grammar::command;
+use tf_held::measured::perform_measured;
+use tf_held::series::perform_series;
 use tf_options::format::Format;
-use tf_options::grammar::command;
 use tf_options::options::{Asked, Work, understand};
 use tf_text::counted::Counted;
 
@@ -55,6 +57,10 @@ fn program(rt: &HostRuntime) -> u8 {
     match understand(command, words.as_slice(), rt.stderr().is_terminal()) {
         Asked::Work(work) => print(rt, errors, &work, None),
         Asked::Formatted(work, format) => print(rt, errors, &work, Some(format)),
+        Asked::Series(series) => perform_series(&mut console(rt, errors), &Files { rt }, &series),
+        Asked::Measured(evaluating) => {
+            perform_measured(&mut console(rt, errors), &Files { rt }, evaluating)
+        }
         Asked::Help(text) => match text.print(rt) {
             Ok(()) => 0,
             Err(_) => say_device(&mut errors),
@@ -74,13 +80,18 @@ fn print<E: Write + Drop>(
 ) -> u8
     requires { IsSized work.now }
 {
-    let mut console = Console {
-        alloc: rt.alloc(),
-        writer: Counted::new(rt.stdout()),
-        errors,
-    };
+    let mut console = console(rt, errors);
     match format {
         None => perform(&mut console, &Files { rt }, work),
         Some(format) => perform_formatted(&mut console, &Files { rt }, work, format),
+    }
+}
+
+/// Standard output, standard error and the memory of the process.
+fn console<E: Write + Drop>(rt: &HostRuntime, errors: Counted<E>) -> Console<Stdout, E> {
+    Console {
+        alloc: rt.alloc(),
+        writer: Counted::new(rt.stdout()),
+        errors,
     }
 }

@@ -43,6 +43,7 @@ Example: threefield solve -p \"P2|prmp|Cmax\" examples/table.txt
          threefield solve -p \"1||sumwC\" -f wt --jobs 40 --index 3 wt40.txt
          threefield solve -p \"F2||Cmax\" -f flow --name demo --pair 0,2 shop.txt
          threefield solve -p \"1||Lmax\" --csv table.txt > plan.csv
+         threefield solve -p \"1||sumwC\" --values -f wt --jobs 40 --index all wt40.txt
 
 Formats: table  a job table (threefield --help)
          wt     the weighted tardiness files of OR-Library
@@ -64,6 +65,7 @@ Lmax, sumC, sumwC, sumT, sumwT, sumU and sumwU.
 
 Example: threefield bound -p \"P2||Cmax\" examples/table.txt
          threefield bound -p \"1||sumwT\" --steps 1000 -f wt --jobs 40 wt40.txt
+         threefield bound -p \"1||sumwT\" -f wt --jobs 40 --index 1-125 wt40.txt
          threefield bound -p \"F||Cmax\" -f flow --name t01 examples/taillard.txt
 
 Exit status: 0 bounded, 2 refused, 3 want of memory,
@@ -113,6 +115,8 @@ Example: threefield evaluate -p \"P2|prmp|Cmax\" examples/table.txt answer.txt
          threefield evaluate -p \"1||sumwT\" --orders orders.txt table.txt
          threefield evaluate -p \"1|rj|Lmax\" --schedule pieces.txt table.txt
          threefield evaluate -p \"P2||Cmax\" --bound bound.txt table.txt answer.txt
+         threefield evaluate -p \"1||Lmax\" --measures table.txt answer.txt
+         threefield evaluate -p \"1||sumwT\" -f wt --jobs 40 --index all wt40.txt answers.txt
          threefield evaluate -p \"1||sumwT\" --steps 1000 table.txt answer.txt
 
 Exit status: 0 best, 1 does not fit, 2 refused, 3 want of memory,

@@ -109,11 +109,16 @@ fn solve_command<'a>(alloc: Global) -> Result<Command<'a>, AllocError> {
         .value_parser(VERSIONS.as_slice())
         .hide_possible_values(true)
         .default_value("2");
+    let values = Arg::new(alloc, "values")
+        .long("values")
+        .help("With --index A-B or all: the minimum costs alone")
+        .action(ArgAction::SetTrue);
     with_options(alloc, Command::new(alloc, "solve"))?
         .about("Prints an optimal schedule, and a certificate that proves it")
         .after_help(ABOUT_SOLVE)
         .after_long_help(help::OF_SOLVE)
         .arg(version)?
+        .arg(values)?
         .arg(json(alloc).conflicts_with("answer")?)?
         .arg(csv(alloc)?)
 }
@@ -153,7 +158,20 @@ fn evaluate_command<'a>(alloc: Global) -> Result<Command<'a>, AllocError> {
         .about("Reports how far an answer is from the optimum, job by job")
         .after_help(ABOUT_EVALUATE)
         .after_long_help(help::OF_EVALUATE);
-    with_schedules(alloc, with_bounds(alloc, command)?)
+    with_schedules(alloc, with_bounds(alloc, command)?.arg(measures(alloc)?)?)
+}
+
+fn measures<'a>(alloc: Global) -> Result<Arg<'a>, AllocError> {
+    Arg::new(alloc, "measures")
+        .long("measures")
+        .help("Writes the value of every objective, with the fields there are")
+        .action(ArgAction::SetTrue)
+        .conflicts_with("order")?
+        .conflicts_with("orders")?
+        .conflicts_with("schedule")?
+        .conflicts_with("bound")?
+        .conflicts_with("json")?
+        .conflicts_with("csv")
 }
 
 // What is told of bounds, and in which format.

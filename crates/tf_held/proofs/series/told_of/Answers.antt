@@ -1,0 +1,58 @@
+use Rattle.std.proofs.Common.{sym, ap, ◌∙◌}
+use Rattle.std.proofs.lemmas.Bool.{true≢false}
+use Rattle.tf_held.proofs.Told.{later, none_there, ran, said_none, untold}
+use Rattle.tf_held.proofs.series.told_of.Goals as goal
+use Rattle.tf_held.proofs.series.told_of.Goals.{then-is_none, else-is_none}
+
+pub returns-then-has_told : goal.returns-then-has_told
+returns-then-has_told c = (
+  c.perform-status.result,
+  _,
+  ran c.args.series.now _ c.args.held.instance.now c.args.held.other.now c.args.number
+      c.perform-status.result c.work_for-work.result c.memory-kept.result c.perform-status.new.console
+      c.requires c.work_for-work.ensures c.memory-kept.ensures.blank c.memory-kept.ensures.silent
+      c.perform-status.ensures (sym c.failed.ensures ∙ c.if-failed.false)
+      (sym c.failed-else-failed.ensures ∙ c.if-failed-2.false),
+  sym c.has_told.ensures ∙ c.if-has_told.true,
+)
+
+pub returns-then-has_no_instance : goal.returns-then-has_no_instance
+returns-then-has_no_instance c = elim c.if-is_none.branch [
+  | then-is_none w ↦ (
+    none_there _ c.is_none.result c.is_none.ensures w.if-is_none.true,
+    later _ _ c.if-is_none.is_later w.is_later-is c.if-is_later.true,
+    (
+      c.perform-status.result,
+      untold c.args.series.now c.args.held.instance.now c.args.held.other.now c.args.number
+          c.perform-status.result _ _ _
+          (ran c.args.series.now _ c.args.held.instance.now c.args.held.other.now c.args.number
+          c.perform-status.result c.work_for-work.result c.memory-kept.result
+          c.perform-status.new.console c.requires c.work_for-work.ensures
+          c.memory-kept.ensures.blank c.memory-kept.ensures.silent c.perform-status.ensures
+          (sym c.failed.ensures ∙ c.if-failed.false)
+          (sym c.failed-else-failed.ensures ∙ c.if-failed-2.false))
+          (sym c.has_told.ensures ∙ c.if-has_told.false)
+          (said_none c.as_slice-errors.result.now _
+          (c.as_slice-errors.ensures.value ∙ ap (λ v. v.items) c.inner.ensures)
+          (sym c.has_no_instance.ensures ∙ c.if-has_no_instance.true)),
+    ),
+  )
+  | else-is_none w ↦
+      absurd (true≢false (sym c.if-is_later.true ∙ w.is_later-is ∙ w.if-is_none.false))
+]
+
+pub returns : goal.returns
+returns c = (
+  c.args.number,
+  _,
+  untold c.args.series.now c.args.held.instance.now c.args.held.other.now c.args.number
+      c.perform-status.result _ _ _
+      (ran c.args.series.now _ c.args.held.instance.now c.args.held.other.now c.args.number
+      c.perform-status.result c.work_for-work.result c.memory-kept.result c.perform-status.new.console
+      c.requires c.work_for-work.ensures c.memory-kept.ensures.blank c.memory-kept.ensures.silent
+      c.perform-status.ensures (sym c.failed.ensures ∙ c.if-failed.false)
+      (sym c.failed-else-failed.ensures ∙ c.if-failed-2.false))
+      (sym c.has_told.ensures ∙ c.if-has_told.false)
+      (c.as_slice-errors.ensures.value ∙ ap (λ v. v.items) c.inner.ensures),
+  c.in_ok-said_of.ensures,
+)

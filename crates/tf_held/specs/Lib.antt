@@ -1,0 +1,5 @@
+-- what a caller has to believe
+pub mod Texts
+pub mod Series
+pub mod Measures
+pub mod Measured

@@ -1,0 +1,196 @@
+-- What is told of each of several instances of a weighted tardiness file.
+use Rattle.std.specs.Prelude.{◌≡◌, ◌⊎◌, ℕ, ◌+◌, ◌*◌, ◌<◌, max, Bool, true, false, nat_lt, ◌||◌, ◌==◌, List, [], ◌∷◌, ◌++◌, length, Option, None, Some, codes}
+use Rattle.std.specs.List.{flat_map}
+use Rattle.std.specs.Fmt.{decimal}
+use Rattle.std.specs.Io.KnownBytes.{Keeps}
+use Rattle.tf_text.specs.AnswerText.{line_text}
+use Rattle.tf_text.specs.Counted.{DeviceUse, inner_of, has_failed, use_of}
+use Rattle.tf_text.specs.Input.{IsTextOf}
+use Rattle.tf_text.specs.declared.answer.layout.Layout.TheVariants.{Two}
+use Rattle.tf_engine.specs.FormData.{InWt}
+use Rattle.tf_evaluate.specs.declared.evaluation.Detail.TheVariants.{Summary}
+use Rattle.tf_export.specs.Entry.{entry}
+use Rattle.tf_options.specs.Asking.{form_asked}
+use Rattle.tf_options.specs.declared.options.Evaluating.{Evaluating}
+use Rattle.tf_options.specs.declared.options.Options.{Options}
+use Rattle.tf_options.specs.declared.options.Work.{Work as Asking}
+use Rattle.tf_options.specs.declared.options.Work.TheVariants.{Solve, Bound, Evaluate}
+use Rattle.tf_options.specs.declared.series.Series.{Series}
+use Rattle.tf_options.specs.declared.series.Told.{Told}
+use Rattle.tf_options.specs.declared.series.Told.TheVariants.{Values, Bounds, Answers}
+use Rattle.tf_command.specs.Ending.{SaysLine}
+use Rattle.tf_command.specs.Formatted.{Memory, held}
+use Rattle.tf_command.specs.Performing.{Performs, Texts, EndsWriting}
+use Rattle.tf_held.specs.Texts.{held_texts, IsUnread}
+use Rattle.tf_held.specs.declared.series.Stop.{Stop}
+use Rattle.tf_held.specs.declared.series.Stop.TheVariants as stops
+
+-- ---- one instance
+
+-- the options that name the instance of this number alone, and explain nothing
+pub record AreOptionsFor (series : Series) (number : ℕ) (options : Options) : Type 0 where
+  pub problem : options.problem.now ≡ series.problem.now
+  pub form : form_asked options.form ≡ InWt series.jobs number
+  pub machines : options.machines ≡ series.machines
+  pub input : options.input.now ≡ series.input.now
+  pub plain : options.telling.explain ≡ false
+
+-- an answer is evaluated by text alone
+abbrev pub IsEvaluatedBy : Told → Evaluating → Type 0
+IsEvaluatedBy (Answers answer steps) evaluating =
+    (evaluating.answer.now ≡ answer.now) × (evaluating.detail ≡ Summary) × (evaluating.steps ≡ steps)
+IsEvaluatedBy _ evaluating = ⊥
+
+-- the work of the command that is about the instance of this number alone
+abbrev pub IsWorkFor : Series → ℕ → Asking → Type 0
+IsWorkFor series number (Solve options layout) =
+    (series.told ≡ Values) × AreOptionsFor series number options × (layout ≡ Two)
+IsWorkFor series number (Bound options steps) =
+    (series.told ≡ Bounds steps) × AreOptionsFor series number options
+IsWorkFor series number (Evaluate evaluating) =
+    AreOptionsFor series number evaluating.options × IsEvaluatedBy series.told evaluating
+IsWorkFor series number _ = ⊥
+
+-- that work was done over the file and an answer, and this is what it wrote in memory
+pub record RunsFor (series : Series) (instance answer : List ℕ) (number status : ℕ)
+    (output errors : List ℕ) : Type 0 where
+  pub work : Asking
+  pub is : IsWorkFor series number work
+  pub before : Memory
+  pub after : Memory
+  pub blank : (inner_of before.writer).items ≡ []
+  pub silent : (inner_of before.errors).items ≡ []
+  pub done : Performs (held_texts series.input.now instance answer) work
+      (use_of held before.writer after.writer)
+      (λ explain. SaysLine held explain before.errors after.errors) status
+  pub whole : has_failed after.writer ≡ false
+  pub told : has_failed after.errors ≡ false
+  pub output_is : output ≡ (inner_of after.writer).items
+  pub errors_is : errors ≡ (inner_of after.errors).items
+
+-- a command of this status told what is asked for
+abbrev pub has_told : ℕ → Bool
+has_told status = status == 0 || status == 1 || status == 6
+
+-- the line of an instance
+pub record IsEntry (series : Series) (instance answer : List ℕ) (number : ℕ) (line : List ℕ) : Type 0
+  where
+    pub status : ℕ
+    pub output : List ℕ
+    pub errors : List ℕ
+    pub runs : RunsFor series instance answer number status output errors
+    pub told : has_told status ≡ true
+    pub is : line ≡ entry number output
+
+-- the command ended for the instance of this number without telling, and said this
+pub record EndsUntold (series : Series) (instance : List ℕ) (number status : ℕ) (errors : List ℕ)
+    : Type 0 where
+  pub answer : List ℕ
+  pub output : List ℕ
+  pub runs : RunsFor series instance answer number status output errors
+  pub untold : has_told status ≡ false
+
+-- what is said where there is no such instance
+abbrev pub no_instance : List ℕ
+no_instance = codes "threefield: refused: NoInstance\n"
+
+-- what was kept tells of the instance of this number; or a series to the end of the file has come to
+-- that
+abbrev pub Tells : Series → List ℕ → List ℕ → ℕ → Option Memory → Type 0
+Tells series instance answer number (Some kept) =
+    (status : ℕ) × (errors : List ℕ)
+    × RunsFor series instance answer number status (inner_of kept.writer).items errors
+    × (has_told status ≡ true)
+Tells series instance answer number None =
+    (series.span.last ≡ None) × (series.span.first < number)
+    × ((status : ℕ) × EndsUntold series instance number status no_instance)
+
+-- ---- all of them
+
+-- the lines of as many instances as there are answers, of which the first has this number
+abbrev pub AreEntries : Series → List ℕ → ℕ → List (List ℕ) → List (List ℕ) → Type 0
+AreEntries series instance number [] [] = Unit {0}
+AreEntries series instance number (answer ∷ answers) (line ∷ lines) =
+    IsEntry series instance answer number line
+    × AreEntries series instance (number + 1) answers lines
+AreEntries series instance number _ _ = ⊥
+
+-- texts one after the other
+abbrev pub joined : List (List ℕ) → List ℕ
+joined texts = flat_map (λ text. text) texts
+
+-- the instances before this number are all that are asked for: the last one was named, or the file has
+-- no more
+abbrev pub IsAll : Series → List ℕ → Option ℕ → ℕ → Type 0
+IsAll series instance (Some last) next = next ≡ max series.span.first (last + 1)
+IsAll series instance None next =
+    (next ≡ max series.span.first 4294967296)
+    ⊎ ((series.span.first < next)
+    × ((status : ℕ) × EndsUntold series instance next status no_instance))
+
+-- a line of each, in their order. The answers stand one after the other in a text.
+pub record AreLines (series : Series) (instance answers out : List ℕ) : Type 0 where
+  pub parts : List (List ℕ)
+  pub rest : List ℕ
+  pub lines : List (List ℕ)
+  pub entries : AreEntries series instance series.span.first parts lines
+  pub all : IsAll series instance series.span.last (series.span.first + length lines)
+  pub cut : joined parts ++ rest ≡ answers
+  pub written : out ≡ joined lines
+
+-- ---- why there are none
+
+-- to go over so many bytes for each instance up to this one takes too long
+abbrev pub reads_too_much : ℕ → ℕ → Bool
+reads_too_much number bytes = nat_lt 20000000000 (number * bytes)
+
+-- the line that names an instance
+abbrev pub instance_line : ℕ → List ℕ
+instance_line number = line_text (codes "threefield: instance" ∷ decimal number ∷ [])
+
+abbrev pub IsStop : Series → List ℕ → Stop → Type 0
+IsStop series instance stops.Memory = Unit {0}
+IsStop series instance stops.TooLong =
+    (number : ℕ) × (reads_too_much number (length instance) ≡ true)
+IsStop series instance (stops.Ended status said) =
+    (number : ℕ) × (errors : List ℕ) × EndsUntold series instance number status errors
+    × (said.items ≡ errors ++ instance_line number)
+
+-- the status, and what is said
+abbrev pub status_of_stop : Stop → ℕ
+status_of_stop stops.Memory = 3
+status_of_stop stops.TooLong = 2
+status_of_stop (stops.Ended status said) = status
+
+abbrev pub line_of_stop : Stop → List ℕ
+line_of_stop stops.Memory = codes "threefield: want of memory\n"
+line_of_stop stops.TooLong = codes "threefield: refused: TotalTooLarge\n"
+line_of_stop (stops.Ended status said) = said.items
+
+-- ---- how it ends
+
+-- the lines were written, or a part of them where the device failed, which is said
+pub record EndsTold (texts : Texts) (series : Series) (writer : DeviceUse) (says : List ℕ → Type 0)
+    (status : ℕ) : Type 0 where
+  pub instance : List ℕ
+  pub is_file : IsTextOf (texts series.input.now) instance
+  pub answers : List ℕ
+  pub out : List ℕ
+  pub lines : AreLines series instance answers out
+  pub ends : EndsWriting out writer says status
+
+-- there are no lines, why is said, and nothing was written
+pub record EndsStopped (texts : Texts) (series : Series) (writer : DeviceUse)
+    (says : List ℕ → Type 0) (status : ℕ) : Type 0 where
+  pub instance : List ℕ
+  pub is_file : IsTextOf (texts series.input.now) instance
+  pub stop : Stop
+  pub is : IsStop series instance stop
+  pub unwritten : Keeps writer.before writer.after
+  pub ends : status ≡ status_of_stop stop
+  pub said : says (line_of_stop stop)
+
+abbrev pub EndsSeries : Texts → Series → DeviceUse → (List ℕ → Type 0) → ℕ → Type 0
+EndsSeries texts series writer says status =
+    EndsTold texts series writer says status ⊎ EndsStopped texts series writer says status
+    ⊎ IsUnread writer says status

@@ -1,0 +1,21 @@
+-- Texts in memory, by their names.
+use Rattle.std.specs.Prelude.{◌≡◌, ℕ, List, Some, if◌then◌else◌}
+use Rattle.std.specs.declared.alloc.Global.{Global}
+use Rattle.std.specs.Str.{bytes_eq}
+use Rattle.std.specs.Io.KnownBytes.{Keeps}
+use Rattle.tf_text.specs.Counted.{DeviceUse}
+use Rattle.tf_engine.specs.declared.fault.RunFault.{RunFault}
+use Rattle.tf_command.specs.FaultLine.{fault_line}
+use Rattle.tf_command.specs.Performing.{Texts}
+use Rattle.tf_command.specs.Statuses.{status_of}
+
+-- the instance by this name, and the other text by every other name
+abbrev pub held_texts : List ℕ → List ℕ → List ℕ → Texts
+held_texts named instance other name = Some (if bytes_eq name named then instance else other)
+
+-- a text is not read: this is why, the line says so, and nothing was written
+pub record IsUnread (writer : DeviceUse) (says : List ℕ → Type 0) (status : ℕ) : Type 0 where
+  pub fault : RunFault Global
+  pub unwritten : Keeps writer.before writer.after
+  pub ends : status ≡ status_of fault
+  pub said : says (fault_line fault)

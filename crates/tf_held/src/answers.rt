@@ -1,0 +1,29 @@
+//! A text of several answers, one after the other.
+ghost use Rattle.std.specs.Prelude.{◌≡◌, ◌++◌};
+
+use tf_words::line::line_len;
+use tf_words::word::{first_word, is};
+
+/// The first answer of a text, up to its line `end`, and what follows it.
+pub(crate) fn next_answer(text: &[u8]) -> (&[u8], &[u8])
+    ensures { text.now ≡ result.0.now ++ result.1.now }
+{
+    let mut len = 0;
+    while len < text.len() {
+        let line = line_len(&text[len..]);
+        let is_last = is_end(&text[len..len + line]);
+        len = (len + line + 1).min(text.len());
+        if is_last {
+            break;
+        }
+    }
+    text.split_at(len)
+}
+
+/// Whether a line is the word `end` alone.
+fn is_end(line: &[u8]) -> bool {
+    match first_word(line) {
+        Some((word, more)) => is(word, b"end") && first_word(more).is_none(),
+        None => false,
+    }
+}

@@ -1,0 +1,254 @@
+//! A line for each of several instances of a weighted tardiness file.
+ghost use Rattle.std.specs.Str.{bytes_eq};
+ghost use Rattle.std.specs.Prelude.{◌≡◌, ◌++◌, false, length, IfOk, IfErr, MatchResult};
+ghost use Rattle.tf_command.specs.Ending.{SaysLine};
+ghost use Rattle.tf_command.specs.Wrote.{Wrote};
+ghost use Rattle.tf_text.specs.Counted.{inner_of, use_of};
+ghost use Rattle.tf_held.specs.declared.series.Stop.TheVariants.{Memory};
+ghost use Rattle.tf_held.specs.Texts.{IsUnread};
+ghost use Rattle.tf_held.specs.Series.{AreLines, EndsSeries, IsStop, IsWorkFor, AreOptionsFor, Tells, has_told, instance_line, line_of_stop, no_instance, reads_too_much, status_of_stop};
+
+use crate::answers::next_answer;
+use crate::held::Held;
+use crate::reading::text_named;
+use std::alloc::Global;
+use std::io::Write;
+use tf_command::commands::{perform, write_out};
+use tf_command::console::Console;
+use tf_command::formatted::memory;
+use tf_command::gathered::send;
+use tf_command::report::say_memory;
+use tf_command::source::Sources;
+use tf_evaluate::evaluation::Detail;
+use tf_export::entry::push_entry;
+use tf_model::memory::OutOfMemory;
+use tf_options::options::{Evaluating, FormOption, Idle, Options, Telling, Work};
+use tf_options::series::{Series, Told};
+use tf_text::answer::layout::Layout;
+use tf_text::answer::writing::push_number_line;
+use tf_text::counted::Counted;
+use tf_words::word::is;
+
+/// The most bytes that are gone over for the instances of a file, which is gone over from its first
+/// byte on for each.
+pub const MOST_READ: u128 = 20_000_000_000;
+
+/// What a command wrote in memory.
+type Kept = Console<Vec<u8>, Vec<u8>>;
+
+/// Why there are no lines.
+#[derive(Drop)]
+pub enum Stop {
+    /// There was no memory.
+    Memory,
+    /// To go over the file for each instance would take too long.
+    TooLong,
+    /// The command ended for an instance without an answer, with this status, and this is said.
+    Ended(u8, Vec<u8>),
+}
+
+impl From<OutOfMemory> for Stop {
+    ghost from_gives = { λ _ stop. stop ≡ Memory };
+
+    fn from(_: OutOfMemory) -> Stop {
+        Stop::Memory
+    }
+}
+
+/// Tells a line of each instance of a series: its number, and what the command says of it that
+/// solves, bounds or evaluates that instance alone. The lines are written when all are known, and
+/// none is where that command ends for an instance without an answer.
+pub fn perform_series<S: Sources, W: Write, E: Write>(
+    console: &mut Console<W, E>,
+    sources: &S,
+    series: &Series<'_>,
+) -> u8
+    ensures { EndsSeries (S.text_of sources.now) series.now
+        (use_of W.contents console.old.writer console.new.writer)
+        (SaysLine E.contents false console.old.errors console.new.errors) result }
+{
+    let instance = match text_named(console, sources, series.input) {
+        Ok(text) => text,
+        Err(status) => return status,
+    };
+    let answers = match answers_named(console, sources, series) {
+        Ok(text) => text,
+        Err(status) => return status,
+    };
+    match lines_of(
+        console.alloc,
+        series,
+        instance.as_slice(),
+        answers.as_slice(),
+    ) {
+        Ok(text) => write_out(console, text.as_slice()),
+        Err(stop) => tell_stop(&stop, &mut console.errors),
+    }
+}
+
+/// The text of the answers, and an empty one where none are evaluated.
+fn answers_named<S: Sources, W: Write, E: Write>(
+    console: &mut Console<W, E>,
+    sources: &S,
+    series: &Series<'_>,
+) -> Result<Vec<u8>, u8>
+    ensures kept { IfOk result (λ _. console.new ≡ console.old) }
+    ensures unread { IfErr result (IsUnread (use_of W.contents console.old.writer console.new.writer)
+        (SaysLine E.contents false console.old.errors console.new.errors)) }
+{
+    match series.told {
+        Told::Answers(name, _) => text_named(console, sources, name),
+        _ => Ok(Vec::new(console.alloc)),
+    }
+}
+
+/// The lines of the instances of a file, in their order.
+fn lines_of(
+    alloc: Global,
+    series: &Series<'_>,
+    instance: &[u8],
+    answers: &[u8],
+) -> Result<Vec<u8>, Stop>
+    ensures { MatchResult result (λ all. AreLines series.now instance.now answers.now all.items)
+        (IsStop series.now instance.now) }
+{
+    let mut all = Vec::new(alloc);
+    let mut rest = answers;
+    let first = u64::from(series.span.first);
+    let last = u64::from(series.span.last.unwrap_or(u32::MAX));
+    for step in 0..(last + 1).saturating_sub(first) {
+        let number = (first + step) as u32;
+        if reads_too_much(number, instance.len()) {
+            return Err(Stop::TooLong);
+        }
+        let (answer, more) = next_answer(rest);
+        let held = Held {
+            name: series.input,
+            instance,
+            other: answer,
+        };
+        match told_of(alloc, series, held, number)? {
+            Some(kept) => push_entry(&mut all, number, kept.writer.inner().as_slice())?,
+            None => return Ok(all),
+        }
+        rest = more;
+    }
+    Ok(all)
+}
+
+/// Whether to go over so many bytes for each instance up to this one takes too long.
+fn reads_too_much(number: u32, bytes: usize) -> bool
+    ensures { result ≡ reads_too_much number bytes }
+{
+    u128::from(number) * bytes as u128 > MOST_READ
+}
+
+/// What the command writes that is about the instance of this number, and none where a series to the
+/// end of the file has come to that.
+fn told_of(
+    alloc: Global,
+    series: &Series<'_>,
+    held: Held<'_>,
+    number: u32,
+) -> Result<Option<Kept>, Stop>
+    requires { held.name.now ≡ series.now.input.now }
+    ensures { MatchResult result (Tells series.now held.entry.instance.now held.entry.other.now number)
+        (IsStop series.now held.entry.instance.now) }
+{
+    let work = work_for(series, number);
+    let mut kept = memory(alloc);
+    let status = perform(&mut kept, &held, &work);
+    if kept.writer.failed() || kept.errors.failed() {
+        return Err(Stop::Memory);
+    }
+    if has_told(status) {
+        return Ok(Some(kept));
+    }
+    let errors = kept.errors.inner().as_slice();
+    let is_later = series.span.last.is_none() && number > series.span.first;
+    if is_later && has_no_instance(errors) {
+        return Ok(None);
+    }
+    Err(Stop::Ended(status, said_of(alloc, errors, number)?))
+}
+
+/// What was said, and a line that names the instance.
+fn said_of(alloc: Global, errors: &[u8], number: u32) -> Result<Vec<u8>, OutOfMemory>
+    ensures { IfOk result (λ said. said.items ≡ errors.now ++ instance_line number) }
+{
+    let mut said = Vec::from_slice(alloc, errors)?;
+    push_number_line(&mut said, b"threefield: instance", number)?;
+    Ok(said)
+}
+
+/// Whether a command of this status told what is asked for.
+fn has_told(status: u8) -> bool
+    ensures { result ≡ has_told status }
+{
+    status == 0 || status == 1 || status == 6
+}
+
+/// Whether a command said that there is no such instance.
+fn has_no_instance(errors: &[u8]) -> bool
+    ensures { result ≡ bytes_eq errors.now no_instance }
+{
+    is(errors, b"threefield: refused: NoInstance\n")
+}
+
+/// The options that name the instance of this number alone. Faults are not explained.
+fn options_for<'a>(series: &Series<'a>, number: u32) -> Options<'a>
+    ensures { AreOptionsFor series.now number result }
+{
+    Options {
+        problem: series.problem,
+        form: FormOption::Wt {
+            jobs: series.jobs,
+            index: number,
+        },
+        machines: series.machines,
+        input: series.input,
+        telling: Telling {
+            explain: false,
+            idle: Idle {
+                jobs: false,
+                name: false,
+                pair: false,
+            },
+        },
+    }
+}
+
+/// The work of the command that is about the instance of this number alone.
+fn work_for<'a>(series: &Series<'a>, number: u32) -> Work<'a>
+    ensures { IsWorkFor series.now number result }
+{
+    let options = options_for(series, number);
+    match series.told {
+        Told::Values => Work::Solve(options, Layout::Two),
+        Told::Bounds(steps) => Work::Bound(options, steps),
+        Told::Answers(answer, steps) => Work::Evaluate(Evaluating {
+            options,
+            answer,
+            detail: Detail::Summary,
+            steps,
+        }),
+    }
+}
+
+/// Says why there are no lines, and gives the status.
+fn tell_stop<E: Write>(stop: &Stop, errors: &mut Counted<E>) -> u8
+    ensures status { result ≡ status_of_stop stop.now }
+    ensures said { Wrote E.contents errors.old errors.new (line_of_stop stop.now) }
+{
+    match stop {
+        Stop::Memory => say_memory(errors),
+        Stop::TooLong => {
+            send(errors, b"threefield: refused: TotalTooLarge\n");
+            2
+        }
+        Stop::Ended(status, said) => {
+            send(errors, said.as_slice());
+            *status
+        }
+    }
+}

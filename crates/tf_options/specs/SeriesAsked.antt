@@ -1,0 +1,106 @@
+-- What is asked for of several instances of a weighted tardiness file.
+use Rattle.std.specs.Prelude.{◌≡◌, ℕ, Bool, false, not, ◌&&◌, ◌||◌, ◌==◌, nat_lt, List, Option, None, Some, IsTrue, is_some, codes, if◌then◌else◌}
+use Rattle.std.specs.List.{before_first, after_first}
+use Rattle.std.specs.Option.{option_and_then}
+use Rattle.std.specs.Str.{bytes_eq}
+use Rattle.tf_model.specs.Limit.{most_jobs, most_machines}
+use Rattle.tf_options.specs.OptionNumber.{numeral_in}
+use Rattle.tf_options.specs.Matched.{Given, IsNumberBy, explains_by, first_fault, is_word, lacks, machines_fault, most_steps, number_by, steps_fault, unless_some}
+use Rattle.tf_options.specs.declared.options.Asked.{Asked}
+use Rattle.tf_options.specs.declared.options.Asked.TheVariants as asking
+use Rattle.tf_options.specs.declared.series.Series.{Series}
+use Rattle.tf_options.specs.declared.series.Span.{Span}
+use Rattle.tf_options.specs.declared.series.Told.{Told}
+use Rattle.tf_options.specs.declared.series.Told.TheVariants.{Values, Bounds, Answers}
+
+-- ---- the instances
+
+-- from the first to the last, if that does not come before it
+abbrev pub span_between : ℕ → ℕ → Option Span
+span_between first last =
+    if nat_lt last first then None else Some (record { first = first; last = Some last })
+
+-- the instances that `all`, or two numbers with a minus sign between them, name
+abbrev pub span_in : List ℕ → Option Span
+span_in word =
+    if bytes_eq word (codes "all") then Some (record { first = 1; last = None })
+    else (option_and_then
+    (λ first. option_and_then (span_between first)
+    (numeral_in 1 4294967295 (after_first (λ c. c == 45) word)))
+    (numeral_in 1 4294967295 (before_first (λ c. c == 45) word)))
+
+-- those that are named of a weighted tardiness file, if they are several
+abbrev pub span_of : Given → Option Span
+span_of given =
+    if is_word (given.value (codes "format")) (codes "wt")
+    then option_and_then span_in (given.value (codes "index")) else None
+
+-- the command of this name tells of several instances
+abbrev pub takes_span : List ℕ → Given → Bool
+takes_span name given =
+    bytes_eq name (codes "solve")
+    || (bytes_eq name (codes "bound")
+    || (bytes_eq name (codes "evaluate")
+    && (is_some (given.value (codes "ANSWER")) && not (is_some (given.value (codes "bound"))))))
+
+abbrev pub span_for : List ℕ → Given → Option Span
+span_for name given = if takes_span name given then span_of given else None
+
+-- ---- what is told of them
+
+abbrev pub IsToldBy : List ℕ → Given → Told → Type 0
+IsToldBy name given Values = name ≡ codes "solve"
+IsToldBy name given (Bounds steps) =
+    (name ≡ codes "bound") × IsNumberBy 1 most_steps (given.value (codes "steps")) steps
+IsToldBy name given (Answers answer steps) =
+    (name ≡ codes "evaluate") × (given.value (codes "ANSWER") ≡ Some answer.now)
+    × IsNumberBy 1 most_steps (given.value (codes "steps")) steps
+
+pub record IsSeriesBy (name : List ℕ) (given : Given) (on_terminal : Bool) (series : Series) : Type 0
+  where
+    pub problem : given.value (codes "problem") ≡ Some series.problem.now
+    pub input : given.value (codes "INPUT") ≡ Some series.input.now
+    pub machines : IsNumberBy 1 most_machines (given.value (codes "machines")) series.machines
+    pub jobs : number_by given (codes "jobs") 1 most_jobs ≡ Some series.jobs
+    pub span : span_for name given ≡ Some series.span
+    pub told : IsToldBy name given series.told
+    pub explain : series.explain ≡ explains_by (given.value (codes "explain")) on_terminal
+
+-- ---- the first fault
+
+abbrev pub jobs_fault : Given → Option (List ℕ)
+jobs_fault given =
+    unless_some (codes "--format wt needs --jobs, a number from 1 to 100000")
+    (number_by given (codes "jobs") 1 most_jobs)
+
+-- both the instances and the answers are standard input
+abbrev pub answers_fault : Given → Option (List ℕ)
+answers_fault given =
+    if is_word (given.value (codes "ANSWER")) (codes "-")
+    && is_word (given.value (codes "INPUT")) (codes "-")
+    then Some (codes "INPUT and ANSWER cannot both be standard input")
+    else None
+
+abbrev pub told_fault : List ℕ → Given → Option (List ℕ)
+told_fault name given =
+    if bytes_eq name (codes "solve") then None
+    else (if bytes_eq name (codes "bound") then steps_fault given
+    else first_fault (answers_fault given) (steps_fault given))
+
+abbrev pub series_fault : List ℕ → Given → Option (List ℕ)
+series_fault name given =
+    first_fault (machines_fault given) (first_fault (jobs_fault given) (told_fault name given))
+
+-- a value is not there that clap always gives
+abbrev pub lacks_names : Given → Bool
+lacks_names given = lacks given (codes "problem") || lacks given (codes "INPUT")
+
+-- the instances of which the command of this name tells a line each, the first fault of its values, or
+-- want of memory where clap gave too little
+abbrev pub IsSeriesAsked : List ℕ → Given → Bool → Asked → Type 0
+IsSeriesAsked name given on_terminal (asking.Series series) = IsSeriesBy name given on_terminal series
+IsSeriesAsked name given on_terminal (asking.Unfit message) =
+    series_fault name given ≡ Some message.now
+IsSeriesAsked name given on_terminal asking.NoMemory =
+    IsTrue (lacks_names given || lacks given (codes "ANSWER"))
+IsSeriesAsked name given on_terminal _ = ⊥

@@ -1,0 +1,204 @@
+//! What is asked for of several instances of a weighted tardiness file.
+ghost use Rattle.std.specs.Prelude.{◌≡◌, ◌||◌, None, Some, false, true, codes, IfErr, IfOk};
+ghost use Rattle.tf_model.specs.Limit.{most_jobs};
+ghost use Rattle.tf_options.specs.Columns.{HasColumns};
+ghost use Rattle.tf_options.specs.Matched.{IsToldInstead, given_of, lacks, number_by};
+ghost use Rattle.tf_options.specs.SeriesAsked.{IsSeriesAsked, IsSeriesBy, IsToldBy, answers_fault, jobs_fault, lacks_names, series_fault, span_between, span_for, span_in, span_of, takes_span, told_fault};
+
+use crate::options::{
+    Asked, is_explained, is_standard_input, machines_in, number_within, steps_in,
+};
+use clap::ArgMatches;
+use tf_model::limit::MOST_JOBS;
+
+/// Instances of a file, counted from 1: from the first to the last, or to the end of the file.
+#[derive(Clone, Copy, Debug, PartialEq, Eq)]
+pub struct Span {
+    pub first: u32,
+    pub last: Option<u32>,
+}
+
+/// What is told of each instance.
+#[derive(Clone, Copy, Debug)]
+pub enum Told<'a> {
+    /// The minimum cost.
+    Values,
+    /// A lower bound, after so many steps of the search for prices where they are given.
+    Bounds(Option<u32>),
+    /// The cost and the gap of its answer, which the text of this name holds, after so many steps.
+    Answers(&'a str, Option<u32>),
+}
+
+/// Instances of a weighted tardiness file, of each of which a line is told.
+#[derive(Drop)]
+pub struct Series<'a> {
+    pub problem: &'a str,
+    /// The name of the file.
+    pub input: &'a str,
+    pub machines: Option<u32>,
+    /// The number of jobs of each instance.
+    pub jobs: u32,
+    pub span: Span,
+    pub told: Told<'a>,
+    /// Whether what is wrong is said in plain words too.
+    pub explain: bool,
+}
+
+// The instances from the first to the last, if that does not come before it.
+fn span_between(first: u32, last: u32) -> Option<Span>
+    ensures { result ≡ span_between first last }
+{
+    if last < first {
+        return None;
+    }
+    Some(Span {
+        first,
+        last: Some(last),
+    })
+}
+
+// The instances that `all`, or two numbers with a minus sign between them, name.
+fn span_in(word: &str) -> Option<Span>
+    ensures { result ≡ span_in word.now }
+{
+    if word == "all" {
+        return Some(Span {
+            first: 1,
+            last: None,
+        });
+    }
+    let (first, last) = word.split_once('-')?;
+    let first = number_within(first, 1, u32::MAX)?;
+    let last = number_within(last, 1, u32::MAX)?;
+    span_between(first, last)
+}
+
+// The instances that are named of a weighted tardiness file, if they are several.
+fn span_of(given: &ArgMatches<'_>) -> Option<Span>
+    ensures { result ≡ span_of (given_of given.now) }
+{
+    match given.get_str("format") {
+        Some("wt") => span_in(given.get_str("index")?),
+        _ => None,
+    }
+}
+
+// Whether the command of this name tells of several instances.
+fn takes_span(name: &str, given: &ArgMatches<'_>) -> bool
+    ensures { result ≡ takes_span name.now (given_of given.now) }
+{
+    if name == "solve" || name == "bound" {
+        return true;
+    }
+    name == "evaluate" && given.get_str("ANSWER").is_some() && given.get_str("bound").is_none()
+}
+
+/// The instances of which the command of this name tells a line each, if it does.
+pub(crate) fn span_for(name: &str, given: &ArgMatches<'_>) -> Option<Span>
+    ensures { result ≡ span_for name.now (given_of given.now) }
+{
+    if takes_span(name, given) {
+        span_of(given)
+    } else {
+        None
+    }
+}
+
+// The number of jobs of each instance.
+fn jobs_in<'a>(given: &ArgMatches<'a>) -> Result<u32, Asked<'a>>
+    ensures columns { IfErr result HasColumns }
+    ensures given { IfOk result (λ jobs. number_by (given_of given.now) (codes "jobs") 1 most_jobs
+        ≡ Some jobs) }
+    ensures unhurt { IfOk result (λ _. jobs_fault (given_of given.now) ≡ None) }
+    ensures fault { IfErr result (IsToldInstead false (jobs_fault (given_of given.now))) }
+{
+    let jobs = given
+        .get_str("jobs")
+        .and_then(|word| number_within(word, 1, MOST_JOBS as u32));
+    match jobs {
+        Some(jobs) => Ok(jobs),
+        None => Err(Asked::Unfit("--format wt needs --jobs, a number from 1 to 100000")),
+    }
+}
+
+// The name of the answers, which cannot be standard input beside the instances.
+fn answers_in<'a>(given: &ArgMatches<'a>) -> Result<&'a str, Asked<'a>>
+    ensures columns { IfErr result HasColumns }
+    ensures given { IfOk result (λ name. (given_of given.now).value (codes "ANSWER") ≡ Some name.now) }
+    ensures unhurt { IfOk result (λ _. answers_fault (given_of given.now) ≡ None) }
+    ensures fault { IfErr result (IsToldInstead (lacks (given_of given.now) (codes "ANSWER"))
+        (answers_fault (given_of given.now))) }
+{
+    let Some(answer) = given.get_str("ANSWER") else {
+        return Err(Asked::NoMemory);
+    };
+    if answer == "-" && is_standard_input(given, "INPUT") {
+        return Err(Asked::Unfit("INPUT and ANSWER cannot both be standard input"));
+    }
+    Ok(answer)
+}
+
+// What the command of this name tells of each instance.
+fn told_in<'a>(name: &str, given: &ArgMatches<'a>) -> Result<Told<'a>, Asked<'a>>
+    requires { takes_span name.now (given_of given.now) ≡ true }
+    ensures columns { IfErr result HasColumns }
+    ensures given { IfOk result (IsToldBy name.now (given_of given.now)) }
+    ensures fault { IfErr result (IsToldInstead (lacks (given_of given.now) (codes "ANSWER"))
+        (told_fault name.now (given_of given.now))) }
+{
+    if name == "solve" {
+        return Ok(Told::Values);
+    }
+    if name == "bound" {
+        return Ok(Told::Bounds(steps_in(given)?));
+    }
+    let answers = answers_in(given)?;
+    Ok(Told::Answers(answers, steps_in(given)?))
+}
+
+/// What the command of this name asks for of several instances.
+pub fn series_asked<'a>(
+    name: &str,
+    given: &ArgMatches<'a>,
+    on_terminal: bool,
+    span: Span,
+) -> Asked<'a>
+    requires { span_for name.now (given_of given.now) ≡ Some span }
+    ensures columns { HasColumns result }
+    ensures asked { IsSeriesAsked name.now (given_of given.now) on_terminal result }
+{
+    match series_in(name, given, on_terminal, span) {
+        Ok(series) => Asked::Series(series),
+        Err(asked) => asked,
+    }
+}
+
+fn series_in<'a>(
+    name: &str,
+    given: &ArgMatches<'a>,
+    on_terminal: bool,
+    span: Span,
+) -> Result<Series<'a>, Asked<'a>>
+    requires { span_for name.now (given_of given.now) ≡ Some span }
+    ensures columns { IfErr result HasColumns }
+    ensures given { IfOk result (IsSeriesBy name.now (given_of given.now) on_terminal) }
+    ensures fault { IfErr result
+        (IsToldInstead (lacks_names (given_of given.now) || lacks (given_of given.now) (codes "ANSWER"))
+        (series_fault name.now (given_of given.now))) }
+{
+    let (Some(problem), Some(input)) = (given.get_str("problem"), given.get_str("INPUT")) else {
+        return Err(Asked::NoMemory);
+    };
+    let machines = machines_in(given)?;
+    let jobs = jobs_in(given)?;
+    let told = told_in(name, given)?;
+    Ok(Series {
+        problem,
+        input,
+        machines,
+        jobs,
+        span,
+        told,
+        explain: is_explained(given, on_terminal),
+    })
+}
