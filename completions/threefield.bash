@@ -20,11 +20,11 @@ _threefield() {
         return
     fi
     case $command in
-    solve) COMPREPLY=($(compgen -W "$instance --answer --json --csv" -- "$word")) ;;
+    solve) COMPREPLY=($(compgen -W "$instance --answer --values --json --csv" -- "$word")) ;;
     bound) COMPREPLY=($(compgen -W "$instance --steps --json" -- "$word")) ;;
     trace) COMPREPLY=($(compgen -W "$instance --tex" -- "$word")) ;;
     check) COMPREPLY=($(compgen -W "$instance --json" -- "$word")) ;;
-    evaluate) COMPREPLY=($(compgen -W "$instance --certificate --bound --steps --order --orders --schedule --json --csv" -- "$word")) ;;
+    evaluate) COMPREPLY=($(compgen -W "$instance --certificate --measures --bound --steps --order --orders --schedule --json --csv" -- "$word")) ;;
     gantt) COMPREPLY=($(compgen -W "--columns --svg --fold --from --to --width --height --size --input --format --jobs --index --name --pair --explain --help" -- "$word")) ;;
     random) COMPREPLY=($(compgen -W "--problem --jobs --machines --seed --help" -- "$word")) ;;
     problems) COMPREPLY=($(compgen -W "--bounds --json --help" -- "$word")) ;;

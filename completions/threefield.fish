@@ -30,6 +30,8 @@ complete -c threefield -n "__fish_seen_subcommand_from solve evaluate" -l csv -d
 complete -c threefield -n "__fish_seen_subcommand_from bound evaluate" -l steps -x -d "Steps of the search for prices"
 complete -c threefield -n "__fish_seen_subcommand_from trace" -l tex -d "Write it for LaTeX"
 complete -c threefield -n "__fish_seen_subcommand_from evaluate" -l certificate -d "Add the arithmetic of the certificate"
+complete -c threefield -n "__fish_seen_subcommand_from evaluate" -l measures -d "Add the value of every objective"
+complete -c threefield -n "__fish_seen_subcommand_from solve" -l values -d "With several instances: the minimum costs alone"
 complete -c threefield -n "__fish_seen_subcommand_from evaluate" -l bound -r -d "File of a lower bound"
 complete -c threefield -n "__fish_seen_subcommand_from evaluate" -l order -x -d "An order of the jobs"
 complete -c threefield -n "__fish_seen_subcommand_from evaluate" -l orders -r -d "File with an order in each line"
