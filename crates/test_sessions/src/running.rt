@@ -9,7 +9,8 @@ use tf_command::report::{say_memory, say_usage};
 use tf_grammar::grammar::command;
 use tf_held::measured::perform_measured;
 use tf_held::series::perform_series;
-use tf_options::options::{Asked, understand};
+use tf_held::shops::perform_evaluation;
+use tf_options::options::{Asked, Work, understand};
 use tf_text::counted::Counted;
 
 /// What a command line gives: its status, and the bytes on standard output and standard error.
@@ -31,6 +32,9 @@ pub fn run(alloc: Global, line: &str, texts: Texts<'_>) -> Result<Ended, AllocEr
         errors: Counted::new(&mut said),
     };
     let status = match understand(command(alloc)?, words.as_slice(), false) {
+        Asked::Work(Work::Evaluate(evaluating)) => {
+            perform_evaluation(&mut console, &texts, evaluating)
+        }
         Asked::Work(work) => perform(&mut console, &texts, &work),
         Asked::Formatted(work, format) => { perform_formatted(&mut console, &texts, &work, format) }
         Asked::Series(series) => perform_series(&mut console, &texts, &series),

@@ -3,3 +3,4 @@ pub mod Texts
 pub mod Series
 pub mod Measures
 pub mod Measured
+pub mod Shops

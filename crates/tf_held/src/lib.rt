@@ -1,5 +1,6 @@
 //! Commands over texts that are read once and held in memory: a line for each of several instances,
-//! and an evaluation with the value of each objective.
+//! an evaluation with the value of each objective, and one for a shop of as many machines as its file
+//! has.
 #![tactic(auto)]
 
 mod answers;
@@ -8,3 +9,4 @@ pub mod measured;
 mod measures;
 mod reading;
 pub mod series;
+pub mod shops;
