@@ -12,7 +12,8 @@ alone, so it can be run again. What is looked for:
 - a byte on standard output with status 2, 3 or 5;
 - a control byte other than a line feed, or a byte that is not ASCII, on standard error;
 - another status or another standard output with --explain than without it;
-- another status with --json than without it, or something else than one JSON object on standard output;
+- another status with --json than without it, or something else than one JSON object on standard output, where the command line
+  takes --json and asks for the same with it;
 - a picture that is no well-formed XML.
 """
 import collections
@@ -44,7 +45,7 @@ OTHERWISE = {0, 5}  # help, the version, and what is no command
 EXPLAINS = ("solve", "bound", "trace", "check", "evaluate", "gantt")
 FORMATTED = ("solve", "bound", "check", "evaluate", "problems")
 # With these the command line has a format of its own, or none.
-FORMATS = (b"--json", b"--csv", b"--orders", b"--answer", b"--help", b"-h")
+FORMATS = (b"--json", b"--csv", b"--orders", b"--measures", b"--answer", b"--help", b"-h")
 
 NUMBERS = [b"0", b"1", b"-1", b"2", b"007", b"1000", b"1001", b"100000", b"100001", b"200001", b"2147483648", b"4294967295",
            b"4294967296", b"4000000000000000000", b"4000000000000000001", b"-4000000000000000000", b"9223372036854775807",
@@ -185,8 +186,21 @@ def faults(words, plain, told, formatted):
 
 
 def has_format(words):
-    """Whether a command line says how its output is written, or that no command is run."""
-    return any(word.startswith(option) for word in words for option in FORMATS)
+    """Whether a command line says how its output is written, or that no command is run, or more than one."""
+    own = any(word.startswith(option) for word in words for option in FORMATS)
+    return own or is_series(words) or is_counted(words)
+
+
+def is_series(words):
+    """Whether a command line names several instances of a file."""
+    values = [word for option, word in zip(words, words[1:]) if option == b"--index"]
+    values += [word.partition(b"=")[2] for word in words if word.startswith(b"--index=")]
+    return any(value == b"all" or b"-" in value[1:] for value in values)
+
+
+def is_counted(words):
+    """Whether an evaluation may be one for a shop of as many machines as its file has, which --json leaves as it is."""
+    return words[0] == b"evaluate" and any(word in (b"F||Cmax", b"O||Cmax") for word in words)
 
 
 def runs_of(part):
