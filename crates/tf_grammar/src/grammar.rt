@@ -40,7 +40,7 @@ const ABOUT_EVALUATE: &str = "\
 Example: threefield evaluate -p \"P2|prmp|Cmax\" examples/table.txt answer.txt
          threefield evaluate -p \"1||sumC\" --certificate table.txt answer.txt
          threefield evaluate -p \"1||sumC\" --order \"2 1 3\" table.txt
-         threefield evaluate -p \"P2||Cmax\" --bound bound.txt table.txt answer.txt
+         threefield evaluate -p \"P2||Cmax\" --bound b.txt table.txt answer.txt
          threefield evaluate -p \"1||sumwT\" --steps 1000 table.txt answer.txt
 
 Exit status: 0 best, 1 does not fit, 2 refused, 3 want of memory,
@@ -65,9 +65,9 @@ const ABOUT_PROBLEMS: &str = "\
 Example: threefield problems examples/all_fields.txt
          threefield problems --bounds
 
---bounds lists one problem for each machine environment and objective. Conditions
-may be added: rj, prec, prmu and nwt; prmp too, except for sums on machines in
-parallel and for numbers of late jobs.
+--bounds lists one problem for each machine environment and objective.
+Conditions may be added: rj, prec, prmu and nwt; prmp too, except for sums on
+machines in parallel and for numbers of late jobs.
 
 Exit status: 0 listed, 2 the table is refused, 3 want of memory,
              4 a file or a device failed, 5 the command line is wrong.";
@@ -164,7 +164,7 @@ fn evaluate_command<'a>(alloc: Global) -> Result<Command<'a>, AllocError> {
 fn measures<'a>(alloc: Global) -> Result<Arg<'a>, AllocError> {
     Arg::new(alloc, "measures")
         .long("measures")
-        .help("Writes the value of every objective, with the fields there are")
+        .help("Writes the value of every objective too")
         .action(ArgAction::SetTrue)
         .conflicts_with("order")?
         .conflicts_with("orders")?
@@ -206,7 +206,7 @@ fn bound<'a>(alloc: Global) -> Result<Arg<'a>, AllocError> {
     Arg::new(alloc, "bound")
         .long("bound")
         .value_name("FILE")
-        .help("Judges the lower bound of FILE too, and uses it if it is the stronger")
+        .help("Uses the lower bound of FILE where it is stronger")
         .conflicts_with("order")?
         .conflicts_with("orders")?
         .conflicts_with("schedule")?
@@ -326,7 +326,7 @@ fn with_view_options<'a>(alloc: Global, command: Command<'a>) -> Result<Command<
         alloc,
         "fold",
         "N",
-        "Strips of N time steps, one below the other, with --svg",
+        "Strips of N time steps, below each other, with --svg",
     )?;
     let from = of_picture(alloc, "from", "T", "The first time shown, with --svg")?;
     let to = of_picture(alloc, "to", "T", "The last time shown, with --svg")?;
@@ -378,7 +378,7 @@ fn random_command<'a>(alloc: Global) -> Result<Command<'a>, AllocError> {
     let seed = Arg::new(alloc, "seed")
         .long("seed")
         .value_name("S")
-        .help("Another number gives another table, 0 to 4294967295")
+        .help("Which of 4294967296 tables, from 0")
         .allow_negative_numbers(true)
         .default_value("1");
     Command::new(alloc, "random")

@@ -18,8 +18,8 @@ Times are whole numbers of time steps, of whatever length.
 
 A problem is written machines|conditions|objective, in quotes: \"1||sumwC\" is one
 machine and the total weighted completion time, \"P2|prmp|Cmax\" two machines in
-parallel with preemption and the makespan. \"threefield problems\" lists those that
-are solved, and what each needs.
+parallel with preemption and the makespan. \"threefield problems\" lists those
+that are solved, and what each needs.
 
 First steps: threefield solve -p \"1||Lmax\" TABLE > answer.txt
              threefield gantt answer.txt
@@ -36,32 +36,38 @@ Exit status: 0 done, 1 rejected, 2 refused, 3 want of memory,
 /// Of `solve`.
 pub(crate) const OF_SOLVE: &str = "\
 Prints an answer: its problem, its value, the pieces of an optimal schedule as
-\"piece JOB MACHINE START STOP\", and a certificate, from which \"check\" sees that no
-schedule costs less. It is proved that the schedule fits and is optimal.
+\"piece JOB MACHINE START STOP\", and a certificate, from which \"check\" sees that
+no schedule costs less. It is proved that the schedule fits and is optimal.
+
+--index A-B and --index all print a line for each of several instances of a
+weighted tardiness file, or its minimum cost alone with --values.
 
 Example: threefield solve -p \"P2|prmp|Cmax\" examples/table.txt
          threefield solve -p \"1||sumwC\" -f wt --jobs 40 --index 3 wt40.txt
          threefield solve -p \"F2||Cmax\" -f flow --name demo --pair 0,2 shop.txt
          threefield solve -p \"1||Lmax\" --csv table.txt > plan.csv
-         threefield solve -p \"1||sumwC\" --values -f wt --jobs 40 --index all wt40.txt
+         threefield solve -p \"1||sumwC\" -f wt --jobs 40 --index all wt40.txt
 
 Formats: table  a job table (threefield --help)
          wt     the weighted tardiness files of OR-Library
          flow   the flow shop files of OR-Library
 
-A problem without a solver is refused: \"bound\" may print a lower bound for it, and
-\"evaluate\" judges schedules by that.
+A problem without a solver is refused: \"bound\" may print a lower bound for it,
+and \"evaluate\" judges schedules by that.
 
 Exit status: 0 answered, 2 refused, 3 want of memory,
              4 a file or a device failed, 5 the command line is wrong.";
 
 /// Of `bound`.
 pub(crate) const OF_BOUND: &str = "\
-Prints the strongest lower bound that is found for the cost of any schedule, and a
-certificate of it. It is proved that no schedule that fits costs less. It takes
-problems without a solver: one machine, machines in parallel, flow and open shops,
-with the conditions rj, prec, prmp, prmu and nwt and any of the objectives Cmax,
-Lmax, sumC, sumwC, sumT, sumwT, sumU and sumwU.
+Prints the strongest lower bound that is found for the cost of any schedule, and
+a certificate of it. It is proved that no schedule that fits costs less. It
+takes problems without a solver: one machine, machines in parallel, flow and
+open shops, with the conditions rj, prec, prmp, prmu and nwt and any of the
+objectives Cmax, Lmax, sumC, sumwC, sumT, sumwT, sumU and sumwU.
+
+--index A-B and --index all print a line with the bound of each of several
+instances of a weighted tardiness file.
 
 Example: threefield bound -p \"P2||Cmax\" examples/table.txt
          threefield bound -p \"1||sumwT\" --steps 1000 -f wt --jobs 40 wt40.txt
@@ -73,9 +79,9 @@ Exit status: 0 bounded, 2 refused, 3 want of memory,
 
 /// Of `trace`.
 pub(crate) const OF_TRACE: &str = "\
-Shows the steps of the method by which the problem is solved, as on a blackboard:
-tables of jobs, the order in which they are taken, the schedule, and the argument
-of the certificate. --tex writes the same for LaTeX.
+Shows the steps of the method by which the problem is solved, as on a
+blackboard: tables of jobs, the order in which they are taken, the schedule, and
+the argument of the certificate. --tex writes the same for LaTeX.
 
 Example: threefield trace -p \"F2||Cmax\" -f flow --name demo --pair 0,2 shop.txt
          threefield trace -p \"1||sumwC\" --tex table.txt > smith.tex
@@ -85,8 +91,9 @@ Exit status: 0 traced, 2 refused, 3 want of memory,
 
 /// Of `check`.
 pub(crate) const OF_CHECK: &str = "\
-Judges anybody's answer by its certificate, without solving the problem. \"accepted\"
-is proved to mean: the schedule fits, costs what the answer says, and is optimal.
+Judges anybody's answer by its certificate, without solving the problem.
+\"accepted\" is proved to mean: the schedule fits, costs what the answer says, and
+is optimal.
 
 Example: threefield check -p \"P2|prmp|Cmax\" examples/table.txt answer.txt
          threefield check -p \"1||sumC\" table.txt - < answer.txt
@@ -99,14 +106,18 @@ pub(crate) const OF_EVALUATE: &str = "\
 Prints how good a schedule is: whether it fits, its value, the minimum cost or a
 lower bound, the gap, and when each job starts and is completed.
 
-The schedule is an answer, whose certificate need not show anything; with --schedule
-the lines \"piece JOB MACHINE START STOP\" of a file, which need no other lines; with
---order that of jobs one after another as early as possible; with --orders that of
-each line of a file, for which one line is printed, with its cost and its gap.
+The schedule is an answer, whose certificate need not show anything; with
+--schedule the lines \"piece JOB MACHINE START STOP\" of a file, which need no
+other lines; with --order that of jobs one after another as early as possible;
+with --orders that of each line of a file, for which one line is printed, with
+its cost and its gap.
 
---bound takes a lower bound as \"bound\" prints it, or one of your own. It is judged,
-and used where it is stronger than the one that is found. --steps lets the search
-for that one take more time, or less.
+--bound takes a lower bound as \"bound\" prints it, or one of your own. It is
+judged, and used where it is stronger than the one that is found. --steps lets
+the search for that one take more time, or less.
+
+--index A-B and --index all evaluate the answers of ANSWER, one after another,
+by as many instances of a weighted tardiness file, and print a line for each.
 
 Example: threefield evaluate -p \"P2|prmp|Cmax\" examples/table.txt answer.txt
          threefield evaluate -p \"1||sumC\" --certificate table.txt answer.txt
@@ -114,9 +125,9 @@ Example: threefield evaluate -p \"P2|prmp|Cmax\" examples/table.txt answer.txt
          threefield evaluate -p \"P2||sumC\" --order \"2 1 / 3\" table.txt
          threefield evaluate -p \"1||sumwT\" --orders orders.txt table.txt
          threefield evaluate -p \"1|rj|Lmax\" --schedule pieces.txt table.txt
-         threefield evaluate -p \"P2||Cmax\" --bound bound.txt table.txt answer.txt
+         threefield evaluate -p \"P2||Cmax\" --bound b.txt table.txt answer.txt
          threefield evaluate -p \"1||Lmax\" --measures table.txt answer.txt
-         threefield evaluate -p \"1||sumwT\" -f wt --jobs 40 --index all wt40.txt answers.txt
+         threefield evaluate -p \"1||sumwT\" -f wt --jobs 40 --index all wt.txt -
          threefield evaluate -p \"1||sumwT\" --steps 1000 table.txt answer.txt
 
 Exit status: 0 best, 1 does not fit, 2 refused, 3 want of memory,
