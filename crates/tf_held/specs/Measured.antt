@@ -1,6 +1,6 @@
 -- How an evaluation ends that tells what its schedule comes to by every objective.
-use Rattle.std.specs.Prelude.{◌≡◌, ◌⊎◌, ℕ, List, [], codes}
-use Rattle.tf_text.specs.Counted.{DeviceUse, inner_of, use_of}
+use Rattle.std.specs.Prelude.{◌≡◌, ◌⊎◌, ℕ, false, List, [], codes}
+use Rattle.tf_text.specs.Counted.{DeviceUse, inner_of, has_failed, use_of}
 use Rattle.tf_text.specs.Input.{IsTextOf}
 use Rattle.tf_text.specs.declared.answer.layout.Layout.TheVariants.{Two}
 use Rattle.tf_options.specs.Asking.{requested}
@@ -23,6 +23,8 @@ pub record MeasuresOver (instance answer : List ℕ) (evaluating : Evaluating)
   pub done : Performs (held_texts evaluating.options.input.now instance answer) (Evaluate evaluating)
       (use_of held before.writer after.writer)
       (λ explain. SaysLine held explain before.errors after.errors) status
+  pub whole : has_failed after.writer ≡ false
+  pub told : has_failed after.errors ≡ false
   pub measured : IsMeasured (requested evaluating.options Two) instance answer
       (inner_of after.writer).items output
   pub errors_is : errors ≡ (inner_of after.errors).items

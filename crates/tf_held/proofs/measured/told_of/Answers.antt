@@ -1,4 +1,4 @@
-use Rattle.std.proofs.Common.{List, ℕ, ap, ◌∙◌, subst}
+use Rattle.std.proofs.Common.{List, ℕ, sym, ap, ◌∙◌, subst}
 use Rattle.tf_text.specs.Counted.{use_of}
 use Rattle.tf_options.specs.declared.options.Work.TheVariants.{Evaluate}
 use Rattle.tf_command.specs.Ending.{SaysLine}
@@ -22,6 +22,8 @@ returns c = record {
       (λ explain. SaysLine held explain c.memory-kept.result.errors
       c.perform-status.new.console.errors) c.perform-status.result) c.requires
       c.perform-status.ensures;
+  whole = sym c.failed.ensures ∙ c.if-failed.false;
+  told = sym c.failed-else-failed.ensures ∙ c.if-failed-2.false;
   measured = subst (λ text. IsMeasured (requested c.args.evaluating.options Two)
       c.args.held.instance.now c.args.held.other.now text c.in_ok-with_measures.field-0.items)
       (c.as_slice.ensures.value ∙ ap (λ v. v.items) c.inner.ensures)
