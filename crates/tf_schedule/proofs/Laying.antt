@@ -1,11 +1,11 @@
 -- What the pieces of operations are that come one after another, whatever their order.
-use Rattle.std.proofs.Common.{◌≡◌, ◌≢◌, ℕ, zero, suc, ◌+◌, ◌-◌, ◌<◌, ◌≤◌, pos, ◌≤ℤ◌, ◌<ℤ◌, max, Bool, true, false, cond, ◌&&◌, eqb, List, [], ◌∷◌, ◌++◌, length, get_or, set, take, refl, sym, ap, subst, ◌∙◌, arith, inl, inr}
+use Rattle.std.proofs.Common.{◌≡◌, ◌≢◌, ℕ, zero, suc, ◌+◌, ◌-◌, ◌<◌, ◌≤◌, pos, ◌≤ℤ◌, ◌<ℤ◌, max, Bool, true, false, cond, ◌&&◌, eqb, List, [], ◌∷◌, ◌++◌, length, get_or, set, refl, sym, ap, subst, ◌∙◌, arith, inl, inr}
 use Rattle.std.specs.List.{All, AllPairs, sum_by, fold}
-use Rattle.std.proofs.lemmas.List.{append-nil, get_or_default, get_or-set_other, length-set, take_more}
+use Rattle.std.proofs.lemmas.List.{append-nil, get_or_default, get_or-set_other, length-set}
 use Rattle.std.proofs.lemmas.Grind.{get_or-set_at}
 use Rattle.std.proofs.lemmas.List.Elements.{All-push, All-tail, All-head}
 use Rattle.std.proofs.lemmas.List.Quantifiers.{all_pairs_push}
-use Rattle.std.proofs.lemmas.List.Sums.{fold-append, sum_by-cons, sum_by_push, sum_by_more, sum_by-take-le}
+use Rattle.std.proofs.lemmas.List.Sums.{sum_by-cons, sum_by_push}
 use Rattle.std.proofs.lemmas.Int.{ints}
 use Rattle.std.proofs.lemmas.Bool.{cases_eq}
 use Rattle.std.proofs.lemmas.Bool.Decides.{nat_tests}
@@ -312,24 +312,3 @@ stops_more line ps stops p n k s has on same low high le stop h inside = elim (c
       ∙ sym (other_line_step (eqb (line p) (h + 1)) (line_stop line ps (h + 1)) (stop_of p) _
       (grind (arith, nat_tests)) (line_stop_push line ps p (h + 1)))
 ]
-
--- with the next operation
-pub fold_more : (os : List Operation) (ps : List Piece) (i : ℕ) (o : Operation) → i < length os
-    → o ≡ get_or os i o
-    → fold with_operation ps (take (i + 1) os)
-    ≡ with_operation (fold with_operation ps (take i os)) o
-fold_more os ps i o h is =
-    ap (fold with_operation ps) (take_more os i o h ∙ ap (λ z. take i os ++ z ∷ []) (sym is))
-    ∙ fold-append with_operation ps (take i os) (o ∷ [])
-
--- where it stops
-pub fold_within : (os : List Operation) (ps : List Piece) (i : ℕ) (d : Operation) → i < length os
-    → greatest_stop (fold with_operation ps (take i os)) + (get_or os i d).time
-    ≤ greatest_stop ps + sum_by (λ o. o.time) os
-fold_within os ps i d h =
-    omega (
-      arith,
-      stop_fold (take i os) ps,
-      sum_by_more (λ o. o.time) os i d h,
-      sum_by-take-le (λ (o : Operation). o.time) os (i + 1),
-    )

@@ -1,5 +1,5 @@
 -- The first of which a condition does not hold, told by another condition.
-use Rattle.std.proofs.Common.{◌≡◌, ℕ, zero, suc, ◌≤◌, List, [], ◌∷◌, get_or, take, slice_get, Some, Result, Ok, Err, MatchResult, subst, arith}
+use Rattle.std.proofs.Common.{◌≡◌, ℕ, zero, suc, ◌≤◌, List, [], ◌∷◌, get_or, take, slice_get, Some, subst, arith}
 use Rattle.std.specs.List.{All}
 use Rattle.std.proofs.lemmas.List.Elements.{All-take, All-tail}
 use Rattle.tf_schedule.specs.Misfit.{IsSmallestNot, IsFirstNot}
@@ -33,8 +33,3 @@ module _ {X : Type 0} (R P Q : X → Type 0) (xs : List X) (all : All R xs)
     here = first.here;
     fails = λ holds. first.fails (from x (element R xs first.place x all first.here) holds);
   }
-
-pub match_weaker : {X E : Type 0} (P P' : X → Type 0) (Q Q' : E → Type 0) (r : Result X E)
-    → ((x : X) → P x → P' x) → ((e : E) → Q e → Q' e) → MatchResult r P Q → MatchResult r P' Q'
-match_weaker P P' Q Q' (Ok x) f g h = f x h
-match_weaker P P' Q Q' (Err e) f g h = g e h

@@ -37,12 +37,6 @@ with_operation ps o = ps ++ stretch o.job o.machine (start_after ps o) o.time
 abbrev pub laid : List Operation → List Piece
 laid operations = fold with_operation [] operations
 
--- pieces as they are laid, of jobs and machines up to these numbers
-pub record SemiActiveData : Type 0 where
-  pub pieces : List Piece
-  pub jobs : ℕ
-  pub machines : ℕ
-
 -- the operation is of one of the jobs 1 to n, on one of the machines 1 to m
 pub record IsOperation (n m : ℕ) (o : Operation) : Type 0 where
   pub job : (0 < o.job) × (o.job ≤ n)

@@ -7,7 +7,6 @@ pub mod fit;
 pub mod judge;
 pub mod lanes;
 mod line;
-pub mod machine_order;
 pub mod piece;
 pub mod piece_list;
 pub mod schedule;
