@@ -15,6 +15,7 @@ pub mod load;
 pub mod machine_load;
 pub mod one_job;
 pub mod pairs;
+pub mod ranking;
 pub mod ranks;
 pub mod ratio;
 pub mod set_numbers;

@@ -7,13 +7,14 @@ ghost use Rattle.tf_model.specs.Limit.{limit};
 ghost use Rattle.tf_model.specs.SchedulingTask.{all_jobs, job_data, time_of};
 ghost use Rattle.tf_model.specs.Sound.{IsSound};
 ghost use Rattle.tf_model.specs.declared.class.Class.TheVariants.{ReleaseLmax};
-ghost use Rattle.tf_check.specs.RatioRank.{IsOfJob, job_in};
+ghost use Rattle.tf_check.specs.RatioRank.{job_in};
 ghost use Rattle.tf_single.specs.Progress.{IsTimeline};
 ghost use Rattle.tf_single.specs.Agenda.{AreByRelease, IsReleaseRank, IsUnderway, IsLonger};
 
 use std::alloc::Allocator;
 use std::cmp::Reverse;
 use std::collections::BinaryHeap;
+use tf_check::ranking::{push_jobs, rank_at};
 use tf_model::ids::{JobId, MachineId};
 use tf_model::memory::OutOfMemory;
 use tf_model::task::Task;
@@ -50,9 +51,6 @@ pub(crate) fn timeline<A: Allocator + Copy, B: Allocator>(
     Ok(machine.pieces)
 }
 
-// How many numbers a job may have.
-const NUMBERS: u128 = 1 << 32;
-
 // The jobs in order of their release dates, and by number among equals.
 fn jobs_by_release<A: Allocator + Copy, B: Allocator>(
     alloc: A,
@@ -81,20 +79,9 @@ fn ranks_of<A: Allocator, B: Allocator>(
     let mut ranks = Vec::with_capacity(alloc, task.len())?;
     for k in 0..task.len() {
         let job = JobId::at(k);
-        ranks.push(u128::from(task.release(job)) * NUMBERS + u128::from(job.get()))?;
+        ranks.push(rank_at(task.release(job), job))?;
     }
     Ok(ranks)
-}
-
-// Adds the jobs of ranks.
-fn push_jobs<A: Allocator>(jobs: &mut Vec<JobId, A>, ranks: &[u128]) -> Result<(), OutOfMemory>
-    requires { All IsOfJob ranks.now }
-    ensures { IfOk result (λ _. jobs.new.items ≡ jobs.old.items ++ map job_in ranks.now) }
-{
-    for rank in ranks {
-        jobs.push(JobId::at((*rank % NUMBERS) as usize - 1))?;
-    }
-    Ok(())
 }
 
 // The time of each job.

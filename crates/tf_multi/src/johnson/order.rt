@@ -3,18 +3,16 @@ ghost use Rattle.std.specs.Prelude.{◌≡◌, ◌<◌, ◌≤◌, ◌++◌, map
 ghost use Rattle.std.specs.List.{All};
 ghost use Rattle.tf_model.specs.Limit.{limit};
 ghost use Rattle.tf_model.specs.SchedulingTask.{IsJob, all_jobs, time_of};
-ghost use Rattle.tf_check.specs.RatioRank.{IsOfJob, job_in};
+ghost use Rattle.tf_check.specs.RatioRank.{job_in};
 ghost use Rattle.tf_multi.specs.FlowShop.{IsRanked};
 ghost use Rattle.tf_multi.specs.Johnson.{IsJohnsonOrder};
 
 use std::alloc::Allocator;
+use tf_check::ranking::{push_jobs, rank_at};
 use tf_model::ids::JobId;
 use tf_model::limit::LIMIT;
 use tf_model::memory::OutOfMemory;
 use tf_model::task::Task;
-
-// How many numbers a job may have.
-const NUMBERS: u128 = 1 << 32;
 
 // No place in the order is above it.
 const LAST_PLACE: u64 = 2 * LIMIT as u64;
@@ -63,16 +61,5 @@ fn rank_in<B: Allocator>(task: &Task<B>, job: JobId) -> u128
     } else {
         LAST_PLACE - row.second
     };
-    u128::from(place) * NUMBERS + u128::from(job.get())
-}
-
-// Adds the jobs of ranks.
-fn push_jobs<A: Allocator>(jobs: &mut Vec<JobId, A>, ranks: &[u128]) -> Result<(), OutOfMemory>
-    requires { All IsOfJob ranks.now }
-    ensures { IfOk result (λ _. jobs.new.items ≡ jobs.old.items ++ map job_in ranks.now) }
-{
-    for rank in ranks {
-        jobs.push(JobId::at((*rank % NUMBERS) as usize - 1))?;
-    }
-    Ok(())
+    rank_at(place, job)
 }

@@ -8,10 +8,9 @@ pub loop-k-preserved : goal.loop-k-preserved
 loop-k-preserved g c =
     let task = c.args.task.now in
     let before = c.loop-k.ranks.items in
-    let r : ℕ = c.from.result * 4294967296 + c.from-in-loop-k.result in
+    let r = c.rank_at.result in
     let rank = release_rank task c.release.result c.at-job.result r (omega (arith, c.at-job.ensures))
-    (omega (arith, c.get.ensures.value)) c.release.ensures
-    (omega (arith, c.from.ensures, c.from-in-loop-k.ensures, c.get.ensures.value)) in
+    (omega (arith, c.at-job.ensures, c.len-k-end.ensures)) c.release.ensures c.rank_at.ensures in
     rw c.in_ok-push.ensures.items (record {
       jobs = jobs_more before c.loop-k.k c.at-job.result r c.loop-k.invariant.jobs rank.0
           c.at-job.ensures;

@@ -1,6 +1,6 @@
 use Rattle.std.proofs.Common.{◌≡◌, ◌++◌, map, take}
 use Rattle.tf_check.specs.RatioRank.{job_in}
-use Rattle.tf_multi.proofs.johnson.order.push_jobs.Given as goal
+use Rattle.tf_check.proofs.ranking.push_jobs.Given as goal
 
 abbrev pub invariant-loop-rank : goal.invariant-loop-rank
 invariant-loop-rank g l =
