@@ -1,6 +1,7 @@
 //! Small tasks whose optima are known.
 use std::alloc::Global;
 use std::test::Fail;
+use tf_bound::job_times::JobTimes;
 use tf_bound::task::{ProblemJob, ProblemTask};
 use tf_model::problem::{Env, Goal, Problem};
 
@@ -83,7 +84,7 @@ pub fn task_of(alloc: Global, sample: Sample) -> Result<ProblemTask, Fail> {
     let mut jobs = Vec::new(alloc);
     for (times, weight, release, due) in rows_of(sample) {
         jobs.push(ProblemJob {
-            times: numbers(alloc, times)?,
+            times: JobTimes::Each(numbers(alloc, times)?),
             weight: *weight,
             release: *release,
             due: *due,

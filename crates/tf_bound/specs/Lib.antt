@@ -1,3 +1,4 @@
+pub mod JobTimes
 pub mod Sized
 pub mod RowSums
 pub mod Prices

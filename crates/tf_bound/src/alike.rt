@@ -1,14 +1,17 @@
 //! The bounds of jobs that have one time each: windows, crowds, and one job anywhere.
-ghost use Rattle.std.specs.Prelude.{◌≡◌, ℕ, ◌+◌, ◌*◌, ◌<◌, ◌≤◌, ◌||◌, pos, ◌-ℤ◌, length, sum_by, IfOk, IsTrue, IsFalse};
+ghost use Rattle.std.specs.Prelude.{◌≡◌, ℕ, ◌+◌, ◌*◌, ◌<◌, ◌≤◌, ◌||◌, pos, ◌-ℤ◌, length, sum_by};
+ghost use Rattle.std.specs.Prelude.{IfOk, IsTrue, IsFalse};
 ghost use Rattle.std.specs.List.{All};
 ghost use Rattle.tf_model.specs.ClassTable.{is_shop_env};
 ghost use Rattle.tf_model.specs.Cost.{greatest};
 ghost use Rattle.tf_model.specs.Limit.{limit};
 ghost use Rattle.tf_model.specs.Whole.{IsWithin};
 ghost use Rattle.tf_check.specs.Bound.{least_number};
-ghost use Rattle.tf_problem.specs.ProblemData.{IsProblemJob, problem_due, problem_release, problem_time};
+ghost use Rattle.tf_problem.specs.ProblemData.{IsProblemJob, problem_due, problem_release};
+ghost use Rattle.tf_problem.specs.ProblemData.{problem_time};
 ghost use Rattle.tf_problem.specs.ProblemCost.{IsLowerBound};
-ghost use Rattle.tf_problem.specs.ProblemBounds.{is_alike, is_max_goal, crowd_value, one_job_value, problem_work, window_value};
+ghost use Rattle.tf_problem.specs.ProblemBounds.{is_alike, is_max_goal, crowd_value, one_job_value};
+ghost use Rattle.tf_problem.specs.ProblemBounds.{problem_work, window_value};
 
 use crate::fault::BoundFault;
 use crate::jobs::judge_list;

@@ -2,7 +2,8 @@
 //! job before and its time.
 //!
 //! Nothing is promised of the walk that finds them: a pass over jobs and arcs tests them.
-ghost use Rattle.std.specs.Prelude.{◌≡◌, ◌⊎◌, ℕ, ◌+◌, ◌-◌, ◌<◌, ◌≤◌, length, slice_index, slice_index_or, slice_set, false, true, IfOk, IfSome, IsTrue};
+ghost use Rattle.std.specs.Prelude.{◌≡◌, ◌⊎◌, ℕ, ◌+◌, ◌-◌, ◌<◌, ◌≤◌, length, slice_index};
+ghost use Rattle.std.specs.Prelude.{slice_index_or, slice_set, false, true, IfOk, IfSome, IsTrue};
 ghost use Rattle.std.specs.List.{All};
 ghost use Rattle.tf_model.specs.Limit.{most_jobs};
 ghost use Rattle.tf_problem.specs.Pushed.{release_in};
@@ -12,8 +13,8 @@ use std::alloc::Allocator;
 use tf_model::ids::JobId;
 use tf_model::memory::OutOfMemory;
 
-/// The dates, by the jobs' own dates and times. None where the arcs have a cycle, or where a date is
-/// beyond 64 bits.
+/// The dates, by the jobs' own dates and times. None where the arcs have a cycle, or where a date
+/// is beyond 64 bits.
 pub(crate) fn dates_along<A: Allocator + Copy>(
     alloc: A,
     own: &[u64],

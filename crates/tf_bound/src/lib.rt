@@ -5,6 +5,7 @@ pub mod alike;
 mod along;
 pub mod certificate;
 pub mod fault;
+pub mod job_times;
 mod jobs;
 pub mod machine;
 pub mod multipliers;

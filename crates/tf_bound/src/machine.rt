@@ -6,7 +6,8 @@ ghost use Rattle.tf_model.specs.Limit.{limit};
 ghost use Rattle.tf_check.specs.Bound.{least, least_number};
 ghost use Rattle.tf_problem.specs.ProblemData.{IsProblemJob, problem_due, problem_time_on};
 ghost use Rattle.tf_problem.specs.ProblemCost.{IsLowerBound};
-ghost use Rattle.tf_problem.specs.ProblemBounds.{is_by_machine, is_max_goal, head, tail, machine_value};
+ghost use Rattle.tf_problem.specs.ProblemBounds.{is_by_machine, is_max_goal, head, tail};
+ghost use Rattle.tf_problem.specs.ProblemBounds.{machine_value};
 
 use crate::fault::BoundFault;
 use crate::jobs::judge_list;

@@ -1,14 +1,17 @@
 //! The bound of tardiness by multipliers of at most the weights (Potts and Van Wassenhove 1985), on
 //! the only machine or on one of a shop.
-ghost use Rattle.std.specs.Prelude.{◌≡◌, ℕ, ◌+◌, ◌*◌, ◌<◌, ◌≤◌, pos, ◌+ℤ◌, ◌-ℤ◌, ◌*ℤ◌, length, IfNone, IfOk, IfSome, IsTrue};
+ghost use Rattle.std.specs.Prelude.{◌≡◌, ℕ, ◌+◌, ◌*◌, ◌<◌, ◌≤◌, pos, ◌+ℤ◌, ◌-ℤ◌, ◌*ℤ◌, length};
+ghost use Rattle.std.specs.Prelude.{IfNone, IfOk, IfSome, IsTrue};
 ghost use Rattle.std.specs.Ordering.{is_lt};
 ghost use Rattle.tf_model.specs.Bounds.{pairs_value};
 ghost use Rattle.tf_check.specs.Bound.{least_number};
 ghost use Rattle.tf_check.specs.GoesBefore.{goes_before};
 ghost use Rattle.tf_check.specs.Ratio.{AreByRatio, AreOfTask, completions_from};
-ghost use Rattle.tf_problem.specs.ProblemData.{IsProblemJob, problem_due, problem_jobs, problem_weight};
+ghost use Rattle.tf_problem.specs.ProblemData.{IsProblemJob, problem_due, problem_jobs};
+ghost use Rattle.tf_problem.specs.ProblemData.{problem_weight};
 ghost use Rattle.tf_problem.specs.ProblemCost.{IsLowerBound};
-ghost use Rattle.tf_problem.specs.ProblemBounds.{is_by_machine, is_tardy_goal, head, int_sum, multiplier_value, numerator, tail};
+ghost use Rattle.tf_problem.specs.ProblemBounds.{is_by_machine, is_tardy_goal, head, int_sum};
+ghost use Rattle.tf_problem.specs.ProblemBounds.{multiplier_value, numerator, tail};
 ghost use Rattle.tf_problem.specs.Relaxed.{weighed_task};
 ghost use Rattle.tf_bound.specs.Sized.{IsSized};
 

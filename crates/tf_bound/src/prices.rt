@@ -1,13 +1,15 @@
 //! The bound of a sum by prices of the rows: each job at its cheapest start, less what all machines
 //! can take in.
-ghost use Rattle.std.specs.Prelude.{◌≡◌, ℕ, ◌+◌, ◌*◌, ◌≤◌, ℤ, pos, ◌-ℤ◌, length, sum, max, IfOk, IfSome, IsTrue, IsFalse};
+ghost use Rattle.std.specs.Prelude.{◌≡◌, ℕ, ◌+◌, ◌*◌, ◌≤◌, ℤ, pos, ◌-ℤ◌, length, sum, max, IfOk};
+ghost use Rattle.std.specs.Prelude.{IfSome, IsTrue, IsFalse};
 ghost use Rattle.std.specs.List.{All};
 ghost use Rattle.tf_model.specs.ClassTable.{is_shop_env};
 ghost use Rattle.tf_model.specs.Limit.{limit};
 ghost use Rattle.tf_model.specs.Whole.{IsWithin};
 ghost use Rattle.tf_problem.specs.ProblemData.{IsProblemJob, problem_release};
 ghost use Rattle.tf_problem.specs.ProblemCost.{IsLowerBound};
-ghost use Rattle.tf_problem.specs.ProblemBounds.{is_alike, is_sum_goal, numerator, start_price, share_up, AreCheapest};
+ghost use Rattle.tf_problem.specs.ProblemBounds.{is_alike, is_sum_goal, numerator, start_price};
+ghost use Rattle.tf_problem.specs.ProblemBounds.{share_up, AreCheapest};
 ghost use Rattle.tf_bound.specs.RowSums.{AreSums, late_steps};
 ghost use Rattle.tf_bound.specs.Prices.{IsCheapestFor, IsPaidFor, IsPricesBound, is_by_unit};
 

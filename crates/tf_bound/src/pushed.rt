@@ -1,5 +1,6 @@
 //! The task whose release dates and due dates follow by its arcs.
-ghost use Rattle.std.specs.Prelude.{◌≡◌, ℕ, ℤ, ◌<◌, ◌≤◌, pos, ◌-ℤ◌, length, map, slice_index, slice_index_or, IfOk, IfSome, IsTrue};
+ghost use Rattle.std.specs.Prelude.{◌≡◌, ℕ, ℤ, ◌<◌, ◌≤◌, pos, ◌-ℤ◌, length, map, slice_index};
+ghost use Rattle.std.specs.Prelude.{slice_index_or, IfOk, IfSome, IsTrue};
 ghost use Rattle.tf_model.specs.Limit.{limit};
 ghost use Rattle.tf_problem.specs.ProblemData.{IsProblemJob, problem_jobs};
 ghost use Rattle.tf_problem.specs.ProblemCost.{IsLowerBound};
@@ -27,8 +28,8 @@ enum Number {
 }
 
 /// The task whose dates follow by the arcs, for the makespan or the maximum lateness. None where
-/// there is no arc, or another objective; where the arcs form a cycle; or where a date is beyond the
-/// limit.
+/// there is no arc, or another objective; where the arcs form a cycle; or where a date is beyond
+/// the limit.
 pub fn pushed_task<A: Allocator + Copy, B: Allocator>(
     alloc: A,
     task: &ProblemTask<B>,
@@ -196,7 +197,7 @@ fn with_date<A: Allocator, B: Allocator>(
     ensures { IfOk result (λ other. other ≡ record job.now { release = release; due = due }) }
 {
     Ok(ProblemJob {
-        times: Vec::from_slice(alloc, &job.times)?,
+        times: job.times.copied(alloc)?,
         weight: job.weight,
         release,
         due,

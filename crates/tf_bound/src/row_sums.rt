@@ -24,8 +24,8 @@ pub fn sum_rows(prices: &[u64], sums: &mut [u64]) -> bool
     true
 }
 
-/// How often a job that completes at `end` pays its slope: for each step after its due date, or once
-/// if it is late at all.
+/// How often a job that completes at `end` pays its slope: for each step after its due date, or
+/// once if it is late at all.
 pub fn late_steps(by_unit: bool, due: i64, end: u64) -> u64
     requires end { end ≤ limit }
     requires due { IsWithin due }

@@ -7,6 +7,7 @@ ghost use Rattle.tf_problem.specs.ProblemData.{is_covered, is_job_shop};
 ghost use Rattle.tf_bound.specs.Sized.{IsSizedJob, work};
 
 use crate::fault::TaskFault;
+use crate::job_times::JobTimes;
 use std::alloc::{Allocator, Global};
 use std::marker::Model;
 use tf_model::ids::JobId;
@@ -16,8 +17,7 @@ use tf_model::problem::{Env, Goal, Problem};
 /// A job: one time, or in a shop one for each machine, from the first on.
 #[derive(Drop)]
 pub struct ProblemJob<A: Allocator = Global> {
-    /// In time steps.
-    pub times: Vec<u64, A>,
+    pub times: JobTimes<A>,
     pub weight: u64,
     /// In time steps: the job does not start before.
     pub release: u64,
@@ -28,12 +28,13 @@ pub struct ProblemJob<A: Allocator = Global> {
 impl<A: Allocator> Model for ProblemJob<A> {
     ghost use Rattle.std.specs.Prelude.{[]};
     ghost use Rattle.tf_problem.specs.ProblemData.{ProblemJobData};
+    ghost use Rattle.tf_bound.specs.JobTimes.{listed};
 
     ghost Value = { ProblemJobData };
 
     ghost view = { λ j.
         record {
-          times = j.times.items;
+          times = listed j.times;
           route = [];
           weight = j.weight;
           release = j.release;
@@ -127,14 +128,15 @@ fn sized_work<A: Allocator>(shop: bool, machines: u32, job: &ProblemJob<A>) -> O
     ensures small { IfSome result (λ time. time ≤ limit) }
 {
     let asked = if shop { machines as usize } else { 1 };
-    if job.times.len() != asked {
+    let times = job.times.as_slice();
+    if times.len() != asked {
         return None;
     }
     let limit = LIMIT as u64;
     if job.weight > limit || job.release > limit || job.due < -LIMIT || job.due > LIMIT {
         return None;
     }
-    let work = work_of(&job.times)?;
+    let work = work_of(times)?;
     if work == 0 {
         return None;
     }
@@ -190,7 +192,9 @@ impl<A: Allocator> ProblemTask<A> {
     ghost use Rattle.tf_model.specs.ClassTable.{is_shop_env};
     ghost use Rattle.tf_model.specs.Limit.{limit};
     ghost use Rattle.tf_model.specs.Whole.{IsWithin};
-    ghost use Rattle.tf_problem.specs.ProblemData.{IsProblemJob, problem_job, problem_time, problem_time_on, problem_release, problem_weight, problem_due};
+    ghost use Rattle.tf_problem.specs.ProblemData.{IsProblemJob, problem_job, problem_time};
+    ghost use Rattle.tf_problem.specs.ProblemData.{problem_time_on, problem_release};
+    ghost use Rattle.tf_problem.specs.ProblemData.{problem_weight, problem_due};
     ghost use Rattle.tf_problem.specs.ProblemBounds.{is_by_machine, head, problem_work, tail};
     ghost use Rattle.tf_bound.specs.Sized.{IsSized};
 
@@ -284,7 +288,7 @@ impl<A: Allocator> ProblemTask<A> {
         ensures value { result.now ≡ (problem_job self.now job).times }
         ensures sized { IsSized self.now }
     {
-        &self.job(job).times
+        self.job(job).times.as_slice()
     }
 
     /// The time of a job that is there, in a shop on all machines together.
@@ -303,7 +307,7 @@ impl<A: Allocator> ProblemTask<A> {
         ensures value { result ≡ problem_time self.now job }
         ensures small { result ≤ limit }
     {
-        self.job(job).times[0]
+        self.times(job)[0]
     }
 
     /// The release date of a job that is there, 0 where the problem has none.
@@ -351,7 +355,7 @@ impl<A: Allocator> ProblemTask<A> {
         ensures value { result ≡ problem_time_on self.now job machine }
         ensures small { result ≤ limit }
     {
-        self.job(job).times[machine]
+        self.times(job)[machine]
     }
 
     /// Before this time the job is not on the machine, counted from 0: its release date, and in a

@@ -1,11 +1,17 @@
 //! From an instance and any problem to a task, or to the first refusal.
-ghost use Rattle.std.specs.Prelude.{◌≡◌, ◌<◌, ◌≤◌, [], if◌then◌else◌, is_some, length, position, IfOk, IfErr};
+ghost use Rattle.std.specs.Prelude.{◌≡◌, ◌<◌, ◌≤◌, [], if◌then◌else◌, is_some, length, position};
+ghost use Rattle.std.specs.Prelude.{IfOk, IfErr};
 ghost use Rattle.std.specs.Option.{ForSome};
 ghost use Rattle.tf_model.specs.Prepare.{agreed};
-ghost use Rattle.tf_prepare.specs.Preparing.{uses_weight, uses_due, machines_in, has_wrong_times_in, wrong_times_in, lacking_in, missing_in, idle_in, jobs_refusal_in, job_in, jobs_in, task_in, prepared_in, PreparesIn, IsOfSize};
+ghost use Rattle.tf_bound.specs.JobTimes.{listed};
+ghost use Rattle.tf_prepare.specs.Preparing.{uses_weight, uses_due, machines_in};
+ghost use Rattle.tf_prepare.specs.Preparing.{has_wrong_times_in, wrong_times_in, lacking_in};
+ghost use Rattle.tf_prepare.specs.Preparing.{missing_in, idle_in, jobs_refusal_in, job_in, jobs_in};
+ghost use Rattle.tf_prepare.specs.Preparing.{task_in, prepared_in, PreparesIn, IsOfSize};
 
 use crate::timed::{TimedInstance, as_time};
 use std::alloc::{AllocError, Allocator};
+use tf_bound::job_times::JobTimes;
 use tf_bound::task::{ProblemJob, ProblemTask};
 use tf_model::ids::JobId;
 use tf_model::job::{Job, Times};
@@ -177,10 +183,10 @@ fn jobs_refusal<A: Allocator>(problem: &Problem, timed: &TimedInstance<A>) -> Op
 // What the problem uses of a job with these times, and what is neutral for the rest.
 fn job_in<A: Allocator, B: Allocator>(
     problem: &Problem,
-    times: Vec<u64, A>,
+    times: JobTimes<A>,
     job: &Job<B>,
 ) -> ProblemJob<A>
-    ensures { result ≡ job_in problem.now times.items job.now }
+    ensures { result ≡ job_in problem.now (listed times) job.now }
 {
     ProblemJob {
         times,

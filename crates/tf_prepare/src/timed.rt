@@ -2,10 +2,12 @@
 ghost use Rattle.std.specs.Prelude.{◌≡◌, ◌==◌, slice_index, map, IfOk};
 ghost use Rattle.std.specs.List.{list_all};
 ghost use Rattle.tf_model.specs.Whole.{as_time};
+ghost use Rattle.tf_bound.specs.JobTimes.{listed};
 ghost use Rattle.tf_prepare.specs.Preparing.{times_of, first_of, is_idle};
 
 use std::alloc::{AllocError, Allocator, Global};
 use std::marker::Model;
+use tf_bound::job_times::JobTimes;
 use tf_model::instance::Instance;
 use tf_model::job::{Job, Times};
 
@@ -70,6 +72,7 @@ impl<A: Allocator> Model for TimedInstance<A> {
 
 impl<A: Allocator> TimedInstance<A> {
     ghost use Rattle.std.specs.Prelude.{◌≡◌, Some, is_some, IfOk};
+    ghost use Rattle.tf_bound.specs.JobTimes.{listed};
     ghost use Rattle.tf_prepare.specs.TimedData.{TimedData, self_timed};
     ghost use Rattle.tf_prepare.specs.Preparing.{times_in, is_idle};
 
@@ -113,11 +116,11 @@ impl<A: Allocator> TimedInstance<A> {
         alloc: B,
         place: usize,
         job: &Job<A>,
-    ) -> Result<Vec<u64, B>, AllocError>
-        ensures { IfOk result (λ all. all.items ≡ times_in self.now.by_machine place job.now) }
+    ) -> Result<JobTimes<B>, AllocError>
+        ensures { IfOk result (λ all. listed all ≡ times_in self.now.by_machine place job.now) }
     {
         match &self.by_machine {
-            Some(machines) => times_at(alloc, machines, place),
+            Some(machines) => Ok(JobTimes::Each(times_at(alloc, machines, place)?)),
             None => times_of(alloc, job.times),
         }
     }
@@ -150,12 +153,15 @@ fn first_of<A: Allocator>(job: &Job<A>) -> u64
     }
 }
 
-fn times_of<A: Allocator>(alloc: A, times: Times) -> Result<Vec<u64, A>, AllocError>
-    ensures { IfOk result (λ all. all.items ≡ times_of times) }
+fn times_of<A: Allocator>(alloc: A, times: Times) -> Result<JobTimes<A>, AllocError>
+    ensures { IfOk result (λ all. listed all ≡ times_of times) }
 {
     match times {
-        Times::One(time) => Vec::from_slice(alloc, &[as_time(time)]),
-        Times::Two(first, second) => Vec::from_slice(alloc, &[as_time(first), as_time(second)]),
+        Times::One(time) => Ok(JobTimes::One(as_time(time))),
+        Times::Two(first, second) => {
+            let times = Vec::from_slice(alloc, &[as_time(first), as_time(second)])?;
+            Ok(JobTimes::Each(times))
+        }
     }
 }
 

@@ -2,6 +2,7 @@
 use crate::small_task::{SmallJob, SmallTask};
 use std::alloc::Global;
 use std::test::Fail;
+use tf_bound::job_times::JobTimes;
 use tf_bound::task::{ProblemJob, ProblemTask};
 use tf_model::ids::JobId;
 use tf_search::strongest::strongest;
@@ -17,7 +18,7 @@ fn problem_job(alloc: Global, task: &SmallTask, job: &SmallJob) -> Result<Proble
         times.push(time.unsigned_abs())?;
     }
     Ok(ProblemJob {
-        times,
+        times: JobTimes::Each(times),
         weight: job.weight.unsigned_abs(),
         release: job.release.unsigned_abs(),
         due: job.due,
