@@ -3,13 +3,14 @@
 
     python3 bench/bounds.py PROGRAM [STEPS]
 
-The instances are made here, from fixed seeds. Weighted tardiness: 125 instances of 40 jobs and 50 of 100 by the published recipe
-of OR-Library's files (processing times 1 to 100, weights 1 to 10, due dates from P(1 - TF - RDD/2) to P(1 - TF + RDD/2)). One
-machine with release dates: 20 instances of 30 jobs. Three machines: 40 instances each of 10, 15, 20 and 50 jobs, times 20 to 100.
-Flow shops: Taillard's ten instances of 20 jobs on five machines, made by his published generator from his seeds, beside the lower
-bounds that he published (1993), and ten of 500 jobs on 20 machines. The heuristics are short and plain: a priority rule, then
-insertions and exchanges until none helps, for weighted tardiness from several starts. A gap is the heuristic's cost less the bound,
-in percent of the cost; where both are equal the schedule is proved optimal.
+The instances are made here, from fixed seeds. Weighted tardiness: 125 instances of 40 jobs and 50 of 100 by the published
+recipe of OR-Library's files (processing times 1 to 100, weights 1 to 10, due dates from P(1 - TF - RDD/2) to P(1 - TF +
+RDD/2)). One machine, and three machines, with release dates: 20 instances of 30 jobs. Three machines: 40 instances each of 10,
+15, 20 and 50 jobs, times 20 to 100. Flow shops: Taillard's ten instances of 20 jobs on five machines, made by his published
+generator from his seeds, beside the lower bounds that he published (1993), and ten of 500 jobs on 20 machines. The heuristics
+are short and plain: a priority rule, then insertions and exchanges until none helps, for weighted tardiness from several
+starts. A gap is the heuristic's cost less the bound, in percent of the cost; where both are equal the schedule is proved
+optimal.
 """
 import os
 import random
@@ -131,12 +132,14 @@ def best_tardiness(jobs, rounds):
     return best
 
 
-def lateness_of(jobs):
+def lateness_of(jobs, machines=1):
+    """The maximum lateness where each job, in an order, goes to the machine that is free first."""
     def cost(order):
-        at, worst = 0, None
+        free, worst = [0] * machines, None
         for k in order:
-            job = jobs[k]
-            at = max(at, job["r"]) + job["p"]
+            job, first = jobs[k], min(free)
+            at = max(first, job["r"]) + job["p"]
+            free[free.index(first)] = at
             worst = at - job["d"] if worst is None else max(worst, at - job["d"])
         return worst
     return cost
@@ -244,18 +247,28 @@ def weighted_tardiness(program, steps, n, number):
     return run.memory
 
 
-def released(program, draw):
-    for spread in (18, 25):
+def due_anywhere(last, draw):
+    return {"p": draw.randint(1, 50), "r": draw.randint(1, last), "d": last - draw.randint(1, last)}
+
+
+def due_soon(last, draw):
+    """A job that is due at most 60 time steps after it can be completed."""
+    time, release = draw.randint(1, 50), draw.randint(1, last)
+    return {"p": time, "r": release, "d": release + time + draw.randint(0, 60)}
+
+
+def released(program, problem, machines, made, lasts, draw):
+    """Bounds of 20 instances of 30 jobs for each last date, to which the gaps count."""
+    for last in lasts:
         gaps, seconds = [], []
         for _ in range(20):
-            n = 30
-            jobs = [{"p": draw.randint(1, 50), "r": draw.randint(1, n * spread), "d": n * spread - draw.randint(1, n * spread)}
-                    for _ in range(n)]
-            run = Measured([program, "bound", "-p", "1|rj|Lmax"], table(jobs))
-            best = descent(released_order(jobs), lateness_of(jobs))[1]
-            gaps.append(gap(best + n * spread, run.value + n * spread))
+            jobs = [made(last, draw) for _ in range(30)]
+            run = Measured([program, "bound", "-p", problem], table(jobs))
+            best = descent(released_order(jobs), lateness_of(jobs, machines))[1]
+            gaps.append(gap(best + last, run.value + last))
             seconds.append(run.seconds)
-        row(f"`1\\|rj\\|Lmax`, 30 jobs, dates to {30 * spread}", gaps, seconds)
+        name = problem.replace("|", "\\|")
+        row(f"`{name}`, 30 jobs, dates to {last}{', due soon' if made is due_soon else ''}", gaps, seconds)
     return run.memory
 
 
@@ -297,7 +310,9 @@ def flow_shops(program):
 def main(program, steps=None):
     draw = random.Random(20261126)
     print("| Instances | Number | Mean gap, percent | Greatest gap | Proved optimal | Processor seconds each |\n|---|---|---|---|---|---|")
-    memory = max(released(program, draw), parallel(program, draw), flow_shops(program),
+    memory = max(released(program, "1|rj|Lmax", 1, due_anywhere, (540, 750), draw),
+                 released(program, "P3|rj|Lmax", 3, due_soon, (180, 240), random.Random(3)),
+                 parallel(program, draw), flow_shops(program),
                  weighted_tardiness(program, steps, 40, 5), weighted_tardiness(program, steps, 100, 2))
     print(f"\nAt most {memory:.0f} MB.")
 

@@ -1,8 +1,8 @@
 //! The starts of a job, and the cheapest of them, which a search for prices finds for each job in
 //! each step.
 //!
-//! Wrapping sums are used, and none wraps: the prices of all rows are within the limit together, and
-//! so is the cost of a job. Nothing rests on it, since the judge computes what prices bound.
+//! Wrapping sums are used, and none wraps: the prices of all rows are within the limit together,
+//! and so is the cost of a job. Nothing rests on it, since the judge computes what prices bound.
 ghost use Rattle.std.specs.Prelude.{◌≡◌, IsFalse};
 ghost use Rattle.tf_model.specs.ClassTable.{is_shop_env};
 ghost use Rattle.tf_problem.specs.ProblemData.{IsProblemJob};

@@ -10,3 +10,4 @@ pub mod price_search;
 mod ranked;
 pub mod sequence;
 pub mod strongest;
+mod windows;

@@ -1,11 +1,11 @@
 //! Jobs in orders of which some front makes a strong window or crowd.
 //!
 //! Nothing is promised of the orders and the fronts: the judges compute what they bound.
-ghost use Rattle.std.specs.Prelude.{IsFalse};
-ghost use Rattle.tf_model.specs.ClassTable.{is_shop_env};
+ghost use Rattle.tf_problem.specs.ProblemData.{IsProblemJob};
 
 use std::alloc::Allocator;
 use tf_bound::task::ProblemTask;
+use tf_check::ranking::{push_jobs, rank_at};
 use tf_model::ids::JobId;
 use tf_model::memory::OutOfMemory;
 
@@ -16,38 +16,38 @@ pub(crate) enum Rank {
     LastReleased,
     /// The earliest due date first.
     FirstDue,
-    /// The longest processing time first.
-    Longest,
+    /// The longest processing time first, of the jobs that take longer than this many time steps.
+    LongerThan(u64),
 }
 
-// A job, and its rank, of which the least comes first.
-#[derive(Clone, Copy, Debug, PartialEq, Eq, PartialOrd, Ord)]
-struct RankedJob {
-    rank: i64,
-    job: JobId,
+// Where a job belongs in the order of a rank, and none where it is left out.
+fn place_of<B: Allocator>(task: &ProblemTask<B>, rank: Rank, job: JobId) -> Option<u64>
+    requires { IsProblemJob task.now job }
+{
+    match rank {
+        Rank::LastReleased => Some(u64::MAX - task.release(job)),
+        Rank::FirstDue => Some(task.due(job).abs_diff(i64::MIN)),
+        Rank::LongerThan(time) if task.work(job) <= time => None,
+        Rank::LongerThan(_) => Some(u64::MAX - task.work(job)),
+    }
 }
 
-/// All jobs in the order of the rank, and of their numbers where it is the same.
+/// The jobs in the order of the rank, and of their numbers where it is the same.
 pub(crate) fn jobs_by_rank<A: Allocator + Copy, B: Allocator>(
     alloc: A,
     task: &ProblemTask<B>,
     rank: Rank,
 ) -> Result<Vec<JobId, A>, OutOfMemory> {
-    let mut keys = Vec::with_capacity(alloc, task.len())?;
+    let mut ranks = Vec::with_capacity(alloc, task.len())?;
     for k in 0..task.len() {
         let job = JobId::at(k);
-        let rank = match rank {
-            Rank::LastReleased => 0 - task.release(job) as i64,
-            Rank::FirstDue => task.due(job),
-            Rank::Longest => 0 - task.work(job) as i64,
-        };
-        keys.push(RankedJob { rank, job })?;
+        if let Some(place) = place_of(task, rank, job) {
+            ranks.push(rank_at(place, job))?;
+        }
     }
-    keys.sort_unstable();
-    let mut jobs = Vec::with_capacity(alloc, keys.len())?;
-    for key in &keys {
-        jobs.push(key.job)?;
-    }
+    ranks.sort_unstable();
+    let mut jobs = Vec::with_capacity(alloc, ranks.len())?;
+    push_jobs(&mut jobs, &ranks)?;
     Ok(jobs)
 }
 
@@ -81,21 +81,75 @@ impl Front {
     }
 }
 
+// The value of a window of the front, times the number of machines and before it is rounded up.
+fn window_of(front: Front, machines: i128) -> i128 {
+    let free = i128::from(front.release) - i128::from(front.due);
+    free.wrapping_mul(machines)
+        .wrapping_add(i128::from(front.work))
+}
+
 /// How many of the first jobs make the strongest window.
 pub(crate) fn window_front<B: Allocator>(task: &ProblemTask<B>, jobs: &[JobId]) -> usize {
+    let machines = i128::from(task.machines().max(1));
     let mut front = Front::new();
     let mut most = i128::MIN;
-    let mut len = 0;
+    for job in jobs {
+        front = front.with(task, *job);
+        most = most.max(window_of(front, machines));
+    }
+    // What is above this is rounded up to as much as the most.
+    let below = most
+        .saturating_sub(1)
+        .div_euclid(machines)
+        .wrapping_mul(machines);
+    let mut front = Front::new();
     for (place, job) in jobs.iter().enumerate() {
         front = front.with(task, *job);
-        let share = front.work.div_ceil(u64::from(task.machines()).max(1));
-        let value = i128::from(front.release) + i128::from(share) - i128::from(front.due);
-        if value > most {
-            most = value;
-            len = place + 1;
+        if window_of(front, machines) > below {
+            return place + 1;
         }
     }
-    len
+    0
+}
+
+// How often the time that a job of a crowd takes at least is sought by counting.
+const MOST_COUNTS: usize = 8;
+
+/// A time that each job of a crowd exceeds whose value is greater than this one.
+pub(crate) fn crowded_above<B: Allocator>(task: &ProblemTask<B>, value: i128) -> u64 {
+    let mut last: u64 = 0;
+    let mut due = i64::MAX;
+    for k in 0..task.len() {
+        let job = JobId::at(k);
+        last = last.max(task.release(job));
+        due = due.min(task.due(job));
+    }
+    let work = value
+        .saturating_add(i128::from(due))
+        .saturating_sub(i128::from(last));
+    let work = u64::try_from(work).unwrap_or(0);
+    let machines = (task.machines() as usize).max(1);
+    let mut above = 0;
+    let mut count = task.len();
+    for _ in 0..MOST_COUNTS {
+        above = match work.checked_div(count.div_ceil(machines) as u64) {
+            Some(time) => time,
+            None => return u64::MAX,
+        };
+        count = count_longer(task, above);
+    }
+    above
+}
+
+// How many jobs take longer.
+fn count_longer<B: Allocator>(task: &ProblemTask<B>, time: u64) -> usize {
+    let mut count = 0;
+    for k in 0..task.len() {
+        if task.work(JobId::at(k)) > time {
+            count += 1;
+        }
+    }
+    count
 }
 
 /// The strongest crowd of the first jobs: after how many on each machine, and of how many jobs.

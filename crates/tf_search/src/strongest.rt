@@ -6,8 +6,9 @@ ghost use Rattle.tf_search.specs.Strongest.{IsFound, IsFoundOn};
 use crate::machine_search::search_machines;
 use crate::multiplier_search::multiplier_bound;
 use crate::price_search::search_prices;
-use crate::ranked::{Rank, crowd_front, jobs_by_rank, window_front};
+use crate::ranked::{Rank, crowd_front, crowded_above, jobs_by_rank, window_front};
 use crate::sequence::best_order;
+use crate::windows::{jobs_within, strongest_window};
 use std::alloc::{Allocator, Global};
 use tf_bound::certificate::BoundCertificate;
 use tf_bound::fault::BoundFault;
@@ -115,11 +116,9 @@ fn of_maximum<A: Allocator + Copy, B: Allocator>(
     let job = longest_job(task);
     let mut best = judged(alloc, task, BoundCertificate::OneJob { job })?;
     if matches!(task.problem().env, Env::Parallel) {
-        let found = by_window(alloc, task, Rank::LastReleased)?;
+        let found = by_windows(alloc, task)?;
         best = better(best, found);
-        let found = by_window(alloc, task, Rank::FirstDue)?;
-        best = better(best, found);
-        let found = by_crowd(alloc, task)?;
+        let found = by_crowd(alloc, task, value_of(&best))?;
         best = better(best, found);
     } else {
         let found = by_machine(alloc, task)?;
@@ -144,7 +143,35 @@ fn longest_job<B: Allocator>(task: &ProblemTask<B>) -> JobId {
     longest
 }
 
-fn by_window<A: Allocator + Copy, B: Allocator>(
+// The strongest window: of a front of the jobs where they differ in one date at most.
+fn by_windows<A: Allocator + Copy, B: Allocator>(
+    alloc: A,
+    task: &ProblemTask<B>,
+) -> Result<Option<Found<A>>, OutOfMemory>
+    ensures { IfOk result (λ best. IfSome best (IsFoundOn task.now)) }
+{
+    let problem = task.problem();
+    match problem.goal {
+        Goal::Lmax if problem.release => by_dates(alloc, task),
+        Goal::Lmax => by_front(alloc, task, Rank::FirstDue),
+        _ => by_front(alloc, task, Rank::LastReleased),
+    }
+}
+
+fn by_dates<A: Allocator + Copy, B: Allocator>(
+    alloc: A,
+    task: &ProblemTask<B>,
+) -> Result<Option<Found<A>>, OutOfMemory>
+    ensures { IfOk result (λ best. IfSome best (IsFoundOn task.now)) }
+{
+    let Some(window) = strongest_window(alloc, task)? else {
+        return Ok(None);
+    };
+    let jobs = jobs_within(alloc, task, window)?;
+    judged(alloc, task, BoundCertificate::Window { jobs })
+}
+
+fn by_front<A: Allocator + Copy, B: Allocator>(
     alloc: A,
     task: &ProblemTask<B>,
     rank: Rank,
@@ -157,13 +184,23 @@ fn by_window<A: Allocator + Copy, B: Allocator>(
     judged(alloc, task, BoundCertificate::Window { jobs })
 }
 
+// The value that was found, and less than any where none was.
+fn value_of<A: Allocator>(best: &Option<Found<A>>) -> i128 {
+    match best {
+        Some(found) => found.value,
+        None => i128::MIN,
+    }
+}
+
+// A crowd that is stronger than the value, if there is one.
 fn by_crowd<A: Allocator + Copy, B: Allocator>(
     alloc: A,
     task: &ProblemTask<B>,
+    value: i128,
 ) -> Result<Option<Found<A>>, OutOfMemory>
     ensures { IfOk result (λ best. IfSome best (IsFoundOn task.now)) }
 {
-    let mut jobs = jobs_by_rank(alloc, task, Rank::Longest)?;
+    let mut jobs = jobs_by_rank(alloc, task, Rank::LongerThan(crowded_above(task, value)))?;
     let (h, len) = crowd_front(task, &jobs);
     jobs.truncate(len);
     judged(alloc, task, BoundCertificate::Crowd { h, jobs })
