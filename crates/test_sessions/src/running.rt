@@ -9,7 +9,7 @@ use tf_command::report::{say_memory, say_usage};
 use tf_grammar::grammar::command;
 use tf_held::measured::perform_measured;
 use tf_held::series::perform_series;
-use tf_held::shops::perform_evaluation;
+use tf_held::shops::{evaluate_formatted, perform_evaluation};
 use tf_options::options::{Asked, Work, understand};
 use tf_text::counted::Counted;
 
@@ -36,6 +36,9 @@ pub fn run(alloc: Global, line: &str, texts: Texts<'_>) -> Result<Ended, AllocEr
             perform_evaluation(&mut console, &texts, evaluating)
         }
         Asked::Work(work) => perform(&mut console, &texts, &work),
+        Asked::Formatted(Work::Evaluate(evaluating), format) => {
+            evaluate_formatted(&mut console, &texts, evaluating, format)
+        }
         Asked::Formatted(work, format) => { perform_formatted(&mut console, &texts, &work, format) }
         Asked::Series(series) => perform_series(&mut console, &texts, &series),
         Asked::Measured(evaluating) => perform_measured(&mut console, &texts, evaluating),

@@ -1,2 +1,3 @@
 pub mod Listing
 mod Writing
+pub mod Kept

@@ -81,6 +81,14 @@ pub record IsUnwritten (writer : DeviceUse) (says : List ℕ → Type 0) (line :
   pub said : says line
   pub ends : status ≡ 3
 
+-- what was kept of a command of this status is written in a format
+abbrev pub EndsKept : Memory → ℕ → Format → DeviceUse → (List ℕ → Type 0) → ℕ → Type 0
+EndsKept kept wanted format writer says status =
+    ((output : List ℕ) × (errors : List ℕ) × HasPrinted kept format output errors
+    × (IsWritten writer says output errors wanted status
+    ⊎ IsCutOff writer says output (device_line format) status))
+    ⊎ IsUnwritten writer says (memory_line format) status
+
 -- what is to be done was done, and is written in a format
 abbrev pub EndsFormatted : (DeviceUse → (Bool → List ℕ → Type 0) → ℕ → Type 0) → Format
     → DeviceUse → (List ℕ → Type 0) → ℕ → Type 0

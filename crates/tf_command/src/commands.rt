@@ -2,11 +2,14 @@
 ghost use Rattle.std.specs.declared.alloc.Global.{Global};
 ghost use Rattle.tf_options.specs.Asking.{requested};
 ghost use Rattle.tf_options.specs.Columns.{HasWidth, IsSized};
-ghost use Rattle.tf_command.specs.Ending.{EndsSolving, EndsBounding, EndsTracing, EndsChecking, EndsEvaluating, EndsRating, EndsDrawing, SaysLine, drawn_as};
+ghost use Rattle.tf_command.specs.Ending.{EndsSolving, EndsBounding, EndsTracing, EndsChecking};
+ghost use Rattle.tf_command.specs.Ending.{EndsEvaluating, EndsRating, EndsDrawing, SaysLine};
+ghost use Rattle.tf_command.specs.Ending.{drawn_as};
 ghost use Rattle.tf_command.specs.Assessing.{EndsAssessed, EndsAssessing};
 ghost use Rattle.tf_engine.specs.Drawing.{IsDrawingOf};
 ghost use Rattle.std.specs.Prelude.{◌≡◌, ◌⊎◌, None, Some, IfSome, IfOk, IfErr, false, codes};
-ghost use Rattle.tf_command.specs.Performing.{EndsOver, EndsRandom, EndsWriting, Performs, RatesNamed};
+ghost use Rattle.tf_command.specs.Performing.{EndsOver, EndsRandom, EndsWriting, Performs};
+ghost use Rattle.tf_command.specs.Performing.{RatesNamed};
 ghost use Rattle.tf_command.specs.Recorded.{bytes_left};
 ghost use Rattle.tf_text.specs.Counted.{inner_of, use_of};
 
@@ -348,8 +351,8 @@ pub(crate) fn open_pair<'a, S: Sources, W: Write, E: Write>(
     Ok((instance, answer))
 }
 
-/// Opens the text of that name, which is kept up to so many bytes where it is to be explained. Where
-/// it cannot be opened, says so, and gives the status.
+/// Opens the text of that name, which is kept up to so many bytes where it is to be explained.
+/// Where it cannot be opened, says so, and gives the status.
 pub(crate) fn open<'a, S: Sources, W: Write, E: Write>(
     console: &mut Console<W, E>,
     sources: &S,
@@ -552,8 +555,8 @@ fn evaluate<R: Read, S: Read, W: Write, E: Write>(
     status
 }
 
-/// Tells how good an answer is by lower bounds, of which a text offers one, and the exit status. The
-/// text of the bound is read first.
+/// Tells how good an answer is by lower bounds, of which a text offers one, and the exit status.
+/// The text of the bound is read first.
 fn assess<R: Read, S: Read, T: Read, W: Write, E: Write>(
     console: &mut Console<W, E>,
     assessing: &Assessing<'_>,

@@ -168,7 +168,8 @@ pub struct Ended<'a> {
 }
 
 impl Ended<'_> {
-    /// Says what is to be said of the options and of a run that solved, where the instance was kept.
+    /// Says what is to be said of the options and of a run that solved, where the instance was
+    /// kept.
     pub fn tell_solved<R, E: Write>(
         &self,
         run: &Result<(), RunFault>,
@@ -232,8 +233,8 @@ impl Ended<'_> {
         }
     }
 
-    /// Says what is to be said of the options and of a run over orders or pieces, where the instance
-    /// was kept.
+    /// Says what is to be said of the options and of a run over orders or pieces, where the
+    /// instance was kept.
     pub fn tell_rated<R, S, E: Write>(
         &self,
         rated: Rated<'_>,

@@ -3,7 +3,9 @@ ghost use Rattle.std.specs.Prelude.{◌≡◌, ◌⊎◌, [], IfOk};
 ghost use Rattle.tf_options.specs.Columns.{IsSized};
 ghost use Rattle.tf_command.specs.Performing.{Performs};
 ghost use Rattle.tf_command.specs.Wrote.{Wrote};
-ghost use Rattle.tf_command.specs.Formatted.{formatted, said_in, memory_line, device_line, IsWritten, IsCutOff, EndsFormatted, HasPrinted};
+ghost use Rattle.tf_command.specs.Formatted.{formatted, said_in, memory_line, device_line};
+ghost use Rattle.tf_command.specs.Formatted.{IsWritten, IsCutOff, EndsFormatted, EndsKept};
+ghost use Rattle.tf_command.specs.Formatted.{HasPrinted};
 ghost use Rattle.tf_text.specs.Counted.{inner_of, use_of};
 
 use crate::commands::perform;
@@ -123,6 +125,26 @@ fn write_formatted<W: Write, E: Write>(
     }
 }
 
+/// Writes in a format what a command of this status kept in memory, and gives the status.
+pub fn print_kept<W: Write, E: Write>(
+    console: &mut Console<W, E>,
+    format: Format,
+    kept: &Console<Vec<u8>, Vec<u8>>,
+    status: u8,
+) -> u8
+    ensures { EndsKept kept.now status format
+        (use_of W.contents console.old.writer console.new.writer)
+        (Wrote E.contents console.old.errors console.new.errors) result }
+{
+    match formatted_texts(kept, format) {
+        Ok(texts) => write_formatted(console, format, &texts, status),
+        Err(_) => {
+            send(&mut console.errors, memory_line(format));
+            3
+        }
+    }
+}
+
 /// Does what is asked for, as [`perform`] does, and writes in a format what that prints and what it
 /// says of faults. Nothing is written before the command has ended.
 pub fn perform_formatted<S: Sources, W: Write, E: Write>(
@@ -138,11 +160,5 @@ pub fn perform_formatted<S: Sources, W: Write, E: Write>(
 {
     let mut kept = memory(console.alloc);
     let status = perform(&mut kept, sources, work);
-    match formatted_texts(&kept, format) {
-        Ok(texts) => write_formatted(console, format, &texts, status),
-        Err(_) => {
-            send(&mut console.errors, memory_line(format));
-            3
-        }
-    }
+    print_kept(console, format, &kept, status)
 }

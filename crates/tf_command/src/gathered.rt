@@ -35,7 +35,8 @@ impl<const ROOM: usize> Gathered<ROOM> {
         }
     }
 
-    // Writes what waits, and then adds bytes, or writes them where there is no room for them at all.
+    // Writes what waits, and then adds bytes, or writes them where there is no room for them at
+    // all.
     fn push_after<W: Write>(&mut self, writer: &mut Counted<W>, text: &[u8])
         ensures { (start : Device W) → (before : List ℕ)
             → Gathers W.contents start writer.old self.old.bytes.items before

@@ -1,5 +1,5 @@
-//! The commands of `threefield`, over whatever gives and takes bytes: what is done, what is said of it,
-//! and the exit status.
+//! The commands of `threefield`, over whatever gives and takes bytes: what is done, what is said of
+//! it, and the exit status.
 #![tactic(auto)]
 
 pub mod commands;

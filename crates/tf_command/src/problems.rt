@@ -1,7 +1,8 @@
 //! The list of problems, over whatever gives and takes bytes.
 ghost use Rattle.tf_command.specs.Ending.{SaysLine};
 ghost use Rattle.tf_command.specs.FaultLine.{fault_line};
-ghost use Rattle.tf_command.specs.Performing.{EndsListing, EndsListingFor, EndsOver, IsInTable, Performs};
+ghost use Rattle.tf_command.specs.Performing.{EndsListing, EndsListingFor, EndsOver, IsInTable};
+ghost use Rattle.tf_command.specs.Performing.{Performs};
 ghost use Rattle.tf_command.specs.Recorded.{bytes_left};
 ghost use Rattle.tf_command.specs.Statuses.{status_of};
 ghost use Rattle.tf_command.specs.Wrote.{Wrote};

@@ -17,8 +17,8 @@ pub const MOST_KEPT: usize = MOST_BYTES;
 /// answer to the longest instance takes.
 pub const MOST_BESIDE: usize = 25_165_824;
 
-/// Room for a text of about this many bytes, of which so many are kept at most; none where it is too
-/// long to be kept, or where there is no memory.
+/// Room for a text of about this many bytes, of which so many are kept at most; none where it is
+/// too long to be kept, or where there is no memory.
 pub fn room(alloc: Global, size: Option<usize>, most: usize) -> Option<Vec<u8>> {
     match size {
         Some(size) if size > most => None,

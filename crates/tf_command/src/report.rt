@@ -4,11 +4,16 @@ ghost use Rattle.std.specs.Fmt.{decimal};
 ghost use Rattle.tf_text.specs.AnswerText.{line_text};
 ghost use Rattle.tf_engine.specs.VerdictLine.{piece_fault_words};
 ghost use Rattle.tf_command.specs.BoundLine.{bound_fault_words, bound_fault_line, status_of_bound};
-ghost use Rattle.tf_command.specs.FaultLine.{answer_fault_words, fault_line, field_word, no_table_line, read_fault_words, refusal_words, refused_line};
+ghost use Rattle.tf_command.specs.FaultLine.{answer_fault_words, fault_line, field_word};
+ghost use Rattle.tf_command.specs.FaultLine.{no_table_line, read_fault_words, refusal_words};
+ghost use Rattle.tf_command.specs.FaultLine.{refused_line};
 ghost use Rattle.tf_command.specs.Said.{said_words};
 ghost use Rattle.tf_command.specs.Wrote.{Wrote};
-ghost use Rattle.tf_command.specs.Statuses.{status_of, status_of_check, status_of_no_table, status_of_standing};
-ghost use Rattle.tf_command.specs.Ending.{line_of, status_of_run, status_of_checking, status_of_evaluating, status_of_rating, line_of_picturing, status_of_picturing};
+ghost use Rattle.tf_command.specs.Statuses.{status_of, status_of_check, status_of_no_table};
+ghost use Rattle.tf_command.specs.Statuses.{status_of_standing};
+ghost use Rattle.tf_command.specs.Ending.{line_of, status_of_run, status_of_checking};
+ghost use Rattle.tf_command.specs.Ending.{status_of_evaluating, status_of_rating};
+ghost use Rattle.tf_command.specs.Ending.{line_of_picturing, status_of_picturing};
 
 use crate::gathered::{Gathered, send};
 use itoa::Buffer;
@@ -35,8 +40,8 @@ const LINE: usize = 128;
 /// The most bytes of a line that one call writes.
 const BLOCK: usize = 64_000;
 
-/// Writes the line of a fault, as far as the writer takes it, and gives the exit status. It takes no
-/// memory.
+/// Writes the line of a fault, as far as the writer takes it, and gives the exit status. It takes
+/// no memory.
 pub fn report<A: Allocator, W: Write>(fault: &RunFault<A>, writer: &mut Counted<W>) -> u8
     ensures status { result ≡ status_of fault.now }
     ensures line { Wrote W.contents writer.old writer.new (fault_line fault.now) }

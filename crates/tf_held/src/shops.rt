@@ -1,10 +1,15 @@
 //! An evaluation for a shop of as many machines as its file has.
-ghost use Rattle.std.specs.Prelude.{◌≡◌, Some, true, false, IfOk, MatchOption, option_map, string_bytes};
+ghost use Rattle.std.specs.Prelude.{◌≡◌, Some, true, false, IfOk, MatchOption, option_map};
+ghost use Rattle.std.specs.Prelude.{string_bytes};
 ghost use Rattle.tf_command.specs.Ending.{SaysLine};
+ghost use Rattle.tf_command.specs.Formatted.{EndsFormatted};
 ghost use Rattle.tf_command.specs.Performing.{Performs};
+ghost use Rattle.tf_command.specs.Wrote.{Wrote};
 ghost use Rattle.tf_notation.specs.Reading.{notation};
 ghost use Rattle.tf_text.specs.Counted.{use_of};
-ghost use Rattle.tf_held.specs.Shops.{EndsEvaluation, IsCountedLine, IsUncounted, IsUnder, is_uncounted_in, is_uncounted_shop, texts_with, wants_count, whole_name};
+ghost use Rattle.tf_held.specs.Shops.{EndsEvaluation, IsCountedLine, IsUncounted, IsUnder};
+ghost use Rattle.tf_held.specs.Shops.{is_uncounted_in, is_uncounted_shop, texts_with, wants_count};
+ghost use Rattle.tf_held.specs.Shops.{whole_name};
 
 use crate::reading::text_named;
 use std::alloc::Global;
@@ -12,6 +17,7 @@ use std::io;
 use std::io::{Read, Write};
 use tf_command::commands::perform;
 use tf_command::console::Console;
+use tf_command::formatted::{memory, print_kept};
 use tf_command::report::say_memory;
 use tf_command::source::Sources;
 use tf_model::class::class_of;
@@ -19,6 +25,7 @@ use tf_model::memory::OutOfMemory;
 use tf_model::problem::Problem;
 use tf_notation::reading::read;
 use tf_notation::writing::notation_text;
+use tf_options::format::Format;
 use tf_options::options::{Evaluating, FormOption, Options, Work};
 use tf_read::fault::ReadFault;
 use tf_read::flow_shop::read_flowshop;
@@ -85,7 +92,8 @@ impl<'a, S: Sources> Sources for WithInstance<'a, S> {
 }
 
 /// Evaluates an answer as [`perform`] does. A problem that is solved on two machines and names no
-/// number of them, as `F||Cmax`, is that of as many machines as the instance of a flow shop file has.
+/// number of them, as `F||Cmax`, is that of as many machines as the instance of a flow shop file
+/// has.
 pub fn perform_evaluation<S: Sources, W: Write, E: Write>(
     console: &mut Console<W, E>,
     sources: &S,
@@ -113,6 +121,23 @@ pub fn perform_evaluation<S: Sources, W: Write, E: Write>(
             perform_over(console, sources, instance.as_slice(), other)
         }
     }
+}
+
+/// Evaluates an answer as [`perform_evaluation`] does, and writes in a format what that prints and
+/// what it says of faults. Nothing is written before the evaluation has ended.
+pub fn evaluate_formatted<S: Sources, W: Write, E: Write>(
+    console: &mut Console<W, E>,
+    sources: &S,
+    evaluating: Evaluating<'_>,
+    format: Format,
+) -> u8
+    ensures { EndsFormatted (EndsEvaluation (S.text_of sources.now) evaluating.entry) format
+        (use_of W.contents console.old.writer console.new.writer)
+        (Wrote E.contents console.old.errors console.new.errors) result }
+{
+    let mut kept = memory(console.alloc);
+    let status = perform_evaluation(&mut kept, sources, evaluating);
+    print_kept(console, format, &kept, status)
 }
 
 /// Evaluates an answer to an instance that was read.
@@ -175,8 +200,8 @@ fn is_uncounted_shop(problem: &Problem) -> bool
     problem.env.is_shop() && problem.count.is_none() && class_of(problem).is_some()
 }
 
-/// A problem line with the number of machines that the file has for an instance, and none where that
-/// is two, or the file does not say it.
+/// A problem line with the number of machines that the file has for an instance, and none where
+/// that is two, or the file does not say it.
 fn counted_line(
     alloc: Global,
     text: &str,

@@ -18,7 +18,7 @@ use tf_command::report::{say_device, say_memory, say_usage};
 use tf_grammar::grammar::command;
 use tf_held::measured::perform_measured;
 use tf_held::series::perform_series;
-use tf_held::shops::perform_evaluation;
+use tf_held::shops::{evaluate_formatted, perform_evaluation};
 use tf_options::format::Format;
 use tf_options::options::{Asked, Work, understand};
 use tf_text::counted::Counted;
@@ -60,6 +60,9 @@ fn program(rt: &HostRuntime) -> u8 {
             perform_evaluation(&mut console(rt, errors), &Files { rt }, evaluating)
         }
         Asked::Work(work) => print(rt, errors, &work, None),
+        Asked::Formatted(Work::Evaluate(evaluating), format) => {
+            evaluate_formatted(&mut console(rt, errors), &Files { rt }, evaluating, format)
+        }
         Asked::Formatted(work, format) => print(rt, errors, &work, Some(format)),
         Asked::Series(series) => perform_series(&mut console(rt, errors), &Files { rt }, &series),
         Asked::Measured(evaluating) => {

@@ -1,18 +1,14 @@
-use Rattle.std.proofs.Common.{inl}
+use Rattle.tf_command.specs.Performing.{Performs}
+use Rattle.tf_command.specs.Wrote.{Wrote}
+use Rattle.tf_text.specs.Counted.{use_of}
+use Rattle.tf_command.proofs.Kept.{printed}
 use Rattle.tf_command.proofs.formatted.perform_formatted.Goals as goal
 
-pub returns-in-Ok : goal.returns-in-Ok
-returns-in-Ok g c = inl (
-  c.in-Ok.texts.output.items,
-  c.in-Ok.texts.errors.items,
-  c.perform-status.result,
-  record {
-    before = c.memory-kept.result;
-    after = c.perform-status.new.console;
-    blank = c.memory-kept.ensures.blank;
-    silent = c.memory-kept.ensures.silent;
-    done = c.perform-status.ensures;
-    texts = c.in-Ok.ensures;
-  },
-  c.write_formatted.ensures,
-)
+pub returns : goal.returns
+returns g c =
+    printed (Performs (g.S.Sources.text_of c.args.sources.now) c.args.work.now) c.args.format
+    c.memory-kept.result c.perform-status.new.console c.perform-status.result
+    (use_of g.W.Write.contents c.args.console.now.writer c.print_kept.new.console.writer)
+    (Wrote g.E.Write.contents c.args.console.now.errors c.print_kept.new.console.errors)
+    c.print_kept.result c.memory-kept.ensures.blank c.memory-kept.ensures.silent
+    c.perform-status.ensures c.print_kept.ensures
