@@ -1,2 +1,3 @@
+pub mod AnswerTexts
 pub mod Told
 pub mod Lines

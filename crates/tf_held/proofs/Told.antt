@@ -45,9 +45,9 @@ ran series named instance answer number status work before after names is blank 
 -- it told nothing, and said these bytes
 pub untold : (series : Series) (instance answer : List ℕ) (number status : ℕ)
     (output errors said : List ℕ) → RunsFor series instance answer number status output errors
-    → has_told status ≡ false → said ≡ errors → EndsUntold series instance number status said
+    → has_told status ≡ false → said ≡ errors
+    → EndsUntold series instance answer number status said
 untold series instance answer number status output errors said runs none is = record {
-  answer = answer;
   output = output;
   runs = subst (λ (bytes : List ℕ). RunsFor series instance answer number status output bytes)
       (sym is) runs;
@@ -62,6 +62,9 @@ said_none bytes errors is same = sym ((bytes_eq-Decides bytes no_instance).0 sam
 pub none_there : (last : Option ℕ) (flag : Bool) → is_some last ≡ not flag → flag ≡ true → last ≡ None
 none_there None flag is on = refl
 none_there (Some last) flag is on = absurd (true≢false (is ∙ ap not on))
+
+pub no_last : (last : ℕ) → Some last ≡ None → ⊥
+no_last last e = true≢false (ap is_some e)
 
 -- a test that held
 pub later : (a b : ℕ) (flag : Bool) → flag ≡ ltb a b → flag ≡ true → a < b

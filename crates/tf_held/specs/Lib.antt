@@ -1,5 +1,6 @@
 -- what a caller has to believe
 pub mod Texts
+pub mod AnswerTexts
 pub mod Series
 pub mod Measures
 pub mod Measured

@@ -21,6 +21,7 @@ use Rattle.tf_options.specs.declared.series.Told.TheVariants.{Values, Bounds, An
 use Rattle.tf_command.specs.Ending.{SaysLine}
 use Rattle.tf_command.specs.Formatted.{Memory, held}
 use Rattle.tf_command.specs.Performing.{Performs, Texts, EndsWriting}
+use Rattle.tf_held.specs.AnswerTexts.{IsNext}
 use Rattle.tf_held.specs.Texts.{held_texts, IsUnread}
 use Rattle.tf_held.specs.declared.series.Stop.{Stop}
 use Rattle.tf_held.specs.declared.series.Stop.TheVariants as stops
@@ -82,10 +83,9 @@ pub record IsEntry (series : Series) (instance answer : List ℕ) (number : ℕ)
     pub told : has_told status ≡ true
     pub is : line ≡ entry number output
 
--- the command ended for the instance of this number without telling, and said this
-pub record EndsUntold (series : Series) (instance : List ℕ) (number status : ℕ) (errors : List ℕ)
-    : Type 0 where
-  pub answer : List ℕ
+-- the command ended for the instance of this number and this answer without telling, and said this
+pub record EndsUntold (series : Series) (instance answer : List ℕ) (number status : ℕ)
+    (errors : List ℕ) : Type 0 where
   pub output : List ℕ
   pub runs : RunsFor series instance answer number status output errors
   pub untold : has_told status ≡ false
@@ -103,42 +103,7 @@ Tells series instance answer number (Some kept) =
     × (has_told status ≡ true)
 Tells series instance answer number None =
     (series.span.last ≡ None) × (series.span.first < number)
-    × ((status : ℕ) × EndsUntold series instance number status no_instance)
-
--- ---- all of them
-
--- the lines of as many instances as there are answers, of which the first has this number
-abbrev pub AreEntries : Series → List ℕ → ℕ → List (List ℕ) → List (List ℕ) → Type 0
-AreEntries series instance number [] [] = Unit {0}
-AreEntries series instance number (answer ∷ answers) (line ∷ lines) =
-    IsEntry series instance answer number line
-    × AreEntries series instance (number + 1) answers lines
-AreEntries series instance number _ _ = ⊥
-
--- texts one after the other
-abbrev pub joined : List (List ℕ) → List ℕ
-joined texts = flat_map (λ text. text) texts
-
--- the instances before this number are all that are asked for: the last one was named, or the file has
--- no more
-abbrev pub IsAll : Series → List ℕ → Option ℕ → ℕ → Type 0
-IsAll series instance (Some last) next = next ≡ max series.span.first (last + 1)
-IsAll series instance None next =
-    (next ≡ max series.span.first 4294967296)
-    ⊎ ((series.span.first < next)
-    × ((status : ℕ) × EndsUntold series instance next status no_instance))
-
--- a line of each, in their order. The answers stand one after the other in a text.
-pub record AreLines (series : Series) (instance answers out : List ℕ) : Type 0 where
-  pub parts : List (List ℕ)
-  pub rest : List ℕ
-  pub lines : List (List ℕ)
-  pub entries : AreEntries series instance series.span.first parts lines
-  pub all : IsAll series instance series.span.last (series.span.first + length lines)
-  pub cut : joined parts ++ rest ≡ answers
-  pub written : out ≡ joined lines
-
--- ---- why there are none
+    × ((status : ℕ) × EndsUntold series instance answer number status no_instance)
 
 -- to go over so many bytes for each instance up to this one takes too long
 abbrev pub reads_too_much : ℕ → ℕ → Bool
@@ -148,13 +113,65 @@ reads_too_much number bytes = nat_lt 20000000000 (number * bytes)
 abbrev pub instance_line : ℕ → List ℕ
 instance_line number = line_text (codes "threefield: instance" ∷ decimal number ∷ [])
 
-abbrev pub IsStop : Series → List ℕ → Stop → Type 0
-IsStop series instance stops.Memory = Unit {0}
-IsStop series instance stops.TooLong =
-    (number : ℕ) × (reads_too_much number (length instance) ≡ true)
-IsStop series instance (stops.Ended status said) =
-    (number : ℕ) × (errors : List ℕ) × EndsUntold series instance number status errors
+-- why there is no line of the instance of this number
+abbrev pub IsStopAt : Series → List ℕ → List ℕ → ℕ → Stop → Type 0
+IsStopAt series instance answer number stops.Memory = Unit {0}
+IsStopAt series instance answer number stops.TooLong =
+    reads_too_much number (length instance) ≡ true
+IsStopAt series instance answer number (stops.Ended status said) =
+    (errors : List ℕ) × EndsUntold series instance answer number status errors
     × (said.items ≡ errors ++ instance_line number)
+
+-- ---- all of them
+
+-- lines of the instances from this number on, by the answers that stand one after the other in a
+-- text, and what is left of that text
+abbrev pub AreEntries : Series → List ℕ → ℕ → List ℕ → List (List ℕ) → List ℕ → Type 0
+AreEntries series instance number answers [] rest = answers ≡ rest
+AreEntries series instance number answers (line ∷ lines) rest =
+    (answer : List ℕ) × (after : List ℕ) × IsNext answers answer after
+    × IsEntry series instance answer number line
+    × AreEntries series instance (number + 1) after lines rest
+
+-- texts one after the other
+abbrev pub joined : List (List ℕ) → List ℕ
+joined texts = flat_map (λ text. text) texts
+
+-- the instances before this number are all that are asked for: the last one was named, or the file
+-- has no more, which was said of the answer that follows
+abbrev pub IsAll : Series → List ℕ → List ℕ → Option ℕ → ℕ → Type 0
+IsAll series instance rest (Some last) next = next ≡ max series.span.first (last + 1)
+IsAll series instance rest None next =
+    (next ≡ max series.span.first 4294967296)
+    ⊎ ((series.span.first < next)
+    × ((answer : List ℕ) × (after : List ℕ) × IsNext rest answer after
+    × ((status : ℕ) × EndsUntold series instance answer next status no_instance)))
+
+-- a line of each, in their order
+pub record AreLines (series : Series) (instance answers out : List ℕ) : Type 0 where
+  pub lines : List (List ℕ)
+  pub rest : List ℕ
+  pub entries : AreEntries series instance series.span.first answers lines rest
+  pub all : IsAll series instance rest series.span.last (series.span.first + length lines)
+  pub written : out ≡ joined lines
+
+-- ---- why there are none
+
+-- the instances before have a line each, and the one that follows them has none
+pub record IsStopped (series : Series) (instance answers : List ℕ) (stop : Stop) : Type 0 where
+  pub lines : List (List ℕ)
+  pub rest : List ℕ
+  pub entries : AreEntries series instance series.span.first answers lines rest
+  pub answer : List ℕ
+  pub after : List ℕ
+  pub next : IsNext rest answer after
+  pub is : IsStopAt series instance answer (series.span.first + length lines) stop
+
+abbrev pub IsStop : Series → List ℕ → List ℕ → Stop → Type 0
+IsStop series instance answers stops.Memory = Unit {0}
+IsStop series instance answers stops.TooLong = IsStopped series instance answers stops.TooLong
+IsStop series instance answers (stops.Ended status said) =
+    IsStopped series instance answers (stops.Ended status said)
 
 -- the status, and what is said
 abbrev pub status_of_stop : Stop → ℕ
@@ -169,12 +186,18 @@ line_of_stop (stops.Ended status said) = said.items
 
 -- ---- how it ends
 
+-- the text of the answers, and an empty one where none are evaluated
+abbrev pub HasAnswers : Texts → Told → List ℕ → Type 0
+HasAnswers texts (Answers name steps) answers = IsTextOf (texts name.now) answers
+HasAnswers texts _ answers = answers ≡ []
+
 -- the lines were written, or a part of them where the device failed, which is said
 pub record EndsTold (texts : Texts) (series : Series) (writer : DeviceUse) (says : List ℕ → Type 0)
     (status : ℕ) : Type 0 where
   pub instance : List ℕ
   pub is_file : IsTextOf (texts series.input.now) instance
   pub answers : List ℕ
+  pub are_texts : HasAnswers texts series.told answers
   pub out : List ℕ
   pub lines : AreLines series instance answers out
   pub ends : EndsWriting out writer says status
@@ -184,8 +207,10 @@ pub record EndsStopped (texts : Texts) (series : Series) (writer : DeviceUse)
     (says : List ℕ → Type 0) (status : ℕ) : Type 0 where
   pub instance : List ℕ
   pub is_file : IsTextOf (texts series.input.now) instance
+  pub answers : List ℕ
+  pub are_texts : HasAnswers texts series.told answers
   pub stop : Stop
-  pub is : IsStop series instance stop
+  pub is : IsStop series instance answers stop
   pub unwritten : Keeps writer.before writer.after
   pub ends : status ≡ status_of_stop stop
   pub said : says (line_of_stop stop)

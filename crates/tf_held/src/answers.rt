@@ -1,12 +1,15 @@
 //! A text of several answers, one after the other.
 ghost use Rattle.std.specs.Prelude.{◌≡◌, ◌++◌};
+ghost use Rattle.tf_words.specs.Words.{lines, words};
+ghost use Rattle.tf_held.specs.AnswerTexts.{after_end, are_end};
 
 use tf_words::line::line_len;
 use tf_words::word::{first_word, is};
 
 /// The first answer of a text, up to its line `end`, and what follows it.
 pub(crate) fn next_answer(text: &[u8]) -> (&[u8], &[u8])
-    ensures { text.now ≡ result.0.now ++ result.1.now }
+    ensures whole { text.now ≡ result.0.now ++ result.1.now }
+    ensures after { lines result.1.now ≡ after_end (lines text.now) }
 {
     let mut len = 0;
     while len < text.len() {
@@ -21,7 +24,9 @@ pub(crate) fn next_answer(text: &[u8]) -> (&[u8], &[u8])
 }
 
 /// Whether a line is the word `end` alone.
-fn is_end(line: &[u8]) -> bool {
+fn is_end(line: &[u8]) -> bool
+    ensures { result ≡ are_end (words line.now) }
+{
     match first_word(line) {
         Some((word, more)) => is(word, b"end") && first_word(more).is_none(),
         None => false,

@@ -1,5 +1,6 @@
 //! An evaluation, with what the schedule comes to by each objective.
-ghost use Rattle.std.specs.Prelude.{◌≡◌, ◌⊎◌, false, true, codes, Ok, IfOk, IsErr, OnOk, MatchOption};
+ghost use Rattle.std.specs.Prelude.{◌≡◌, ◌⊎◌, false, true, codes, Ok, IfOk, IsErr, OnOk};
+ghost use Rattle.std.specs.Prelude.{MatchOption};
 ghost use Rattle.tf_text.specs.Counted.{use_of};
 ghost use Rattle.tf_command.specs.Ending.{SaysLine};
 ghost use Rattle.tf_command.specs.Wrote.{Wrote};

@@ -2,7 +2,8 @@
 ghost use Rattle.std.specs.Prelude.{◌≡◌, ◌++◌, Some, MatchOption, IfOk, OnOk};
 ghost use Rattle.tf_assess.specs.Assessing.{IsProblemJudged, value_in};
 ghost use Rattle.tf_assess.specs.declared.assessment.ProblemFit.{ProblemFit};
-ghost use Rattle.tf_held.specs.Measures.{AddsMeasure, AddsMeasures, HasMeasure, HasNoMeasure, all_goals, by_goal, from_zero, measure_text, name_of};
+ghost use Rattle.tf_held.specs.Measures.{AddsMeasure, AddsMeasures, HasMeasure, HasNoMeasure};
+ghost use Rattle.tf_held.specs.Measures.{all_goals, by_goal, from_zero, measure_text, name_of};
 
 use std::alloc::{Allocator, Global};
 use std::marker::Model;

@@ -6,7 +6,10 @@ ghost use Rattle.tf_command.specs.Wrote.{Wrote};
 ghost use Rattle.tf_text.specs.Counted.{inner_of, use_of};
 ghost use Rattle.tf_held.specs.declared.series.Stop.TheVariants.{Memory};
 ghost use Rattle.tf_held.specs.Texts.{IsUnread};
-ghost use Rattle.tf_held.specs.Series.{AreLines, EndsSeries, IsStop, IsWorkFor, AreOptionsFor, Tells, has_told, instance_line, line_of_stop, no_instance, reads_too_much, status_of_stop};
+ghost use Rattle.tf_held.specs.Series.{AreLines, EndsSeries, HasAnswers, IsStop, IsStopAt};
+ghost use Rattle.tf_held.specs.Series.{IsWorkFor, AreOptionsFor};
+ghost use Rattle.tf_held.specs.Series.{Tells, has_told, instance_line, line_of_stop, no_instance};
+ghost use Rattle.tf_held.specs.Series.{reads_too_much, status_of_stop};
 
 use crate::answers::next_answer;
 use crate::held::Held;
@@ -92,6 +95,8 @@ fn answers_named<S: Sources, W: Write, E: Write>(
     sources: &S,
     series: &Series<'_>,
 ) -> Result<Vec<u8>, u8>
+    ensures text { IfOk result (λ text.
+        HasAnswers (S.text_of sources.now) series.now.told text.items) }
     ensures kept { IfOk result (λ _. console.new ≡ console.old) }
     ensures unread { IfErr result (IsUnread (use_of W.contents console.old.writer console.new.writer)
         (SaysLine E.contents false console.old.errors console.new.errors)) }
@@ -110,7 +115,7 @@ fn lines_of(
     answers: &[u8],
 ) -> Result<Vec<u8>, Stop>
     ensures { MatchResult result (λ all. AreLines series.now instance.now answers.now all.items)
-        (IsStop series.now instance.now) }
+        (IsStop series.now instance.now answers.now) }
 {
     let mut all = Vec::new(alloc);
     let mut rest = answers;
@@ -118,9 +123,6 @@ fn lines_of(
     let last = u64::from(series.span.last.unwrap_or(u32::MAX));
     for step in 0..(last + 1).saturating_sub(first) {
         let number = (first + step) as u32;
-        if reads_too_much(number, instance.len()) {
-            return Err(Stop::TooLong);
-        }
         let (answer, more) = next_answer(rest);
         let held = Held {
             name: series.input,
@@ -143,8 +145,8 @@ fn reads_too_much(number: u32, bytes: usize) -> bool
     u128::from(number) * bytes as u128 > MOST_READ
 }
 
-/// What the command writes that is about the instance of this number, and none where a series to the
-/// end of the file has come to that.
+/// What the command writes that is about the instance of this number, and none where a series to
+/// the end of the file has come to that.
 fn told_of(
     alloc: Global,
     series: &Series<'_>,
@@ -153,8 +155,11 @@ fn told_of(
 ) -> Result<Option<Kept>, Stop>
     requires { held.name.now ≡ series.now.input.now }
     ensures { MatchResult result (Tells series.now held.entry.instance.now held.entry.other.now number)
-        (IsStop series.now held.entry.instance.now) }
+        (IsStopAt series.now held.entry.instance.now held.entry.other.now number) }
 {
+    if reads_too_much(number, held.instance.len()) {
+        return Err(Stop::TooLong);
+    }
     let work = work_for(series, number);
     let mut kept = memory(alloc);
     let status = perform(&mut kept, &held, &work);

@@ -4,7 +4,7 @@ use Rattle.std.specs.Io.KnownBytes.{Keeps}
 use Rattle.tf_text.specs.Counted.{inner_of}
 use Rattle.tf_text.specs.Input.{IsTextOf}
 use Rattle.tf_command.specs.Wrote.{Wrote}
-use Rattle.tf_held.specs.Series.{line_of_stop}
+use Rattle.tf_held.specs.Series.{HasAnswers, line_of_stop}
 use Rattle.tf_held.proofs.series.perform_series.Goals as goal
 
 pub returns : goal.returns
@@ -15,6 +15,9 @@ returns g c =
       is_file = subst (λ text. IsTextOf
           (g.S.Sources.text_of c.args.sources.now c.args.series.now.input.now) text)
           (sym c.as_slice.ensures.value) c.in-Ok.ensures.text;
+      answers = c.as_slice-2.result.now;
+      are_texts = subst (HasAnswers (g.S.Sources.text_of c.args.sources.now) c.args.series.now.told)
+          (sym c.as_slice-2.ensures.value) c.in-Ok-answers_named.ensures.text;
       stop = c.in-Err-lines_of.stop;
       is = c.in-Err-lines_of.ensures;
       unwritten = subst (λ console. Keeps

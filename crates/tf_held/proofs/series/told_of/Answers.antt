@@ -43,7 +43,6 @@ returns-then-has_no_instance c = elim c.if-is_none.branch [
 
 pub returns : goal.returns
 returns c = (
-  c.args.number,
   _,
   untold c.args.series.now c.args.held.instance.now c.args.held.other.now c.args.number
       c.perform-status.result _ _ _
