@@ -1,7 +1,8 @@
 //! An allocator for tests: it refuses exactly one growth, and grants all others.
 //!
-//! A test passes `&Refusing::new(alloc, n)` as the allocator of a call, for n = 0, 1, 2, .., and stops at the first n
-//! for which [`Refusing::has_refused`] is false after the call: the call then asks for no more than n growths.
+//! A test passes `&Refusing::new(alloc, n)` as the allocator of a call, for n = 0, 1, 2, .., and
+//! stops at the first n for which [`Refusing::has_refused`] is false after the call: the call then
+//! asks for no more than n growths.
 #![tactic(auto)]
 
 use std::alloc::{AllocError, Allocator};

@@ -3,7 +3,7 @@ use refusing::Refusing;
 use std::alloc::{AllocError, Allocator, Global};
 use std::test::Fail;
 use test_runs::devices::{Failure, Sink, Source, Way};
-use test_runs::examples::latest::{BROKEN_OFF, COSTS, DUE_ARC, EQUAL_DUE, TWO_ARCS};
+use test_runs::examples::latest::{COSTS, DUE_ARC, EQUAL_DUE, PREEMPTED, TWO_ARCS};
 use test_runs::examples::parallel::{DEALT, FOURS, ONE_LONG, ONES};
 use test_runs::examples::shops::{FLOW, FLOW_ZEROS, OPEN};
 use test_runs::examples::sums::{NO_WEIGHT, RATIOS, SHORTEST};
@@ -89,7 +89,7 @@ static CASES: [Case; 26] = [
         changes: &[],
     },
     Case {
-        example: BROKEN_OFF,
+        example: PREEMPTED,
         changes: &[],
     },
     Case {
@@ -154,7 +154,7 @@ static CASES: [Case; 26] = [
         changes: &[(12, "cert machine 2")],
     },
     Case {
-        example: BROKEN_OFF,
+        example: PREEMPTED,
         changes: &[(10, "cert window 3 1 2")],
     },
 ];

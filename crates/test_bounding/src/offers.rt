@@ -1,5 +1,5 @@
-//! Answers that are assessed beside the bound of a text, where memory is refused, a device fails or the
-//! text is damaged.
+//! Answers that are assessed beside the bound of a text, where memory is refused, a device fails or
+//! the text is damaged.
 use refusing::Refusing;
 use std::alloc::{AllocError, Allocator, Global};
 use std::test::Fail;

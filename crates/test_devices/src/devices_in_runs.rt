@@ -244,7 +244,8 @@ fn writer_failures(text: &[u8]) -> u64 {
     (text.len() as u64).saturating_mul(6)
 }
 
-/// The run is refused, the writer was called up to its failure, and took a byte in each call before.
+/// The run is refused, the writer was called up to its failure, and took a byte in each call
+/// before.
 fn is_cut_short<T: PartialEq + Drop>(
     outcome: Result<T, RunFault>,
     wanted: &[u8],

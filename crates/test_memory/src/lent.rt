@@ -217,8 +217,8 @@ fn judging_answers_whatever_growth_is_refused(rt: HostRuntime) -> Result<(), Fai
     Ok(())
 }
 
-/// The bounds of `load`, `machine` and `job` take no memory. Those of the other kinds do, and are out
-/// of memory where their first growth is refused.
+/// The bounds of `load`, `machine` and `job` take no memory. Those of the other kinds do, and are
+/// out of memory where their first growth is refused.
 #[test]
 fn certificates_bound_whatever_growth_is_refused(rt: HostRuntime) -> Result<(), Fail> {
     for example in WORKED.iter() {

@@ -87,7 +87,7 @@ impl Family {
         Family { most_work, ..self }
     }
 
-    /// The same where jobs may be broken off and taken up again.
+    /// The same where jobs may be preempted.
     pub fn with_breaks(self) -> Family {
         Family {
             kind: Kind {

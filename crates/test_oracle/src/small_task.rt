@@ -14,7 +14,7 @@ pub enum Machines {
     OpenShop,
 }
 
-/// What is to be least.
+/// What is minimized.
 #[derive(Clone, Copy, PartialEq, Eq)]
 pub enum Objective {
     /// The greatest completion time.
@@ -37,7 +37,7 @@ pub struct Kind {
     pub is_released: bool,
     /// Whether arcs order the jobs.
     pub is_ordered: bool,
-    /// Whether a job may be broken off and taken up again.
+    /// Whether a job may be preempted.
     pub may_break: bool,
     pub objective: Objective,
 }

@@ -1,5 +1,5 @@
-//! A reader and a writer that take part in no operating system: they give and take little at a time,
-//! fail where they are told to, and count their calls.
+//! A reader and a writer that take part in no operating system: they give and take little at a
+//! time, fail where they are told to, and count their calls.
 use std::alloc::Global;
 use std::io;
 use std::io::{ErrorKind, Read, Write};

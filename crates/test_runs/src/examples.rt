@@ -99,7 +99,7 @@ pub static WORKED: [Example; 35] = [
     latest::COSTS,
     latest::EQUAL_DUE,
     latest::DUE_ARC,
-    latest::BROKEN_OFF,
+    latest::PREEMPTED,
     latest::ALIKE,
     latest::FAR_DUE,
     latest::GREATEST_LATENESS,

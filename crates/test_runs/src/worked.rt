@@ -1,5 +1,5 @@
-//! Each worked example through the three runs, in both versions of the answer text: with each growth
-//! refused, and after each of them with ample memory.
+//! Each worked example through the three runs, in both versions of the answer text: with each
+//! growth refused, and after each of them with ample memory.
 use crate::examples::{Example, WORKED, answer_in};
 use crate::growths::{Ended, refuse_each_growth};
 use crate::runs::{LAYOUTS, check_into, draw_into, ensure, request_for, solve_into};

@@ -7,7 +7,7 @@ use tf_text::answer::fault::AnswerFault;
 use tf_text::answer::reading::read_answer;
 use tf_text::answer::sheet::Sheet;
 
-/// The lines of an answer of each version, but for the heading.
+/// The lines of an answer of each version, except the heading.
 const LINES: [&str; 7] = [
     "problem 1||sumC",
     "jobs 1",

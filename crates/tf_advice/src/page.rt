@@ -86,8 +86,8 @@ impl Page {
     }
 }
 
-/// A name or an argument as it is printed: each byte that is no printable ASCII is escaped, as those
-/// of a text are, so that it can neither steer a terminal nor begin a line.
+/// A name or an argument as it is printed: each byte that is no printable ASCII is escaped, as
+/// those of a text are, so that it can neither steer a terminal nor begin a line.
 pub fn escape(alloc: Global, text: &str) -> Result<String, AllocError> {
     let mut escaped = String::new(alloc);
     for byte in text.as_bytes() {

@@ -1,7 +1,8 @@
 //! An answer to a problem, assessed.
 ghost use Rattle.std.specs.Prelude.{◌≡◌, ◌↔◌, IfOk, IsTrue};
 ghost use Rattle.tf_text.specs.AnswerText.{SheetData};
-ghost use Rattle.tf_assess.specs.Assessing.{HasSameJobs, HasSameShop, IsSameProblem, IsAssessment, IsForProblem, IsOfTask, IsProblemJudged, HasProblemFit};
+ghost use Rattle.tf_assess.specs.Assessing.{HasSameJobs, HasSameShop, IsSameProblem, IsAssessment};
+ghost use Rattle.tf_assess.specs.Assessing.{IsForProblem, IsOfTask, IsProblemJudged, HasProblemFit};
 
 use crate::assessment::{Assessment, ProblemFit};
 use crate::offered::{Aids, Weighed, weigh};

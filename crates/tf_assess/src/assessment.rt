@@ -11,7 +11,8 @@ use tf_search::strongest::Found;
 /// How the pieces of an answer stand to the task of a problem.
 #[derive(Debug, Drop, PartialEq, Eq)]
 pub enum ProblemFit {
-    /// They draw a timetable that fits, and this is what it costs: none where that is 2^127 or more.
+    /// They draw a timetable that fits, and this is what it costs: none where that is 2^127 or
+    /// more.
     Fits(Option<i128>),
     /// They make no schedule.
     NoSchedule(PieceFault),
@@ -62,8 +63,8 @@ pub struct Assessment<A: Allocator = Global> {
     pub claimed: Option<i64>,
     /// What the bound that was offered comes to; `None` where none was.
     pub offered: Option<Offered>,
-    /// The strongest lower bound that was found or offered. None where each certificate that was tried has a
-    /// number beyond the limit.
+    /// The strongest lower bound that was found or offered. None where each certificate that was
+    /// tried has a number beyond the limit.
     pub bound: Option<Found<A>>,
 }
 

@@ -3,7 +3,8 @@ ghost use Rattle.std.specs.Prelude.{◌≡◌};
 ghost use Rattle.tf_text.specs.Counted.{use_of};
 ghost use Rattle.tf_engine.specs.Devices.{LeavesCase};
 ghost use Rattle.tf_engine.specs.Faults.{end_of};
-ghost use Rattle.tf_assess.specs.RunRating.{IsRatingOf, is_solved, posed_problem, rated, standing_as};
+ghost use Rattle.tf_assess.specs.RunRating.{IsRatingOf, is_solved, posed_problem, rated};
+ghost use Rattle.tf_assess.specs.RunRating.{standing_as};
 
 use crate::assessment::Assessed;
 use crate::offered::Aids;
@@ -21,14 +22,16 @@ use tf_text::counted::Counted;
 /// How an answer is evaluated.
 #[derive(Clone, Copy, Debug)]
 pub struct EvaluationOptions {
-    /// How much is told of the certificate of an answer to a problem of a class.
+    /// How much is reported of the certificate of an answer to a problem of a class.
     pub detail: Detail,
-    /// The steps of the search for prices for another problem; as many as usual where there is none.
+    /// The steps of the search for prices for another problem; as many as usual where there is
+    /// none.
     pub steps: Option<u32>,
 }
 
-/// Evaluates an answer to a problem of a class as [`run_evaluate`] does, and assesses one to another
-/// problem as [`run_assess`] does. The former takes no steps, and the latter looks at no detail.
+/// Evaluates an answer to a problem of a class as [`run_evaluate`] does, and assesses one to
+/// another problem as [`run_assess`] does. The former takes no steps, and the latter looks at no
+/// detail.
 pub fn run_rate<A: Allocator + Copy, B: Allocator, R: Read, S: Read, W: Write>(
     alloc: A,
     request: &Request<B>,
@@ -53,7 +56,7 @@ pub fn run_rate<A: Allocator + Copy, B: Allocator, R: Read, S: Read, W: Write>(
     rated(run_assess(alloc, request, aids, instance, answer, writer))
 }
 
-/// What is told of an assessment.
+/// What is reported of an assessment.
 pub fn rated<A: Allocator>(run: Result<Assessed, RunFault<A>>) -> Result<Standing, RunFault<A>>
     ensures { result ≡ rated run }
 {

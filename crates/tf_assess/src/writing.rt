@@ -3,7 +3,10 @@ ghost use Rattle.std.specs.Prelude.{◌≡◌, [], ◌∷◌, ◌++◌, length, 
 ghost use Rattle.std.specs.List.{flat_map, join_with_byte};
 ghost use Rattle.std.specs.Fmt.{decimal};
 ghost use Rattle.tf_text.specs.AnswerText.{line_text};
-ghost use Rattle.tf_assess.specs.AssessmentText.{certificate_fault_words, problem_misfit_words, fit_words, number_lines, gap_lines, offered_words, offered_lines, bound_lines, judged_lines, assessment_text};
+ghost use Rattle.tf_assess.specs.AssessmentText.{certificate_fault_words, problem_misfit_words};
+ghost use Rattle.tf_assess.specs.AssessmentText.{fit_words, number_lines, gap_lines, offered_words};
+ghost use Rattle.tf_assess.specs.AssessmentText.{offered_lines, bound_lines, judged_lines};
+ghost use Rattle.tf_assess.specs.AssessmentText.{assessment_text};
 
 use crate::assessment::{Assessment, Offered, ProblemFit};
 use std::alloc::Allocator;

@@ -2,7 +2,9 @@
 ghost use Rattle.std.specs.Prelude.{◌≡◌};
 ghost use Rattle.tf_words.specs.Words.{words};
 ghost use Rattle.tf_bound_text.specs.BoundSheetData.{basis_of};
-ghost use Rattle.tf_bound_text.specs.BoundReading.{Gives, machine_basis, crowd_basis, multiplier_basis, price_basis, one_job_basis, window_basis, kind_in, basis_in};
+ghost use Rattle.tf_bound_text.specs.BoundReading.{Gives, machine_basis, crowd_basis};
+ghost use Rattle.tf_bound_text.specs.BoundReading.{multiplier_basis, price_basis, one_job_basis};
+ghost use Rattle.tf_bound_text.specs.BoundReading.{window_basis, kind_in, basis_in};
 
 use crate::fault::BoundTextFault;
 use crate::number::{first_number, jobs_from, natural, numbers_from, only};

@@ -2,7 +2,8 @@
 ghost use Rattle.std.specs.Prelude.{◌≤◌, IfOk};
 ghost use Rattle.tf_model.specs.Limit.{limit, most_jobs};
 ghost use Rattle.tf_words.specs.Words.{words};
-ghost use Rattle.tf_bound_text.specs.BoundReading.{Gives, natural, value_in, only, first_number, naturals};
+ghost use Rattle.tf_bound_text.specs.BoundReading.{Gives, natural, value_in, only, first_number};
+ghost use Rattle.tf_bound_text.specs.BoundReading.{naturals};
 
 use crate::fault::BoundTextFault;
 use std::alloc::Allocator;

@@ -5,7 +5,9 @@ ghost use Rattle.tf_model.specs.Limit.{most_jobs};
 ghost use Rattle.tf_words.specs.Words.{words, lines};
 ghost use Rattle.tf_words.specs.Lines.{line_of, lines_of};
 ghost use Rattle.tf_bound_text.specs.BoundSheetData.{basis_of};
-ghost use Rattle.tf_bound_text.specs.BoundReading.{Gives, next, word_at, heading_at, problem_in, problem_at, count_at, value_at, certificate_at, is_end, end_at, bound_at, sheet_of, bound_in};
+ghost use Rattle.tf_bound_text.specs.BoundReading.{Gives, next, word_at, heading_at, problem_in};
+ghost use Rattle.tf_bound_text.specs.BoundReading.{problem_at, count_at, value_at, certificate_at};
+ghost use Rattle.tf_bound_text.specs.BoundReading.{is_end, end_at, bound_at, sheet_of, bound_in};
 
 use crate::certificate::certificate_in;
 use crate::fault::BoundTextFault;
@@ -190,8 +192,8 @@ fn sheet_of<A: Allocator>(alloc: A, lines: &Lines<'_>) -> Result<BoundSheet<A>, 
 ///
 /// # Errors
 ///
-/// The first fault of the text, from its first line to its last. In each line the form of what comes
-/// first is judged before what follows it.
+/// The first fault of the text, from its first line to its last. In each line the form of what
+/// comes first is judged before what follows it.
 #[tactic(auto, unfolding(crate::specs::BoundReading::bound_in))]
 pub fn read_bound<A: Allocator>(alloc: A, text: &[u8]) -> Result<BoundSheet<A>, BoundTextFault>
     ensures { Gives (λ s. s) result (bound_in text.now) }

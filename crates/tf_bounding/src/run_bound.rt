@@ -20,10 +20,10 @@ use tf_text::counted::Counted;
 /// Reads an instance to its end, searches for the strongest lower bound of its task, and writes the
 /// bound with its certificate.
 ///
-/// The refusals come in the order of [`tf_engine::run_solve::run_solve`]: notation, a problem that no
-/// kind of certificate bounds, reading the input, its text, the rest of what makes no task. After a
-/// refusal nothing was written, unless it is [`RunFault::Device`], after which a prefix of the bound
-/// may have been.
+/// The refusals come in the order of [`tf_engine::run_solve::run_solve`]: notation, a problem that
+/// no kind of certificate bounds, reading the input, its text, the rest of what makes no task.
+/// After a refusal nothing was written, unless it is [`RunFault::Device`], after which a prefix of
+/// the bound may have been.
 pub fn run_bound<A: Allocator + Copy, B: Allocator, R: Read, W: Write>(
     alloc: A,
     request: &Request<B>,

@@ -5,7 +5,9 @@ ghost use Rattle.tf_read.specs.FlowShop.{flow_shop};
 ghost use Rattle.tf_engine.specs.Faults.{stop_of};
 ghost use Rattle.tf_engine.specs.FormData.{form_of};
 ghost use Rattle.tf_engine.specs.Parts.{ReadsTo, StopsBy, instance_said};
-ghost use Rattle.tf_bounding.specs.ShopTimes.{machines_of, is_too_much, pair_for, times_on, times_by_machine, shop_said, self_timed_said, timed_said};
+ghost use Rattle.tf_bounding.specs.ShopTimes.{machines_of, is_too_much, pair_for, times_on};
+ghost use Rattle.tf_bounding.specs.ShopTimes.{times_by_machine, shop_said, self_timed_said};
+ghost use Rattle.tf_bounding.specs.ShopTimes.{timed_said};
 
 use crate::instance_read::instance_read;
 use std::alloc::Allocator;

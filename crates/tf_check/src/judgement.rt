@@ -41,8 +41,8 @@ pub struct Judgement<A: Allocator = Global> {
     pub bound: Result<i128, BoundFault>,
 }
 
-/// How the answer of these parts stands to a task. The pieces are sorted where they stand. Only want
-/// of memory is an error.
+/// How the answer of these parts stands to a task. The pieces are sorted where they stand. Only
+/// want of memory is an error.
 pub fn judge_answer<A: Allocator + Copy, B: Allocator, C: Allocator, D: Allocator>(
     alloc: A,
     task: &Task<B>,

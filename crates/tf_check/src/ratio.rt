@@ -191,8 +191,8 @@ fn numbers<A: Allocator>(alloc: A, jobs: &[WeightedJob]) -> Result<Vec<JobId, A>
     Ok(numbers)
 }
 
-/// The weighted sum of the completions of all jobs, if they run in this order one after another from
-/// time 0 on.
+/// The weighted sum of the completions of all jobs, if they run in this order one after another
+/// from time 0 on.
 pub fn weighted_completions<B: Allocator>(task: &Task<B>, jobs: &[JobId]) -> u64
     requires sound { IsSound task.now }
     requires sum { IsTrue (is_sum task.now.class) }

@@ -35,10 +35,10 @@ pub enum Pictured {
 /// Reads an instance and an answer to their ends and writes a picture of the answer's schedule in
 /// this view, as SVG, with the dates of the jobs that the answer's problem uses.
 ///
-/// The refusals come in this order: the first fault of the instance, that of the answer, and that of
-/// its pieces; an answer for another number of jobs is told before the last. Neither the fit nor the
-/// certificate is judged. After a refusal nothing was written, unless it is [`RunFault::Device`],
-/// after which a prefix of the picture may have been.
+/// The refusals come in this order: the first fault of the instance, that of the answer, and that
+/// of its pieces; an answer for another number of jobs is told before the last. Neither the fit nor
+/// the certificate is judged. After a refusal nothing was written, unless it is
+/// [`RunFault::Device`], after which a prefix of the picture may have been.
 pub fn run_dated<A: Allocator + Copy, B: Allocator, R: Read, S: Read, W: Write>(
     alloc: A,
     view: &View,

@@ -1,7 +1,9 @@
 //! Why a run gives no answer.
 ghost use Rattle.std.specs.Prelude.{◌≡◌};
-ghost use Rattle.tf_engine.specs.declared.fault.RunFault.TheVariants.{Device as DeviceFault, OutOfMemory as NoMemory};
-ghost use Rattle.tf_engine.specs.Passed.{of_notation, of_input, of_read, of_refusal, of_answer, of_solve, of_write, of_pieces};
+ghost use Rattle.tf_engine.specs.declared.fault.RunFault.TheVariants.{Device as DeviceFault};
+ghost use Rattle.tf_engine.specs.declared.fault.RunFault.TheVariants.{OutOfMemory as NoMemory};
+ghost use Rattle.tf_engine.specs.Passed.{of_notation, of_input, of_read, of_refusal, of_answer};
+ghost use Rattle.tf_engine.specs.Passed.{of_solve, of_write, of_pieces};
 
 use crate::solve::SolveFault;
 use std::alloc::{Allocator, Global};

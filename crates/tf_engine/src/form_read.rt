@@ -18,8 +18,9 @@ use tf_read::weighted_tardiness::WtReader;
 use tf_text::counted::Counted;
 use tf_text::input::{drain, read_all};
 
-// Space for the rows of the most jobs. It is reserved before the text is read and freed after it, so
-// that the rows lie before the text in memory, and what is made of the rows takes the text's pages.
+// Space for the rows of the most jobs. It is reserved before the text is read and freed after it,
+// so that the rows lie before the text in memory, and what is made of the rows takes the text's
+// pages.
 fn place_for_rows<A: Allocator>(alloc: A, problem: &Problem) -> Option<Vec<u64, A>> {
     let numbers = if problem.release { 3 } else { 2 };
     Vec::with_capacity(alloc, numbers * MOST_JOBS).ok()
@@ -63,8 +64,8 @@ pub(crate) fn wt_task_read<A: Allocator + Copy, R: Read>(
     Ok(numbers.into_task(alloc, problem, machines)?)
 }
 
-/// The task of a problem and of the instance of this name of a flow shop file that the reader's text
-/// is, for a pair of machines, where the caller gives this number of machines or none.
+/// The task of a problem and of the instance of this name of a flow shop file that the reader's
+/// text is, for a pair of machines, where the caller gives this number of machines or none.
 pub(crate) fn flow_task_read<A: Allocator + Copy, R: Read>(
     alloc: A,
     problem: &Problem,

@@ -1,4 +1,5 @@
-//! Solving, from the bytes of a problem and an instance to the bytes of an answer, and judging an answer.
+//! Solving, from the bytes of a problem and an instance to the bytes of an answer, and judging an
+//! answer.
 #![tactic(auto)]
 
 pub mod case;

@@ -4,7 +4,8 @@ ghost use Rattle.tf_text.specs.Counted.{inner_of, use_of};
 ghost use Rattle.tf_engine.specs.Refusal.{problem_for};
 ghost use Rattle.tf_engine.specs.Faults.{end_of};
 ghost use Rattle.tf_engine.specs.Devices.{LeavesCase};
-ghost use Rattle.tf_engine.specs.Checking.{IsCheckOf, IsChecked, AcceptsUnlessStopped, IsFor, IsVerdict};
+ghost use Rattle.tf_engine.specs.Checking.{IsCheckOf, IsChecked, AcceptsUnlessStopped, IsFor};
+ghost use Rattle.tf_engine.specs.Checking.{IsVerdict};
 
 use crate::case::{Case, case_read};
 use crate::fault::RunFault;

@@ -1,7 +1,8 @@
 //! The line that a check prints.
 ghost use Rattle.std.specs.Prelude.{◌≡◌, [], ◌∷◌, ◌++◌, OnOk, IfOk};
 ghost use Rattle.std.specs.List.{join_with_byte};
-ghost use Rattle.tf_engine.specs.VerdictLine.{piece_fault_words, misfit_words, bound_fault_words, reason_words, verdict_line};
+ghost use Rattle.tf_engine.specs.VerdictLine.{piece_fault_words, misfit_words, bound_fault_words};
+ghost use Rattle.tf_engine.specs.VerdictLine.{reason_words, verdict_line};
 
 use crate::run_check::Checked;
 use itoa::Integer;

@@ -7,7 +7,9 @@ ghost use Rattle.tf_check.specs.Judgement.{IsJudged};
 ghost use Rattle.tf_text.specs.AnswerText.{SheetData};
 ghost use Rattle.tf_engine.specs.Checking.{IsFor};
 ghost use Rattle.tf_engine.specs.Solvers.{IsNotSolved};
-ghost use Rattle.tf_evaluate.specs.Evaluating.{EndsInBound, IsBoundOf, IsEvaluation, IsLeastCost, HasFit, HasStanding, HasGap, bound_for, outcomes_for, steps_for};
+ghost use Rattle.tf_evaluate.specs.Evaluating.{EndsInBound, IsBoundOf, IsEvaluation, IsLeastCost};
+ghost use Rattle.tf_evaluate.specs.Evaluating.{HasFit, HasStanding, HasGap, bound_for};
+ghost use Rattle.tf_evaluate.specs.Evaluating.{outcomes_for, steps_for};
 ghost use Rattle.tf_evaluate.specs.EvaluationData.{standing_of};
 
 use crate::arithmetic::arithmetic;
@@ -130,8 +132,8 @@ pub struct JudgedPieces<A: Allocator> {
     pub outcomes: Vec<JobOutcome, A>,
 }
 
-/// How pieces stand to a task, what a certificate bounds, and what happens to the jobs. Only want of
-/// memory is an error.
+/// How pieces stand to a task, what a certificate bounds, and what happens to the jobs. Only want
+/// of memory is an error.
 pub fn judge_pieces<A: Allocator + Copy, B: Allocator, C: Allocator, D: Allocator>(
     alloc: A,
     task: &Task<B>,

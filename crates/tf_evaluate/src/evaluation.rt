@@ -7,7 +7,7 @@ use tf_check::judgement::Fit;
 use tf_model::ids::JobId;
 use tf_model::problem::Problem;
 
-/// How much is told of an answer.
+/// How much is reported of an answer.
 #[derive(Clone, Copy, Debug, Drop, PartialEq, Eq)]
 pub enum Detail {
     /// How good it is, and what happens to each job.

@@ -3,7 +3,10 @@ ghost use Rattle.std.specs.Prelude.{◌≡◌, [], ◌∷◌, ◌++◌, codes, m
 ghost use Rattle.std.specs.Fmt.{decimal};
 ghost use Rattle.std.specs.List.{flat_map, join_with_byte};
 ghost use Rattle.tf_text.specs.AnswerText.{line_text};
-ghost use Rattle.tf_evaluate.specs.EvaluationText.{fit_words, claimed_lines, value_lines, gap_lines, bound_words, bound_lines, outcome_words, judgement_lines, step_words, terms_words, evaluation_text};
+ghost use Rattle.tf_evaluate.specs.EvaluationText.{fit_words, claimed_lines, value_lines};
+ghost use Rattle.tf_evaluate.specs.EvaluationText.{gap_lines, bound_words, bound_lines};
+ghost use Rattle.tf_evaluate.specs.EvaluationText.{outcome_words, judgement_lines, step_words};
+ghost use Rattle.tf_evaluate.specs.EvaluationText.{terms_words, evaluation_text};
 
 use crate::evaluation::{Evaluation, JobOutcome};
 use crate::step::{Step, Terms};

@@ -3,7 +3,9 @@ ghost use Rattle.std.specs.Prelude.{◌≡◌, ◌∷◌, ◌++◌, [], codes, d
 ghost use Rattle.std.specs.List.{flat_map};
 ghost use Rattle.tf_words.specs.Words.{words, lines};
 ghost use Rattle.tf_export.specs.Members.{record_of, rows, row_in};
-ghost use Rattle.tf_export.specs.Documents.{document_members, json_of, piece_names, outcome_names, records, step_in, steps, problem_in, problems, members_behind, answer_members, evaluation_members};
+ghost use Rattle.tf_export.specs.Documents.{document_members, json_of, piece_names, outcome_names};
+ghost use Rattle.tf_export.specs.Documents.{records, step_in, steps, problem_in, problems};
+ghost use Rattle.tf_export.specs.Documents.{members_behind, answer_members, evaluation_members};
 
 use crate::json::Json;
 use crate::line::{count_words, next_line, row_in};

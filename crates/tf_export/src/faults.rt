@@ -2,7 +2,8 @@
 ghost use Rattle.std.specs.Prelude.{◌≡◌, ◌∷◌, ◌<◌, [], codes, length, IfOk, OnOk};
 ghost use Rattle.tf_export.specs.Json.{string, member};
 ghost use Rattle.tf_words.specs.Words.{words};
-ghost use Rattle.tf_export.specs.Faults.{refused, refusal, fault, explanation, fault_members, fault_json};
+ghost use Rattle.tf_export.specs.Faults.{refused, refusal, fault, explanation, fault_members};
+ghost use Rattle.tf_export.specs.Faults.{fault_json};
 
 use crate::json::Json;
 use crate::line::next_line;
@@ -75,8 +76,8 @@ impl<A: Allocator + Copy> Json<A> {
     }
 }
 
-/// What is said of a fault, and an explanation, as one JSON object on a line of its own. Of an empty
-/// text nothing is said.
+/// What is said of a fault, and an explanation, as one JSON object on a line of its own. Of an
+/// empty text nothing is said.
 ///
 /// # Errors
 ///

@@ -1,7 +1,9 @@
 //! What a line of words says, as members of a JSON object.
 ghost use Rattle.std.specs.Prelude.{◌≡◌, ◌∷◌, [], codes, length, OnOk};
 ghost use Rattle.tf_words.specs.Words.{words, lines};
-ghost use Rattle.tf_export.specs.Members.{certificate_names, answer_list, bound_list, certificate, answer_certificate, is_bound_kind, is_plain_key, verdict, verdict_members, keyed_members, line_members, members_in};
+ghost use Rattle.tf_export.specs.Members.{certificate_names, answer_list, bound_list, certificate};
+ghost use Rattle.tf_export.specs.Members.{answer_certificate, is_bound_kind, is_plain_key, verdict};
+ghost use Rattle.tf_export.specs.Members.{verdict_members, keyed_members, line_members, members_in};
 
 use crate::json::Json;
 use crate::line::{count_words, next_line};

@@ -3,7 +3,8 @@ ghost use Rattle.std.specs.Prelude.{◌≡◌, ◌+◌, ◌^◌, ◌<◌, ◌↔
 ghost use Rattle.tf_bound.specs.Sized.{IsSized};
 ghost use Rattle.tf_problem.specs.ProblemData.{IsProblemJob};
 ghost use Rattle.tf_schedule.specs.Condition.{FindsSmallestNot};
-ghost use Rattle.tf_fit.specs.Condition.{IsGapless, HaveTimes, AreGapless, AreInOrder, IsMet, is_asked};
+ghost use Rattle.tf_fit.specs.Condition.{IsGapless, HaveTimes, AreGapless, AreInOrder, IsMet};
+ghost use Rattle.tf_fit.specs.Condition.{is_asked};
 
 use crate::operations::first_operation;
 use std::alloc::Allocator;

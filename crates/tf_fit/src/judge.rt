@@ -1,5 +1,6 @@
 //! How a schedule stands to the task of a problem.
-ghost use Rattle.std.specs.Prelude.{◌≡◌, ◌↔◌, ◌<◌, ◌≤◌, false, length, List, IfOk, IsTrue, MatchOption};
+ghost use Rattle.std.specs.Prelude.{◌≡◌, ◌↔◌, ◌<◌, ◌≤◌, false, length, List, IfOk, IsTrue};
+ghost use Rattle.std.specs.Prelude.{MatchOption};
 ghost use Rattle.std.specs.List.{All};
 ghost use Rattle.tf_problem.specs.FitsProblem.{FitsProblem};
 ghost use Rattle.tf_schedule.specs.Claims.{JobsOnce};

@@ -1,12 +1,14 @@
 //! An order in which the jobs pass all machines.
-ghost use Rattle.std.specs.Prelude.{◌≡◌, ◌^◌, ◌<◌, ◌≤◌, ◌↔◌, length, IfOk, IsTrue, IsFalse, MatchOption};
+ghost use Rattle.std.specs.Prelude.{◌≡◌, ◌^◌, ◌<◌, ◌≤◌, ◌↔◌, length, IfOk, IsTrue, IsFalse};
+ghost use Rattle.std.specs.Prelude.{MatchOption};
 ghost use Rattle.std.specs.List.{All, AllPairs, range_with_len};
 ghost use Rattle.std.specs.List.Sorted.{IsPermutation};
 ghost use Rattle.tf_problem.specs.ProblemData.{problem_jobs};
 ghost use Rattle.tf_problem.specs.FitsProblem.{GoesFirst, IsInOneOrder};
 ghost use Rattle.tf_schedule.specs.Drawing.{drawing};
 ghost use Rattle.tf_schedule.specs.Schedule.{IsSchedule};
-ghost use Rattle.tf_fit.specs.Passing.{IsPassed, ArePlaced, IsEndless, IsRaised, IsWalked, AreRanks, IsRankOf, rank_in};
+ghost use Rattle.tf_fit.specs.Passing.{IsPassed, ArePlaced, IsEndless, IsRaised, IsWalked};
+ghost use Rattle.tf_fit.specs.Passing.{AreRanks, IsRankOf, rank_in};
 ghost use Rattle.tf_fit.specs.ProblemMisfit.{IsKnownTo};
 
 use std::alloc::{AllocError, Allocator};

@@ -174,7 +174,7 @@ fn measures<'a>(alloc: Global) -> Result<Arg<'a>, AllocError> {
         .conflicts_with("csv")
 }
 
-// What is told of bounds, and in which format.
+// What is reported of bounds, and in which format.
 fn with_bounds<'a>(alloc: Global, command: Command<'a>) -> Result<Command<'a>, AllocError> {
     let certificate = Arg::new(alloc, "certificate")
         .long("certificate")

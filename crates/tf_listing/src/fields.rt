@@ -2,7 +2,8 @@
 ghost use Rattle.std.specs.Prelude.{◌≡◌};
 ghost use Rattle.std.specs.List.{list_all};
 ghost use Rattle.std.specs.Option.{option_map};
-ghost use Rattle.tf_listing.specs.Fields.{has_fields, has_job_fields, is_listed, takes_time, uses_cost};
+ghost use Rattle.tf_listing.specs.Fields.{has_fields, has_job_fields, is_listed, takes_time};
+ghost use Rattle.tf_listing.specs.Fields.{uses_cost};
 ghost use Rattle.tf_prepare.specs.Preparing.{uses_weight};
 
 use crate::listing::Listed;

@@ -2,7 +2,8 @@
 ghost use Rattle.std.specs.Prelude.{◌≡◌, ◌++◌, IfOk, OnOk, string_bytes, map};
 ghost use Rattle.std.specs.Option.{option_map};
 ghost use Rattle.tf_model.specs.ClassTable.{notation_of};
-ghost use Rattle.tf_listing.specs.Listing.{classes, column, line_if, lines_of, listing, meaning_line, problem_line, problems_of};
+ghost use Rattle.tf_listing.specs.Listing.{classes, column, line_if, lines_of, listing};
+ghost use Rattle.tf_listing.specs.Listing.{meaning_line, problem_line, problems_of};
 ghost use Rattle.tf_listing.specs.Unsolved.{unsolved_problems};
 
 use crate::fields::is_listed;

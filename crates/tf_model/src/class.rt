@@ -2,7 +2,8 @@
 ghost use Rattle.std.specs.Prelude.{◌≡◌, ◌↔◌, Some, Option};
 ghost use Rattle.tf_model.specs.declared.problem.Env.TheVariants.{Single, Parallel};
 ghost use Rattle.tf_model.specs.declared.problem.Goal.TheVariants.{Cmax};
-ghost use Rattle.tf_model.specs.ClassTable.{IsOfClass, plain_problem, class_of, single_class, parallel_class, shop_class};
+ghost use Rattle.tf_model.specs.ClassTable.{IsOfClass, plain_problem, class_of, single_class};
+ghost use Rattle.tf_model.specs.ClassTable.{parallel_class, shop_class};
 
 use crate::problem::{Env, Goal, Problem};
 
@@ -143,7 +144,10 @@ fn two(env: Env, prmp: bool) -> Problem
 }
 
 impl Class {
-    ghost use Rattle.tf_model.specs.ClassTable.{notation_of, may_break, is_flow, is_shop, is_single, is_weighted, is_released, is_due, is_costed, is_ordered, is_sum, is_parallel, is_span};
+    ghost use Rattle.tf_model.specs.ClassTable.{notation_of, may_break, is_flow, is_shop};
+    ghost use Rattle.tf_model.specs.ClassTable.{is_single, is_weighted, is_released, is_due};
+    ghost use Rattle.tf_model.specs.ClassTable.{is_costed, is_ordered, is_sum, is_parallel};
+    ghost use Rattle.tf_model.specs.ClassTable.{is_span};
 
     /// The notation of the class, from which all that follows is read.
     pub fn notation(self) -> Problem
@@ -204,7 +208,7 @@ impl Class {
         matches!(self.notation().env, Env::Parallel)
     }
 
-    /// Whether a job may be interrupted and taken up again (preemption).
+    /// Whether a job may be interrupted and resumed (preemption).
     pub fn may_break(self) -> bool
         ensures { result ≡ may_break self }
     {

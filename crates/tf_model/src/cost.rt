@@ -1,5 +1,6 @@
 //! Costs of completion times.
-ghost use Rattle.std.specs.Prelude.{◌≡◌, ℕ, ℤ, pos, ◌-ℤ◌, ◌<◌, ◌≤◌, ◌<ℤ◌, ◌≤ℤ◌, true, false, length, MatchResult, IsTrue, ◌↔◌, int_le};
+ghost use Rattle.std.specs.Prelude.{◌≡◌, ℕ, ℤ, pos, ◌-ℤ◌, ◌<◌, ◌≤◌, ◌<ℤ◌, ◌≤ℤ◌, true, false};
+ghost use Rattle.std.specs.Prelude.{length, MatchResult, IsTrue, ◌↔◌, int_le};
 ghost use Rattle.tf_model.specs.Whole.{as_time, IsWithin};
 ghost use Rattle.tf_model.specs.Steps.{step_value};
 ghost use Rattle.tf_model.specs.Level.{IsLevel};

@@ -1,7 +1,9 @@
 //! An instance: jobs, arcs and a number of machines, whatever problem it is for.
-ghost use Rattle.std.specs.Prelude.{◌≡◌, ℕ, ◌+◌, ◌<◌, ◌≤◌, ◌||◌, ◌==◌, nat_lt, length, Some, None, Option, MatchResult, position};
+ghost use Rattle.std.specs.Prelude.{◌≡◌, ℕ, ◌+◌, ◌<◌, ◌≤◌, ◌||◌, ◌==◌, nat_lt, length, Some, None};
+ghost use Rattle.std.specs.Prelude.{Option, MatchResult, position};
 ghost use Rattle.std.specs.Option.{option_map, ForSome};
-ghost use Rattle.tf_model.specs.InstanceData.{is_beyond, has_negative, has_beyond, is_bad_arc, counts_fault};
+ghost use Rattle.tf_model.specs.InstanceData.{is_beyond, has_negative, has_beyond, is_bad_arc};
+ghost use Rattle.tf_model.specs.InstanceData.{counts_fault};
 
 use crate::ids::JobId;
 use crate::job::{Job, Times};

@@ -1,5 +1,7 @@
 //! From an instance and a problem to a task, or to the one refusal.
-ghost use Rattle.std.specs.Prelude.{◌≡◌, ℕ, false, ◌+◌, ◌<◌, ◌≤◌, ◌^◌, ◌*◌, Ok, Err, Option, None, Some, length, map, take, position, MatchResult, IfOk, IfErr, All};
+ghost use Rattle.std.specs.Prelude.{◌≡◌, ℕ, false, ◌+◌, ◌<◌, ◌≤◌, ◌^◌, ◌*◌, Ok, Err, Option, None};
+ghost use Rattle.std.specs.Prelude.{Some, length, map, take, position, MatchResult, IfOk, IfErr};
+ghost use Rattle.std.specs.Prelude.{All};
 ghost use Rattle.std.specs.Bool.{then_some};
 ghost use Rattle.std.specs.Option.{option_map, ForSome};
 ghost use Rattle.std.specs.List.{list_all};
@@ -7,9 +9,13 @@ ghost use Rattle.tf_model.specs.Whole.{as_time};
 ghost use Rattle.tf_model.specs.StepFaults.{IsStepCost};
 ghost use Rattle.tf_model.specs.InstanceData.{IsInstance, first_with};
 ghost use Rattle.tf_model.specs.SchedulingTask.{SchedulingTask};
-ghost use Rattle.tf_model.specs.ClassTable.{is_shop, is_single, is_weighted, is_released, is_due, is_costed, is_ordered, is_sum};
+ghost use Rattle.tf_model.specs.ClassTable.{is_shop, is_single, is_weighted, is_released, is_due};
+ghost use Rattle.tf_model.specs.ClassTable.{is_costed, is_ordered, is_sum};
 ghost use Rattle.tf_model.specs.JobRows.{HasRows};
-ghost use Rattle.tf_model.specs.Prepare.{is_too_many, machines_for, agreed, given, count_for, has_wrong_times, lacking, missing_from, has_zero_time, zero_time, data_of, steps_of, kept_costs, kept_arcs, task_of, is_too_large, jobs_refusal, prepared, Prepares};
+ghost use Rattle.tf_model.specs.Prepare.{is_too_many, machines_for, agreed, given, count_for};
+ghost use Rattle.tf_model.specs.Prepare.{has_wrong_times, lacking, missing_from, has_zero_time};
+ghost use Rattle.tf_model.specs.Prepare.{zero_time, data_of, steps_of, kept_costs, kept_arcs};
+ghost use Rattle.tf_model.specs.Prepare.{task_of, is_too_large, jobs_refusal, prepared, Prepares};
 ghost use Rattle.tf_model.specs.Complete.{is_complete};
 ghost use Rattle.tf_model.specs.Summed.{HasSummed};
 ghost use Rattle.tf_model.specs.CountFor.{IsCountFor};

@@ -1,4 +1,5 @@
-//! A scheduling problem in three-field notation (Graham, Lawler, Lenstra and Rinnooy Kan 1979; Pinedo, chapter 2).
+//! A scheduling problem in three-field notation (Graham, Lawler, Lenstra and Rinnooy Kan 1979;
+//! Pinedo, chapter 2).
 ghost use Rattle.std.specs.Prelude.{◌≡◌};
 ghost use Rattle.tf_model.specs.ClassTable.{is_shop_env, plain_problem};
 
@@ -21,7 +22,7 @@ pub enum Env {
     JobShop,
 }
 
-/// An objective, the third field: what is to be least.
+/// An objective, the third field: what is minimized.
 #[derive(Clone, Copy, Debug, PartialEq, Eq)]
 pub enum Goal {
     /// The makespan: the greatest completion time.

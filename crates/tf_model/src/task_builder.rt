@@ -19,7 +19,8 @@ use crate::task::Task;
 use std::alloc::{Allocator, Global};
 
 /// A task that grows job by job and keeps of each only what its class uses. Nothing of it is
-/// refused so far: where something is, it gives nothing, and [`crate::prepare::prepare`] tells what.
+/// refused so far: where something is, it gives nothing, and [`crate::prepare::prepare`] tells
+/// what.
 #[derive(Drop)]
 pub struct TaskBuilder<A: Allocator = Global> {
     alloc: A,

@@ -1,5 +1,6 @@
 //! Parallel machines with preemption.
-ghost use Rattle.std.specs.Prelude.{◌≡◌, ℕ, pos, ◌+◌, ◌-◌, ◌*◌, ◌^◌, ◌<◌, ◌≤◌, ◌≤ℤ◌, List, ◌∷◌, ◌++◌, length, IfOk};
+ghost use Rattle.std.specs.Prelude.{◌≡◌, ℕ, pos, ◌+◌, ◌-◌, ◌*◌, ◌^◌, ◌<◌, ◌≤◌, ◌≤ℤ◌, List, ◌∷◌};
+ghost use Rattle.std.specs.Prelude.{◌++◌, length, IfOk};
 ghost use Rattle.std.specs.List.{range_with_len, sum_by};
 ghost use Rattle.tf_model.specs.Bounds.{load_value};
 ghost use Rattle.tf_model.specs.Cost.{IsBest};

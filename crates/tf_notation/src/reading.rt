@@ -1,7 +1,8 @@
 //! Reading a problem from its notation.
 ghost use Rattle.std.specs.Prelude.{◌≡◌, ◌≤◌, ◌<◌, length, true, IfOk};
 ghost use Rattle.tf_notation.specs.Tokens.{tokens_after};
-ghost use Rattle.tf_notation.specs.Spelling.{no_conditions, meaning, environment, goals, dividers, adds};
+ghost use Rattle.tf_notation.specs.Spelling.{no_conditions, meaning, environment, goals, dividers};
+ghost use Rattle.tf_notation.specs.Spelling.{adds};
 ghost use Rattle.tf_notation.specs.Reading.{Gives, expect, bar, conditions_at, listed, notation};
 
 use crate::spelling::{Conditions, divider_of, environment_of, goal_of};

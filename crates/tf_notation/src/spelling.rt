@@ -1,6 +1,8 @@
 //! The words of three-field notation: every spelling that is read, with its meaning.
 ghost use Rattle.std.specs.Prelude.{◌≡◌};
-ghost use Rattle.tf_notation.specs.Spelling.{goals, meaning, conditions, dividers, environments, count_of, environment, adds, with_condition, has, no_conditions};
+ghost use Rattle.tf_notation.specs.Spelling.{goals, meaning, conditions, dividers, environments};
+ghost use Rattle.tf_notation.specs.Spelling.{count_of, environment, adds, with_condition, has};
+ghost use Rattle.tf_notation.specs.Spelling.{no_conditions};
 
 use tf_model::limit::MOST_MACHINES;
 use tf_model::problem::{Env, Goal};
@@ -14,7 +16,7 @@ pub enum Condition {
     Release,
     /// `prec`: a job may not start before the jobs are over that go before it.
     Prec,
-    /// `prmp`: preemption, a job may be interrupted and taken up again. The older literature writes
+    /// `prmp`: preemption, a job may be interrupted and resumed. The older literature writes
     /// `pmtn`.
     Prmp,
     /// `prmu`: permutation, the jobs pass all machines of a flow shop in one order.

@@ -1,5 +1,6 @@
 //! The tokens of a text: words of letters, digits and `_`, and each other byte by itself.
-ghost use Rattle.std.specs.Prelude.{◌≡◌, ℕ, ◌+◌, ◌<◌, ◌≤◌, [], ◌∷◌, length, take, drop, false, not, slice_index, MatchOption, IfSome, position};
+ghost use Rattle.std.specs.Prelude.{◌≡◌, ℕ, ◌+◌, ◌<◌, ◌≤◌, [], ◌∷◌, length, take, drop, false, not};
+ghost use Rattle.std.specs.Prelude.{slice_index, MatchOption, IfSome, position};
 ghost use Rattle.std.specs.List.{position_or_len};
 ghost use Rattle.tf_notation.specs.Tokens.{tokens_from, tokens_after, is_gap, is_word_byte};
 

@@ -1,7 +1,9 @@
 //! The canonical text of a problem.
 ghost use Rattle.std.specs.Prelude.{◌≡◌, OnOk, IfOk, Ok, string_bytes};
 ghost use Rattle.tf_notation.specs.Reading.{notation, IsRead};
-ghost use Rattle.tf_notation.specs.Canonical.{environment_word, count_text, condition_word, goal_word, conditions_of, one_more, listed_text, all_conditions, canonical};
+ghost use Rattle.tf_notation.specs.Canonical.{environment_word, count_text, condition_word};
+ghost use Rattle.tf_notation.specs.Canonical.{goal_word, conditions_of, one_more, listed_text};
+ghost use Rattle.tf_notation.specs.Canonical.{all_conditions, canonical};
 
 use crate::spelling::{Condition, Conditions};
 use std::alloc::Allocator;

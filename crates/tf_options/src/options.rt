@@ -1,19 +1,24 @@
 //! The command line.
-ghost use Rattle.std.specs.Prelude.{◌≡◌, ◌≤◌, None, Some, false, codes, option_map, IfOk, IfErr, MatchOption};
+ghost use Rattle.std.specs.Prelude.{◌≡◌, ◌≤◌, None, Some, false, codes, option_map, IfOk, IfErr};
+ghost use Rattle.std.specs.Prelude.{MatchOption};
 ghost use Rattle.tf_engine.specs.FormData.{form_of};
 ghost use Rattle.tf_model.specs.Limit.{most_machines};
 ghost use Rattle.tf_options.specs.Asking.{form_asked, requested};
 ghost use Rattle.tf_options.specs.Columns.{HasColumns};
-ghost use Rattle.tf_options.specs.FormatAsked.{IsFormatBy, IsSolvedLayoutBy, asked_in_format, csv_format, json_format};
+ghost use Rattle.tf_options.specs.FormatAsked.{IsFormatBy, IsSolvedLayoutBy, asked_in_format};
+ghost use Rattle.tf_options.specs.FormatAsked.{csv_format, json_format};
 ghost use Rattle.tf_options.specs.Matched.{AreIdleBy, AreOptionsBy, IsFlagBy};
 ghost use Rattle.tf_options.specs.Matched.{IsFormBy, IsNumberBy, IsToldInstead};
 ghost use Rattle.tf_options.specs.Matched.{explains_by, flow_fault, form_fault, given_of};
-ghost use Rattle.tf_options.specs.Matched.{has_arithmetic, is_latex, lacks, layout_by, lists_bounded};
+ghost use Rattle.tf_options.specs.Matched.{has_arithmetic, is_latex, lacks, layout_by};
+ghost use Rattle.tf_options.specs.Matched.{lists_bounded};
 ghost use Rattle.tf_options.specs.Matched.{machines_fault, most_steps, options_fault, pair_in};
 ghost use Rattle.tf_options.specs.Matched.{number_by, steps_fault, wt_fault};
 ghost use Rattle.tf_options.specs.MeasuresAsked.{IsMeasuredBy};
 ghost use Rattle.tf_options.specs.OptionNumber.{numeral_in};
-ghost use Rattle.tf_options.specs.Understood.{AreAidsBy, HasNoOrder, IsAskedBy, IsAskedOver, IsOrderBy, aids_fault, input_fault, is_standard_input, lacks_options};
+ghost use Rattle.tf_options.specs.Understood.{AreAidsBy, HasNoOrder, IsAskedBy, IsAskedOver};
+ghost use Rattle.tf_options.specs.Understood.{IsOrderBy, aids_fault, input_fault};
+ghost use Rattle.tf_options.specs.Understood.{is_standard_input, lacks_options};
 
 use crate::format::Format;
 use crate::series::{Series, series_asked, span_for};
@@ -109,7 +114,7 @@ impl Options<'_> {
     }
 }
 
-/// Which answer is evaluated, to what, and how much is told of it.
+/// Which answer is evaluated, to what, and how much is reported of it.
 #[derive(Drop)]
 pub struct Evaluating<'a> {
     pub options: Options<'a>,
@@ -520,8 +525,8 @@ fn input_fault(orders: &OrderSource<'_>) -> Option<&'static str>
     }
 }
 
-// The text of a bound and the steps of the search for prices, where they are given. The instance and
-// the answer cannot be standard input beside the text.
+// The text of a bound and the steps of the search for prices, where they are given. The instance
+// and the answer cannot be standard input beside the text.
 fn aids_in<'a>(given: &ArgMatches<'a>) -> Result<Aids<'a>, Asked<'a>>
     ensures columns { IfErr result HasColumns }
     ensures given { IfOk result (AreAidsBy (given_of given.now)) }
@@ -548,7 +553,7 @@ pub(crate) fn is_standard_input(given: &ArgMatches<'_>, name: &str) -> bool
     }
 }
 
-// How much is told of an answer: the certificate's arithmetic where it is asked for.
+// How much is reported of an answer: the certificate's arithmetic where it is asked for.
 fn detail_in(given: &ArgMatches<'_>) -> Detail
     ensures { IsFlagBy ((given_of given.now).flag (codes "certificate")) (has_arithmetic result) }
 {

@@ -3,7 +3,9 @@ ghost use Rattle.std.specs.Prelude.{◌≡◌, ◌||◌, None, Some, false, true
 ghost use Rattle.tf_model.specs.Limit.{most_jobs};
 ghost use Rattle.tf_options.specs.Columns.{HasColumns};
 ghost use Rattle.tf_options.specs.Matched.{IsToldInstead, given_of, lacks, number_by};
-ghost use Rattle.tf_options.specs.SeriesAsked.{IsSeriesAsked, IsSeriesBy, IsToldBy, answers_fault, jobs_fault, lacks_names, series_fault, span_between, span_for, span_in, span_of, takes_span, told_fault};
+ghost use Rattle.tf_options.specs.SeriesAsked.{IsSeriesAsked, IsSeriesBy, IsToldBy, answers_fault};
+ghost use Rattle.tf_options.specs.SeriesAsked.{jobs_fault, lacks_names, series_fault, span_between};
+ghost use Rattle.tf_options.specs.SeriesAsked.{span_for, span_in, span_of, takes_span, told_fault};
 
 use crate::options::{
     Asked, is_explained, is_standard_input, machines_in, number_within, steps_in,
@@ -18,7 +20,7 @@ pub struct Span {
     pub last: Option<u32>,
 }
 
-/// What is told of each instance.
+/// What is reported of each instance.
 #[derive(Clone, Copy, Debug)]
 pub enum Told<'a> {
     /// The minimum cost.

@@ -5,7 +5,9 @@ ghost use Rattle.tf_options.specs.Columns.{HasColumns, HasWidth};
 ghost use Rattle.tf_options.specs.Matched.{IsToldInstead, given_of, lacks, number_by};
 ghost use Rattle.tf_options.specs.OptionNumber.{numeral_in};
 ghost use Rattle.tf_options.specs.Understood.{IsAskedBy};
-ghost use Rattle.tf_options.specs.Viewing.{IsDrawingBy, IsPicturingBy, IsViewBy, drawing_fault, most_side, number_fault, page_by, picturing_fault, sides_fault, size_by, view_fault};
+ghost use Rattle.tf_options.specs.Viewing.{IsDrawingBy, IsPicturingBy, IsViewBy, drawing_fault};
+ghost use Rattle.tf_options.specs.Viewing.{most_side, number_fault, page_by, picturing_fault};
+ghost use Rattle.tf_options.specs.Viewing.{sides_fault, size_by, view_fault};
 
 use crate::options::{
     Asked, Drawing, Picturing, Telling, Work, form_in, idle_in, is_explained, number_within,

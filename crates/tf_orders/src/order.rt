@@ -1,5 +1,6 @@
 //! Orders of jobs, as a text says them.
-ghost use Rattle.std.specs.Prelude.{◌≡◌, ◌^◌, ◌<◌, ◌≤◌, ◌↔◌, IsTrue, IfOk, IfSome, MatchOption, Some, None};
+ghost use Rattle.std.specs.Prelude.{◌≡◌, ◌^◌, ◌<◌, ◌≤◌, ◌↔◌, IsTrue, IfOk, IfSome, MatchOption};
+ghost use Rattle.std.specs.Prelude.{Some, None};
 ghost use Rattle.std.specs.List.{All};
 ghost use Rattle.tf_words.specs.Words.{words};
 ghost use Rattle.tf_model.specs.Distinct.{IsDistinct};
@@ -20,8 +21,8 @@ pub struct Turn {
 }
 
 /// The order that a text says, of the jobs from 1 to `jobs`, machine by machine for so many
-/// machines. `None` where it says none: a word is no job, a job is missing or stands twice, or there
-/// are not as many machines. Only want of memory is an error.
+/// machines. `None` where it says none: a word is no job, a job is missing or stands twice, or
+/// there are not as many machines. Only want of memory is an error.
 pub fn order_in<A: Allocator + Copy>(
     alloc: A,
     jobs: u32,

@@ -5,7 +5,8 @@ ghost use Rattle.tf_model.specs.Limit.{most_bytes};
 ghost use Rattle.tf_engine.specs.Faults.{stop_of};
 ghost use Rattle.tf_check.specs.Judgement.{IsJudged};
 ghost use Rattle.tf_orders.specs.OrderParts.{IsUnrated, IsWithoutRow};
-ghost use Rattle.tf_orders.specs.OrderText.{AreRated, AreRows, IsEvaluatedAs, IsRow, IsRowOf, IsScheduleAssessment, IsScheduleEvaluation};
+ghost use Rattle.tf_orders.specs.OrderText.{AreRated, AreRows, IsEvaluatedAs, IsRow, IsRowOf};
+ghost use Rattle.tf_orders.specs.OrderText.{IsScheduleAssessment, IsScheduleEvaluation};
 
 use crate::measure::Measure;
 use crate::pieces::pieces_in;

@@ -18,7 +18,7 @@ use tf_text::counted::Counted;
 /// What a text of orders is, and what is written of it.
 #[derive(Clone, Copy, Debug, PartialEq, Eq)]
 pub enum OrderForm {
-    /// It is one order. The schedule is evaluated as an answer is, but for what an answer claims.
+    /// It is one order. The schedule is evaluated as an answer is, except what an answer claims.
     Single,
     /// Each line that has a word and is no comment is an order. A line is written of each: the cost
     /// of the schedule and its gap to the optimum or to the lower bound, or the misfit.
@@ -38,14 +38,15 @@ pub enum OrdersRated {
 }
 
 /// Reads an instance and the text of orders or pieces to their ends, and writes how good the
-/// schedule of the pieces is, or the semi-active schedules of the orders. The task is solved, or a lower bound of it is searched for, once.
+/// schedule of the pieces is, or the semi-active schedules of the orders. The task is solved, or a
+/// lower bound of it is searched for, once.
 ///
-/// The refusals come in this order: those of [`tf_engine::run_solve::run_solve`], where a problem of
-/// no class is refused only if no kind of certificate bounds it; reading the orders; a cycle of the
-/// arcs; and the first line that is no order, as [`tf_text::answer::fault::AnswerFault::BadLine`],
-/// or the first fault of the pieces.
-/// After a refusal nothing was written, unless it is [`RunFault::Device`], after which a prefix may
-/// have been.
+/// The refusals come in this order: those of [`tf_engine::run_solve::run_solve`], where a problem
+/// of no class is refused only if no kind of certificate bounds it; reading the orders; a cycle of
+/// the arcs; and the first line that is no order, as
+/// [`tf_text::answer::fault::AnswerFault::BadLine`], or the first fault of the pieces. After a
+/// refusal nothing was written, unless it is [`RunFault::Device`], after which a prefix may have
+/// been.
 pub fn run_orders<A: Allocator + Copy, B: Allocator, R: Read, S: Read, W: Write>(
     alloc: A,
     request: &Request<B>,

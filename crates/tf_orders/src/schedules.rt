@@ -2,7 +2,8 @@
 ghost use Rattle.std.specs.Prelude.{◌≡◌, ◌≤◌, length, IfOk, MatchOption};
 ghost use Rattle.std.specs.List.{All};
 ghost use Rattle.tf_model.specs.Limit.{most_machines};
-ghost use Rattle.tf_orders.specs.Laying.{orders_of, problem_orders_of, problem_schedule_of, schedule_of, with_problem_turn, with_turn_of};
+ghost use Rattle.tf_orders.specs.Laying.{orders_of, problem_orders_of, problem_schedule_of};
+ghost use Rattle.tf_orders.specs.Laying.{schedule_of, with_problem_turn, with_turn_of};
 ghost use Rattle.tf_orders.specs.Measuring.{IsScheduled, IsUnordered};
 ghost use Rattle.tf_orders.specs.Orders.{IsTurn};
 

@@ -1,10 +1,10 @@
 //! The program's commands for a web page: exports over bytes that lie in the module's memory.
 //!
-//! Each takes the numbers of a request and its texts, and gives the exit status; what it prints goes
-//! into the page's buffer, standard output first and then standard error, and `lengths` says how
-//! many bytes each has. A run takes its memory from a space that the page hands over, and that is
-//! used for nothing else afterwards. Where the buffer is too short, nothing is put there, and the
-//! page calls again with a longer one.
+//! Each takes the numbers of a request and its texts, and gives the exit status; what it prints
+//! goes into the page's buffer, standard output first and then standard error, and `lengths` says
+//! how many bytes each has. A run takes its memory from a space that the page hands over, and that
+//! is used for nothing else afterwards. Where the buffer is too short, nothing is put there, and
+//! the page calls again with a longer one.
 #![tactic(auto)]
 
 mod arena;

@@ -1,7 +1,9 @@
 //! The axis of time.
 ghost use Rattle.std.specs.Prelude.{◌≡◌, ◌*◌, ◌/◌, ◌<◌, ◌≤◌, ◌++◌, OnOk};
 ghost use Rattle.std.specs.List.{flat_map};
-ghost use Rattle.tf_picture.specs.Picture.{axis, end_mark, is_marked, last_line, last_mark, last_time, line, line_group, line_at, multiples, time_group, time_labels, time_labels_at};
+ghost use Rattle.tf_picture.specs.Picture.{axis, end_mark, is_marked, last_line, last_mark};
+ghost use Rattle.tf_picture.specs.Picture.{last_time, line, line_group, line_at, multiples};
+ghost use Rattle.tf_picture.specs.Picture.{time_group, time_labels, time_labels_at};
 
 use crate::frame::{Frame, SPAN};
 use crate::strips::Strips;

@@ -3,7 +3,8 @@ ghost use Rattle.std.specs.Prelude.{◌≡◌, ◌++◌, ◌≤◌, None, IfOk, 
 ghost use Rattle.std.specs.List.{All, flat_map};
 ghost use Rattle.tf_schedule.specs.Schedule.{IsPiece};
 ghost use Rattle.tf_picture.specs.Bars.{IsApart, bar_of, bars_of, fill_of, has_fill, is_taken};
-ghost use Rattle.tf_picture.specs.Picture.{bar_group, bar_if_shown, bar_text, edge, extent, fill, told, place, is_shown, width};
+ghost use Rattle.tf_picture.specs.Picture.{bar_group, bar_if_shown, bar_text, edge, extent, fill};
+ghost use Rattle.tf_picture.specs.Picture.{told, place, is_shown, width};
 ghost use Rattle.tf_picture.specs.Sound.{HasPiece};
 
 use crate::frame::Frame;

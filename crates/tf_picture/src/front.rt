@@ -1,6 +1,7 @@
 //! What a picture shows before its strips.
 ghost use Rattle.std.specs.Prelude.{◌≡◌, ◌++◌, IfOk, OnOk};
-ghost use Rattle.tf_picture.specs.Picture.{front, hatching, opening, sides, sizes, title, titles, view_box};
+ghost use Rattle.tf_picture.specs.Picture.{front, hatching, opening, sides, sizes, title, titles};
+ghost use Rattle.tf_picture.specs.Picture.{view_box};
 
 use crate::frame::WIDTH;
 use crate::strips::Strips;

@@ -4,7 +4,8 @@ ghost use Rattle.std.specs.List.{All, AllPairs};
 ghost use Rattle.std.specs.List.Sorted.{IsPermutation};
 ghost use Rattle.tf_schedule.specs.Piece.{job_of};
 ghost use Rattle.tf_schedule.specs.Schedule.{ComesBeforeBy, IsPiece};
-ghost use Rattle.tf_picture.specs.Picture.{IsResumed, foot, is_linked, link, link_begin, link_end, link_group, link_if_shown, links};
+ghost use Rattle.tf_picture.specs.Picture.{IsResumed, foot, is_linked, link, link_begin, link_end};
+ghost use Rattle.tf_picture.specs.Picture.{link_group, link_if_shown, links};
 
 use crate::bars::is_shown;
 use crate::frame::Frame;

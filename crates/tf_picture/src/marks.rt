@@ -3,8 +3,10 @@ ghost use Rattle.std.specs.Prelude.{◌≡◌, ◌++◌, ◌<◌, OnOk};
 ghost use Rattle.std.specs.List.{All, flat_map};
 ghost use Rattle.tf_schedule.specs.Schedule.{IsPiece};
 ghost use Rattle.tf_picture.specs.Dates.{due_of, release_of, tardiness};
-ghost use Rattle.tf_picture.specs.Picture.{date_mark, date_group, date_if_shown, date_told, dates_shown, late_group, late_if_shown, late_mark};
-ghost use Rattle.tf_picture.specs.Picture.{mark_place, mark_tip, mark_title, marks, shown_at, time_shown};
+ghost use Rattle.tf_picture.specs.Picture.{date_mark, date_group, date_if_shown, date_told};
+ghost use Rattle.tf_picture.specs.Picture.{dates_shown, late_group, late_if_shown, late_mark};
+ghost use Rattle.tf_picture.specs.Picture.{mark_place, mark_tip, mark_title, marks, shown_at};
+ghost use Rattle.tf_picture.specs.Picture.{time_shown};
 ghost use Rattle.tf_picture.specs.Sound.{HasPiece};
 
 use crate::bars::{Bar, fill, is_shown, push_extent};

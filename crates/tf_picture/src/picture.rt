@@ -6,7 +6,8 @@ ghost use Rattle.tf_schedule.specs.Schedule.{IsPiece};
 ghost use Rattle.tf_text.specs.AnswerText.{SheetData};
 ghost use Rattle.tf_schedule.specs.Drawing.{greatest_stop};
 ghost use Rattle.tf_picture.specs.Bars.{bars_of};
-ghost use Rattle.tf_picture.specs.Picture.{IsDatedPicture, IsResumed, all_strips, heading_of, strip};
+ghost use Rattle.tf_picture.specs.Picture.{IsDatedPicture, IsResumed, all_strips, heading_of};
+ghost use Rattle.tf_picture.specs.Picture.{strip};
 ghost use Rattle.tf_picture.specs.Strips.{strips_of};
 ghost use Rattle.tf_picture.specs.Sound.{HasPiece};
 
@@ -27,9 +28,10 @@ use tf_schedule::piece::Piece;
 use tf_schedule::schedule::Schedule;
 
 /// The picture of a schedule under a heading, as SVG: in each strip a row for each of the heading's
-/// machines, a bar for each piece on one of them, and an axis of time. Pieces on further machines are
-/// not shown, but their stops count in the length. Where dates of the jobs are given, by the numbers of
-/// the jobs, they are marked, and so are the bars of pieces that stop after the due date.
+/// machines, a bar for each piece on one of them, and an axis of time. Pieces on further machines
+/// are not shown, but their stops count in the length. Where dates of the jobs are given, by the
+/// numbers of the jobs, they are marked, and so are the bars of pieces that stop after the due
+/// date.
 pub fn picture<A: Allocator + Copy, B: Allocator>(
     alloc: A,
     view: &View,

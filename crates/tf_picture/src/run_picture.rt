@@ -19,9 +19,9 @@ use tf_text::counted::Counted;
 ///
 /// The picture has a row for each machine that the answer names as its number of machines. Neither
 /// the fit nor the certificate is judged. The refusals are those of
-/// [`tf_engine::run_gantt::run_gantt`]: the answer's first fault, and then that of its pieces. After
-/// a refusal nothing was written, unless it is [`RunFault::Device`], after which a prefix of the
-/// picture may have been.
+/// [`tf_engine::run_gantt::run_gantt`]: the answer's first fault, and then that of its pieces.
+/// After a refusal nothing was written, unless it is [`RunFault::Device`], after which a prefix of
+/// the picture may have been.
 pub fn run_picture<A: Allocator + Copy, R: Read, W: Write>(
     alloc: A,
     view: &View,

@@ -1,6 +1,7 @@
 //! The strips of a picture, one below the other.
 ghost use Rattle.std.specs.Prelude.{◌≡◌, ◌<◌};
-ghost use Rattle.tf_picture.specs.Strips.{begin_of, count_of, height, length_of, strip_of, strips_of};
+ghost use Rattle.tf_picture.specs.Strips.{begin_of, count_of, height, length_of, strip_of};
+ghost use Rattle.tf_picture.specs.Strips.{strips_of};
 
 use crate::frame::Frame;
 use crate::view::View;

@@ -1,7 +1,9 @@
 //! The laws by which a number bounds the task of a problem: each call does nothing, and its
 //! contract is the law.
 ghost use Rattle.tf_problem.specs.ProblemData.{ProblemData, IsProblemSound};
-ghost use Rattle.tf_problem.specs.ProblemLaws.{CertificateLaw, BestLaw, RelaxationLaw, PushedLaw, WindowLaw, CrowdLaw, OneJobLaw, MachineLaw, MultiplierLaw, PricesLaw, CheapestLaw};
+ghost use Rattle.tf_problem.specs.ProblemLaws.{CertificateLaw, BestLaw, RelaxationLaw, PushedLaw};
+ghost use Rattle.tf_problem.specs.ProblemLaws.{WindowLaw, CrowdLaw, OneJobLaw, MachineLaw};
+ghost use Rattle.tf_problem.specs.ProblemLaws.{MultiplierLaw, PricesLaw, CheapestLaw};
 ghost use Rattle.tf_problem.specs.Agreement.{AgreementLaw};
 
 /// A lower bound that a certificate gives of a relaxed task is one of the task.

@@ -1,6 +1,7 @@
 //! Random numbers: the generator SplitMix64.
 ghost use Rattle.std.specs.Prelude.{◌≡◌, ◌<◌};
-ghost use Rattle.tf_random.specs.Draw.{below, draw, mixed, mixed_once, mixed_thrice, mixed_twice, product};
+ghost use Rattle.tf_random.specs.Draw.{below, draw, mixed, mixed_once, mixed_thrice, mixed_twice};
+ghost use Rattle.tf_random.specs.Draw.{product};
 
 const GOLDEN: u64 = 11_400_714_819_323_198_485;
 

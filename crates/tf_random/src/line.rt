@@ -1,6 +1,7 @@
 //! The lines of jobs and arcs.
 ghost use Rattle.std.specs.Prelude.{◌≡◌, ◌++◌, ◌<◌, ◌≤◌, OnOk};
-ghost use Rattle.tf_random.specs.Table.{arc, arc_line, cost, cost_if, due, fields, job_line, release, rise, times};
+ghost use Rattle.tf_random.specs.Table.{arc, arc_line, cost, cost_if, due, fields, job_line};
+ghost use Rattle.tf_random.specs.Table.{release, rise, times};
 
 use crate::plan::Plan;
 use crate::writing::{push_part, push_part_if};

@@ -1,7 +1,8 @@
 //! A random job table.
 ghost use Rattle.std.specs.Prelude.{◌≡◌, ◌++◌, IfOk, OnOk};
 ghost use Rattle.std.specs.List.{flat_map, range_with_len};
-ghost use Rattle.tf_random.specs.Table.{arc_line, arc_lines, heading, job_line, machines_line, random_table};
+ghost use Rattle.tf_random.specs.Table.{arc_line, arc_lines, heading, job_line, machines_line};
+ghost use Rattle.tf_random.specs.Table.{random_table};
 
 use crate::line::{push_arc_if, push_job};
 use crate::plan::Plan;
@@ -11,8 +12,8 @@ use tf_model::memory::OutOfMemory;
 use tf_model::problem::Problem;
 use tf_notation::writing::notation_text;
 
-/// The random table of a plan that was made for this problem. Its first line is a comment that names
-/// the problem and the seed.
+/// The random table of a plan that was made for this problem. Its first line is a comment that
+/// names the problem and the seed.
 #[tactic(auto, unfolding(crate::specs::Table::random_table))]
 pub fn random_table<A: Allocator + Copy>(
     alloc: A,

@@ -7,7 +7,9 @@ ghost use Rattle.tf_words.specs.Number.{number};
 ghost use Rattle.tf_model.specs.InstanceData.{count_fault};
 ghost use Rattle.tf_read.specs.Faults.{Gives, each_from};
 ghost use Rattle.tf_read.specs.NextJob.{HasNoJob, BeginsWithJob, BeginsWithFault};
-ghost use Rattle.tf_read.specs.JobTable.{machines_named, machines_at, job_line, is_arc, since_first, body_of, below_heading, is_table_heading, job_table};
+ghost use Rattle.tf_read.specs.JobTable.{machines_named, machines_at, job_line, is_arc};
+ghost use Rattle.tf_read.specs.JobTable.{since_first, body_of, below_heading, is_table_heading};
+ghost use Rattle.tf_read.specs.JobTable.{job_table};
 
 use crate::arc::{arcs_of, is_arc};
 use crate::fault::ReadFault;

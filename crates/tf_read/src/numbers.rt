@@ -1,10 +1,13 @@
 //! The numbers of one instance among those of a text.
-ghost use Rattle.std.specs.Prelude.{◌≡◌, ℕ, ◌+◌, ◌-◌, ◌*◌, ◌%◌, ◌^◌, ◌<◌, ◌≤◌, List, [], ◌∷◌, ◌++◌, length, Some, false, is_some, ◌||◌, nat_le, IfOk, vec_capacity, vec_len, if◌then◌else◌};
+ghost use Rattle.std.specs.Prelude.{◌≡◌, ℕ, ◌+◌, ◌-◌, ◌*◌, ◌%◌, ◌^◌, ◌<◌, ◌≤◌, List, [], ◌∷◌, ◌++◌};
+ghost use Rattle.std.specs.Prelude.{length, Some, false, is_some, ◌||◌, nat_le, IfOk, vec_capacity};
+ghost use Rattle.std.specs.Prelude.{vec_len, if◌then◌else◌};
 ghost use Rattle.tf_words.specs.Words.{Word};
 ghost use Rattle.tf_model.specs.Limit.{most_jobs};
 ghost use Rattle.tf_read.specs.Said.{Says};
 ghost use Rattle.tf_words.specs.Scan.{IsInRange};
-ghost use Rattle.tf_read.specs.Numbers.{skipped, tardiness_wanted, tardiness_missing, with_number, AreInRange, ReadsTardiness};
+ghost use Rattle.tf_read.specs.Numbers.{skipped, tardiness_wanted, tardiness_missing, with_number};
+ghost use Rattle.tf_read.specs.Numbers.{AreInRange, ReadsTardiness};
 ghost use Rattle.tf_read.specs.WeightedTardiness.{tardiness_number_read, instance_of};
 
 use crate::fault::ReadFault;
@@ -34,7 +37,8 @@ pub(crate) struct Numbers<A: Allocator> {
 }
 
 impl<A: Allocator> Model for Numbers<A> {
-    ghost use Rattle.std.specs.Prelude.{◌≡◌, ◌+◌, ◌-◌, ◌*◌, ◌%◌, ◌^◌, ◌<◌, ◌≤◌, vec_len, vec_capacity};
+    ghost use Rattle.std.specs.Prelude.{◌≡◌, ◌+◌, ◌-◌, ◌*◌, ◌%◌, ◌^◌, ◌<◌, ◌≤◌, vec_len};
+    ghost use Rattle.std.specs.Prelude.{vec_capacity};
     ghost use Rattle.tf_model.specs.Limit.{most_jobs};
     ghost use Rattle.tf_read.specs.Numbers.{Progress, AreInRange};
 

@@ -1,12 +1,16 @@
 //! The times of a flow shop among the words of a text.
 ghost use Rattle.tf_model.specs.Limit.{most_jobs, most_machines};
-ghost use Rattle.std.specs.Prelude.{◌≡◌, ℕ, ◌+◌, ◌-◌, ◌*◌, ◌^◌, ◌<◌, ◌≤◌, ◌==◌, List, [], ◌∷◌, ◌++◌, length, Ok, Some, None, true, false, is_some, ◌||◌, nat_le, IfOk, IsTrue, vec_len, vec_capacity, if◌then◌else◌};
+ghost use Rattle.std.specs.Prelude.{◌≡◌, ℕ, ◌+◌, ◌-◌, ◌*◌, ◌^◌, ◌<◌, ◌≤◌, ◌==◌, List, [], ◌∷◌};
+ghost use Rattle.std.specs.Prelude.{◌++◌, length, Ok, Some, None, true, false, is_some, ◌||◌};
+ghost use Rattle.std.specs.Prelude.{nat_le, IfOk, IsTrue, vec_len, vec_capacity, if◌then◌else◌};
 ghost use Rattle.tf_words.specs.Words.{Word};
 ghost use Rattle.tf_read.specs.Faults.{natural};
 ghost use Rattle.tf_read.specs.Said.{Says};
 ghost use Rattle.tf_words.specs.Scan.{IsInRange};
-ghost use Rattle.tf_read.specs.FlowShop.{are_machines, machine_is, first_kept, second_kept, machines_kept, pairs_of};
-ghost use Rattle.tf_read.specs.Pairs.{ReadsShop, IsTime, AreTimes, after_name, after_time, shop_missing};
+ghost use Rattle.tf_read.specs.FlowShop.{are_machines, machine_is, first_kept, second_kept};
+ghost use Rattle.tf_read.specs.FlowShop.{machines_kept, pairs_of};
+ghost use Rattle.tf_read.specs.Pairs.{ReadsShop, IsTime, AreTimes, after_name, after_time};
+ghost use Rattle.tf_read.specs.Pairs.{shop_missing};
 
 use crate::fault::ReadFault;
 use crate::instance_numbers::{Columns, InstanceNumbers};
@@ -41,7 +45,8 @@ pub(crate) struct Pairs<A: Allocator> {
 }
 
 impl<A: Allocator> Model for Pairs<A> {
-    ghost use Rattle.std.specs.Prelude.{◌≡◌, ◌+◌, ◌<◌, ◌≤◌, false, nat_lt, vec_len, vec_capacity, if◌then◌else◌};
+    ghost use Rattle.std.specs.Prelude.{◌≡◌, ◌+◌, ◌<◌, ◌≤◌, false, nat_lt, vec_len, vec_capacity};
+    ghost use Rattle.std.specs.Prelude.{if◌then◌else◌};
     ghost use Rattle.tf_model.specs.Limit.{most_jobs, most_machines};
     ghost use Rattle.tf_read.specs.FlowShop.{first_kept, second_kept};
     ghost use Rattle.tf_read.specs.Pairs.{Pairs as PairsSoFar, AreTimes};

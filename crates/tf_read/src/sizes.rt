@@ -1,6 +1,7 @@
 //! The sizes of a flow shop, a line of two words of digits alone, byte by byte.
 ghost use Rattle.tf_model.specs.Limit.{most_jobs, most_machines};
-ghost use Rattle.std.specs.Prelude.{◌≡◌, ℕ, ◌<◌, ◌≤◌, List, [], ◌∷◌, ◌++◌, IfOk, IsTrue, true, false};
+ghost use Rattle.std.specs.Prelude.{◌≡◌, ℕ, ◌<◌, ◌≤◌, List, [], ◌∷◌, ◌++◌, IfOk, IsTrue, true};
+ghost use Rattle.std.specs.Prelude.{false};
 ghost use Rattle.std.specs.Char.{is_ascii_digit};
 ghost use Rattle.tf_words.specs.Words.{words, is_white};
 ghost use Rattle.tf_read.specs.FlowShop.{are_machines, sizes_in};

@@ -1,5 +1,5 @@
-//! Weighted tardiness files, after OR-Library's: instances one after the other, each of n times, then n weights, then
-//! n due dates.
+//! Weighted tardiness files, after OR-Library's: instances one after the other, each of n times,
+//! then n weights, then n due dates.
 ghost use Rattle.std.specs.Prelude.{◌≡◌, ◌+◌, ◌≤◌, List, [], ℕ, IfOk};
 ghost use Rattle.tf_read.specs.Faults.{Gives};
 ghost use Rattle.tf_read.specs.WeightedTardiness.{request_fault, weighted_tardiness};

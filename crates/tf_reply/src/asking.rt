@@ -1,10 +1,14 @@
 //! What a caller asks for, in numbers and bytes.
-ghost use Rattle.std.specs.Prelude.{◌≡◌, ◌+◌, ◌<◌, ◌≤◌, length, IfOk, IfSome, IfNone, OkIff, OnErr, OnOk, OnSome};
+ghost use Rattle.std.specs.Prelude.{◌≡◌, ◌+◌, ◌<◌, ◌≤◌, length, IfOk, IfSome, IfNone, OkIff, OnErr};
+ghost use Rattle.std.specs.Prelude.{OnOk, OnSome};
 ghost use Rattle.tf_options.specs.Asking.{form_asked, requested};
 ghost use Rattle.tf_engine.specs.FormData.{InWt, InFlow};
 ghost use Rattle.tf_model.specs.Limit.{most_machines};
-ghost use Rattle.tf_reply.specs.Asked.{IsAsked, flagged, pair_said, form_said, request_said, problem_part, name_part, instance_part, answer_part, layout_said, detail_said};
-ghost use Rattle.tf_reply.specs.WellFormed.{HasAllowedColumns, HasAllowedSteps, IsAllowed, IsAllowedForm, IsWellFormed, IsWithin};
+ghost use Rattle.tf_reply.specs.Asked.{IsAsked, flagged, pair_said, form_said, request_said};
+ghost use Rattle.tf_reply.specs.Asked.{problem_part, name_part, instance_part, answer_part};
+ghost use Rattle.tf_reply.specs.Asked.{layout_said, detail_said};
+ghost use Rattle.tf_reply.specs.WellFormed.{HasAllowedColumns, HasAllowedSteps, IsAllowed};
+ghost use Rattle.tf_reply.specs.WellFormed.{IsAllowedForm, IsWellFormed, IsWithin};
 
 use tf_evaluate::evaluation::Detail;
 use tf_model::limit::{MOST_JOBS, MOST_MACHINES};
@@ -100,8 +104,8 @@ impl Asking {
         })
     }
 
-    /// What is asked for with these bytes, in which the texts stand one behind the other; or what is
-    /// wrong with the request, in the words of the program.
+    /// What is asked for with these bytes, in which the texts stand one behind the other; or what
+    /// is wrong with the request, in the words of the program.
     pub fn read<'a>(&self, bytes: &'a [u8]) -> Result<Asked<'a>, &'static str>
         ensures asked { IfOk result (IsAsked self.now bytes.now) }
         ensures formed { OnOk result (IsWellFormed self.now bytes.now) }
@@ -229,7 +233,7 @@ impl Asking {
         }
     }
 
-    /// How much is told of an answer.
+    /// How much is reported of an answer.
     pub fn detail(&self) -> Detail
         ensures { result ≡ detail_said self.now.certificate }
     {

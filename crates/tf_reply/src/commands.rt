@@ -3,7 +3,8 @@ ghost use Rattle.std.specs.Prelude.{◌≡◌, ◌++◌, IfOk, string_bytes};
 ghost use Rattle.tf_text.specs.Counted.{inner_of};
 ghost use Rattle.tf_options.specs.Asking.{requested};
 ghost use Rattle.tf_options.specs.Columns.{HasWidth};
-ghost use Rattle.tf_command.specs.Ending.{EndsSolving, EndsBounding, EndsChecking, EndsEvaluating, EndsDrawing};
+ghost use Rattle.tf_command.specs.Ending.{EndsSolving, EndsBounding, EndsChecking, EndsEvaluating};
+ghost use Rattle.tf_command.specs.Ending.{EndsDrawing};
 ghost use Rattle.tf_reply.specs.Commands.{Solves, Bounds, Checks, Evaluates, Draws, Pictures};
 ghost use Rattle.tf_reply.specs.Replies.{printed, said, Replies, IsOver, IsOverBoth, IsListed};
 
@@ -194,7 +195,8 @@ fn drawn<A: Allocator + Copy>(
     console.ended(status)
 }
 
-/// Lists the problems that are solved; where there is a job table, those that it has the fields for.
+/// Lists the problems that are solved; where there is a job table, those that it has the fields
+/// for.
 pub fn problems<A: Allocator + Copy>(alloc: A, table: &[u8]) -> Result<Reply<A>, AllocError>
     ensures { IfOk result (Replies (IsListed A table.now)) }
 {

@@ -1,10 +1,12 @@
 //! Schedules: pieces that claim no cell twice.
-ghost use Rattle.std.specs.Prelude.{◌≡◌, pos, ◌≤ℤ◌, ◌<ℤ◌, unwrap_or, ◌<◌, IfSome, IfOk, IfErr, IsOk, MatchResult};
+ghost use Rattle.std.specs.Prelude.{◌≡◌, pos, ◌≤ℤ◌, ◌<ℤ◌, unwrap_or, ◌<◌, IfSome, IfOk, IfErr};
+ghost use Rattle.std.specs.Prelude.{IsOk, MatchResult};
 ghost use Rattle.std.specs.List.{All, AllPairs};
 ghost use Rattle.std.specs.List.Sorted.{IsPermutation};
 ghost use Rattle.tf_schedule.specs.Piece.{as_time};
 ghost use Rattle.tf_schedule.specs.Drawing.{greatest_stop, job_at};
-ghost use Rattle.tf_schedule.specs.Schedule.{ComesBefore, HasFirstFault, IsSchedule, IsPiece, NoneTwice};
+ghost use Rattle.tf_schedule.specs.Schedule.{ComesBefore, HasFirstFault, IsSchedule, IsPiece};
+ghost use Rattle.tf_schedule.specs.Schedule.{NoneTwice};
 
 use crate::line::Line;
 use crate::piece::Piece;

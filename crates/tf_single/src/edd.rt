@@ -14,7 +14,8 @@ ghost use Rattle.tf_check.specs.Bound.{window_bound};
 ghost use Rattle.tf_single.specs.EarliestDue.{IsStretch, IsLastWindow};
 ghost use Rattle.tf_single.specs.Horn.{RunsByHorn};
 ghost use Rattle.tf_single.specs.Progress.{of_job, IsTimeline};
-ghost use Rattle.tf_single.specs.Ends.{AreEnds, AreInTurn, IsLatest, IsStretchStart, lateness, is_within};
+ghost use Rattle.tf_single.specs.Ends.{AreEnds, AreInTurn, IsLatest, IsStretchStart, lateness};
+ghost use Rattle.tf_single.specs.Ends.{is_within};
 
 use crate::timeline::timeline;
 use std::alloc::Allocator;

@@ -1,10 +1,12 @@
 //! Charts of schedules.
 ghost use Rattle.tf_model.specs.Limit.{most_machines};
-ghost use Rattle.std.specs.Prelude.{◌≡◌, ◌≤◌, ◌<◌, ◌+◌, ◌^◌, ◌++◌, true, false, length, min, max, unwrap_or, IsErr, OnOk, OnErr};
+ghost use Rattle.std.specs.Prelude.{◌≡◌, ◌≤◌, ◌<◌, ◌+◌, ◌^◌, ◌++◌, true, false, length, min, max};
+ghost use Rattle.std.specs.Prelude.{unwrap_or, IsErr, OnOk, OnErr};
 ghost use Rattle.arrayvec.specs.ArrayVec.{array_vec_len};
 ghost use Rattle.tf_schedule.specs.Drawing.{greatest_stop, job_at};
 ghost use Rattle.tf_text.specs.Counted.{inner_of, has_failed, AppendsPrefix};
-ghost use Rattle.tf_text.specs.Chart.{most_columns, column_time, cell_sign, cell_signs, machine_line, length_line, chart_text};
+ghost use Rattle.tf_text.specs.Chart.{most_columns, column_time, cell_sign, cell_signs};
+ghost use Rattle.tf_text.specs.Chart.{machine_line, length_line, chart_text};
 ghost use Rattle.std.specs.Io.KnownBytes.{Appends};
 
 use crate::counted::{Counted, Device};

@@ -1,5 +1,6 @@
 //! Readers and writers that remember a failure, and readers that count what they gave.
-ghost use Rattle.std.specs.Prelude.{◌≡◌, ℕ, ◌<◌, ◌≤◌, true, false, length, take, OnOk, OnErr, IfOk, IsErr};
+ghost use Rattle.std.specs.Prelude.{◌≡◌, ℕ, ◌<◌, ◌≤◌, true, false, length, take, OnOk, OnErr, IfOk};
+ghost use Rattle.std.specs.Prelude.{IsErr};
 ghost use Rattle.std.specs.Io.KnownBytes.{Keeps, Appends, Consumes, IsAtEnd};
 
 use std::io::{Read, Write};
@@ -10,8 +11,8 @@ use thiserror::Error;
 #[error("device fault")]
 pub struct Device;
 
-/// A reader or a writer, how many bytes were pulled from it, as far as 64 bits count, and whether it
-/// has failed. After a failure it is not called again.
+/// A reader or a writer, how many bytes were pulled from it, as far as 64 bits count, and whether
+/// it has failed. After a failure it is not called again.
 #[derive(Drop)]
 pub struct Counted<T> {
     inner: T,

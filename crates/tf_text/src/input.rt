@@ -1,6 +1,7 @@
 //! Whole texts from a reader.
 ghost use Rattle.tf_model.specs.Limit.{most_bytes};
-ghost use Rattle.std.specs.Prelude.{◌≡◌, ◌+◌, ◌<◌, ◌≤◌, true, false, length, OnOk, IfOk, OnErr, IfSome, IfErr, IsErr, IsErrOf};
+ghost use Rattle.std.specs.Prelude.{◌≡◌, ◌+◌, ◌<◌, ◌≤◌, true, false, length, OnOk, IfOk, OnErr};
+ghost use Rattle.std.specs.Prelude.{IfSome, IfErr, IsErr, IsErrOf};
 ghost use Rattle.std.specs.Io.KnownBytes.{IsAtEnd};
 ghost use Rattle.tf_text.specs.Counted.{inner_of, pulled_of, has_failed, ConsumesAtMost};
 ghost use Rattle.tf_text.specs.Input.{is_device, IsTextOf, Drains};

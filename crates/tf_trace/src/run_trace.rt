@@ -26,8 +26,9 @@ use tf_text::counted::Counted;
 /// Reads an instance to its end, solves it, and writes how the optimal schedule is found and why
 /// none costs less; the last line is the optimal value.
 ///
-/// The refusals are those of [`tf_engine::run_solve::run_solve`], in the same order. After a refusal
-/// nothing was written, unless it is [`RunFault::Device`], after which a prefix may have been.
+/// The refusals are those of [`tf_engine::run_solve::run_solve`], in the same order. After a
+/// refusal nothing was written, unless it is [`RunFault::Device`], after which a prefix may have
+/// been.
 pub fn run_trace<A: Allocator + Copy, B: Allocator, R: Read, W: Write>(
     alloc: A,
     request: &Request<B>,

@@ -2,7 +2,8 @@
 //!
 //! Each byte is looked at once. Where one of these functions gives nothing, the line has another
 //! form, and nothing is said of it.
-ghost use Rattle.std.specs.Prelude.{◌≡◌, ◌∷◌, ◌++◌, ◌<◌, ◌≤◌, ℕ, List, Some, true, not, take, length, IfSome};
+ghost use Rattle.std.specs.Prelude.{◌≡◌, ◌∷◌, ◌++◌, ◌<◌, ◌≤◌, ℕ, List, Some, true, not, take};
+ghost use Rattle.std.specs.Prelude.{length, IfSome};
 ghost use Rattle.std.specs.List.{list_all};
 ghost use Rattle.std.specs.Char.{is_ascii_digit};
 ghost use Rattle.std.specs.Str.Parse.{digits_value};

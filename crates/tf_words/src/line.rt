@@ -1,5 +1,6 @@
 //! The lines of a text that have a word and are no comment.
-ghost use Rattle.std.specs.Prelude.{◌≡◌, ℕ, ◌+◌, ◌^◌, ◌<◌, ◌≤◌, ◌∷◌, [], ◌-◌, ◌==◌, true, List, length, drop, position, MatchOption, IfSome};
+ghost use Rattle.std.specs.Prelude.{◌≡◌, ℕ, ◌+◌, ◌^◌, ◌<◌, ◌≤◌, ◌∷◌, [], ◌-◌, ◌==◌, true, List};
+ghost use Rattle.std.specs.Prelude.{length, drop, position, MatchOption, IfSome};
 ghost use Rattle.std.specs.List.{position_or_len};
 ghost use Rattle.std.specs.Option.{option_map_or};
 ghost use Rattle.tf_words.specs.Words.{is_front, words, lines, is_kept, kept_lines};
@@ -105,7 +106,8 @@ fn if_kept(text: &[u8]) -> (Option<&[u8]>, &[u8])
 }
 
 impl<'a> Lines<'a> {
-    ghost use Rattle.tf_words.specs.Lines.{line_of, lines_of, word_line_of, word_lines_of, bytes_left, number_left};
+    ghost use Rattle.tf_words.specs.Lines.{line_of, lines_of, word_line_of, word_lines_of};
+    ghost use Rattle.tf_words.specs.Lines.{bytes_left, number_left};
     ghost use Rattle.tf_words.specs.FirstLine.{line_words, lines_behind};
 
     /// All lines of a text.

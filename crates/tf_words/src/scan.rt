@@ -1,5 +1,6 @@
 //! Reading the words of a text byte by byte, as numbers.
-ghost use Rattle.std.specs.Prelude.{◌≡◌, ℕ, ◌+◌, ◌^◌, ◌<◌, ◌≤◌, ◌++◌, List, [], ◌∷◌, length, take, MatchOption, IfSome, None};
+ghost use Rattle.std.specs.Prelude.{◌≡◌, ℕ, ◌+◌, ◌^◌, ◌<◌, ◌≤◌, ◌++◌, List, [], ◌∷◌, length, take};
+ghost use Rattle.std.specs.Prelude.{MatchOption, IfSome, None};
 ghost use Rattle.tf_words.specs.Words.{Word, lines, words_from};
 ghost use Rattle.tf_words.specs.Scan.{number_shown, line_after, AreBlanks, IsAt, IsOf, IsInRange};
 

@@ -88,8 +88,8 @@ machine 1 |122333|
 ",
 };
 
-pub const BROKEN_OFF: Example = Example {
-    name: "a job broken off",
+pub const PREEMPTED: Example = Example {
+    name: "a job preempted",
     problem: "1|rj,prmp|Lmax",
     given: Given::Table,
     instance: b"table 1

@@ -2,7 +2,8 @@
 ghost use Rattle.std.specs.Prelude.{◌≡◌};
 ghost use Rattle.tf_words.specs.Words.{words};
 ghost use Rattle.tf_check.specs.Certificate.{claim_of};
-ghost use Rattle.tf_text.specs.AnswerReading.{Gives, bare, side_of, split_of, split_in, claim_in, certificate_in};
+ghost use Rattle.tf_text.specs.AnswerReading.{Gives, bare, side_of, split_of, split_in, claim_in};
+ghost use Rattle.tf_text.specs.AnswerReading.{certificate_in};
 
 use crate::answer::fault::AnswerFault;
 use crate::answer::field::{job_in, machine_in, only, time_in};

@@ -1,7 +1,9 @@
-//! The numbers of an answer's lines: job and machine numbers, times and values, each with its range.
+//! The numbers of an answer's lines: job and machine numbers, times and values, each with its
+//! range.
 ghost use Rattle.std.specs.Prelude.{◌<◌, ◌≤◌, IfOk};
 ghost use Rattle.tf_words.specs.Words.{words};
-ghost use Rattle.tf_text.specs.AnswerReading.{Gives, count_in, time_in, value_in, most_job, most_machine, only};
+ghost use Rattle.tf_text.specs.AnswerReading.{Gives, count_in, time_in, value_in, most_job};
+ghost use Rattle.tf_text.specs.AnswerReading.{most_machine, only};
 
 use crate::answer::fault::AnswerFault;
 use tf_model::ids::{JobId, MachineId};

@@ -4,7 +4,8 @@ ghost use Rattle.std.specs.List.{list_all};
 ghost use Rattle.tf_words.specs.Words.{words};
 ghost use Rattle.tf_text.specs.JobWords.{run_jobs};
 ghost use Rattle.tf_text.specs.declared.answer.layout.Layout.TheVariants.{Two};
-ghost use Rattle.tf_text.specs.AnswerReading.{Gives, numerals, range_ends, is_item, run_in, name_many, jobs_listed, jobs_from, jobs_in};
+ghost use Rattle.tf_text.specs.AnswerReading.{Gives, numerals, range_ends, is_item, run_in};
+ghost use Rattle.tf_text.specs.AnswerReading.{name_many, jobs_listed, jobs_from, jobs_in};
 
 use crate::answer::fault::AnswerFault;
 use crate::answer::field::{MOST_JOB, count_in};

@@ -1,11 +1,16 @@
 //! Answer texts, read line by line.
 ghost use Rattle.tf_model.specs.Limit.{most_machines};
-ghost use Rattle.std.specs.Prelude.{◌≡◌, ◌<◌, ◌≤◌, ◌∷◌, [], codes, option_map, IfOk, MatchOption, MatchResult};
+ghost use Rattle.std.specs.Prelude.{◌≡◌, ◌<◌, ◌≤◌, ◌∷◌, [], codes, option_map, IfOk, MatchOption};
+ghost use Rattle.std.specs.Prelude.{MatchResult};
 ghost use Rattle.tf_words.specs.Words.{words, lines};
 ghost use Rattle.tf_check.specs.Certificate.{claim_of};
 ghost use Rattle.tf_words.specs.Lines.{line_of, lines_of};
 ghost use Rattle.tf_text.specs.NextPiece.{HasNoPiece, BeginsWithPiece, BeginsWithFault};
-ghost use Rattle.tf_text.specs.AnswerReading.{Gives, version_in, heading_at, is_exactly, next, exactly, problem_in, problem_at, word_behind, count_at, value_at, four, piece_in, pieces_at, certificate_at, finished, answer_at, sheet_of, answer_in};
+ghost use Rattle.tf_text.specs.AnswerReading.{Gives, version_in, heading_at, is_exactly, next};
+ghost use Rattle.tf_text.specs.AnswerReading.{exactly, problem_in, problem_at, word_behind};
+ghost use Rattle.tf_text.specs.AnswerReading.{count_at, value_at, four, piece_in, pieces_at};
+ghost use Rattle.tf_text.specs.AnswerReading.{certificate_at, finished, answer_at, sheet_of};
+ghost use Rattle.tf_text.specs.AnswerReading.{answer_in};
 
 use crate::answer::claim::certificate_in;
 use crate::answer::fault::AnswerFault;

@@ -1,6 +1,8 @@
 //! Answer texts, written.
 ghost use Rattle.tf_model.specs.Limit.{most_bytes};
-ghost use Rattle.std.specs.Prelude.{◌≡◌, ℕ, List, [], ◌∷◌, ◌++◌, ◌≤◌, ◌<◌, map, codes, IfSome, MatchOption, length, true, false, Ok, OnOk, IfOk, IsErr, IsErrOf};
+ghost use Rattle.std.specs.Prelude.{◌≡◌, ℕ, List, [], ◌∷◌, ◌++◌, ◌≤◌, ◌<◌, map, codes, IfSome};
+ghost use Rattle.std.specs.Prelude.{MatchOption, length, true, false, Ok, OnOk, IfOk, IsErr};
+ghost use Rattle.std.specs.Prelude.{IsErrOf};
 ghost use Rattle.std.specs.List.{flat_map, join_with_byte};
 ghost use Rattle.std.specs.Fmt.{decimal, signed_decimal};
 ghost use Rattle.std.specs.Io.KnownBytes.{Appends};
@@ -8,10 +10,12 @@ ghost use Rattle.tf_check.specs.Certificate.{claim_of};
 ghost use Rattle.tf_check.specs.Claim.{BySplit};
 ghost use Rattle.tf_text.specs.Counted.{inner_of, has_failed, AppendsPrefix};
 ghost use Rattle.tf_text.specs.JobWords.{runs, run_words, job_words};
-ghost use Rattle.tf_text.specs.AnswerText.{version, side_word, claim_words, front_lines, back_lines, line_text, answer_text};
+ghost use Rattle.tf_text.specs.AnswerText.{version, side_word, claim_words, front_lines};
+ghost use Rattle.tf_text.specs.AnswerText.{back_lines, line_text, answer_text};
 ghost use Rattle.tf_text.specs.AnswerReading.{answer_in};
 ghost use Rattle.tf_text.specs.Readable.{IsReadable};
-ghost use Rattle.tf_text.specs.declared.answer.writing.WriteFault.TheVariants.{Device as DeviceFault, OutOfMemory as MemoryFault};
+ghost use Rattle.tf_text.specs.declared.answer.writing.WriteFault.TheVariants.{Device as DeviceFault};
+ghost use Rattle.tf_text.specs.declared.answer.writing.WriteFault.TheVariants.{OutOfMemory as MemoryFault};
 
 use crate::answer::block::write_around;
 use crate::answer::layout::Layout;
