@@ -32,12 +32,45 @@ fn place_of<B: Allocator>(task: &ProblemTask<B>, rank: Rank, job: JobId) -> Opti
     }
 }
 
+// Whether the jobs by number are in the order of the rank.
+fn are_in_order<B: Allocator>(task: &ProblemTask<B>, rank: Rank) -> bool {
+    let mut last = 0;
+    for k in 0..task.len() {
+        if let Some(place) = place_of(task, rank, JobId::at(k)) {
+            if place < last {
+                return false;
+            }
+            last = place;
+        }
+    }
+    true
+}
+
+// The jobs of a rank by number.
+fn jobs_of<A: Allocator, B: Allocator>(
+    alloc: A,
+    task: &ProblemTask<B>,
+    rank: Rank,
+) -> Result<Vec<JobId, A>, OutOfMemory> {
+    let mut jobs = Vec::with_capacity(alloc, task.len())?;
+    for k in 0..task.len() {
+        let job = JobId::at(k);
+        if place_of(task, rank, job).is_some() {
+            jobs.push(job)?;
+        }
+    }
+    Ok(jobs)
+}
+
 /// The jobs in the order of the rank, and of their numbers where it is the same.
 pub(crate) fn jobs_by_rank<A: Allocator + Copy, B: Allocator>(
     alloc: A,
     task: &ProblemTask<B>,
     rank: Rank,
 ) -> Result<Vec<JobId, A>, OutOfMemory> {
+    if are_in_order(task, rank) {
+        return jobs_of(alloc, task, rank);
+    }
     let mut ranks = Vec::with_capacity(alloc, task.len())?;
     for k in 0..task.len() {
         let job = JobId::at(k);
@@ -81,22 +114,43 @@ impl Front {
     }
 }
 
-// The value of a window of the front, times the number of machines and before it is rounded up.
-fn window_of(front: Front, machines: i128) -> i128 {
-    let free = i128::from(front.release) - i128::from(front.due);
-    free.wrapping_mul(machines)
-        .wrapping_add(i128::from(front.work))
+impl Front {
+    // Whether one more job left the dates as they were.
+    fn has_dates_of(self, other: Front) -> bool {
+        self.release == other.release && self.due == other.due
+    }
+
+    // The value of its window, times the number of machines and before it is rounded up; less than
+    // any where it has no job.
+    fn window(self, machines: i128) -> i128 {
+        if self.work == 0 {
+            return i128::MIN;
+        }
+        let free = i128::from(self.release) - i128::from(self.due);
+        free.wrapping_mul(machines)
+            .wrapping_add(i128::from(self.work))
+    }
+}
+
+// The greatest value of a window of a front. As long as the dates stay the same, the longest front
+// has it.
+fn greatest_window<B: Allocator>(task: &ProblemTask<B>, jobs: &[JobId], machines: i128) -> i128 {
+    let mut front = Front::new();
+    let mut most = i128::MIN;
+    for job in jobs {
+        let next = front.with(task, *job);
+        if !next.has_dates_of(front) {
+            most = most.max(front.window(machines));
+        }
+        front = next;
+    }
+    most.max(front.window(machines))
 }
 
 /// How many of the first jobs make the strongest window.
 pub(crate) fn window_front<B: Allocator>(task: &ProblemTask<B>, jobs: &[JobId]) -> usize {
     let machines = i128::from(task.machines().max(1));
-    let mut front = Front::new();
-    let mut most = i128::MIN;
-    for job in jobs {
-        front = front.with(task, *job);
-        most = most.max(window_of(front, machines));
-    }
+    let most = greatest_window(task, jobs, machines);
     // What is above this is rounded up to as much as the most.
     let below = most
         .saturating_sub(1)
@@ -105,7 +159,7 @@ pub(crate) fn window_front<B: Allocator>(task: &ProblemTask<B>, jobs: &[JobId]) 
     let mut front = Front::new();
     for (place, job) in jobs.iter().enumerate() {
         front = front.with(task, *job);
-        if window_of(front, machines) > below {
+        if front.window(machines) > below {
             return place + 1;
         }
     }

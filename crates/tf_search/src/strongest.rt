@@ -15,6 +15,7 @@ use tf_bound::fault::BoundFault;
 use tf_bound::pushed::pushed_task;
 use tf_bound::task::ProblemTask;
 use tf_model::ids::JobId;
+use tf_model::limit::LIMIT;
 use tf_model::memory::OutOfMemory;
 use tf_model::problem::{Env, Goal};
 
@@ -130,11 +131,10 @@ fn of_maximum<A: Allocator + Copy, B: Allocator>(
 // The job that completes latest after its due date, if it runs alone.
 fn longest_job<B: Allocator>(task: &ProblemTask<B>) -> JobId {
     let mut longest = JobId::at(0);
-    let mut most = i128::MIN;
+    let mut most = 0;
     for k in 0..task.len() {
         let job = JobId::at(k);
-        let end = i128::from(task.release(job)) + i128::from(task.work(job));
-        let late = end - i128::from(task.due(job));
+        let late = task.release(job) + task.work(job) + (LIMIT - task.due(job)) as u64;
         if late > most {
             most = late;
             longest = job;
