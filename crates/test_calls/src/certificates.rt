@@ -21,7 +21,7 @@ fn a_set_whose_jobs_go_in_a_circle_bounds_nothing(rt: HostRuntime) -> Result<(),
             weight: None,
             due: None,
             release: None,
-            cost: Some(StepCost::new(base, steps)?),
+            cost: Some(Box::new(rt.alloc(), StepCost::new(base, steps)?)?),
         })?;
     }
     let (first, second) = (JobId::at(0), JobId::at(1));

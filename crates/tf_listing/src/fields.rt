@@ -1,5 +1,5 @@
 //! What an instance has to have for a problem.
-ghost use Rattle.std.specs.Prelude.{◌≡◌};
+ghost use Rattle.std.specs.Prelude.{◌≡◌, is_some};
 ghost use Rattle.std.specs.List.{list_all};
 ghost use Rattle.std.specs.Option.{option_map};
 ghost use Rattle.tf_listing.specs.Fields.{has_fields, has_job_fields, is_listed, takes_time};
@@ -58,7 +58,13 @@ fn has_job_fields<A: Allocator>(problem: &Problem, job: &Job<A>) -> bool
         && (job.weight.is_some() || !uses_weight(problem.goal))
         && (job.due.is_some() || !uses_due(problem.goal))
         && (job.release.is_some() || !problem.release)
-        && (job.cost.is_some() || !uses_cost(problem.goal))
+        && (has_cost(job) || !uses_cost(problem.goal))
+}
+
+fn has_cost<A: Allocator>(job: &Job<A>) -> bool
+    ensures { result ≡ is_some job.now.cost }
+{
+    job.cost.is_some()
 }
 
 fn all_take_time<A: Allocator>(jobs: &[Job<A>]) -> bool

@@ -22,11 +22,12 @@ pub struct Job<A: Allocator = Global> {
     pub due: Option<i64>,
     /// Its release date, in time steps from 0: the job starts no earlier.
     pub release: Option<i64>,
-    /// What its completion costs, by the time.
-    pub cost: Option<StepCost<A>>,
+    /// What its completion costs, by the time. Few jobs have it, so it is kept elsewhere.
+    pub cost: Option<Box<StepCost<A>, A>>,
 }
 
 impl<A: Allocator> Model for Job<A> {
+    ghost use Rattle.std.specs.Option.{option_map};
     ghost use Rattle.tf_model.specs.JobFields.{JobFields};
 
     ghost Value = { JobFields };
@@ -37,6 +38,6 @@ impl<A: Allocator> Model for Job<A> {
           weight = j.weight;
           due = j.due;
           release = j.release;
-          cost = j.cost;
+          cost = option_map (λ cost. cost.value) j.cost;
         } };
 }

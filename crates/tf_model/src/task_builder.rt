@@ -37,7 +37,8 @@ fn cost_of<A: Allocator>(alloc: A, job: Job<A>) -> StepCost<A>
     ensures sound { IsStepCost (steps_of job) }
 {
     match job.cost {
-        Some(cost) => {
+        Some(kept) => {
+            let cost = Box::into_inner(kept);
             cost.is_sound();
             cost
         }

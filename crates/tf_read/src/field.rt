@@ -1,5 +1,5 @@
 //! The fields of a job line.
-ghost use Rattle.std.specs.Prelude.{◌≡◌};
+ghost use Rattle.std.specs.Prelude.{◌≡◌, IfOk};
 ghost use Rattle.tf_words.specs.Words.{words};
 ghost use Rattle.tf_read.specs.Faults.{Gives};
 ghost use Rattle.tf_read.specs.JobLine.{times_at, field_at, later_in, fields_at, no_fields};
@@ -7,7 +7,7 @@ ghost use Rattle.tf_read.specs.JobLine.{times_at, field_at, later_in, fields_at,
 use crate::cost_field::cost_at;
 use crate::fault::ReadFault;
 use crate::number::{integer, natural};
-use std::alloc::Allocator;
+use std::alloc::{AllocError, Allocator};
 use std::marker::Model;
 use tf_model::cost::StepCost;
 use tf_model::job::{Job, Times};
@@ -21,10 +21,11 @@ pub(crate) struct Fields<A: Allocator> {
     pub(crate) weight: Option<i64>,
     pub(crate) due: Option<i64>,
     pub(crate) release: Option<i64>,
-    pub(crate) cost: Option<StepCost<A>>,
+    pub(crate) cost: Option<Box<StepCost<A>, A>>,
 }
 
 impl<A: Allocator> Model for Fields<A> {
+    ghost use Rattle.std.specs.Option.{option_map};
     ghost use Rattle.tf_read.specs.JobLine.{SomeFields};
 
     ghost Value = { SomeFields };
@@ -35,7 +36,7 @@ impl<A: Allocator> Model for Fields<A> {
           weight = f.weight;
           due = f.due;
           release = f.release;
-          cost = f.cost;
+          cost = option_map (λ cost. cost.value) f.cost;
         } };
 }
 
@@ -57,6 +58,13 @@ fn times_at(line: u32, value: &[u8]) -> Result<Times, ReadFault>
             Ok(Times::Two(first, second))
         }
     }
+}
+
+// The cost in memory of its own, since few jobs have one.
+fn boxed<A: Allocator>(alloc: A, cost: StepCost<A>) -> Result<Box<StepCost<A>, A>, AllocError>
+    ensures { IfOk result (λ kept. kept.value ≡ cost) }
+{
+    Ok(Box::new(alloc, cost)?)
 }
 
 impl<A: Allocator> Fields<A> {
@@ -108,7 +116,7 @@ impl<A: Allocator> Fields<A> {
             return Ok(());
         }
         if is(key, b"h") && self.cost.is_none() {
-            self.cost = Some(cost_at(alloc, line, value)?);
+            self.cost = Some(boxed(alloc, cost_at(alloc, line, value)?)?);
             return Ok(());
         }
         Err(ReadFault::BadLine(line))

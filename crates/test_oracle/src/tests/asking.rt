@@ -32,7 +32,7 @@ fn instance_job(alloc: Global, task: &SmallTask, job: &SmallJob) -> Result<Job, 
         weight: Some(job.weight),
         due: Some(job.due),
         release: Some(time(job.release)),
-        cost: Some(step_cost(alloc, job.cost)?),
+        cost: Some(Box::new(alloc, step_cost(alloc, job.cost)?)?),
     })
 }
 
