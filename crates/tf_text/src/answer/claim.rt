@@ -50,22 +50,31 @@ fn side_of(word: &[u8]) -> Option<bool>
     }
 }
 
+/// What a split says: which machine it is of, the word of its number, and the words of its jobs.
+#[derive(Clone, Copy)]
+struct SplitWords<'a> {
+    first: bool,
+    delta: &'a [u8],
+    jobs: &'a [u8],
+}
+
 /// Reads the number and the jobs of a split.
 fn split_of<A: Allocator + Copy>(
     alloc: A,
     layout: Layout,
     line: u32,
-    first: bool,
-    delta: &[u8],
-    text: &[u8],
+    split: SplitWords<'_>,
 ) -> Result<Certificate<A>, AnswerFault>
-    ensures { Gives claim_of result (split_of layout line first delta.now (words text.now)) }
+    ensures { Gives claim_of result
+        (split_of layout line split.entry.first split.entry.delta.now
+        (words split.entry.jobs.now)) }
 {
-    if !(is_number(delta) && are_items(layout, text)) {
+    if !(is_number(split.delta) && are_items(layout, split.jobs)) {
         return Err(AnswerFault::BadLine(line));
     }
-    let delta = time_in(line, delta)?;
-    let side = jobs_listed(alloc, layout, line, text)?;
+    let first = split.first;
+    let delta = time_in(line, split.delta)?;
+    let side = jobs_listed(alloc, layout, line, split.jobs)?;
     Ok(Certificate::Split(Split { side, delta, first }))
 }
 
@@ -85,7 +94,10 @@ fn split_in<A: Allocator + Copy>(
             None => Err(AnswerFault::BadLine(line)),
             Some((delta, jobs)) => match side_of(side) {
                 None => Err(AnswerFault::BadLine(line)),
-                Some(first) => split_of(alloc, layout, line, first, delta, jobs),
+                Some(first) => {
+                    let split = SplitWords { first, delta, jobs };
+                    split_of(alloc, layout, line, split)
+                }
             },
         },
     }
