@@ -14,7 +14,7 @@ ghost use Rattle.tf_bound.specs.RowSums.{AreSums, late_steps};
 ghost use Rattle.tf_bound.specs.Prices.{IsCheapestFor, IsPaidFor, IsPricesBound, is_by_unit};
 
 use crate::fault::BoundFault;
-use crate::row_sums::{Cheapest, cheapest_start, late_steps, sum_rows};
+use crate::row_sums::{Cheapest, StartingJob, cheapest_start, late_steps, sum_rows};
 use crate::task::ProblemTask;
 use std::alloc::Allocator;
 use tf_model::ids::JobId;
@@ -70,7 +70,14 @@ pub fn cheapest_of<A: Allocator>(
     }
     let by_unit = is_by_unit(task.problem().goal);
     let slope = slope_within(by_unit, q, task.weight(job), due, last + time)?;
-    Some(cheapest_start(prices, sums, release, time, by_unit, slope, due))
+    let starting = StartingJob {
+        release,
+        time,
+        due,
+        slope,
+        by_unit,
+    };
+    Some(cheapest_start(prices, sums, starting))
 }
 
 // The weight of a job times q, where what it costs at `end` is within the limit.

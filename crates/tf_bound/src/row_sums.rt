@@ -41,6 +41,18 @@ pub fn late_steps(by_unit: bool, due: i64, end: u64) -> u64
     }
 }
 
+/// A job whose start is wanted, and how it pays for a late completion.
+#[derive(Clone, Copy, Debug)]
+pub struct StartingJob {
+    pub release: u64,
+    pub time: u64,
+    pub due: i64,
+    /// What it pays for each late step.
+    pub slope: u64,
+    /// Whether it pays once, however late it is.
+    pub by_unit: bool,
+}
+
 /// The cheapest start of a job, and what it costs there.
 #[derive(Clone, Copy, Debug)]
 pub struct Cheapest {
@@ -49,34 +61,28 @@ pub struct Cheapest {
 }
 
 /// The cheapest start of a job from its release date to the last price.
-pub fn cheapest_start(
-    prices: &[u64],
-    sums: &[u64],
-    release: u64,
-    time: u64,
-    by_unit: bool,
-    slope: u64,
-    due: i64,
-) -> Cheapest
+pub fn cheapest_start(prices: &[u64], sums: &[u64], job: StartingJob) -> Cheapest
     requires sums { AreSums prices.now sums.now }
-    requires last { max release (length prices.now) + time ≤ limit }
-    requires due { IsWithin due }
-    requires small { slope * late_steps by_unit due (max release (length prices.now) + time)
-        ≤ limit }
-    ensures cheapest { IsCheapest prices.now release time by_unit slope due result.price }
-    ensures reached { IsReached prices.now release time by_unit slope due result.price result.start }
+    requires last { max job.release (length prices.now) + job.time ≤ limit }
+    requires due { IsWithin job.due }
+    requires small { job.slope * late_steps job.by_unit job.due
+        (max job.release (length prices.now) + job.time) ≤ limit }
+    ensures cheapest { IsCheapest prices.now job.release job.time job.by_unit job.slope job.due
+        result.price }
+    ensures reached { IsReached prices.now job.release job.time job.by_unit job.slope job.due
+        result.price result.start }
     ensures small { result.price ≤ limit }
 {
     let rows = prices.len() as u64;
-    let last = release.max(rows);
+    let last = job.release.max(rows);
     let mut best = Cheapest {
-        price: slope * late_steps(by_unit, due, last + time),
+        price: job.slope * late_steps(job.by_unit, job.due, last + job.time),
         start: last,
     };
-    for start in release..last {
-        let end = start + time;
+    for start in job.release..last {
+        let end = start + job.time;
         let of_rows = sums[end.min(rows) as usize] - sums[start.min(rows) as usize];
-        let price = slope * late_steps(by_unit, due, end) + of_rows;
+        let price = job.slope * late_steps(job.by_unit, job.due, end) + of_rows;
         if price < best.price {
             best = Cheapest { price, start };
         }
