@@ -18,6 +18,13 @@ use tf_read::weighted_tardiness::WtReader;
 use tf_text::counted::Counted;
 use tf_text::input::{drain, read_all};
 
+/// The problem that is asked for, and the number of machines where the caller gives one.
+#[derive(Clone, Copy)]
+pub(crate) struct AskedProblem<'a> {
+    pub problem: &'a Problem,
+    pub machines: Option<u32>,
+}
+
 // Space for the rows of the most jobs. It is reserved before the text is read and freed after it,
 // so that the rows lie before the text in memory, and what is made of the rows takes the text's
 // pages.
@@ -26,59 +33,57 @@ fn place_for_rows<A: Allocator>(alloc: A, problem: &Problem) -> Option<Vec<u64, 
     Vec::with_capacity(alloc, numbers * MOST_JOBS).ok()
 }
 
-/// The task of a problem and of the job table that the reader's text holds, where the caller gives
-/// this number of machines or none. Where nothing is refused, no instance is made on the way.
+/// The task of a problem and of the job table that the reader's text holds. Where nothing is
+/// refused, no instance is made on the way.
 pub(crate) fn table_task_read<A: Allocator + Copy, R: Read>(
     alloc: A,
-    problem: &Problem,
-    machines: Option<u32>,
+    asked: AskedProblem<'_>,
     reader: &mut Counted<R>,
 ) -> Result<Task<A>, RunFault<A>>
-    ensures { ReadsTo (task_said InTable problem.now machines) R.remaining reader.old reader.new
-        result }
+    ensures { ReadsTo (task_said InTable asked.entry.problem.now asked.entry.machines)
+        R.remaining reader.old reader.new result }
 {
-    let place = place_for_rows(alloc, problem);
+    let place = place_for_rows(alloc, asked.problem);
     let text = read_all(alloc, reader)?;
     drop(place);
-    if let Some(task) = table_task(alloc, problem, machines, text.as_slice()) {
+    if let Some(task) = table_task(alloc, asked.problem, asked.machines, text.as_slice()) {
         return Ok(task);
     }
     let instance = read_table(alloc, text.as_slice())?;
-    Ok(prepare(alloc, &instance, problem, machines)?)
+    Ok(prepare(alloc, &instance, asked.problem, asked.machines)?)
 }
 
 /// The task of a problem and of the instance of this number of a weighted tardiness file that the
-/// reader's text is, where the caller gives this number of machines or none.
+/// reader's text is.
 pub(crate) fn wt_task_read<A: Allocator + Copy, R: Read>(
     alloc: A,
-    problem: &Problem,
-    machines: Option<u32>,
+    asked: AskedProblem<'_>,
     jobs: u32,
     index: u32,
     reader: &mut Counted<R>,
 ) -> Result<Task<A>, RunFault<A>>
-    ensures { ReadsTo (task_said (InWt jobs index) problem.now machines) R.remaining reader.old
-        reader.new result }
+    ensures { ReadsTo (task_said (InWt jobs index) asked.entry.problem.now asked.entry.machines)
+        R.remaining reader.old reader.new result }
 {
     let numbers = wt_read(alloc, jobs, index, reader)?;
-    Ok(numbers.into_task(alloc, problem, machines)?)
+    Ok(numbers.into_task(alloc, asked.problem, asked.machines)?)
 }
 
 /// The task of a problem and of the instance of this name of a flow shop file that the reader's
-/// text is, for a pair of machines, where the caller gives this number of machines or none.
+/// text is, for a pair of machines.
 pub(crate) fn flow_task_read<A: Allocator + Copy, R: Read>(
     alloc: A,
-    problem: &Problem,
-    machines: Option<u32>,
+    asked: AskedProblem<'_>,
     name: &[u8],
     pair: Option<(u32, u32)>,
     reader: &mut Counted<R>,
 ) -> Result<Task<A>, RunFault<A>>
-    ensures { ReadsTo (task_said (InFlow name.now pair) problem.now machines) R.remaining reader.old
-        reader.new result }
+    ensures { ReadsTo
+        (task_said (InFlow name.now pair) asked.entry.problem.now asked.entry.machines)
+        R.remaining reader.old reader.new result }
 {
     let numbers = flow_read(alloc, name, pair, reader)?;
-    Ok(numbers.into_task(alloc, problem, machines)?)
+    Ok(numbers.into_task(alloc, asked.problem, asked.machines)?)
 }
 
 /// The numbers of the instance of this number of a weighted tardiness file that the reader's text

@@ -10,21 +10,24 @@ use Rattle.tf_engine.proofs.form_read.wt_task_read.Goals as goal
 pub returns-in_err-numbers : goal.returns-in_err-numbers
 returns-in_err-numbers g c =
     let read = instance_said (InWt c.args.jobs c.args.index) in
-    err_is (ReadsTo (task_said (InWt c.args.jobs c.args.index) c.args.problem.now c.args.machines) _ _ _)
-    _ _ c.from_residual.ensures.1
-    (reads_on (prepared_said c.args.problem.now c.args.machines) read _ _ _ _ c.in_err-numbers.ensures)
+    err_is (ReadsTo
+    (task_said (InWt c.args.jobs c.args.index) c.args.asked.problem.now c.args.asked.machines)
+    _ _ _) _ _ c.from_residual.ensures.1
+    (reads_on (prepared_said c.args.asked.problem.now c.args.asked.machines) read _ _ _ _
+    c.in_err-numbers.ensures)
 
 pub returns-in_err-into_task : goal.returns-in_err-into_task
 returns-in_err-into_task g c =
     let read = instance_said (InWt c.args.jobs c.args.index) in
-    err_is (ReadsTo (task_said (InWt c.args.jobs c.args.index) c.args.problem.now c.args.machines) _ _ _)
-    _ _ c.from_residual-in_err-into_task.ensures.1
-    (reads_refused (prepared_said c.args.problem.now c.args.machines) read _ _ _ _ _
+    err_is (ReadsTo
+    (task_said (InWt c.args.jobs c.args.index) c.args.asked.problem.now c.args.asked.machines)
+    _ _ _) _ _ c.from_residual-in_err-into_task.ensures.1
+    (reads_refused (prepared_said c.args.asked.problem.now c.args.asked.machines) read _ _ _ _ _
     c.in_ok-numbers.ensures
     (unprepared g.row.A.Denot _ c.in_err-into_task.field-0.0 c.in_err-into_task.ensures))
 
 pub returns : goal.returns
 returns g c =
     let read = instance_said (InWt c.args.jobs c.args.index) in
-    reads_then (prepared_said c.args.problem.now c.args.machines) read _ _ _ _ _
+    reads_then (prepared_said c.args.asked.problem.now c.args.asked.machines) read _ _ _ _ _
     c.in_ok-numbers.ensures (ap (refused_by ByTask) c.in_ok-into_task.ensures)
