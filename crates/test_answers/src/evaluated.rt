@@ -13,15 +13,14 @@ use test_runs::runs::{LAYOUTS, ensure, request_for, request_table};
 use tf_engine::fault::RunFault;
 use tf_engine::request::Request;
 use tf_evaluate::evaluation::{Detail, Standing};
-use tf_evaluate::run_evaluate::run_evaluate;
+use tf_evaluate::run_evaluate::{EvaluationRequest, run_evaluate};
 use tf_text::answer::layout::Layout;
 use tf_text::counted::Counted;
 
 /// Evaluates an answer text.
 fn evaluate_into<A: Allocator + Copy>(
     alloc: A,
-    request: &Request,
-    detail: Detail,
+    asked: EvaluationRequest<'_>,
     instance: &[u8],
     answer: &[u8],
     out: &mut Vec<u8>,
@@ -29,14 +28,7 @@ fn evaluate_into<A: Allocator + Copy>(
     let mut instance = Counted::new(instance);
     let mut answer = Counted::new(answer);
     let mut writer = Counted::new(out);
-    run_evaluate(
-        alloc,
-        request,
-        detail,
-        &mut instance,
-        &mut answer,
-        &mut writer,
-    )
+    run_evaluate(alloc, asked, &mut instance, &mut answer, &mut writer)
 }
 
 /// An example whose answer has other lines, counted from 1. What is evaluated of each stands, typed
@@ -184,15 +176,12 @@ fn what_is_printed_is_best(rt: HostRuntime) -> Result<(), Fail> {
         for layout in LAYOUTS {
             let request = request_for(&rt, example, Layout::One)?;
             let answer = answer_in(&rt, example, layout)?;
+            let asked = EvaluationRequest {
+                request: &request,
+                detail: Detail::Summary,
+            };
             let mut out = Vec::new(rt.alloc());
-            let result = evaluate_into(
-                rt.alloc(),
-                &request,
-                Detail::Summary,
-                example.instance,
-                &answer,
-                &mut out,
-            );
+            let result = evaluate_into(rt.alloc(), asked, example.instance, &answer, &mut out);
             ensure(result == Ok(Standing::Best), example.name)?;
             ensure(
                 has_line(&out, b"fits") && has_line(&out, b"gap 0"),
@@ -203,9 +192,11 @@ fn what_is_printed_is_best(rt: HostRuntime) -> Result<(), Fail> {
     Ok(())
 }
 
-/// An evaluation: how good the answer is, and what is written.
+/// An evaluation: of what detail it is, how good the answer is, and what is written.
 #[derive(Drop)]
 struct Evaluated {
+    alloc: Global,
+    detail: Detail,
     standing: Standing,
     written: Vec<u8>,
 }
@@ -217,32 +208,38 @@ fn evaluate(
     case: &Case,
     answer: &[u8],
 ) -> Result<Evaluated, Fail> {
+    let asked = EvaluationRequest { request, detail };
     let mut written = Vec::new(rt.alloc());
-    let instance = case.example.instance;
-    match evaluate_into(rt.alloc(), request, detail, instance, answer, &mut written) {
-        Ok(standing) => Ok(Evaluated { standing, written }),
+    match evaluate_into(
+        rt.alloc(),
+        asked,
+        case.example.instance,
+        answer,
+        &mut written,
+    ) {
+        Ok(standing) => Ok(Evaluated {
+            alloc: rt.alloc(),
+            detail,
+            standing,
+            written,
+        }),
         Err(_) => Err(Fail::new(case.example.name)),
     }
 }
 
 fn evaluates_on(
-    rt: &HostRuntime,
     heap: &Refusing<Global>,
     request: &Request,
-    detail: Detail,
     case: &Case,
     answer: &[u8],
     wanted: &Evaluated,
 ) -> Result<Ended, Fail> {
-    let mut out = Vec::with_capacity(rt.alloc(), 2_000)?;
-    match evaluate_into(
-        heap,
+    let asked = EvaluationRequest {
         request,
-        detail,
-        case.example.instance,
-        answer,
-        &mut out,
-    ) {
+        detail: wanted.detail,
+    };
+    let mut out = Vec::with_capacity(wanted.alloc, 2_000)?;
+    match evaluate_into(heap, asked, case.example.instance, answer, &mut out) {
         Ok(standing) => {
             ensure(standing == wanted.standing, case.example.name)?;
             ensure(out == wanted.written, case.example.name)?;
@@ -264,7 +261,7 @@ fn each_case_is_evaluated_alike_whatever_growth_is_refused(rt: HostRuntime) -> R
         for detail in [Detail::Summary, Detail::WithArithmetic] {
             let wanted = evaluate(&rt, &request, detail, case, &answer)?;
             let call = |heap: &Refusing<Global>| evaluates_on(
-                &rt, heap, &request, detail, case, &answer, &wanted,
+                heap, &request, case, &answer, &wanted,
             );
             ensure(refuse_each_growth(&rt, call)? > 3, case.example.name)?;
         }
@@ -275,15 +272,12 @@ fn each_case_is_evaluated_alike_whatever_growth_is_refused(rt: HostRuntime) -> R
 #[test]
 fn cycles_are_refused(rt: HostRuntime) -> Result<(), Fail> {
     let request = request_table(&rt, COSTS.problem)?;
+    let asked = EvaluationRequest {
+        request: &request,
+        detail: Detail::WithArithmetic,
+    };
     let mut out = Vec::new(rt.alloc());
-    let result = evaluate_into(
-        rt.alloc(),
-        &request,
-        Detail::WithArithmetic,
-        TWO_ARCS,
-        COSTS.answer,
-        &mut out,
-    );
+    let result = evaluate_into(rt.alloc(), asked, TWO_ARCS, COSTS.answer, &mut out);
     let is_cycle = matches!(&result, Err(RunFault::Cycle(_)));
     ensure(is_cycle && out.is_empty(), "no cycle")
 }
@@ -299,14 +293,11 @@ fn evaluate_on(
     let mut instance = Counted::new(instance);
     let mut answer = Counted::new(answer);
     let mut writer = Counted::new(sink);
-    run_evaluate(
-        rt.alloc(),
+    let asked = EvaluationRequest {
         request,
-        Detail::WithArithmetic,
-        &mut instance,
-        &mut answer,
-        &mut writer,
-    )
+        detail: Detail::WithArithmetic,
+    };
+    run_evaluate(rt.alloc(), asked, &mut instance, &mut answer, &mut writer)
 }
 
 /// Where this call of the writer fails, the run fails, and there is no further call.

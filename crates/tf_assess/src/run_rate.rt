@@ -14,7 +14,7 @@ use std::io::{Read, Write};
 use tf_engine::fault::RunFault;
 use tf_engine::request::Request;
 use tf_evaluate::evaluation::{Detail, Standing};
-use tf_evaluate::run_evaluate::run_evaluate;
+use tf_evaluate::run_evaluate::{EvaluationRequest, run_evaluate};
 use tf_model::class::class_of;
 use tf_notation::reading::read;
 use tf_text::counted::Counted;
@@ -47,7 +47,9 @@ pub fn run_rate<A: Allocator + Copy, B: Allocator, R: Read, S: Read, W: Write>(
         instance.new S.remaining answer.old answer.new writer.old writer.new (end_of result) }
 {
     if is_solved(request.problem.as_str()) {
-        return run_evaluate(alloc, request, options.detail, instance, answer, writer);
+        let detail = options.detail;
+        let evaluated = EvaluationRequest { request, detail };
+        return run_evaluate(alloc, evaluated, instance, answer, writer);
     }
     let aids = Aids {
         steps: options.steps,

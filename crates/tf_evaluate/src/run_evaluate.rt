@@ -8,12 +8,19 @@ ghost use Rattle.tf_evaluate.specs.RunEvaluating.{IsEvaluationOf};
 use crate::evaluate::evaluate;
 use crate::evaluation::{Detail, Standing};
 use crate::writing::evaluation_bytes;
-use std::alloc::Allocator;
+use std::alloc::{Allocator, Global};
 use std::io::{Read, Write};
 use tf_engine::case::{Case, case_read};
 use tf_engine::fault::RunFault;
 use tf_engine::request::Request;
 use tf_text::counted::Counted;
+
+/// What is asked for, and how much is reported of the certificate.
+#[derive(Drop)]
+pub struct EvaluationRequest<'a, A: Allocator = Global> {
+    pub request: &'a Request<A>,
+    pub detail: Detail,
+}
 
 /// Reads an instance and an answer to their ends, and writes the evaluation of the answer.
 ///
@@ -24,18 +31,20 @@ use tf_text::counted::Counted;
 /// it.
 pub fn run_evaluate<A: Allocator + Copy, B: Allocator, R: Read, S: Read, W: Write>(
     alloc: A,
-    request: &Request<B>,
-    detail: Detail,
+    asked: EvaluationRequest<'_, B>,
     instance: &mut Counted<R>,
     answer: &mut Counted<S>,
     writer: &mut Counted<W>,
 ) -> Result<Standing, RunFault<A>>
-    ensures outcome { IsEvaluationOf detail request.now (use_of R.remaining instance.old instance.new)
+    ensures outcome { IsEvaluationOf asked.entry.detail asked.entry.request.now
+        (use_of R.remaining instance.old instance.new)
         (use_of S.remaining answer.old answer.new) (use_of W.contents writer.old writer.new)
         result }
-    ensures devices { LeavesCase (problem_for request.now.problem) R.remaining instance.old
-        instance.new S.remaining answer.old answer.new writer.old writer.new (end_of result) }
+    ensures devices { LeavesCase (problem_for asked.entry.request.now.problem) R.remaining
+        instance.old instance.new S.remaining answer.old answer.new writer.old writer.new
+        (end_of result) }
 {
+    let EvaluationRequest { request, detail } = asked;
     let case = case_read(alloc, request, instance, answer)?;
     let Case { asked, sheet } = case;
     let evaluation = evaluate(alloc, &asked.problem, &asked.task, sheet, detail)?;

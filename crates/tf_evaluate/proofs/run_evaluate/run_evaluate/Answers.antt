@@ -14,10 +14,11 @@ use Rattle.tf_evaluate.proofs.run_evaluate.run_evaluate.Goals as goal
 
 pub returns-in_err-case-clause-outcome : goal.returns-in_err-case-clause-outcome
 returns-in_err-case-clause-outcome g c =
-    err_is (IsEvaluationOf c.args.detail c.args.request.now _ _ _) c.in_err-case.field-0.0 _
+    err_is (IsEvaluationOf c.args.asked.detail c.args.asked.request.now _ _ _)
+    c.in_err-case.field-0.0 _
     c.from_residual.ensures.1
-    (evaluation_stopped g.row.A.Denot _ _ c.args.detail c.args.request.now _ _ _ _ _ _ _ _
-    c.in_err-case.field-0.0 c.in_err-case.ensures)
+    (evaluation_stopped g.row.A.Denot _ _ c.args.asked.detail c.args.asked.request.now
+    _ _ _ _ _ _ _ _ c.in_err-case.field-0.0 c.in_err-case.ensures)
 
 pub returns-in_err-case-clause-devices : goal.returns-in_err-case-clause-devices
 returns-in_err-case-clause-devices g c =
@@ -26,10 +27,10 @@ returns-in_err-case-clause-devices g c =
 
 pub returns-in_err-evaluation-clause-outcome : goal.returns-in_err-evaluation-clause-outcome
 returns-in_err-evaluation-clause-outcome g c =
-    err_is (IsEvaluationOf c.args.detail c.args.request.now _ _ _)
+    err_is (IsEvaluationOf c.args.asked.detail c.args.asked.request.now _ _ _)
     (of_solve c.in_err-evaluation.field-0.0) _ c.from_residual-in_err-evaluation.ensures.1
-    (evaluation_unsolved g.row.A.Denot _ _ c.args.detail c.args.request.now _ _ _ _ _ _ _
-    c.in_ok-case.ensures _ (Keeps-refl _) c.in_err-evaluation.field-0.0
+    (evaluation_unsolved g.row.A.Denot _ _ c.args.asked.detail c.args.asked.request.now
+    _ _ _ _ _ _ _ c.in_ok-case.ensures _ (Keeps-refl _) c.in_err-evaluation.field-0.0
     c.in_err-evaluation.ensures.refused)
 
 pub returns-in_err-evaluation-clause-devices : goal.returns-in_err-evaluation-clause-devices
@@ -42,9 +43,9 @@ returns-in_err-evaluation-clause-devices g c =
 
 pub returns-in_err-text-clause-outcome : goal.returns-in_err-text-clause-outcome
 returns-in_err-text-clause-outcome g c =
-    err_is (IsEvaluationOf c.args.detail c.args.request.now _ _ _) OutOfMemory _
+    err_is (IsEvaluationOf c.args.asked.detail c.args.asked.request.now _ _ _) OutOfMemory _
     c.from_residual-in_err-text.ensures.1
-    (evaluation_wanting g.row.A.Denot _ _ c.args.detail c.args.request.now _ _ _ _ _ _ _
+    (evaluation_wanting g.row.A.Denot _ _ c.args.asked.detail c.args.asked.request.now _ _ _ _ _ _ _
     c.in_ok-case.ensures _ (Keeps-refl _))
 
 pub returns-in_err-text-clause-devices : goal.returns-in_err-text-clause-devices
@@ -55,9 +56,9 @@ returns-in_err-text-clause-devices g c =
 pub returns-in_err-push_all-clause-outcome : goal.returns-in_err-push_all-clause-outcome
 returns-in_err-push_all-clause-outcome g c =
     let is = c.in_ok-evaluation.ensures in
-    err_is (IsEvaluationOf c.args.detail c.args.request.now _ _ _) Device _
+    err_is (IsEvaluationOf c.args.asked.detail c.args.asked.request.now _ _ _) Device _
     c.from_residual-in_err-push_all.ensures.1
-    (evaluation_cut g.row.A.Denot _ _ c.args.detail c.args.request.now _ _ _ _ _ _ _
+    (evaluation_cut g.row.A.Denot _ _ c.args.asked.detail c.args.asked.request.now _ _ _ _ _ _ _
     c.in_ok-case.ensures _ c.in_ok-evaluation.evaluation is.evaluation is.standing.0
     is.standing.1 is.arithmetic c.in_err-push_all.ensures.device
     (subst (AppendsPrefix (g.W.Write.contents (inner_of c.args.writer.now))
@@ -73,7 +74,7 @@ returns-in_err-push_all-clause-devices g c =
 pub returns-clause-outcome : goal.returns-clause-outcome
 returns-clause-outcome g c =
     let is = c.in_ok-evaluation.ensures in
-    evaluation_said g.row.A.Denot _ _ c.args.detail c.args.request.now _ _ _ _ _ _ _
+    evaluation_said g.row.A.Denot _ _ c.args.asked.detail c.args.asked.request.now _ _ _ _ _ _ _
     c.in_ok-case.ensures _ c.in_ok-evaluation.evaluation is.evaluation is.standing.0
     is.standing.1 is.arithmetic _ c.standing.ensures
     (subst (Appends (g.W.Write.contents (inner_of c.args.writer.now))
