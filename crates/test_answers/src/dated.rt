@@ -5,7 +5,7 @@ use std::alloc::{Allocator, Global};
 use std::test::Fail;
 use test_runs::growths::{Ended, refuse_each_growth};
 use test_runs::runs::ensure;
-use tf_dated::run_dated::{Pictured, run_dated};
+use tf_dated::run_dated::{DatedRequest, Pictured, run_dated};
 use tf_engine::fault::RunFault;
 use tf_engine::request::Form;
 use tf_picture::view::View;
@@ -28,14 +28,12 @@ fn dated_into<A: Allocator + Copy>(alloc: A, out: &mut Vec<u8>) -> Result<Pictur
     let mut instance = Counted::new(JOBS);
     let mut answer = Counted::new(ANSWER);
     let mut writer = Counted::new(out);
-    run_dated(
-        alloc,
-        &View::whole(),
-        &form,
-        &mut instance,
-        &mut answer,
-        &mut writer,
-    )
+    let view = View::whole();
+    let asked = DatedRequest {
+        view: &view,
+        form: &form,
+    };
+    run_dated(alloc, asked, &mut instance, &mut answer, &mut writer)
 }
 
 fn dated_on(rt: &HostRuntime, heap: &Refusing<Global>) -> Result<Ended, Fail> {

@@ -14,7 +14,7 @@ use crate::recorded::Recorded;
 use crate::report::{end_picture, say_memory};
 use crate::source::Sources;
 use std::io::{Read, Write};
-use tf_dated::run_dated::run_dated;
+use tf_dated::run_dated::{DatedRequest, run_dated};
 use tf_options::options::{Picturing, Work};
 use tf_text::counted::Counted;
 
@@ -53,8 +53,11 @@ fn picture<R: Read, S: Read, W: Write, E: Write>(
     let Ok(form) = picturing.form.form(alloc) else {
         return say_memory(&mut console.errors);
     };
-    let view = &picturing.view;
-    let run = run_dated(alloc, view, &form, instance, answer, &mut console.writer);
+    let asked = DatedRequest {
+        view: &picturing.view,
+        form: &form,
+    };
+    let run = run_dated(alloc, asked, instance, answer, &mut console.writer);
     let status = end_picture(&run, &mut console.errors);
     if picturing.telling.explain {
         let dated = Dated {

@@ -9,7 +9,7 @@ ghost use Rattle.tf_dated.specs.Dated.{IsDatedOver, IsDatedRunOf, IsDrawnSheet, 
 ghost use Rattle.tf_dated.specs.Leaving.{LeavesBeside, LeavesDated};
 
 use crate::dates::dates_of;
-use std::alloc::Allocator;
+use std::alloc::{Allocator, Global};
 use std::io::{Read, Write};
 use tf_bounding::instance_read::instance_read;
 use tf_engine::fault::RunFault;
@@ -22,6 +22,13 @@ use tf_picture::picture::picture;
 use tf_picture::view::View;
 use tf_text::answer::sheet::Sheet;
 use tf_text::counted::Counted;
+
+/// How a picture is drawn, and the form of the instance that has the dates.
+#[derive(Drop)]
+pub struct DatedRequest<'a, A: Allocator = Global> {
+    pub view: &'a View,
+    pub form: &'a Form<A>,
+}
 
 /// What comes of a picture with the dates of an instance.
 #[derive(Clone, Copy, Debug, PartialEq, Eq)]
@@ -41,21 +48,20 @@ pub enum Pictured {
 /// [`RunFault::Device`], after which a prefix of the picture may have been.
 pub fn run_dated<A: Allocator + Copy, B: Allocator, R: Read, S: Read, W: Write>(
     alloc: A,
-    view: &View,
-    form: &Form<B>,
+    asked: DatedRequest<'_, B>,
     instance: &mut Counted<R>,
     answer: &mut Counted<S>,
     writer: &mut Counted<W>,
 ) -> Result<Pictured, RunFault<A>>
-    ensures outcome { IsDatedRunOf view.now (form_of form.now)
+    ensures outcome { IsDatedRunOf asked.entry.view.now (form_of asked.entry.form.now)
         (use_of R.remaining instance.old instance.new)
         (use_of S.remaining answer.old answer.new) (use_of W.contents writer.old writer.new)
         result }
     ensures devices { LeavesDated R.remaining instance.old instance.new S.remaining answer.old
         answer.new writer.old writer.new result }
 {
-    let instance = instance_read(alloc, form, instance)?;
-    draw_beside(alloc, view, &instance, answer, writer)
+    let instance = instance_read(alloc, asked.form, instance)?;
+    draw_beside(alloc, asked.view, &instance, answer, writer)
 }
 
 // Writes the picture of an answer with the dates of this instance.
