@@ -5,7 +5,7 @@ use test_runs::examples::Given;
 use test_runs::runs::request;
 use tf_assess::assessment::Assessed;
 use tf_assess::offered::Aids;
-use tf_assess::run_assess::run_assess;
+use tf_assess::run_assess::{AssessmentRequest, run_assess};
 use tf_bounding::run_bound::run_bound;
 use tf_engine::fault::RunFault;
 use tf_engine::request::Request;
@@ -109,5 +109,6 @@ pub fn assess<A: Allocator + Copy>(
         steps: STEPS,
         offered: None,
     };
-    run_assess(alloc, request, aids, &mut reader, &mut other, &mut writer)
+    let asked = AssessmentRequest { request, aids };
+    run_assess(alloc, asked, &mut reader, &mut other, &mut writer)
 }

@@ -10,7 +10,7 @@ use test_runs::runs::{ensure, request};
 use tf_assess::assessment::Assessed;
 use tf_assess::bound_read::{BoundReadFault, bound_read};
 use tf_assess::offered::Aids;
-use tf_assess::run_assess::run_assess;
+use tf_assess::run_assess::{AssessmentRequest, run_assess};
 use tf_engine::fault::RunFault;
 use tf_engine::request::Request;
 use tf_text::answer::layout::Layout;
@@ -68,14 +68,8 @@ fn assess_beside<A: Allocator + Copy>(
     let mut instance = Counted::new(&mut source);
     let mut answer = Counted::new(&mut other);
     let mut writer = Counted::new(sink);
-    match run_assess(
-        alloc,
-        request,
-        aids,
-        &mut instance,
-        &mut answer,
-        &mut writer,
-    ) {
+    let asked = AssessmentRequest { request, aids };
+    match run_assess(alloc, asked, &mut instance, &mut answer, &mut writer) {
         Ok(assessed) => Ok(assessed),
         Err(fault) => Err(Unassessed::Run(fault)),
     }

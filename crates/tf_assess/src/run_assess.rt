@@ -10,11 +10,18 @@ use crate::assessment::Assessed;
 use crate::case_read::{ProblemCase, problem_case_read};
 use crate::offered::Aids;
 use crate::writing::assessment_bytes;
-use std::alloc::Allocator;
+use std::alloc::{Allocator, Global};
 use std::io::{Read, Write};
 use tf_engine::fault::RunFault;
 use tf_engine::request::Request;
 use tf_text::counted::Counted;
+
+/// What is asked for, and what the search for a lower bound goes by.
+#[derive(Drop)]
+pub struct AssessmentRequest<'a, A: Allocator = Global, B: Allocator = Global> {
+    pub request: &'a Request<B>,
+    pub aids: Aids<A>,
+}
 
 /// Reads an instance and an answer to their ends, and writes how the answer stands to the task of
 /// the problem, with the strongest lower bound that is found, or with the one that is offered, if
@@ -26,18 +33,20 @@ use tf_text::counted::Counted;
 /// [`RunFault::Device`], after which a prefix of the assessment may have been.
 pub fn run_assess<A: Allocator + Copy, B: Allocator, R: Read, S: Read, W: Write>(
     alloc: A,
-    request: &Request<B>,
-    aids: Aids<A>,
+    asked: AssessmentRequest<'_, A, B>,
     instance: &mut Counted<R>,
     answer: &mut Counted<S>,
     writer: &mut Counted<W>,
 ) -> Result<Assessed, RunFault<A>>
-    ensures outcome { IsAssessmentOf aids.offered request.now (use_of R.remaining instance.old instance.new)
+    ensures outcome { IsAssessmentOf asked.entry.aids.offered asked.entry.request.now
+        (use_of R.remaining instance.old instance.new)
         (use_of S.remaining answer.old answer.new) (use_of W.contents writer.old writer.new)
         result }
-    ensures devices { LeavesCase (problem_in request.now.problem) R.remaining instance.old
-        instance.new S.remaining answer.old answer.new writer.old writer.new (end_of result) }
+    ensures devices { LeavesCase (problem_in asked.entry.request.now.problem) R.remaining
+        instance.old instance.new S.remaining answer.old answer.new writer.old writer.new
+        (end_of result) }
 {
+    let AssessmentRequest { request, aids } = asked;
     let case = problem_case_read(alloc, request, instance, answer)?;
     let ProblemCase { task, sheet } = case;
     let assessment = assess(alloc, &task, sheet, aids)?;

@@ -8,8 +8,8 @@ ghost use Rattle.tf_assess.specs.RunRating.{standing_as};
 
 use crate::assessment::Assessed;
 use crate::offered::Aids;
-use crate::run_assess::run_assess;
-use std::alloc::Allocator;
+use crate::run_assess::{AssessmentRequest, run_assess};
+use std::alloc::{Allocator, Global};
 use std::io::{Read, Write};
 use tf_engine::fault::RunFault;
 use tf_engine::request::Request;
@@ -19,9 +19,10 @@ use tf_model::class::class_of;
 use tf_notation::reading::read;
 use tf_text::counted::Counted;
 
-/// How an answer is evaluated.
-#[derive(Clone, Copy, Debug)]
-pub struct EvaluationOptions {
+/// What is asked for, and how an answer is evaluated.
+#[derive(Drop)]
+pub struct RatingRequest<'a, A: Allocator = Global> {
+    pub request: &'a Request<A>,
     /// How much is reported of the certificate of an answer to a problem of a class.
     pub detail: Detail,
     /// The steps of the search for prices for another problem; as many as usual where there is
@@ -34,28 +35,34 @@ pub struct EvaluationOptions {
 /// detail.
 pub fn run_rate<A: Allocator + Copy, B: Allocator, R: Read, S: Read, W: Write>(
     alloc: A,
-    request: &Request<B>,
-    options: EvaluationOptions,
+    asked: RatingRequest<'_, B>,
     instance: &mut Counted<R>,
     answer: &mut Counted<S>,
     writer: &mut Counted<W>,
 ) -> Result<Standing, RunFault<A>>
-    ensures outcome { IsRatingOf options.detail request.now (use_of R.remaining instance.old instance.new)
+    ensures outcome { IsRatingOf asked.entry.detail asked.entry.request.now
+        (use_of R.remaining instance.old instance.new)
         (use_of S.remaining answer.old answer.new) (use_of W.contents writer.old writer.new)
         result }
-    ensures devices { LeavesCase (posed_problem request.now.problem) R.remaining instance.old
-        instance.new S.remaining answer.old answer.new writer.old writer.new (end_of result) }
+    ensures devices { LeavesCase (posed_problem asked.entry.request.now.problem) R.remaining
+        instance.old instance.new S.remaining answer.old answer.new writer.old writer.new
+        (end_of result) }
 {
+    let RatingRequest {
+        request,
+        detail,
+        steps,
+    } = asked;
     if is_solved(request.problem.as_str()) {
-        let detail = options.detail;
         let evaluated = EvaluationRequest { request, detail };
         return run_evaluate(alloc, evaluated, instance, answer, writer);
     }
     let aids = Aids {
-        steps: options.steps,
+        steps,
         offered: None,
     };
-    rated(run_assess(alloc, request, aids, instance, answer, writer))
+    let assessed = AssessmentRequest { request, aids };
+    rated(run_assess(alloc, assessed, instance, answer, writer))
 }
 
 /// What is reported of an assessment.

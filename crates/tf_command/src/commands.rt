@@ -27,8 +27,8 @@ use std::alloc::{Allocator, Global};
 use std::io::{Read, Write};
 use tf_assess::bound_read::bound_read;
 use tf_assess::offered::Aids;
-use tf_assess::run_assess::run_assess;
-use tf_assess::run_rate::{EvaluationOptions, rated, run_rate};
+use tf_assess::run_assess::{AssessmentRequest, run_assess};
+use tf_assess::run_rate::{RatingRequest, rated, run_rate};
 use tf_bound_text::sheet::BoundSheet;
 use tf_bounding::run_bound::run_bound;
 use tf_engine::fault::RunFault;
@@ -531,18 +531,12 @@ fn evaluate<R: Read, S: Read, W: Write, E: Write>(
     let Ok(request) = evaluating.options.request(alloc, Layout::Two) else {
         return say_memory(&mut console.errors);
     };
-    let options = EvaluationOptions {
+    let asked = RatingRequest {
+        request: &request,
         detail: evaluating.detail,
         steps: evaluating.steps,
     };
-    let run = run_rate(
-        alloc,
-        &request,
-        options,
-        instance,
-        answer,
-        &mut console.writer,
-    );
+    let run = run_rate(alloc, asked, instance, answer, &mut console.writer);
     let status = end_evaluation(&run, &mut console.errors);
     if evaluating.options.telling.explain {
         let ended = Ended {
@@ -602,8 +596,12 @@ fn assess_offered<R: Read, S: Read, W: Write, E: Write>(
         steps: assessing.steps,
         offered: Some(sheet),
     };
+    let asked = AssessmentRequest {
+        request: &request,
+        aids,
+    };
     let writer = &mut console.writer;
-    let run = rated(run_assess(alloc, &request, aids, instance, answer, writer));
+    let run = rated(run_assess(alloc, asked, instance, answer, writer));
     let status = end_evaluation(&run, &mut console.errors);
     if options.telling.explain {
         let ended = Ended {

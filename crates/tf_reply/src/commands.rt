@@ -12,7 +12,7 @@ use crate::asking::{Asked, Asking};
 use crate::reply::{Console, Reply, misused};
 use crate::reserve::Reserve;
 use std::alloc::{AllocError, Allocator};
-use tf_assess::run_rate::{EvaluationOptions, run_rate};
+use tf_assess::run_rate::{RatingRequest, run_rate};
 use tf_bounding::run_bound::run_bound;
 use tf_command::commands::draw;
 use tf_command::problems::table_in;
@@ -149,11 +149,12 @@ fn evaluated<A: Allocator + Copy>(
     let mut answer = Counted::new(asked.answer);
     let mut console = Console::new(alloc);
     let output = &mut console.output;
-    let options = EvaluationOptions {
+    let rating = RatingRequest {
+        request: &request,
         detail,
         steps: None,
     };
-    let run = run_rate(alloc, &request, options, &mut instance, &mut answer, output);
+    let run = run_rate(alloc, rating, &mut instance, &mut answer, output);
     let status = end_evaluation(&run, &mut console.errors);
     console.ended(status)
 }

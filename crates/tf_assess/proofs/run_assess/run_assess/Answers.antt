@@ -13,10 +13,11 @@ use Rattle.tf_assess.proofs.run_assess.run_assess.Goals as goal
 
 pub returns-in_err-case-clause-outcome : goal.returns-in_err-case-clause-outcome
 returns-in_err-case-clause-outcome g c =
-    err_is (IsAssessmentOf c.args.aids.offered c.args.request.now _ _ _) c.in_err-case.field-0.0 _
+    err_is (IsAssessmentOf c.args.asked.aids.offered c.args.asked.request.now _ _ _)
+    c.in_err-case.field-0.0 _
     c.from_residual.ensures.1
-    (unread g.row.A.Denot _ _ c.args.aids.offered c.args.request.now _ _ _ _ _ _ _ _ c.in_err-case.field-0.0
-    c.in_err-case.ensures)
+    (unread g.row.A.Denot _ _ c.args.asked.aids.offered c.args.asked.request.now _ _ _ _ _ _ _ _
+    c.in_err-case.field-0.0 c.in_err-case.ensures)
 
 pub returns-in_err-case-clause-devices : goal.returns-in_err-case-clause-devices
 returns-in_err-case-clause-devices g c =
@@ -25,9 +26,10 @@ returns-in_err-case-clause-devices g c =
 
 pub returns-in_err-assessment-clause-outcome : goal.returns-in_err-assessment-clause-outcome
 returns-in_err-assessment-clause-outcome g c =
-    err_is (IsAssessmentOf c.args.aids.offered c.args.request.now _ _ _) OutOfMemory _
+    err_is (IsAssessmentOf c.args.asked.aids.offered c.args.asked.request.now _ _ _) OutOfMemory _
     c.from_residual-in_err-assessment.ensures.1
-    (wanting g.row.A.Denot _ _ c.args.aids.offered c.args.request.now _ _ _ _ _ _ _ c.in_ok-case.ensures _
+    (wanting g.row.A.Denot _ _ c.args.asked.aids.offered c.args.asked.request.now
+    _ _ _ _ _ _ _ c.in_ok-case.ensures _
     (Keeps-refl _))
 
 pub returns-in_err-assessment-clause-devices : goal.returns-in_err-assessment-clause-devices
@@ -38,9 +40,10 @@ returns-in_err-assessment-clause-devices g c =
 
 pub returns-in_err-text-clause-outcome : goal.returns-in_err-text-clause-outcome
 returns-in_err-text-clause-outcome g c =
-    err_is (IsAssessmentOf c.args.aids.offered c.args.request.now _ _ _) OutOfMemory _
+    err_is (IsAssessmentOf c.args.asked.aids.offered c.args.asked.request.now _ _ _) OutOfMemory _
     c.from_residual-in_err-text.ensures.1
-    (wanting g.row.A.Denot _ _ c.args.aids.offered c.args.request.now _ _ _ _ _ _ _ c.in_ok-case.ensures _
+    (wanting g.row.A.Denot _ _ c.args.asked.aids.offered c.args.asked.request.now
+    _ _ _ _ _ _ _ c.in_ok-case.ensures _
     (Keeps-refl _))
 
 pub returns-in_err-text-clause-devices : goal.returns-in_err-text-clause-devices
@@ -50,9 +53,10 @@ returns-in_err-text-clause-devices g c =
 
 pub returns-in_err-push_all-clause-outcome : goal.returns-in_err-push_all-clause-outcome
 returns-in_err-push_all-clause-outcome g c =
-    err_is (IsAssessmentOf c.args.aids.offered c.args.request.now _ _ _) Device _
+    err_is (IsAssessmentOf c.args.asked.aids.offered c.args.asked.request.now _ _ _) Device _
     c.from_residual-in_err-push_all.ensures.1
-    (cut_off g.row.A.Denot _ _ c.args.aids.offered c.args.request.now _ _ _ _ _ _ _ c.in_ok-case.ensures _
+    (cut_off g.row.A.Denot _ _ c.args.asked.aids.offered c.args.asked.request.now
+    _ _ _ _ _ _ _ c.in_ok-case.ensures _
     c.in_ok-assessment.assessment c.in_ok-assessment.ensures c.in_err-push_all.ensures.device
     (subst (AppendsPrefix (g.W.Write.contents (inner_of c.args.writer.now))
     (g.W.Write.contents (inner_of c.push_all.new.self)))
@@ -66,7 +70,8 @@ returns-in_err-push_all-clause-devices g c =
 
 pub returns-clause-outcome : goal.returns-clause-outcome
 returns-clause-outcome g c =
-    said g.row.A.Denot _ _ c.args.aids.offered c.args.request.now _ _ _ _ _ _ _ c.in_ok-case.ensures _
+    said g.row.A.Denot _ _ c.args.asked.aids.offered c.args.asked.request.now
+    _ _ _ _ _ _ _ c.in_ok-case.ensures _
     c.in_ok-assessment.assessment c.in_ok-assessment.ensures _ c.assessed.ensures
     (subst (Appends (g.W.Write.contents (inner_of c.args.writer.now))
     (g.W.Write.contents (inner_of c.push_all.new.self)))
