@@ -8,7 +8,7 @@ use test_runs::growths::{Ended, refuse_each_growth};
 use test_runs::runs::{ensure, request};
 use tf_engine::fault::RunFault;
 use tf_engine::request::Request;
-use tf_orders::run_orders::{OrderForm, OrdersRated, run_orders};
+use tf_orders::run_orders::{OrderForm, OrdersRated, OrdersRequest, run_orders};
 use tf_text::answer::layout::Layout;
 use tf_text::counted::Counted;
 
@@ -77,7 +77,8 @@ fn rate<A: Allocator + Copy>(
     let mut reader = Counted::new(&mut source);
     let mut other = Counted::new(orders);
     let mut writer = Counted::new(sink);
-    run_orders(alloc, request, form, &mut reader, &mut other, &mut writer)
+    let asked = OrdersRequest { request, form };
+    run_orders(alloc, asked, &mut reader, &mut other, &mut writer)
 }
 
 /// All of it is written, or nothing is.

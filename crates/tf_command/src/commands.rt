@@ -37,7 +37,7 @@ use tf_engine::run_gantt::run_gantt;
 use tf_engine::run_solve::run_solve;
 use tf_explain::explain;
 use tf_options::options::{Assessing, Drawing, Evaluating, Options, OrderSource, Work};
-use tf_orders::run_orders::{OrderForm, run_orders};
+use tf_orders::run_orders::{OrderForm, OrdersRequest, run_orders};
 use tf_picture::run_picture::run_picture;
 use tf_random::run_random::{Wanted, run_random};
 use tf_text::answer::layout::Layout;
@@ -633,7 +633,11 @@ fn rate<R: Read, S: Read, W: Write, E: Write>(
     let Ok(request) = options.request(alloc, Layout::Two) else {
         return say_memory(&mut console.errors);
     };
-    let run = run_orders(alloc, &request, form, instance, orders, &mut console.writer);
+    let asked = OrdersRequest {
+        request: &request,
+        form,
+    };
+    let run = run_orders(alloc, asked, instance, orders, &mut console.writer);
     let status = end_rating(&run, &mut console.errors);
     if options.telling.explain {
         let ended = Ended {

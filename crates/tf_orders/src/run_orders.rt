@@ -8,7 +8,7 @@ ghost use Rattle.tf_orders.specs.RunOrders.{IsOrdersRunOf};
 use crate::case_read::{OrderCase, order_case_read};
 use crate::measure::measured;
 use crate::rating::{Rating, rating_of};
-use std::alloc::Allocator;
+use std::alloc::{Allocator, Global};
 use std::io::{Read, Write};
 use tf_engine::fault::RunFault;
 use tf_engine::request::Request;
@@ -26,6 +26,13 @@ pub enum OrderForm {
     /// It is no order, but the pieces of a schedule, which is evaluated in the same way. The other
     /// lines of an answer may stand before and after them, and aren't looked at.
     Pieces,
+}
+
+/// What is asked for, and what the text of orders is.
+#[derive(Drop)]
+pub struct OrdersRequest<'a, A: Allocator = Global> {
+    pub request: &'a Request<A>,
+    pub form: OrderForm,
 }
 
 /// What was written of orders.
@@ -49,23 +56,23 @@ pub enum OrdersRated {
 /// been.
 pub fn run_orders<A: Allocator + Copy, B: Allocator, R: Read, S: Read, W: Write>(
     alloc: A,
-    request: &Request<B>,
-    form: OrderForm,
+    asked: OrdersRequest<'_, B>,
     instance: &mut Counted<R>,
     orders: &mut Counted<S>,
     writer: &mut Counted<W>,
 ) -> Result<OrdersRated, RunFault<A>>
-    ensures outcome { IsOrdersRunOf form request.now
+    ensures outcome { IsOrdersRunOf asked.entry.form asked.entry.request.now
         (use_of R.remaining instance.old instance.new)
         (use_of S.remaining orders.old orders.new) (use_of W.contents writer.old writer.new)
         result }
-    ensures devices { LeavesCase (posed_problem request.now.problem) R.remaining instance.old
-        instance.new S.remaining orders.old orders.new writer.old writer.new (end_of result) }
+    ensures devices { LeavesCase (posed_problem asked.entry.request.now.problem) R.remaining
+        instance.old instance.new S.remaining orders.old orders.new writer.old writer.new
+        (end_of result) }
 {
-    let case = order_case_read(alloc, request, instance, orders)?;
+    let case = order_case_read(alloc, asked.request, instance, orders)?;
     let OrderCase { posed, text } = case;
     let measure = measured(alloc, posed)?;
-    let rating = rating_of(alloc, form, measure, text.as_slice())?;
+    let rating = rating_of(alloc, asked.form, measure, text.as_slice())?;
     let Rating { text, rated } = rating;
     writer.push_all(text.as_slice())?;
     Ok(rated)

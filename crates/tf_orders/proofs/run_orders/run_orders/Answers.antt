@@ -12,9 +12,9 @@ use Rattle.tf_orders.proofs.run_orders.run_orders.Goals as goal
 
 pub returns-in_err-case-clause-outcome : goal.returns-in_err-case-clause-outcome
 returns-in_err-case-clause-outcome g c =
-    err_is (IsOrdersRunOf c.args.form c.args.request.now _ _ _) c.in_err-case.field-0.0 _
-    c.from_residual.ensures.1
-    (unread g.row.A.Denot _ _ c.args.form c.args.request.now _ _ _ _ _ _ _ _
+    err_is (IsOrdersRunOf c.args.asked.form c.args.asked.request.now _ _ _)
+    c.in_err-case.field-0.0 _ c.from_residual.ensures.1
+    (unread g.row.A.Denot _ _ c.args.asked.form c.args.asked.request.now _ _ _ _ _ _ _ _
     c.in_err-case.field-0.0 c.in_err-case.ensures)
 
 pub returns-in_err-case-clause-devices : goal.returns-in_err-case-clause-devices
@@ -24,9 +24,10 @@ returns-in_err-case-clause-devices g c =
 
 pub returns-in_err-measure-clause-outcome : goal.returns-in_err-measure-clause-outcome
 returns-in_err-measure-clause-outcome g c =
-    err_is (IsOrdersRunOf c.args.form c.args.request.now _ _ _) c.in_err-measure.field-0.0 _
+    err_is (IsOrdersRunOf c.args.asked.form c.args.asked.request.now _ _ _)
+    c.in_err-measure.field-0.0 _
     c.from_residual-in_err-measure.ensures.1
-    (unmeasured g.row.A.Denot _ _ c.args.form c.args.request.now _ _ _ _ _ _ _
+    (unmeasured g.row.A.Denot _ _ c.args.asked.form c.args.asked.request.now _ _ _ _ _ _ _
     c.in_ok-case.ensures _ _ c.in_err-measure.field-0.0 c.in_err-measure.ensures)
 
 pub returns-in_err-measure-clause-devices : goal.returns-in_err-measure-clause-devices
@@ -38,14 +39,15 @@ returns-in_err-measure-clause-devices g c =
 
 pub rating_of-requires : goal.rating_of-requires
 rating_of-requires g c =
-    short_text g.row.A.Denot _ _ c.args.form c.args.request.now _ _ _ _ _ _ _
+    short_text g.row.A.Denot _ _ c.args.asked.form c.args.asked.request.now _ _ _ _ _ _ _
     c.in_ok-case.ensures _ c.as_slice.ensures.value
 
 pub returns-in_err-rating-clause-outcome : goal.returns-in_err-rating-clause-outcome
 returns-in_err-rating-clause-outcome g c =
-    err_is (IsOrdersRunOf c.args.form c.args.request.now _ _ _) c.in_err-rating.field-0.0 _
+    err_is (IsOrdersRunOf c.args.asked.form c.args.asked.request.now _ _ _)
+    c.in_err-rating.field-0.0 _
     c.from_residual-in_err-rating.ensures.1
-    (unrated g.row.A.Denot _ _ c.args.form c.args.request.now _ _ _ _ _ _ _
+    (unrated g.row.A.Denot _ _ c.args.asked.form c.args.asked.request.now _ _ _ _ _ _ _
     c.in_ok-case.ensures _ c.in_ok-measure.ensures _ c.as_slice.ensures.value _ _
     c.in_err-rating.field-0.0 c.in_err-rating.ensures)
 
@@ -54,13 +56,13 @@ returns-in_err-rating-clause-devices g c =
     let e = c.in_err-rating.field-0.0 in
     err_ends (LeavesCase _ _ _ _ _ _ _ _ _) e _ c.from_residual-in_err-rating.ensures.1
     (stopped _ _ _ (stop_of e) (both_later c.in_ok-case.ensures.readers (stop_of e)
-    (unrated_later c.args.form _ _ (stop_of e) c.in_err-rating.ensures)))
+    (unrated_later c.args.asked.form _ _ (stop_of e) c.in_err-rating.ensures)))
 
 pub returns-in_err-push_all-clause-outcome : goal.returns-in_err-push_all-clause-outcome
 returns-in_err-push_all-clause-outcome g c =
-    err_is (IsOrdersRunOf c.args.form c.args.request.now _ _ _) Device _
+    err_is (IsOrdersRunOf c.args.asked.form c.args.asked.request.now _ _ _) Device _
     c.from_residual-in_err-push_all.ensures.1
-    (cut_off g.row.A.Denot _ _ c.args.form c.args.request.now _ _ _ _ _ _ _
+    (cut_off g.row.A.Denot _ _ c.args.asked.form c.args.asked.request.now _ _ _ _ _ _ _
     c.in_ok-case.ensures _ c.in_ok-measure.ensures _ c.as_slice.ensures.value _ _
     c.in_ok-rating.ensures _ c.in_err-push_all.ensures.device
     (subst (AppendsPrefix (g.W.Write.contents (inner_of c.args.writer.now))
@@ -75,7 +77,7 @@ returns-in_err-push_all-clause-devices g c =
 
 pub returns-clause-outcome : goal.returns-clause-outcome
 returns-clause-outcome g c =
-    wrote_all g.row.A.Denot _ _ c.args.form c.args.request.now _ _ _ _ _ _ _
+    wrote_all g.row.A.Denot _ _ c.args.asked.form c.args.asked.request.now _ _ _ _ _ _ _
     c.in_ok-case.ensures _ c.in_ok-measure.ensures _ c.as_slice.ensures.value _ _
     c.in_ok-rating.ensures _
     (subst (Appends (g.W.Write.contents (inner_of c.args.writer.now))
