@@ -1,6 +1,8 @@
 //! The commands and options that there are, for clap.
 use crate::help;
-use clap::{Arg, ArgAction, Command};
+use crate::page::Page;
+use crate::row::{Row, flag, number, numbers, perhaps, place, text, with_rows};
+use clap::Command;
 use std::alloc::{AllocError, Global};
 
 const ABOUT_ALL: &str = "\
@@ -81,407 +83,338 @@ static EXPLAINED: [&str; 3] = ["auto", "always", "never"];
 
 static SIZES: [&str; 3] = ["a4", "a3", "16:9"];
 
+// What `evaluate` takes in place of an answer.
+static SCHEDULES: [&str; 3] = ["order", "orders", "schedule"];
+
+static AGAINST_MEASURES: [&str; 6] = ["order", "orders", "schedule", "bound", "json", "csv"];
+
+static AGAINST_BOUND: [&str; 4] = ["order", "orders", "schedule", "certificate"];
+
+static AGAINST_ORDER: [&str; 3] = ["orders", "certificate", "ANSWER"];
+
+static AGAINST_ORDERS: [&str; 4] = ["certificate", "json", "csv", "ANSWER"];
+
+static AGAINST_SCHEDULE: [&str; 4] = ["order", "orders", "certificate", "ANSWER"];
+
+static AGAINST_SIZE: [&str; 2] = ["width", "height"];
+
+static VERSION: [&str; 1] = ["answer"];
+
+static COLUMNS: [&str; 1] = ["columns"];
+
+static OTHER_FORMAT: [&str; 1] = ["json"];
+
 /// The program's commands.
 pub fn command<'a>(alloc: Global) -> Result<Command<'a>, AllocError> {
-    Command::new(alloc, "threefield")
+    let mut command = Command::new(alloc, "threefield")
         .bin_name("threefield")?
         .about("Exact machine scheduling with certificates")
         .version("0.1.0")
         .after_help(ABOUT_ALL)
         .after_long_help(help::OF_ALL)
         .subcommand_required(true)
-        .arg_required_else_help(true)
-        .subcommand(solve_command(alloc)?)?
-        .subcommand(bound_command(alloc)?)?
-        .subcommand(trace_command(alloc)?)?
-        .subcommand(check_command(alloc)?)?
-        .subcommand(evaluate_command(alloc)?)?
-        .subcommand(gantt_command(alloc)?)?
-        .subcommand(random_command(alloc)?)?
-        .subcommand(problems_command(alloc)?)
+        .arg_required_else_help(true);
+    for place in 0..COMMANDS {
+        command = command.subcommand(command_at(alloc, place)?)?;
+    }
+    Ok(command)
+}
+
+// How many commands there are.
+const COMMANDS: u32 = 8;
+
+// The command at a place in the help.
+fn command_at<'a>(alloc: Global, place: u32) -> Result<Command<'a>, AllocError> {
+    match place {
+        0 => solve_command(alloc),
+        1 => bound_command(alloc),
+        2 => trace_command(alloc),
+        3 => check_command(alloc),
+        4 => evaluate_command(alloc),
+        5 => gantt_command(alloc),
+        6 => random_command(alloc),
+        _ => problems_command(alloc),
+    }
 }
 
 fn solve_command<'a>(alloc: Global) -> Result<Command<'a>, AllocError> {
-    let version = Arg::new(alloc, "answer")
-        .long("answer")
-        .value_name("VERSION")
-        .help("The version of the answer text, 1 or 2")
-        .value_parser(VERSIONS.as_slice())
-        .hide_possible_values(true)
-        .default_value("2");
-    let values = Arg::new(alloc, "values")
-        .long("values")
-        .help("With --index A-B or all: the minimum costs alone")
-        .action(ArgAction::SetTrue);
-    with_options(alloc, Command::new(alloc, "solve"))?
-        .about("Prints an optimal schedule, and a certificate that proves it")
-        .after_help(ABOUT_SOLVE)
-        .after_long_help(help::OF_SOLVE)
-        .arg(version)?
-        .arg(values)?
-        .arg(json(alloc).conflicts_with("answer")?)?
-        .arg(csv(alloc)?)
+    let page = Page {
+        name: "solve",
+        about: "Prints an optimal schedule, and a certificate that proves it",
+        after: ABOUT_SOLVE,
+        long: Some(help::OF_SOLVE),
+    };
+    let rows = [
+        text(
+            "answer",
+            "VERSION",
+            "The version of the answer text, 1 or 2",
+        )
+        .one_of(VERSIONS.as_slice())
+        .or("2"),
+        flag("values", "With --index A-B or all: the minimum costs alone"),
+        json().without(VERSION.as_slice()),
+        csv(),
+    ];
+    with_options(alloc, page, &rows)
 }
 
 fn bound_command<'a>(alloc: Global) -> Result<Command<'a>, AllocError> {
-    with_options(alloc, Command::new(alloc, "bound"))?
-        .about("Prints a lower bound of an NP-hard problem, and its certificate")
-        .after_help(ABOUT_BOUND)
-        .after_long_help(help::OF_BOUND)
-        .arg(steps(alloc))?
-        .arg(json(alloc))
+    let page = Page {
+        name: "bound",
+        about: "Prints a lower bound of an NP-hard problem, and its certificate",
+        after: ABOUT_BOUND,
+        long: Some(help::OF_BOUND),
+    };
+    with_options(alloc, page, &[steps(), json()])
 }
 
 fn trace_command<'a>(alloc: Global) -> Result<Command<'a>, AllocError> {
-    let latex = Arg::new(alloc, "tex")
-        .long("tex")
-        .help("Writes it for LaTeX, with a tabular for each table")
-        .action(ArgAction::SetTrue);
-    with_options(alloc, Command::new(alloc, "trace"))?
-        .about("Shows how an optimal schedule is found, step by step")
-        .after_help(ABOUT_TRACE)
-        .after_long_help(help::OF_TRACE)
-        .arg(latex)
+    let page = Page {
+        name: "trace",
+        about: "Shows how an optimal schedule is found, step by step",
+        after: ABOUT_TRACE,
+        long: Some(help::OF_TRACE),
+    };
+    let latex = flag("tex", "Writes it for LaTeX, with a tabular for each table");
+    with_options(alloc, page, &[latex])
 }
 
 fn check_command<'a>(alloc: Global) -> Result<Command<'a>, AllocError> {
-    with_options(alloc, Command::new(alloc, "check"))?
-        .about("Judges an answer: accepted, or rejected and why")
-        .after_help(ABOUT_CHECK)
-        .after_long_help(help::OF_CHECK)
-        .arg(json(alloc))?
-        .arg(answer(alloc))
+    let page = Page {
+        name: "check",
+        about: "Judges an answer: accepted, or rejected and why",
+        after: ABOUT_CHECK,
+        long: Some(help::OF_CHECK),
+    };
+    with_options(alloc, page, &[json(), answer().required()])
 }
 
 fn evaluate_command<'a>(alloc: Global) -> Result<Command<'a>, AllocError> {
-    let command = with_options(alloc, Command::new(alloc, "evaluate"))?
-        .about("Reports how far an answer is from the optimum, job by job")
-        .after_help(ABOUT_EVALUATE)
-        .after_long_help(help::OF_EVALUATE);
-    with_schedules(alloc, with_bounds(alloc, command)?.arg(measures(alloc)?)?)
+    let page = Page {
+        name: "evaluate",
+        about: "Reports how far an answer is from the optimum, job by job",
+        after: ABOUT_EVALUATE,
+        long: Some(help::OF_EVALUATE),
+    };
+    with_rows(alloc, with_options(alloc, page, &reported())?, &schedules())
 }
 
-fn measures<'a>(alloc: Global) -> Result<Arg<'a>, AllocError> {
-    Arg::new(alloc, "measures")
-        .long("measures")
-        .help("Writes the value of every objective too")
-        .action(ArgAction::SetTrue)
-        .conflicts_with("order")?
-        .conflicts_with("orders")?
-        .conflicts_with("schedule")?
-        .conflicts_with("bound")?
-        .conflicts_with("json")?
-        .conflicts_with("csv")
-}
-
-// What is reported of bounds, and in which format.
-fn with_bounds<'a>(alloc: Global, command: Command<'a>) -> Result<Command<'a>, AllocError> {
-    let certificate = Arg::new(alloc, "certificate")
-        .long("certificate")
-        .help("Writes the certificate's arithmetic, step by step")
-        .action(ArgAction::SetTrue);
-    command
-        .arg(certificate)?
-        .arg(bound(alloc)?)?
-        .arg(steps_of_answer(alloc)?)?
-        .arg(json(alloc))?
-        .arg(csv(alloc)?)
+// What is reported of an answer, and in which format.
+fn reported() -> [Row; 6] {
+    [
+        flag(
+            "certificate",
+            "Writes the certificate's arithmetic, step by step",
+        ),
+        text(
+            "bound",
+            "FILE",
+            "Uses the lower bound of FILE where it is stronger",
+        )
+        .without(AGAINST_BOUND.as_slice()),
+        steps().without(SCHEDULES.as_slice()),
+        json(),
+        csv(),
+        flag("measures", "Writes the value of every objective too").without(
+            AGAINST_MEASURES.as_slice(),
+        ),
+    ]
 }
 
 // The schedules that are evaluated.
-fn with_schedules<'a>(alloc: Global, command: Command<'a>) -> Result<Command<'a>, AllocError> {
-    let answer = answer(alloc)
-        .required(false)
-        .required_unless_present("order")?
-        .required_unless_present("orders")?
-        .required_unless_present("schedule")?;
-    command
-        .arg(order(alloc)?)?
-        .arg(orders(alloc)?)?
-        .arg(schedule(alloc)?)?
-        .arg(answer)
-}
-
-fn bound<'a>(alloc: Global) -> Result<Arg<'a>, AllocError> {
-    Arg::new(alloc, "bound")
-        .long("bound")
-        .value_name("FILE")
-        .help("Uses the lower bound of FILE where it is stronger")
-        .conflicts_with("order")?
-        .conflicts_with("orders")?
-        .conflicts_with("schedule")?
-        .conflicts_with("certificate")
-}
-
-fn steps<'a>(alloc: Global) -> Arg<'a> {
-    Arg::new(alloc, "steps")
-        .long("steps")
-        .value_name("N")
-        .help("The steps of the search for prices, 1 to 1000000")
-        .allow_negative_numbers(true)
-}
-
-// The same where an answer is evaluated.
-fn steps_of_answer<'a>(alloc: Global) -> Result<Arg<'a>, AllocError> {
-    steps(alloc)
-        .conflicts_with("order")?
-        .conflicts_with("orders")?
-        .conflicts_with("schedule")
-}
-
-fn order<'a>(alloc: Global) -> Result<Arg<'a>, AllocError> {
-    Arg::new(alloc, "order")
-        .long("order")
-        .value_name("JOBS")
-        .help("Evaluates an order of the jobs: \"3 1 2\", or \"1 3 / 2\"")
-        .conflicts_with("orders")?
-        .conflicts_with("certificate")?
-        .conflicts_with("ANSWER")
-}
-
-fn orders<'a>(alloc: Global) -> Result<Arg<'a>, AllocError> {
-    Arg::new(alloc, "orders")
-        .long("orders")
-        .value_name("FILE")
-        .help("Prints cost and gap of the order in each line of FILE")
-        .conflicts_with("certificate")?
-        .conflicts_with("json")?
-        .conflicts_with("csv")?
-        .conflicts_with("ANSWER")
-}
-
-fn schedule<'a>(alloc: Global) -> Result<Arg<'a>, AllocError> {
-    Arg::new(alloc, "schedule")
-        .long("schedule")
-        .value_name("FILE")
-        .help("Evaluates the pieces of FILE, which claim no value")
-        .conflicts_with("order")?
-        .conflicts_with("orders")?
-        .conflicts_with("certificate")?
-        .conflicts_with("ANSWER")
-}
-
-fn json<'a>(alloc: Global) -> Arg<'a> {
-    Arg::new(alloc, "json")
-        .long("json")
-        .help("Writes a JSON object in place of text")
-        .action(ArgAction::SetTrue)
-}
-
-fn csv<'a>(alloc: Global) -> Result<Arg<'a>, AllocError> {
-    Arg::new(alloc, "csv")
-        .long("csv")
-        .help("Writes a table for spreadsheets in place of text")
-        .action(ArgAction::SetTrue)
-        .conflicts_with("json")
-}
-
-fn answer<'a>(alloc: Global) -> Arg<'a> {
-    Arg::new(alloc, "ANSWER")
-        .help("The answer: a file, or - for standard input")
-        .required(true)
+fn schedules() -> [Row; 4] {
+    [
+        text(
+            "order",
+            "JOBS",
+            "Evaluates an order of the jobs: \"3 1 2\", or \"1 3 / 2\"",
+        )
+        .without(AGAINST_ORDER.as_slice()),
+        text(
+            "orders",
+            "FILE",
+            "Prints cost and gap of the order in each line of FILE",
+        )
+        .without(AGAINST_ORDERS.as_slice()),
+        text(
+            "schedule",
+            "FILE",
+            "Evaluates the pieces of FILE, which claim no value",
+        )
+        .without(AGAINST_SCHEDULE.as_slice()),
+        answer().required_without(SCHEDULES.as_slice()),
+    ]
 }
 
 fn gantt_command<'a>(alloc: Global) -> Result<Command<'a>, AllocError> {
-    let columns = Arg::new(alloc, "columns")
-        .short('c')
-        .long("columns")
-        .value_name("N")
-        .help("The most columns of the chart, 1 to 1000")
-        .allow_negative_numbers(true)
-        .default_value("72");
-    let svg = Arg::new(alloc, "svg")
-        .long("svg")
-        .help("Draws a picture, as SVG, in place of the chart")
-        .action(ArgAction::SetTrue)
-        .conflicts_with("columns")?;
-    let answer = Arg::new(alloc, "ANSWER")
-        .help("The answer: a file, or - for standard input")
-        .default_value("-");
-    let command = Command::new(alloc, "gantt")
-        .about("Draws the schedule of an answer, a line for each machine")
-        .after_help(ABOUT_GANTT)
-        .arg(columns)?
-        .arg(svg)?;
-    let command = with_view_options(alloc, command)?;
-    with_instance(alloc, command)?
-        .arg(explain(alloc))?
-        .arg(answer)
+    let page = Page {
+        name: "gantt",
+        about: "Draws the schedule of an answer, a line for each machine",
+        after: ABOUT_GANTT,
+        long: None,
+    };
+    let command = with_rows(alloc, page.command(alloc), &drawn())?;
+    let command = with_rows(alloc, command, &view_options())?;
+    let command = with_rows(alloc, command, &dated())?;
+    let command = with_rows(alloc, command, &form_options())?;
+    with_rows(alloc, command, &[explain(), answer().or("-")])
 }
 
-// The command with the instance whose dates a picture shows.
-fn with_instance<'a>(alloc: Global, command: Command<'a>) -> Result<Command<'a>, AllocError> {
-    let input = Arg::new(alloc, "input")
-        .long("input")
-        .value_name("INPUT")
-        .help("The instance, whose dates are marked, with --svg")
-        .requires_arg("svg")?;
-    let format = format(alloc).requires_arg("input")?;
-    with_form_options(alloc, command.arg(input)?.arg(format)?)
+// How a schedule is drawn.
+fn drawn() -> [Row; 2] {
+    [
+        number("columns", "N", "The most columns of the chart, 1 to 1000")
+            .short('c')
+            .or("72"),
+        flag("svg", "Draws a picture, as SVG, in place of the chart").without(COLUMNS.as_slice()),
+    ]
 }
 
-// The command with what a picture shows of a schedule, and how large it is.
-fn with_view_options<'a>(alloc: Global, command: Command<'a>) -> Result<Command<'a>, AllocError> {
-    let fold = of_picture(
-        alloc,
-        "fold",
-        "N",
-        "Strips of N time steps, below each other, with --svg",
-    )?;
-    let from = of_picture(alloc, "from", "T", "The first time shown, with --svg")?;
-    let to = of_picture(alloc, "to", "T", "The last time shown, with --svg")?;
-    let width = of_picture(alloc, "width", "PX", "The width in pixels, with --svg")?;
-    let height = of_picture(alloc, "height", "PX", "The height in pixels, with --svg")?;
-    let size = of_picture(
-        alloc,
-        "size",
-        "SIZE",
-        "A page, a4 or a3, or a slide, 16:9, with --svg",
-    )?
-    .value_parser(SIZES.as_slice())
-    .hide_possible_values(true)
-    .conflicts_with("width")?
-    .conflicts_with("height")?;
-    command
-        .arg(fold)?
-        .arg(from)?
-        .arg(to)?
-        .arg(width)?
-        .arg(height)?
-        .arg(size)
+// The instance whose dates a picture shows.
+fn dated() -> [Row; 2] {
+    [
+        text(
+            "input",
+            "INPUT",
+            "The instance, whose dates are marked, with --svg",
+        )
+        .with("svg"),
+        format().with("input"),
+    ]
 }
 
-// An option of a picture.
-fn of_picture<'a>(
-    alloc: Global,
-    name: &'static str,
-    value: &'static str,
-    help: &'static str,
-) -> Result<Arg<'a>, AllocError> {
-    Arg::new(alloc, name)
-        .long(name)
-        .value_name(value)
-        .help(help)
-        .allow_negative_numbers(true)
-        .requires_arg("svg")
+// What a picture shows of a schedule, and how large it is.
+fn view_options() -> [Row; 6] {
+    [
+        of_picture(
+            "fold",
+            "N",
+            "Strips of N time steps, below each other, with --svg",
+        ),
+        of_picture("from", "T", "The first time shown, with --svg"),
+        of_picture("to", "T", "The last time shown, with --svg"),
+        of_picture("width", "PX", "The width in pixels, with --svg"),
+        of_picture("height", "PX", "The height in pixels, with --svg"),
+        of_picture(
+            "size",
+            "SIZE",
+            "A page, a4 or a3, or a slide, 16:9, with --svg",
+        )
+        .one_of(SIZES.as_slice())
+        .without(AGAINST_SIZE.as_slice()),
+    ]
+}
+
+fn of_picture(id: &'static str, value: &'static str, help: &'static str) -> Row {
+    number(id, value, help).with("svg")
 }
 
 fn random_command<'a>(alloc: Global) -> Result<Command<'a>, AllocError> {
-    let problem = problem(alloc);
-    let jobs = Arg::new(alloc, "jobs")
-        .long("jobs")
-        .value_name("N")
-        .help("The number of jobs, 1 to 100000")
-        .allow_negative_numbers(true)
-        .required(true);
-    let machines = machines(alloc);
-    let seed = Arg::new(alloc, "seed")
-        .long("seed")
-        .value_name("S")
-        .help("Which of 4294967296 tables, from 0")
-        .allow_negative_numbers(true)
-        .default_value("1");
-    Command::new(alloc, "random")
-        .about("Writes a random job table for a problem")
-        .after_help(ABOUT_RANDOM)
-        .arg(problem)?
-        .arg(jobs)?
-        .arg(machines)?
-        .arg(seed)
-}
-
-fn problem<'a>(alloc: Global) -> Arg<'a> {
-    Arg::new(alloc, "problem")
-        .short('p')
-        .long("problem")
-        .value_name("TEXT")
-        .help("The problem, in quotes: \"P2|prmp|Cmax\"")
-        .required(true)
-}
-
-fn machines<'a>(alloc: Global) -> Arg<'a> {
-    Arg::new(alloc, "machines")
-        .short('m')
-        .long("machines")
-        .value_name("M")
-        .help("The number of machines, 1 to 1000")
-        .allow_negative_numbers(true)
+    let page = Page {
+        name: "random",
+        about: "Writes a random job table for a problem",
+        after: ABOUT_RANDOM,
+        long: None,
+    };
+    let rows = [
+        problem(),
+        number("jobs", "N", "The number of jobs, 1 to 100000").required(),
+        machines(),
+        number("seed", "S", "Which of 4294967296 tables, from 0").or("1"),
+    ];
+    with_rows(alloc, page.command(alloc), &rows)
 }
 
 fn problems_command<'a>(alloc: Global) -> Result<Command<'a>, AllocError> {
-    let bounds = Arg::new(alloc, "bounds")
-        .long("bounds")
-        .help("Lists problems that have lower bounds and no solver")
-        .action(ArgAction::SetTrue);
-    let file = Arg::new(alloc, "FILE").help("A job table: lists what it has the fields for");
-    Command::new(alloc, "problems")
-        .about("Lists the problems that are solved, and what each needs")
-        .after_help(ABOUT_PROBLEMS)
-        .arg(bounds)?
-        .arg(json(alloc))?
-        .arg(file)
+    let page = Page {
+        name: "problems",
+        about: "Lists the problems that are solved, and what each needs",
+        after: ABOUT_PROBLEMS,
+        long: None,
+    };
+    let rows = [
+        flag(
+            "bounds",
+            "Lists problems that have lower bounds and no solver",
+        ),
+        json(),
+        place("FILE", "A job table: lists what it has the fields for"),
+    ];
+    with_rows(alloc, page.command(alloc), &rows)
 }
 
-fn explain<'a>(alloc: Global) -> Arg<'a> {
-    Arg::new(alloc, "explain")
-        .long("explain")
-        .value_name("WHEN")
-        .help("Explains faults: auto, always, never")
-        .num_args(0..=1)
-        .require_equals(true)
-        .value_parser(EXPLAINED.as_slice())
-        .hide_possible_values(true)
-        .default_missing_value("always")
-        .default_value("auto")
+// The command of a page, with what names a problem and an instance, and the options of some rows.
+fn with_options<'a>(alloc: Global, page: Page, rows: &[Row]) -> Result<Command<'a>, AllocError> {
+    let command = with_rows(alloc, page.command(alloc), &[problem(), format()])?;
+    let command = with_rows(alloc, command, &form_options())?;
+    let input = place("INPUT", "The instance: a file, or - for standard input").required();
+    let command = with_rows(alloc, command, &[machines(), explain(), input])?;
+    with_rows(alloc, command, rows)
 }
 
-fn format<'a>(alloc: Global) -> Arg<'a> {
-    Arg::new(alloc, "format")
+// The options of the forms.
+fn form_options() -> [Row; 4] {
+    [
+        number(
+            "jobs",
+            "N",
+            "With wt: the jobs of each instance, 1 to 100000",
+        ),
+        number("index", "K", "With wt: which instance, from 1").or("1"),
+        text("name", "NAME", "With flow: the name of the instance"),
+        numbers("pair", "I,K", "With flow: the two machines to use, from 0"),
+    ]
+}
+
+fn problem() -> Row {
+    text(
+        "problem",
+        "TEXT",
+        "The problem, in quotes: \"P2|prmp|Cmax\"",
+    )
+    .short('p')
+    .required()
+}
+
+fn format() -> Row {
+    text("format", "FORM", "Format of INPUT: table, wt or flow")
         .short('f')
-        .long("format")
-        .value_name("FORM")
-        .help("Format of INPUT: table, wt or flow")
-        .value_parser(FORMATS.as_slice())
-        .hide_possible_values(true)
-        .default_value("table")
+        .one_of(FORMATS.as_slice())
+        .or("table")
 }
 
-// The command with what names a problem and an instance.
-fn with_options<'a>(alloc: Global, command: Command<'a>) -> Result<Command<'a>, AllocError> {
-    let problem = problem(alloc);
-    let format = format(alloc);
-    let machines = machines(alloc);
-    let input = Arg::new(alloc, "INPUT")
-        .help("The instance: a file, or - for standard input")
-        .required(true);
-    let command = command.arg(problem)?.arg(format)?;
-    with_form_options(alloc, command)?
-        .arg(machines)?
-        .arg(explain(alloc))?
-        .arg(input)
+fn machines() -> Row {
+    number("machines", "M", "The number of machines, 1 to 1000").short('m')
 }
 
-// The command with the options of the forms.
-fn with_form_options<'a>(alloc: Global, command: Command<'a>) -> Result<Command<'a>, AllocError> {
-    let jobs = Arg::new(alloc, "jobs")
-        .long("jobs")
-        .value_name("N")
-        .help("With wt: the jobs of each instance, 1 to 100000")
-        .allow_negative_numbers(true);
-    let index = Arg::new(alloc, "index")
-        .long("index")
-        .value_name("K")
-        .help("With wt: which instance, from 1")
-        .allow_negative_numbers(true)
-        .default_value("1");
-    let name = Arg::new(alloc, "name")
-        .long("name")
-        .value_name("NAME")
-        .help("With flow: the name of the instance");
-    let pair = Arg::new(alloc, "pair")
-        .long("pair")
-        .value_name("I,K")
-        .help("With flow: the two machines to use, from 0")
-        .allow_hyphen_values(true);
-    command.arg(jobs)?.arg(index)?.arg(name)?.arg(pair)
+fn explain() -> Row {
+    perhaps(
+        "explain",
+        "WHEN",
+        "always",
+        "Explains faults: auto, always, never",
+    )
+    .one_of(EXPLAINED.as_slice())
+    .or("auto")
+}
+
+fn steps() -> Row {
+    number(
+        "steps",
+        "N",
+        "The steps of the search for prices, 1 to 1000000",
+    )
+}
+
+fn json() -> Row {
+    flag("json", "Writes a JSON object in place of text")
+}
+
+fn csv() -> Row {
+    flag("csv", "Writes a table for spreadsheets in place of text").without(OTHER_FORMAT.as_slice())
+}
+
+fn answer() -> Row {
+    place("ANSWER", "The answer: a file, or - for standard input")
 }

@@ -6,3 +6,5 @@
 
 pub mod grammar;
 mod help;
+mod page;
+mod row;
