@@ -9,6 +9,7 @@ use tf_assess::run_assess::{AssessmentRequest, run_assess};
 use tf_bounding::run_bound::run_bound;
 use tf_engine::fault::RunFault;
 use tf_engine::request::Request;
+use tf_search::effort::{Effort, Nobody};
 use tf_text::answer::layout::Layout;
 use tf_text::counted::Counted;
 
@@ -91,7 +92,8 @@ pub fn bound<A: Allocator + Copy>(
 ) -> Result<(), RunFault<A>> {
     let mut reader = Counted::new(instance);
     let mut writer = Counted::new(sink);
-    run_bound(alloc, request, STEPS, &mut reader, &mut writer)
+    let effort: Effort<Nobody> = Effort::untold(STEPS);
+    run_bound(alloc, request, effort, &mut reader, &mut writer)
 }
 
 /// Assesses an answer to an instance.

@@ -15,6 +15,7 @@ use tf_model::memory::OutOfMemory;
 use tf_model::problem::Problem;
 use tf_schedule::piece::Piece;
 use tf_schedule::schedule::Schedule;
+use tf_search::effort::{Effort, Nobody};
 use tf_search::strongest::strongest;
 use tf_text::answer::sheet::Sheet;
 
@@ -30,7 +31,8 @@ pub fn assess<A: Allocator + Copy, B: Allocator, C: Allocator>(
     ensures { IfOk result (IsAssessment task.now aids.offered sheet) }
 {
     let Aids { steps, offered } = aids;
-    let found = strongest(alloc, task, steps)?;
+    let effort: Effort<Nobody> = Effort::untold(steps);
+    let found = strongest(alloc, task, effort)?;
     let Weighed { offered, bound } = weigh(alloc, task, offered, found)?;
     let is_its = is_for(task, &sheet.problem, sheet.jobs, sheet.machines);
     let Answer {

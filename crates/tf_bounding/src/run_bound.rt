@@ -14,6 +14,7 @@ use tf_bound::task::ProblemTask;
 use tf_engine::fault::RunFault;
 use tf_engine::request::Request;
 use tf_model::prepare::Refusal;
+use tf_search::effort::{Effort, Progress};
 use tf_search::strongest::{Found, strongest};
 use tf_text::counted::Counted;
 
@@ -24,10 +25,10 @@ use tf_text::counted::Counted;
 /// no kind of certificate bounds, reading the input, its text, the rest of what makes no task.
 /// After a refusal nothing was written, unless it is [`RunFault::Device`], after which a prefix of
 /// the bound may have been.
-pub fn run_bound<A: Allocator + Copy, B: Allocator, R: Read, W: Write>(
+pub fn run_bound<A: Allocator + Copy, B: Allocator, P: Progress + Drop, R: Read, W: Write>(
     alloc: A,
     request: &Request<B>,
-    steps: Option<u32>,
+    effort: Effort<P>,
     reader: &mut Counted<R>,
     writer: &mut Counted<W>,
 ) -> Result<(), RunFault<A>>
@@ -37,7 +38,7 @@ pub fn run_bound<A: Allocator + Copy, B: Allocator, R: Read, W: Write>(
         writer.old writer.new (end_of result) }
 {
     let task = task_read(alloc, request, reader)?;
-    let found = found_for(alloc, &task, steps)?;
+    let found = found_for(alloc, &task, effort)?;
     let text = bound_bytes(alloc, &task, &found)?;
     writer.push_all(text.as_slice())?;
     Ok(())
@@ -45,14 +46,14 @@ pub fn run_bound<A: Allocator + Copy, B: Allocator, R: Read, W: Write>(
 
 // The strongest bound that is found, or the refusal where each certificate that was tried has a
 // number beyond the limit.
-fn found_for<A: Allocator + Copy, B: Allocator>(
+fn found_for<A: Allocator + Copy, B: Allocator, P: Progress + Drop>(
     alloc: A,
     task: &ProblemTask<B>,
-    steps: Option<u32>,
+    effort: Effort<P>,
 ) -> Result<Found<A>, RunFault<A>>
     ensures { MatchResult result (IsFound task.now) (λ e. IsUnfound (stop_of e)) }
 {
-    match strongest(alloc, task, steps)? {
+    match strongest(alloc, task, effort)? {
         Some(found) => Ok(found),
         None => Err(RunFault::Task(Refusal::TotalTooLarge)),
     }

@@ -13,6 +13,7 @@ ghost use Rattle.tf_command.specs.Performing.{RatesNamed};
 ghost use Rattle.tf_command.specs.Recorded.{bytes_left};
 ghost use Rattle.tf_text.specs.Counted.{inner_of, use_of};
 
+use crate::bounding::bound_over;
 use crate::console::Console;
 use crate::explained::{Ended, Rated, tell, tell_drawn};
 use crate::picturing::picture_named;
@@ -30,7 +31,6 @@ use tf_assess::offered::Aids;
 use tf_assess::run_assess::{AssessmentRequest, run_assess};
 use tf_assess::run_rate::{RatingRequest, rated, run_rate};
 use tf_bound_text::sheet::BoundSheet;
-use tf_bounding::run_bound::run_bound;
 use tf_engine::fault::RunFault;
 use tf_engine::run_check::run_check;
 use tf_engine::run_gantt::run_gantt;
@@ -437,7 +437,7 @@ fn bound<R: Read, W: Write, E: Write>(
     let Ok(request) = options.request(alloc, Layout::Two) else {
         return say_memory(&mut console.errors);
     };
-    let run = run_bound(alloc, &request, steps, instance, &mut console.writer);
+    let run = bound_over(console, &request, steps, options.telling.explain, instance);
     let status = end_run(&run, &mut console.errors);
     if options.telling.explain {
         let ended = Ended {

@@ -2,6 +2,7 @@
 //! it, and the exit status.
 #![tactic(auto)]
 
+mod bounding;
 pub mod commands;
 pub mod console;
 mod explained;

@@ -11,6 +11,7 @@ use tf_engine::fault::RunFault;
 use tf_evaluate::evaluate::least_cost;
 use tf_model::problem::Problem;
 use tf_model::task::Task;
+use tf_search::effort::{Effort, Nobody};
 use tf_search::strongest::{Found, strongest};
 
 /// A task, and the optimum or a lower bound of it.
@@ -48,7 +49,8 @@ pub(crate) fn measured<A: Allocator + Copy>(
             })
         }
         Posed::Unsolved(task) => {
-            let found = strongest(alloc, &task, None)?;
+            let effort: Effort<Nobody> = Effort::untold(None);
+            let found = strongest(alloc, &task, effort)?;
             Ok(Measure::Bound { task, found })
         }
     }

@@ -24,6 +24,7 @@ use tf_listing::listing::{Listed, listing};
 use tf_model::instance::Instance;
 use tf_options::options::{Drawing, Options};
 use tf_picture::view::View;
+use tf_search::effort::{Effort, Nobody};
 use tf_text::answer::layout::Layout;
 use tf_text::counted::Counted;
 
@@ -86,7 +87,8 @@ fn bounded<A: Allocator + Copy>(
     let request = options.request(alloc, Layout::Two)?;
     let mut instance = Counted::new(instance);
     let mut console = Console::new(alloc);
-    let run = run_bound(alloc, &request, steps, &mut instance, &mut console.output);
+    let effort: Effort<Nobody> = Effort::untold(steps);
+    let run = run_bound(alloc, &request, effort, &mut instance, &mut console.output);
     let status = end_run(&run, &mut console.errors);
     console.ended(status)
 }

@@ -3,6 +3,7 @@
 //! Nothing is promised of what they find: the judges of `tf_bound` compute what it bounds.
 #![tactic(auto)]
 
+pub mod effort;
 mod job_starts;
 pub mod machine_search;
 pub mod multiplier_search;

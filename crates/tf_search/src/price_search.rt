@@ -8,6 +8,7 @@ ghost use Rattle.tf_model.specs.ClassTable.{is_shop_env};
 ghost use Rattle.tf_problem.specs.ProblemData.{IsProblemJob};
 ghost use Rattle.tf_problem.specs.ProblemCost.{IsLowerBound};
 
+use crate::effort::{Effort, Nobody, Progress};
 use crate::job_starts::JobStarts;
 use crate::sequence::{Placed, best_order, place_all};
 use std::alloc::{Allocator, Global};
@@ -106,7 +107,8 @@ pub fn price_bound<A: Allocator + Copy, B: Allocator>(
         return Err(BoundFault::OtherKind);
     }
     let (order, target) = best_order(alloc, task)?;
-    let prices = search_prices(alloc, task, &order, target, steps)?;
+    let mut effort: Effort<Nobody> = Effort::untold(Some(steps));
+    let prices = search_prices(alloc, task, &order, target, &mut effort)?;
     let value = prices_bound(alloc, task, prices.q, &prices.rows)?;
     Ok(PriceBound {
         prices,
@@ -115,14 +117,14 @@ pub fn price_bound<A: Allocator + Copy, B: Allocator>(
     })
 }
 
-/// The prices of the most that so many steps find. `order` is a sequence of all jobs, and `target`
-/// what it costs.
-pub fn search_prices<A: Allocator + Copy, B: Allocator>(
+/// The prices of the most that the steps of an effort find, none where it says no number. `order` is
+/// a sequence of all jobs, and `target` what it costs.
+pub fn search_prices<A: Allocator + Copy, B: Allocator, P: Progress>(
     alloc: A,
     task: &ProblemTask<B>,
     order: &[JobId],
     target: u64,
-    steps: u32,
+    effort: &mut Effort<P>,
 ) -> Result<Prices<A>, BoundFault>
     requires { All (IsProblemJob task.now) order.now }
 {
@@ -134,7 +136,8 @@ pub fn search_prices<A: Allocator + Copy, B: Allocator>(
         return Err(BoundFault::TooLarge);
     };
     let mut tables = tables_for(alloc, task, &placed, horizon)?;
-    improve(task.machines(), target, steps, &mut tables);
+    improve(task.machines(), target, &mut tables, effort);
+    effort.is_over();
     let Tables {
         jobs: _,
         rows: _,
@@ -294,13 +297,20 @@ impl Share {
     }
 }
 
-// Takes so many steps, and keeps the prices of the greatest value. Ends where that is the target,
-// rounded up as a bound is.
-fn improve<A: Allocator>(machines: u32, target: u64, steps: u32, tables: &mut Tables<A>) {
+// Takes the steps of the effort, and keeps the prices of the greatest value. Ends where that is the
+// target, rounded up as a bound is.
+fn improve<A: Allocator, P: Progress>(
+    machines: u32,
+    target: u64,
+    tables: &mut Tables<A>,
+    effort: &mut Effort<P>,
+) {
+    let steps = effort.steps.unwrap_or(0);
     let goal = i128::from(target) * i128::from(DENOMINATOR);
     let mut pace = Pace::new(steps);
     let mut most: i128 = -1;
-    for _ in 0..steps {
+    for step in 0..steps {
+        effort.at_step(step, steps);
         let Some(value) = tables.value(machines) else {
             return;
         };

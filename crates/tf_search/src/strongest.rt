@@ -3,6 +3,7 @@ ghost use Rattle.std.specs.Prelude.{◌≡◌, ◌⊎◌, IfOk, IfSome, IsFalse}
 ghost use Rattle.tf_model.specs.ClassTable.{is_shop_env};
 ghost use Rattle.tf_search.specs.Strongest.{IsFound, IsFoundOn};
 
+use crate::effort::{Effort, Progress};
 use crate::machine_search::search_machines;
 use crate::multiplier_search::multiplier_bound;
 use crate::price_search::search_prices;
@@ -36,32 +37,32 @@ pub struct Found<A: Allocator = Global> {
     pub certificate: BoundCertificate<A>,
 }
 
-/// The strongest bound that is found. None where each certificate that was tried has a number
-/// beyond the limit.
-pub fn strongest<A: Allocator + Copy, B: Allocator>(
+/// The strongest bound that is found with an effort. None where each certificate that was tried has
+/// a number beyond the limit.
+pub fn strongest<A: Allocator + Copy, B: Allocator, P: Progress + Drop>(
     alloc: A,
     task: &ProblemTask<B>,
-    steps: Option<u32>,
+    mut effort: Effort<P>,
 ) -> Result<Option<Found<A>>, OutOfMemory>
     ensures { IfOk result (λ best. IfSome best (IsFound task.now)) }
 {
     match pushed_task(alloc, task)? {
-        Some(pushed) => strongest_on(alloc, &pushed, steps),
-        None => strongest_on(alloc, task, steps),
+        Some(pushed) => strongest_on(alloc, &pushed, &mut effort),
+        None => strongest_on(alloc, task, &mut effort),
     }
 }
 
 // The strongest bound of the task as it is.
-fn strongest_on<A: Allocator + Copy, B: Allocator>(
+fn strongest_on<A: Allocator + Copy, B: Allocator, P: Progress>(
     alloc: A,
     task: &ProblemTask<B>,
-    steps: Option<u32>,
+    effort: &mut Effort<P>,
 ) -> Result<Option<Found<A>>, OutOfMemory>
     ensures { IfOk result (λ best. IfSome best (IsFoundOn task.now)) }
 {
     match task.problem().goal {
         Goal::Cmax | Goal::Lmax => of_maximum(alloc, task),
-        _ => of_sum(alloc, task, steps),
+        _ => of_sum(alloc, task, effort),
     }
 }
 
@@ -223,10 +224,10 @@ fn by_machine<A: Allocator + Copy, B: Allocator>(
 }
 
 // A sum: multipliers, and without preemption prices.
-fn of_sum<A: Allocator + Copy, B: Allocator>(
+fn of_sum<A: Allocator + Copy, B: Allocator, P: Progress>(
     alloc: A,
     task: &ProblemTask<B>,
-    steps: Option<u32>,
+    effort: &mut Effort<P>,
 ) -> Result<Option<Found<A>>, OutOfMemory>
     ensures { IfOk result (λ best. IfSome best (IsFoundOn task.now)) }
 {
@@ -234,7 +235,7 @@ fn of_sum<A: Allocator + Copy, B: Allocator>(
     if !task.problem().env.is_shop() && task.len() <= MOST_SEQUENCED {
         let found = by_multipliers(alloc, task)?;
         best = better(best, found);
-        let found = by_prices(alloc, task, steps)?;
+        let found = by_prices(alloc, task, effort)?;
         best = better(best, found);
     }
     Ok(best)
@@ -291,24 +292,25 @@ fn by_multipliers<A: Allocator + Copy, B: Allocator>(
     judged(alloc, task, certificate)
 }
 
-fn by_prices<A: Allocator + Copy, B: Allocator>(
+fn by_prices<A: Allocator + Copy, B: Allocator, P: Progress>(
     alloc: A,
     task: &ProblemTask<B>,
-    steps: Option<u32>,
+    effort: &mut Effort<P>,
 ) -> Result<Option<Found<A>>, OutOfMemory>
     requires { IsFalse (is_shop_env task.now.problem.env) }
     ensures { IfOk result (λ best. IfSome best (IsFoundOn task.now)) }
 {
-    let steps = steps_for(task, steps);
+    let steps = steps_for(task, effort.steps);
     if steps == 0 {
         return Ok(None);
     }
+    effort.steps = Some(steps);
     let (order, target) = match best_order(alloc, task) {
         Ok(best) => best,
         Err(BoundFault::OutOfMemory) => return Err(OutOfMemory),
         Err(_) => return Ok(None),
     };
-    let Some(prices) = searched(search_prices(alloc, task, &order, target, steps))? else {
+    let Some(prices) = searched(search_prices(alloc, task, &order, target, effort))? else {
         return Ok(None);
     };
     let certificate = BoundCertificate::Prices {

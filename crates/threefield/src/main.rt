@@ -100,5 +100,6 @@ fn console<E: Write + Drop>(rt: &HostRuntime, errors: Counted<E>) -> Console<Std
         alloc: rt.alloc(),
         writer: Counted::new(rt.stdout()),
         errors,
+        is_terminal: rt.stderr().is_terminal(),
     }
 }

@@ -5,6 +5,7 @@ use std::test::Fail;
 use tf_bound::job_times::JobTimes;
 use tf_bound::task::{ProblemJob, ProblemTask};
 use tf_model::ids::JobId;
+use tf_search::effort::{Effort, Nobody};
 use tf_search::strongest::strongest;
 
 fn problem_job(alloc: Global, task: &SmallTask, job: &SmallJob) -> Result<ProblemJob, Fail> {
@@ -48,6 +49,7 @@ fn problem_task(alloc: Global, task: &SmallTask) -> Result<ProblemTask, Fail> {
 /// The value of the strongest bound that the program finds.
 pub fn bound_of(alloc: Global, task: &SmallTask) -> Result<Option<i128>, Fail> {
     let task = problem_task(alloc, task)?;
-    let found = strongest(alloc, &task, None)?;
+    let effort: Effort<Nobody> = Effort::untold(None);
+    let found = strongest(alloc, &task, effort)?;
     Ok(found.map(|found| found.value))
 }
