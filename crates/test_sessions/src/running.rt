@@ -30,7 +30,7 @@ pub fn run(alloc: Global, line: &str, texts: Texts<'_>) -> Result<Ended, AllocEr
         alloc,
         writer: Counted::new(&mut written),
         errors: Counted::new(&mut said),
-        is_terminal: false,
+        is_terminal: true,
     };
     let status = match understand(command(alloc)?, words.as_slice(), false) {
         Asked::Work(Work::Evaluate(evaluating)) => {
