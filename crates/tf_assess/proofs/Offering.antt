@@ -1,12 +1,13 @@
 -- What an offered certificate is worth.
-use Rattle.std.proofs.Common.{◌≡◌, ℤ, Option, IfSome, inl, inr, sym, subst}
+use Rattle.std.proofs.Common.{◌≡◌, ℤ, Option, None, IfSome, inl, inr, refl, sym, ap, subst, ◌∙◌}
 use Rattle.tf_problem.specs.ProblemData.{ProblemData}
 use Rattle.tf_bound.specs.Certified.{IsBoundBy, IsValueOn}
+use Rattle.tf_bound.specs.Faulted.{certificate_fault}
 use Rattle.tf_bound.specs.declared.certificate.BoundCertificate.{BoundCertificate}
 use Rattle.tf_bound.specs.declared.certificate.BoundCertificate.TheVariants.{Machine, Window, Crowd, OneJob, Multipliers, Prices}
 use Rattle.tf_search.specs.declared.strongest.Found.{Found}
 use Rattle.tf_search.specs.Strongest.{IsFound}
-use Rattle.tf_bound_text.specs.BoundSheetData.{Basis, BoundSheetData, basis_of, IsValueBy}
+use Rattle.tf_bound_text.specs.BoundSheetData.{Basis, BoundSheetData, basis_of, fault_by, IsValueBy}
 use Rattle.tf_assess.specs.declared.assessment.Offered.{Offered}
 use Rattle.tf_assess.specs.Assessing.{IsJudgedValue, IsOffer, IsUsed}
 
@@ -37,6 +38,20 @@ on_value k (Prices q rows) b h = h
 pub bound_by : {A : Type 0} (k : ProblemData) (c : BoundCertificate A) (b : ℤ)
     → IsJudgedValue k (basis_of c) b → IsBoundBy k c b
 bound_by k c b (other, judged, h) = (other, judged, on_value other c b h)
+
+-- the fault of a certificate is that of what it names
+fault_is : {A : Type 0} (k : ProblemData) (c : BoundCertificate A)
+    → certificate_fault k c ≡ fault_by k (basis_of c)
+fault_is k (Machine machine jobs) = refl
+fault_is k (Window jobs) = refl
+fault_is k (Crowd h0 jobs) = refl
+fault_is k (OneJob job) = refl
+fault_is k (Multipliers machine q numerators) = refl
+fault_is k (Prices q rows) = refl
+
+pub faultless_by : {A : Type 0} (k : ProblemData) (c : BoundCertificate A) (basis : Basis)
+    → basis_of c ≡ basis → certificate_fault k c ≡ None → fault_by k basis ≡ None
+faultless_by k c basis same none = ap (fault_by k) (sym same) ∙ sym (fault_is k c) ∙ none
 
 -- the bound that is used is one
 pub used_found : {A : Type 0} (k : ProblemData) (sheet : BoundSheetData)

@@ -6,3 +6,7 @@ pub mod Marks
 pub mod Routes
 pub mod Weighed
 pub mod Dates
+pub mod Faults
+pub mod Firsts
+pub mod Conditions
+pub mod FaultsAlong

@@ -2,6 +2,8 @@ pub mod JobTimes
 pub mod Sized
 pub mod RowSums
 pub mod Prices
+pub mod Kinds
+pub mod Faulted
 pub mod Along
 pub mod JobNumbers
 pub mod Judged

@@ -1,6 +1,6 @@
 //! The bounds of jobs that have one time each: windows, crowds, and one job anywhere.
 ghost use Rattle.std.specs.Prelude.{◌≡◌, ℕ, ◌+◌, ◌*◌, ◌<◌, ◌≤◌, ◌||◌, pos, ◌-ℤ◌, length, sum_by};
-ghost use Rattle.std.specs.Prelude.{IfOk, IsTrue, IsFalse};
+ghost use Rattle.std.specs.Prelude.{None, Some, IfOk, IsTrue, IsFalse, MatchResult};
 ghost use Rattle.std.specs.List.{All};
 ghost use Rattle.tf_model.specs.ClassTable.{is_shop_env};
 ghost use Rattle.tf_model.specs.Cost.{greatest};
@@ -12,6 +12,9 @@ ghost use Rattle.tf_problem.specs.ProblemData.{problem_time};
 ghost use Rattle.tf_problem.specs.ProblemCost.{IsLowerBound};
 ghost use Rattle.tf_problem.specs.ProblemBounds.{is_alike, is_max_goal, crowd_value, one_job_value};
 ghost use Rattle.tf_problem.specs.ProblemBounds.{problem_work, window_value};
+ghost use Rattle.tf_bound.specs.Kinds.{takes_windows, takes_one_job};
+ghost use Rattle.tf_bound.specs.Faulted.{crowd_fault, one_job_fault, window_fault};
+ghost use Rattle.tf_bound.specs.Faulted.{NamesFault};
 
 use crate::fault::BoundFault;
 use crate::jobs::judge_list;
@@ -24,6 +27,7 @@ use tf_problem::laws::{crowd_law, one_job_law, window_law};
 /// Whether windows bound a problem: the makespan or the maximum lateness, on one machine or on
 /// identical ones.
 pub fn takes_windows<A: Allocator>(task: &ProblemTask<A>) -> bool
+    ensures exact { result ≡ takes_windows task.now.problem }
     ensures alike { IsTrue result → IsTrue (is_alike task.now.problem.env) }
     ensures one_time { IsTrue result → IsFalse (is_shop_env task.now.problem.env) }
     ensures goal { IsTrue result → IsTrue (is_max_goal task.now.problem.goal) }
@@ -36,6 +40,7 @@ pub fn takes_windows<A: Allocator>(task: &ProblemTask<A>) -> bool
 
 // Whether one job bounds a problem: the makespan or the maximum lateness.
 fn takes_one_job<A: Allocator>(task: &ProblemTask<A>) -> bool
+    ensures exact { result ≡ takes_one_job task.now.problem }
     ensures env { IsTrue result → IsTrue (is_alike task.now.problem.env
         || is_shop_env task.now.problem.env) }
     ensures goal { IsTrue result → IsTrue (is_max_goal task.now.problem.goal) }
@@ -108,6 +113,7 @@ pub fn window_bound<A: Allocator, B: Allocator>(
     task: &ProblemTask<B>,
     jobs: &[JobId],
 ) -> Result<i128, BoundFault>
+    ensures fault { NamesFault (window_fault task.now jobs.now) result }
     ensures value { IfOk result (λ b. b ≡ window_value task.now jobs.now) }
     ensures bound { IfOk result (IsLowerBound task.now) }
 {
@@ -141,6 +147,7 @@ pub fn crowd_bound<A: Allocator, B: Allocator>(
     h: u32,
     jobs: &[JobId],
 ) -> Result<i128, BoundFault>
+    ensures fault { NamesFault (crowd_fault task.now h jobs.now) result }
     ensures value { IfOk result (λ b. b ≡ crowd_value task.now h jobs.now) }
     ensures bound { IfOk result (IsLowerBound task.now) }
 {
@@ -168,6 +175,8 @@ fn crowd_span<B: Allocator>(task: &ProblemTask<B>, h: u32, jobs: &[JobId]) -> i1
 
 /// The bound by one job.
 pub fn one_job_bound<B: Allocator>(task: &ProblemTask<B>, job: JobId) -> Result<i128, BoundFault>
+    ensures fault { MatchResult result (λ _. one_job_fault task.now job ≡ None)
+        (λ fault. one_job_fault task.now job ≡ Some fault) }
     ensures value { IfOk result (λ b. b ≡ one_job_value task.now job) }
     ensures bound { IfOk result (IsLowerBound task.now) }
 {

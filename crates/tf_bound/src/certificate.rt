@@ -1,6 +1,7 @@
 //! Certificates of lower bounds, of every kind, and their judge.
 ghost use Rattle.std.specs.Prelude.{IfOk};
 ghost use Rattle.tf_problem.specs.ProblemCost.{IsLowerBound};
+ghost use Rattle.tf_bound.specs.Faulted.{certificate_fault, NamesFault};
 ghost use Rattle.tf_bound.specs.Certified.{IsBoundBy, IsValueOn};
 
 use crate::alike::{crowd_bound, one_job_bound, window_bound};
@@ -55,6 +56,7 @@ impl<A: Allocator> BoundCertificate<A> {
         alloc: B,
         task: &ProblemTask<C>,
     ) -> Result<i128, BoundFault>
+        ensures fault { NamesFault (certificate_fault task.now self.now) result }
         ensures value { IfOk result (IsBoundBy task.now self.now) }
         ensures bound { IfOk result (IsLowerBound task.now) }
     {
@@ -70,6 +72,7 @@ impl<A: Allocator> BoundCertificate<A> {
         alloc: B,
         task: &ProblemTask<C>,
     ) -> Result<i128, BoundFault>
+        ensures fault { NamesFault (certificate_fault task.now self.now) result }
         ensures value { IfOk result (IsValueOn task.now self.now) }
         ensures bound { IfOk result (IsLowerBound task.now) }
     {

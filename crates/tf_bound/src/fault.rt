@@ -1,4 +1,7 @@
 //! Why a task or a certificate is refused.
+ghost use Rattle.std.specs.Prelude.{◌≡◌};
+ghost use Rattle.tf_bound.specs.declared.fault.BoundFault.TheVariants.{OutOfMemory as NoMemory};
+
 use tf_model::ids::JobId;
 use tf_model::memory::OutOfMemory;
 use thiserror::Error;
@@ -76,6 +79,8 @@ pub enum BoundFault {
 }
 
 impl From<OutOfMemory> for BoundFault {
+    ghost from_gives = { λ _ e. e ≡ NoMemory };
+
     fn from(_: OutOfMemory) -> BoundFault {
         BoundFault::OutOfMemory
     }

@@ -1,8 +1,9 @@
 //! Lists of jobs in certificates.
-ghost use Rattle.std.specs.Prelude.{◌≡◌, ◌≤◌, length, IfOk};
+ghost use Rattle.std.specs.Prelude.{◌≡◌, ◌≤◌, [], length, IfOk};
 ghost use Rattle.std.specs.List.{All};
 ghost use Rattle.tf_model.specs.Distinct.{IsDistinct};
 ghost use Rattle.tf_problem.specs.ProblemData.{IsProblemJob};
+ghost use Rattle.tf_bound.specs.Faulted.{list_fault, NamesFault};
 ghost use Rattle.tf_bound.specs.Sized.{IsSized};
 
 use crate::fault::BoundFault;
@@ -18,6 +19,7 @@ pub(crate) fn judge_list<A: Allocator, B: Allocator>(
     jobs: &[JobId],
 ) -> Result<(), BoundFault>
     ensures sized { IsSized task.now }
+    ensures fault { NamesFault (list_fault task.now [] jobs.now) result }
     ensures known { IfOk result (λ _. All (IsProblemJob task.now) jobs.now) }
     ensures distinct { IfOk result (λ _. IsDistinct jobs.now) }
 {

@@ -8,6 +8,8 @@ ghost use Rattle.tf_problem.specs.ProblemData.{IsProblemJob, problem_due, proble
 ghost use Rattle.tf_problem.specs.ProblemCost.{IsLowerBound};
 ghost use Rattle.tf_problem.specs.ProblemBounds.{is_by_machine, is_max_goal, head, tail};
 ghost use Rattle.tf_problem.specs.ProblemBounds.{machine_value};
+ghost use Rattle.tf_bound.specs.Kinds.{takes_machine};
+ghost use Rattle.tf_bound.specs.Faulted.{machine_fault, NamesFault};
 
 use crate::fault::BoundFault;
 use crate::jobs::judge_list;
@@ -20,6 +22,7 @@ use tf_problem::laws::machine_law;
 /// Whether one machine bounds a problem: the makespan or the maximum lateness, on one machine or
 /// in a shop.
 pub fn takes_machine<A: Allocator>(task: &ProblemTask<A>) -> bool
+    ensures exact { result ≡ takes_machine task.now.problem }
     ensures env { IsTrue result → IsTrue (is_by_machine task.now.problem.env) }
     ensures goal { IsTrue result → IsTrue (is_max_goal task.now.problem.goal) }
 {
@@ -94,6 +97,7 @@ pub fn machine_bound<A: Allocator, B: Allocator>(
     machine: usize,
     jobs: &[JobId],
 ) -> Result<i128, BoundFault>
+    ensures fault { NamesFault (machine_fault task.now machine jobs.now) result }
     ensures value { IfOk result (λ b. b ≡ machine_value task.now machine jobs.now) }
     ensures bound { IfOk result (IsLowerBound task.now) }
 {

@@ -1,7 +1,9 @@
 //! The bound of tardiness by multipliers of at most the weights (Potts and Van Wassenhove 1985), on
 //! the only machine or on one of a shop.
 ghost use Rattle.std.specs.Prelude.{◌≡◌, ℕ, ◌+◌, ◌*◌, ◌<◌, ◌≤◌, pos, ◌+ℤ◌, ◌-ℤ◌, ◌*ℤ◌, length};
-ghost use Rattle.std.specs.Prelude.{IfNone, IfOk, IfSome, IsTrue};
+ghost use Rattle.std.specs.Prelude.{◌^◌, ◌||◌, None, Some, is_none, IfErr, IfNone, IfOk, IfSome};
+ghost use Rattle.std.specs.Prelude.{IsTrue, MatchOption};
+ghost use Rattle.std.specs.Option.{option_or};
 ghost use Rattle.std.specs.Ordering.{is_lt};
 ghost use Rattle.tf_model.specs.Bounds.{pairs_value};
 ghost use Rattle.tf_check.specs.Bound.{least_number};
@@ -10,10 +12,15 @@ ghost use Rattle.tf_check.specs.Ratio.{AreByRatio, AreOfTask, completions_from};
 ghost use Rattle.tf_problem.specs.ProblemData.{IsProblemJob, problem_due, problem_jobs};
 ghost use Rattle.tf_problem.specs.ProblemData.{problem_weight};
 ghost use Rattle.tf_problem.specs.ProblemCost.{IsLowerBound};
-ghost use Rattle.tf_problem.specs.ProblemBounds.{is_by_machine, is_tardy_goal, head, int_sum};
+ghost use Rattle.tf_problem.specs.ProblemBounds.{is_by_machine, is_tardy_goal, head};
 ghost use Rattle.tf_problem.specs.ProblemBounds.{multiplier_value, numerator, tail};
 ghost use Rattle.tf_problem.specs.Relaxed.{weighed_task};
+ghost use Rattle.tf_bound.specs.Kinds.{takes_multipliers};
+ghost use Rattle.tf_bound.specs.Faulted.{are_multipliers_wide, are_waits_wide, first_job};
+ghost use Rattle.tf_bound.specs.Faulted.{is_beyond, is_idle, is_sum_wide, is_wide, too_large};
+ghost use Rattle.tf_bound.specs.Faulted.{multipliers_fault, waits_to, NamesFault};
 ghost use Rattle.tf_bound.specs.Sized.{IsSized};
+ghost use Rattle.tf_bound.specs.declared.fault.BoundFault.TheVariants.{Condition, OutOfMemory};
 
 use crate::fault::BoundFault;
 use crate::machine::least_head;
@@ -29,6 +36,7 @@ use tf_problem::laws::multiplier_law;
 /// Whether multipliers bound a problem: a sum of completions or of tardiness, on one machine or in
 /// a shop.
 pub fn takes_multipliers<A: Allocator>(task: &ProblemTask<A>) -> bool
+    ensures exact { result ≡ takes_multipliers task.now.problem }
     ensures env { IsTrue result → IsTrue (is_by_machine task.now.problem.env) }
     ensures goal { IsTrue result → IsTrue (is_tardy_goal task.now.problem.goal) }
 {
@@ -47,7 +55,9 @@ pub fn takes_multipliers<A: Allocator>(task: &ProblemTask<A>) -> bool
 // The first job whose numerator is more than q times its weight.
 fn first_beyond<B: Allocator>(task: &ProblemTask<B>, v: &[u64], q: u64) -> Option<JobId>
     requires { length v.now ≡ length task.now.jobs }
-    ensures { IfNone result ((j : ℕ) → IsProblemJob task.now j
+    ensures first { MatchOption result (first_job task.now (is_beyond task.now q v.now) ≡ None)
+        (λ job. first_job task.now (is_beyond task.now q v.now) ≡ Some (Condition job)) }
+    ensures within { IfNone result ((j : ℕ) → IsProblemJob task.now j
         → numerator v.now j ≤ q * problem_weight task.now j) }
 {
     for k in 0..task.len() {
@@ -85,7 +95,8 @@ fn weighed_jobs<A: Allocator, B: Allocator>(
     requires machine { machine < task.now.machines }
     requires env { IsTrue (is_by_machine task.now.problem.env) }
     requires len { length v.now ≡ length task.now.jobs }
-    ensures { IfOk result (λ jobs.
+    ensures fault { NamesFault (first_job task.now (is_idle task.now machine)) result }
+    ensures jobs { IfOk result (λ jobs.
         AreOfTask (weighed_task task.now machine (numerator v.now)) jobs.items) }
 {
     let Ok(mut jobs) = Vec::with_capacity(alloc, task.len()) else {
@@ -118,7 +129,8 @@ fn jobs_by_ratio<A: Allocator, B: Allocator>(
     requires machine { machine < task.now.machines }
     requires env { IsTrue (is_by_machine task.now.problem.env) }
     requires len { length v.now ≡ length task.now.jobs }
-    ensures { IfOk result (λ jobs.
+    ensures fault { NamesFault (first_job task.now (is_idle task.now machine)) result }
+    ensures jobs { IfOk result (λ jobs.
         AreByRatio (weighed_task task.now machine (numerator v.now)) jobs.items) }
 {
     let mut jobs = weighed_jobs(alloc, task, machine, v)?;
@@ -128,12 +140,13 @@ fn jobs_by_ratio<A: Allocator, B: Allocator>(
 
 // The weighted sum of the completions of jobs that run one after another, where it is small enough.
 fn completions(jobs: &[WeightedJob]) -> Option<u128>
-    ensures { IfSome result (λ value. value ≡ completions_from 0 jobs.now) }
+    ensures { MatchOption result (2 ^ 128 ≤ completions_from 0 jobs.now)
+        (λ value. value ≡ completions_from 0 jobs.now) }
 {
     let mut value: u128 = 0;
     let mut completion: u128 = 0;
     for job in jobs {
-        completion = completion.checked_add(u128::from(job.time))?;
+        completion += u128::from(job.time);
         value = value.checked_add(u128::from(job.weight).checked_mul(completion)?)?;
     }
     Some(value)
@@ -144,6 +157,7 @@ fn all_jobs<A: Allocator, B: Allocator>(
     alloc: A,
     task: &ProblemTask<B>,
 ) -> Result<Vec<JobId, A>, BoundFault>
+    ensures fault { IfErr result (λ fault. fault ≡ OutOfMemory) }
     ensures jobs { IfOk result (λ jobs. jobs.items ≡ problem_jobs task.now) }
     ensures sized { IsSized task.now }
 {
@@ -173,8 +187,9 @@ fn waits<B: Allocator>(task: &ProblemTask<B>, machine: usize, least: u64, v: &[u
     requires machine { machine < task.now.machines }
     requires env { IsTrue (is_by_machine task.now.problem.env) }
     requires len { length v.now ≡ length task.now.jobs }
-    ensures { IfSome result (λ sum. sum ≡ int_sum (λ j. pos (numerator v.now j)
-        *ℤ (pos (least + tail task.now machine j) -ℤ problem_due task.now j)) (problem_jobs task.now)) }
+    ensures wide { is_none result ≡ are_waits_wide task.now machine least v.now }
+    ensures value { IfSome result (λ sum.
+        sum ≡ waits_to task.now machine least v.now (length task.now.jobs)) }
 {
     let mut sum: i128 = 0;
     for k in 0..task.len() {
@@ -186,7 +201,9 @@ fn waits<B: Allocator>(task: &ProblemTask<B>, machine: usize, least: u64, v: &[u
 
 // The sum with one product more, where it is small enough.
 fn with_product(sum: i128, times: u64, wait: i128) -> Option<i128>
-    ensures { IfSome result (λ more. more ≡ sum +ℤ (pos times *ℤ wait)) }
+    ensures wide { is_none result
+        ≡ (is_wide (pos times *ℤ wait) || is_wide (sum +ℤ (pos times *ℤ wait))) }
+    ensures value { IfSome result (λ more. more ≡ sum +ℤ (pos times *ℤ wait)) }
 {
     sum.checked_add(i128::from(times).checked_mul(wait)?)
 }
@@ -199,6 +216,7 @@ pub fn multipliers_bound<A: Allocator + Copy, B: Allocator>(
     v: &[u64],
     q: u64,
 ) -> Result<i128, BoundFault>
+    ensures fault { NamesFault (multipliers_fault task.now machine q v.now) result }
     ensures value { IfOk result (λ b. b ≡ multiplier_value task.now machine v.now q) }
     ensures bound { IfOk result (IsLowerBound task.now) }
 {
@@ -233,7 +251,9 @@ fn value_of<A: Allocator + Copy, B: Allocator>(
     requires env { IsTrue (is_by_machine task.now.problem.env) }
     requires len { length v.now ≡ length task.now.jobs }
     requires some { 1 ≤ q }
-    ensures { IfOk result (λ b. b ≡ multiplier_value task.now machine v.now q) }
+    ensures fault { NamesFault (option_or (first_job task.now (is_idle task.now machine))
+        (too_large (are_multipliers_wide task.now machine v.now))) result }
+    ensures value { IfOk result (λ b. b ≡ multiplier_value task.now machine v.now q) }
 {
     let jobs = jobs_by_ratio(alloc, task, machine, v)?;
     let Some(pairs) = completions(&jobs) else {
@@ -251,7 +271,8 @@ fn value_of<A: Allocator + Copy, B: Allocator>(
 }
 
 fn sum_of(pairs: u128, waits: i128) -> Option<i128>
-    ensures { IfSome result (λ sum. sum ≡ pos pairs +ℤ waits) }
+    ensures wide { is_none result ≡ is_sum_wide pairs waits }
+    ensures value { IfSome result (λ sum. sum ≡ pos pairs +ℤ waits) }
 {
     i128::try_from(pairs).ok()?.checked_add(waits)
 }

@@ -1,15 +1,18 @@
 //! The bound of a sum by prices of the rows: each job at its cheapest start, less what all machines
 //! can take in.
 ghost use Rattle.std.specs.Prelude.{◌≡◌, ℕ, ◌+◌, ◌*◌, ◌≤◌, ℤ, pos, ◌-ℤ◌, length, sum, max, IfOk};
-ghost use Rattle.std.specs.Prelude.{IfSome, IsTrue, IsFalse};
-ghost use Rattle.std.specs.List.{All};
+ghost use Rattle.std.specs.Prelude.{◌^◌, ◌||◌, is_none, nat_le, nat_lt, IfSome, IsTrue, IsFalse};
+ghost use Rattle.std.specs.List.{All, list_any};
 ghost use Rattle.tf_model.specs.ClassTable.{is_shop_env};
 ghost use Rattle.tf_model.specs.Limit.{limit};
 ghost use Rattle.tf_model.specs.Whole.{IsWithin};
-ghost use Rattle.tf_problem.specs.ProblemData.{IsProblemJob, problem_release};
+ghost use Rattle.tf_problem.specs.ProblemData.{IsProblemJob, problem_jobs, problem_release};
 ghost use Rattle.tf_problem.specs.ProblemCost.{IsLowerBound};
 ghost use Rattle.tf_problem.specs.ProblemBounds.{is_alike, is_sum_goal, numerator, start_price};
 ghost use Rattle.tf_problem.specs.ProblemBounds.{share_up, AreCheapest};
+ghost use Rattle.tf_bound.specs.Kinds.{takes_prices};
+ghost use Rattle.tf_bound.specs.Faulted.{are_prices_large, is_dear, prices_fault, too_large};
+ghost use Rattle.tf_bound.specs.Faulted.{NamesFault};
 ghost use Rattle.tf_bound.specs.RowSums.{AreSums, late_steps};
 ghost use Rattle.tf_bound.specs.Prices.{IsCheapestFor, IsPaidFor, IsPricesBound, is_by_unit};
 
@@ -26,6 +29,7 @@ use tf_problem::laws::{cheapest_law, prices_law};
 /// Whether prices bound a problem: a sum over jobs that are not preempted, where each has one
 /// time.
 pub fn takes_prices<A: Allocator>(task: &ProblemTask<A>) -> bool
+    ensures exact { result ≡ takes_prices task.now.problem }
     ensures alike { IsTrue result → IsTrue (is_alike task.now.problem.env) }
     ensures one_time { IsTrue result → IsFalse (is_shop_env task.now.problem.env) }
     ensures whole { IsTrue result → IsFalse task.now.problem.prmp }
@@ -56,6 +60,7 @@ pub fn cheapest_of<A: Allocator>(
     requires one_time { IsFalse (is_shop_env task.now.problem.env) }
     requires goal { IsTrue (is_sum_goal task.now.problem.goal) }
     requires sums { AreSums prices.now sums.now }
+    ensures dear { is_none result ≡ is_dear task.now q prices.now job }
     ensures cheapest { IfSome result (λ found.
         IsCheapestFor task.now q prices.now job found.price) }
     ensures reached { IfSome result (λ found. IsPaidFor task.now q prices.now job found.price) }
@@ -85,6 +90,8 @@ fn slope_within(by_unit: bool, q: u64, weight: u64, due: i64, end: u64) -> Optio
     requires end { end ≤ limit }
     requires weight { weight ≤ limit }
     requires due { IsWithin due }
+    ensures dear { is_none result ≡ (nat_le (2 ^ 64) (q * weight)
+        || nat_lt limit (q * weight * late_steps by_unit due end)) }
     ensures slope { IfSome result (λ slope. slope ≡ q * weight) }
     ensures small { IfSome result (λ slope. slope * late_steps by_unit due end ≤ limit) }
 {
@@ -107,6 +114,8 @@ fn cheapest_prices<A: Allocator, B: Allocator>(
     requires one_time { IsFalse (is_shop_env task.now.problem.env) }
     requires goal { IsTrue (is_sum_goal task.now.problem.goal) }
     requires sums { AreSums prices.now sums.now }
+    ensures fault { NamesFault
+        (too_large (list_any (is_dear task.now q prices.now) (problem_jobs task.now))) result }
     ensures cheapest { IfOk result (λ v. AreCheapest task.now q prices.now v.items) }
     ensures reached { IfOk result (λ v. (j : ℕ) → IsProblemJob task.now j
         → IsPaidFor task.now q prices.now j (numerator v.items j)) }
@@ -173,6 +182,7 @@ pub fn prices_bound<A: Allocator + Copy, B: Allocator>(
     q: u64,
     prices: &[u64],
 ) -> Result<i128, BoundFault>
+    ensures fault { NamesFault (prices_fault task.now q prices.now) result }
     ensures value { IfOk result (IsPricesBound task.now q prices.now) }
     ensures bound { IfOk result (IsLowerBound task.now) }
 {
@@ -202,6 +212,7 @@ fn bound_with<A: Allocator, B: Allocator>(
     requires goal { IsTrue (is_sum_goal task.now.problem.goal) }
     requires some { 1 ≤ q }
     requires sums { length sums.old ≡ length prices.now + 1 }
+    ensures fault { NamesFault (too_large (are_prices_large task.now q prices.now)) result }
     ensures value { IfOk result (IsPricesBound task.now q prices.now) }
     ensures bound { IfOk result (IsLowerBound task.now) }
 {

@@ -1,5 +1,5 @@
 //! Prices of unit rows summed up, and the cheapest start of a job.
-ghost use Rattle.std.specs.Prelude.{◌≡◌, ◌+◌, ◌*◌, ◌≤◌, length, max, IsTrue};
+ghost use Rattle.std.specs.Prelude.{◌≡◌, ◌+◌, ◌*◌, ◌≤◌, length, max, nat_lt, not, sum, IsTrue};
 ghost use Rattle.tf_model.specs.Limit.{limit};
 ghost use Rattle.tf_model.specs.Whole.{IsWithin};
 ghost use Rattle.tf_bound.specs.RowSums.{AreSums, late_steps, IsCheapest, IsReached};
@@ -10,7 +10,8 @@ use tf_model::limit::LIMIT;
 /// are beyond the limit.
 pub fn sum_rows(prices: &[u64], sums: &mut [u64]) -> bool
     requires { length sums.old ≡ length prices.now + 1 }
-    ensures { IsTrue result → AreSums prices.now sums.new }
+    ensures small { result ≡ not (nat_lt limit (sum prices.now)) }
+    ensures sums { IsTrue result → AreSums prices.now sums.new }
 {
     let mut total: u64 = 0;
     sums[0] = 0;

@@ -1,9 +1,11 @@
 -- What the text of a bound says.
-use Rattle.std.specs.Prelude.{◌≡◌, ℕ, ℤ, List}
+use Rattle.std.specs.Prelude.{◌≡◌, ℕ, ℤ, List, Option}
 use Rattle.tf_model.specs.declared.problem.Problem.{Problem}
 use Rattle.tf_problem.specs.ProblemData.{ProblemData}
 use Rattle.tf_problem.specs.ProblemBounds.{machine_value, window_value, crowd_value, one_job_value, multiplier_value}
 use Rattle.tf_bound.specs.Prices.{IsPricesBound}
+use Rattle.tf_bound.specs.Faulted.{machine_fault, window_fault, crowd_fault, one_job_fault, multipliers_fault, prices_fault}
+use Rattle.tf_bound.specs.declared.fault.BoundFault.{BoundFault}
 use Rattle.tf_bound.specs.declared.certificate.BoundCertificate.{BoundCertificate}
 use Rattle.tf_bound.specs.declared.certificate.BoundCertificate.TheVariants.{Machine, Window, Crowd, OneJob, Multipliers, Prices}
 
@@ -33,6 +35,15 @@ IsValueBy k (ByCrowd h jobs) b = b ≡ crowd_value k h jobs
 IsValueBy k (ByOneJob job) b = b ≡ one_job_value k job
 IsValueBy k (ByMultipliers machine q v) b = b ≡ multiplier_value k machine v q
 IsValueBy k (ByPrices q rows) b = IsPricesBound k q rows b
+
+-- the first fault that a certificate that names this has on a task, if it has one
+abbrev pub fault_by : ProblemData → Basis → Option BoundFault
+fault_by k (ByMachine machine jobs) = machine_fault k machine jobs
+fault_by k (ByWindow jobs) = window_fault k jobs
+fault_by k (ByCrowd h jobs) = crowd_fault k h jobs
+fault_by k (ByOneJob job) = one_job_fault k job
+fault_by k (ByMultipliers machine q v) = multipliers_fault k machine q v
+fault_by k (ByPrices q rows) = prices_fault k q rows
 
 -- a certificate, and the problem, the sizes and the value that are stated beside it
 pub record BoundSheetData : Type 0 where

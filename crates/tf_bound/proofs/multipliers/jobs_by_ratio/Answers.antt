@@ -6,10 +6,10 @@ use Rattle.tf_problem.specs.ProblemBounds.{numerator}
 use Rattle.tf_problem.specs.Relaxed.{weighed_task}
 use Rattle.tf_bound.proofs.multipliers.jobs_by_ratio.Goals as goal
 
-pub returns : goal.returns
-returns g c =
+pub returns-clause-jobs : goal.returns-clause-jobs
+returns-clause-jobs g c =
     by_ratio_from_sort (weighed_task c.args.task.now c.args.machine (numerator c.args.v.now)) _ _
-    c.in_ok-jobs.ensures
+    c.in_ok-jobs.ensures.jobs
     c.sort_unstable_by.ensures.permutation
     (c.sort_unstable_by.ensures.sorted goes_before by_ratio-order
     (answers_always _ _ _ (λ f a r g called. search rules)))

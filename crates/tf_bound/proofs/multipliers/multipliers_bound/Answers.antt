@@ -12,5 +12,5 @@ returns-clause-bound g c =
     (λ b is. subst (λ (z : ℤ). IsLowerBound k z) (sym is)
     (c.multiplier_law.ensures k (sound k c.machines.ensures.sized) (kind.env refl) (kind.goal refl)
     c.args.machine (omega (arith, c.if-machine-machines.false, c.machines.ensures.value)) c.args.v.now
-    c.args.q (omega (arith, c.if-q-eq0.false)) c.in_default.ensures))
-    c.value_of.ensures
+    c.args.q (omega (arith, c.if-q-eq0.false)) c.in_default.ensures.within))
+    c.value_of.ensures.value

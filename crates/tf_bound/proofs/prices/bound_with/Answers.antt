@@ -7,6 +7,7 @@ use Rattle.tf_problem.specs.ProblemCost.{IsLowerBound}
 use Rattle.tf_problem.specs.ProblemBounds.{share_up, numerator, prices_value}
 use Rattle.tf_bound.specs.RowSums.{AreSums}
 use Rattle.tf_bound.proofs.Sound.{sound, all_numerators}
+use Rattle.tf_bound.proofs.Conditions.{both_small}
 use Rattle.tf_bound.proofs.prices.bound_with.Goals as goal
 
 pub returns : goal.returns
@@ -16,7 +17,7 @@ returns g c =
     let told = c.in_ok-cheapest.ensures in
     let v = c.in_ok-cheapest.cheapest.items in
     let prices = c.args.prices.now in
-    let are : AreSums prices c.sum_rows.new.sums = c.if-not-sum_rows.ensures refl in
+    let are : AreSums prices c.sum_rows.new.sums = c.if-not-sum_rows.ensures.sums refl in
     let last : ℕ = slice_index c.sum_rows.new.sums (length prices) in
     let all : last ≡ sum prices =
     are.at (length prices) (omega arith) ∙ ap sum (take_all (length prices) prices (omega arith)) in
@@ -30,6 +31,7 @@ returns g c =
     c.machines.ensures.value
     ∙ ap (λ x. share_up (pos (sum_by (numerator v) (problem_jobs k)) -ℤ pos (k.machines * x)) q) all in
     record {
+      fault = both_small _ _ c.if-not-sum_rows.ensures.small told.fault;
       value = record { cheapest = v; least = told.cheapest; reached = told.reached; value = value };
       bound = subst (λ (b : ℤ). IsLowerBound k b) (sym value)
           (c.prices_law.ensures k (sound k c.machines.ensures.sized) c.requires.alike c.requires.whole

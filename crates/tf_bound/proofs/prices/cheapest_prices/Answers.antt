@@ -1,11 +1,31 @@
-use Rattle.std.proofs.Common.{◌≡◌, ℕ, ◌+◌, ◌≤◌, ◌++◌, ◌∷◌, [], length, All, List, sym, ap, ◌∙◌, subst, arith}
+use Rattle.std.proofs.Common.{◌≡◌, false, ℕ, ◌+◌, ◌≤◌, ◌++◌, ◌∷◌, [], length, All, List, sym, ap, ◌∙◌, inr, subst, arith}
 use Rattle.std.proofs.lemmas.List.{length_push}
 use Rattle.std.proofs.lemmas.List.Elements.{All-push}
 use Rattle.tf_model.specs.Limit.{limit}
 use Rattle.tf_problem.specs.ProblemBounds.{numerator}
+use Rattle.tf_problem.specs.ProblemData.{IsProblemJob}
+use Rattle.tf_bound.specs.Faulted.{is_dear}
 use Rattle.tf_bound.specs.Prices.{IsCheapestFor, IsPaidFor}
+use Rattle.tf_bound.proofs.Firsts.{any_found, no_found, up_to_more}
 use Rattle.tf_bound.proofs.Steps.{numerators_more}
+use Rattle.tf_bound.proofs.Conditions.{is_large, not_large}
 use Rattle.tf_bound.proofs.prices.cheapest_prices.Goals as goal
+
+pub returns-in_default-cheapest_of-clause-fault : goal.returns-in_default-cheapest_of-clause-fault
+returns-in_default-cheapest_of-clause-fault g c =
+    let k = c.args.task.now in
+    let job : IsProblemJob k c.at.result = (
+      omega (arith, c.at.ensures),
+      omega (arith, c.at.ensures, c.loop-k-test.true, c.len-k-end.ensures.value),
+    ) in
+    inr (is_large _ (any_found k (is_dear k c.args.q c.args.prices.now) c.at.result job
+    (sym c.in_default-cheapest_of.ensures.dear)))
+
+pub returns-clause-fault : goal.returns-clause-fault
+returns-clause-fault g c =
+    not_large _ (no_found c.args.task.now (is_dear c.args.task.now c.args.q c.args.prices.now)
+    (λ j job. c.loop-k.invariant.none j job.0
+    (omega (arith, job.1, c.len-k-end.ensures.value, c.loop-k-test.false))))
 
 pub loop-k-preserved : goal.loop-k-preserved
 loop-k-preserved g c =
@@ -17,6 +37,8 @@ loop-k-preserved g c =
     let is : c.push.new.self.items ≡ old ++ x ∷ [] = c.in-Ok-push.ensures.items in
     record {
       len = ap length is ∙ length_push old x ∙ ap (λ n. n + 1) c.loop-k.invariant.len;
+      none = up_to_more (λ j. is_dear k q prices j ≡ false) c.loop-k.k c.at.result c.at.ensures
+          c.loop-k.invariant.none (sym c.in-Some.ensures.dear);
       cheapest = λ j low high.
           subst (λ (v : List ℕ). IsCheapestFor k q prices j (numerator v j)) (sym is)
           (numerators_more (IsCheapestFor k q prices) old x c.loop-k.k c.at.result

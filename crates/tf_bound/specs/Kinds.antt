@@ -1,0 +1,29 @@
+-- Which kind of certificate bounds the tasks of which problem.
+use Rattle.std.specs.Prelude.{Bool, not, ◌&&◌, ◌||◌}
+use Rattle.tf_model.specs.declared.problem.Problem.{Problem}
+use Rattle.tf_model.specs.ClassTable.{is_shop_env}
+use Rattle.tf_problem.specs.ProblemBounds.{is_alike, is_by_machine, is_max_goal, is_sum_goal, is_tardy_goal}
+
+-- the makespan or the maximum lateness, on one machine or in a shop
+abbrev pub takes_machine : Problem → Bool
+takes_machine p = is_by_machine p.env && is_max_goal p.goal
+
+-- the makespan or the maximum lateness, on one machine or on identical ones
+abbrev pub takes_windows : Problem → Bool
+takes_windows p = is_alike p.env && is_max_goal p.goal
+
+-- the same, where no job is preempted
+abbrev pub takes_crowds : Problem → Bool
+takes_crowds p = takes_windows p && not p.prmp
+
+-- the makespan or the maximum lateness
+abbrev pub takes_one_job : Problem → Bool
+takes_one_job p = (is_alike p.env || is_shop_env p.env) && is_max_goal p.goal
+
+-- a sum of completions or of tardiness, on one machine or in a shop
+abbrev pub takes_multipliers : Problem → Bool
+takes_multipliers p = is_by_machine p.env && is_tardy_goal p.goal
+
+-- a sum over jobs that are not preempted, on one machine or on identical ones
+abbrev pub takes_prices : Problem → Bool
+takes_prices p = (is_alike p.env && not p.prmp) && is_sum_goal p.goal
