@@ -7,6 +7,7 @@ use Rattle.std.proofs.lemmas.List.Folds.{list_any_at, list_any_none}
 use Rattle.std.proofs.lemmas.List.FromFn.{length-range_with_len, get_or-range_with_len}
 use Rattle.tf_problem.specs.ProblemData.{ProblemData, IsProblemJob, problem_jobs}
 use Rattle.tf_problem.proofs.Relaxing.{All-problem_jobs}
+use Rattle.tf_check.proofs.Found.{find_range, find_none}
 use Rattle.tf_bound.specs.Faulted.{first_job}
 use Rattle.tf_bound.specs.declared.fault.BoundFault.TheVariants.{Condition}
 
@@ -16,27 +17,6 @@ pub up_to_more : (P : ℕ → Type 0) (n j : ℕ) → j ≡ n + 1 → ((i : ℕ)
 up_to_more P n j is before here i low high =
     ⊎_elim (λ last. let same : j ≡ i = omega arith in subst P same here)
     (λ early. before i low early) (cases_lt n i)
-
-find_range : (p : ℕ → Bool) (a n i : ℕ) → i < n → ((j : ℕ) → a ≤ j → j < a + i → p j ≡ false)
-    → p (a + i) ≡ true → find p (range_with_len a n) ≡ Some (a + i)
-find_range p a zero i lt before here = absurd (omega arith)
-find_range p a (suc n) zero lt before here =
-    let at : a + 0 ≡ a = omega arith in
-    ap (λ t. cond t (Some a) (find p (range_with_len (a + 1) n))) (subst (λ m. p m ≡ true) at here)
-    ∙ ap (λ (m : ℕ). Some m) (sym at)
-find_range p a (suc n) (suc i) lt before here =
-    let next : a + suc i ≡ a + 1 + i = omega arith in
-    ap (λ t. cond t (Some a) (find p (range_with_len (a + 1) n)))
-    (before a (omega arith) (omega arith))
-    ∙ find_range p (a + 1) n i (omega arith) (λ j low high. before j (omega arith) (omega arith))
-    (subst (λ m. p m ≡ true) next here)
-    ∙ ap (λ (m : ℕ). Some m) (sym next)
-
-find_none : (p : ℕ → Bool) (xs : List ℕ) → All (λ j. p j ≡ false) xs → find p xs ≡ None
-find_none p [] none = refl
-find_none p (x ∷ xs) none =
-    ap (λ t. cond t (Some x) (find p xs)) (none 0 x (omega arith))
-    ∙ find_none p xs (All-tail (λ j. p j ≡ false) x xs none)
 
 module _ (k : ProblemData) (p : ℕ → Bool) where
   -- job j passes, and none before it

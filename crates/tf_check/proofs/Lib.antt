@@ -11,4 +11,5 @@ pub mod Examples
 pub mod SolutionAccepted
 pub mod LaidAccepted
 pub mod Given
+pub mod Found
 pub mod Sides

@@ -26,20 +26,22 @@ use Rattle.tf_schedule.specs.Amounts.{work, pieces_on, greatest_by, least_by, st
 use Rattle.tf_schedule.specs.Claims.{JobsOnce}
 use Rattle.tf_schedule.specs.Condition.{StartsAfter}
 use Rattle.tf_schedule.specs.Drawing.{Draws, drawing, stop_of}
-use Rattle.tf_schedule.specs.Extent.{most_work, most_machine, extent_at, extent_of, IsSolid}
-use Rattle.tf_schedule.specs.Lanes.{LanesData, HasLanes}
+use Rattle.tf_schedule.specs.Extent.{most_work, extent_at, extent_of, IsGapless}
+use Rattle.tf_schedule.specs.Lanes.{LanesData, IsOnOne, HasLanes}
+use Rattle.tf_schedule.specs.MachineRange.{most_machine}
 use Rattle.tf_schedule.specs.Misfit.{IsSmallestNot, IsFirstNot, IsFirstTwice}
 use Rattle.tf_schedule.specs.Schedule.{IsSchedule, IsFirstClashBy}
 use Rattle.tf_schedule.proofs.Busy.{busy_piece, greatest_le}
 use Rattle.tf_schedule.proofs.Drawing.{cells_of-drawing, once-drawing, width-drawing, jobs-drawing, single_place-drawing}
 use Rattle.tf_schedule.proofs.Extents.{work_exact}
+use Rattle.tf_schedule.proofs.OnLanes.{one_to, one_from}
 use Rattle.tf_schedule.proofs.Fitting.{never_both}
 use Rattle.tf_schedule.proofs.Transport.{smallest_by, all_by, first_by}
 use Rattle.tf_fit.specs.declared.condition.Condition.{Condition}
 use Rattle.tf_fit.specs.declared.condition.Condition.TheVariants.{Amount, Unbroken, Released, OnRoute, WithoutWait}
 use Rattle.tf_fit.specs.declared.misfit.ProblemMisfit.{ProblemMisfit}
 use Rattle.tf_fit.specs.declared.misfit.ProblemMisfit.TheVariants.{OffRoute, NoOneOrder, Waits}
-use Rattle.tf_fit.specs.Condition.{is_asked, IsGapless, IsMet, Holds}
+use Rattle.tf_fit.specs.Condition.{is_asked, KeepsMachines, IsMet, Holds}
 use Rattle.tf_fit.specs.Operation.{first_operation, extent_behind, IsWithin}
 use Rattle.tf_fit.specs.ProblemJudged.{IsJudgedBy}
 use Rattle.tf_fit.specs.Tables.{HasOperations, AreTabled}
@@ -95,7 +97,7 @@ module _ (k : ProblemData) (sized : IsSized k) (ps : List Piece) (schedule : IsS
       by _ e = λ a b d lt in'. absurd (omega arith)
 
   module _ (jobs operations : LanesData) (has : HasLanes false (length k.jobs) ps jobs)
-      (has_each : IsTrue (is_shop_env k.problem.env)
+      (keeps : KeepsMachines k jobs) (has_each : IsTrue (is_shop_env k.problem.env)
       → HasOperations (length k.jobs) k.machines ps operations) where
     module _ (j : ℕ) (low : 1 ≤ j) (high : j ≤ length k.jobs) where
       only : extent_at jobs.first j ≡ extent_of ps j
@@ -161,38 +163,29 @@ module _ (k : ProblemData) (sized : IsSized k) (ps : List Piece) (schedule : IsS
 
       -- ---- gaps
 
-      solid_one : IsSolid (extent_at jobs.first j)
-          → greatest_by machine_of ps j ≤ least_by machine_of ps j
-      solid_one solid = let is = subst IsSolid only solid in omega (arith, is.1)
-
-      unbroken_to : (s : Bool) → is_shop_env k.problem.env ≡ s
+      unbroken_to : IsTrue (is_asked Unbroken k.problem) → (s : Bool) → is_shop_env k.problem.env ≡ s
           → IsMet Unbroken k jobs operations j → IsProblemUnbroken k rows j
-      unbroken_to true shop met = record {
+      unbroken_to asked true shop met = record {
         no_gap = no_gap_on_to n m ps schedule within once j low
             (λ i on. gap_on_is shop i on (met.in_shop shop i on));
         one_machine = λ plain. absurd (never_both (is_shop_env k.problem.env) shop plain);
       }
-      unbroken_to false plain met =
-          let solid = met.plain plain in
+      unbroken_to asked false plain met =
+          let whole = met.plain plain in
+          let one = one_to n ps jobs has j low (omega (arith, high, keeps asked plain)) whole.1 in
           record {
-            no_gap = no_gap_to n m small ps schedule within once j low
-                (gap_is solid.0) (solid_one solid);
-            one_machine = λ _. one_machine_to n m small ps schedule within once j low
-                (solid_one solid);
+            no_gap = no_gap_to n m small ps schedule within once j low (gap_is whole.0) one;
+            one_machine = λ _. one_machine_to n m small ps schedule within once j low one;
           }
-
-      solid_from : greatest_by stop_of ps j - least_by start_of ps j ≡ work ps j
-          → greatest_by machine_of ps j ≤ least_by machine_of ps j → IsSolid (extent_of ps j)
-      solid_from whole one =
-          (whole ∙ sym exact, omega (arith, one, greatest_le machine_of ps j most_machine few))
 
       unbroken_from : IsProblemUnbroken k rows j → IsMet Unbroken k jobs operations j
       unbroken_from unbroken = record {
         plain = λ plain.
-            let one = unbroken.one_machine plain in
-            subst IsSolid (sym only)
-            (solid_from (gapless_from n m small ps schedule within once j low unbroken.no_gap one)
-            (one_machine_from n m small ps schedule within once j low one));
+            let one = unbroken.one_machine plain in (
+              is_gap (gapless_from n m small ps schedule within once j low unbroken.no_gap one),
+              one_from n ps jobs has j low few
+                  (one_machine_from n m small ps schedule within once j low one),
+            );
         in_shop = λ shop i on. is_gap_on shop i on
             (no_gap_on_from n m ps schedule within once j low i on (unbroken.no_gap i));
       }
@@ -254,7 +247,7 @@ module _ (k : ProblemData) (sized : IsSized k) (ps : List Piece) (schedule : IsS
       to : (c : Condition) → IsTrue (is_asked c k.problem) → IsMet c k jobs operations j
           → Holds c k rows j
       to Amount asked met = amount_to met
-      to Unbroken asked met = unbroken_to (is_shop_env k.problem.env) refl met
+      to Unbroken asked met = unbroken_to asked (is_shop_env k.problem.env) refl met
       to Released asked met =
           released_to n m small ps schedule within once j low (problem_job k j).release
           (subst (λ (e : Extent). (problem_job k j).release ≤ e.start) only met)
@@ -432,13 +425,14 @@ is_prec p q some same = sym (ap (λ (x : Problem). x.prec) same) ∙ not_false p
 
 pub tabled : (k : ProblemData) (ps : List Piece) (jobs operations : LanesData) → IsSchedule ps
     → All (IsKnownTo k) ps → JobsOnce ps → HasLanes false (length k.jobs) ps jobs
-    → (IsTrue (is_shop_env k.problem.env) → HasOperations (length k.jobs) k.machines ps operations)
+    → KeepsMachines k jobs → (IsTrue (is_shop_env k.problem.env) → HasOperations (length k.jobs) k.machines ps operations)
     → AreTabled k ps jobs operations
-tabled k ps jobs operations schedule known once has has_each = record {
+tabled k ps jobs operations schedule known once has keeps has_each = record {
   schedule = schedule;
   known = known;
   once = once;
   of_jobs = has;
+  machines = keeps;
   of_operations = has_each;
 }
 

@@ -1,14 +1,13 @@
 -- What is asked of each job of a problem, told in the tables of extents and in the rows of a
 -- timetable.
-use Rattle.std.specs.Prelude.{◌≡◌, ℕ, ◌-◌, ◌<◌, ◌≤◌, Bool, true, not, List, length, slice_index, IsTrue, IsFalse}
+use Rattle.std.specs.Prelude.{◌≡◌, ℕ, ◌<◌, ◌≤◌, Bool, true, not, List, length, slice_index, IsTrue, IsFalse}
 use Rattle.tf_model.specs.declared.problem.Problem.{Problem}
 use Rattle.tf_model.specs.ClassTable.{is_shop_env, is_flow_env}
 use Rattle.tf_model.specs.Timetable.{Timetable}
 use Rattle.tf_problem.specs.ProblemData.{ProblemData, problem_job, problem_time}
 use Rattle.tf_problem.specs.FitsProblem.{HasProblemTime, IsProblemUnbroken, IsProblemReleased, IsOnRoute, IsWithoutWait}
-use Rattle.tf_schedule.specs.declared.extent.Extent.{Extent}
-use Rattle.tf_schedule.specs.Extent.{extent_at, IsSolid}
-use Rattle.tf_schedule.specs.Lanes.{LanesData}
+use Rattle.tf_schedule.specs.Extent.{extent_at, IsGapless}
+use Rattle.tf_schedule.specs.Lanes.{LanesData, IsOnOne}
 use Rattle.tf_fit.specs.Operation.{first_operation, extent_behind}
 use Rattle.tf_fit.specs.declared.condition.Condition.{Condition}
 use Rattle.tf_fit.specs.declared.condition.Condition.TheVariants.{Amount, Unbroken, Released, OnRoute, WithoutWait}
@@ -22,9 +21,6 @@ is_asked OnRoute p = is_flow_env p.env
 is_asked WithoutWait p = p.nwt
 
 -- ---- by the extents of job j
-
-abbrev pub IsGapless : Extent → Type 0
-IsGapless e = e.stop - e.start ≡ e.work
 
 -- the operations behind the first ones have these times
 abbrev pub HaveTimes : LanesData → ℕ → List ℕ → Type 0
@@ -40,6 +36,11 @@ abbrev pub AreInOrder : LanesData → ℕ → ℕ → Type 0
 AreInOrder l first count = (a b : ℕ) → a < b → b < count
     → (extent_behind l first a).stop ≤ (extent_behind l first b).start
 
+-- the table has the machines of the jobs, where they are judged by them
+abbrev pub KeepsMachines : ProblemData → LanesData → Type 0
+KeepsMachines k jobs = IsTrue (is_asked Unbroken k.problem) → IsFalse (is_shop_env k.problem.env)
+    → length jobs.machines ≡ length k.jobs
+
 -- outside shops P holds, in shops Q
 pub record InEnv (shop : Bool) (P Q : Type 0) : Type 0 where
   pub plain : IsFalse shop → P
@@ -50,7 +51,7 @@ IsMet Amount k jobs operations j =
     InEnv (is_shop_env k.problem.env) ((extent_at jobs.first j).work ≡ problem_time k j)
     (HaveTimes operations (first_operation k.machines j) (problem_job k j).times)
 IsMet Unbroken k jobs operations j =
-    InEnv (is_shop_env k.problem.env) (IsSolid (extent_at jobs.first j))
+    InEnv (is_shop_env k.problem.env) (IsGapless (extent_at jobs.first j) × IsOnOne jobs j)
     (AreGapless operations (first_operation k.machines j) k.machines)
 IsMet Released k jobs operations j = (problem_job k j).release ≤ (extent_at jobs.first j).start
 IsMet OnRoute k jobs operations j =

@@ -11,6 +11,7 @@ use Rattle.tf_schedule.specs.Drawing.{stop_of}
 use Rattle.tf_schedule.specs.Extent.{most_work}
 use Rattle.tf_schedule.specs.Lanes.{LanesData, HasLanes}
 use Rattle.tf_schedule.specs.Schedule.{IsSchedule}
+use Rattle.tf_fit.specs.Condition.{KeepsMachines}
 use Rattle.tf_fit.specs.Operation.{first_operation, extent_behind}
 use Rattle.tf_fit.specs.ProblemMisfit.{IsKnownTo}
 
@@ -31,5 +32,6 @@ pub record AreTabled (k : ProblemData) (ps : List Piece) (jobs operations : Lane
   pub known : All (IsKnownTo k) ps
   pub once : JobsOnce ps
   pub of_jobs : HasLanes false (length k.jobs) ps jobs
+  pub machines : KeepsMachines k jobs
   pub of_operations : IsTrue (is_shop_env k.problem.env)
       → HasOperations (length k.jobs) k.machines ps operations

@@ -3,7 +3,7 @@ ghost use Rattle.std.specs.Prelude.{◌≡◌, ◌+◌, ◌^◌, ◌<◌, ◌↔
 ghost use Rattle.tf_bound.specs.Sized.{IsSized};
 ghost use Rattle.tf_problem.specs.ProblemData.{IsProblemJob};
 ghost use Rattle.tf_schedule.specs.Condition.{FindsSmallestNot};
-ghost use Rattle.tf_fit.specs.Condition.{IsGapless, HaveTimes, AreGapless, AreInOrder, IsMet};
+ghost use Rattle.tf_fit.specs.Condition.{HaveTimes, AreGapless, AreInOrder, IsMet};
 ghost use Rattle.tf_fit.specs.Condition.{is_asked};
 
 use crate::operations::first_operation;
@@ -11,7 +11,6 @@ use std::alloc::Allocator;
 use tf_bound::task::ProblemTask;
 use tf_model::ids::JobId;
 use tf_model::problem::{Env, Problem};
-use tf_schedule::extent::Extent;
 use tf_schedule::lanes::Lanes;
 
 /// What is asked of each job.
@@ -27,13 +26,6 @@ pub(crate) enum Condition {
     OnRoute,
     /// It does not wait between its first start and its completion.
     WithoutWait,
-}
-
-// Whether an extent has no gap.
-fn is_gapless(extent: Extent) -> bool
-    ensures { IsTrue result ↔ IsGapless extent }
-{
-    extent.stop.saturating_sub(extent.start) == extent.work
 }
 
 // Whether the operations from `first` on have these times.
@@ -55,7 +47,7 @@ fn are_gapless<A: Allocator>(operations: &Lanes<A>, first: usize, count: usize) 
     ensures { IsTrue result ↔ AreGapless operations.now first count }
 {
     for i in 0..count {
-        if !is_gapless(operations.first(JobId::at(first + i))) {
+        if !operations.first(JobId::at(first + i)).is_gapless() {
             return false;
         }
     }
@@ -125,12 +117,12 @@ impl Condition {
                 if is_shop {
                     are_gapless(operations, first, machines as usize)
                 } else {
-                    extent.is_solid()
+                    extent.is_gapless() && jobs.is_on_one_machine(job)
                 }
             }
             Condition::Released => task.job(job).release <= extent.start,
             Condition::OnRoute => are_in_order(operations, first, machines as usize),
-            Condition::WithoutWait => is_gapless(extent),
+            Condition::WithoutWait => extent.is_gapless(),
         }
     }
 }

@@ -9,6 +9,7 @@ ghost use Rattle.tf_schedule.specs.Drawing.{drawing};
 ghost use Rattle.tf_schedule.specs.Lanes.{HasLanes};
 ghost use Rattle.tf_schedule.specs.Misfit.{IsFirstNot};
 ghost use Rattle.tf_schedule.specs.Schedule.{IsSchedule};
+ghost use Rattle.tf_fit.specs.Condition.{KeepsMachines};
 ghost use Rattle.tf_fit.specs.ProblemJudged.{IsJudgedBy, TellsOrder};
 ghost use Rattle.tf_fit.specs.ProblemMisfit.{IsKnownTo, AllKept, HasFirstPlain, HasFirstMisfit};
 ghost use Rattle.tf_fit.specs.Tables.{AreTabled};
@@ -46,7 +47,9 @@ pub fn judge_problem<A: Allocator + Copy, B: Allocator, C: Allocator>(
     ensures schedule { IsSchedule schedule.now }
 {
     let pieces = schedule.pieces();
-    let (jobs, are_apart) = lanes_of(alloc, task.len(), false, pieces)?;
+    let problem = task.problem();
+    let keeps_machines = !problem.prmp && !problem.env.is_shop();
+    let (jobs, are_apart) = lanes_of(alloc, task.len(), false, keeps_machines, pieces)?;
     let misfit = first_misfit(alloc, task, pieces, &jobs, are_apart)?;
     Ok(ProblemJudged { misfit, jobs })
 }
@@ -61,6 +64,7 @@ fn first_misfit<A: Allocator + Copy, B: Allocator>(
 ) -> Result<Option<ProblemMisfit>, AllocError>
     requires schedule { IsSchedule pieces.now }
     requires jobs { HasLanes false (length task.now.jobs) pieces.now jobs.now }
+    requires machines { KeepsMachines task.now jobs.now }
     requires apart { All (λ p. (0 < p.job) × (p.job ≤ length task.now.jobs)) pieces.now →
         IsTrue are_apart → JobsOnce pieces.now }
     ensures { IfOk result (IsJudgedBy task.now pieces.now) }

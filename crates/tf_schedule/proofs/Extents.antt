@@ -1,5 +1,5 @@
--- The extents of jobs, piece by piece.
-use Rattle.std.proofs.Common.{◌≡◌, ◌≢◌, ℕ, ◌+◌, ◌-◌, ◌*◌, ◌≤◌, max, min, Bool, true, false, cond, eqb, List, [], ◌∷◌, ◌++◌, length, get_or, get_or-set_other, get_or-set_same, pos, refl, sym, ap, ◌∙◌, arith, inl, inr}
+-- The extents of jobs and their machines, piece by piece.
+use Rattle.std.proofs.Common.{◌≡◌, ◌≢◌, ℕ, ◌+◌, ◌-◌, ◌*◌, ◌≤◌, max, min, Bool, true, false, cond, eqb, List, [], ◌∷◌, ◌++◌, length, get_or, get_or-set_other, get_or-set_same, set, pos, refl, sym, ap, ◌∙◌, arith, inl, inr}
 use Rattle.std.specs.List.{All, sum_by, range_with_len}
 use Rattle.std.proofs.lemmas.List.Sums.{sum_by-append, sum_by-cons, sum_by-le}
 use Rattle.std.proofs.lemmas.List.FromFn.{length-range_with_len}
@@ -12,7 +12,9 @@ use Rattle.tf_schedule.specs.Claims.{places, JobsOnce}
 use Rattle.tf_schedule.specs.Schedule.{IsPiece}
 use Rattle.tf_schedule.specs.Drawing.{duration, greatest_stop, stop_of}
 use Rattle.tf_schedule.specs.Amounts.{work, greatest_by, least_by, start_of}
-use Rattle.tf_schedule.specs.Extent.{most_work, most_machine, no_extent, extended, extent_of, extent_at, with_piece}
+use Rattle.tf_schedule.specs.declared.machine_range.MachineRange.{MachineRange}
+use Rattle.tf_schedule.specs.Extent.{most_work, no_extent, extended, extent_of, extent_at, with_piece}
+use Rattle.tf_schedule.specs.MachineRange.{most_machine, no_range, widened, range_of, range_at, with_machine}
 use Rattle.tf_schedule.proofs.Times.{time_le}
 use Rattle.tf_schedule.proofs.Drawing.{sum_places, greatest_stop_le}
 use Rattle.tf_model.specs.Limit.{limit}
@@ -72,10 +74,30 @@ least_push f (q ∷ ps) p j =
     step false true x y g h e = e
     step false false x y g h e = e
 
-same_extent : (w w' s s' t t' l l' h h' : ℕ) → w ≡ w' → s ≡ s' → t ≡ t' → l ≡ l' → h ≡ h'
-    → ◌≡◌ {A = Extent} (record { work = w; start = s; stop = t; lowest = l; highest = h })
-    (record { work = w'; start = s'; stop = t'; lowest = l'; highest = h' })
-same_extent w w' s s' t t' l l' h h' a b c d e = cc
+same_extent : (w w' s s' t t' : ℕ) → w ≡ w' → s ≡ s' → t ≡ t'
+    → ◌≡◌ {A = Extent} (record { work = w; start = s; stop = t })
+    (record { work = w'; start = s'; stop = t' })
+same_extent w w' s s' t t' a b c = cc
+
+same_range : (l l' h h' : ℕ) → l ≡ l' → h ≡ h'
+    → ◌≡◌ {A = MachineRange} (record { lowest = l; highest = h })
+    (record { lowest = l'; highest = h' })
+same_range l l' h h' a b = cc
+
+-- entry j of a table from 1 on, where entry p becomes another
+table_push : {E : Type 0} (table : List E) (none new : E) (p j : ℕ) (before after : E)
+    → 1 ≤ p → 1 ≤ j → j ≤ length table → get_or table (j - 1) none ≡ before
+    → (p ≡ j → new ≡ after) → (p ≢ j → before ≡ after)
+    → get_or (set table (p - 1) new) (j - 1) none ≡ after
+table_push table none new p j before after some low high is own other = elim (cases_eq j p) [
+  | inl same ↦
+      let at : j - 1 ≡ p - 1 = omega (arith, same) in
+      ap (λ n. get_or (set table (p - 1) new) n none) at
+      ∙ get_or-set_same table (p - 1) new none (omega (arith, same, low, high)) ∙ own (sym same)
+  | inr differ ↦
+      get_or-set_other table (p - 1) (j - 1) new none (λ e. differ (omega (arith, e, some, low)))
+      ∙ is ∙ other (λ e. differ (sym e))
+]
 
 module _ (ps : List Piece) (p : Piece) (j : ℕ) where
   work_push : work (ps ++ p ∷ []) j ≡ work ps j + cond (eqb p.job j) (duration p) 0
@@ -96,7 +118,7 @@ module _ (ps : List Piece) (p : Piece) (j : ℕ) where
   extent_same : p.job ≡ j → extent_of (ps ++ p ∷ []) j ≡ extended (extent_of ps j) p
   extent_same own =
       let test : eqb p.job j ≡ true = grind (arith, nat_tests) in
-      same_extent _ _ _ _ _ _ _ _ _ _
+      same_extent _ _ _ _ _ _
       (cut_sum (work ps j) (duration p) (work (ps ++ p ∷ []) j) most_work
       (work_push ∙ ap (λ (b : Bool). work ps j + cond b (duration p) 0) test))
       (least_push start_of ps p j
@@ -105,6 +127,11 @@ module _ (ps : List Piece) (p : Piece) (j : ℕ) where
       (greatest_push stop_of ps p j
       ∙ ap (λ (b : Bool). cond b (max (stop_of p) (greatest_by stop_of ps j))
       (greatest_by stop_of ps j)) test)
+
+  range_same : p.job ≡ j → range_of (ps ++ p ∷ []) j ≡ widened (range_of ps j) p
+  range_same own =
+      let test : eqb p.job j ≡ true = grind (arith, nat_tests) in
+      same_range _ _ _ _
       (cut_min (machine_of p) (least_by machine_of ps j) most_machine
       (least_by machine_of (ps ++ p ∷ []) j)
       (least_push machine_of ps p j
@@ -119,7 +146,7 @@ module _ (ps : List Piece) (p : Piece) (j : ℕ) where
   extent_other other =
       let test : eqb p.job j ≡ false = grind (arith, nat_tests) in
       let no_more : work ps j + 0 ≡ work ps j = omega arith in
-      same_extent _ _ _ _ _ _ _ _ _ _
+      same_extent _ _ _ _ _ _
       (ap (λ w. min w most_work)
       (work_push ∙ ap (λ (b : Bool). work ps j + cond b (duration p) 0) test ∙ no_more))
       (least_push start_of ps p j
@@ -128,6 +155,11 @@ module _ (ps : List Piece) (p : Piece) (j : ℕ) where
       (greatest_push stop_of ps p j
       ∙ ap (λ (b : Bool). cond b (max (stop_of p) (greatest_by stop_of ps j))
       (greatest_by stop_of ps j)) test)
+
+  range_other : p.job ≢ j → range_of (ps ++ p ∷ []) j ≡ range_of ps j
+  range_other other =
+      let test : eqb p.job j ≡ false = grind (arith, nat_tests) in
+      same_range _ _ _ _
       (ap (λ l. min l most_machine)
       (least_push machine_of ps p j
       ∙ ap (λ (b : Bool). cond b (min (machine_of p) (least_by machine_of ps j))
@@ -136,21 +168,23 @@ module _ (ps : List Piece) (p : Piece) (j : ℕ) where
       ∙ ap (λ (b : Bool). cond b (max (machine_of p) (greatest_by machine_of ps j))
       (greatest_by machine_of ps j)) test)
 
-  -- the extents with one more piece
+  -- the tables with one more piece
   pub extents_push : (extents : List Extent) → 1 ≤ p.job → 1 ≤ j → j ≤ length extents
       → extent_at extents j ≡ extent_of ps j
       → extent_at (with_piece extents p) j ≡ extent_of (ps ++ p ∷ []) j
-  extents_push extents some low high is = elim (cases_eq j p.job) [
-    | inl same ↦
-        let own : p.job ≡ j = omega (arith, same) in
-        let at : j - 1 ≡ p.job - 1 = omega (arith, same) in
-        ap (λ n. get_or (with_piece extents p) n no_extent) at
-        ∙ get_or-set_same extents (p.job - 1) (extended (extent_at extents p.job) p) no_extent
-        (omega (arith, same, low, high))
-        ∙ ap (λ n. extended (extent_at extents n) p) own
-        ∙ ap (λ (e : Extent). extended e p) is ∙ sym (extent_same own)
-    | inr differ ↦
-        get_or-set_other extents (p.job - 1) (j - 1) (extended (extent_at extents p.job) p) no_extent
-        (λ e. differ (omega (arith, e, some, low)))
-        ∙ is ∙ sym (extent_other (λ e. differ (omega (arith, e))))
-  ]
+  extents_push extents some low high is =
+      table_push extents no_extent (extended (extent_at extents p.job) p) p.job j (extent_of ps j)
+      (extent_of (ps ++ p ∷ []) j) some low high is
+      (λ own. ap (λ n. extended (extent_at extents n) p) own
+      ∙ ap (λ (e : Extent). extended e p) is ∙ sym (extent_same own))
+      (λ other. sym (extent_other other))
+
+  pub ranges_push : (ranges : List MachineRange) → 1 ≤ p.job → 1 ≤ j → j ≤ length ranges
+      → range_at ranges j ≡ range_of ps j
+      → range_at (with_machine ranges p) j ≡ range_of (ps ++ p ∷ []) j
+  ranges_push ranges some low high is =
+      table_push ranges no_range (widened (range_at ranges p.job) p) p.job j (range_of ps j)
+      (range_of (ps ++ p ∷ []) j) some low high is
+      (λ own. ap (λ n. widened (range_at ranges n) p) own
+      ∙ ap (λ (r : MachineRange). widened r p) is ∙ sym (range_same own))
+      (λ other. sym (range_other other))

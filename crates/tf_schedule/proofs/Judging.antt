@@ -1,10 +1,11 @@
 -- The conditions on jobs, from the table of extents to the timetable that the pieces draw and back,
 -- and the misfits that they find.
-use Rattle.std.proofs.Common.{◌≡◌, ℕ, ◌-◌, ◌<◌, ◌≤◌, min, Bool, true, false, cond, not, eqb, List, [], ◌∷◌, filter, length, get_or, refl, sym, ap, subst, ◌∙◌, arith, inl, inr, IsTrue}
+use Rattle.std.proofs.Common.{◌≡◌, ℕ, ◌<◌, ◌≤◌, min, Bool, true, false, cond, not, eqb, List, [], ◌∷◌, filter, length, get_or, refl, sym, ap, subst, ◌∙◌, arith, inl, inr, IsTrue}
 use Rattle.std.specs.Bool.{IsFalse}
 use Rattle.std.specs.List.{All}
+use Rattle.std.proofs.lemmas.Bool.{cases_lt}
 use Rattle.std.proofs.lemmas.Bool.Decides.{nat_tests}
-use Rattle.std.proofs.lemmas.List.Elements.{All-tail, filter_passes}
+use Rattle.std.proofs.lemmas.List.Elements.{All-tail}
 use Rattle.tf_model.specs.Limit.{limit}
 use Rattle.tf_model.specs.SchedulingTask.{SchedulingTask, IsJob, job_data}
 use Rattle.tf_model.specs.ClassTable.{is_shop, is_flow, may_break}
@@ -17,17 +18,19 @@ use Rattle.tf_schedule.specs.declared.fit.Condition.{Condition}
 use Rattle.tf_schedule.specs.declared.fit.Condition.TheVariants.{Amount, Whole, Released, InFlow}
 use Rattle.tf_schedule.specs.declared.fit.Misfit.TheVariants.{WrongAmount, Broken, TooEarly, OutOfOrder}
 use Rattle.tf_schedule.specs.Piece.{machine_of}
-use Rattle.tf_schedule.specs.Amounts.{work, pieces_on, greatest_by, least_by, start_of}
+use Rattle.tf_schedule.specs.Amounts.{work, pieces_on, greatest_by, least_by}
 use Rattle.tf_schedule.specs.Claims.{JobsOnce}
-use Rattle.tf_schedule.specs.Condition.{is_asked, IsMet, Holds, StartsAfter}
+use Rattle.tf_schedule.specs.Condition.{is_asked, IsMet, KeepsMachines, Holds, StartsAfter}
 use Rattle.tf_schedule.specs.Drawing.{drawing, stop_of}
-use Rattle.tf_schedule.specs.Extent.{most_work, most_machine, extent_at, extent_of, IsSolid}
-use Rattle.tf_schedule.specs.Lanes.{LanesData, lane, HasLanes}
+use Rattle.tf_schedule.specs.Extent.{most_work, extent_at, extent_of, IsGapless}
+use Rattle.tf_schedule.specs.Lanes.{LanesData, lane, IsOnOne, HasLanes}
+use Rattle.tf_schedule.specs.MachineRange.{most_machine}
 use Rattle.tf_schedule.specs.MachinePart.{is_in_part}
 use Rattle.tf_schedule.specs.Misfit.{IsSmallestNot, IsFirstNot, IsKnown, AllFull, AllWhole, AllReleased, HasFirstMisfit}
-use Rattle.tf_schedule.specs.Schedule.{IsSchedule, IsPiece}
+use Rattle.tf_schedule.specs.Schedule.{IsSchedule}
 use Rattle.tf_schedule.proofs.Busy.{greatest_le}
 use Rattle.tf_schedule.proofs.Extents.{work_exact}
+use Rattle.tf_schedule.proofs.OnLanes.{one_to, one_from}
 use Rattle.tf_schedule.proofs.Fitting.{never_both, all_once, fits_from, amount_to, amount_from, whole_to, whole_from, released_to, released_from, kept_to, kept_from}
 use Rattle.tf_schedule.proofs.Shops.{sound_on, once_on, shop_amount_to, shop_amount_from, shop_whole_to, shop_whole_from, flow_to, flow_from}
 use Rattle.tf_schedule.proofs.Transport.{element, smallest_by, all_by, first_by}
@@ -52,19 +55,6 @@ on_two ps all =
     other : (m : ℕ) → 0 < m → m ≤ 2 → not (eqb m 1) ≡ eqb m 2
     other m some few = grind (arith, nat_tests)
 
--- a list of pieces on few machines, of jobs in one place
-module _ (qs : List Piece) (sound : All IsPiece qs) (once : JobsOnce qs)
-    (few : All (λ p. p.machine ≤ most_machine) qs) (j : ℕ) where
-  solid_to : IsSolid (extent_of qs j)
-      → (greatest_by stop_of qs j - least_by start_of qs j ≡ work qs j)
-      × (greatest_by machine_of qs j ≤ least_by machine_of qs j)
-  solid_to solid = (solid.0 ∙ work_exact qs j sound once, omega (arith, solid.1))
-
-  solid_from : greatest_by stop_of qs j - least_by start_of qs j ≡ work qs j
-      → greatest_by machine_of qs j ≤ least_by machine_of qs j → IsSolid (extent_of qs j)
-  solid_from whole one =
-      (whole ∙ sym (work_exact qs j sound once), omega (arith, one, greatest_le machine_of qs j most_machine few))
-
 -- on one machine the highest is the lowest
 least_ge : (f : Piece → ℕ) (ps : List Piece) (j v : ℕ) → v ≤ limit → All (λ p. v ≤ f p) ps
     → v ≤ least_by f ps j
@@ -78,21 +68,14 @@ least_ge f (p ∷ ps) j v small h =
     step true here rest = omega arith
     step false here rest = rest
 
-one_machine : (ps : List Piece) (i j : ℕ) → i ≤ 2
-    → (extent_of (pieces_on i ps) j).highest ≤ (extent_of (pieces_on i ps) j).lowest
-one_machine ps i j small =
+one_machine : (ps : List Piece) (j : ℕ) → All (λ p. p.machine ≡ 1) ps
+    → greatest_by machine_of ps j ≤ least_by machine_of ps j
+one_machine ps j on =
     omega (
       arith,
-      least_ge machine_of (pieces_on i ps) j i (omega arith) (λ n d h. omega (arith, on n d h)),
-      greatest_le machine_of (pieces_on i ps) j i (λ n d h. omega (arith, on n d h)),
+      least_ge machine_of ps j 1 (omega arith) (λ n d h. omega (arith, on n d h)),
+      greatest_le machine_of ps j 1 (λ n d h. omega (arith, on n d h)),
     )
-  where
-    same : (m : ℕ) → eqb m i ≡ true → m ≡ i
-    same m e = grind (arith, nat_tests)
-
-    on : All (λ p. p.machine ≡ i) (pieces_on i ps)
-    on n d h = same (get_or (pieces_on i ps) n d).machine
-        (filter_passes (λ p. eqb p.machine i) ps n d h)
 
 not_true : (b : Bool) → not b ≡ true → b ≡ false
 not_true true e = cc
@@ -102,7 +85,7 @@ not_true false e = refl
 
 module _ (k : SchedulingTask) (task : IsSound k) (ps : List Piece) (schedule : IsSchedule ps)
     (known : All (IsKnown k) ps) (once : JobsOnce ps) (l : LanesData)
-    (has : HasLanes (is_shop k.class) (length k.jobs) ps l) where
+    (has : HasLanes (is_shop k.class) (length k.jobs) ps l) (keeps : KeepsMachines k l) where
   few : All (λ p. p.machine ≤ most_machine) ps
   few i d h = omega (arith, task.few_machines, (known i d h).1.1)
 
@@ -114,6 +97,20 @@ module _ (k : SchedulingTask) (task : IsSound k) (ps : List Piece) (schedule : I
     none : extent_at l.second j ≡ extent_of [] j
     none = has.second j low high ∙ ap (λ s. extent_of (lane s false ps) j) plain
 
+    lanes : HasLanes false (length k.jobs) ps l
+    lanes = subst (λ s. HasLanes s (length k.jobs) ps l) plain has
+
+    -- on one machine: where there are more, the table has those of the job
+    stays : IsTrue (is_asked Whole k.class) → IsOnOne l j
+        → greatest_by machine_of ps j ≤ least_by machine_of ps j
+    stays asked one = elim (cases_lt 1 k.machines) [
+      | inl more ↦
+          one_to (length k.jobs) ps l lanes j low
+          (omega (arith, high, keeps (asked, plain, more))) one
+      | inr few ↦
+          one_machine ps j (λ i d h. let on = (known i d h).1 in omega (arith, on.0, on.1, few))
+    ]
+
     plain_to : (c : Condition) → IsTrue (is_asked c k.class) → IsMet c k l j
         → Holds c k (drawing k.machines ps) j
     plain_to Amount asked met =
@@ -121,7 +118,7 @@ module _ (k : SchedulingTask) (task : IsSound k) (ps : List Piece) (schedule : I
         (sym (ap (λ (e : Extent). e.work) only ∙ work_exact ps j schedule.sound once) ∙ met.0)
     plain_to Whole asked met =
         whole_to k task ps schedule known once plain j low high
-        (solid_to ps schedule.sound once few j (subst IsSolid only met.0))
+        (subst IsGapless only met.0 ∙ work_exact ps j schedule.sound once, stays asked met.2)
     plain_to Released asked met =
         released_to k task ps schedule known once plain j low high
         (subst (λ (e : Extent). (job_data k j).release ≤ e.start) only met)
@@ -136,8 +133,9 @@ module _ (k : SchedulingTask) (task : IsSound k) (ps : List Piece) (schedule : I
     )
     plain_from Whole asked whole =
         let is = whole_from k task ps schedule known once plain j low high whole in (
-          subst IsSolid (sym only) (solid_from ps schedule.sound once few j is.0 is.1),
-          subst IsSolid (sym none) (omega arith, omega arith),
+          subst IsGapless (sym only) (is.0 ∙ sym (work_exact ps j schedule.sound once)),
+          subst IsGapless (sym none) (omega arith),
+          one_from (length k.jobs) ps l lanes j low few is.1,
         )
     plain_from Released asked released =
         subst (λ (e : Extent). (job_data k j).release ≤ e.start) (sym only)
@@ -166,7 +164,7 @@ module _ (k : SchedulingTask) (task : IsSound k) (ps : List Piece) (schedule : I
         (sym (ap (λ (e : Extent). e.work) on_second ∙ exact 2) ∙ met.1)
     shop_to Whole asked met =
         shop_whole_to k task ps schedule known once shop j low
-        ((subst IsSolid on_first met.0).0 ∙ exact 1) ((subst IsSolid on_second met.1).0 ∙ exact 2)
+        (subst IsGapless on_first met.0 ∙ exact 1) (subst IsGapless on_second met.1 ∙ exact 2)
     shop_to Released asked met = λ t i e. omega
         (arith, task.unreleased (shop_unreleased k.class shop) j (low, high))
     shop_to InFlow asked met =
@@ -183,8 +181,9 @@ module _ (k : SchedulingTask) (task : IsSound k) (ps : List Piece) (schedule : I
         )
     shop_from Whole asked whole =
         let is = shop_whole_from k task ps schedule known once shop j low whole in (
-          subst IsSolid (sym on_first) (is.0 ∙ sym (exact 1), one_machine ps 1 j (omega arith)),
-          subst IsSolid (sym on_second) (is.1 ∙ sym (exact 2), one_machine ps 2 j (omega arith)),
+          subst IsGapless (sym on_first) (is.0 ∙ sym (exact 1)),
+          subst IsGapless (sym on_second) (is.1 ∙ sym (exact 2)),
+          λ plain. absurd (never_both (is_shop k.class) shop (sym has.shop ∙ plain)),
         )
     shop_from Released asked released =
         omega (arith, task.unreleased (shop_unreleased k.class shop) j (low, high))

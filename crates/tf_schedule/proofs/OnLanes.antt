@@ -1,7 +1,7 @@
 -- The table of extents by lane, piece by piece.
-use Rattle.std.proofs.Common.{◌≡◌, ℕ, ◌⊎◌, ◌+◌, ◌<◌, ◌≤◌, max, min, Bool, true, false, cond, not, ◌&&◌, eqb, List, [], ◌∷◌, ◌++◌, length, get_or, take, filter, length-set, append-nil, refl, sym, ap, ◌∙◌, subst, ⊎_elim, arith, inl, inr, IsTrue}
+use Rattle.std.proofs.Common.{◌≡◌, ℕ, ◌⊎◌, ◌+◌, ◌-◌, ◌<◌, ◌≤◌, max, min, Bool, true, false, cond, not, ◌&&◌, eqb, List, [], ◌∷◌, ◌++◌, length, get_or, take, filter, length-set, append-nil, refl, sym, ap, ◌∙◌, subst, ⊎_elim, arith, inl, inr, IsTrue}
 use Rattle.std.specs.List.{All}
-use Rattle.std.proofs.lemmas.List.{take_more}
+use Rattle.std.proofs.lemmas.List.{get_or_past, take_more}
 use Rattle.std.proofs.lemmas.List.Elements.{All-take, filter_more}
 use Rattle.std.proofs.lemmas.List.Sums.{sum_by_more}
 use Rattle.std.proofs.lemmas.Bool.{cases_lt}
@@ -12,11 +12,13 @@ use Rattle.tf_schedule.specs.Amounts.{greatest_by, least_by, start_of}
 use Rattle.tf_schedule.specs.Claims.{runs, places, JobsOnce}
 use Rattle.tf_schedule.specs.Drawing.{stop_of}
 use Rattle.tf_schedule.specs.Extent.{extent_at, extent_of, with_piece}
-use Rattle.tf_schedule.specs.Lanes.{LanesData, lane, added, start_in, stop_in, HasLanes}
+use Rattle.tf_schedule.specs.Lanes.{LanesData, lane, added, start_in, stop_in, IsOnOne, HasLanes}
+use Rattle.tf_schedule.specs.MachineRange.{most_machine, no_range, widened, range_at, range_of, with_machine, IsOne}
+use Rattle.tf_schedule.specs.Piece.{machine_of}
 use Rattle.tf_schedule.specs.MachinePart.{is_in_part}
 use Rattle.tf_schedule.specs.Schedule.{IsPiece}
-use Rattle.tf_schedule.proofs.Busy.{busy_within, works_from_test}
-use Rattle.tf_schedule.proofs.Extents.{extents_push}
+use Rattle.tf_schedule.proofs.Busy.{busy_within, greatest_le, works_from_test}
+use Rattle.tf_schedule.proofs.Extents.{extents_push, ranges_push}
 
 -- ---- one more piece
 
@@ -48,9 +50,21 @@ module _ (is_shop : Bool) (n : ℕ) (ps : List Piece) (i : ℕ) (p : Piece) (in_
   stay_at s on_first shop e =
       subst (λ z. lane z on_first (take (i + 1) ps) ≡ lane z on_first (take i ps)) (sym shop) e
 
+  ranged : (j : ℕ) → 1 ≤ j → j ≤ length (with_machine l.machines p)
+      → range_at (with_machine l.machines p) j ≡ range_of (take (i + 1) ps) j
+  ranged j low high =
+      let within : j ≤ length l.machines = omega (
+        arith,
+        high,
+        length-set l.machines (p.job - 1) (widened (range_at l.machines p.job) p),
+      ) in
+      ranges_push (take i ps) p j l.machines some low within (has.machines j low within)
+      ∙ ap (λ qs. range_of qs j) (sym taken)
+
   to_first : lane is_shop true (take (i + 1) ps) ≡ lane is_shop true (take i ps) ++ p ∷ []
       → lane is_shop false (take (i + 1) ps) ≡ lane is_shop false (take i ps)
-      → HasLanes is_shop n (take (i + 1) ps) (record l { first = with_piece l.first p })
+      → HasLanes is_shop n (take (i + 1) ps)
+      (record l { first = with_piece l.first p; machines = with_machine l.machines p })
   to_first gained stayed = record {
     shop = has.shop;
     first_len = length-set l.first _ _ ∙ has.first_len;
@@ -60,12 +74,14 @@ module _ (is_shop : Bool) (n : ℕ) (ps : List Piece) (i : ℕ) (p : Piece) (in_
         (omega (arith, high, has.first_len)) (has.first j low high)
         ∙ ap (λ qs. extent_of qs j) (sym gained);
     second = λ j low high. has.second j low high ∙ ap (λ qs. extent_of qs j) (sym stayed);
+    machines = ranged;
   }
 
   to_second : IsTrue is_shop
       → lane is_shop false (take (i + 1) ps) ≡ lane is_shop false (take i ps) ++ p ∷ []
       → lane is_shop true (take (i + 1) ps) ≡ lane is_shop true (take i ps)
-      → HasLanes is_shop n (take (i + 1) ps) (record l { second = with_piece l.second p })
+      → HasLanes is_shop n (take (i + 1) ps)
+      (record l { second = with_piece l.second p; machines = with_machine l.machines p })
   to_second shop gained stayed = record {
     shop = has.shop;
     first_len = has.first_len;
@@ -75,12 +91,13 @@ module _ (is_shop : Bool) (n : ℕ) (ps : List Piece) (i : ℕ) (p : Piece) (in_
         extents_push (lane is_shop false (take i ps)) p j l.second some low
         (omega (arith, high, has.second_len shop)) (has.second j low high)
         ∙ ap (λ qs. extent_of qs j) (sym gained);
+    machines = ranged;
   }
 
   abbrev Added : Bool → Type 0
   Added b = HasLanes is_shop n (take (i + 1) ps)
-      (cond b (record l { second = with_piece l.second p })
-      (record l { first = with_piece l.first p }))
+      (cond b (record l { second = with_piece l.second p; machines = with_machine l.machines p })
+      (record l { first = with_piece l.first p; machines = with_machine l.machines p }))
 
   test_is : (s on : Bool) → is_shop ≡ s → eqb p.machine 1 ≡ on
       → (l.is_shop && not (eqb p.machine 1)) ≡ (s && not on)
@@ -102,6 +119,16 @@ module _ (is_shop : Bool) (n : ℕ) (ps : List Piece) (i : ℕ) (p : Piece) (in_
 
   pub lanes_more : HasLanes is_shop n (take (i + 1) ps) (added l p)
   lanes_more = by_tests is_shop (eqb p.machine 1) refl refl
+
+pub machines_added : (l : LanesData) (p : Piece) → length (added l p).machines ≡ length l.machines
+machines_added l p = by (l.is_shop && not (eqb p.machine 1))
+  where
+    by : (b : Bool) → length (cond b
+        (record l { second = with_piece l.second p; machines = with_machine l.machines p })
+        (record l { first = with_piece l.first p; machines = with_machine l.machines p })).machines
+        ≡ length l.machines
+    by true = length-set l.machines _ _
+    by false = length-set l.machines _ _
 
 -- ---- both lanes together
 
@@ -193,6 +220,29 @@ module _ (is_shop : Bool) (n : ℕ) (ps : List Piece) (l : LanesData) (has : Has
       ∙ ap (λ (e : Extent). max (greatest_by stop_of (lane is_shop true ps) j) e.stop)
       (has.second j low high)
       ∙ lane_stop is_shop ps j
+
+-- ---- on how many machines a job is
+
+module _ (n : ℕ) (ps : List Piece) (l : LanesData) (has : HasLanes false n ps l) (j : ℕ)
+    (low : 1 ≤ j) where
+  pub one_to : j ≤ length l.machines → IsOnOne l j
+      → greatest_by machine_of ps j ≤ least_by machine_of ps j
+  one_to kept one =
+      let is : IsOne (range_of ps j) = subst IsOne (has.machines j low kept) (one has.shop) in
+      omega (arith, is)
+
+  pub one_from : All (λ p. p.machine ≤ most_machine) ps
+      → greatest_by machine_of ps j ≤ least_by machine_of ps j → IsOnOne l j
+  one_from few one plain = elim (cases_lt (length l.machines) j) [
+    | inl past ↦
+        let none : range_at l.machines j ≡ no_range =
+        get_or_past l.machines (j - 1) no_range (omega (arith, past)) in
+        subst IsOne (sym none) (omega arith)
+    | inr kept ↦
+        let is : IsOne (range_of ps j) =
+        omega (arith, one, greatest_le machine_of ps j most_machine few) in
+        subst IsOne (sym (has.machines j low kept)) is
+  ]
 
 -- ---- pieces that are apart
 

@@ -11,6 +11,7 @@ pub mod Cost
 pub mod Claims
 pub mod Amounts
 pub mod Extent
+pub mod MachineRange
 pub mod Lanes
 -- within the crate
 pub mod Stops

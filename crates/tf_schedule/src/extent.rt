@@ -1,4 +1,4 @@
-//! When and where a job works.
+//! When a job works.
 ghost use Rattle.std.specs.Prelude.{◌≡◌, ◌<◌, ◌≤◌, ◌↔◌, IsTrue};
 ghost use Rattle.tf_schedule.specs.Extent.{extent_at, with_piece};
 ghost use Rattle.tf_schedule.specs.Schedule.{IsPiece};
@@ -15,14 +15,11 @@ pub struct Extent {
     /// The first start and the last stop: `LIMIT` and 0 where the job has no piece.
     pub start: u64,
     pub stop: u64,
-    /// The lowest machine and the highest: `u32::MAX` and 0 where the job has no piece.
-    pub lowest: u32,
-    pub highest: u32,
 }
 
 impl Extent {
     ghost use Rattle.std.specs.Prelude.{◌≡◌, ◌↔◌, IsTrue};
-    ghost use Rattle.tf_schedule.specs.Extent.{no_extent, extended, IsSolid};
+    ghost use Rattle.tf_schedule.specs.Extent.{no_extent, extended, IsGapless};
     ghost use Rattle.tf_schedule.specs.Schedule.{IsPiece};
 
     /// The extent of a job without pieces.
@@ -33,8 +30,6 @@ impl Extent {
             work: 0,
             start: LIMIT as u64,
             stop: 0,
-            lowest: u32::MAX,
-            highest: 0,
         }
     }
 
@@ -43,21 +38,18 @@ impl Extent {
         requires { IsPiece piece.now }
         ensures { result ≡ extended self piece.now }
     {
-        let machine = piece.machine.get();
         Extent {
             work: self.work.saturating_add(piece.duration()),
             start: (piece.start as u64).min(self.start),
             stop: (piece.stop as u64).max(self.stop),
-            lowest: machine.min(self.lowest),
-            highest: machine.max(self.highest),
         }
     }
 
-    /// Whether the job works without a gap, and on one machine.
-    pub fn is_solid(self) -> bool
-        ensures { IsTrue result ↔ IsSolid self }
+    /// Whether the job works without a gap.
+    pub fn is_gapless(self) -> bool
+        ensures { IsTrue result ↔ IsGapless self }
     {
-        self.stop.saturating_sub(self.start) == self.work && self.highest <= self.lowest
+        self.stop.saturating_sub(self.start) == self.work
     }
 }
 

@@ -11,7 +11,8 @@ ghost use Rattle.tf_schedule.specs.Piece.{job_of};
 ghost use Rattle.tf_schedule.specs.Line.{StartsFirstClashBy};
 ghost use Rattle.tf_schedule.specs.Schedule.{IsSchedule};
 ghost use Rattle.tf_schedule.specs.Claims.{JobsOnce};
-ghost use Rattle.tf_schedule.specs.Condition.{FindsSmallestNot, IsMet, StartsAfter, is_asked};
+ghost use Rattle.tf_schedule.specs.Condition.{FindsSmallestNot, IsMet, IsMovable, RunsWhole, StartsAfter};
+ghost use Rattle.tf_schedule.specs.Condition.{is_asked, KeepsMachines};
 ghost use Rattle.tf_schedule.specs.Drawing.{Draws, drawing};
 ghost use Rattle.tf_schedule.specs.Lanes.{HasLanes};
 ghost use Rattle.tf_schedule.specs.Misfit.{EachJob, IsFirstNot, IsKnown, HasFirstMisfit};
@@ -108,6 +109,7 @@ pub(crate) fn judge_pieces<A: Allocator + Copy, B: Allocator, C: Allocator>(
     requires task { IsSound task.now }
     requires schedule { IsSchedule pieces.now }
     requires lanes { HasLanes (is_shop task.now.class) (length task.now.jobs) pieces.now lanes.now }
+    requires machines { KeepsMachines task.now lanes.now }
     requires apart { All (λ p. (0 < p.job) × (p.job ≤ length task.now.jobs)) pieces.now →
         IsTrue are_apart → JobsOnce pieces.now }
     ensures { MatchResult result
@@ -124,6 +126,15 @@ pub(crate) fn judge_pieces<A: Allocator + Copy, B: Allocator, C: Allocator>(
     Ok(())
 }
 
+/// Whether a job that has to stay on one machine might be on several, so that a table has to have
+/// its machines: outside shops, without preemption.
+pub(crate) fn is_movable<A: Allocator>(task: &Task<A>) -> bool
+    ensures { IsMovable task.now → IsTrue result }
+{
+    let class = task.class();
+    Condition::Whole.is_asked(class) && !class.is_shop() && 1 < task.machines()
+}
+
 // What is judged of the jobs and the arcs, after the places.
 fn judge_jobs<A: Allocator, B: Allocator>(
     task: &Task<A>,
@@ -135,6 +146,7 @@ fn judge_jobs<A: Allocator, B: Allocator>(
     requires known { All (IsKnown task.now) pieces.now }
     requires once { JobsOnce pieces.now }
     requires lanes { HasLanes (is_shop task.now.class) (length task.now.jobs) pieces.now lanes.now }
+    requires machines { KeepsMachines task.now lanes.now }
     ensures { MatchResult result (λ _. Fits task.now (drawing task.now.machines pieces.now))
         (HasFirstMisfit task.now pieces.now) }
 {
@@ -208,7 +220,7 @@ impl Condition {
                 let row = task.job(job);
                 first.work == row.first && second.work == row.second
             }
-            Condition::Whole => first.is_solid() && second.is_solid(),
+            Condition::Whole => runs_whole(lanes, job),
             Condition::Released => task.job(job).release <= first.start,
             Condition::InFlow => first.stop <= second.start,
         }
@@ -228,6 +240,13 @@ fn are_all_met<A: Allocator, B: Allocator>(task: &Task<A>, lanes: &Lanes<B>) -> 
         }
     }
     true
+}
+
+// Whether a job works without a gap on each lane, and on one machine.
+fn runs_whole<A: Allocator>(lanes: &Lanes<A>, job: JobId) -> bool
+    ensures { IsTrue result ↔ RunsWhole lanes.now job }
+{
+    lanes.first(job).is_gapless() && lanes.second(job).is_gapless() && lanes.is_on_one_machine(job)
 }
 
 // Whether a job meets them, where the class may ask for two of them.
@@ -250,7 +269,7 @@ fn meets<A: Allocator, B: Allocator>(
     first.work == row.first
         && second.work == row.second
         && row.release <= first.start
-        && (!whole || (first.is_solid() && second.is_solid()))
+        && (!whole || runs_whole(lanes, job))
         && (!in_flow || first.stop <= second.start)
 }
 

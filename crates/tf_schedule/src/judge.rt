@@ -6,7 +6,7 @@ ghost use Rattle.tf_schedule.specs.Lanes.{HasLanes};
 ghost use Rattle.tf_schedule.specs.Schedule.{IsSchedule};
 
 use crate::cost::cost_in;
-use crate::fit::{Misfit, judge_pieces};
+use crate::fit::{Misfit, is_movable, judge_pieces};
 use crate::lanes::{Lanes, lanes_of};
 use crate::schedule::Schedule;
 use std::alloc::{Allocator, Global};
@@ -35,7 +35,8 @@ pub fn judge<A: Allocator + Copy, B: Allocator, C: Allocator>(
     ensures schedule { IsSchedule schedule.now }
 {
     let pieces = schedule.pieces();
-    let (lanes, are_apart) = lanes_of(alloc, task.len(), task.class().is_shop(), pieces)?;
+    let is_shop = task.class().is_shop();
+    let (lanes, are_apart) = lanes_of(alloc, task.len(), is_shop, is_movable(task), pieces)?;
     let fit = match judge_pieces(alloc, task, pieces, &lanes, are_apart) {
         Ok(()) => Ok(cost_in(task, &lanes)),
         Err(Misfit::OutOfMemory) => return Err(OutOfMemory),

@@ -7,6 +7,7 @@ pub mod fit;
 pub mod judge;
 pub mod lanes;
 mod line;
+mod machine_range;
 pub mod piece;
 pub mod piece_list;
 pub mod schedule;

@@ -9,7 +9,7 @@ pub trait Progress {
     fn is_over(&mut self);
 }
 
-/// Nobody, who is told nothing.
+/// Nobody, to whom nothing is shown.
 #[derive(Clone, Copy)]
 pub struct Nobody;
 
@@ -19,7 +19,7 @@ impl Progress for Nobody {
     fn is_over(&mut self) {}
 }
 
-/// The steps of a search for prices, where the caller says how many, and who is told of each.
+/// The steps of a search for prices, where the caller says how many, and to whom each is shown.
 #[derive(Drop)]
 pub struct Effort<P> {
     pub steps: Option<u32>,
@@ -27,7 +27,7 @@ pub struct Effort<P> {
 }
 
 impl<P: Progress> Effort<P> {
-    /// So many steps, of which nobody is told.
+    /// So many steps, shown to nobody.
     pub fn untold(steps: Option<u32>) -> Self {
         Effort {
             steps,

@@ -16,19 +16,19 @@ pub returns-in-Some-plain_misfit : goal.returns-in-Some-plain_misfit
 returns-in-Some-plain_misfit g c = c.in-Some-plain_misfit.ensures c.args.pieces.now
     (tabled c.args.task.now c.args.pieces.now c.args.jobs.now c.in_ok-operations.operations
     c.requires.schedule c.in_default.ensures (rw c.in_default-2.is at c.in_ok-piece.ensures)
-    c.requires.jobs c.in_ok-operations.ensures)
+    c.requires.jobs c.requires.machines c.in_ok-operations.ensures)
 
 pub problem_misfit-requires-clause-tabled : goal.problem_misfit-requires-clause-tabled
 problem_misfit-requires-clause-tabled g c =
     tabled c.args.task.now c.args.pieces.now c.args.jobs.now c.in_ok-operations.operations
     c.requires.schedule c.in_default.ensures (rw c.in_default-2.is at c.in_ok-piece.ensures)
-    c.requires.jobs c.in_ok-operations.ensures
+    c.requires.jobs c.requires.machines c.in_ok-operations.ensures
 
 pub problem_misfit-requires-clause-kept : goal.problem_misfit-requires-clause-kept
 problem_misfit-requires-clause-kept g c = c.in_default-plain_misfit.ensures c.args.pieces.now
     (tabled c.args.task.now c.args.pieces.now c.args.jobs.now c.in_ok-operations.operations
     c.requires.schedule c.in_default.ensures (rw c.in_default-2.is at c.in_ok-piece.ensures)
-    c.requires.jobs c.in_ok-operations.ensures)
+    c.requires.jobs c.requires.machines c.in_ok-operations.ensures)
 
 pub returns : goal.returns
 returns g c =

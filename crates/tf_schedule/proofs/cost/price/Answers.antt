@@ -1,6 +1,6 @@
 use mir.Val.{SFits, to_z, of_z}
 use mir.Syntax.{w64, w128}
-use Rattle.std.proofs.Common.{rules, ◌≡◌, ◌-◌, ◌<◌, ℤ, ◌-ℤ◌, List, length, get_or, sym, ap, ◌∙◌, arith, IsTrue}
+use Rattle.std.proofs.Common.{rules, ◌≡◌, ◌<◌, ℤ, ◌-ℤ◌, List, length, get_or, sym, ap, ◌∙◌, arith, IsTrue}
 use Rattle.std.proofs.lemmas.Int.{to_z-of_z}
 use Rattle.std.proofs.lemmas.List.{get_or_default}
 use Rattle.tf_model.specs.SchedulingTask.{JobData, costs_of, job_data}

@@ -17,7 +17,7 @@ pub cost_in-requires : goal.cost_in-requires
 cost_in-requires g c =
     let has : HasLanes (is_shop c.args.task.now.class) (length c.args.task.now.jobs)
     c.args.schedule.now c.in_ok-lanes.lanes =
-    rw (c.is_shop.ensures, c.class.ensures.class, c.len.ensures.value, c.pieces-pieces.ensures.all)
+    rw (c.is_shop-is_shop.ensures, c.class.ensures.class, c.len.ensures.value, c.pieces-pieces.ensures.all)
     at c.in_ok-lanes.ensures.lanes in
     record {
       stops = λ j job. omega (
@@ -32,7 +32,7 @@ pub returns : goal.returns
 returns g c =
     let has : HasLanes (is_shop c.args.task.now.class) (length c.args.task.now.jobs)
     c.args.schedule.now c.in_ok-lanes.lanes =
-    rw (c.is_shop.ensures, c.class.ensures.class, c.len.ensures.value, c.pieces-pieces.ensures.all)
+    rw (c.is_shop-is_shop.ensures, c.class.ensures.class, c.len.ensures.value, c.pieces-pieces.ensures.all)
     at c.in_ok-lanes.ensures.lanes in
     record {
       fit = elim c.match-judge_pieces.branch [

@@ -1,9 +1,9 @@
-use Rattle.std.proofs.Common.{◌+◌, ◌<◌, ◌≤◌, Bool, true, false, ◌&&◌, List, take, refl, sym, subst, arith, IsTrue}
+use Rattle.std.proofs.Common.{◌+◌, ◌<◌, ◌≤◌, Bool, true, false, ◌&&◌, List, length, take, refl, sym, ap, ◌∙◌, subst, arith, IsTrue}
 use Rattle.std.proofs.lemmas.List.{take_all}
 use Rattle.tf_schedule.specs.declared.piece.Piece.{Piece}
 use Rattle.tf_schedule.specs.Claims.{JobsOnce}
-use Rattle.tf_schedule.specs.Lanes.{HasLanes}
-use Rattle.tf_schedule.proofs.OnLanes.{lanes_more, once_more, start_is, stop_is}
+use Rattle.tf_schedule.specs.Lanes.{LanesData, HasLanes}
+use Rattle.tf_schedule.proofs.OnLanes.{lanes_more, machines_added, once_more, start_is, stop_is}
 use Rattle.tf_schedule.proofs.lanes.lanes_of.Goals as goal
 
 -- both of two tests
@@ -21,6 +21,8 @@ loop-piece-preserved g c =
       lanes = subst (HasLanes c.args.is_shop c.args.jobs (take (i + 1) ps)) (sym c.add.ensures.added)
           (lanes_more c.args.is_shop c.args.jobs ps i p c.loop-piece-test.true c.piece-item.is some
           c.loop-piece.lanes c.loop-piece.invariant.lanes);
+      machines = λ keeps. ap (λ (l : LanesData). length l.machines) c.add.ensures.added
+          ∙ machines_added c.loop-piece.lanes p ∙ c.loop-piece.invariant.machines keeps;
       once = λ known apart.
           let tests = both c.loop-piece.are_apart c.is_apart-are_apart.result apart in
           let own : (0 < p.job) × (p.job ≤ c.args.jobs) =
