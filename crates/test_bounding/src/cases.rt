@@ -107,8 +107,9 @@ pub fn assess<A: Allocator + Copy>(
     let mut reader = Counted::new(instance);
     let mut other = Counted::new(answer);
     let mut writer = Counted::new(sink);
+    let effort: Effort<Nobody> = Effort::untold(STEPS);
     let aids = Aids {
-        steps: STEPS,
+        effort,
         offered: None,
     };
     let asked = AssessmentRequest { request, aids };

@@ -13,6 +13,7 @@ use tf_assess::offered::Aids;
 use tf_assess::run_assess::{AssessmentRequest, run_assess};
 use tf_engine::fault::RunFault;
 use tf_engine::request::Request;
+use tf_search::effort::{Effort, Nobody};
 use tf_text::answer::layout::Layout;
 use tf_text::counted::Counted;
 
@@ -59,10 +60,8 @@ fn assess_beside<A: Allocator + Copy>(
         Ok(sheet) => Some(sheet),
         Err(fault) => return Err(Unassessed::Bound(fault)),
     };
-    let aids = Aids {
-        steps: None,
-        offered,
-    };
+    let effort: Effort<Nobody> = Effort::untold(None);
+    let aids = Aids { effort, offered };
     let mut source = Source::new(INSTANCE);
     let mut other = Source::new(ANSWER);
     let mut instance = Counted::new(&mut source);

@@ -15,23 +15,22 @@ use tf_model::memory::OutOfMemory;
 use tf_model::problem::Problem;
 use tf_schedule::piece::Piece;
 use tf_schedule::schedule::Schedule;
-use tf_search::effort::{Effort, Nobody};
+use tf_search::effort::Progress;
 use tf_search::strongest::strongest;
 use tf_text::answer::sheet::Sheet;
 
 /// How an answer stands to the task of a problem, with the strongest lower bound that is found or
 /// offered. The answer is given up, so that its pieces are sorted where they stand. Its certificate
 /// is not looked at. Only want of memory is an error.
-pub fn assess<A: Allocator + Copy, B: Allocator, C: Allocator>(
+pub fn assess<A: Allocator + Copy, B: Allocator, C: Allocator, P: Progress + Drop>(
     alloc: A,
     task: &ProblemTask<B>,
     sheet: Sheet<C>,
-    aids: Aids<A>,
+    aids: Aids<P, A>,
 ) -> Result<Assessment<A>, OutOfMemory>
     ensures { IfOk result (IsAssessment task.now aids.offered sheet) }
 {
-    let Aids { steps, offered } = aids;
-    let effort: Effort<Nobody> = Effort::untold(steps);
+    let Aids { effort, offered } = aids;
     let found = strongest(alloc, task, effort)?;
     let Weighed { offered, bound } = weigh(alloc, task, offered, found)?;
     let is_its = is_for(task, &sheet.problem, sheet.jobs, sheet.machines);

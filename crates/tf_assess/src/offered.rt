@@ -11,13 +11,15 @@ use tf_bound::fault::BoundFault;
 use tf_bound::task::ProblemTask;
 use tf_bound_text::sheet::BoundSheet;
 use tf_model::memory::OutOfMemory;
+use tf_search::effort::Effort;
 use tf_search::strongest::Found;
 
 /// What the search for a lower bound goes by.
 #[derive(Drop)]
-pub struct Aids<A: Allocator = Global> {
-    /// The steps of the search for prices; as many as usual where there is none.
-    pub steps: Option<u32>,
+pub struct Aids<P, A: Allocator = Global> {
+    /// The steps of the search for prices, as many as usual where there is none, and to whom each is
+    /// shown.
+    pub effort: Effort<P>,
     /// What the text of a bound says, which is judged beside the bounds that are found.
     pub offered: Option<BoundSheet<A>>,
 }

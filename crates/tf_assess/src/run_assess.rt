@@ -14,13 +14,14 @@ use std::alloc::{Allocator, Global};
 use std::io::{Read, Write};
 use tf_engine::fault::RunFault;
 use tf_engine::request::Request;
+use tf_search::effort::Progress;
 use tf_text::counted::Counted;
 
 /// What is asked for, and what the search for a lower bound goes by.
 #[derive(Drop)]
-pub struct AssessmentRequest<'a, A: Allocator = Global, B: Allocator = Global> {
+pub struct AssessmentRequest<'a, P, A: Allocator = Global, B: Allocator = Global> {
     pub request: &'a Request<B>,
-    pub aids: Aids<A>,
+    pub aids: Aids<P, A>,
 }
 
 /// Reads an instance and an answer to their ends, and writes how the answer stands to the task of
@@ -31,9 +32,16 @@ pub struct AssessmentRequest<'a, A: Allocator = Global, B: Allocator = Global> {
 /// no kind of certificate bounds, reading the instance, its text, the rest of what makes no task,
 /// reading the answer and its first fault. After a refusal nothing was written, unless it is
 /// [`RunFault::Device`], after which a prefix of the assessment may have been.
-pub fn run_assess<A: Allocator + Copy, B: Allocator, R: Read, S: Read, W: Write>(
+pub fn run_assess<
+    A: Allocator + Copy,
+    B: Allocator,
+    P: Progress + Drop,
+    R: Read,
+    S: Read,
+    W: Write,
+>(
     alloc: A,
-    asked: AssessmentRequest<'_, A, B>,
+    asked: AssessmentRequest<'_, P, A, B>,
     instance: &mut Counted<R>,
     answer: &mut Counted<S>,
     writer: &mut Counted<W>,

@@ -17,6 +17,7 @@ use tf_evaluate::evaluation::{Detail, Standing};
 use tf_evaluate::run_evaluate::{EvaluationRequest, run_evaluate};
 use tf_model::class::class_of;
 use tf_notation::reading::read;
+use tf_search::effort::{Effort, Nobody};
 use tf_text::counted::Counted;
 
 /// What is asked for, and how an answer is evaluated.
@@ -57,8 +58,9 @@ pub fn run_rate<A: Allocator + Copy, B: Allocator, R: Read, S: Read, W: Write>(
         let evaluated = EvaluationRequest { request, detail };
         return run_evaluate(alloc, evaluated, instance, answer, writer);
     }
+    let effort: Effort<Nobody> = Effort::untold(steps);
     let aids = Aids {
-        steps,
+        effort,
         offered: None,
     };
     let assessed = AssessmentRequest { request, aids };

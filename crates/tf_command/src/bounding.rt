@@ -1,5 +1,7 @@
-//! The search for a lower bound, of which a terminal is told how far it is.
+//! Runs that search for a lower bound, which a terminal shows.
 ghost use Rattle.std.specs.Prelude.{◌≡◌, false};
+ghost use Rattle.tf_assess.specs.RunAssessing.{IsAssessmentOf};
+ghost use Rattle.tf_assess.specs.RunRating.{IsRatingOf};
 ghost use Rattle.tf_bounding.specs.RunBounding.{IsBoundingOf};
 ghost use Rattle.tf_command.specs.Recorded.{bytes_left};
 ghost use Rattle.tf_text.specs.Counted.{use_of};
@@ -9,10 +11,16 @@ use crate::gathered::{Gathered, send};
 use crate::recorded::Recorded;
 use itoa::Buffer;
 use std::io::{Read, Write};
+use tf_assess::assessment::Assessed;
+use tf_assess::offered::Aids;
+use tf_assess::run_assess::{AssessmentRequest, run_assess};
+use tf_assess::run_rate::{RatingRequest, is_solved, rated, run_rate};
 use tf_bounding::run_bound::run_bound;
 use tf_engine::fault::RunFault;
 use tf_engine::request::Request;
-use tf_search::effort::{Effort, Progress};
+use tf_evaluate::evaluation::Standing;
+use tf_options::options::Evaluating;
+use tf_search::effort::{Effort, Nobody, Progress};
 use tf_text::counted::Counted;
 
 /// The most bytes of the line.
@@ -49,7 +57,7 @@ impl<E: Write> Progress for StepLine<'_, E> {
     }
 }
 
-/// Runs the search for a bound. Where it is told of, so is a terminal.
+/// Runs the search for a bound, and shows its progress where `is_told` and on a terminal.
 pub(crate) fn bound_over<R: Read, W: Write, E: Write>(
     console: &mut Console<W, E>,
     request: &Request,
@@ -64,17 +72,86 @@ pub(crate) fn bound_over<R: Read, W: Write, E: Write>(
 {
     let alloc = console.alloc;
     if is_told && console.is_terminal {
-        let line = StepLine {
-            errors: &mut console.errors,
-            is_shown: false,
-        };
-        let effort = Effort {
-            steps,
-            progress: Some(line),
-        };
+        let effort = shown_on(&mut console.errors, steps);
         run_bound(alloc, request, effort, instance, &mut console.writer)
     } else {
         let effort: Effort<StepLine<'_, E>> = Effort::untold(steps);
         run_bound(alloc, request, effort, instance, &mut console.writer)
+    }
+}
+
+/// Runs an evaluation of an answer to any problem, and shows the progress as [`bound_over`] does.
+pub(crate) fn rate_over<R: Read, S: Read, W: Write, E: Write>(
+    console: &mut Console<W, E>,
+    evaluating: &Evaluating<'_>,
+    request: &Request,
+    instance: &mut Counted<Recorded<'_, R>>,
+    answer: &mut Counted<Recorded<'_, S>>,
+) -> Result<Standing, RunFault>
+    ensures outcome { IsRatingOf evaluating.now.detail request.now
+        (use_of (bytes_left R.remaining) instance.old instance.new)
+        (use_of (bytes_left S.remaining) answer.old answer.new)
+        (use_of W.contents console.old.writer console.new.writer) result }
+    ensures untold { evaluating.now.options.telling.explain ≡ false →
+        console.new.errors ≡ console.old.errors }
+{
+    let is_told = evaluating.options.telling.explain;
+    let steps = evaluating.steps;
+    if is_told && !is_solved(request.problem.as_str()) {
+        let effort: Effort<Nobody> = Effort::untold(steps);
+        let aids = Aids {
+            effort,
+            offered: None,
+        };
+        let asked = AssessmentRequest { request, aids };
+        return rated(assess_over(console, is_told, asked, instance, answer));
+    }
+    let asked = RatingRequest {
+        request,
+        detail: evaluating.detail,
+        steps,
+    };
+    run_rate(console.alloc, asked, instance, answer, &mut console.writer)
+}
+
+/// Runs an assessment, and shows the progress where `is_told` and on a terminal.
+pub(crate) fn assess_over<R: Read, S: Read, W: Write, E: Write>(
+    console: &mut Console<W, E>,
+    is_told: bool,
+    asked: AssessmentRequest<'_, Nobody>,
+    instance: &mut Counted<Recorded<'_, R>>,
+    answer: &mut Counted<Recorded<'_, S>>,
+) -> Result<Assessed, RunFault>
+    ensures outcome { IsAssessmentOf asked.entry.aids.offered asked.entry.request.now
+        (use_of (bytes_left R.remaining) instance.old instance.new)
+        (use_of (bytes_left S.remaining) answer.old answer.new)
+        (use_of W.contents console.old.writer console.new.writer) result }
+    ensures untold { is_told ≡ false → console.new.errors ≡ console.old.errors }
+{
+    let alloc = console.alloc;
+    let AssessmentRequest { request, aids } = asked;
+    let Aids { effort, offered } = aids;
+    let steps = effort.steps;
+    if is_told && console.is_terminal {
+        let effort = shown_on(&mut console.errors, steps);
+        let aids = Aids { effort, offered };
+        let asked = AssessmentRequest { request, aids };
+        run_assess(alloc, asked, instance, answer, &mut console.writer)
+    } else {
+        let effort: Effort<StepLine<'_, E>> = Effort::untold(steps);
+        let aids = Aids { effort, offered };
+        let asked = AssessmentRequest { request, aids };
+        run_assess(alloc, asked, instance, answer, &mut console.writer)
+    }
+}
+
+/// An effort of so many steps that a terminal shows.
+fn shown_on<E: Write>(errors: &mut Counted<E>, steps: Option<u32>) -> Effort<StepLine<'_, E>> {
+    Effort {
+        steps,
+        progress: Some(StepLine {
+            errors,
+            is_shown: false,
+        }),
     }
 }

@@ -13,7 +13,7 @@ ghost use Rattle.tf_command.specs.Performing.{RatesNamed};
 ghost use Rattle.tf_command.specs.Recorded.{bytes_left};
 ghost use Rattle.tf_text.specs.Counted.{inner_of, use_of};
 
-use crate::bounding::bound_over;
+use crate::bounding::{assess_over, bound_over, rate_over};
 use crate::console::Console;
 use crate::explained::{Ended, Rated, tell, tell_drawn};
 use crate::picturing::picture_named;
@@ -28,8 +28,8 @@ use std::alloc::{Allocator, Global};
 use std::io::{Read, Write};
 use tf_assess::bound_read::bound_read;
 use tf_assess::offered::Aids;
-use tf_assess::run_assess::{AssessmentRequest, run_assess};
-use tf_assess::run_rate::{RatingRequest, rated, run_rate};
+use tf_assess::run_assess::AssessmentRequest;
+use tf_assess::run_rate::rated;
 use tf_bound_text::sheet::BoundSheet;
 use tf_engine::fault::RunFault;
 use tf_engine::run_check::run_check;
@@ -40,6 +40,7 @@ use tf_options::options::{Assessing, Drawing, Evaluating, Options, OrderSource, 
 use tf_orders::run_orders::{OrderForm, OrdersRequest, run_orders};
 use tf_picture::run_picture::run_picture;
 use tf_random::run_random::{Wanted, run_random};
+use tf_search::effort::{Effort, Nobody};
 use tf_text::answer::layout::Layout;
 use tf_text::counted::Counted;
 use tf_trace::board::Style;
@@ -86,8 +87,8 @@ pub fn perform<S: Sources, W: Write, E: Write>(
     }
 }
 
-/// Solves the instance of that name.
-fn solve_named<S: Sources, W: Write, E: Write>(
+/// Solves the instance of that name, as [`perform`] does.
+pub fn solve_named<S: Sources, W: Write, E: Write>(
     console: &mut Console<W, E>,
     sources: &S,
     options: &Options<'_>,
@@ -109,8 +110,8 @@ fn solve_named<S: Sources, W: Write, E: Write>(
     }
 }
 
-/// Bounds the instance of that name.
-fn bound_named<S: Sources, W: Write, E: Write>(
+/// Bounds the instance of that name, as [`perform`] does.
+pub fn bound_named<S: Sources, W: Write, E: Write>(
     console: &mut Console<W, E>,
     sources: &S,
     options: &Options<'_>,
@@ -172,8 +173,8 @@ fn check_named<S: Sources, W: Write, E: Write>(
     }
 }
 
-/// Evaluates the answer of that name.
-fn evaluate_named<S: Sources, W: Write, E: Write>(
+/// Evaluates the answer of that name, as [`perform`] does.
+pub fn evaluate_named<S: Sources, W: Write, E: Write>(
     console: &mut Console<W, E>,
     sources: &S,
     evaluating: &Evaluating<'_>,
@@ -531,12 +532,7 @@ fn evaluate<R: Read, S: Read, W: Write, E: Write>(
     let Ok(request) = evaluating.options.request(alloc, Layout::Two) else {
         return say_memory(&mut console.errors);
     };
-    let asked = RatingRequest {
-        request: &request,
-        detail: evaluating.detail,
-        steps: evaluating.steps,
-    };
-    let run = run_rate(alloc, asked, instance, answer, &mut console.writer);
+    let run = rate_over(console, evaluating, &request, instance, answer);
     let status = end_evaluation(&run, &mut console.errors);
     if evaluating.options.telling.explain {
         let ended = Ended {
@@ -592,18 +588,19 @@ fn assess_offered<R: Read, S: Read, W: Write, E: Write>(
     let Ok(request) = options.request(alloc, Layout::Two) else {
         return say_memory(&mut console.errors);
     };
+    let effort: Effort<Nobody> = Effort::untold(assessing.steps);
     let aids = Aids {
-        steps: assessing.steps,
+        effort,
         offered: Some(sheet),
     };
     let asked = AssessmentRequest {
         request: &request,
         aids,
     };
-    let writer = &mut console.writer;
-    let run = rated(run_assess(alloc, asked, instance, answer, writer));
+    let explain = options.telling.explain;
+    let run = rated(assess_over(console, explain, asked, instance, answer));
     let status = end_evaluation(&run, &mut console.errors);
-    if options.telling.explain {
+    if explain {
         let ended = Ended {
             alloc,
             telling: options.telling,
