@@ -1,3 +1,6 @@
 pub mod AnswerTexts
 pub mod Told
+pub mod Cuts
+pub mod Numbered
+pub mod Again
 pub mod Lines

@@ -158,9 +158,6 @@ pub stopped : (series : Series) (instance answers all rest answer after : List �
     → number ≡ series.span.first + steps → IsNext rest answer after
     → IsStopAt series instance answer number stop → IsStop series instance answers stop
 stopped series instance answers all rest answer after steps number stops.Memory done at next is = tt
-stopped series instance answers all rest answer after steps number stops.TooLong done at next is =
-    stops_here series instance answers all rest answer after steps number stops.TooLong done at next
-    is
 stopped series instance answers all rest answer after steps number (stops.Ended status said) done at next is =
     stops_here series instance answers all rest answer after steps number (stops.Ended status said)
     done at next is

@@ -5,3 +5,6 @@ pub mod Series
 pub mod Measures
 pub mod Measured
 pub mod Shops
+-- within the crate
+pub mod Cuts
+pub mod Instances

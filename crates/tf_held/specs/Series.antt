@@ -1,5 +1,5 @@
 -- What is told of each of several instances of a weighted tardiness file.
-use Rattle.std.specs.Prelude.{◌≡◌, ◌⊎◌, ℕ, ◌+◌, ◌*◌, ◌<◌, max, Bool, true, false, nat_lt, ◌||◌, ◌==◌, List, [], ◌∷◌, ◌++◌, length, Option, None, Some, codes}
+use Rattle.std.specs.Prelude.{◌≡◌, ◌⊎◌, ℕ, ◌+◌, ◌<◌, max, Bool, true, false, ◌||◌, ◌==◌, List, [], ◌∷◌, ◌++◌, length, Option, None, Some, codes}
 use Rattle.std.specs.List.{flat_map}
 use Rattle.std.specs.Fmt.{decimal}
 use Rattle.std.specs.Io.KnownBytes.{Keeps}
@@ -105,10 +105,6 @@ Tells series instance answer number None =
     (series.span.last ≡ None) × (series.span.first < number)
     × ((status : ℕ) × EndsUntold series instance answer number status no_instance)
 
--- to go over so many bytes for each instance up to this one takes too long
-abbrev pub reads_too_much : ℕ → ℕ → Bool
-reads_too_much number bytes = nat_lt 20000000000 (number * bytes)
-
 -- the line that names an instance
 abbrev pub instance_line : ℕ → List ℕ
 instance_line number = line_text (codes "threefield: instance" ∷ decimal number ∷ [])
@@ -116,8 +112,6 @@ instance_line number = line_text (codes "threefield: instance" ∷ decimal numbe
 -- why there is no line of the instance of this number
 abbrev pub IsStopAt : Series → List ℕ → List ℕ → ℕ → Stop → Type 0
 IsStopAt series instance answer number stops.Memory = Unit {0}
-IsStopAt series instance answer number stops.TooLong =
-    reads_too_much number (length instance) ≡ true
 IsStopAt series instance answer number (stops.Ended status said) =
     (errors : List ℕ) × EndsUntold series instance answer number status errors
     × (said.items ≡ errors ++ instance_line number)
@@ -169,19 +163,16 @@ pub record IsStopped (series : Series) (instance answers : List ℕ) (stop : Sto
 
 abbrev pub IsStop : Series → List ℕ → List ℕ → Stop → Type 0
 IsStop series instance answers stops.Memory = Unit {0}
-IsStop series instance answers stops.TooLong = IsStopped series instance answers stops.TooLong
 IsStop series instance answers (stops.Ended status said) =
     IsStopped series instance answers (stops.Ended status said)
 
 -- the status, and what is said
 abbrev pub status_of_stop : Stop → ℕ
 status_of_stop stops.Memory = 3
-status_of_stop stops.TooLong = 2
 status_of_stop (stops.Ended status said) = status
 
 abbrev pub line_of_stop : Stop → List ℕ
 line_of_stop stops.Memory = codes "threefield: want of memory\n"
-line_of_stop stops.TooLong = codes "threefield: refused: TotalTooLarge\n"
 line_of_stop (stops.Ended status said) = said.items
 
 -- ---- how it ends

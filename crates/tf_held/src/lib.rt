@@ -10,3 +10,4 @@ mod measures;
 mod reading;
 pub mod series;
 pub mod shops;
+mod words_split;

@@ -20,7 +20,7 @@ use std::alloc::Global;
 use std::io::Write;
 use tf_bounding::timed_read::timed_read;
 use tf_check::answer::Answer;
-use tf_command::commands::perform;
+use tf_command::commands::evaluate_named;
 use tf_command::console::Console;
 use tf_command::formatted::memory;
 use tf_command::gathered::send;
@@ -30,7 +30,7 @@ use tf_engine::fault::RunFault;
 use tf_engine::request::{Form, Request};
 use tf_model::memory::OutOfMemory;
 use tf_notation::reading::read;
-use tf_options::options::{Evaluating, Work};
+use tf_options::options::Evaluating;
 use tf_prepare::timed::TimedInstance;
 use tf_text::answer::fault::AnswerFault;
 use tf_text::answer::layout::Layout;
@@ -48,7 +48,7 @@ struct Told {
     status: u8,
 }
 
-/// Evaluates an answer as [`perform`] does, and writes a line `measure NAME VALUE` before the last
+/// Evaluates an answer as [`evaluate_named`] does, and writes a line `measure NAME VALUE` before the last
 /// line for each objective of which the instance has the fields.
 pub fn perform_measured<S: Sources, W: Write, E: Write>(
     console: &mut Console<W, E>,
@@ -105,7 +105,7 @@ fn told_of(alloc: Global, held: Held<'_>, evaluating: Evaluating<'_>) -> Result<
 {
     let request = evaluating.options.request(alloc, Layout::Two)?;
     let mut kept = memory(alloc);
-    let status = perform(&mut kept, &held, &Work::Evaluate(evaluating));
+    let status = evaluate_named(&mut kept, &held, &evaluating);
     if kept.writer.failed() || kept.errors.failed() {
         return Err(OutOfMemory);
     }

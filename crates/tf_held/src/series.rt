@@ -1,22 +1,30 @@
 //! A line for each of several instances of a weighted tardiness file.
 ghost use Rattle.std.specs.Str.{bytes_eq};
-ghost use Rattle.std.specs.Prelude.{◌≡◌, ◌++◌, false, length, IfOk, IfErr, MatchResult};
+ghost use Rattle.std.specs.Prelude.{◌≡◌, ◌++◌, ◌-◌, ℕ, List, true, false, IfOk, IfErr, IfSome};
+ghost use Rattle.std.specs.Prelude.{MatchResult};
+ghost use Rattle.tf_options.specs.declared.options.Work.{Work as Asking};
 ghost use Rattle.tf_command.specs.Ending.{SaysLine};
+ghost use Rattle.tf_command.specs.Formatted.{held};
+ghost use Rattle.tf_command.specs.Performing.{Performs};
 ghost use Rattle.tf_command.specs.Wrote.{Wrote};
 ghost use Rattle.tf_text.specs.Counted.{inner_of, use_of};
 ghost use Rattle.tf_held.specs.declared.series.Stop.TheVariants.{Memory};
-ghost use Rattle.tf_held.specs.Texts.{IsUnread};
+ghost use Rattle.tf_held.specs.Texts.{IsUnread, held_texts};
 ghost use Rattle.tf_held.specs.Series.{AreLines, EndsSeries, HasAnswers, IsStop, IsStopAt};
 ghost use Rattle.tf_held.specs.Series.{IsWorkFor, AreOptionsFor};
 ghost use Rattle.tf_held.specs.Series.{Tells, has_told, instance_line, line_of_stop, no_instance};
-ghost use Rattle.tf_held.specs.Series.{reads_too_much, status_of_stop};
+ghost use Rattle.tf_held.specs.Series.{status_of_stop, RunsFor};
+ghost use Rattle.tf_held.specs.Instances.{AreParts, HasInstance, IsBehind, IsNamedApart};
+ghost use Rattle.tf_held.specs.Instances.{words_behind};
+ghost use Rattle.tf_words.specs.Words.{words};
 
 use crate::answers::next_answer;
 use crate::held::Held;
 use crate::reading::text_named;
+use crate::words_split::split_words;
 use std::alloc::Global;
 use std::io::Write;
-use tf_command::commands::{perform, write_out};
+use tf_command::commands::{bound_named, evaluate_named, solve_named, write_out};
 use tf_command::console::Console;
 use tf_command::formatted::memory;
 use tf_command::gathered::send;
@@ -25,16 +33,12 @@ use tf_command::source::Sources;
 use tf_evaluate::evaluation::Detail;
 use tf_export::entry::push_entry;
 use tf_model::memory::OutOfMemory;
-use tf_options::options::{Evaluating, FormOption, Idle, Options, Telling, Work};
+use tf_options::options::{Evaluating, FormOption, Idle, Options, Telling};
 use tf_options::series::{Series, Told};
 use tf_text::answer::layout::Layout;
 use tf_text::answer::writing::push_number_line;
 use tf_text::counted::Counted;
 use tf_words::word::is;
-
-/// The most bytes that are gone over for the instances of a file, which is gone over from its first
-/// byte on for each.
-pub const MOST_READ: u128 = 20_000_000_000;
 
 /// What a command wrote in memory.
 type Kept = Console<Vec<u8>, Vec<u8>>;
@@ -44,8 +48,6 @@ type Kept = Console<Vec<u8>, Vec<u8>>;
 pub enum Stop {
     /// There was no memory.
     Memory,
-    /// To go over the file for each instance would take too long.
-    TooLong,
     /// The command ended for an instance without an answer, with this status, and this is said.
     Ended(u8, Vec<u8>),
 }
@@ -119,6 +121,7 @@ fn lines_of(
 {
     let mut all = Vec::new(alloc);
     let mut rest = answers;
+    let mut ahead = None;
     let first = u64::from(series.span.first);
     let last = u64::from(series.span.last.unwrap_or(u32::MAX));
     for step in 0..(last + 1).saturating_sub(first) {
@@ -129,20 +132,111 @@ fn lines_of(
             instance,
             other: answer,
         };
-        match told_of(alloc, series, held, number)? {
+        let parts = parts_of(series, ahead);
+        match told_next(alloc, series, held, parts, number)? {
             Some(kept) => push_entry(&mut all, number, kept.writer.inner().as_slice())?,
             None => return Ok(all),
         }
         rest = more;
+        ahead = Some(behind(series, instance, parts, number));
     }
     Ok(all)
 }
 
-/// Whether to go over so many bytes for each instance up to this one takes too long.
-fn reads_too_much(number: u32, bytes: usize) -> bool
-    ensures { result ≡ reads_too_much number bytes }
+/// The words of the next instance, and the text behind them, where it is known which text is ahead.
+fn parts_of<'a>(series: &Series<'_>, ahead: Option<&'a [u8]>) -> Option<(&'a [u8], &'a [u8])>
+    ensures { (text : List ℕ) (number : ℕ) → IfSome ahead.entry
+        (λ ahead. IsBehind series.now text (number - 1) ahead.now) →
+        IfSome result
+        (λ parts. AreParts series.now text number parts.0.now parts.1.now) }
 {
-    u128::from(number) * bytes as u128 > MOST_READ
+    match ahead {
+        Some(text) => Some(split_words(text, 3 * u64::from(series.jobs))),
+        None => None,
+    }
+}
+
+/// The text behind the instance of this number, which the file has.
+fn behind<'a>(
+    series: &Series<'_>,
+    instance: &'a [u8],
+    parts: Option<(&'a [u8], &'a [u8])>,
+    number: u32,
+) -> &'a [u8]
+    requires there { HasInstance series.now instance.now number }
+    requires parts { IfSome parts
+        (λ parts. AreParts series.now instance.now number parts.0.now parts.1.now) }
+    ensures { IsBehind series.now instance.now number result.now }
+{
+    match parts {
+        Some((_, ahead)) => ahead,
+        None => {
+            let count = 3 * u64::from(series.jobs) * u64::from(number);
+            let (_, ahead) = split_words(instance, count);
+            ahead
+        }
+    }
+}
+
+/// What the command writes that is about the instance of this number, as [`told_of`] says it. Where
+/// the instances before it are known to be there, it is read from its own words alone, unless there
+/// it has a fault, whose line counts from the first of the file.
+fn told_next(
+    alloc: Global,
+    series: &Series<'_>,
+    held: Held<'_>,
+    parts: Option<(&[u8], &[u8])>,
+    number: u32,
+) -> Result<Option<Kept>, Stop>
+    requires name { held.name.now ≡ series.now.input.now }
+    requires parts { IfSome parts
+        (λ parts. AreParts series.now held.instance.now number parts.0.now parts.1.now) }
+    ensures { MatchResult result (Tells series.now held.entry.instance.now held.entry.other.now number)
+        (IsStopAt series.now held.entry.instance.now held.entry.other.now number) }
+{
+    if let Some((own, _)) = parts
+        && is_named_apart(series)
+    {
+        let alone = Held {
+            instance: own,
+            ..held
+        };
+        let (status, kept) = run_over(alloc, series, alone, 1)?;
+        if has_told(status) {
+            return Ok(Some(kept));
+        }
+    }
+    told_of(alloc, series, held, number)
+}
+
+/// Whether the text of the answers has another name than the file.
+fn is_named_apart(series: &Series<'_>) -> bool
+    ensures { result ≡ true → IsNamedApart series.now.input.now series.now.told }
+{
+    match series.told {
+        Told::Answers(answer, _) => answer != series.input,
+        _ => true,
+    }
+}
+
+/// Does the work that is about the instance of this number of a text: the status, and what was
+/// written. Only want of memory is an error.
+fn run_over(
+    alloc: Global,
+    series: &Series<'_>,
+    held: Held<'_>,
+    number: u32,
+) -> Result<(u8, Kept), OutOfMemory>
+    requires { held.name.now ≡ series.now.input.now }
+    ensures { IfOk result (λ run. RunsFor series.now held.entry.instance.now held.entry.other.now
+        number run.0 (inner_of run.1.writer).items (inner_of run.1.errors).items) }
+{
+    let mut kept = memory(alloc);
+    let status = work_over(&mut kept, series, &held, number);
+    if kept.writer.failed() || kept.errors.failed() {
+        return Err(OutOfMemory);
+    }
+    Ok((status, kept))
 }
 
 /// What the command writes that is about the instance of this number, and none where a series to
@@ -157,15 +251,7 @@ fn told_of(
     ensures { MatchResult result (Tells series.now held.entry.instance.now held.entry.other.now number)
         (IsStopAt series.now held.entry.instance.now held.entry.other.now number) }
 {
-    if reads_too_much(number, held.instance.len()) {
-        return Err(Stop::TooLong);
-    }
-    let work = work_for(series, number);
-    let mut kept = memory(alloc);
-    let status = perform(&mut kept, &held, &work);
-    if kept.writer.failed() || kept.errors.failed() {
-        return Err(Stop::Memory);
-    }
+    let (status, kept) = run_over(alloc, series, held, number)?;
     if has_told(status) {
         return Ok(Some(kept));
     }
@@ -223,20 +309,27 @@ fn options_for<'a>(series: &Series<'a>, number: u32) -> Options<'a>
     }
 }
 
-/// The work of the command that is about the instance of this number alone.
-fn work_for<'a>(series: &Series<'a>, number: u32) -> Work<'a>
-    ensures { IsWorkFor series.now number result }
+/// Does the work of the command that is about the instance of this number alone, and gives the
+/// status.
+fn work_over(kept: &mut Kept, series: &Series<'_>, texts: &Held<'_>, number: u32) -> u8
+    ensures { (work : Asking) × IsWorkFor series.now number work
+        × Performs (held_texts texts.now.name.now texts.now.instance.now texts.now.other.now) work
+        (use_of held kept.old.writer kept.new.writer)
+        (λ explain. SaysLine held explain kept.old.errors kept.new.errors) result }
 {
     let options = options_for(series, number);
     match series.told {
-        Told::Values => Work::Solve(options, Layout::Two),
-        Told::Bounds(steps) => Work::Bound(options, steps),
-        Told::Answers(answer, steps) => Work::Evaluate(Evaluating {
-            options,
-            answer,
-            detail: Detail::Summary,
-            steps,
-        }),
+        Told::Values => solve_named(kept, texts, &options, Layout::Two),
+        Told::Bounds(steps) => bound_named(kept, texts, &options, steps),
+        Told::Answers(answer, steps) => {
+            let evaluating = Evaluating {
+                options,
+                answer,
+                detail: Detail::Summary,
+                steps,
+            };
+            evaluate_named(kept, texts, &evaluating)
+        }
     }
 }
 
@@ -247,10 +340,6 @@ fn tell_stop<E: Write>(stop: &Stop, errors: &mut Counted<E>) -> u8
 {
     match stop {
         Stop::Memory => say_memory(errors),
-        Stop::TooLong => {
-            send(errors, b"threefield: refused: TotalTooLarge\n");
-            2
-        }
         Stop::Ended(status, said) => {
             send(errors, said.as_slice());
             *status

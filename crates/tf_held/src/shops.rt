@@ -15,7 +15,7 @@ use crate::reading::text_named;
 use std::alloc::Global;
 use std::io;
 use std::io::{Read, Write};
-use tf_command::commands::perform;
+use tf_command::commands::evaluate_named;
 use tf_command::console::Console;
 use tf_command::formatted::{memory, print_kept};
 use tf_command::report::say_memory;
@@ -91,7 +91,7 @@ impl<'a, S: Sources> Sources for WithInstance<'a, S> {
     }
 }
 
-/// Evaluates an answer as [`perform`] does. A problem that is solved on two machines and names no
+/// Evaluates an answer as [`evaluate_named`] does. A problem that is solved on two machines and names no
 /// number of them, as `F||Cmax`, is that of as many machines as the instance of a flow shop file
 /// has.
 pub fn perform_evaluation<S: Sources, W: Write, E: Write>(
@@ -104,7 +104,7 @@ pub fn perform_evaluation<S: Sources, W: Write, E: Write>(
         (λ explain. SaysLine E.contents explain console.old.errors console.new.errors) result }
 {
     let Some(name) = name_wanted(&evaluating) else {
-        return perform(console, sources, &Work::Evaluate(evaluating));
+        return evaluate_named(console, sources, &evaluating);
     };
     let instance = match text_named(console, sources, evaluating.options.input) {
         Ok(text) => text,
@@ -157,7 +157,7 @@ fn perform_over<S: Sources, W: Write, E: Write>(
         instance,
         others: sources,
     };
-    perform(console, &texts, &Work::Evaluate(evaluating))
+    evaluate_named(console, &texts, &evaluating)
 }
 
 /// The name of the instance whose number of machines is wanted, if it is.

@@ -13,15 +13,15 @@ use Rattle.tf_held.proofs.measured.told_of.Goals as goal
 pub returns : goal.returns
 returns c = record {
   before = c.memory-kept.result;
-  after = c.perform-status.new.console;
+  after = c.evaluate_named-status.new.console;
   blank = c.memory-kept.ensures.blank;
   silent = c.memory-kept.ensures.silent;
   done = subst (λ (name : List ℕ). Performs
       (held_texts name c.args.held.instance.now c.args.held.other.now) (Evaluate c.args.evaluating)
-      (use_of held c.memory-kept.result.writer c.perform-status.new.console.writer)
+      (use_of held c.memory-kept.result.writer c.evaluate_named-status.new.console.writer)
       (λ explain. SaysLine held explain c.memory-kept.result.errors
-      c.perform-status.new.console.errors) c.perform-status.result) c.requires
-      c.perform-status.ensures;
+      c.evaluate_named-status.new.console.errors) c.evaluate_named-status.result) c.requires
+      c.evaluate_named-status.ensures;
   whole = sym c.failed.ensures ∙ c.if-failed.false;
   told = sym c.failed-else-failed.ensures ∙ c.if-failed-2.false;
   measured = subst (λ text. IsMeasured (requested c.args.evaluating.options Two)

@@ -1,36 +1,64 @@
-use Rattle.std.proofs.Common.{◌+◌, rules, arith, sym, ap, ◌∙◌, subst}
+use Rattle.std.proofs.Common.{◌≡◌, ◌+◌, ◌-◌, IfSome, rules, arith, sym, ap, ◌∙◌, subst}
+use Rattle.tf_held.specs.Instances.{IsBehind}
 use Rattle.tf_held.specs.Series.{IsStop}
+use Rattle.tf_held.proofs.Again.{runs_has}
 use Rattle.tf_held.proofs.Lines.{Progress, begun, entry_of, finished, gone_on, stopped}
 use Rattle.tf_held.proofs.series.lines_of.Goals as goal
 
 pub loop-step-init : goal.loop-step-init
-loop-step-init c =
-    subst (λ items. Progress c.args.series.now c.args.instance.now c.args.answers.now items
-    c.args.answers.now 0) (sym c.new-all.ensures.items)
-    (begun c.args.series.now c.args.instance.now c.args.answers.now)
+loop-step-init c = record {
+  told = subst (λ items. Progress c.args.series.now c.args.instance.now c.args.answers.now items
+      c.args.answers.now 0) (sym c.new-all.ensures.items)
+      (begun c.args.series.now c.args.instance.now c.args.answers.now);
+  known = tt;
+}
+
+pub told_next-requires-clause-parts : goal.told_next-requires-clause-parts
+told_next-requires-clause-parts c =
+    c.parts_of-parts.ensures c.args.instance.now (c.from-first.result + c.loop-step.step)
+    (subst (λ n. IfSome c.loop-step.ahead (λ text. IsBehind c.args.series.now c.args.instance.now
+    (n + c.loop-step.step - 1) text.now)) (sym c.from-first.ensures) c.loop-step.invariant.known)
+
+pub behind-requires-clause-there : goal.behind-requires-clause-there
+behind-requires-clause-there c =
+    let tells = rw c.in-Some.is at c.in_ok-kept.ensures in
+    runs_has c.args.series.now c.args.instance.now c.next_answer.result.0.now _ tells.0 _ tells.1
+    tells.3 tells.2
+
+pub behind-requires-clause-parts : goal.behind-requires-clause-parts
+behind-requires-clause-parts c =
+    c.parts_of-parts.ensures c.args.instance.now (c.from-first.result + c.loop-step.step)
+    (subst (λ n. IfSome c.loop-step.ahead (λ text. IsBehind c.args.series.now c.args.instance.now
+    (n + c.loop-step.step - 1) text.now)) (sym c.from-first.ensures) c.loop-step.invariant.known)
 
 pub loop-step-preserved : goal.loop-step-preserved
-loop-step-preserved c =
-    gone_on c.args.series.now c.args.instance.now c.args.answers.now c.loop-step.all.items
-    c.loop-step.rest.now c.loop-step.step _ c.next_answer.result.0.now c.next_answer.result.1.now _ _
-    c.loop-step.invariant (ap (λ n. n + c.loop-step.step) c.from-first.ensures)
-    (entry_of c.args.series.now c.args.instance.now c.next_answer.result.0.now _ c.in-Some.kept
-    c.as_slice.result.now (rw c.in-Some.is at c.in_ok-kept.ensures)
-    (c.as_slice.ensures.value ∙ ap (λ v. v.items) c.inner.ensures))
-    (record { whole = c.next_answer.ensures.whole; after = c.next_answer.ensures.after })
-    c.in_ok-push_entry-in-Some.ensures
+loop-step-preserved c = record {
+  told = gone_on c.args.series.now c.args.instance.now c.args.answers.now c.loop-step.all.items
+      c.loop-step.rest.now c.loop-step.step _ c.next_answer.result.0.now c.next_answer.result.1.now _ _
+      c.loop-step.invariant.told (ap (λ n. n + c.loop-step.step) c.from-first.ensures)
+      (entry_of c.args.series.now c.args.instance.now c.next_answer.result.0.now _ c.in-Some.kept
+      c.as_slice.result.now (rw c.in-Some.is at c.in_ok-kept.ensures)
+      (c.as_slice.ensures.value ∙ ap (λ v. v.items) c.inner.ensures))
+      (record { whole = c.next_answer.ensures.whole; after = c.next_answer.ensures.after })
+      c.in_ok-push_entry-in-Some.ensures;
+  known =
+      let next : c.from-first.result + c.loop-step.step
+      ≡ c.args.series.now.span.first + (c.loop-step.step + 1) - 1 = omega (arith, c.from-first.ensures) in
+      subst (λ n. IsBehind c.args.series.now c.args.instance.now n c.behind.result.now) next
+      c.behind.ensures;
+}
 
 pub returns : goal.returns
 returns c =
     finished c.args.series.now c.args.instance.now c.args.answers.now c.loop-step.all.items
-    c.loop-step.rest.now c.loop-step.step c.loop-step.invariant (omega arith)
+    c.loop-step.rest.now c.loop-step.step c.loop-step.invariant.told (omega arith)
 
 pub returns-in_err-kept : goal.returns-in_err-kept
 returns-in_err-kept c =
     let stops : IsStop c.args.series.now c.args.instance.now c.args.answers.now c.in_err-kept.field-0.0 =
     stopped c.args.series.now c.args.instance.now c.args.answers.now c.loop-step.all.items
     c.loop-step.rest.now c.next_answer.result.0.now c.next_answer.result.1.now c.loop-step.step _
-    c.in_err-kept.field-0.0 c.loop-step.invariant (ap (λ n. n + c.loop-step.step) c.from-first.ensures)
+    c.in_err-kept.field-0.0 c.loop-step.invariant.told (ap (λ n. n + c.loop-step.step) c.from-first.ensures)
     (record { whole = c.next_answer.ensures.whole; after = c.next_answer.ensures.after })
     c.in_err-kept.ensures in
     search rules

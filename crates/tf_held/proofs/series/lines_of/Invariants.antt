@@ -1,6 +1,12 @@
+use Rattle.std.proofs.Common.{◌+◌, ◌-◌, IfSome}
+use Rattle.tf_held.specs.Instances.{IsBehind}
 use Rattle.tf_held.proofs.Lines.{Progress}
 use Rattle.tf_held.proofs.series.lines_of.Given as goal
 
--- the lines of the instances so far are written
+-- the lines of the instances so far are written, and it is known which text is ahead
 abbrev pub invariant-loop-step : goal.invariant-loop-step
-invariant-loop-step l = Progress l.fn.series l.fn.instance l.fn.answers l.all.items l.rest l.step
+invariant-loop-step l = record {
+  told : Progress l.fn.series l.fn.instance l.fn.answers l.all.items l.rest l.step;
+  known : IfSome l.ahead (λ text. IsBehind l.fn.series l.fn.instance
+      (l.fn.series.span.first + l.step - 1) text.now);
+}

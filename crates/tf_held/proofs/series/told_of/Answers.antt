@@ -1,18 +1,14 @@
 use Rattle.std.proofs.Common.{sym, ap, ◌∙◌}
 use Rattle.std.proofs.lemmas.Bool.{true≢false}
-use Rattle.tf_held.proofs.Told.{later, none_there, ran, said_none, untold}
+use Rattle.tf_held.proofs.Told.{later, none_there, said_none, untold}
 use Rattle.tf_held.proofs.series.told_of.Goals as goal
 use Rattle.tf_held.proofs.series.told_of.Goals.{then-is_none, else-is_none}
 
 pub returns-then-has_told : goal.returns-then-has_told
 returns-then-has_told c = (
-  c.perform-status.result,
+  c.in_ok-status.status,
   _,
-  ran c.args.series.now _ c.args.held.instance.now c.args.held.other.now c.args.number
-      c.perform-status.result c.work_for-work.result c.memory-kept.result c.perform-status.new.console
-      c.requires c.work_for-work.ensures c.memory-kept.ensures.blank c.memory-kept.ensures.silent
-      c.perform-status.ensures (sym c.failed.ensures ∙ c.if-failed.false)
-      (sym c.failed-else-failed.ensures ∙ c.if-failed-2.false),
+  c.in_ok-status.ensures,
   sym c.has_told.ensures ∙ c.if-has_told.true,
 )
 
@@ -22,15 +18,9 @@ returns-then-has_no_instance c = elim c.if-is_none.branch [
     none_there _ c.is_none.result c.is_none.ensures w.if-is_none.true,
     later _ _ c.if-is_none.is_later w.is_later-is c.if-is_later.true,
     (
-      c.perform-status.result,
+      c.in_ok-status.status,
       untold c.args.series.now c.args.held.instance.now c.args.held.other.now c.args.number
-          c.perform-status.result _ _ _
-          (ran c.args.series.now _ c.args.held.instance.now c.args.held.other.now c.args.number
-          c.perform-status.result c.work_for-work.result c.memory-kept.result
-          c.perform-status.new.console c.requires c.work_for-work.ensures
-          c.memory-kept.ensures.blank c.memory-kept.ensures.silent c.perform-status.ensures
-          (sym c.failed.ensures ∙ c.if-failed.false)
-          (sym c.failed-else-failed.ensures ∙ c.if-failed-2.false))
+          c.in_ok-status.status _ _ _ c.in_ok-status.ensures
           (sym c.has_told.ensures ∙ c.if-has_told.false)
           (said_none c.as_slice-errors.result.now _
           (c.as_slice-errors.ensures.value ∙ ap (λ v. v.items) c.inner.ensures)
@@ -45,12 +35,7 @@ pub returns : goal.returns
 returns c = (
   _,
   untold c.args.series.now c.args.held.instance.now c.args.held.other.now c.args.number
-      c.perform-status.result _ _ _
-      (ran c.args.series.now _ c.args.held.instance.now c.args.held.other.now c.args.number
-      c.perform-status.result c.work_for-work.result c.memory-kept.result c.perform-status.new.console
-      c.requires c.work_for-work.ensures c.memory-kept.ensures.blank c.memory-kept.ensures.silent
-      c.perform-status.ensures (sym c.failed.ensures ∙ c.if-failed.false)
-      (sym c.failed-else-failed.ensures ∙ c.if-failed-2.false))
+      c.in_ok-status.status _ _ _ c.in_ok-status.ensures
       (sym c.has_told.ensures ∙ c.if-has_told.false)
       (c.as_slice-errors.ensures.value ∙ ap (λ v. v.items) c.inner.ensures),
   c.in_ok-said_of.ensures,
