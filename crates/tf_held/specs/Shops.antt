@@ -1,5 +1,5 @@
 -- An evaluation for a shop of as many machines as its file has.
-use Rattle.std.specs.Prelude.{◌≡◌, ◌⊎◌, ℕ, Bool, true, false, ◌&&◌, List, Option, None, Some, Result, Ok, Err, IsErr, is_none, is_some, if◌then◌else◌}
+use Rattle.std.specs.Prelude.{◌≡◌, ◌⊎◌, ℕ, Bool, true, false, ◌&&◌, List, Option, None, Some, Result, Ok, Err, IsErr, IsOk, is_none, is_some, if◌then◌else◌}
 use Rattle.std.specs.Str.{bytes_eq}
 use Rattle.tf_model.specs.ClassTable.{class_of, is_shop_env}
 use Rattle.tf_model.specs.InstanceData.{InstanceData}
@@ -22,6 +22,11 @@ use Rattle.tf_held.specs.declared.shops.HeldOr.TheVariants.{Held, Other}
 abbrev pub left_of : {R : Type 0} → (R → Option (List ℕ)) → HeldOr R → Option (List ℕ)
 left_of remaining (Held bytes) = Some bytes.now
 left_of remaining (Other inner) = remaining inner
+
+-- bytes in memory don't fail
+abbrev pub ReadsHeld : {R X E : Type 0} → HeldOr R → Result X E → Type 0
+ReadsHeld (Held bytes) result = IsOk result
+ReadsHeld (Other inner) result = Unit {0}
 
 -- the instance by its name, and every other text as it is
 abbrev pub texts_with : List ℕ → List ℕ → Texts → Texts

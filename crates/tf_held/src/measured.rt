@@ -48,8 +48,8 @@ struct Told {
     status: u8,
 }
 
-/// Evaluates an answer as [`evaluate_named`] does, and writes a line `measure NAME VALUE` before the last
-/// line for each objective of which the instance has the fields.
+/// Evaluates an answer as [`evaluate_named`] does, and writes before the last line a line
+/// `measure NAME VALUE` for each objective of which the instance has the fields.
 pub fn perform_measured<S: Sources, W: Write, E: Write>(
     console: &mut Console<W, E>,
     sources: &S,

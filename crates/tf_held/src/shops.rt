@@ -40,7 +40,7 @@ pub enum HeldOr<'a, R> {
 impl<R: Read> Read for HeldOr<'_, R> {
     ghost use Rattle.std.specs.Io.{ReadsAtMost};
     ghost use Rattle.std.specs.Io.KnownBytes.{ReadConsumes};
-    ghost use Rattle.tf_held.specs.Shops.{left_of};
+    ghost use Rattle.tf_held.specs.Shops.{left_of, ReadsHeld};
 
     ghost remaining = { left_of R.remaining };
 
@@ -48,6 +48,7 @@ impl<R: Read> Read for HeldOr<'_, R> {
         ensures bound { ReadsAtMost result buf.new }
         ensures bytes { ReadConsumes (left_of R.remaining self.old) (left_of R.remaining self.new)
             result buf.new }
+        ensures held { ReadsHeld self.old result }
     {
         match self {
             HeldOr::Held(bytes) => bytes.read(buf),
@@ -91,9 +92,9 @@ impl<'a, S: Sources> Sources for WithInstance<'a, S> {
     }
 }
 
-/// Evaluates an answer as [`evaluate_named`] does. A problem that is solved on two machines and names no
-/// number of them, as `F||Cmax`, is that of as many machines as the instance of a flow shop file
-/// has.
+/// Evaluates an answer as [`evaluate_named`] does. A problem that is solved on two machines and
+/// names no number of them, as `F||Cmax`, is that of as many machines as the instance of a flow
+/// shop file has.
 pub fn perform_evaluation<S: Sources, W: Write, E: Write>(
     console: &mut Console<W, E>,
     sources: &S,
