@@ -30,7 +30,7 @@ pub all_given : (old new : Option (List ℕ)) (bytes : List ℕ) → Consumes ol
 all_given old new bytes given end = Consumes-whole old new bytes (λ all. bytes ≡ all) given end refl
 
 -- a reader that gave too many has a text that is too long
-longer : (old new : Option (List ℕ)) (bytes : List ℕ) → Consumes old new bytes
+pub longer : (old new : Option (List ℕ)) (bytes : List ℕ) → Consumes old new bytes
     → most_bytes < length bytes → IfSome old (λ all. most_bytes < length all)
 longer None new bytes given more = tt
 longer (Some all) None bytes given more = absurd given

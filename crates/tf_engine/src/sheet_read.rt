@@ -6,11 +6,10 @@ ghost use Rattle.tf_engine.specs.Parts.{ReadsSheet};
 use crate::fault::RunFault;
 use std::alloc::Allocator;
 use std::io::Read;
-use tf_text::answer::fault::AnswerFault;
-use tf_text::answer::reading::read_answer;
+use tf_text::answer::reading::AnswerReader;
 use tf_text::answer::sheet::Sheet;
 use tf_text::counted::Counted;
-use tf_text::input::{InputFault, read_all};
+use tf_text::input::drain;
 
 /// The sheet that the reader's text says.
 pub fn sheet_read<A: Allocator + Copy, S: Read>(
@@ -20,10 +19,7 @@ pub fn sheet_read<A: Allocator + Copy, S: Read>(
     ensures read { ReadsSheet S.remaining answer.old answer.new result }
     ensures machines { IfOk result (λ s. (0 < s.machines) × (s.machines ≤ most_machines)) }
 {
-    match read_all(alloc, answer) {
-        Ok(text) => Ok(read_answer(alloc, text.as_slice())?),
-        Err(InputFault::TooLong) => Err(RunFault::Answer(AnswerFault::TooLong)),
-        Err(InputFault::Device) => Err(RunFault::Device),
-        Err(InputFault::OutOfMemory) => Err(RunFault::OutOfMemory),
-    }
+    let mut reading = AnswerReader::new(alloc);
+    drain(answer, &mut reading)?;
+    Ok(reading.finish()?)
 }

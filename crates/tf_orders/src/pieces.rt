@@ -9,7 +9,7 @@ ghost use Rattle.tf_orders.specs.Pieces.{is_of_part, past, pieces_of};
 use std::alloc::Allocator;
 use tf_schedule::piece::Piece;
 use tf_text::answer::fault::AnswerFault;
-use tf_text::answer::reading::{finished, pieces_at};
+use tf_text::answer::pieces::{finished, pieces_at};
 use tf_words::line::Lines;
 use tf_words::word::behind_key;
 

@@ -12,3 +12,5 @@ pub mod Prefix
 pub mod Blocks
 pub mod ChartLines
 pub mod ChartOrder
+pub mod TextLines
+pub mod Stages

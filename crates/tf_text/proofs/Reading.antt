@@ -15,6 +15,7 @@ use Rattle.tf_words.specs.Words.{words, first_is, KeptLine}
 use Rattle.tf_schedule.specs.declared.piece.Piece.{Piece}
 use Rattle.tf_text.specs.declared.answer.fault.AnswerFault.{AnswerFault}
 use Rattle.tf_text.specs.JobWords.{run_jobs}
+use Rattle.tf_text.specs.NextPiece.{Read, with_pieces}
 use Rattle.tf_text.specs.AnswerReading.{fault_in, Fails, run_in, jobs_from, are_many, name_many, few, jobs_listed, piece_in, pieces_at}
 
 -- a fault of a step is one of what begins with it
@@ -206,13 +207,6 @@ unfolding jobs_listed
 listed_one line ws = any_read line (jobs_from line ws)
 
 -- ---- pieces
-
-abbrev pub Read : Type 0
-Read = Result (List Piece × List KeptLine) AnswerFault
-
--- pieces that are read, and then those that reading gives
-abbrev pub with_pieces : List Piece → Read → Read
-with_pieces front read = read >>= λ x. Ok (front ++ x.0, x.1)
 
 pieces_regroup : (front : List Piece) (piece : Piece) (read : Read)
     → with_pieces front (read >>= λ others. Ok (piece ∷ others.0, others.1))

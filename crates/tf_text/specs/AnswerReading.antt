@@ -172,17 +172,26 @@ version_in words =
     else if is_exactly (codes "answer" ∷ version Two ∷ []) words then Some Two
     else None
 
--- the version, and the lines behind the heading
-abbrev pub behind_heading : Option Layout → KeptLine → List KeptLine
-    → Result (Layout × List KeptLine) AnswerFault
-behind_heading None line more = Err (BadLine line.number)
-behind_heading (Some layout) line more = Ok (layout, more)
+-- the version that a line names
+abbrev pub versioned : ℕ → Option Layout → Result Layout AnswerFault
+versioned line None = Err (BadLine line)
+versioned line (Some layout) = Ok layout
 
--- the heading, and those behind it
-unfoldable pub heading_at : List KeptLine → Result (Layout × List KeptLine) AnswerFault
-heading_at all = do
+-- the heading
+abbrev pub heading_in : KeptLine → Result Layout AnswerFault
+heading_in line = versioned line.number (version_in (words line.bytes))
+
+-- what the next line says, and those after it
+abbrev pub line_at : {X : Type 0} → (KeptLine → Result X AnswerFault) → List KeptLine
+    → Result (X × List KeptLine) AnswerFault
+line_at says all = do
   (line, more) ← next all
-  behind_heading (version_in (words line.bytes)) line more
+  said ← says line
+  Ok (said, more)
+
+-- the version, and the lines behind the heading
+unfoldable pub heading_at : List KeptLine → Result (Layout × List KeptLine) AnswerFault
+heading_at all = line_at heading_in all
 
 -- where no notation is, the byte of its fault plays no part
 abbrev pub meant : Result Problem ℕ → Result Problem AnswerFault
@@ -210,26 +219,23 @@ word_behind key line =
 
 -- the line `problem`, and those behind it
 unfoldable pub problem_at : List KeptLine → Result (Problem × List KeptLine) AnswerFault
-problem_at all = do
-  (line, more) ← next all
-  problem ← problem_in line
-  Ok (problem, more)
+problem_at all = line_at problem_in all
 
--- a line of a key and a number from 1 to `most`, and those behind it
+-- a key and a number from 1 to `most`
+abbrev pub count_line : List ℕ → ℕ → KeptLine → Result ℕ AnswerFault
+count_line key most line = word_behind key line >>= count_in line.number most
+
+-- such a line, and those behind it
 unfoldable pub count_at : List ℕ → ℕ → List KeptLine → Result (ℕ × List KeptLine) AnswerFault
-count_at key most all = do
-  (line, more) ← next all
-  word ← word_behind key line
-  count ← count_in line.number most word
-  Ok (count, more)
+count_at key most all = line_at (count_line key most) all
+
+-- the value
+abbrev pub value_line : KeptLine → Result ℤ AnswerFault
+value_line line = word_behind (codes "value") line >>= value_in line.number
 
 -- the line `value`, and those behind it
 unfoldable pub value_at : List KeptLine → Result (ℤ × List KeptLine) AnswerFault
-value_at all = do
-  (line, more) ← next all
-  word ← word_behind (codes "value") line
-  value ← value_in line.number word
-  Ok (value, more)
+value_at all = line_at value_line all
 
 -- ---- the pieces
 
@@ -328,10 +334,8 @@ certificate_in layout line words =
 
 -- the line `cert`, and those behind it
 unfoldable pub certificate_at : Layout → List KeptLine → Result (Claim × List KeptLine) AnswerFault
-certificate_at layout all = do
-  (line, more) ← next all
-  claim ← certificate_in layout line.number (words line.bytes)
-  Ok (claim, more)
+certificate_at layout all =
+    line_at (λ line. certificate_in layout line.number (words line.bytes)) all
 
 -- ---- the whole text
 

@@ -8,3 +8,5 @@ pub mod AnswerReading
 pub mod Readable
 -- within the crate
 pub mod NextPiece
+pub mod AnswerStage
+pub mod AnswerReader

@@ -1,31 +1,40 @@
 //! Piece lines in their usual form: one blank between the words, digits, and a line feed, maybe
 //! behind a carriage return.
-ghost use Rattle.std.specs.Prelude.{IfSome};
+ghost use Rattle.std.specs.Prelude.{IfSome, ◌≡◌, ◌∷◌, ◌⊎◌};
 ghost use Rattle.tf_words.specs.Lines.{lines_of};
-ghost use Rattle.tf_text.specs.NextPiece.{BeginsWithPiece};
+ghost use Rattle.tf_text.specs.NextPiece.{BeginsWithPiece, IsUsual};
 
 use tf_model::ids::{JobId, MachineId};
 use tf_model::limit::{MOST_JOBS, MOST_MACHINES};
 use tf_schedule::piece::Piece;
-use tf_words::first_line::{behind_first_key, behind_line_feed, next_number};
+use tf_words::first_line::next_number;
 use tf_words::line::Lines;
 
 const MOST_JOB: u64 = MOST_JOBS as u64;
 
 const MOST_MACHINE: u64 = MOST_MACHINES as u64;
 
-/// The piece of the first line that is left, which is read in one pass, and the lines behind it.
-/// Nothing is said of a line of another form.
-pub(crate) fn usual_piece<'a>(lines: &Lines<'a>) -> Option<(Piece, Lines<'a>)>
-    ensures { IfSome result (λ x.
-        BeginsWithPiece (lines_of lines.now) x.0 (lines_of x.1)) }
+/// What follows the end of the line with which a text begins.
+fn behind_end(text: &[u8]) -> Option<&[u8]>
+    ensures { IfSome result (λ rest. (text.now ≡ 10 ∷ rest.now) ⊎ (text.now ≡ 13 ∷ 10 ∷ rest.now)) }
 {
-    let text = behind_first_key(lines.bytes_left(), b"piece")?;
-    let (job, text) = next_number(text)?;
-    let (machine, text) = next_number(text)?;
-    let (start, text) = next_number(text)?;
-    let (stop, text) = next_number(text)?;
-    let rest = behind_line_feed(text)?;
+    match text {
+        [b'\n', rest @ ..] | [b'\r', b'\n', rest @ ..] => Some(rest),
+        _ => None,
+    }
+}
+
+/// The piece of the line with which a text begins, which is read in one pass, and what follows its
+/// line feed. Nothing is said of a line of another form.
+pub(crate) fn usual_line(text: &[u8]) -> Option<(Piece, &[u8])>
+    ensures { IfSome result (λ x. IsUsual text.now x.0 x.1.now) }
+{
+    let from = text.strip_prefix(b"piece")?;
+    let (job, from) = next_number(from)?;
+    let (machine, from) = next_number(from)?;
+    let (start, from) = next_number(from)?;
+    let (stop, from) = next_number(from)?;
+    let rest = behind_end(from)?;
     if job > MOST_JOB || machine > MOST_MACHINE {
         return None;
     }
@@ -35,5 +44,16 @@ pub(crate) fn usual_piece<'a>(lines: &Lines<'a>) -> Option<(Piece, Lines<'a>)>
         start: start as i64,
         stop: stop as i64,
     };
-    Some((piece, lines.behind_first(rest)))
+    Some((piece, rest))
+}
+
+/// The piece of the first line that is left, where that has the usual form, and the lines behind it.
+pub(crate) fn usual_piece<'a>(lines: &Lines<'a>) -> Option<(Piece, Lines<'a>)>
+    ensures { IfSome result (λ x.
+        BeginsWithPiece (lines_of lines.now) x.0 (lines_of x.1)) }
+{
+    match usual_line(lines.bytes_left()) {
+        None => None,
+        Some((piece, rest)) => Some((piece, lines.behind_first(rest))),
+    }
 }

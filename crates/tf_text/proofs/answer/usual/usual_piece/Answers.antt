@@ -1,32 +1,22 @@
-use Rattle.std.proofs.Common.{◌≡◌, ◌≤◌, ℕ, refl, sym, ap, subst, ◌∙◌, arith}
-use Rattle.tf_words.specs.FirstLine.{IsNumeralOf, line_words}
-use Rattle.tf_text.proofs.UsualPiece.{usual_line, five_words}
+use Rattle.std.proofs.Common.{subst}
+use Rattle.tf_text.specs.NextPiece.{IsUsual}
+use Rattle.tf_text.proofs.UsualPiece.{usual_first, usual_kept, usual_behind, usual_shorter}
 use Rattle.tf_text.proofs.answer.usual.usual_piece.Goals as goal
 
-pub returns : goal.returns
-returns c =
+pub behind_first-requires-clause-kept : goal.behind_first-requires-clause-kept
+behind_first-requires-clause-kept c =
+    usual_kept _ _ _ (subst (λ t. IsUsual t c.in-Some.piece c.in-Some.rest.now) c.bytes_left.ensures c.in-Some.ensures)
+
+pub behind_first-requires-clause-rest : goal.behind_first-requires-clause-rest
+behind_first-requires-clause-rest c =
+    usual_behind _ _ _ (subst (λ t. IsUsual t c.in-Some.piece c.in-Some.rest.now) c.bytes_left.ensures c.in-Some.ensures)
+
+pub behind_first-requires-clause-shorter : goal.behind_first-requires-clause-shorter
+behind_first-requires-clause-shorter c =
+    usual_shorter _ _ _ (subst (λ t. IsUsual t c.in-Some.piece c.in-Some.rest.now) c.bytes_left.ensures c.in-Some.ensures)
+
+pub returns-in-Some : goal.returns-in-Some
+returns-in-Some c =
     let line = c.behind_first.ensures.lines in
-    let a = c.in_ok-job.ensures.word in
-    let b = c.in_ok-machine.ensures.word in
-    let s = c.in_ok-start.ensures.word in
-    let t = c.in_ok-stop.ensures.word in
-    let job : c.in_ok-new.field-0 ≡ c.in_ok-job.job = c.in_ok-new.ensures.value in
-    let machine : c.in_ok-new-2.field-0 ≡ c.in_ok-machine.machine = c.in_ok-new-2.ensures.value in
-    let some_job : 1 ≤ c.in_ok-job.job = c.in_ok-new.ensures.valid.0 refl in
-    let some_machine : 1 ≤ c.in_ok-machine.machine = c.in_ok-new-2.ensures.valid.0 refl in
-    usual_line _ line.0 a.0 b.0 s.0 t.0 _ _ _ _ _ _ _ line.2
-    (line.1 ∙ ap line_words (sym c.bytes_left.ensures))
-    (five_words _ a.0 b.0 s.0 t.0 _ _ _ _ _ _ _ c.in_ok-text.ensures a.2 b.2 s.2 t.2
-    c.in_ok-rest.ensures)
-    (record {
-      job = subst (λ (n : ℕ). IsNumeralOf a.0 n) (sym job) a.1;
-      job_low = omega arith;
-      job_high = omega arith;
-      machine = subst (λ (n : ℕ). IsNumeralOf b.0 n) (sym machine) b.1;
-      machine_low = omega arith;
-      machine_high = omega arith;
-      start = s.1;
-      start_few = c.in_ok-start.ensures.few;
-      stop = t.1;
-      stop_few = c.in_ok-stop.ensures.few;
-    })
+    usual_first _ _ line.0 _ _ _ _
+    (subst (λ t. IsUsual t c.in-Some.piece c.in-Some.rest.now) c.bytes_left.ensures c.in-Some.ensures) line.1 line.2

@@ -4,7 +4,7 @@ use Rattle.tf_words.specs.Lines.{lines_of}
 use Rattle.tf_text.specs.AnswerReading.{pieces_at}
 use Rattle.tf_text.specs.NextPiece.{HasNoPiece, BeginsWithPiece}
 use Rattle.tf_text.proofs.Reading.{piece_step, piece_fails, pieces_none}
-use Rattle.tf_text.proofs.answer.reading.pieces_at.Goals as goal
+use Rattle.tf_text.proofs.answer.pieces.pieces_at.Goals as goal
 
 pub returns-in-Err : goal.returns-in-Err
 returns-in-Err g c =

@@ -1,5 +1,5 @@
 use Rattle.tf_text.proofs.Reading.{pieces_stop, pieces_end}
-use Rattle.tf_text.proofs.answer.reading.next_piece.Goals as goal
+use Rattle.tf_text.proofs.answer.pieces.next_piece.Goals as goal
 
 pub returns-in_default-split_first : goal.returns-in_default-split_first
 returns-in_default-split_first c =

@@ -1,8 +1,8 @@
 use Rattle.std.proofs.Common.{◌≡◌, length}
 use Rattle.tf_words.specs.Lines.{lines_of}
 use Rattle.tf_text.specs.AnswerReading.{pieces_at}
-use Rattle.tf_text.proofs.Reading.{with_pieces}
-use Rattle.tf_text.proofs.answer.reading.pieces_at.Given as goal
+use Rattle.tf_text.specs.NextPiece.{with_pieces}
+use Rattle.tf_text.proofs.answer.pieces.pieces_at.Given as goal
 
 -- the pieces so far, and those of the lines that are left
 abbrev pub invariant-loop-fault : goal.invariant-loop-fault

@@ -1,0 +1,101 @@
+use Rattle.std.proofs.Common.{[], ◌∷◌, codes, w64, SFits, rules, sym, subst, ◌∙◌}
+use Rattle.std.proofs.lemmas.Int.{to_z-of_z}
+use Rattle.tf_words.specs.Lines.{line_of}
+use Rattle.tf_text.specs.AnswerReading.{most_job, most_machine, heading_at, problem_at, count_at, value_at, heading_in, problem_in, count_line, value_line}
+use Rattle.tf_text.specs.AnswerStage.{head_of, from_problem, from_jobs, from_machines, from_value, from_pieces, Leads}
+use Rattle.tf_text.specs.declared.answer.stage.Stage.{Stage}
+use Rattle.tf_text.proofs.Stages.{says_then, says_fault, handed_on, whole, end_then, end_fault}
+use Rattle.tf_text.proofs.answer.stage.Stage.behind.Goals as goal
+
+pub returns-in_err-heading_in-in-Heading : goal.returns-in_err-heading_in-in-Heading
+unfolding heading_at
+returns-in_err-heading_in-in-Heading g c = λ more total h.
+    handed_on _ _ _ total c.from_residual.ensures.1
+    (says_fault heading_in from_problem _ more _ total c.in_err-heading_in-in-Heading.ensures
+    (sym (whole _) ∙ (subst (λ (s : Stage g.row.A.Denot). Leads s (line_of c.args.line.now ∷ more) total) c.in-Heading.is h)))
+
+pub returns-in-Heading : goal.returns-in-Heading
+unfolding heading_at
+returns-in-Heading g c = λ more total h.
+    says_then heading_in from_problem _ more _ total c.in_ok-heading_in-in-Heading.ensures
+    (sym (whole _) ∙ (subst (λ (s : Stage g.row.A.Denot). Leads s (line_of c.args.line.now ∷ more) total) c.in-Heading.is h))
+
+pub returns-in_err-problem_in-in-Problem : goal.returns-in_err-problem_in-in-Problem
+unfolding problem_at
+returns-in_err-problem_in-in-Problem g c = λ more total h.
+    handed_on _ _ _ total c.from_residual-in_err-problem_in-in-Problem.ensures.1
+    (says_fault problem_in (from_jobs c.in-Problem.layout) _ more _ total
+    c.in_err-problem_in-in-Problem.ensures (subst (λ (s : Stage g.row.A.Denot). Leads s (line_of c.args.line.now ∷ more) total) c.in-Problem.is h))
+
+pub returns-in-Problem : goal.returns-in-Problem
+unfolding problem_at
+returns-in-Problem g c = λ more total h.
+    says_then problem_in (from_jobs c.in-Problem.layout) _ more _ total
+    c.in_ok-problem_in-in-Problem.ensures (subst (λ (s : Stage g.row.A.Denot). Leads s (line_of c.args.line.now ∷ more) total) c.in-Problem.is h)
+
+pub returns-in_err-jobs-in-Jobs : goal.returns-in_err-jobs-in-Jobs
+unfolding count_at
+returns-in_err-jobs-in-Jobs g c = λ more total h.
+    handed_on _ _ _ total c.from_residual-in_err-jobs-in-Jobs.ensures.1
+    (says_fault (count_line (codes "jobs") most_job)
+    (from_machines c.in-Jobs.layout c.in-Jobs.problem) _ more _ total
+    c.in_err-jobs-in-Jobs.ensures.read (subst (λ (s : Stage g.row.A.Denot). Leads s (line_of c.args.line.now ∷ more) total) c.in-Jobs.is h))
+
+pub returns-in-Jobs : goal.returns-in-Jobs
+unfolding count_at
+returns-in-Jobs g c = λ more total h.
+    says_then (count_line (codes "jobs") most_job)
+    (from_machines c.in-Jobs.layout c.in-Jobs.problem) _ more _ total
+    c.in_ok-jobs-in-Jobs.ensures.read (subst (λ (s : Stage g.row.A.Denot). Leads s (line_of c.args.line.now ∷ more) total) c.in-Jobs.is h)
+
+pub returns-in_err-machines-in-Machines : goal.returns-in_err-machines-in-Machines
+unfolding count_at
+returns-in_err-machines-in-Machines g c = λ more total h.
+    handed_on _ _ _ total c.from_residual-in_err-machines-in-Machines.ensures.1
+    (says_fault (count_line (codes "machines") most_machine)
+    (λ machines. from_value (record {
+      layout = c.in-Machines.layout;
+      problem = c.in-Machines.problem;
+      jobs = c.in-Machines.jobs;
+      machines = machines;
+    })) _ more _ total c.in_err-machines-in-Machines.ensures.read (subst (λ (s : Stage g.row.A.Denot). Leads s (line_of c.args.line.now ∷ more) total) c.in-Machines.is h))
+
+pub returns-in-Machines : goal.returns-in-Machines
+unfolding count_at
+returns-in-Machines g c = λ more total h.
+    says_then (count_line (codes "machines") most_machine)
+    (λ machines. from_value (record {
+      layout = c.in-Machines.layout;
+      problem = c.in-Machines.problem;
+      jobs = c.in-Machines.jobs;
+      machines = machines;
+    })) _ more _ total c.in_ok-machines-in-Machines.ensures.read (subst (λ (s : Stage g.row.A.Denot). Leads s (line_of c.args.line.now ∷ more) total) c.in-Machines.is h)
+
+pub returns-in_err-value_line-in-Value : goal.returns-in_err-value_line-in-Value
+unfolding value_at
+returns-in_err-value_line-in-Value g c = λ more total h.
+    handed_on _ _ _ total c.from_residual-in_err-value_line-in-Value.ensures.1
+    (says_fault value_line (λ value. from_pieces (head_of c.in-Value.head) value []) _ more _ total
+    c.in_err-value_line-in-Value.ensures (subst (λ (s : Stage g.row.A.Denot). Leads s (line_of c.args.line.now ∷ more) total) c.in-Value.is h))
+
+pub returns-in-Value : goal.returns-in-Value
+unfolding value_at
+returns-in-Value g c = λ more total h.
+    let fits : SFits w64 c.in_ok-value_line-in-Value.field-0 = search rules in
+    rw (c.new.ensures.items, to_z-of_z w64 c.in_ok-value_line-in-Value.field-0 fits)
+    (says_then value_line (λ value. from_pieces (head_of c.in-Value.head) value []) _ more _ total
+    c.in_ok-value_line-in-Value.ensures (subst (λ (s : Stage g.row.A.Denot). Leads s (line_of c.args.line.now ∷ more) total) c.in-Value.is h))
+
+pub returns-in-Pieces : goal.returns-in-Pieces
+returns-in-Pieces g c = λ more total h.
+    let fits : SFits w64 c.in-Pieces.value = search rules in
+    c.behind_piece.ensures more total
+    (rw (to_z-of_z w64 c.in-Pieces.value fits) (subst (λ (s : Stage g.row.A.Denot). Leads s (line_of c.args.line.now ∷ more) total) c.in-Pieces.is h))
+
+pub returns-then-is_end : goal.returns-then-is_end
+returns-then-is_end g c = λ more total h.
+    end_then (head_of c.in-End.head) _ _ more total (sym c.is_end.ensures ∙ c.if-is_end.true) (subst (λ (s : Stage g.row.A.Denot). Leads s (line_of c.args.line.now ∷ more) total) c.in-End.is h)
+
+pub returns-in-End : goal.returns-in-End
+returns-in-End g c = λ more total h.
+    end_fault (head_of c.in-End.head) _ _ more total (sym c.is_end.ensures ∙ c.if-is_end.false) (subst (λ (s : Stage g.row.A.Denot). Leads s (line_of c.args.line.now ∷ more) total) c.in-End.is h)
