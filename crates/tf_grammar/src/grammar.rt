@@ -1,4 +1,8 @@
 //! The commands and options that there are, for clap.
+ghost use Rattle.std.specs.Prelude.{◌≡◌, codes, map, slice_index_or, IfOk};
+ghost use Rattle.clap.specs.Facts.{subcommands_of};
+ghost use Rattle.tf_grammar.specs.Commands.{name_of, command_names};
+
 use crate::help;
 use crate::page::Page;
 use crate::row::{Row, flag, number, numbers, perhaps, place, text, with_rows};
@@ -105,7 +109,9 @@ static COLUMNS: [&str; 1] = ["columns"];
 static OTHER_FORMAT: [&str; 1] = ["json"];
 
 /// The program's commands.
-pub fn command<'a>(alloc: Global) -> Result<Command<'a>, AllocError> {
+pub fn command<'a>(alloc: Global) -> Result<Command<'a>, AllocError>
+    ensures { IfOk result (λ c. map name_of (subcommands_of c) ≡ command_names) }
+{
     let mut command = Command::new(alloc, "threefield")
         .bin_name("threefield")?
         .about("Exact machine scheduling with certificates")
@@ -124,7 +130,10 @@ pub fn command<'a>(alloc: Global) -> Result<Command<'a>, AllocError> {
 const COMMANDS: u32 = 8;
 
 // The command at a place in the help.
-fn command_at<'a>(alloc: Global, place: u32) -> Result<Command<'a>, AllocError> {
+fn command_at<'a>(alloc: Global, place: u32) -> Result<Command<'a>, AllocError>
+    ensures { IfOk result (λ c. name_of c
+        ≡ slice_index_or command_names place (codes "problems")) }
+{
     match place {
         0 => solve_command(alloc),
         1 => bound_command(alloc),
@@ -137,7 +146,9 @@ fn command_at<'a>(alloc: Global, place: u32) -> Result<Command<'a>, AllocError> 
     }
 }
 
-fn solve_command<'a>(alloc: Global) -> Result<Command<'a>, AllocError> {
+fn solve_command<'a>(alloc: Global) -> Result<Command<'a>, AllocError>
+    ensures { IfOk result (λ c. name_of c ≡ codes "solve") }
+{
     let page = Page {
         name: "solve",
         about: "Prints an optimal schedule, and a certificate that proves it",
@@ -159,7 +170,9 @@ fn solve_command<'a>(alloc: Global) -> Result<Command<'a>, AllocError> {
     with_options(alloc, page, &rows)
 }
 
-fn bound_command<'a>(alloc: Global) -> Result<Command<'a>, AllocError> {
+fn bound_command<'a>(alloc: Global) -> Result<Command<'a>, AllocError>
+    ensures { IfOk result (λ c. name_of c ≡ codes "bound") }
+{
     let page = Page {
         name: "bound",
         about: "Prints a lower bound of an NP-hard problem, and its certificate",
@@ -169,7 +182,9 @@ fn bound_command<'a>(alloc: Global) -> Result<Command<'a>, AllocError> {
     with_options(alloc, page, &[steps(), json()])
 }
 
-fn trace_command<'a>(alloc: Global) -> Result<Command<'a>, AllocError> {
+fn trace_command<'a>(alloc: Global) -> Result<Command<'a>, AllocError>
+    ensures { IfOk result (λ c. name_of c ≡ codes "trace") }
+{
     let page = Page {
         name: "trace",
         about: "Shows how an optimal schedule is found, step by step",
@@ -180,7 +195,9 @@ fn trace_command<'a>(alloc: Global) -> Result<Command<'a>, AllocError> {
     with_options(alloc, page, &[latex])
 }
 
-fn check_command<'a>(alloc: Global) -> Result<Command<'a>, AllocError> {
+fn check_command<'a>(alloc: Global) -> Result<Command<'a>, AllocError>
+    ensures { IfOk result (λ c. name_of c ≡ codes "check") }
+{
     let page = Page {
         name: "check",
         about: "Judges an answer: accepted, or rejected and why",
@@ -190,7 +207,9 @@ fn check_command<'a>(alloc: Global) -> Result<Command<'a>, AllocError> {
     with_options(alloc, page, &[json(), answer().required()])
 }
 
-fn evaluate_command<'a>(alloc: Global) -> Result<Command<'a>, AllocError> {
+fn evaluate_command<'a>(alloc: Global) -> Result<Command<'a>, AllocError>
+    ensures { IfOk result (λ c. name_of c ≡ codes "evaluate") }
+{
     let page = Page {
         name: "evaluate",
         about: "Reports how far an answer is from the optimum, job by job",
@@ -247,7 +266,9 @@ fn schedules() -> [Row; 4] {
     ]
 }
 
-fn gantt_command<'a>(alloc: Global) -> Result<Command<'a>, AllocError> {
+fn gantt_command<'a>(alloc: Global) -> Result<Command<'a>, AllocError>
+    ensures { IfOk result (λ c. name_of c ≡ codes "gantt") }
+{
     let page = Page {
         name: "gantt",
         about: "Draws the schedule of an answer, a line for each machine",
@@ -310,7 +331,9 @@ fn of_picture(id: &'static str, value: &'static str, help: &'static str) -> Row 
     number(id, value, help).with("svg")
 }
 
-fn random_command<'a>(alloc: Global) -> Result<Command<'a>, AllocError> {
+fn random_command<'a>(alloc: Global) -> Result<Command<'a>, AllocError>
+    ensures { IfOk result (λ c. name_of c ≡ codes "random") }
+{
     let page = Page {
         name: "random",
         about: "Writes a random job table for a problem",
@@ -326,7 +349,9 @@ fn random_command<'a>(alloc: Global) -> Result<Command<'a>, AllocError> {
     with_rows(alloc, page.command(alloc), &rows)
 }
 
-fn problems_command<'a>(alloc: Global) -> Result<Command<'a>, AllocError> {
+fn problems_command<'a>(alloc: Global) -> Result<Command<'a>, AllocError>
+    ensures { IfOk result (λ c. name_of c ≡ codes "problems") }
+{
     let page = Page {
         name: "problems",
         about: "Lists the problems that are solved, and what each needs",
@@ -345,7 +370,9 @@ fn problems_command<'a>(alloc: Global) -> Result<Command<'a>, AllocError> {
 }
 
 // The command of a page, with what names a problem and an instance, and the options of some rows.
-fn with_options<'a>(alloc: Global, page: Page, rows: &[Row]) -> Result<Command<'a>, AllocError> {
+fn with_options<'a>(alloc: Global, page: Page, rows: &[Row]) -> Result<Command<'a>, AllocError>
+    ensures { IfOk result (λ c. name_of c ≡ page.name.now) }
+{
     let command = with_rows(alloc, page.command(alloc), &[problem(), format()])?;
     let command = with_rows(alloc, command, &form_options())?;
     let input = place("INPUT", "The instance: a file, or - for standard input").required();

@@ -1,4 +1,7 @@
 //! What a command's help says of it as a whole.
+ghost use Rattle.std.specs.Prelude.{◌≡◌};
+ghost use Rattle.tf_grammar.specs.Commands.{name_of};
+
 use clap::Command;
 use std::alloc::Global;
 
@@ -15,7 +18,9 @@ pub(crate) struct Page {
 
 impl Page {
     /// The command, without options.
-    pub(crate) fn command<'a>(&self, alloc: Global) -> Command<'a> {
+    pub(crate) fn command<'a>(&self, alloc: Global) -> Command<'a>
+        ensures { name_of result ≡ self.now.name.now }
+    {
         let command = Command::new(alloc, self.name)
             .about(self.about)
             .after_help(self.after);

@@ -1,4 +1,7 @@
 //! Options as rows of a table, for clap.
+ghost use Rattle.std.specs.Prelude.{◌≡◌, IfOk};
+ghost use Rattle.tf_grammar.specs.Commands.{name_of};
+
 use clap::{Arg, ArgAction, Command};
 use std::alloc::{AllocError, Global};
 
@@ -196,7 +199,9 @@ pub(crate) fn with_rows<'a>(
     alloc: Global,
     mut command: Command<'a>,
     rows: &[Row],
-) -> Result<Command<'a>, AllocError> {
+) -> Result<Command<'a>, AllocError>
+    ensures { IfOk result (λ c. name_of c ≡ name_of command.entry) }
+{
     for row in rows {
         command = command.arg(arg_of(alloc, row)?)?;
     }
