@@ -2,6 +2,7 @@ pub mod RowSums
 pub mod Cheapest
 pub mod Steps
 pub mod Sound
+pub mod Refused
 pub mod Marks
 pub mod Routes
 pub mod Weighed

@@ -1,5 +1,6 @@
 pub mod JobTimes
 pub mod Sized
+pub mod Refused
 pub mod RowSums
 pub mod Prices
 pub mod Kinds

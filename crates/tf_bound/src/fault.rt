@@ -21,7 +21,8 @@ pub enum TaskFault {
     #[error("the number of machines is wrong")]
     Machines,
 
-    /// The job at this place, counted from 0, does not have the times that the problem asks for.
+    /// The job at this place, counted from 0, does not have the times that the problem asks for, or
+    /// it has a number beyond the limit.
     #[error("the job at place {0} has wrong times")]
     Times(usize),
 

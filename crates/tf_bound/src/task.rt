@@ -1,9 +1,10 @@
 //! A task of any problem, as it is written.
-ghost use Rattle.std.specs.Prelude.{◌≡◌, ◌+◌, ◌≤◌, sum, IfOk, IfSome, IsTrue, IsFalse};
+ghost use Rattle.std.specs.Prelude.{◌≡◌, ◌↔◌, ◌+◌, ◌≤◌, ◌<◌, sum, IfOk, IfErr, IfSome, IfNone};
+ghost use Rattle.std.specs.Prelude.{IsTrue};
 ghost use Rattle.std.specs.List.{All, sum_by};
 ghost use Rattle.tf_model.specs.ClassTable.{is_single_env, is_flow_env};
 ghost use Rattle.tf_model.specs.Limit.{limit};
-ghost use Rattle.tf_problem.specs.ProblemData.{is_covered, is_job_shop};
+ghost use Rattle.tf_bound.specs.Refused.{is_taken_problem, IsFitJob, IsJobsFault};
 ghost use Rattle.tf_bound.specs.Sized.{IsSizedJob, work};
 
 use crate::fault::TaskFault;
@@ -78,8 +79,7 @@ impl<A: Allocator> Model for ProblemTask<A> {
 // Whether the definitions speak of the problem; job shops, whose routes a job would have to name,
 // are left out.
 fn is_taken(problem: &Problem) -> bool
-    ensures covered { IsTrue result → IsTrue (is_covered problem.now) }
-    ensures no_routes { IsTrue result → IsFalse (is_job_shop problem.now.env) }
+    ensures { result ≡ is_taken_problem problem.now }
 {
     let env = !matches!(problem.env, Env::Uniform | Env::Unrelated | Env::JobShop);
     let goal = !matches!(problem.goal, Goal::Hmax);
@@ -110,6 +110,7 @@ fn total_of(times: &[u64]) -> u64
 fn work_of(times: &[u64]) -> Option<u64>
     ensures value { IfSome result (λ work. work ≡ sum times.now) }
     ensures small { IfSome result (λ work. work ≤ limit) }
+    ensures large { IfNone result (limit < sum times.now) }
 {
     let mut work: u64 = 0;
     for time in times {
@@ -121,11 +122,13 @@ fn work_of(times: &[u64]) -> Option<u64>
     Some(work)
 }
 
-// The time of a job whose numbers are as the problem asks.
+// The time of a job that is as the problem asks. None where it is not, or its time is beyond the
+// limit.
 fn sized_work<A: Allocator>(shop: bool, machines: u32, job: &ProblemJob<A>) -> Option<u64>
     ensures sized { IfSome result (λ _. IsSizedJob shop machines job.now) }
     ensures value { IfSome result (λ time. time ≡ work job.now) }
     ensures small { IfSome result (λ time. time ≤ limit) }
+    ensures unfit { IfNone result (¬ (IsFitJob shop machines job.now)) }
 {
     let asked = if shop { machines as usize } else { 1 };
     let times = job.times.as_slice();
@@ -143,7 +146,8 @@ fn sized_work<A: Allocator>(shop: bool, machines: u32, job: &ProblemJob<A>) -> O
     Some(work)
 }
 
-// The time of all jobs, each of which is as the problem asks.
+// The time of all jobs, each of which is as the problem asks; or what is wrong with the first that
+// is not, or with the first time of the jobs up to one.
 fn all_work<A: Allocator>(
     shop: bool,
     machines: u32,
@@ -152,6 +156,7 @@ fn all_work<A: Allocator>(
     ensures sized { IfOk result (λ _. All (IsSizedJob shop machines) jobs.now) }
     ensures value { IfOk result (λ all. all ≡ sum_by work jobs.now) }
     ensures small { IfOk result (λ all. all ≤ limit) }
+    ensures fault { IfErr result (IsJobsFault shop machines jobs.now) }
 {
     let mut all: u64 = 0;
     for (place, job) in jobs.iter().enumerate() {
@@ -169,14 +174,14 @@ fn all_work<A: Allocator>(
 // Whether all the work after any release date is within the limit.
 fn is_within<A: Allocator>(jobs: &[ProblemJob<A>], all: u64) -> bool
     requires { all ≤ limit }
-    ensures { IsTrue result → All (λ x. x.release + all ≤ limit) jobs.now }
+    ensures { IsTrue result ↔ All (λ x. x.release + all ≤ limit) jobs.now }
 {
     jobs.iter().all(|job| job.release <= LIMIT as u64 - all)
 }
 
 // Whether each arc is between two of so many jobs.
 fn are_in(arcs: &[(JobId, JobId)], jobs: usize) -> bool
-    ensures { IsTrue result → All
+    ensures { IsTrue result ↔ All
         (λ arc. ((1 ≤ arc.0) × (arc.0 ≤ jobs)) × ((1 ≤ arc.1) × (arc.1 ≤ jobs))) arcs.now }
 {
     for (before, after) in arcs {
@@ -188,7 +193,8 @@ fn are_in(arcs: &[(JobId, JobId)], jobs: usize) -> bool
 }
 
 impl<A: Allocator> ProblemTask<A> {
-    ghost use Rattle.std.specs.Prelude.{◌≡◌, ◌*◌, ◌-◌, ◌<◌, ◌≤◌, length, IfOk, IsTrue, IsFalse};
+    ghost use Rattle.std.specs.Prelude.{◌≡◌, ◌*◌, ◌-◌, ◌<◌, ◌≤◌, length, IfOk, IfErr};
+    ghost use Rattle.std.specs.Prelude.{IsTrue, IsFalse};
     ghost use Rattle.tf_model.specs.ClassTable.{is_shop_env};
     ghost use Rattle.tf_model.specs.Limit.{limit};
     ghost use Rattle.tf_model.specs.Whole.{IsWithin};
@@ -197,22 +203,37 @@ impl<A: Allocator> ProblemTask<A> {
     ghost use Rattle.tf_problem.specs.ProblemData.{problem_weight, problem_due};
     ghost use Rattle.tf_problem.specs.ProblemBounds.{is_by_machine, head, problem_work, tail};
     ghost use Rattle.tf_bound.specs.Sized.{IsSized};
+    ghost use Rattle.tf_bound.specs.Refused.{IsTaskFault};
 
-    /// The task of these parts, or the first fault of the problem, the machines, the jobs and the
-    /// arcs.
+    /// The task of these parts, or the first fault: of the problem, the number of jobs, that of
+    /// machines, the jobs and their times together, the work after a release date, and the arcs.
     pub fn new(
         problem: Problem,
         machines: u32,
         jobs: Vec<ProblemJob<A>, A>,
         arcs: Vec<(JobId, JobId), A>,
     ) -> Result<Self, TaskFault>
-        ensures { IfOk result (λ task. task
+        ensures task { IfOk result (λ task. task
             ≡ record {
               problem = problem;
               machines = machines;
               jobs = jobs.items;
               arcs = arcs.items;
             }) }
+        ensures fault { IfErr result (IsTaskFault
+            (record {
+              problem = problem;
+              machines = machines;
+              jobs = jobs.items;
+              arcs = arcs.items;
+            })) }
+        ensures refused { IfErr result (λ _. ¬ (IsSized
+            (record {
+              problem = problem;
+              machines = machines;
+              jobs = jobs.items;
+              arcs = arcs.items;
+            }))) }
     {
         if !is_taken(&problem) {
             return Err(TaskFault::NotCovered);

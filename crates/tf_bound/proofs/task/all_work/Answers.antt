@@ -1,5 +1,6 @@
 use Rattle.std.proofs.Common.{arith}
 use Rattle.tf_bound.specs.Sized.{IsSizedJob, work}
+use Rattle.tf_bound.proofs.Refused.{unfit_at, too_much_at}
 use Rattle.tf_bound.proofs.Steps.{all_next, sum_next}
 use Rattle.tf_bound.proofs.task.all_work.Goals as goal
 
@@ -20,3 +21,22 @@ loop-place-preserved g c =
       );
       small = omega (arith, c.if-work-all.false, c.loop-place.invariant.small);
     }
+
+pub returns-in_default-clause-fault : goal.returns-in_default-clause-fault
+returns-in_default-clause-fault g c =
+    let before = c.loop-place.invariant in
+    let told = c.in_default.ensures in
+    unfit_at c.args.shop c.args.machines c.args.jobs.now c.loop-place.place c.loop-place.all
+    before.sized before.value before.small c.index-jobs-place.result c.loop-place-test.true
+    c.index-jobs-place.is told.unfit
+
+pub returns-then-work-all-clause-fault : goal.returns-then-work-all-clause-fault
+returns-then-work-all-clause-fault g c =
+    let before = c.loop-place.invariant in
+    let told = c.in-Some.ensures in (
+      c.loop-place.place,
+      too_much_at c.args.shop c.args.machines c.args.jobs.now c.loop-place.place c.loop-place.all
+          before.sized before.value before.small c.index-jobs-place.result c.loop-place-test.true
+          c.index-jobs-place.is told.sized (omega (arith, told.value, told.small))
+          (omega (arith, told.value, c.if-work-all.true)),
+    )

@@ -1,4 +1,4 @@
-use Rattle.std.proofs.Common.{ℕ, ◌≤◌, arith}
+use Rattle.std.proofs.Common.{ℕ, ◌≤◌, refl, arith}
 use Rattle.tf_model.specs.declared.ids.JobId.{JobId}
 use Rattle.tf_bound.proofs.Steps.{all_next, all_whole}
 use Rattle.tf_bound.proofs.task.are_in.Goals as goal
@@ -21,6 +21,9 @@ loop-before-preserved c =
     )
 
 pub returns : goal.returns
-returns c = λ _.
-    all_whole (IsIn c.args.jobs) c.args.arcs.now c.loop-before.before-index c.loop-before-test.false
-    c.loop-before.invariant
+returns c = (
+  λ _.
+      all_whole (IsIn c.args.jobs) c.args.arcs.now c.loop-before.before-index
+      c.loop-before-test.false c.loop-before.invariant,
+  λ _. refl,
+)

@@ -1,0 +1,166 @@
+-- A task that is refused breaks what every task satisfies; the faults of its jobs by themselves.
+use Rattle.std.proofs.Common.{◌≡◌, ⊎_elim, ℕ, ◌+◌, ◌≤◌, ◌<◌, Bool, true, false, not, ◌&&◌, List, length, get_or, take, refl, sym, ap, ◌∙◌, subst, inl, inr, All, sum_by, arith}
+use Rattle.std.proofs.lemmas.Bool.{false≢true}
+use Rattle.std.proofs.lemmas.List.{get_or_default, take_all}
+use Rattle.std.proofs.lemmas.List.Sums.{sum_by-take-le, get_or-le-sum_by}
+use Rattle.std.specs.Prelude.{IsTrue, IsFalse}
+use Rattle.tf_model.specs.ClassTable.{is_shop_env}
+use Rattle.tf_model.specs.declared.problem.Problem.{Problem}
+use Rattle.tf_problem.specs.ProblemData.{ProblemData, ProblemJobData, is_covered, is_job_shop, no_problem_job}
+use Rattle.tf_bound.specs.Sized.{IsSized, IsSizedJob, work, all_work}
+use Rattle.tf_model.specs.Limit.{limit}
+use Rattle.tf_bound.specs.Refused.{is_taken_problem, IsFitJob, AreFit, IsUnfitAt, IsTooMuchAt, IsJobsFault, IsCounted, IsTaskFault}
+use Rattle.tf_bound.proofs.Steps.{sum_next}
+use Rattle.tf_bound.specs.declared.fault.TaskFault.{TaskFault}
+use Rattle.tf_bound.specs.declared.fault.TaskFault.TheVariants.{NotCovered, Jobs, Machines, Times, TooLarge, Arc}
+
+-- ---- the problem
+
+pub is_taken : (p : Problem) → IsTrue (is_taken_problem p)
+    → IsTrue (is_covered p) × IsFalse (is_job_shop p.env)
+is_taken p taken = parts (is_covered p) (is_job_shop p.env) taken
+  where
+    parts : (a b : Bool) → (a && not b) ≡ true → (a ≡ true) × (b ≡ false)
+    parts true false h = (refl, refl)
+    parts true true h = absurd (false≢true h)
+    parts false b h = absurd (false≢true h)
+
+not_taken : (p : Problem) → IsFalse (is_taken_problem p) → IsTrue (is_covered p)
+    → IsFalse (is_job_shop p.env) → ⊥
+not_taken p none covered no_routes = parts (is_covered p) (is_job_shop p.env) none covered no_routes
+  where
+    parts : (a b : Bool) → (a && not b) ≡ false → a ≡ true → b ≡ false → ⊥
+    parts true false h one other = false≢true (sym h)
+    parts true true h one other = false≢true (sym other)
+    parts false b h one other = false≢true one
+
+-- ---- the jobs
+
+-- the time of the jobs before one, and the job
+module _ (shop : Bool) (machines : ℕ) (jobs : List ProblemJobData) (i all : ℕ)
+    (sized : All (IsSizedJob shop machines) (take i jobs)) (value : all ≡ sum_by work (take i jobs))
+    (small : all ≤ limit) (x : ProblemJobData) (lt : i < length jobs) (at : x ≡ get_or jobs i x) where
+  fit_before : AreFit shop machines jobs i
+  fit_before = record { sized = sized; total = omega (arith, value, small) }
+
+  is_there : x ≡ get_or jobs i no_problem_job
+  is_there = at ∙ get_or_default jobs i x no_problem_job lt
+
+  pub unfit_at : (IsFitJob shop machines x → ⊥) → IsUnfitAt shop machines jobs i
+  unfit_at unfit = record {
+    before = fit_before;
+    place = lt;
+    unfit = subst (λ (y : ProblemJobData). IsFitJob shop machines y → ⊥) is_there unfit;
+  }
+
+  pub too_much_at : IsSizedJob shop machines x → work x ≤ limit → limit < all + work x
+      → IsTooMuchAt shop machines jobs i
+  too_much_at its its_work much = record {
+    before = fit_before;
+    place = lt;
+    fit = subst (λ (y : ProblemJobData). IsFitJob shop machines y) is_there (its, its_work);
+    beyond = omega (arith, much, value, sum_next work jobs i x lt at);
+  }
+
+module _ (k : ProblemData) (sized : IsSized k) where
+  jobs_fault_not_sized : (f : TaskFault)
+      → IsJobsFault (is_shop_env k.problem.env) k.machines k.jobs f → ⊥
+  jobs_fault_not_sized (Times i) fault =
+      fault.unfit (
+        sized.jobs i no_problem_job fault.place,
+        omega (arith, get_or-le-sum_by work k.jobs i no_problem_job fault.place, sized.total),
+      )
+  jobs_fault_not_sized TooLarge fault =
+      absurd (omega (
+        arith,
+        fault.1.beyond,
+        sum_by-take-le work k.jobs (fault.0 + 1),
+        sized.total,
+      ))
+  jobs_fault_not_sized NotCovered fault = fault
+  jobs_fault_not_sized Jobs fault = fault
+  jobs_fault_not_sized Machines fault = fault
+  jobs_fault_not_sized Arc fault = fault
+
+  -- ---- the task
+
+  pub not_sized : (f : TaskFault) → IsTaskFault k f → ⊥
+  not_sized NotCovered fault = not_taken k.problem fault sized.covered sized.no_routes
+  not_sized Jobs fault = fault.1 (sized.some_job, sized.few_jobs)
+  not_sized Machines fault =
+      fault.2 (record {
+        some = sized.some_machine;
+        few = sized.few_machines;
+        single = sized.single;
+      })
+  not_sized (Times i) fault = jobs_fault_not_sized (Times i) fault.1
+  not_sized TooLarge fault =
+      ⊎_elim (λ much. jobs_fault_not_sized TooLarge much) (λ late. late.late sized.horizon) fault.1
+  not_sized Arc fault = fault.1 sized.arcs_in
+
+-- what is wrong with the jobs, where all before is right
+pub jobs_fault : (k : ProblemData) → IsCounted k → (f : TaskFault)
+    → IsJobsFault (is_shop_env k.problem.env) k.machines k.jobs f → IsTaskFault k f
+jobs_fault k counted (Times i) fault = (counted, fault)
+jobs_fault k counted TooLarge fault = (counted, inl fault)
+jobs_fault k counted NotCovered fault = absurd fault
+jobs_fault k counted Jobs fault = absurd fault
+jobs_fault k counted Machines fault = absurd fault
+jobs_fault k counted Arc fault = absurd fault
+
+-- ---- the parts of a task
+
+module _ (k : ProblemData) (counted : IsCounted k) (all : ℕ) (xs : List ProblemJobData)
+    (same : xs ≡ k.jobs) (value : all ≡ sum_by work xs) (small : all ≤ limit) (shop : Bool)
+    (is_shop : shop ≡ is_shop_env k.problem.env)
+    (sized : All (IsSizedJob shop k.machines) xs) where
+  all_fit : AreFit (is_shop_env k.problem.env) k.machines k.jobs (length k.jobs)
+  all_fit =
+      let whole : take (length k.jobs) k.jobs ≡ k.jobs =
+      take_all (length k.jobs) k.jobs (omega arith) in
+      let its : All (IsSizedJob (is_shop_env k.problem.env) k.machines) k.jobs =
+      subst (λ (b : Bool). All (IsSizedJob b k.machines) k.jobs) is_shop
+      (subst (λ (ys : List ProblemJobData). All (IsSizedJob shop k.machines) ys) same sized) in
+      record {
+        sized = subst (λ (ys : List ProblemJobData). All (IsSizedJob (is_shop_env k.problem.env) k.machines) ys)
+            (sym whole) its;
+        total = omega (arith, small, value, ap (sum_by work) same, ap (sum_by work) whole);
+      }
+
+  work_is : all ≡ all_work k
+  work_is = value ∙ ap (sum_by work) same
+
+  -- not all work after some release date is within the limit
+  pub too_late : (ys : List ProblemJobData) → ys ≡ k.jobs
+      → (All (λ x. x.release + all ≤ limit) ys → ⊥) → IsTaskFault k TooLarge
+  too_late ys are late = (
+    counted,
+    inr (record {
+      fit = all_fit;
+      late = λ horizon.
+          late (subst (λ (zs : List ProblemJobData). All (λ (x : ProblemJobData). x.release + all ≤ limit) zs)
+          (sym are)
+          (subst (λ (n : ℕ). All (λ (x : ProblemJobData). x.release + n ≤ limit) k.jobs) (sym work_is)
+          horizon));
+    }),
+  )
+
+  -- an arc is not between two of the jobs
+  pub not_in : (ys : List ProblemJobData) → ys ≡ k.jobs → All (λ x. x.release + all ≤ limit) ys
+      → (arcs : List (ℕ × ℕ)) → arcs ≡ k.arcs → (n : ℕ) → n ≡ length k.jobs
+      → (All (λ arc. ((1 ≤ arc.0) × (arc.0 ≤ n)) × ((1 ≤ arc.1) × (arc.1 ≤ n))) arcs → ⊥)
+      → IsTaskFault k Arc
+  not_in ys are horizon arcs arcs_are n count none = (
+    record {
+      counted = counted;
+      fit = all_fit;
+      horizon = subst (λ (m : ℕ). All (λ (x : ProblemJobData). x.release + m ≤ limit) k.jobs) work_is
+          (subst (λ (zs : List ProblemJobData). All (λ (x : ProblemJobData). x.release + all ≤ limit) zs) are
+          horizon);
+    },
+    λ between. none
+        (subst (λ (m : ℕ). All (λ (arc : ℕ × ℕ). ((1 ≤ arc.0) × (arc.0 ≤ m))
+        × ((1 ≤ arc.1) × (arc.1 ≤ m))) arcs) (sym count)
+        (subst (λ (pairs : List (ℕ × ℕ)). All (λ (arc : ℕ × ℕ). ((1 ≤ arc.0) × (arc.0 ≤ length k.jobs))
+        × ((1 ≤ arc.1) × (arc.1 ≤ length k.jobs))) pairs) (sym arcs_are) between)),
+  )
