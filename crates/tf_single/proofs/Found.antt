@@ -1,15 +1,35 @@
 -- The successors that are found, arc by arc.
-use Rattle.std.proofs.Common.{◌≡◌, ◌≢◌, ◌⊎◌, ℕ, ◌+◌, ◌-◌, ◌<◌, ◌≤◌, Option, None, Some, List, length, get_or, set, refl, sym, ap, ◌∙◌, subst, arith, ⊎_elim, Contains}
+use Rattle.std.proofs.Common.{◌≡◌, ◌≢◌, ◌⊎◌, inl, inr, ℕ, ◌+◌, ◌-◌, ◌<◌, ◌≤◌, Option, None, Some, List, length, get_or, set, refl, sym, ap, ◌∙◌, subst, arith, ⊎_elim, Contains}
 use Rattle.std.proofs.lemmas.Bool.{cases_eq, cases_lt}
 use Rattle.std.proofs.lemmas.List.{length-set, get_or-set_same, get_or-set_other, get_or_default}
 use Rattle.std.proofs.lemmas.List.Elements.{Contains-get_or}
 use Rattle.tf_model.specs.SchedulingTask.{SchedulingTask, IsJob}
 use Rattle.tf_model.specs.Sound.{IsSound}
 use Rattle.tf_single.specs.Progress.{of_job}
-use Rattle.tf_single.specs.Successors.{HasSuccessor, AreSuccessors}
+use Rattle.tf_single.specs.Successors.{HasSuccessor, AreSuccessors, AreSmallest, smaller_of}
 
--- by the first i arcs: what is found is a successor of which some arcs are left, and where nothing
--- is found there is none
+-- ---- the smaller of two jobs, where there is a first
+
+pub smaller_which : (found : Option ℕ) (j x : ℕ) → x ≡ smaller_of found j → (x ≡ j) ⊎ (found ≡ Some x)
+smaller_which None j x is = inl is
+smaller_which (Some i) j x is = ⊎_elim
+    (λ less. inr (ap (λ (m : ℕ). Some m) (omega (arith, is, less))))
+    (λ more. inl (omega (arith, is, more)))
+    (cases_lt i j)
+
+pub smaller_own : (found : Option ℕ) (j x : ℕ) → x ≡ smaller_of found j → x ≤ j
+smaller_own None j x is = omega (arith, is)
+smaller_own (Some i) j x is = omega (arith, is)
+
+pub smaller_least : (found : Option ℕ) (j x : ℕ) → x ≡ smaller_of found j → (y : ℕ) → found ≡ Some y
+    → x ≤ y
+smaller_least None j x is y some = cc
+smaller_least (Some i) j x is y some = let same : i ≡ y = cc in omega (arith, is, same)
+
+-- ---- what is found
+
+-- by the first i arcs: what is found is a successor of which some arcs are left, and none of these
+-- is smaller; where nothing is found there is none
 pub record IsFoundBy (k : SchedulingTask) (counts : List ℕ) (arcs : List (ℕ × ℕ)) (i : ℕ)
     (next : List (Option ℕ)) : Type 0 where
   pub len : length next ≡ length k.jobs
@@ -17,6 +37,9 @@ pub record IsFoundBy (k : SchedulingTask) (counts : List ℕ) (arcs : List (ℕ 
       → Contains arcs (j, x) × (0 < of_job counts x)
   pub none : (j : ℕ) → IsJob k j → get_or next (j - 1) None ≡ None → (n : ℕ) (d : ℕ × ℕ) → n < i
       → n < length arcs → (get_or arcs n d).0 ≡ j → 0 < of_job counts (get_or arcs n d).1 → ⊥
+  pub least : (j x : ℕ) → IsJob k j → get_or next (j - 1) None ≡ Some x → (n : ℕ) (d : ℕ × ℕ)
+      → n < i → n < length arcs → (get_or arcs n d).0 ≡ j → 0 < of_job counts (get_or arcs n d).1
+      → x ≤ (get_or arcs n d).1
 
 module _ (k : SchedulingTask) (counts : List ℕ) (arcs : List (ℕ × ℕ)) (i : ℕ)
     (next : List (Option ℕ)) (lt : i < length arcs) (arc : ℕ × ℕ) (at : get_or arcs i arc ≡ arc)
@@ -40,13 +63,24 @@ module _ (k : SchedulingTask) (counts : List ℕ) (arcs : List (ℕ × ℕ)) (i 
           over,
         ))
         (cases_lt n i);
+    least = λ j x job e n d less in' from left. ⊎_elim
+        (λ before. so_far.least j x job e n d before in' from left)
+        (λ last. let same : n ≡ i = omega (arith, less, last) in
+        omega (
+          arith,
+          left,
+          ap (λ m. of_job counts (get_or arcs m d).1) same,
+          ap (λ (a : ℕ × ℕ). of_job counts a.1) (at_any d),
+          over,
+        ))
+        (cases_lt n i);
   }
 
   -- an arc to a job of which some are left
   pub found_more : 0 < of_job counts arc.1 → IsJob k arc.0 → (x : ℕ)
-      → (x ≡ arc.1) ⊎ (get_or next (arc.0 - 1) None ≡ Some x)
+      → x ≡ smaller_of (get_or next (arc.0 - 1) None) arc.1
       → IsFoundBy k counts arcs (i + 1) (set next (arc.0 - 1) (Some x))
-  found_more some from x which = record {
+  found_more some from x smaller = record {
     len = length-set next (arc.0 - 1) (Some x) ∙ so_far.len;
     found = λ j y job e. ⊎_elim
         (λ same. subst (λ z. Contains arcs (z, y) × (0 < of_job counts y)) (sym same)
@@ -62,8 +96,45 @@ module _ (k : SchedulingTask) (counts : List ℕ) (arcs : List (ℕ × ℕ)) (i 
         ∙ ap (λ (a : ℕ × ℕ). a.0) (at_any d)))
         (cases_lt n i))
         (cases_eq j arc.0);
+    least = λ j y job e n d less in' own_from left. ⊎_elim
+        (λ same. let is : x ≡ y = the_same y (sym (here j same) ∙ e) in
+        omega (arith, is, least_here n d less in' (own_from ∙ same) left))
+        (λ differ. ⊎_elim
+        (λ before. so_far.least j y job (sym (there j job differ) ∙ e) n d before in' own_from left)
+        (λ last. let same : n ≡ i = omega (arith, less, last) in
+        absurd (differ (sym own_from ∙ ap (λ m. (get_or arcs m d).0) same
+        ∙ ap (λ (a : ℕ × ℕ). a.0) (at_any d))))
+        (cases_lt n i))
+        (cases_eq j arc.0);
   }
     where
+      which : (x ≡ arc.1) ⊎ (get_or next (arc.0 - 1) None ≡ Some x)
+      which = smaller_which (get_or next (arc.0 - 1) None) arc.1 x smaller
+
+      -- no arc from the same job leads to a smaller one
+      least_here : (n : ℕ) (d : ℕ × ℕ) → n < i + 1 → n < length arcs → (get_or arcs n d).0 ≡ arc.0
+          → 0 < of_job counts (get_or arcs n d).1 → x ≤ (get_or arcs n d).1
+      least_here n d less in' own_from left = ⊎_elim
+          (λ before. by_option (get_or next (arc.0 - 1) None) refl before)
+          (λ last. let same : n ≡ i = omega (arith, less, last) in
+          omega (
+            arith,
+            smaller_own (get_or next (arc.0 - 1) None) arc.1 x smaller,
+            ap (λ m. (get_or arcs m d).1) same,
+            ap (λ (a : ℕ × ℕ). a.1) (at_any d),
+          ))
+          (cases_lt n i)
+        where
+          by_option : (o : Option ℕ) → get_or next (arc.0 - 1) None ≡ o → n < i
+              → x ≤ (get_or arcs n d).1
+          by_option (Some z) e before =
+              omega (
+                arith,
+                smaller_least (get_or next (arc.0 - 1) None) arc.1 x smaller z e,
+                so_far.least arc.0 z from e n d before in' own_from left,
+              )
+          by_option None e before = absurd (so_far.none arc.0 from e n d before in' own_from left)
+
       here : (j : ℕ) → j ≡ arc.0 → get_or (set next (arc.0 - 1) (Some x)) (j - 1) None ≡ Some x
       here j same = ap (λ m. get_or (set next (arc.0 - 1) (Some x)) (m - 1) None) same
           ∙ get_or-set_same next (arc.0 - 1) (Some x) None
@@ -120,3 +191,21 @@ module _ (k : SchedulingTask) (sound : IsSound k) (counts : List ℕ) (arcs : Li
         let known : IsJob k (get_or k.arcs at.0 (j, x)).1 = (sound.arcs_in at.0 (j, x) at.1).1 in
         (at, found_some x (subst (λ (a : ℕ × ℕ). IsJob k a.1) at.2 known) its.1);
   }
+
+  pub found_smallest : AreSmallest k counts next
+  found_smallest j x listed =
+      let its = by.found j x listed.0 listed.1 in
+      record {
+        arc = subst (λ xs. Contains xs (j, x)) same its.0;
+        here = its.1;
+        smallest = λ y arc left.
+            let at : Contains arcs (j, y) = subst (λ xs. Contains xs (j, y)) (sym same) arc in
+            let is : (get_or arcs at.0 (j, y)).1 ≡ y = ap (λ (a : ℕ × ℕ). a.1) at.2 in
+            omega (
+              arith,
+              is,
+              by.least j x listed.0 listed.1 at.0 (j, y) (omega (arith, at.1, over)) at.1
+                  (ap (λ (a : ℕ × ℕ). a.0) at.2)
+                  (subst (λ (a : ℕ × ℕ). 0 < of_job counts a.1) (sym at.2) left),
+            );
+      }

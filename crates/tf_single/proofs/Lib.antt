@@ -16,6 +16,7 @@ pub mod ArcsInto
 pub mod Open
 pub mod Walk
 pub mod Found
+pub mod Endless
 pub mod Taking
 pub mod GreatestFirst
 pub mod ByDue

@@ -3,6 +3,7 @@ pub mod RunsByRatio
 pub mod EarliestDue
 pub mod Horn
 pub mod LawlerFault
+pub mod FirstCycle
 pub mod Costs
 pub mod Backward
 pub mod FromTheBack

@@ -1,10 +1,12 @@
 //! A cycle of arcs.
-ghost use Rattle.std.specs.Prelude.{◌≡◌, ◌≢◌, ◌⊎◌, ℕ, ◌<◌, Some, length, IfOk};
+ghost use Rattle.std.specs.Prelude.{◌≡◌, ℕ, ◌<◌, length, IfOk};
 ghost use Rattle.std.specs.List.{Contains};
 ghost use Rattle.tf_model.specs.Cycle.{IsForbiddingCycle};
 ghost use Rattle.tf_model.specs.SchedulingTask.{IsJob};
 ghost use Rattle.tf_single.specs.Progress.{of_job};
-ghost use Rattle.tf_single.specs.Successors.{HasSuccessor, AreSuccessors};
+ghost use Rattle.tf_single.specs.FirstCycle.{IsFirstOf, IsFirstCycle, IsWalkedCycle};
+ghost use Rattle.tf_single.specs.Successors.{HasSuccessor, AreSuccessors, AreSmallest};
+ghost use Rattle.tf_single.specs.Successors.{IsLeft, IsListed, smaller_of};
 
 use std::alloc::Allocator;
 use tf_model::ids::JobId;
@@ -24,7 +26,8 @@ pub(crate) fn cycle<A: Allocator + Copy, B: Allocator>(
     requires stuck { (j : ℕ) → IsJob task.now j → 0 < of_job counts.now j
         → (x : ℕ) × Contains task.now.arcs (j, x) × (0 < of_job counts.now x) }
     requires some { (j : ℕ) × IsJob task.now j × (0 < of_job counts.now j) }
-    ensures { IfOk result (λ jobs. IsForbiddingCycle task.now jobs) }
+    ensures forbids { IfOk result (λ jobs. IsForbiddingCycle task.now jobs) }
+    ensures first { IfOk result (λ jobs. IsFirstCycle task.now (IsLeft counts.now) jobs) }
 {
     let next = successors(alloc, task, counts)?;
     walk(alloc, task, &next, first_left(task, counts))
@@ -34,7 +37,7 @@ pub(crate) fn cycle<A: Allocator + Copy, B: Allocator>(
 fn first_left<B: Allocator>(task: &Task<B>, counts: &[u32]) -> JobId
     requires len { length counts.now ≡ length task.now.jobs }
     requires some { (j : ℕ) × IsJob task.now j × (0 < of_job counts.now j) }
-    ensures { IsJob task.now result × (0 < of_job counts.now result) }
+    ensures { IsFirstOf task.now (IsLeft counts.now) result }
 {
     for k in 0..task.len() {
         if counts[k] > 0 {
@@ -56,6 +59,7 @@ fn successors<A: Allocator, B: Allocator>(
     ensures are { IfOk result (λ v. AreSuccessors task.now v.items) }
     ensures some { IfOk result (λ v.
         (j : ℕ) → IsJob task.now j → 0 < of_job counts.now j → HasSuccessor v.items j) }
+    ensures smallest { IfOk result (λ v. AreSmallest task.now counts.now v.items) }
 {
     let mut next: Vec<Option<JobId>, A> = vec![in alloc; None; task.len()]?;
     for (before, after) in task.arcs() {
@@ -69,7 +73,7 @@ fn successors<A: Allocator, B: Allocator>(
 
 // The smaller of a job, where there is one, and another.
 fn smaller(found: Option<JobId>, job: JobId) -> JobId
-    ensures { (result ≡ job) ⊎ (found ≡ Some result) }
+    ensures { result ≡ smaller_of found job }
 {
     match found {
         Some(other) if other < job => other,
@@ -87,7 +91,8 @@ fn walk<A: Allocator + Copy, B: Allocator>(
     requires successors { AreSuccessors task.now next.now }
     requires job { IsJob task.now first }
     requires first { HasSuccessor next.now first }
-    ensures { IfOk result (λ jobs. IsForbiddingCycle task.now jobs) }
+    ensures forbids { IfOk result (λ jobs. IsForbiddingCycle task.now jobs) }
+    ensures walked { IfOk result (λ jobs. IsWalkedCycle first (IsListed task.now next.now) jobs) }
 {
     let mut places: Vec<Option<usize>, A> = vec![in alloc; None; task.len()]?;
     let mut path = Vec::with_capacity(alloc, task.len())?;

@@ -11,6 +11,7 @@ ghost use Rattle.tf_check.specs.Free.{AreMarks};
 ghost use Rattle.tf_check.specs.Kinds.{takes_last_of};
 ghost use Rattle.tf_single.specs.Backward.{AreChosen, IsDearest, rest_of};
 ghost use Rattle.tf_single.specs.Costs.{AreCosts};
+ghost use Rattle.tf_single.specs.FirstCycle.{HoldsFirstCycle};
 ghost use Rattle.tf_single.specs.FromTheBack.{IsFromTheBack};
 ghost use Rattle.tf_single.specs.LawlerFault.{HoldsCycle};
 
@@ -38,6 +39,8 @@ use tf_schedule::sequence::{in_sequence, reversed};
 /// that is cheapest when the work of all that are left is over goes last, the greater number among
 /// equals. The pieces come in order of time. The certificate is the set of the jobs that were left
 /// at the first of the dearest steps, in rising order. The costs are those of the task, job by job.
+/// The cycle is the end of a walk among the jobs from which arcs lead on without end, from the
+/// smallest and each time to the smallest successor, until a job comes again.
 /// Each step walks over the free jobs, which takes a time of the order of the square of their
 /// number: for lateness see [`lawler_by_due`].
 pub fn lawler<A: Allocator + Copy, B: Allocator, C: Cost>(
@@ -51,6 +54,7 @@ pub fn lawler<A: Allocator + Copy, B: Allocator, C: Cost>(
     ensures accepted { IfOk result (IsAccepted task.now) }
     ensures rule { IfOk result (λ a. IsFromTheBack task.now a.pieces a.certificate) }
     ensures cycle { IfErr result (HoldsCycle task.now) }
+    ensures first { IfErr result (HoldsFirstCycle task.now) }
 {
     let taken = Vec::with_capacity(alloc, task.len())?;
     from_the_back(alloc, task, taken, ByCost::new(alloc, task, costs)?)
@@ -72,6 +76,7 @@ pub fn lawler_by_due<A: Allocator + Copy, B: Allocator>(
     ensures accepted { IfOk result (IsAccepted task.now) }
     ensures rule { IfOk result (λ a. IsFromTheBack task.now a.pieces a.certificate) }
     ensures cycle { IfErr result (HoldsCycle task.now) }
+    ensures first { IfErr result (HoldsFirstCycle task.now) }
 {
     let taken = Vec::with_capacity(alloc, task.len())?;
     match near_due(task) {
@@ -95,6 +100,7 @@ fn from_the_back<A: Allocator + Copy, B: Allocator, F: FreeJobs + Drop>(
     ensures accepted { IfOk result (IsAccepted task.now) }
     ensures rule { IfOk result (λ a. IsFromTheBack task.now a.pieces a.certificate) }
     ensures cycle { IfErr result (HoldsCycle task.now) }
+    ensures first { IfErr result (HoldsFirstCycle task.now) }
 {
     let order = last_first(alloc, task, taken, free)?;
     Ok(answer_of(alloc, task, order)?)

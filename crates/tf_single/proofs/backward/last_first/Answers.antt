@@ -1,10 +1,13 @@
-use Rattle.std.proofs.Common.{◌≡◌, ℕ, ◌+◌, List, [], ◌∷◌, ◌++◌, length, sym, ap, ◌∙◌, arith, rules}
+use Rattle.std.proofs.Common.{◌≡◌, ℕ, ◌+◌, List, [], ◌∷◌, ◌++◌, length, sym, ap, ◌∙◌, subst, arith, rules}
 use Rattle.std.proofs.lemmas.Int.{to_z-of_z}
 use Rattle.std.proofs.lemmas.List.{length-append}
 use mir.Syntax.{w64}
 use mir.Val.{to_z, of_z}
 use Rattle.tf_model.specs.SchedulingTask.{SchedulingTask}
+use Rattle.tf_single.specs.FirstCycle.{IsFirstCycle}
+use Rattle.tf_single.specs.Successors.{IsLeft}
 use Rattle.tf_single.proofs.DearestStep.{dearest_more, dearest_found}
+use Rattle.tf_single.proofs.Endless.{first_endless}
 use Rattle.tf_single.proofs.Taking.{none_left, stuck, stuck_some}
 use Rattle.tf_single.proofs.backward.last_first.Goals as goal
 
@@ -51,6 +54,19 @@ loop-place-preserved g c =
 -- at least one job is taken
 pub unwrap-requires : goal.unwrap-requires
 unwrap-requires g c = search rules
+
+pub returns-then-is_empty : goal.returns-then-is_empty
+returns-then-is_empty g c =
+    let k : SchedulingTask = c.args.task.now in
+    let jobs : List ℕ = c.in_ok-cycle.field-0 in (
+      c.in_ok-cycle.ensures.forbids,
+      first_endless k c.len-place-end.ensures.sound c.loop-place.open.taken.items
+          c.loop-place.open.counts.items (g.F.FreeJobs.jobs_of c.loop-place.open.free)
+          c.loop-place.invariant.now.now (c.is_empty.ensures.none c.if-is_empty.true)
+          c.loop-place.invariant.now.chosen jobs
+          (subst (λ counts. IsFirstCycle k (IsLeft counts) jobs) c.deref.ensures.value
+          c.in_ok-cycle.ensures.first),
+    )
 
 pub returns : goal.returns
 returns g c =

@@ -1,9 +1,10 @@
-use Rattle.std.proofs.Common.{◌≡◌, ◌⊎◌, inl, inr, ◌-◌, ℕ, None, Some, List, Option, get_or, sym, ap, ◌∙◌, arith, ⊎_elim}
+use Rattle.std.proofs.Common.{◌≡◌, ◌-◌, ℕ, None, List, Option, get_or, sym, ap, ◌∙◌, arith}
 use Rattle.std.proofs.lemmas.List.{get_or_default}
 use Rattle.tf_model.specs.SchedulingTask.{SchedulingTask}
 use Rattle.tf_single.specs.Progress.{of_job}
+use Rattle.tf_single.specs.Successors.{smaller_of}
 use Rattle.tf_check.proofs.Followed.{arc_in_task}
-use Rattle.tf_single.proofs.Found.{found_same, found_more, found_some, found_all}
+use Rattle.tf_single.proofs.Found.{found_same, found_more, found_some, found_all, found_smallest}
 use Rattle.tf_single.proofs.cycle.successors.Goals as goal
 use Rattle.tf_single.proofs.cycle.successors.Goals.{then-counts-place-gt0, else-counts-place-gt0}
 
@@ -68,9 +69,8 @@ loop-before-preserved g c =
             its.0.1,
           ))
           ∙ ap (λ n. get_or next n None) w.place-place.ensures.value in
-          let which : (w.smaller.result ≡ arc.1) ⊎
-          (get_or next (arc.0 - 1) None ≡ Some w.smaller.result) =
-          ⊎_elim (λ own. inl own) (λ before. inr (sym found ∙ before)) w.smaller.ensures in
+          let which : w.smaller.result ≡ smaller_of (get_or next (arc.0 - 1) None) arc.1 =
+          w.smaller.ensures ∙ ap (λ o. smaller_of o arc.1) found in
           let more = found_more k counts arcs i next c.loop-before-test.true arc at
           c.loop-before.invariant (omega (arith, left, w.if-counts-place-gt0.true)) its.0
           w.smaller.result which in
@@ -92,3 +92,10 @@ returns-clause-some g c =
     found_some c.args.task.now c.len.ensures.sound c.args.counts.now c.arcs-before-items.result.now
     c.loop-before.before-index c.loop-before.next.items c.arcs-before-items.ensures.value
     c.loop-before-test.false c.loop-before.invariant c.requires.stuck
+
+pub returns-clause-smallest : goal.returns-clause-smallest
+returns-clause-smallest g c =
+    found_smallest c.args.task.now c.len.ensures.sound c.args.counts.now
+    c.arcs-before-items.result.now c.loop-before.before-index c.loop-before.next.items
+    c.arcs-before-items.ensures.value c.loop-before-test.false c.loop-before.invariant
+    c.requires.stuck
