@@ -1,5 +1,5 @@
 -- Reading the task of a problem.
-use Rattle.std.proofs.Common.{◌≡◌, ℕ, ◌⊎◌, Bool, true, List, Option, Some, Result, Ok, Err, IsOk, refl, sym, ap, subst, ◌∙◌, inl, inr}
+use Rattle.std.proofs.Common.{◌≡◌, ℕ, ◌⊎◌, Bool, true, List, Option, Some, Result, Ok, Err, refl, sym, ap, subst, ◌∙◌, inl, inr}
 use Rattle.tf_model.specs.Outcome.{◌>>=◌}
 use Rattle.tf_model.specs.ClassTable.{is_shop_env}
 use Rattle.tf_model.specs.declared.problem.Problem.{Problem}
@@ -29,10 +29,9 @@ IsRefusal wanted refused =
     (wanted ≡ Err refused)
     ⊎ ((refused ≡ ByTask refusals.TotalTooLarge) × ((task : ProblemData) × (wanted ≡ Ok task)))
 
-too_large : (wanted : Result ProblemData Refusal) → IsOk wanted
+too_large : (wanted : Result ProblemData Refusal) (k : ProblemData) → wanted ≡ Ok k
     → IsRefusal (refused_by ByTask wanted) (ByTask refusals.TotalTooLarge)
-too_large (Ok k) h = inr (refl, (k, refl))
-too_large (Err e) h = cc
+too_large wanted k is = inr (refl, (k, ap (refused_by ByTask) is))
 
 -- why an instance is no task of the problem stops the run
 exact : (A : Type 0) (wanted : Result ProblemData Refusal) (refusal : Refusal)
@@ -45,8 +44,8 @@ unprepared : (A : Type 0) (wanted : Result ProblemData Refusal) (refusal : Refus
     → PreparesIn (Err refusal) wanted
     → StopsBy (IsRefusal (refused_by ByTask wanted)) (stop_of (of_refusal {A = A} refusal))
 unprepared A wanted refusal (inl h) = exact A wanted refusal h
-unprepared A wanted refusal (inr (ok, inl same)) = rw same tt
-unprepared A wanted refusal (inr (ok, inr same)) = rw same (too_large wanted ok)
+unprepared A wanted refusal (inr (k, is, inl same)) = rw same tt
+unprepared A wanted refusal (inr (k, is, inr (same, large))) = rw same (too_large wanted k is)
 
 module _ (A T : Type 0) (request : RequestData) (remaining : T → Option (List ℕ)) (old : Counted T)
   where

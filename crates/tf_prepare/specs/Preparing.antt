@@ -1,6 +1,6 @@
 -- The task of any problem that an instance makes, or the first refusal. A field that the problem does
 -- not use is ignored.
-use Rattle.std.specs.Prelude.{◌≡◌, ◌⊎◌, ℕ, ◌+◌, Bool, true, false, not, ◌&&◌, ◌||◌, ◌==◌, nat_lt, pos, List, [], ◌∷◌, map, slice_index, Option, None, Some, Result, Ok, Err, is_none, is_some, unwrap_or, if◌then◌else◌, IsOk}
+use Rattle.std.specs.Prelude.{◌≡◌, ◌⊎◌, ℕ, ◌+◌, Bool, true, false, not, ◌&&◌, ◌||◌, ◌==◌, nat_lt, pos, List, [], ◌∷◌, map, slice_index, Option, None, Some, Result, Ok, Err, is_none, is_some, unwrap_or, if◌then◌else◌}
 use Rattle.std.specs.List.{list_all}
 use Rattle.std.specs.Option.{option_map, option_or}
 use Rattle.tf_model.specs.Limit.{most_machines}
@@ -21,6 +21,7 @@ use Rattle.tf_model.specs.declared.prepare.Refusal.{Refusal}
 use Rattle.tf_model.specs.declared.prepare.Refusal.TheVariants.{MachineCount, WrongTimes, MissingField, ZeroTime, TotalTooLarge, OutOfMemory}
 use Rattle.tf_problem.specs.ProblemData.{ProblemData, ProblemJobData, is_covered, is_job_shop}
 use Rattle.tf_problem.specs.ProblemBounds.{is_max_goal, is_tardy_goal, is_sum_goal, is_alike, is_by_machine}
+use Rattle.tf_bound.specs.Sized.{IsSized}
 use Rattle.tf_prepare.specs.TimedData.{TimedData}
 
 -- ---- the problem
@@ -154,11 +155,12 @@ prepared_in t p argument = do
   machines ← machines_in p (is_some t.by_machine) argument t.instance.machines
   unless (jobs_refusal_in p t) (Ok (task_in p machines t))
 
--- memory is wanting, or a total is beyond the limit
-abbrev pub IsOfSize : Refusal → Type 0
-IsOfSize refusal = (refusal ≡ OutOfMemory) ⊎ (refusal ≡ TotalTooLarge)
+-- memory is wanting; or the task is not within the limits, of which those on totals are left
+abbrev pub IsOfSize : ProblemData → Refusal → Type 0
+IsOfSize k refusal = (refusal ≡ OutOfMemory) ⊎ ((refusal ≡ TotalTooLarge) × (¬ (IsSized k)))
 
 -- The task, or the first refusal. Totals and memory come last, where nothing else is refused.
 abbrev pub PreparesIn : Result ProblemData Refusal → Result ProblemData Refusal → Type 0
 PreparesIn (Ok k) wanted = wanted ≡ Ok k
-PreparesIn (Err refusal) wanted = (wanted ≡ Err refusal) ⊎ (IsOk wanted × IsOfSize refusal)
+PreparesIn (Err refusal) wanted =
+    (wanted ≡ Err refusal) ⊎ ((k : ProblemData) × (wanted ≡ Ok k) × IsOfSize k refusal)

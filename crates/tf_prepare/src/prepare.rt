@@ -248,7 +248,7 @@ fn assemble<A: Allocator + Copy, B: Allocator>(
     timed: &TimedInstance<B>,
 ) -> Result<ProblemTask<A>, Refusal>
     ensures ok { IfOk result (λ task. task ≡ task_in problem.now machines timed.now) }
-    ensures err { IfErr result IsOfSize }
+    ensures err { IfErr result (IsOfSize (task_in problem.now machines timed.now)) }
 {
     let instance = timed.instance();
     let jobs = jobs_in(alloc, problem, timed, instance.jobs())?;
