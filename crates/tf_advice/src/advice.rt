@@ -88,7 +88,7 @@ impl Place {
 }
 
 /// What is wrong, and how to fix it.
-#[derive(Clone, Copy, Debug)]
+#[derive(Clone, Copy)]
 pub struct Advice {
     /// What the person may have done.
     pub cause: Cause,
@@ -103,7 +103,7 @@ pub struct Advice {
 impl Cause {
     /// What the table of advice says of it.
     pub fn advice(self) -> Option<&'static Advice> {
-        ADVICE.iter().find(|advice| advice.cause == self)
+        ADVICE.get(self as usize)
     }
 }
 

@@ -10,7 +10,7 @@ use tf_words::word::is;
 const MOST_ARCS: usize = 20;
 
 /// An arc, and the first line that has it.
-#[derive(Clone, Copy, Debug)]
+#[derive(Clone, Copy)]
 struct ArcLine<'a> {
     before: Number,
     after: Number,
@@ -59,11 +59,11 @@ fn first_arcs<'a>(alloc: Global, jobs: &[JobId]) -> Result<Vec<ArcLine<'a>>, All
 
 // Finds the first line of each arc, in one walk over the text.
 fn find_lines<'a>(source: &Source<'a>, arcs: &mut Vec<ArcLine<'a>>) {
-    for (place, bytes) in source.text.split(|byte| *byte == b'\n').enumerate() {
-        if let Some((before, after)) = arc_in(bytes) {
+    for line in source.lines() {
+        if let Some((before, after)) = arc_in(line.bytes) {
             for arc in arcs.iter_mut() {
                 if arc.line.is_none() && arc.before == before && arc.after == after {
-                    arc.line = Some(SourceLine::new(place, bytes));
+                    arc.line = Some(line);
                 }
             }
         }

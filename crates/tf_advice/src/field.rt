@@ -7,7 +7,7 @@ use tf_words::number::{Number, number_of};
 use tf_words::part::divided;
 
 /// The fields that a line has named so far.
-#[derive(Clone, Copy, Debug)]
+#[derive(Clone, Copy)]
 pub(crate) struct Named {
     letters: [bool; 5],
 }

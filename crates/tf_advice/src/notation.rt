@@ -7,7 +7,7 @@ use tf_model::problem::{Env, Goal, Problem};
 use tf_notation::reading::read;
 
 /// What a field may say.
-#[derive(Clone, Copy, Debug, PartialEq, Eq)]
+#[derive(Clone, Copy, PartialEq)]
 enum Expected {
     Environment,
     Bar,
@@ -28,13 +28,6 @@ static ENVIRONMENTS: [&str; 7] = ["1", "P", "Q", "R", "F", "O", "J"];
 
 static NOTHING: [&str; 0] = [];
 
-/// A word of the literature that is not read, and what to write for it.
-#[derive(Clone, Copy)]
-struct Hint {
-    word: &'static str,
-    advice: &'static str,
-}
-
 const PREC: &str = "Chains and trees are precedence constraints: write \"prec\".";
 
 const WEIGHTED: &str = "Write 1||hmax, and the weighted lateness of each job as its cost h=.";
@@ -45,71 +38,27 @@ const DEADLINES: &str = "Due dates are no condition: give each job its d=.";
 
 const SETUPS: &str = "Setup times are not read.";
 
-static HINTS: [Hint; 16] = [
-    Hint {
-        word: "Tmax",
-        advice: "Tmax is 0 or Lmax, whichever is greater: a schedule with minimum Lmax minimizes it.",
-    },
-    Hint {
-        word: "wLmax",
-        advice: WEIGHTED,
-    },
-    Hint {
-        word: "wTmax",
-        advice: WEIGHTED,
-    },
-    Hint {
-        word: "p_j",
-        advice: EQUAL_TIMES,
-    },
-    Hint {
-        word: "pj",
-        advice: EQUAL_TIMES,
-    },
-    Hint {
-        word: "d_j",
-        advice: DEADLINES,
-    },
-    Hint {
-        word: "dj",
-        advice: DEADLINES,
-    },
-    Hint {
-        word: "s_jk",
-        advice: SETUPS,
-    },
-    Hint {
-        word: "sjk",
-        advice: SETUPS,
-    },
-    Hint {
-        word: "s_ij",
-        advice: SETUPS,
-    },
-    Hint {
-        word: "sij",
-        advice: SETUPS,
-    },
-    Hint {
-        word: "tree",
-        advice: PREC,
-    },
-    Hint {
-        word: "intree",
-        advice: PREC,
-    },
-    Hint {
-        word: "outtree",
-        advice: PREC,
-    },
-    Hint {
-        word: "chain",
-        advice: PREC,
-    },
-    Hint {
-        word: "chains",
-        advice: PREC,
-    },
+/// Words of the literature that are not read, each with what to write for it.
+static HINTS: [(&str, &str); 16] = [
+    (
+        "Tmax",
+        "Tmax is 0 or Lmax, whichever is greater: a schedule with minimum Lmax minimizes it.",
+    ),
+    ("wLmax", WEIGHTED),
+    ("wTmax", WEIGHTED),
+    ("p_j", EQUAL_TIMES),
+    ("pj", EQUAL_TIMES),
+    ("d_j", DEADLINES),
+    ("dj", DEADLINES),
+    ("s_jk", SETUPS),
+    ("sjk", SETUPS),
+    ("s_ij", SETUPS),
+    ("sij", SETUPS),
+    ("tree", PREC),
+    ("intree", PREC),
+    ("outtree", PREC),
+    ("chain", PREC),
+    ("chains", PREC),
 ];
 
 /// The most edits by which a word is taken for another.
@@ -203,8 +152,8 @@ fn hint_for(text: &[u8], byte: usize, word: &[u8]) -> Option<&'static str> {
     if text.contains(&b'\\') || text.contains(&b'{') {
         return Some("LaTeX is not read: write Cmax, Lmax, sumC or sumwC.");
     }
-    let hint = HINTS.iter().find(|hint| hint.word.as_bytes() == word)?;
-    Some(hint.advice)
+    let (_, advice) = HINTS.iter().find(|hint| hint.0.as_bytes() == word)?;
+    Some(*advice)
 }
 
 // Whether the word is an objective's.

@@ -58,9 +58,7 @@ impl Page {
     /// Bytes on a line of their own: unprintable ones are escaped, and a long line is cut.
     pub fn show(&mut self, bytes: &[u8]) -> Result<(), AllocError> {
         self.text.push_str(MARGIN)?;
-        for byte in bytes.iter().take(MOST_SHOWN) {
-            push_byte(&mut self.text, *byte)?;
-        }
+        push_bytes(&mut self.text, front_of(bytes))?;
         if bytes.len() > MOST_SHOWN {
             self.text.push_str(" ..")?;
         }
@@ -72,16 +70,12 @@ impl Page {
         if start > MOST_SHOWN {
             return Ok(());
         }
+        let shown = front_of(bytes);
+        let (before, behind) = shown.split_at(start.min(shown.len()));
+        let marked = behind.get(..len).unwrap_or(behind);
         self.text.push_str(MARGIN)?;
-        for byte in bytes.iter().take(start) {
-            push_times(&mut self.text, ' ', width_of(*byte))?;
-        }
-        let most = MOST_SHOWN.saturating_sub(start).min(len);
-        let mut columns: usize = 0;
-        for byte in bytes.iter().skip(start).take(most) {
-            columns = columns.saturating_add(width_of(*byte));
-        }
-        push_times(&mut self.text, '^', columns.max(1))?;
+        push_times(&mut self.text, ' ', width_of(before))?;
+        push_times(&mut self.text, '^', width_of(marked).max(1))?;
         self.text.push('\n')
     }
 }
@@ -90,9 +84,7 @@ impl Page {
 /// those of a text are, so that it can neither steer a terminal nor begin a line.
 pub fn escape(alloc: Global, text: &str) -> Result<String, AllocError> {
     let mut escaped = String::new(alloc);
-    for byte in text.as_bytes() {
-        push_byte(&mut escaped, *byte)?;
-    }
+    push_bytes(&mut escaped, text.as_bytes())?;
     Ok(escaped)
 }
 
@@ -100,9 +92,25 @@ fn is_plain(byte: u8) -> bool {
     byte == b'\t' || byte == b' ' || byte.is_ascii_graphic()
 }
 
-/// How many columns a byte takes.
-fn width_of(byte: u8) -> usize {
-    if is_plain(byte) { 1 } else { 4 }
+/// What is shown of a line.
+fn front_of(bytes: &[u8]) -> &[u8] {
+    bytes.get(..MOST_SHOWN).unwrap_or(bytes)
+}
+
+/// How many columns some bytes take.
+fn width_of(bytes: &[u8]) -> usize {
+    let mut columns: usize = 0;
+    for byte in bytes {
+        columns = columns.saturating_add(if is_plain(*byte) { 1 } else { 4 });
+    }
+    columns
+}
+
+fn push_bytes(text: &mut String, bytes: &[u8]) -> Result<(), AllocError> {
+    for byte in bytes {
+        push_byte(text, *byte)?;
+    }
+    Ok(())
 }
 
 fn push_byte(text: &mut String, byte: u8) -> Result<(), AllocError> {
@@ -125,8 +133,6 @@ fn push_times(text: &mut String, c: char, times: usize) -> Result<(), AllocError
 /// A word as a sentence names it.
 pub fn push_word(text: &mut String, word: &[u8]) -> Result<(), AllocError> {
     text.push('"')?;
-    for byte in word.iter().take(MOST_SHOWN) {
-        push_byte(text, *byte)?;
-    }
+    push_bytes(text, front_of(word))?;
     text.push('"')
 }

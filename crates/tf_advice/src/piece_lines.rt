@@ -1,15 +1,14 @@
 //! The pieces of an answer, with their lines.
 use crate::page::Page;
-use crate::source::{Front, Source, SourceLine, Word};
+use crate::source::{Front, Source, SourceLine};
 use std::alloc::AllocError;
-use tf_words::number::{Number, number_of};
 use tf_words::word::is;
 
 /// The most pieces that are shown.
 const MOST_PIECES: usize = 8;
 
 /// A line `piece`.
-#[derive(Clone, Copy, Debug)]
+#[derive(Clone, Copy)]
 struct PieceLine<'a> {
     line: SourceLine<'a>,
     job: i64,
@@ -19,7 +18,7 @@ struct PieceLine<'a> {
 }
 
 /// Which pieces of an answer are looked at.
-#[derive(Clone, Copy, Debug)]
+#[derive(Clone, Copy)]
 pub enum Pieces {
     /// The one that has so many before it.
     Behind(usize),
@@ -61,18 +60,11 @@ fn piece_in(line: SourceLine<'_>) -> Option<PieceLine<'_>> {
     }
     Some(PieceLine {
         line,
-        job: value_in(front.word(1)?)?,
-        machine: value_in(front.word(2)?)?,
-        start: value_in(front.word(3)?)?,
-        stop: value_in(front.word(4)?)?,
+        job: front.value(1)?,
+        machine: front.value(2)?,
+        start: front.value(3)?,
+        stop: front.value(4)?,
     })
-}
-
-fn value_in(word: Word<'_>) -> Option<i64> {
-    match number_of(word.bytes) {
-        Number::Value(value) => Some(value),
-        _ => None,
-    }
 }
 
 /// Lines of some of the pieces, those first that stand first.
@@ -83,8 +75,8 @@ pub fn quote_pieces(
 ) -> Result<(), AllocError> {
     let mut before: usize = 0;
     let mut shown: usize = 0;
-    for (place, bytes) in source.text.split(|byte| *byte == b'\n').enumerate() {
-        let Some(piece) = piece_in(SourceLine::new(place, bytes)) else {
+    for line in source.lines() {
+        let Some(piece) = piece_in(line) else {
             continue;
         };
         if pieces.has(before, &piece) {
@@ -102,9 +94,9 @@ pub fn quote_pieces(
 /// How many time steps the pieces of a job are together.
 pub fn steps_of(source: &Source<'_>, job: u32) -> i64 {
     let mut steps: i64 = 0;
-    for (place, bytes) in source.text.split(|byte| *byte == b'\n').enumerate() {
-        if let Some(piece) = piece_in(SourceLine::new(place, bytes))
-            && Pieces::OfJob(job).has(place, &piece)
+    for line in source.lines() {
+        if let Some(piece) = piece_in(line)
+            && piece.job == i64::from(job)
         {
             steps = steps.saturating_add(piece.stop.saturating_sub(piece.start));
         }

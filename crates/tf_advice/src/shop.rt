@@ -10,6 +10,18 @@ use tf_words::word::is;
 /// The most names that are told.
 const MOST_NAMES: usize = 20;
 
+const ENDS_EARLY: &str = "\
+The file ends before the instance does: it is cut off, or no line has the
+numbers of jobs and machines, two numbers alone.";
+
+const NOT_A_FLOW_SHOP: &str = "\
+In each job the machines stand in the order 0, 1, 2, .., each with its time.
+A file in which they do not is one of a job shop, which is not solved.";
+
+const BAD_NUMBER: &str = "After the sizes come whole numbers only: machine and time in turn.";
+
+const BAD_LINE: &str = "The second number is that of the machines, from 1 to 1000.";
+
 /// What is wrong, where the instance of this name was read.
 pub fn explain_shop(
     alloc: Global,
@@ -24,31 +36,26 @@ pub fn explain_shop(
     }
     match *fault {
         ReadFault::NoInstance => say_names(page, source, name),
-        ReadFault::NotAFlowShop(line) => {
-            page.quote_number(source, line as usize)?;
-            page.say(
-                "In each job the machines stand in the order 0, 1, 2, .., each with its time.",
-            )?;
-            page.say("A file in which they do not is one of a job shop, which is not solved.")
-        }
         ReadFault::BadPair => say_machines(alloc, page, source, name),
-        ReadFault::EndsEarly => {
-            page.say("The file ends before the instance does: it is cut off, or no line has the")?;
-            page.say("numbers of jobs and machines, two numbers alone.")
-        }
-        ReadFault::BadNumber(line) | ReadFault::NumberTooLarge(line) => {
-            page.quote_number(source, line as usize)?;
-            page.say("After the sizes come whole numbers only: machine and time in turn.")
-        }
-        ReadFault::Negative(line) => {
-            page.quote_number(source, line as usize)?;
-            page.say("A time is at least 0.")
-        }
-        ReadFault::BadLine(line) => {
-            page.quote_number(source, line as usize)?;
-            page.say("The second number is that of the machines, from 1 to 1000.")
-        }
-        _ => Ok(()),
+        ReadFault::EndsEarly => page.say(ENDS_EARLY),
+        _ => match line_at_fault(fault) {
+            Some((line, wrong)) => {
+                page.quote_number(source, line as usize)?;
+                page.say(wrong)
+            }
+            None => Ok(()),
+        },
+    }
+}
+
+// The line that a fault is of, and what is wrong there.
+fn line_at_fault(fault: &ReadFault) -> Option<(u32, &'static str)> {
+    match *fault {
+        ReadFault::NotAFlowShop(line) => Some((line, NOT_A_FLOW_SHOP)),
+        ReadFault::BadNumber(line) | ReadFault::NumberTooLarge(line) => Some((line, BAD_NUMBER)),
+        ReadFault::Negative(line) => Some((line, "A time is at least 0.")),
+        ReadFault::BadLine(line) => Some((line, BAD_LINE)),
+        _ => None,
     }
 }
 
@@ -58,8 +65,8 @@ fn say_names(page: &mut Page, source: &Source<'_>, name: &str) -> Result<(), All
     page.text.push_str(escape(page.alloc, name)?.as_str())?;
     page.say("\".")?;
     let mut names: usize = 0;
-    for line in source.text.split(|byte| *byte == b'\n') {
-        if let Some(found) = name_in(line) {
+    for line in source.lines() {
+        if let Some(found) = name_in(line.bytes) {
             names = names.saturating_add(1);
             if names <= MOST_NAMES {
                 page.text

@@ -1,9 +1,13 @@
 //! The texts that a run was over, by lines and words.
+ghost use Rattle.std.specs.Prelude.{◌+◌, length};
+ghost use Rattle.std.specs.Iterator.{at_most};
+ghost use Rattle.std.specs.Option.{option_map_or};
+
 use crate::page::escape;
 use std::alloc::{AllocError, Global};
-use tf_words::line::without_return;
+use tf_words::line::{line_len, without_return};
 use tf_words::number::{Number, number_of};
-use tf_words::word::{first_word, is_white};
+use tf_words::word::first_word;
 
 /// The most words of a line that are looked at together.
 const MOST_WORDS: usize = 6;
@@ -45,16 +49,22 @@ impl<'a> Source<'a> {
 
     /// The line of that number, from 1.
     pub fn line(&self, number: usize) -> Option<SourceLine<'a>> {
-        let before = number.checked_sub(1)?;
-        let bytes = self.text.split(|byte| *byte == b'\n').nth(before)?;
-        Some(SourceLine::new(before, bytes))
+        self.lines().nth(number.checked_sub(1)?)
+    }
+
+    /// All its lines.
+    pub fn lines(&self) -> Lines<'a> {
+        Lines {
+            rest: Some(self.text),
+            before: 0,
+        }
     }
 
     /// The first line whose words begin with these; a number may be written with leading zeros.
     pub fn line_beginning(&self, front: &[&[u8]]) -> Option<SourceLine<'a>> {
-        for (place, bytes) in self.text.split(|byte| *byte == b'\n').enumerate() {
-            if begins_with(bytes, front) {
-                return Some(SourceLine::new(place, bytes));
+        for line in self.lines() {
+            if begins_with(line.bytes, front) {
+                return Some(line);
             }
         }
         None
@@ -68,10 +78,62 @@ impl<'a> Source<'a> {
 
     /// How many words the text has.
     pub fn word_count(&self) -> usize {
-        self.text
-            .split(|byte| is_white(*byte))
-            .filter(|word| !word.is_empty())
-            .count()
+        Words::new(self.text).count()
+    }
+}
+
+/// The lines of a text that are left.
+#[derive(Drop)]
+pub struct Lines<'a> {
+    rest: Option<&'a [u8]>,
+    before: usize,
+}
+
+impl<'a> Iterator for Lines<'a> {
+    type Item = SourceLine<'a>;
+
+    ghost remaining = { λ s. at_most (option_map_or (λ r. length r.now + 1) s.rest 0) };
+
+    fn next(&mut self) -> Option<SourceLine<'a>> {
+        let text = self.rest?;
+        let (bytes, behind) = text.split_at(line_len(text));
+        let line = SourceLine::new(self.before, bytes);
+        self.rest = behind.get(1..);
+        self.before = line.number;
+        Some(line)
+    }
+}
+
+/// The words of a line that are left.
+#[derive(Drop)]
+pub struct Words<'a> {
+    rest: &'a [u8],
+    // how many bytes the line has
+    len: usize,
+}
+
+impl<'a> Words<'a> {
+    pub fn new(line: &'a [u8]) -> Words<'a> {
+        Words {
+            rest: line,
+            len: line.len(),
+        }
+    }
+}
+
+impl<'a> Iterator for Words<'a> {
+    type Item = Word<'a>;
+
+    ghost remaining = { λ s. at_most (length s.rest.now) };
+
+    fn next(&mut self) -> Option<Word<'a>> {
+        let (bytes, rest) = first_word(self.rest)?;
+        self.rest = rest;
+        let stop = self.len.saturating_sub(rest.len());
+        Some(Word {
+            start: stop.saturating_sub(bytes.len()),
+            bytes,
+        })
     }
 }
 
@@ -86,23 +148,17 @@ impl<'a> SourceLine<'a> {
 
     /// The word of the line that has so many before it.
     pub fn word(&self, before: usize) -> Option<Word<'a>> {
-        let mut start: usize = 0;
-        let mut place: usize = 0;
-        for bytes in self.bytes.split(|byte| is_white(*byte)) {
-            if !bytes.is_empty() {
-                if place == before {
-                    return Some(Word { start, bytes });
-                }
-                place = place.saturating_add(1);
-            }
-            start = start.saturating_add(bytes.len()).saturating_add(1);
-        }
-        None
+        self.words().nth(before)
+    }
+
+    /// All its words.
+    pub fn words(&self) -> Words<'a> {
+        Words::new(self.bytes)
     }
 }
 
 /// The first words of a line, at most six of them.
-#[derive(Clone, Copy, Debug)]
+#[derive(Clone, Copy)]
 pub struct Front<'a> {
     words: [Word<'a>; MOST_WORDS],
     len: usize,
@@ -118,12 +174,10 @@ impl<'a> Front<'a> {
             words: [none; MOST_WORDS],
             len: 0,
         };
-        let mut start: usize = 0;
-        for bytes in line.split(|byte| is_white(*byte)) {
-            if !bytes.is_empty() && !front.push(Word { start, bytes }) {
+        for word in Words::new(line) {
+            if !front.push(word) {
                 break;
             }
-            start = start.saturating_add(bytes.len()).saturating_add(1);
         }
         front
     }
@@ -152,6 +206,14 @@ impl<'a> Front<'a> {
             self.words.get(before).copied()
         } else {
             None
+        }
+    }
+
+    /// The value of that word, where it is a number.
+    pub fn value(&self, before: usize) -> Option<i64> {
+        match number_of(self.word(before)?.bytes) {
+            Number::Value(value) => Some(value),
+            _ => None,
         }
     }
 }

@@ -1,28 +1,30 @@
 //! What is wrong with a job table, line by line.
-use crate::advice::{Advice, Cause};
+use crate::advice::{Cause, Place};
 use crate::field::Named;
 use crate::number::fault_of_number;
 use crate::page::Page;
 use crate::source::{Front, Source, SourceLine, Word};
-use std::alloc::AllocError;
+use std::alloc::{AllocError, Global};
 use tf_model::limit::MOST_MACHINES;
 use tf_words::digits::is_numeral;
 use tf_words::number::{Number, number_of};
-use tf_words::word::{is, is_white};
+use tf_words::word::is;
 
 /// The most slips that are told.
 const MOST_SLIPS: usize = 20;
 
-/// A line that is wrong, with the word at fault where it can be told.
-#[derive(Clone, Copy, Debug)]
+/// The word at fault, where it can be told, and what is wrong.
+type Fault<'a> = (Option<Word<'a>>, Cause);
+
+/// A line that is wrong.
+#[derive(Clone, Copy)]
 struct Slip<'a> {
     line: SourceLine<'a>,
-    word: Option<Word<'a>>,
-    cause: Cause,
+    fault: Fault<'a>,
 }
 
 /// Which lines may come next.
-#[derive(Clone, Copy, Debug, PartialEq, Eq)]
+#[derive(Clone, Copy, PartialEq)]
 enum Stage {
     Heading,
     Machines,
@@ -34,220 +36,239 @@ enum Stage {
 
 /// The lines so far.
 #[derive(Drop)]
-struct Judge<'a> {
+struct Judge {
     stage: Stage,
     // the number of the last job
     jobs: i64,
-    slips: Vec<Slip<'a>>,
 }
 
 /// Tells all slips of a table, up to the most that are told, and whether there was one.
 pub fn explain_table(page: &mut Page, source: &Source<'_>) -> Result<bool, AllocError> {
+    let slips = slips_in(page.alloc, source)?;
+    say_slips(page, source, &slips)?;
+    Ok(!slips.is_empty())
+}
+
+// The slips of a text, until they are more than are told.
+fn slips_in<'a>(alloc: Global, source: &Source<'a>) -> Result<Vec<Slip<'a>>, AllocError> {
+    let mut slips = Vec::new(alloc);
     let mut judge = Judge {
         stage: Stage::Heading,
         jobs: 0,
-        slips: Vec::new(page.alloc),
     };
-    for (k, bytes) in source.text.split(|byte| *byte == b'\n').enumerate() {
-        judge.line(SourceLine::new(k, bytes))?;
-        if judge.slips.len() > MOST_SLIPS {
+    for line in source.lines() {
+        judge.push_slips(line, &mut slips)?;
+        if slips.len() > MOST_SLIPS {
             break;
         }
     }
-    say_slips(page, source, judge.slips.as_slice())?;
-    Ok(!judge.slips.is_empty())
+    Ok(slips)
 }
 
 fn say_slips(page: &mut Page, source: &Source<'_>, slips: &[Slip<'_>]) -> Result<(), AllocError> {
     if slips.len() > 1 {
         page.say("These lines are wrong:")?;
     }
-    for slip in slips.iter().take(MOST_SLIPS) {
-        page.quote(source, &slip.line, slip.word)?;
-        if let Some(advice) = slip.cause.advice() {
-            page.say(advice.wrong)?;
-            page.say(advice.fix)?;
-        }
+    let told = slips.get(..MOST_SLIPS).unwrap_or(slips);
+    for slip in told {
+        say_slip(page, source, slip)?;
     }
-    if slips.len() > MOST_SLIPS {
+    if slips.len() > told.len() {
         page.say("There are more.")?;
     }
-    say_places(page, slips)
+    say_places(page, told)
+}
+
+fn say_slip(page: &mut Page, source: &Source<'_>, slip: &Slip<'_>) -> Result<(), AllocError> {
+    let (word, cause) = slip.fault;
+    page.quote(source, &slip.line, word)?;
+    match cause.advice() {
+        Some(advice) => {
+            page.say(advice.wrong)?;
+            page.say(advice.fix)
+        }
+        None => Ok(()),
+    }
 }
 
 // What the places of the slips allow, each once.
 fn say_places(page: &mut Page, slips: &[Slip<'_>]) -> Result<(), AllocError> {
-    let mut said: Option<&Advice> = None;
-    for slip in slips.iter().take(MOST_SLIPS) {
-        let advice = slip.cause.advice();
-        if let Some(advice) = advice
-            && said.is_none_or(|last| last.place != advice.place)
+    let mut said: Option<Place> = None;
+    for slip in slips {
+        if let Some(advice) = slip.fault.1.advice()
+            && said != Some(advice.place)
         {
+            said = Some(advice.place);
             page.say(advice.place.allows())?;
         }
-        said = advice;
     }
     Ok(())
 }
 
-impl<'a> Judge<'a> {
-    fn slip(
+impl Judge {
+    // Adds what is wrong with one line more. One in the place of the heading is also judged as one
+    // below it.
+    fn push_slips<'a>(
         &mut self,
         line: SourceLine<'a>,
-        word: Option<Word<'a>>,
-        cause: Cause,
+        slips: &mut Vec<Slip<'a>>,
     ) -> Result<(), AllocError> {
-        self.slips.push(Slip { line, word, cause })?;
+        let Some(fault) = self.fault_in(line) else {
+            return Ok(());
+        };
+        slips.push(Slip { line, fault })?;
+        if fault.1 == Cause::NoHeading
+            && let Some(fault) = self.fault_in(line)
+        {
+            slips.push(Slip { line, fault })?;
+        }
         Ok(())
     }
 
-    // One line more.
-    fn line(&mut self, line: SourceLine<'a>) -> Result<(), AllocError> {
+    // What is wrong with one line more.
+    fn fault_in<'a>(&mut self, line: SourceLine<'a>) -> Option<Fault<'a>> {
         let front = Front::new(line.bytes);
-        let Some(first) = front.word(0) else {
-            return Ok(());
-        };
+        let first = front.word(0)?;
         if first.bytes.starts_with(b"#") {
-            return Ok(());
+            return None;
         }
         match self.stage {
-            Stage::Heading => self.heading(line, &front, first),
-            Stage::Other => Ok(()),
+            Stage::Heading => self.heading(&front, first),
+            Stage::Other => None,
             _ => self.body(line, &front, first),
         }
     }
 
-    fn heading(
-        &mut self,
-        line: SourceLine<'a>,
-        front: &Front<'a>,
-        first: Word<'a>,
-    ) -> Result<(), AllocError> {
+    fn heading<'a>(&mut self, front: &Front<'a>, first: Word<'a>) -> Option<Fault<'a>> {
         self.stage = Stage::Machines;
         if is_heading(front) {
-            return Ok(());
+            return None;
         }
         let cause = cause_of_heading(first.bytes);
-        self.slip(line, Some(first), cause)?;
-        match cause {
-            Cause::IsAnswer | Cause::IsFlowShop | Cause::IsNumbers | Cause::IsSpreadsheet => {
-                self.stage = Stage::Other;
-            }
-            Cause::NoHeading => self.body(line, front, first)?,
-            _ => {}
+        if let Cause::IsAnswer
+        | Cause::IsFlowShop
+        | Cause::IsNumbers
+        | Cause::IsSpreadsheet = cause
+        {
+            self.stage = Stage::Other;
         }
-        Ok(())
+        Some((Some(first), cause))
     }
 
     // A line below the heading.
-    fn body(
+    fn body<'a>(
         &mut self,
         line: SourceLine<'a>,
         front: &Front<'a>,
         first: Word<'a>,
-    ) -> Result<(), AllocError> {
-        match first.bytes {
-            b"machines" => self.machines(line, front, first),
-            b"job" => self.job(line, front, first),
-            b"prec" => self.arc(line, front, first),
-            other => self.slip(line, Some(first), cause_of_other_line(other)),
+    ) -> Option<Fault<'a>> {
+        if is(first.bytes, b"machines") {
+            return self.machines(front, first);
         }
+        if is(first.bytes, b"job") {
+            return self.job(line, front, first);
+        }
+        if is(first.bytes, b"prec") {
+            return self.arc(front, first);
+        }
+        Some((Some(first), cause_of_other_line(first.bytes)))
     }
 
-    fn machines(
-        &mut self,
-        line: SourceLine<'a>,
-        front: &Front<'a>,
-        first: Word<'a>,
-    ) -> Result<(), AllocError> {
+    fn machines<'a>(&mut self, front: &Front<'a>, first: Word<'a>) -> Option<Fault<'a>> {
         if self.stage != Stage::Machines {
-            return self.slip(line, Some(first), Cause::MachinesPlace);
+            return Some((Some(first), Cause::MachinesPlace));
         }
         self.stage = Stage::Jobs;
         let (2, Some(count)) = (front.len(), front.word(1)) else {
-            return self.slip(line, None, Cause::MachinesForm);
+            return Some((None, Cause::MachinesForm));
         };
-        match number_of(count.bytes) {
-            Number::Value(m) if 1 <= m && m <= i64::from(MOST_MACHINES) => Ok(()),
-            Number::NotANumber => match fault_of_number(count.bytes) {
-                Some(cause) => self.slip(line, Some(count), cause),
-                None => Ok(()),
-            },
-            _ => self.slip(line, Some(count), Cause::MachinesRange),
-        }
+        Some((Some(count), fault_of_count(count.bytes)?))
     }
 
-    fn job(
+    fn job<'a>(
         &mut self,
         line: SourceLine<'a>,
         front: &Front<'a>,
         first: Word<'a>,
-    ) -> Result<(), AllocError> {
+    ) -> Option<Fault<'a>> {
         if self.stage == Stage::Arcs {
-            return self.slip(line, Some(first), Cause::JobAfterArc);
+            return Some((Some(first), Cause::JobAfterArc));
         }
         self.stage = Stage::Jobs;
         let wanted = self.jobs.saturating_add(1);
         self.jobs = wanted;
         let Some(number) = front.word(1) else {
-            return self.slip(line, None, Cause::NoJobNumber);
+            return Some((None, Cause::NoJobNumber));
         };
-        match number_of(number.bytes) {
-            Number::Value(k) if is_numeral(number.bytes) => {
-                self.jobs = k;
-                if k != wanted {
-                    let cause = if k == 0 {
-                        Cause::JobZero
-                    } else {
-                        Cause::JobOrder
-                    };
-                    return self.slip(line, Some(number), cause);
-                }
-                if number.bytes.starts_with(b"0") {
-                    return self.slip(line, Some(number), Cause::LeadingZero);
-                }
-            }
-            _ => return self.slip(line, Some(number), cause_of_no_job(number.bytes)),
-        }
-        self.fields(line)
-    }
-
-    fn fields(&mut self, line: SourceLine<'a>) -> Result<(), AllocError> {
-        let mut named = Named::none();
-        let words = line.bytes.split(|byte| is_white(*byte));
-        for (place, word) in words.filter(|word| !word.is_empty()).enumerate().skip(2) {
-            if let Some(cause) = named.add(word) {
-                return self.slip(line, line.word(place), cause);
-            }
-        }
-        if named.has_time() {
-            Ok(())
-        } else {
-            self.slip(line, None, Cause::NoTime)
+        let job = job_in(number.bytes);
+        self.jobs = job.unwrap_or(wanted);
+        match fault_of_job(number.bytes, job, wanted) {
+            Some(cause) => Some((Some(number), cause)),
+            None => fault_in_fields(line),
         }
     }
 
-    fn arc(
-        &mut self,
-        line: SourceLine<'a>,
-        front: &Front<'a>,
-        first: Word<'a>,
-    ) -> Result<(), AllocError> {
+    fn arc<'a>(&mut self, front: &Front<'a>, first: Word<'a>) -> Option<Fault<'a>> {
         if self.jobs == 0 {
-            return self.slip(line, Some(first), Cause::ArcBeforeJobs);
+            return Some((Some(first), Cause::ArcBeforeJobs));
         }
         self.stage = Stage::Arcs;
         let (3, Some(before), Some(after)) = (front.len(), front.word(1), front.word(2)) else {
-            return self.slip(line, None, Cause::ArcForm);
+            return Some((None, Cause::ArcForm));
         };
-        for job in [before, after] {
-            match number_of(job.bytes) {
-                Number::Value(k) if 1 <= k && k <= self.jobs => {}
-                Number::NotANumber => return self.slip(line, Some(job), Cause::ArcForm),
-                _ => return self.slip(line, Some(job), Cause::ArcStranger),
-            }
+        self.stranger(before).or(self.stranger(after))
+    }
+
+    // What is wrong with a word that should name a job of the table.
+    fn stranger<'a>(&self, job: Word<'a>) -> Option<Fault<'a>> {
+        match number_of(job.bytes) {
+            Number::Value(k) if 1 <= k && k <= self.jobs => None,
+            Number::NotANumber => Some((Some(job), Cause::ArcForm)),
+            _ => Some((Some(job), Cause::ArcStranger)),
         }
-        Ok(())
+    }
+}
+
+// What is wrong with the number of machines.
+fn fault_of_count(word: &[u8]) -> Option<Cause> {
+    match number_of(word) {
+        Number::Value(m) if 1 <= m && m <= i64::from(MOST_MACHINES) => None,
+        Number::NotANumber => fault_of_number(word),
+        _ => Some(Cause::MachinesRange),
+    }
+}
+
+// The number of a job.
+fn job_in(word: &[u8]) -> Option<i64> {
+    match number_of(word) {
+        Number::Value(job) if is_numeral(word) => Some(job),
+        _ => None,
+    }
+}
+
+// What is wrong with the number of a job, where another is wanted.
+fn fault_of_job(word: &[u8], job: Option<i64>, wanted: i64) -> Option<Cause> {
+    match job {
+        None => Some(cause_of_no_job(word)),
+        Some(0) => Some(Cause::JobZero),
+        Some(job) if job != wanted => Some(Cause::JobOrder),
+        Some(_) if word.starts_with(b"0") => Some(Cause::LeadingZero),
+        Some(_) => None,
+    }
+}
+
+// What is wrong with the words of a job line behind its number.
+fn fault_in_fields(line: SourceLine<'_>) -> Option<Fault<'_>> {
+    let mut named = Named::none();
+    for word in line.words().skip(2) {
+        if let Some(cause) = named.add(word.bytes) {
+            return Some((Some(word), cause));
+        }
+    }
+    if named.has_time() {
+        None
+    } else {
+        Some((None, Cause::NoTime))
     }
 }
 

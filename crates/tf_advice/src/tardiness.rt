@@ -6,7 +6,10 @@ use crate::page::Page;
 use crate::source::{Source, SourceLine, Word};
 use std::alloc::AllocError;
 use tf_read::fault::ReadFault;
-use tf_words::word::is_white;
+
+const NEGATIVE: &str = "\
+A negative number stands where a time or a weight is read.
+Due dates alone may be negative, so the usual cause is a wrong --jobs.";
 
 /// What is wrong, where the file was read as instances of so many jobs.
 pub fn explain_tardiness(
@@ -26,8 +29,7 @@ pub fn explain_tardiness(
         }
         ReadFault::Negative(line) => {
             quote_bad_word(page, source, line as usize, true)?;
-            page.say("A negative number stands where a time or a weight is read.")?;
-            page.say("Due dates alone may be negative, so the usual cause is a wrong --jobs.")?;
+            page.say(NEGATIVE)?;
             say_counts(page, source, jobs)
         }
         ReadFault::NoInstance => {
@@ -67,19 +69,17 @@ fn quote_bad_word(
 
 /// The first word of a line that is no number, or that is negative where a size is wanted.
 fn bad_word<'a>(line: &SourceLine<'a>, is_size: bool) -> Option<Word<'a>> {
-    let place = line
-        .bytes
-        .split(|byte| is_white(*byte))
-        .filter(|word| !word.is_empty())
-        .position(|word| {
-            let fault = if is_size {
-                fault_of_size(word)
-            } else {
-                fault_of_number(word)
-            };
-            fault.is_some()
-        })?;
-    line.word(place)
+    for word in line.words() {
+        let fault = if is_size {
+            fault_of_size(word.bytes)
+        } else {
+            fault_of_number(word.bytes)
+        };
+        if fault.is_some() {
+            return Some(word);
+        }
+    }
+    None
 }
 
 /// Says so where the numbers of the file are not those of whole instances of this size.
