@@ -1,6 +1,9 @@
 -- What an offered certificate is worth.
-use Rattle.std.proofs.Common.{◌≡◌, ℤ, Option, None, IfSome, inl, inr, refl, sym, ap, subst, ◌∙◌}
+use Rattle.std.proofs.Common.{◌≡◌, ℤ, SFits, to_z, of_z, Option, None, IfSome, inl, inr, refl, sym, ap, subst, ◌∙◌}
+use Rattle.std.specs.Int.{w128}
+use Rattle.std.proofs.lemmas.Int.{to_z-of_z}
 use Rattle.tf_problem.specs.ProblemData.{ProblemData}
+use Rattle.tf_problem.specs.ProblemCost.{IsLowerBound}
 use Rattle.tf_bound.specs.Certified.{IsBoundBy, IsValueOn}
 use Rattle.tf_bound.specs.Faulted.{certificate_fault}
 use Rattle.tf_bound.specs.declared.certificate.BoundCertificate.{BoundCertificate}
@@ -9,7 +12,7 @@ use Rattle.tf_search.specs.declared.strongest.Found.{Found}
 use Rattle.tf_search.specs.Strongest.{IsFound}
 use Rattle.tf_bound_text.specs.BoundSheetData.{Basis, BoundSheetData, basis_of, fault_by, IsValueBy}
 use Rattle.tf_assess.specs.declared.assessment.Offered.{Offered}
-use Rattle.tf_assess.specs.Assessing.{IsJudgedValue, IsOffer, IsUsed}
+use Rattle.tf_assess.specs.Assessing.{HasValue, IsJudgedValue, IsOffer, IsOfferFor, IsUsed}
 
 -- the value of a certificate is that of what it names
 value_on : {A : Type 0} (k : ProblemData) (c : BoundCertificate A) (b : ℤ) → IsValueOn k c b
@@ -21,7 +24,7 @@ value_on k (OneJob job) b h = h
 value_on k (Multipliers machine q numerators) b h = h
 value_on k (Prices q rows) b h = h
 
-pub value_by : {A : Type 0} (k : ProblemData) (c : BoundCertificate A) (b : ℤ) → IsBoundBy k c b
+value_by : {A : Type 0} (k : ProblemData) (c : BoundCertificate A) (b : ℤ) → IsBoundBy k c b
     → IsJudgedValue k (basis_of c) b
 value_by k c b (other, judged, h) = (other, judged, value_on other c b h)
 
@@ -49,9 +52,22 @@ fault_is k (OneJob job) = refl
 fault_is k (Multipliers machine q numerators) = refl
 fault_is k (Prices q rows) = refl
 
-pub faultless_by : {A : Type 0} (k : ProblemData) (c : BoundCertificate A) (basis : Basis)
+faultless_by : {A : Type 0} (k : ProblemData) (c : BoundCertificate A) (basis : Basis)
     → basis_of c ≡ basis → certificate_fault k c ≡ None → fault_by k basis ≡ None
 faultless_by k c basis same none = ap (fault_by k) (sym same) ∙ sym (fault_is k c) ∙ none
+
+-- a certificate without a fault has a value, as a number of 128 bits too
+pub has_value : {A : Type 0} (k : ProblemData) (sheet : BoundSheetData) (c : BoundCertificate A)
+    (b : ℤ) → SFits w128 b → basis_of c ≡ sheet.basis → IsOfferFor k sheet
+    → certificate_fault k c ≡ None → IsBoundBy k c b → IsLowerBound k b
+    → HasValue k sheet (to_z w128 (of_z w128 b))
+has_value k sheet c b fits same meant none by bound =
+    subst (λ (z : ℤ). HasValue k sheet z) (sym (to_z-of_z w128 b fits)) (record {
+      meant = meant;
+      faultless = faultless_by k c sheet.basis same none;
+      value = subst (λ (basis : Basis). IsJudgedValue k basis b) same (value_by k c b by);
+      bound = bound;
+    })
 
 -- the bound that is used is one
 pub used_found : {A : Type 0} (k : ProblemData) (sheet : BoundSheetData)

@@ -1,5 +1,5 @@
 -- Dates along arcs: marks of the jobs whose dates follow, and what the dates are for a task.
-use Rattle.std.proofs.Common.{◌≡◌, Bool, true, false, ℕ, ◌⊎◌, ◌+◌, ◌-◌, ◌≤◌, ◌<◌, ℤ, pos, negsuc, ◌-ℤ◌, ◌≤ℤ◌, List, [], ◌∷◌, ◌++◌, length, get_or, set, map, slice_index, slice_index_or, refl, sym, ap, ◌∙◌, subst, inl, inr, ⊎_elim, Contains, Option, Some, None, Result, Ok, Err, IfOk, IfSome, arith}
+use Rattle.std.proofs.Common.{◌≡◌, Bool, true, false, ℕ, ◌⊎◌, ◌+◌, ◌-◌, ◌≤◌, ◌<◌, ℤ, pos, negsuc, ◌-ℤ◌, ◌≤ℤ◌, List, [], ◌∷◌, ◌++◌, length, get_or, set, map, slice_index, slice_index_or, refl, sym, ap, ◌∙◌, subst, inl, inr, ⊎_elim, Contains, Option, Some, None, Result, Ok, Err, IfOk, IfSome, MatchOption, arith}
 use Rattle.std.specs.List.{range_with_len}
 use Rattle.std.proofs.lemmas.Bool.{cases_eq}
 use Rattle.std.proofs.lemmas.Int.{ints}
@@ -21,11 +21,6 @@ use Rattle.tf_bound.specs.JobNumbers.{number_by}
 use Rattle.tf_bound.specs.Judged.{AreHeads, AreDeadlines}
 
 -- ---- marks
-
--- the dates of the jobs that are marked follow by arcs
-abbrev pub HasFollowing : List ℕ → List ℕ → List (ℕ × ℕ) → List Bool → Type 0
-HasFollowing work dates arcs marks =
-    (i : ℕ) → get_or marks i false ≡ true → FollowsByArc work dates arcs (i + 1)
 
 -- one mark more
 pub marks_more : (P : ℕ → Type 0) (xs : List Bool) (p : ℕ)
@@ -49,11 +44,19 @@ jobs_more f xs ys x n j pushed before here is =
     ∙ sym (map-range_with_len_more f 1 n j next)
 
 -- what is found, if anything, has what follows from what it has
-pub found_weaker : {X E : Type 0} (r : Result (Option X) E) (P Q : X → Type 0)
-    → ((x : X) → P x → Q x) → IfOk r (λ o. IfSome o P) → IfOk r (λ o. IfSome o Q)
-found_weaker (Ok (Some x)) P Q follows h = follows x h
-found_weaker (Ok None) P Q follows h = h
-found_weaker (Err e) P Q follows h = h
+pub match_found : {X E : Type 0} (r : Result (Option X) E) (M : Type 0) (P Q : X → Type 0)
+    → ((x : X) → P x → Q x) → IfOk r (λ o. MatchOption o M P) → IfOk r (λ o. IfSome o Q)
+match_found (Ok (Some x)) M P Q some h = some x h
+match_found (Ok None) M P Q some h = tt
+match_found (Err e) M P Q some h = tt
+
+-- the same, with what follows where nothing is found
+pub match_weaker : {X E : Type 0} (r : Result (Option X) E) (M N : Type 0) (P Q : X → Type 0)
+    → (M → N) → ((x : X) → P x → Q x) → IfOk r (λ o. MatchOption o M P)
+    → IfOk r (λ o. MatchOption o N Q)
+match_weaker (Ok (Some x)) M N P Q none some h = some x h
+match_weaker (Ok None) M N P Q none some h = none h
+match_weaker (Err e) M N P Q none some h = tt
 
 -- ---- the dates of a task
 
@@ -69,14 +72,14 @@ contains_swapped arcs i j has =
     (x, lt, ap swap (sym (get_or-map swap arcs x (j, i) (i, j) lt) ∙ has.2))
 
 -- how long before the limit a date within it is
-tail_is : (z : ℤ) → IsWithin z → pos (as_time (pos limit -ℤ z)) ≡ pos limit -ℤ z
+pub tail_is : (z : ℤ) → IsWithin z → pos (as_time (pos limit -ℤ z)) ≡ pos limit -ℤ z
 tail_is z within = by (pos limit -ℤ z) (omega (arith, ints, within.1))
   where
     by : (y : ℤ) → pos 0 ≤ℤ y → pos (as_time y) ≡ y
     by (pos n) h = refl
     by (negsuc n) h = absurd (omega (arith, ints, h))
 
-due_within : (k : ProblemData) → IsSized k → (j : ℕ) → IsProblemJob k j → IsWithin (problem_due k j)
+pub due_within : (k : ProblemData) → IsSized k → (j : ℕ) → IsProblemJob k j → IsWithin (problem_due k j)
 due_within k sized j job = by k.problem.goal
   where
     none : IsWithin (pos 0)
@@ -98,7 +101,7 @@ due_within k sized j job = by k.problem.goal
 
 module _ (k : ProblemData) (sized : IsSized k) where
   -- the number of a job in a list of all jobs
-  in_list : (f : ℕ → ℕ) (xs : List ℕ) → xs ≡ map f (problem_jobs k) → (j : ℕ) → IsProblemJob k j
+  pub in_list : (f : ℕ → ℕ) (xs : List ℕ) → xs ≡ map f (problem_jobs k) → (j : ℕ) → IsProblemJob k j
       → release_in xs j ≡ f j
   in_list f xs is j job =
       ap (λ l. slice_index l (j - 1)) is
@@ -113,8 +116,15 @@ module _ (k : ProblemData) (sized : IsSized k) where
       → length xs ≤ most_jobs
   few_in_list f xs is = omega (arith, all_in_list f xs is, sized.few_jobs)
 
+  -- a job's own tail
+  pub own_tail : (own : List ℕ) → own ≡ map (number_by Tail k) (problem_jobs k)
+      → (j : ℕ) → IsProblemJob k j → pos (release_in own j) ≡ pos limit -ℤ problem_due k j
+  own_tail own owns j job =
+      ap pos (in_list (number_by Tail k) own owns j job)
+      ∙ tail_is (problem_due k j) (due_within k sized j job)
+
   module _ (work : List ℕ) (works : work ≡ map (problem_work k) (problem_jobs k)) where
-    work_of : (j : ℕ) → IsProblemJob k j → release_in work j ≡ problem_work k j
+    pub work_of : (j : ℕ) → IsProblemJob k j → release_in work j ≡ problem_work k j
     work_of = in_list (problem_work k) work works
 
     -- dates along the arcs from the release dates on
@@ -166,19 +176,13 @@ module _ (k : ProblemData) (sized : IsSized k) where
           ∙ get_or-map (λ tail. pos limit -ℤ pos tail) tails (j - 1) 0 (pos 0)
           (omega (arith, back_place j job, along.len))
 
-      -- the job's own tail, where its due date is within the limit
-      own_is : (j : ℕ) → IsProblemJob k j → pos (release_in own j) ≡ pos limit -ℤ problem_due k j
-      own_is j job =
-          ap pos (in_list (number_by Tail k) own owns j job)
-          ∙ tail_is (problem_due k j) (due_within k sized j job)
-
       last : (i : ℕ) → IsProblemJob k i
           → (slice_index tails (i - 1) ≤ slice_index own (i - 1))
           ⊎ FollowsByArc work tails (map swap k.arcs) (i - 1 + 1)
           → (problem_due k i ≤ℤ due_in d i)
           ⊎ ((j : ℕ) × Contains {X = ℕ × ℕ} k.arcs (i, j)
           × ((due_in d j -ℤ pos (problem_work k j)) ≤ℤ due_in d i))
-      last i job (inl le) = inl (omega (arith, ints, le, own_is i job, due_is i job))
+      last i job (inl le) = inl (omega (arith, ints, le, own_tail own owns i job, due_is i job))
       last i job (inr by) =
           let next : i - 1 + 1 ≡ i = omega (arith, job.0) in
           let at = subst (FollowsByArc work tails (map swap k.arcs)) next by in
@@ -200,7 +204,7 @@ module _ (k : ProblemData) (sized : IsSized k) where
             omega (
               arith,
               ints,
-              own_is j job,
+              own_tail own owns j job,
               due_is j job,
               along.from_own (j - 1) (back_place j job),
             );

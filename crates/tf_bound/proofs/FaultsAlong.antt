@@ -10,6 +10,7 @@ use Rattle.tf_model.specs.ClassTable.{is_shop_env}
 use Rattle.tf_problem.specs.ProblemData.{ProblemData}
 use Rattle.tf_problem.specs.ProblemBounds.{is_alike, is_by_machine, is_max_goal, is_sum_goal, is_tardy_goal}
 use Rattle.tf_problem.specs.Pushed.{pushed, pushed_job}
+use Rattle.std.specs.Cmp.{second_so}
 use Rattle.tf_bound.specs.Judged.{IsPushedTask}
 use Rattle.tf_bound.specs.Kinds.{takes_machine, takes_one_job}
 use Rattle.tf_bound.specs.Faulted.{is_job, list_fault, no_job, other_kind, no_machine, too_few, certificate_fault, multipliers_fault, prices_fault, NamesFault}
@@ -112,7 +113,7 @@ module _ (k : ProblemData) (r : List ℕ) (d : List ℤ) (goal : IsTrue (is_max_
 pub fault_on_pushed : {A : Type 0} (k other : ProblemData) (c : BoundCertificate A)
     → IsPushedTask k other → certificate_fault other c ≡ certificate_fault k c
 fault_on_pushed k other c is =
-    ap (λ (o : ProblemData). certificate_fault o c) is.is ∙ on_pushed k is.r is.d is.goal c
+    ap (λ (o : ProblemData). certificate_fault o c) is.is ∙ on_pushed k is.r is.d (second_so k.problem.prec (is_max_goal k.problem.goal) is.moved) c
 
 -- what is answered on that task is the answer on the task
 pub named_on_pushed : {A X : Type 0} (k other : ProblemData) (c : BoundCertificate A)

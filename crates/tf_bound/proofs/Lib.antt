@@ -6,7 +6,9 @@ pub mod Refused
 pub mod Marks
 pub mod Routes
 pub mod Weighed
+pub mod RaisedDates
 pub mod Dates
+pub mod PushedDates
 pub mod Faults
 pub mod Firsts
 pub mod Conditions

@@ -1,9 +1,12 @@
 -- The task on which a certificate is judged.
-use Rattle.std.specs.Prelude.{◌≡◌, ℕ, ◌⊎◌, ◌+◌, ◌≤◌, ℤ, pos, ◌-ℤ◌, ◌≤ℤ◌, List, length, IsTrue}
+use Rattle.std.specs.Prelude.{◌≡◌, ℕ, ◌⊎◌, ◌+◌, ◌≤◌, ◌<◌, Bool, ◌&&◌, ℤ, pos, ◌-ℤ◌, ◌≤ℤ◌, List, length, IsTrue}
 use Rattle.std.specs.List.{All}
+use Rattle.tf_model.specs.declared.problem.Problem.{Problem}
+use Rattle.tf_model.specs.Whole.{IsWithin}
 use Rattle.tf_problem.specs.ProblemData.{ProblemData, IsProblemJob, problem_release, problem_due}
 use Rattle.tf_problem.specs.ProblemBounds.{is_max_goal, problem_work}
 use Rattle.tf_problem.specs.Pushed.{release_in, due_in, pushed, AreReleases, AreDues}
+use Rattle.tf_bound.specs.Sized.{IsSized}
 
 -- the least release dates that are at least the jobs' own, and along each arc at least that of the
 -- job before and its time
@@ -21,18 +24,28 @@ pub record AreDeadlines (k : ProblemData) (d : List ℤ) : Type 0 where
   pub along : All (λ arc. due_in d arc.0 ≤ℤ (due_in d arc.1 -ℤ pos (problem_work k arc.1))) k.arcs
   pub greatest : AreDues k d
 
--- the task asks for the makespan or the maximum lateness under arcs, and the other is the same with
--- the dates that follow by the arcs
+-- no due date is beyond the limit before or after 0
+abbrev pub AreDuesWithin : List ℤ → Type 0
+AreDuesWithin d = (j : ℕ) → IsWithin (due_in d j)
+
+-- arcs move the dates of the problem's tasks
+abbrev pub is_moved : Problem → Bool
+is_moved problem = problem.prec && is_max_goal problem.goal
+
+-- The task asks for the makespan or the maximum lateness under arcs, and the other is the same with
+-- the dates that follow by the arcs, all within the limits. There are no such dates where the arcs
+-- form a cycle.
 pub record IsPushedTask (k other : ProblemData) : Type 0 where
-  pub prec : IsTrue k.problem.prec
-  pub goal : IsTrue (is_max_goal k.problem.goal)
+  pub moved : IsTrue (is_moved k.problem)
+  pub some_arc : 0 < length k.arcs
   pub r : List ℕ
   pub d : List ℤ
   pub heads : AreHeads k r
   pub dues : AreDeadlines k d
   pub is : other ≡ pushed k r d
+  pub sized : IsSized other
 
--- The task itself, or the one whose dates follow by its arcs. There are no such dates where the arcs
--- form a cycle.
+-- the one whose dates follow by the arcs, and the task itself where there is none
 abbrev pub IsJudgedTask : ProblemData → ProblemData → Type 0
-IsJudgedTask k other = (other ≡ k) ⊎ IsPushedTask k other
+IsJudgedTask k other =
+    IsPushedTask k other ⊎ ((other ≡ k) × ((it : ProblemData) → ¬ (IsPushedTask k it)))

@@ -1,13 +1,15 @@
 //! The task whose release dates and due dates follow by its arcs.
-ghost use Rattle.std.specs.Prelude.{◌≡◌, ℕ, ℤ, ◌<◌, ◌≤◌, pos, ◌-ℤ◌, length, map, slice_index};
-ghost use Rattle.std.specs.Prelude.{slice_index_or, IfOk, IfSome, IsTrue};
+ghost use Rattle.std.specs.Prelude.{◌≡◌, ℕ, ℤ, List, ◌<◌, ◌≤◌, pos, ◌-ℤ◌, length, map, IfOk, IfSome};
+ghost use Rattle.std.specs.Prelude.{MatchOption, slice_index, slice_index_or};
 ghost use Rattle.tf_model.specs.Limit.{limit};
-ghost use Rattle.tf_problem.specs.ProblemData.{IsProblemJob, problem_jobs};
+ghost use Rattle.tf_problem.specs.ProblemData.{ProblemData, IsProblemJob, problem_jobs};
 ghost use Rattle.tf_problem.specs.ProblemCost.{IsLowerBound};
-ghost use Rattle.tf_problem.specs.ProblemBounds.{is_max_goal, problem_work};
+ghost use Rattle.tf_problem.specs.ProblemBounds.{problem_work};
 ghost use Rattle.tf_problem.specs.Pushed.{pushed, pushed_job};
 ghost use Rattle.tf_bound.specs.JobNumbers.{number_by};
-ghost use Rattle.tf_bound.specs.Judged.{AreDeadlines, AreHeads, IsPushedTask};
+ghost use Rattle.tf_bound.specs.Along.{AreWithin};
+ghost use Rattle.tf_bound.specs.Judged.{AreDeadlines, AreDuesWithin, AreHeads, IsPushedTask, is_moved};
+ghost use Rattle.tf_bound.specs.Sized.{IsSized};
 
 use crate::along::dates_along;
 use crate::task::{ProblemJob, ProblemTask};
@@ -34,7 +36,9 @@ pub fn pushed_task<A: Allocator + Copy, B: Allocator>(
     alloc: A,
     task: &ProblemTask<B>,
 ) -> Result<Option<ProblemTask<A>>, OutOfMemory>
-    ensures pushed { IfOk result (λ found. IfSome found (IsPushedTask task.now)) }
+    ensures pushed { IfOk result (λ found. MatchOption found
+        ((other : ProblemData) → ¬ (IsPushedTask task.now other))
+        (IsPushedTask task.now)) }
     ensures bound { IfOk result (λ found. IfSome found (λ other.
         (b : ℤ) → IsLowerBound other b → IsLowerBound task.now b)) }
 {
@@ -54,8 +58,7 @@ pub fn pushed_task<A: Allocator + Copy, B: Allocator>(
 
 // Whether arcs move the dates of a problem's tasks.
 fn is_pushed(problem: Problem) -> bool
-    ensures prec { IsTrue result → IsTrue problem.prec }
-    ensures goal { IsTrue result → IsTrue (is_max_goal problem.goal) }
+    ensures { result ≡ is_moved problem }
 {
     problem.prec && matches!(problem.goal, Goal::Cmax | Goal::Lmax)
 }
@@ -93,7 +96,9 @@ fn heads<A: Allocator + Copy, B: Allocator>(
     work: &[u64],
 ) -> Result<Option<Vec<u64, A>>, OutOfMemory>
     requires { work.now ≡ map (problem_work task.now) (problem_jobs task.now) }
-    ensures { IfOk result (λ found. IfSome found (λ dates. AreHeads task.now dates.items)) }
+    ensures { IfOk result (λ found. MatchOption found
+        ((r : List ℕ) → AreHeads task.now r → ¬ (AreWithin r))
+        (λ dates. AreHeads task.now dates.items)) }
 {
     let own = numbers(alloc, task, Number::Release)?;
     dates_along(alloc, &own, work, task.arcs())
@@ -107,12 +112,14 @@ fn deadlines<A: Allocator + Copy, B: Allocator>(
     work: &[u64],
 ) -> Result<Option<Vec<i64, A>>, OutOfMemory>
     requires { work.now ≡ map (problem_work task.now) (problem_jobs task.now) }
-    ensures { IfOk result (λ found. IfSome found (λ dues. AreDeadlines task.now dues.items)) }
+    ensures { IfOk result (λ found. MatchOption found
+        ((d : List ℤ) → AreDeadlines task.now d → ¬ (AreDuesWithin d))
+        (λ dues. AreDeadlines task.now dues.items × AreDuesWithin dues.items)) }
 {
     let own = numbers(alloc, task, Number::Tail)?;
     let back = reversed(alloc, task.arcs())?;
     match dates_along(alloc, &own, work, &back)? {
-        Some(tails) => before_limit(alloc, &tails),
+        Some(tails) => Ok(Some(before_limit(alloc, &tails)?)),
         None => Ok(None),
     }
 }
@@ -131,19 +138,17 @@ fn reversed<A: Allocator>(
     Ok(back)
 }
 
-// The dates that are so long before the limit. None where one is below the least date.
-fn before_limit<A: Allocator>(alloc: A, tails: &[u64]) -> Result<Option<Vec<i64, A>>, OutOfMemory>
-    ensures { IfOk result (λ found. IfSome found
-        (λ dates. dates.items ≡ map (λ tail. pos limit -ℤ pos tail) tails.now)) }
+// The dates that are so long before the limit.
+fn before_limit<A: Allocator>(alloc: A, tails: &[u64]) -> Result<Vec<i64, A>, OutOfMemory>
+    requires { AreWithin tails.now }
+    ensures { IfOk result (λ dates.
+        dates.items ≡ map (λ tail. pos limit -ℤ pos tail) tails.now) }
 {
     let mut dates = Vec::with_capacity(alloc, tails.len())?;
     for tail in tails {
-        if *tail > 2 * LIMIT as u64 {
-            return Ok(None);
-        }
-        dates.push(LIMIT - *tail as i64)?;
+        dates.push((i128::from(LIMIT) - i128::from(*tail)) as i64)?;
     }
-    Ok(Some(dates))
+    Ok(dates)
 }
 
 // The task with other dates, for the maximum lateness. None where one is beyond the limit.
@@ -155,8 +160,9 @@ fn with_dates<A: Allocator + Copy, B: Allocator>(
 ) -> Result<Option<ProblemTask<A>>, OutOfMemory>
     requires releases { length releases.now ≡ length task.now.jobs }
     requires dues { length dues.now ≡ length task.now.jobs }
-    ensures { IfOk result (λ found. IfSome found
-        (λ other. other ≡ pushed task.now releases.now dues.now)) }
+    ensures { IfOk result (λ found. MatchOption found
+        (¬ (IsSized (pushed task.now releases.now dues.now)))
+        (λ other. (other ≡ pushed task.now releases.now dues.now) × IsSized other)) }
 {
     let jobs = jobs_with(alloc, task, releases, dues)?;
     let arcs = Vec::from_slice(alloc, task.arcs())?;

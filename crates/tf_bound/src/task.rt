@@ -220,6 +220,7 @@ impl<A: Allocator> ProblemTask<A> {
               jobs = jobs.items;
               arcs = arcs.items;
             }) }
+        ensures sized { IfOk result IsSized }
         ensures fault { IfErr result (IsTaskFault
             (record {
               problem = problem;

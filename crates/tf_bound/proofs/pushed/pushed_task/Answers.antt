@@ -1,34 +1,80 @@
-use Rattle.std.proofs.Common.{ℕ, ℤ, List, IfSome, IsTrue, refl, sym, subst}
-use Rattle.tf_model.specs.declared.problem.Problem.{Problem}
+use Rattle.std.proofs.Common.{MatchOption, ℕ, ◌<◌, ℤ, List, length, IsTrue, sym, ap, ◌∙◌, subst, arith}
+use Rattle.std.specs.Cmp.{first_so, second_so}
 use Rattle.tf_problem.specs.ProblemData.{ProblemData}
 use Rattle.tf_problem.specs.ProblemCost.{IsLowerBound}
 use Rattle.tf_problem.specs.ProblemBounds.{is_max_goal}
-use Rattle.tf_bound.specs.Judged.{AreHeads, AreDeadlines}
-use Rattle.tf_bound.proofs.Dates.{found_weaker}
+use Rattle.tf_bound.specs.Along.{AreWithin}
+use Rattle.tf_bound.specs.Judged.{AreHeads, AreDeadlines, AreDuesWithin, IsPushedTask, is_moved}
+use Rattle.tf_bound.specs.Sized.{IsSized}
+use Rattle.tf_bound.proofs.Dates.{match_found, match_weaker}
+use Rattle.tf_bound.proofs.PushedDates.{dues_within, releases_within, only_pushed}
 use Rattle.tf_bound.proofs.Sound.{sound}
+use Rattle.tf_bound.proofs.Steps.{not_zero}
 use Rattle.tf_bound.proofs.pushed.pushed_task.Goals as goal
+
+pub returns-in_default-clause-pushed : goal.returns-in_default-clause-pushed
+returns-in_default-clause-pushed g c other is =
+    let k = c.args.task.now in
+    let none = subst (λ found. MatchOption found
+    ((r : List ℕ) → AreHeads k r → AreWithin r → ⊥) (λ dates. AreHeads k dates.items)) c.in_default.is
+    c.in_ok-releases.ensures in
+    none is.r is.heads
+    (releases_within k c.problem.ensures.sized is.r is.d (subst IsSized is.is is.sized) is.heads.len)
+
+pub returns-in_default-2-clause-pushed : goal.returns-in_default-2-clause-pushed
+returns-in_default-2-clause-pushed g c other is =
+    let k = c.args.task.now in
+    let none = subst (λ found. MatchOption found
+    ((d : List ℤ) → AreDeadlines k d → AreDuesWithin d → ⊥)
+    (λ dues. AreDeadlines k dues.items × AreDuesWithin dues.items)) c.in_default-2.is
+    c.in_ok-dues.ensures in
+    none is.d is.dues
+    (dues_within k c.problem.ensures.sized is.r is.d (subst IsSized is.is is.sized) is.dues.len)
+
+pub returns-clause-pushed : goal.returns-clause-pushed
+returns-clause-pushed g c =
+    let k = c.args.task.now in
+    let moved : IsTrue (is_moved k.problem) =
+    sym (c.if-not-is_pushed.ensures ∙ ap is_moved c.problem.ensures.value) in
+    let some_arc : 0 < length k.arcs =
+    omega (
+      arith,
+      not_zero (length c.arcs.result.now) (sym c.if-is_empty.ensures),
+      ap length c.arcs.ensures.value,
+    ) in
+    let r : List ℕ = c.deref-3.result.now in
+    let d : List ℤ = c.deref-4.result.now in
+    let heads : AreHeads k r = subst (AreHeads k) (sym c.deref-3.ensures.value)
+    (subst (λ found. MatchOption found ((s : List ℕ) → AreHeads k s → AreWithin s → ⊥)
+    (λ dates. AreHeads k dates.items)) c.in-Some.is c.in_ok-releases.ensures) in
+    let found = subst (λ found. MatchOption found
+    ((e : List ℤ) → AreDeadlines k e → AreDuesWithin e → ⊥)
+    (λ dues. AreDeadlines k dues.items × AreDuesWithin dues.items)) c.in-Some-2.is
+    c.in_ok-dues.ensures in
+    let dues : AreDeadlines k d = subst (AreDeadlines k) (sym c.deref-4.ensures.value) found.0 in
+    let within : AreDuesWithin d = subst AreDuesWithin (sym c.deref-4.ensures.value) found.1 in
+    match_weaker c.with_dates.result _ _ _ _
+    (λ not_sized. only_pushed k c.problem.ensures.sized r d heads dues within not_sized)
+    (λ other its. record {
+      moved = moved;
+      some_arc = some_arc;
+      r = r;
+      d = d;
+      heads = heads;
+      dues = dues;
+      is = its.0;
+      sized = its.1;
+    })
+    c.with_dates.ensures
 
 pub returns-clause-bound : goal.returns-clause-bound
 returns-clause-bound g c =
     let k = c.args.task.now in
-    let prec : IsTrue k.problem.prec = subst (λ (p : Problem). IsTrue p.prec)
-    c.problem.ensures.value (c.if-not-is_pushed.ensures.prec refl) in
-    let max : IsTrue (is_max_goal k.problem.goal) = subst (λ (p : Problem). IsTrue (is_max_goal p.goal))
-    c.problem.ensures.value (c.if-not-is_pushed.ensures.goal refl) in
-    let heads : AreHeads k c.in-Some.releases.items =
-    subst (λ found. IfSome found (λ dates. AreHeads k dates.items)) c.in-Some.is
-    c.in_ok-releases.ensures in
-    let dues : AreDeadlines k c.in-Some-2.dues.items =
-    subst (λ found. IfSome found (λ dates. AreDeadlines k dates.items)) c.in-Some-2.is
-    c.in_ok-dues.ensures in
-    let r : List ℕ = c.deref-3.result.now in
-    let d : List ℤ = c.deref-4.result.now in
-    let its_heads : AreHeads k r =
-    subst (λ (xs : List ℕ). AreHeads k xs) (sym c.deref-3.ensures.value) heads in
-    let its_dues : AreDeadlines k d =
-    subst (λ (xs : List ℤ). AreDeadlines k xs) (sym c.deref-4.ensures.value) dues in
-    found_weaker c.with_dates.result _ _
+    match_found c.with_dates.result ((other : ProblemData) → IsPushedTask k other → ⊥)
+    (IsPushedTask k) _
     (λ other is b bound.
-    c.pushed_law.ensures k (sound k c.problem.ensures.sized) prec max r its_heads.least d
-    its_dues.greatest b (subst (λ (o : ProblemData). IsLowerBound o b) is bound))
-    c.with_dates.ensures
+    c.pushed_law.ensures k (sound k c.problem.ensures.sized)
+    (first_so k.problem.prec (is_max_goal k.problem.goal) is.moved)
+    (second_so k.problem.prec (is_max_goal k.problem.goal) is.moved) is.r is.heads.least is.d
+    is.dues.greatest b (subst (λ (o : ProblemData). IsLowerBound o b) is.is bound))
+    (returns-clause-pushed g c)

@@ -1,4 +1,4 @@
-use Rattle.std.proofs.Common.{Option, IfSome, inl, subst}
+use Rattle.std.proofs.Common.{Option, MatchOption, inl, subst}
 use Rattle.std.proofs.lemmas.Result.{err_from_is_err_and}
 use Rattle.tf_problem.specs.ProblemData.{ProblemData}
 use Rattle.tf_bound.specs.Judged.{IsPushedTask}
@@ -13,6 +13,6 @@ pub returns-in-Some-clause-fault : goal.returns-in-Some-clause-fault
 returns-in-Some-clause-fault g c =
     let k : ProblemData = c.args.task.now in
     let is : IsPushedTask k c.in-Some.pushed =
-    subst (λ (o : Option ProblemData). IfSome o (IsPushedTask k)) c.in-Some.is
-    c.in_ok-pushed.ensures.pushed in
+    subst (λ (o : Option ProblemData). MatchOption o ((other : ProblemData) → IsPushedTask k other → ⊥)
+    (IsPushedTask k)) c.in-Some.is c.in_ok-pushed.ensures.pushed in
     named_on_pushed k c.in-Some.pushed c.args.self.now c.bound_on.result is c.bound_on.ensures.fault

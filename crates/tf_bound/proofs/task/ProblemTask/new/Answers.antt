@@ -116,3 +116,6 @@ returns-then-not-are_in-clause-refused g c =
       arcs = c.args.arcs.items;
     })
     sized Arc (returns-then-not-are_in-clause-fault g c)
+
+pub returns-clause-sized : goal.returns-clause-sized
+returns-clause-sized g c = invariant_of-result g c
