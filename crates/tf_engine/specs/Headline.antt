@@ -1,7 +1,6 @@
 -- What a run leaves behind.
 use Rattle.std.specs.Prelude.{◌≡◌, ℕ, ◌≤◌, ◌⊎◌, true, List, Result, Ok, Err, length}
 use Rattle.std.specs.Io.KnownBytes.{Appends}
-use Rattle.tf_model.specs.Cycle.{IsForbiddingCycle}
 use Rattle.tf_model.specs.SchedulingTask.{SchedulingTask}
 use Rattle.tf_text.specs.Counted.{DeviceUse}
 use Rattle.tf_text.specs.Input.{IsTextOf}
@@ -17,6 +16,7 @@ use Rattle.tf_engine.specs.Checking.{IsChecked}
 use Rattle.tf_engine.specs.Refusal.{problem_for, task_for}
 use Rattle.tf_engine.specs.Rules.{IsByRule}
 use Rattle.tf_engine.specs.Runs.{Leaves}
+use Rattle.tf_engine.specs.Solvers.{IsNamedCycle}
 
 -- a sheet with the request's problem, the task's sizes, and a best answer, whose certificate shows
 -- that it is best, and which is that of the class's rule
@@ -46,11 +46,11 @@ pub record Answers (request : RequestData) (text out : List ℕ) : Type 0 where
   pub written : out ≡ answer_text request.layout sheet
   pub again : length out ≤ most_bytes → IsChecked request text out Accepted
 
--- the request and the text mean a task, the jobs are a cycle of its arcs, and no timetable fits
+-- the request and the text mean a task, and the jobs are the cycle of its arcs that is named
 pub record IsCyclic (request : RequestData) (text : List ℕ) (jobs : List ℕ) : Type 0 where
   pub task : SchedulingTask
   pub meant : task_for request text ≡ Ok task
-  pub cycle : IsForbiddingCycle task jobs
+  pub cycle : IsNamedCycle task jobs
 
 -- the refusal is the one of the definitions, or a cycle
 abbrev pub IsRefusedRun : RequestData → List ℕ → Refused → Type 0

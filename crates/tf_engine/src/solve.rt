@@ -57,6 +57,7 @@ impl<A: Allocator> From<OutOfMemory> for SolveFault<A> {
 
 /// A best timetable of the task, what it costs, and the certificate that none costs less. The class
 /// alone decides which solver is asked; a cycle of arcs is refused, since then no timetable fits.
+/// Of several cycles it is the one that [`lawler`] names.
 pub fn solve<A: Allocator + Copy, B: Allocator>(
     alloc: A,
     task: &Task<B>,
