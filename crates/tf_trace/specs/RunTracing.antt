@@ -2,7 +2,6 @@
 use Rattle.std.specs.Prelude.{◌≡◌, ℕ, ℤ, true, List, [], ◌∷◌, ◌++◌, Result, Ok, Err, codes}
 use Rattle.std.specs.Fmt.{signed_decimal}
 use Rattle.std.specs.Io.KnownBytes.{Appends}
-use Rattle.tf_model.specs.Cycle.{IsForbiddingCycle}
 use Rattle.tf_model.specs.SchedulingTask.{SchedulingTask}
 use Rattle.tf_check.specs.Accepted.{IsAccepted, IsBestAnswer}
 use Rattle.tf_check.specs.Claim.{AnswerData}
@@ -15,6 +14,7 @@ use Rattle.tf_engine.specs.Headline.{IsRefusedRun}
 use Rattle.tf_engine.specs.Refusal.{task_for}
 use Rattle.tf_engine.specs.RequestData.{RequestData}
 use Rattle.tf_engine.specs.Runs.{Leaves}
+use Rattle.tf_engine.specs.Solvers.{IsNamedCycle}
 
 -- some words, and behind them the line of the value
 abbrev pub EndsInValue : ℤ → List ℕ → Type 0
@@ -30,9 +30,9 @@ pub record Traces (request : RequestData) (text out : List ℕ) : Type 0 where
   pub best : IsBestAnswer task answer
   pub written : EndsInValue answer.value out
 
--- the jobs are a cycle of the task's arcs, and no timetable fits
+-- the jobs are the cycle of the task's arcs that is named
 abbrev pub IsOfCycle : SchedulingTask → Refused → Type 0
-IsOfCycle k refused = (jobs : List ℕ) × (refused ≡ ByCycle jobs) × IsForbiddingCycle k jobs
+IsOfCycle k refused = (jobs : List ℕ) × (refused ≡ ByCycle jobs) × IsNamedCycle k jobs
 
 -- The working is written in full, or the one refusal is given. Where memory was wanting there is
 -- neither. Nothing was written then, nor after a refusal or where the reader failed; where the writer
