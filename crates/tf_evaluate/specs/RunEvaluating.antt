@@ -40,8 +40,8 @@ abbrev pub SaysEvaluation : Detail → RequestData → List ℕ → List ℕ →
 SaysEvaluation detail request instance answer out =
     (e : EvaluationData) × IsEvaluated detail request instance answer e × (out ≡ evaluation_text e)
 
--- the refusal is one of a check, or the answer text says a sheet, and these jobs are a cycle of the
--- task's arcs
+-- the refusal is one of a check, or the answer text says a sheet, and these jobs are the cycle of the
+-- task's arcs that is named
 abbrev pub IsRefusedEvaluation : RequestData → List ℕ → List ℕ → Refused → Type 0
 IsRefusedEvaluation request instance answer refused =
     IsRefusedCheck request instance answer refused
