@@ -215,7 +215,9 @@ pub fn say_no_table<W: Write>(fault: &RandomFault, writer: &mut Counted<W>) -> u
 
 /// Says what is wrong with the command line.
 pub fn say_usage<W: Write>(writer: &mut Counted<W>, text: &str) -> u8
-    ensures { result ≡ 5 }
+    ensures status { result ≡ 5 }
+    ensures line { Wrote W.contents writer.old writer.new
+        (codes "threefield: " ++ line_text (text.now ∷ [])) }
 {
     say_line(writer, b"threefield: ", text.as_bytes(), &[]);
     5
