@@ -2,7 +2,6 @@
 use Rattle.std.specs.Prelude.{◌≡◌, ℕ, ◌<◌, ◌≤◌, true, List, length, Option, Result, Ok, Err, IfSome, IsTrue, IsFalse, MatchResult, ◌⊎◌, ℤ}
 use Rattle.std.specs.declared.vec.Vec.{Vec}
 use Rattle.tf_model.specs.Limit.{most_bytes}
-use Rattle.tf_model.specs.Cycle.{IsForbiddingCycle}
 use Rattle.tf_model.specs.SchedulingTask.{SchedulingTask}
 use Rattle.tf_text.specs.declared.counted.Counted.{Counted}
 use Rattle.tf_text.specs.Counted.{inner_of, has_failed, use_of}
@@ -15,6 +14,7 @@ use Rattle.tf_engine.specs.Devices.{LeavesInstance, LeavesReader, LeavesBoth}
 use Rattle.tf_engine.specs.Faults.{Refused, ByCycle, ByAnswer, Stop, Refuses, Fails, Wants, stop_of, end_of}
 use Rattle.tf_engine.specs.Parts.{StopsBy, StopsReading}
 use Rattle.tf_engine.specs.RequestData.{RequestData}
+use Rattle.tf_engine.specs.Solvers.{IsNamedCycle}
 use Rattle.tf_bounding.specs.RunBounding.{problem_task_for}
 use Rattle.tf_search.specs.declared.strongest.Found.{Found}
 use Rattle.tf_search.specs.Strongest.{IsFound}
@@ -96,9 +96,9 @@ Measures (Solved asked) m =
 Measures {A = A} (Unsolved task) m =
     (found : Option (Found A)) × (m ≡ Bound task found) × IfSome found (IsFound task)
 
--- the arcs of the task have a cycle
+-- the arcs of the task have a cycle, and the jobs are the one that is named
 abbrev pub IsCycleOf : {A : Type 0} → Posed A → List ℕ → Type 0
-IsCycleOf (Solved asked) jobs = IsForbiddingCycle asked.task jobs
+IsCycleOf (Solved asked) jobs = IsNamedCycle asked.task jobs
 IsCycleOf (Unsolved task) jobs = ⊥
 
 -- why a task has no measure

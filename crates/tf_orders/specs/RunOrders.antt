@@ -55,8 +55,8 @@ pub record IsBadLine {A : Type 0} (form : OrderForm) (request : RequestData) (te
   pub is : refused ≡ ByAnswer fault
   pub malformed : IsMalformed form m orders fault
 
--- The refusals in their order: of the instance, of orders that are too long, a cycle of the arcs,
--- with which no timetable fits, and the first malformed line.
+-- The refusals in their order: of the instance, of orders that are too long, the cycle of the arcs
+-- that is named, and the first malformed line.
 abbrev pub IsRefusedOrders : Type 0 → OrderForm → RequestData → List ℕ → List ℕ → Refused → Type 0
 IsRefusedOrders A form request text orders refused =
     IsRefusedInstance request text refused
