@@ -1,16 +1,14 @@
 //! A command line, run over texts.
 use crate::texts::Texts;
 use std::alloc::{AllocError, Global};
-use tf_command::commands::perform;
 use tf_command::console::Console;
-use tf_command::formatted::perform_formatted;
 use tf_command::misuse::say_misuse;
 use tf_command::report::{say_memory, say_usage};
 use tf_grammar::grammar::command;
 use tf_held::measured::perform_measured;
 use tf_held::series::perform_series;
-use tf_held::shops::{evaluate_formatted, perform_evaluation};
-use tf_options::options::{Asked, Work, understand};
+use tf_held::shops::{counted_formatted, perform_counted};
+use tf_options::options::{Asked, understand};
 use tf_text::counted::Counted;
 
 /// What a command line gives: its status, and the bytes on standard output and standard error.
@@ -33,14 +31,8 @@ pub fn run(alloc: Global, line: &str, texts: Texts<'_>) -> Result<Ended, AllocEr
         is_terminal: true,
     };
     let status = match understand(command(alloc)?, words.as_slice(), false) {
-        Asked::Work(Work::Evaluate(evaluating)) => {
-            perform_evaluation(&mut console, &texts, evaluating)
-        }
-        Asked::Work(work) => perform(&mut console, &texts, &work),
-        Asked::Formatted(Work::Evaluate(evaluating), format) => {
-            evaluate_formatted(&mut console, &texts, evaluating, format)
-        }
-        Asked::Formatted(work, format) => { perform_formatted(&mut console, &texts, &work, format) }
+        Asked::Work(work) => perform_counted(&mut console, &texts, work),
+        Asked::Formatted(work, format) => counted_formatted(&mut console, &texts, work, format),
         Asked::Series(series) => perform_series(&mut console, &texts, &series),
         Asked::Measured(evaluating) => perform_measured(&mut console, &texts, evaluating),
         Asked::Help(text) => {

@@ -4,3 +4,4 @@ pub mod Cuts
 pub mod Numbered
 pub mod Again
 pub mod Lines
+pub mod Counted

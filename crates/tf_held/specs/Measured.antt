@@ -5,12 +5,14 @@ use Rattle.tf_text.specs.Input.{IsTextOf}
 use Rattle.tf_text.specs.declared.answer.layout.Layout.TheVariants.{Two}
 use Rattle.tf_options.specs.Asking.{requested}
 use Rattle.tf_options.specs.declared.options.Evaluating.{Evaluating}
+use Rattle.tf_options.specs.declared.options.Options.{Options}
 use Rattle.tf_options.specs.declared.options.Work.TheVariants.{Evaluate}
 use Rattle.tf_command.specs.Ending.{SaysLine}
 use Rattle.tf_command.specs.Formatted.{Memory, held, IsWritten, IsCutOff, IsUnwritten}
 use Rattle.tf_command.specs.Performing.{Performs, Texts}
 use Rattle.tf_held.specs.Texts.{held_texts, IsUnread}
 use Rattle.tf_held.specs.Measures.{IsMeasured}
+use Rattle.tf_held.specs.Shops.{IsCountedBy}
 
 -- the evaluation was done over these two texts with its output in memory, and what it wrote is this,
 -- with measures
@@ -29,6 +31,14 @@ pub record MeasuresOver (instance answer : List ℕ) (evaluating : Evaluating)
       (inner_of after.writer).items output
   pub errors_is : errors ≡ (inner_of after.errors).items
 
+-- the same for a shop of as many machines as the instance says, where their number is wanted
+pub record MeasuresCounted (instance answer : List ℕ) (evaluating : Evaluating)
+    (output errors : List ℕ) (status : ℕ) : Type 0 where
+  pub other : Options
+  pub counted : IsCountedBy evaluating.options instance other
+  pub over : MeasuresOver instance answer (record evaluating { options = other }) output errors
+      status
+
 -- the same over the texts of the names that are given
 pub record Measures (texts : Texts) (evaluating : Evaluating) (output errors : List ℕ) (status : ℕ)
     : Type 0 where
@@ -36,7 +46,7 @@ pub record Measures (texts : Texts) (evaluating : Evaluating) (output errors : L
   pub is_file : IsTextOf (texts evaluating.options.input.now) instance
   pub answer : List ℕ
   pub is_answer : IsTextOf (texts evaluating.answer.now) answer
-  pub over : MeasuresOver instance answer evaluating output errors status
+  pub over : MeasuresCounted instance answer evaluating output errors status
 
 abbrev pub EndsMeasured : Texts → Evaluating → DeviceUse → (List ℕ → Type 0) → (List ℕ → Type 0)
     → ℕ → Type 0

@@ -1,4 +1,4 @@
--- An evaluation for a shop of as many machines as its file has.
+-- Evaluations for a shop of as many machines as their file has.
 use Rattle.std.specs.Prelude.{◌≡◌, ◌⊎◌, ℕ, Bool, true, false, ◌&&◌, List, Option, None, Some, Result, Ok, Err, IsErr, IsOk, is_none, is_some, if◌then◌else◌}
 use Rattle.std.specs.Str.{bytes_eq}
 use Rattle.tf_model.specs.ClassTable.{class_of, is_shop_env}
@@ -9,10 +9,11 @@ use Rattle.tf_notation.specs.Reading.{notation}
 use Rattle.tf_read.specs.FlowShop.{flow_shop}
 use Rattle.tf_text.specs.Counted.{DeviceUse}
 use Rattle.tf_text.specs.Input.{IsTextOf}
-use Rattle.tf_options.specs.declared.options.Evaluating.{Evaluating}
 use Rattle.tf_options.specs.declared.options.FormOption.{FormOption}
 use Rattle.tf_options.specs.declared.options.FormOption.TheVariants.{Table, Wt, Flow}
-use Rattle.tf_options.specs.declared.options.Work.TheVariants.{Evaluate}
+use Rattle.tf_options.specs.declared.options.Options.{Options}
+use Rattle.tf_options.specs.declared.options.Work.{Work as Asking}
+use Rattle.tf_options.specs.declared.options.Work.TheVariants.{Evaluate, Assess, Rate}
 use Rattle.tf_command.specs.Performing.{Performs, Texts}
 use Rattle.tf_held.specs.Texts.{IsUnread}
 use Rattle.tf_held.specs.declared.shops.HeldOr.{HeldOr}
@@ -49,12 +50,11 @@ abbrev pub is_uncounted_in : Result Problem ℕ → Bool
 is_uncounted_in (Ok problem) = is_uncounted_shop problem
 is_uncounted_in (Err byte) = false
 
--- the evaluation is for such a problem, and of a whole flow shop file
-abbrev pub wants_count : Evaluating → Bool
-wants_count evaluating =
-    is_some (whole_name evaluating.options.form)
-    && (is_none evaluating.options.machines
-    && is_uncounted_in (notation evaluating.options.problem.now))
+-- the options name such a problem, and an instance of a flow shop file with all its machines
+abbrev pub wants_count : Options → Bool
+wants_count options =
+    is_some (whole_name options.form)
+    && (is_none options.machines && is_uncounted_in (notation options.problem.now))
 
 -- the problem line with the number of machines that the file has for this instance
 pub record IsCountedLine (text name instance line : List ℕ) : Type 0 where
@@ -74,40 +74,63 @@ IsUncounted text name instance =
     ⊎ ((jobs : InstanceData) × (flow_shop name None instance ≡ Ok jobs)
     × ((count : ℕ) → jobs.machines ≡ Some count → count ≡ 2))
 
--- the same evaluation, with this problem line
-pub record IsUnder (evaluating other : Evaluating) (line : List ℕ) : Type 0 where
-  pub problem : other.options.problem.now ≡ line
-  pub form : other.options.form ≡ evaluating.options.form
-  pub machines : other.options.machines ≡ evaluating.options.machines
-  pub input : other.options.input ≡ evaluating.options.input
-  pub telling : other.options.telling ≡ evaluating.options.telling
-  pub answer : other.answer ≡ evaluating.answer
-  pub detail : other.detail ≡ evaluating.detail
-  pub steps : other.steps ≡ evaluating.steps
+-- the problem line by the number of machines of the file, where that is wanted; the line of the
+-- options where it is not, and where the file has two machines or does not say their number
+abbrev pub IsLineFor : Options → List ℕ → List ℕ → Type 0
+IsLineFor options instance line =
+    ((wants_count options ≡ true)
+    × ((name : List ℕ) × (whole_name options.form ≡ Some name)
+    × (IsCountedLine options.problem.now name instance line
+    ⊎ (IsUncounted options.problem.now name instance × (line ≡ options.problem.now)))))
+    ⊎ ((wants_count options ≡ false) × (line ≡ options.problem.now))
 
--- the evaluation by the number of machines of its file, or as it is where that has two or says none
-abbrev pub IsCountedBy : Evaluating → List ℕ → List ℕ → Evaluating → Type 0
-IsCountedBy evaluating name instance other =
-    ((line : List ℕ) × IsCountedLine evaluating.options.problem.now name instance line
-    × IsUnder evaluating other line)
-    ⊎ (IsUncounted evaluating.options.problem.now name instance × (other ≡ evaluating))
+-- the same options, with this problem line
+pub record IsUnder (options : Options) (line : List ℕ) (other : Options) : Type 0 where
+  pub problem : other.problem.now ≡ line
+  pub form : other.form ≡ options.form
+  pub machines : other.machines ≡ options.machines
+  pub input : other.input ≡ options.input
+  pub telling : other.telling ≡ options.telling
 
--- ---- how it ends
+-- the same options, for a shop of as many machines as the file has
+abbrev pub IsCountedBy : Options → List ℕ → Options → Type 0
+IsCountedBy options instance other =
+    (line : List ℕ) × IsLineFor options instance line × IsUnder options line other
+
+-- ---- evaluations: of an answer, also by bounds alone, of orders, and of pieces
+
+abbrev pub evaluated : Asking → Option Options
+evaluated (Evaluate evaluating) = Some evaluating.options
+evaluated (Assess assessing) = Some assessing.options
+evaluated (Rate options orders) = Some options
+evaluated _ = None
+
+-- the same evaluation with other options
+abbrev pub with_options : Asking → Options → Asking
+with_options (Evaluate evaluating) options = Evaluate (record evaluating { options = options })
+with_options (Assess assessing) options = Assess (record assessing { options = options })
+with_options (Rate _ orders) options = Rate options orders
+with_options work options = work
+
+abbrev pub asks_count : Option Options → Bool
+asks_count None = false
+asks_count (Some options) = wants_count options
+
+-- ---- how they end
 
 -- the instance was read first, and the evaluation done over it
-pub record EndsShop (texts : Texts) (evaluating : Evaluating) (writer : DeviceUse)
+pub record EndsShop (texts : Texts) (work : Asking) (options : Options) (writer : DeviceUse)
     (says : Bool → List ℕ → Type 0) (status : ℕ) : Type 0 where
   pub instance : List ℕ
-  pub is_file : IsTextOf (texts evaluating.options.input.now) instance
-  pub name : List ℕ
-  pub whole : whole_name evaluating.options.form ≡ Some name
-  pub other : Evaluating
-  pub counted : IsCountedBy evaluating name instance other
-  pub done : Performs (texts_with evaluating.options.input.now instance texts) (Evaluate other)
+  pub is_file : IsTextOf (texts options.input.now) instance
+  pub other : Options
+  pub counted : IsCountedBy options instance other
+  pub done : Performs (texts_with options.input.now instance texts) (with_options work other)
       writer says status
 
-abbrev pub EndsEvaluation : Texts → Evaluating → DeviceUse → (Bool → List ℕ → Type 0) → ℕ → Type 0
-EndsEvaluation texts evaluating writer says status =
-    ((wants_count evaluating ≡ false) × Performs texts (Evaluate evaluating) writer says status)
-    ⊎ ((wants_count evaluating ≡ true) × EndsShop texts evaluating writer says status)
-    ⊎ IsUnread writer (says false) status
+abbrev pub EndsCounted : Texts → Asking → DeviceUse → (Bool → List ℕ → Type 0) → ℕ → Type 0
+EndsCounted texts work writer says status =
+    ((asks_count (evaluated work) ≡ false) × Performs texts work writer says status)
+    ⊎ ((options : Options) × (evaluated work ≡ Some options) × (wants_count options ≡ true)
+    × (EndsShop texts work options writer says status
+    ⊎ IsUnread writer (says options.telling.explain) status))

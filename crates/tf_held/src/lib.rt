@@ -1,6 +1,6 @@
 //! Commands over texts that are read once and held in memory: a line for each of several instances,
-//! an evaluation with the value of each objective, and one for a shop of as many machines as its
-//! file has.
+//! an evaluation with the value of each objective, and evaluations for a shop of as many machines
+//! as their file has.
 #![tactic(auto)]
 
 mod answers;

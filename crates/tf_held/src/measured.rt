@@ -1,11 +1,11 @@
 //! An evaluation, with what the schedule comes to by each objective.
-ghost use Rattle.std.specs.Prelude.{◌≡◌, ◌⊎◌, false, true, codes, Ok, IfOk, IsErr, OnOk};
+ghost use Rattle.std.specs.Prelude.{◌≡◌, ◌⊎◌, true, codes, Ok, IfOk, IsErr, OnOk};
 ghost use Rattle.std.specs.Prelude.{MatchOption};
 ghost use Rattle.tf_text.specs.Counted.{use_of};
 ghost use Rattle.tf_command.specs.Ending.{SaysLine};
 ghost use Rattle.tf_command.specs.Wrote.{Wrote};
 ghost use Rattle.tf_command.specs.Formatted.{IsWritten, IsCutOff};
-ghost use Rattle.tf_held.specs.Measured.{EndsMeasured, MeasuresOver};
+ghost use Rattle.tf_held.specs.Measured.{EndsMeasured, MeasuresCounted, MeasuresOver};
 ghost use Rattle.tf_bounding.specs.ShopTimes.{timed_said};
 ghost use Rattle.tf_engine.specs.Faults.{is_refusal, stop_of};
 ghost use Rattle.tf_engine.specs.FormData.{form_of};
@@ -16,6 +16,7 @@ ghost use Rattle.tf_held.specs.Measures.{AddsLines, IsMeasured, IsPosed, IsUnpos
 use crate::held::Held;
 use crate::measures::{Posed, push_measures};
 use crate::reading::text_named;
+use crate::shops::{evaluating_under, line_for};
 use std::alloc::Global;
 use std::io::Write;
 use tf_bounding::timed_read::timed_read;
@@ -48,8 +49,9 @@ struct Told {
     status: u8,
 }
 
-/// Evaluates an answer as [`evaluate_named`] does, and writes before the last line a line
-/// `measure NAME VALUE` for each objective of which the instance has the fields.
+/// Evaluates an answer as [`perform_counted`](crate::shops::perform_counted) does, and writes
+/// before the last line a line `measure NAME VALUE` for each objective of which the instance has
+/// the fields.
 pub fn perform_measured<S: Sources, W: Write, E: Write>(
     console: &mut Console<W, E>,
     sources: &S,
@@ -58,13 +60,15 @@ pub fn perform_measured<S: Sources, W: Write, E: Write>(
     ensures { EndsMeasured (S.text_of sources.now) evaluating.entry
         (use_of W.contents console.old.writer console.new.writer)
         (Wrote E.contents console.old.errors console.new.errors)
-        (SaysLine E.contents false console.old.errors console.new.errors) result }
+        (SaysLine E.contents evaluating.entry.options.telling.explain console.old.errors
+        console.new.errors) result }
 {
-    let instance = match text_named(console, sources, evaluating.options.input) {
+    let explain = evaluating.options.telling.explain;
+    let instance = match text_named(console, sources, evaluating.options.input, explain) {
         Ok(text) => text,
         Err(status) => return status,
     };
-    let answer = match text_named(console, sources, evaluating.answer) {
+    let answer = match text_named(console, sources, evaluating.answer, explain) {
         Ok(text) => text,
         Err(status) => return status,
     };
@@ -97,15 +101,30 @@ fn write_told<W: Write, E: Write>(console: &mut Console<W, E>, told: &Told) -> u
     }
 }
 
-/// What an evaluation over texts in memory writes, with its measures.
+/// What an evaluation over texts in memory writes, with its measures. A shop whose number of
+/// machines is wanted has as many as the instance says.
 fn told_of(alloc: Global, held: Held<'_>, evaluating: Evaluating<'_>) -> Result<Told, OutOfMemory>
     requires { held.name.now ≡ evaluating.options.input.now }
-    ensures { IfOk result (λ told. MeasuresOver held.entry.instance.now held.entry.other.now
+    ensures { IfOk result (λ told. MeasuresCounted held.entry.instance.now held.entry.other.now
         evaluating.entry told.output.items told.errors.items told.status) }
+{
+    let line = line_for(alloc, &evaluating.options, held.instance)?;
+    told_over(alloc, held, &evaluating_under(evaluating, line.as_str()))
+}
+
+/// What an evaluation for this problem line writes, with its measures.
+fn told_over(
+    alloc: Global,
+    held: Held<'_>,
+    evaluating: &Evaluating<'_>,
+) -> Result<Told, OutOfMemory>
+    requires { held.name.now ≡ evaluating.now.options.input.now }
+    ensures { IfOk result (λ told. MeasuresOver held.entry.instance.now held.entry.other.now
+        evaluating.now told.output.items told.errors.items told.status) }
 {
     let request = evaluating.options.request(alloc, Layout::Two)?;
     let mut kept = memory(alloc);
-    let status = evaluate_named(&mut kept, &held, &evaluating);
+    let status = evaluate_named(&mut kept, &held, evaluating);
     if kept.writer.failed() || kept.errors.failed() {
         return Err(OutOfMemory);
     }

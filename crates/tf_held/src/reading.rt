@@ -1,35 +1,64 @@
 //! Whole texts, by their names.
-ghost use Rattle.std.specs.Prelude.{◌≡◌, false, IfOk, IfErr};
+ghost use Rattle.std.specs.Prelude.{◌≡◌, codes, IfOk, IfErr};
 ghost use Rattle.tf_text.specs.Counted.{use_of};
 ghost use Rattle.tf_text.specs.Input.{IsTextOf};
 ghost use Rattle.tf_command.specs.Ending.{SaysLine};
 ghost use Rattle.tf_held.specs.Texts.{IsUnread};
 
+use std::alloc::Global;
+use std::io;
 use std::io::Write;
 use tf_command::console::Console;
-use tf_command::report::report;
+use tf_command::gathered::send;
+use tf_command::report::{report, say_device};
 use tf_command::source::Sources;
 use tf_engine::fault::RunFault;
+use tf_explain::explain::not_read;
 use tf_text::counted::Counted;
 use tf_text::input::read_all;
 
-/// The text of that name. Where it cannot be read, says so, and gives the status.
+/// The text of that name. Where it cannot be read, says so, and gives the status. Where it cannot
+/// be opened, says why too if that is to be explained.
 pub(crate) fn text_named<S: Sources, W: Write, E: Write>(
     console: &mut Console<W, E>,
     sources: &S,
     name: &str,
+    explain: bool,
 ) -> Result<Vec<u8>, u8>
     ensures text { IfOk result (λ text. IsTextOf (S.text_of sources.now name.now) text.items) }
     ensures kept { IfOk result (λ _. console.new ≡ console.old) }
     ensures unread { IfErr result (IsUnread (use_of W.contents console.old.writer console.new.writer)
-        (SaysLine E.contents false console.old.errors console.new.errors)) }
+        (SaysLine E.contents explain console.old.errors console.new.errors)) }
 {
     let fault: RunFault = match sources.open(name) {
         Ok(source) => match read_all(console.alloc, &mut Counted::new(source)) {
             Ok(text) => return Ok(text),
             Err(fault) => fault.into(),
         },
-        Err(_) => RunFault::Device,
+        Err(error) => {
+            let alloc = console.alloc;
+            return Err(say_unopened(alloc, &mut console.errors, name, &error, explain));
+        }
     };
     Err(report(&fault, &mut console.errors))
+}
+
+/// Says that the text of that name cannot be opened, and why if that is to be explained, and gives
+/// the status.
+fn say_unopened<E: Write>(
+    alloc: Global,
+    errors: &mut Counted<E>,
+    name: &str,
+    error: &io::Error,
+    explain: bool,
+) -> u8
+    ensures status { result ≡ 4 }
+    ensures line { SaysLine E.contents explain errors.old errors.new
+        (codes "threefield: device fault\n") }
+{
+    let status = say_device(errors);
+    if explain && let Ok(reason) = not_read(alloc, name, error) {
+        send(errors, reason.as_bytes());
+    }
+    status
 }

@@ -72,7 +72,7 @@ pub fn perform_series<S: Sources, W: Write, E: Write>(
         (use_of W.contents console.old.writer console.new.writer)
         (SaysLine E.contents false console.old.errors console.new.errors) result }
 {
-    let instance = match text_named(console, sources, series.input) {
+    let instance = match text_named(console, sources, series.input, false) {
         Ok(text) => text,
         Err(status) => return status,
     };
@@ -104,7 +104,7 @@ fn answers_named<S: Sources, W: Write, E: Write>(
         (SaysLine E.contents false console.old.errors console.new.errors)) }
 {
     match series.told {
-        Told::Answers(name, _) => text_named(console, sources, name),
+        Told::Answers(name, _) => text_named(console, sources, name, false),
         _ => Ok(Vec::new(console.alloc)),
     }
 }

@@ -1,21 +1,23 @@
-//! An evaluation for a shop of as many machines as its file has.
-ghost use Rattle.std.specs.Prelude.{◌≡◌, Some, true, false, IfOk, MatchOption, option_map};
+//! Evaluations for a shop of as many machines as its file has.
+ghost use Rattle.std.specs.Prelude.{◌≡◌, Some, true, false, IfOk, IfSome, MatchOption, option_map};
 ghost use Rattle.std.specs.Prelude.{string_bytes};
 ghost use Rattle.tf_command.specs.Ending.{SaysLine};
 ghost use Rattle.tf_command.specs.Formatted.{EndsFormatted};
 ghost use Rattle.tf_command.specs.Performing.{Performs};
 ghost use Rattle.tf_command.specs.Wrote.{Wrote};
 ghost use Rattle.tf_notation.specs.Reading.{notation};
+ghost use Rattle.tf_options.specs.Columns.{IsSized};
+ghost use Rattle.tf_options.specs.declared.options.Options.{Options};
 ghost use Rattle.tf_text.specs.Counted.{use_of};
-ghost use Rattle.tf_held.specs.Shops.{EndsEvaluation, IsCountedLine, IsUncounted, IsUnder};
-ghost use Rattle.tf_held.specs.Shops.{is_uncounted_in, is_uncounted_shop, texts_with, wants_count};
-ghost use Rattle.tf_held.specs.Shops.{whole_name};
+ghost use Rattle.tf_held.specs.Shops.{EndsCounted, IsCountedLine, IsLineFor, IsUncounted, IsUnder};
+ghost use Rattle.tf_held.specs.Shops.{asks_count, evaluated, is_uncounted_in, is_uncounted_shop};
+ghost use Rattle.tf_held.specs.Shops.{texts_with, wants_count, whole_name, with_options};
 
 use crate::reading::text_named;
 use std::alloc::Global;
 use std::io;
 use std::io::{Read, Write};
-use tf_command::commands::evaluate_named;
+use tf_command::commands::perform;
 use tf_command::console::Console;
 use tf_command::formatted::{memory, print_kept};
 use tf_command::report::say_memory;
@@ -26,7 +28,7 @@ use tf_model::problem::Problem;
 use tf_notation::reading::read;
 use tf_notation::writing::notation_text;
 use tf_options::format::Format;
-use tf_options::options::{Evaluating, FormOption, Options, Work};
+use tf_options::options::{Assessing, Evaluating, FormOption, Options, Work};
 use tf_read::fault::ReadFault;
 use tf_read::flow_shop::read_flowshop;
 
@@ -92,83 +94,107 @@ impl<'a, S: Sources> Sources for WithInstance<'a, S> {
     }
 }
 
-/// Evaluates an answer as [`evaluate_named`] does. A problem that is solved on two machines and
-/// names no number of them, as `F||Cmax`, is that of as many machines as the instance of a flow
-/// shop file has.
-pub fn perform_evaluation<S: Sources, W: Write, E: Write>(
+/// Does what is asked for, as [`perform`] does. In an evaluation a problem that is solved on two
+/// machines and names no number of them, as `F||Cmax`, is that of as many machines as the instance
+/// of a flow shop file has.
+pub fn perform_counted<S: Sources, W: Write, E: Write>(
     console: &mut Console<W, E>,
     sources: &S,
-    evaluating: Evaluating<'_>,
+    work: Work<'_>,
 ) -> u8
-    ensures { EndsEvaluation (S.text_of sources.now) evaluating.entry
+    requires { IsSized work }
+    ensures { EndsCounted (S.text_of sources.now) work.entry
         (use_of W.contents console.old.writer console.new.writer)
         (λ explain. SaysLine E.contents explain console.old.errors console.new.errors) result }
 {
-    let Some(name) = name_wanted(&evaluating) else {
-        return evaluate_named(console, sources, &evaluating);
+    let Some(options) = options_to_count(&work) else {
+        return perform(console, sources, &work);
     };
-    let instance = match text_named(console, sources, evaluating.options.input) {
+    let input = options.input;
+    let instance = match text_named(console, sources, input, options.telling.explain) {
         Ok(text) => text,
         Err(status) => return status,
     };
-    let problem = evaluating.options.problem;
-    let Ok(line) = counted_line(console.alloc, problem, name, instance.as_slice()) else {
+    let Ok(line) = line_for(console.alloc, options, instance.as_slice()) else {
         return say_memory(&mut console.errors);
     };
-    match &line {
-        None => perform_over(console, sources, instance.as_slice(), evaluating),
-        Some(line) => {
-            let other = under(&evaluating, line.as_str());
-            perform_over(console, sources, instance.as_slice(), other)
-        }
-    }
+    let texts = WithInstance {
+        name: input,
+        instance: instance.as_slice(),
+        others: sources,
+    };
+    perform(console, &texts, &work_under(work, line.as_str()))
 }
 
-/// Evaluates an answer as [`perform_evaluation`] does, and writes in a format what that prints and
-/// what it says of faults. Nothing is written before the evaluation has ended.
-pub fn evaluate_formatted<S: Sources, W: Write, E: Write>(
+/// Does what is asked for, as [`perform_counted`] does, and writes in a format what that prints and
+/// what it says of faults. Nothing is written before the command has ended.
+pub fn counted_formatted<S: Sources, W: Write, E: Write>(
     console: &mut Console<W, E>,
     sources: &S,
-    evaluating: Evaluating<'_>,
+    work: Work<'_>,
     format: Format,
 ) -> u8
-    ensures { EndsFormatted (EndsEvaluation (S.text_of sources.now) evaluating.entry) format
+    requires { IsSized work }
+    ensures { EndsFormatted (EndsCounted (S.text_of sources.now) work.entry) format
         (use_of W.contents console.old.writer console.new.writer)
         (Wrote E.contents console.old.errors console.new.errors) result }
 {
     let mut kept = memory(console.alloc);
-    let status = perform_evaluation(&mut kept, sources, evaluating);
+    let status = perform_counted(&mut kept, sources, work);
     print_kept(console, format, &kept, status)
 }
 
-/// Evaluates an answer to an instance that was read.
-fn perform_over<S: Sources, W: Write, E: Write>(
-    console: &mut Console<W, E>,
-    sources: &S,
-    instance: &[u8],
-    evaluating: Evaluating<'_>,
-) -> u8
-    ensures { Performs (texts_with evaluating.entry.options.input.now instance.now
-        (S.text_of sources.now)) (Work.Evaluate evaluating.entry)
-        (use_of W.contents console.old.writer console.new.writer)
-        (λ explain. SaysLine E.contents explain console.old.errors console.new.errors) result }
+/// The options of an evaluation whose number of machines is wanted.
+fn options_to_count<'w, 'a>(work: &'w Work<'a>) -> Option<&'w Options<'a>>
+    ensures { MatchOption result (asks_count (evaluated work.now) ≡ false)
+        (λ options. (evaluated work.now ≡ Some options.now)
+        × (wants_count options.now ≡ true)) }
 {
-    let texts = WithInstance {
-        name: evaluating.options.input,
-        instance,
-        others: sources,
+    let options = evaluated(work)?;
+    match name_wanted(options) {
+        Some(_) => Some(options),
+        None => None,
+    }
+}
+
+/// The options of an evaluation: of an answer, of orders, or of pieces.
+fn evaluated<'w, 'a>(work: &'w Work<'a>) -> Option<&'w Options<'a>>
+    ensures { option_map (λ options. options.now) result ≡ evaluated work.now }
+{
+    match work {
+        Work::Evaluate(evaluating) => Some(&evaluating.options),
+        Work::Assess(assessing) => Some(&assessing.options),
+        Work::Rate(options, _) => Some(options),
+        _ => None,
+    }
+}
+
+/// The problem line of these options, with the number of machines that their file has for the
+/// instance where that is wanted and is not two.
+pub(crate) fn line_for(
+    alloc: Global,
+    options: &Options<'_>,
+    instance: &[u8],
+) -> Result<String, OutOfMemory>
+    ensures { IfOk result (λ line. IsLineFor options.now instance.now (string_bytes line)) }
+{
+    let Some(name) = name_wanted(options) else {
+        return Ok(String::from_str(alloc, options.problem)?);
     };
-    evaluate_named(console, &texts, &evaluating)
+    match counted_line(alloc, options.problem, name, instance)? {
+        Some(line) => Ok(line),
+        None => Ok(String::from_str(alloc, options.problem)?),
+    }
 }
 
 /// The name of the instance whose number of machines is wanted, if it is.
-fn name_wanted<'a>(evaluating: &Evaluating<'a>) -> Option<&'a str>
-    ensures { MatchOption result (wants_count evaluating.now ≡ false)
-        (λ name. (wants_count evaluating.now ≡ true)
-        × (whole_name evaluating.now.options.form ≡ Some name.now)) }
+fn name_wanted<'a>(options: &Options<'a>) -> Option<&'a str>
+    ensures { MatchOption result (wants_count options.now ≡ false)
+        (λ name. (wants_count options.now ≡ true)
+        × (whole_name options.now.form ≡ Some name.now)) }
 {
-    let name = whole_name(evaluating.options.form)?;
-    if evaluating.options.machines.is_some() || !is_uncounted_in(evaluating.options.problem) {
+    let name = whole_name(options.form)?;
+    if options.machines.is_some() || !is_uncounted_in(options.problem) {
         return None;
     }
     Some(name)
@@ -235,20 +261,41 @@ fn with_count(problem: Problem, count: u32) -> Problem
     counted
 }
 
-/// The same evaluation, with another problem line.
-fn under<'a>(evaluating: &Evaluating<'a>, line: &'a str) -> Evaluating<'a>
-    ensures { IsUnder evaluating.now result line.now }
+/// The same evaluation, with another problem line, and any other work as it is.
+fn work_under<'a>(work: Work<'a>, line: &'a str) -> Work<'a>
+    requires { IsSized work }
+    ensures sized { IsSized result }
+    ensures under { IfSome (evaluated work.entry) (λ options. (other : Options)
+        × IsUnder options line.now other × (result ≡ with_options work.entry other)) }
+{
+    match work {
+        Work::Evaluate(evaluating) => Work::Evaluate(evaluating_under(evaluating, line)),
+        Work::Assess(assessing) => Work::Assess(Assessing {
+            options: under(assessing.options, line),
+            ..assessing
+        }),
+        Work::Rate(options, orders) => Work::Rate(under(options, line), orders),
+        other => other,
+    }
+}
+
+/// The same evaluation of an answer, with another problem line.
+pub(crate) fn evaluating_under<'a>(evaluating: Evaluating<'a>, line: &'a str) -> Evaluating<'a>
+    ensures { (other : Options) × IsUnder evaluating.entry.options line.now other
+        × (result ≡ record evaluating.entry { options = other }) }
 {
     Evaluating {
-        options: Options {
-            problem: line,
-            form: evaluating.options.form,
-            machines: evaluating.options.machines,
-            input: evaluating.options.input,
-            telling: evaluating.options.telling,
-        },
-        answer: evaluating.answer,
-        detail: evaluating.detail,
-        steps: evaluating.steps,
+        options: under(evaluating.options, line),
+        ..evaluating
+    }
+}
+
+/// The same options, with another problem line.
+fn under<'a>(options: Options<'a>, line: &'a str) -> Options<'a>
+    ensures { IsUnder options.entry line.now result }
+{
+    Options {
+        problem: line,
+        ..options
     }
 }

@@ -1,8 +1,6 @@
 //! `threefield` solves machine scheduling problems named in three-field notation.
 #![tactic(auto)]
 
-ghost use Rattle.tf_options.specs.Columns.{IsSized};
-
 mod files;
 
 use files::Files;
@@ -10,17 +8,14 @@ use std::alloc::AllocError;
 use std::io;
 use std::io::{IsTerminal, Stdout, Write};
 use std::process::ExitCode;
-use tf_command::commands::perform;
 use tf_command::console::Console;
-use tf_command::formatted::perform_formatted;
 use tf_command::misuse::say_misuse;
 use tf_command::report::{say_device, say_memory, say_usage};
 use tf_grammar::grammar::command;
 use tf_held::measured::perform_measured;
 use tf_held::series::perform_series;
-use tf_held::shops::{evaluate_formatted, perform_evaluation};
-use tf_options::format::Format;
-use tf_options::options::{Asked, Work, understand};
+use tf_held::shops::{counted_formatted, perform_counted};
+use tf_options::options::{Asked, understand};
 use tf_text::counted::Counted;
 
 /// The largest freed block, in bytes, that the allocator keeps. A table of 100,000 jobs is seldom
@@ -56,14 +51,10 @@ fn program(rt: &HostRuntime) -> u8 {
         return say_memory(&mut errors);
     };
     match understand(command, words.as_slice(), rt.stderr().is_terminal()) {
-        Asked::Work(Work::Evaluate(evaluating)) => {
-            perform_evaluation(&mut console(rt, errors), &Files { rt }, evaluating)
+        Asked::Work(work) => perform_counted(&mut console(rt, errors), &Files { rt }, work),
+        Asked::Formatted(work, format) => {
+            counted_formatted(&mut console(rt, errors), &Files { rt }, work, format)
         }
-        Asked::Work(work) => print(rt, errors, &work, None),
-        Asked::Formatted(Work::Evaluate(evaluating), format) => {
-            evaluate_formatted(&mut console(rt, errors), &Files { rt }, evaluating, format)
-        }
-        Asked::Formatted(work, format) => print(rt, errors, &work, Some(format)),
         Asked::Series(series) => perform_series(&mut console(rt, errors), &Files { rt }, &series),
         Asked::Measured(evaluating) => {
             perform_measured(&mut console(rt, errors), &Files { rt }, evaluating)
@@ -75,22 +66,6 @@ fn program(rt: &HostRuntime) -> u8 {
         Asked::Misused(_) => say_misuse(rt.alloc(), words.as_slice(), &mut errors),
         Asked::Unfit(text) => say_usage(&mut errors, text),
         Asked::NoMemory => say_memory(&mut errors),
-    }
-}
-
-/// Does what is asked for, with its output in a format where one is named, and gives the status.
-fn print<E: Write + Drop>(
-    rt: &HostRuntime,
-    errors: Counted<E>,
-    work: &Work<'_>,
-    format: Option<Format>,
-) -> u8
-    requires { IsSized work.now }
-{
-    let mut console = console(rt, errors);
-    match format {
-        None => perform(&mut console, &Files { rt }, work),
-        Some(format) => perform_formatted(&mut console, &Files { rt }, work, format),
     }
 }
 

@@ -1,35 +1,24 @@
-use Rattle.std.proofs.Common.{List, ℕ, sym, ap, ◌∙◌, subst}
-use Rattle.tf_text.specs.Counted.{use_of}
-use Rattle.tf_options.specs.declared.options.Work.TheVariants.{Evaluate}
-use Rattle.tf_command.specs.Ending.{SaysLine}
-use Rattle.tf_command.specs.Formatted.{held}
-use Rattle.tf_command.specs.Performing.{Performs}
-use Rattle.tf_text.specs.declared.answer.layout.Layout.TheVariants.{Two}
-use Rattle.tf_options.specs.Asking.{requested}
-use Rattle.tf_held.specs.Measures.{IsMeasured}
-use Rattle.tf_held.specs.Texts.{held_texts}
+use Rattle.std.proofs.Common.{List, ℕ, IfOk, sym, subst}
+use Rattle.std.proofs.lemmas.Result.{IfOk-weaker}
+use Rattle.tf_options.specs.declared.options.Evaluating.{Evaluating}
+use Rattle.tf_held.specs.Measured.{MeasuresOver}
+use Rattle.tf_held.specs.Shops.{IsLineFor}
 use Rattle.tf_held.proofs.measured.told_of.Goals as goal
 
 pub returns : goal.returns
-returns c = record {
-  before = c.memory-kept.result;
-  after = c.evaluate_named-status.new.console;
-  blank = c.memory-kept.ensures.blank;
-  silent = c.memory-kept.ensures.silent;
-  done = subst (λ (name : List ℕ). Performs
-      (held_texts name c.args.held.instance.now c.args.held.other.now) (Evaluate c.args.evaluating)
-      (use_of held c.memory-kept.result.writer c.evaluate_named-status.new.console.writer)
-      (λ explain. SaysLine held explain c.memory-kept.result.errors
-      c.evaluate_named-status.new.console.errors) c.evaluate_named-status.result) c.requires
-      c.evaluate_named-status.ensures;
-  whole = sym c.failed.ensures ∙ c.if-failed.false;
-  told = sym c.failed-else-failed.ensures ∙ c.if-failed-2.false;
-  measured = subst (λ text. IsMeasured (requested c.args.evaluating.options Two)
-      c.args.held.instance.now c.args.held.other.now text c.in_ok-with_measures.field-0.items)
-      (c.as_slice.ensures.value ∙ ap (λ v. v.items) c.inner.ensures)
-      (subst (λ request. IsMeasured request c.args.held.instance.now c.args.held.other.now
-      c.as_slice.result.now c.in_ok-with_measures.field-0.items) c.in_ok-request.ensures
-      c.in_ok-with_measures.ensures);
-  errors_is = c.in_ok-from_slice.ensures.items ∙ c.as_slice-2.ensures.value
-      ∙ ap (λ v. v.items) c.inner-2.ensures;
-}
+returns c =
+    let under = c.evaluating_under.ensures in
+    IfOk-weaker c.told_over.result _ _
+    (λ told over. record {
+      other = under.0;
+      counted = (
+        c.as_str.result.now,
+        subst (λ (text : List ℕ). IsLineFor c.args.evaluating.options c.args.held.instance.now text)
+            (sym c.as_str.ensures.value) c.in_ok-line.ensures,
+        under.1,
+      );
+      over = over;
+    })
+    (subst (λ (evaluating : Evaluating). IfOk c.told_over.result (λ told. MeasuresOver
+    c.args.held.instance.now c.args.held.other.now evaluating told.output.items told.errors.items
+    told.status)) under.2 c.told_over.ensures)
