@@ -1,6 +1,7 @@
 pub mod Classes
 pub mod Complete
 pub mod Summed
+pub mod Judged
 pub mod TaskBuilder
 pub mod JobRows
 pub mod OfClass

@@ -1,6 +1,6 @@
 -- A task that grows job by job, and at its end.
-use Rattle.std.specs.Prelude.{IfOk, is_ok, is_some, not, ◌&&◌, ◌||◌, if◌then◌else◌}
-use Rattle.std.proofs.Common.{◌≡◌, ℕ, zero, suc, Bool, true, false, Option, None, Some, Result, Ok, Err, List, [], ◌∷◌, ◌++◌, append_assoc, map, length, sym, ap, ◌∙◌, refl, subst, arith, All}
+use Rattle.std.specs.Prelude.{IfOk, IfSome, is_ok, is_some, not, ◌&&◌, ◌||◌, if◌then◌else◌}
+use Rattle.std.proofs.Common.{◌≡◌, ◌≢◌, ◌≤◌, ℕ, zero, suc, Bool, true, false, Option, None, Some, Result, Ok, Err, List, [], ◌∷◌, ◌++◌, append_assoc, map, length, sym, ap, ◌∙◌, refl, subst, arith, All}
 use Rattle.std.specs.Bool.{then_some}
 use Rattle.std.specs.List.{list_all}
 use Rattle.std.specs.Result.{result_ok}
@@ -9,7 +9,8 @@ use Rattle.std.proofs.lemmas.List.Elements.{All-append}
 use Rattle.std.proofs.lemmas.List.Folds.{list_all-append}
 use Rattle.std.proofs.lemmas.List.{append-nil, length-map, map-append}
 use Rattle.tf_model.specs.StepFaults.{IsStepCost}
-use Rattle.tf_model.specs.InstanceData.{InstanceData, IsInstance}
+use Rattle.tf_model.specs.InstanceData.{InstanceData, IsInstance, has_negative, has_beyond}
+use Rattle.tf_model.specs.Limit.{most_jobs}
 use Rattle.tf_model.specs.JobFields.{JobFields}
 use Rattle.tf_model.specs.JobRows.{rows_of}
 use Rattle.tf_model.specs.SchedulingTask.{JobData, SchedulingTask}
@@ -21,11 +22,12 @@ use Rattle.tf_model.specs.Prepare.{data_of, has_wrong_times, has_zero_time, lack
 use Rattle.tf_model.specs.Steps.{Steps}
 use Rattle.tf_model.specs.declared.class.Class.{Class}
 use Rattle.tf_model.specs.declared.job_totals.JobTotals.{JobTotals}
-use Rattle.tf_model.specs.TaskBuilder.{HasTaken, Takes}
+use Rattle.tf_model.specs.TaskBuilder.{HasTaken, HasJudged, CanFinish, Takes}
 use Rattle.tf_model.specs.declared.prepare.Refusal.TheVariants.{TotalTooLarge}
 use Rattle.tf_model.specs.declared.problem.Problem.{Problem}
 use Rattle.tf_model.specs.declared.task_builder.TaskBuilder.{TaskBuilder}
 use Rattle.tf_model.proofs.Complete.{complete_refusal}
+use Rattle.tf_model.proofs.Judged.{within_instance, within_more}
 use Rattle.tf_model.proofs.Prepared.{IsCountFor-machines_for, task_of-IsSound}
 
 -- no job more changes nothing
@@ -150,3 +152,33 @@ module _ {A : Type 0} (builder : TaskBuilder A) (kept given : List (ℕ × ℕ))
       let enough : is_too_many builder.class (length i.jobs) ≡ false =
       ap (is_too_many builder.class) (sym count) ∙ few in
       rw (had.class_is, enough, had.machines_are, none_refused) (ap Ok (sym parts_are))
+
+-- ---- jobs that are judged as they come
+
+pub judged_more : {A : Type 0} (old new : TaskBuilder A) (job : JobFields) (r : Option (Unit {0}))
+    → IfSome r (λ _. Takes old (job ∷ []) new) → has_negative job ≡ false → has_beyond job ≡ false
+    → IfSome r (λ _. HasJudged old → HasJudged new)
+judged_more old new job None takes negative beyond = tt
+judged_more old new job (Some u) takes negative beyond = λ had.
+    let (problem, argument, jobs, taken, all) = had in (
+      problem,
+      argument,
+      jobs ++ job ∷ [],
+      takes problem argument None jobs taken,
+      within_more jobs job all negative beyond,
+    )
+
+pub judged_instance : {A : Type 0} (builder : TaskBuilder A) (arcs : List (ℕ × ℕ))
+    → HasJudged builder → arcs ≡ [] → builder.totals.jobs ≢ 0 → builder.totals.jobs ≤ most_jobs
+    → CanFinish builder arcs
+judged_instance builder arcs had none some few =
+    let (problem, argument, jobs, taken, all) = had in
+    let count : builder.totals.jobs ≡ length jobs =
+    taken.summed.count ∙ length-map jobs (data_of builder.class) in (
+      problem,
+      argument,
+      record { jobs = jobs; arcs = []; machines = None },
+      taken,
+      sym none,
+      within_instance jobs all (omega (arith, count, some)) (omega (arith, count, few)),
+    )

@@ -1,10 +1,10 @@
 -- A task that grows job by job, as long as nothing is refused.
-use Rattle.std.specs.Prelude.{◌≡◌, ℕ, true, List, ◌++◌, map, Option, Some, Ok}
+use Rattle.std.specs.Prelude.{◌≡◌, ℕ, Bool, true, not, ◌&&◌, List, ◌++◌, map, Option, None, Some, Ok}
 use Rattle.std.specs.List.{All, list_all}
 use Rattle.tf_model.specs.StepFaults.{IsStepCost}
 use Rattle.tf_model.specs.JobFields.{JobFields}
 use Rattle.tf_model.specs.JobRows.{HasRows}
-use Rattle.tf_model.specs.InstanceData.{InstanceData, IsInstance}
+use Rattle.tf_model.specs.InstanceData.{InstanceData, IsInstance, has_negative, has_beyond}
 use Rattle.tf_model.specs.ClassTable.{class_of}
 use Rattle.tf_model.specs.Prepare.{data_of, kept_costs, machines_for}
 use Rattle.tf_model.specs.Complete.{is_complete}
@@ -33,3 +33,12 @@ Takes old jobs new = (problem : Problem) (argument count : Option ℕ) (before :
 abbrev pub CanFinish : {A : Type 0} → TaskBuilder A → List (ℕ × ℕ) → Type 0
 CanFinish builder arcs = (problem : Problem) × (argument : Option ℕ) × (i : InstanceData)
     × HasTaken problem argument i.machines builder i.jobs × (i.arcs ≡ arcs) × IsInstance i
+
+-- no number of the job is negative or beyond the limit
+abbrev pub is_within_limits : JobFields → Bool
+is_within_limits job = not (has_negative job) && not (has_beyond job)
+
+-- it took such jobs alone, and no number of machines of an instance
+abbrev pub HasJudged : {A : Type 0} → TaskBuilder A → Type 0
+HasJudged builder = (problem : Problem) × (argument : Option ℕ) × (jobs : List JobFields)
+    × HasTaken problem argument None builder jobs × (list_all is_within_limits jobs ≡ true)

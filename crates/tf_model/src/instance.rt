@@ -175,7 +175,8 @@ pub(crate) fn is_beyond(number: i64) -> bool
     number.unsigned_abs() > LIMIT as u64
 }
 
-fn has_negative<A: Allocator>(job: &Job<A>) -> bool
+/// Whether a time, the weight or the release date is negative.
+pub(crate) fn has_negative<A: Allocator>(job: &Job<A>) -> bool
     ensures { result ≡ has_negative job.now }
 {
     let time = match job.times {
@@ -185,7 +186,8 @@ fn has_negative<A: Allocator>(job: &Job<A>) -> bool
     time || job.weight.is_some_and(|w| w < 0) || job.release.is_some_and(|r| r < 0)
 }
 
-fn has_beyond<A: Allocator>(job: &Job<A>) -> bool
+/// Whether a number of the job is beyond the limit.
+pub(crate) fn has_beyond<A: Allocator>(job: &Job<A>) -> bool
     ensures { result ≡ has_beyond job.now }
 {
     let time = match job.times {

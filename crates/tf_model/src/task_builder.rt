@@ -4,11 +4,12 @@ ghost use Rattle.tf_model.specs.StepFaults.{IsStepCost};
 ghost use Rattle.tf_model.specs.InstanceData.{InstanceData};
 ghost use Rattle.tf_model.specs.declared.problem.Problem.{Problem};
 ghost use Rattle.tf_model.specs.Prepare.{kept_arcs, steps_of, prepared};
-ghost use Rattle.tf_model.specs.TaskBuilder.{HasTaken, CanFinish, Takes};
+ghost use Rattle.tf_model.specs.TaskBuilder.{HasTaken, HasJudged, CanFinish, Takes};
 
 use crate::class::{Class, class_of};
 use crate::cost::StepCost;
 use crate::ids::JobId;
+use crate::instance::{has_beyond, has_negative};
 use crate::job::Job;
 use crate::job_rows::JobRows;
 use crate::job_totals::JobTotals;
@@ -114,5 +115,35 @@ impl<A: Allocator + Copy> TaskBuilder<A> {
         }
         let arcs = kept_arcs(self.class, arcs);
         Some(Task::new(self.class, self.machines, self.rows, self.costs, arcs))
+    }
+
+    /// Of no job yet, with room for so many, for a problem that needs no number of machines. None
+    /// where it is refused, or memory is wanting.
+    pub fn judging(alloc: A, problem: &Problem, room: usize) -> Option<Self>
+        ensures { IfSome result HasJudged }
+    {
+        TaskBuilder::new(alloc, problem, None, None, room)
+    }
+
+    /// With one job more, which is judged as one of an instance is. None where it is refused, or
+    /// memory is wanting.
+    pub fn push_judged(&mut self, job: Job<A>) -> Option<()>
+        ensures { IfSome result (λ _. HasJudged self.old → HasJudged self.new) }
+    {
+        if has_negative(&job) || has_beyond(&job) {
+            return None;
+        }
+        self.push(job)
+    }
+
+    /// The task of jobs that were all judged, without arcs. None where it is refused.
+    pub fn finish_judged(self) -> Option<Task<A>>
+        requires { HasJudged self }
+    {
+        if self.totals.jobs == 0 {
+            return None;
+        }
+        let arcs = Vec::new(self.alloc);
+        self.finish(arcs)
     }
 }

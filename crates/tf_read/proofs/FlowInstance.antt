@@ -13,7 +13,7 @@ use Rattle.tf_model.specs.Outcome.{◌>>=◌}
 use Rattle.tf_read.specs.Faults.{each_from, number_at}
 use Rattle.tf_read.specs.FlowShop.{shop_number, machines_kept, time_place, job_with, shop_job, shop_jobs, shop_of, pairs_of}
 use Rattle.tf_read.specs.Pairs.{Pairs, first, second, count, shop_wanted, shop_missing, AreKept, kept_job, kept_jobs, HoldsShop, HasReadShop, IsTime, AreTimes}
-use Rattle.tf_read.proofs.Judged.{judged as is_instance}
+use Rattle.tf_model.proofs.Judged.{judged as is_instance}
 use Rattle.tf_read.proofs.OneInstance.{none_at}
 use Rattle.tf_read.proofs.FlowWords.{count_below, count_all}
 

@@ -17,7 +17,8 @@ use Rattle.tf_words.specs.WordParts.{divided}
 use Rattle.tf_read.specs.CostField.{cost_at}
 use Rattle.tf_read.specs.JobTable.{machines_named, machines_at, numbered_job, job_line, arc_job, arc_of, arc_line, arcs_of}
 use Rattle.tf_model.proofs.Outcomes.{bind_ok}
-use Rattle.tf_read.proofs.Judged.{same_ok, then_ok, else_ok, GivesOnly, on_fault, on_test, on_value, or_false, value_within, integer_within, natural_within, none_there, few, judged}
+use Rattle.tf_read.proofs.Judged.{same_ok, then_ok, else_ok, GivesOnly, on_fault, on_test, on_value, or_false, value_within, integer_within, natural_within, none_there, few}
+use Rattle.tf_model.proofs.Judged.{judged}
 
 natural_ok : (line : ℕ) (word : List ℕ) (z : ℤ) → natural line (number word) ≡ Ok z
     → (is_negative z ≡ false) × (is_beyond z ≡ false)

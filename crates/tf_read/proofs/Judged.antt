@@ -1,16 +1,16 @@
 -- What was judged number by number is an instance.
-use Rattle.std.proofs.Common.{◌≡◌, ℕ, ◌+◌, ◌<◌, ◌≤◌, ℤ, pos, negsuc, neg_ℤ, ◌≤ℤ◌, Bool, true, false, cond, ltb, eqb, ◌||◌, List, [], ◌∷◌, length, None, Result, Ok, Err, refl, sym, ap, subst, ◌∙◌, arith, position}
+use Rattle.std.proofs.Common.{◌≡◌, ℕ, ◌+◌, ◌≤◌, ℤ, pos, negsuc, neg_ℤ, ◌≤ℤ◌, Bool, true, false, cond, ◌||◌, List, [], ◌∷◌, length, None, Result, Ok, Err, refl, sym, ap, subst, ◌∙◌, arith, position}
 use Rattle.std.specs.List.{position_or_len}
-use Rattle.std.proofs.lemmas.Bool.{le-ltb, ne_eqb}
+use Rattle.std.proofs.lemmas.Bool.{le-ltb}
 use Rattle.std.proofs.lemmas.Int.{ints}
 use Rattle.tf_words.specs.Number.{number, limit}
 use Rattle.tf_words.specs.declared.number.Number.{Number}
 use Rattle.tf_words.specs.Scan.{IsInRange}
 use Rattle.tf_words.specs.declared.number.Number.TheVariants.{NotANumber, TooLarge, Value}
-use Rattle.tf_model.specs.InstanceData.{InstanceData, IsInstance, is_negative, is_beyond, has_negative, has_beyond, is_bad_arc, count_fault}
-use Rattle.tf_model.specs.Limit.{most_jobs, most_arcs}
+use Rattle.tf_model.specs.InstanceData.{is_negative, is_beyond}
 use Rattle.tf_read.specs.declared.fault.ReadFault.{ReadFault}
 use Rattle.tf_words.proofs.Limited.{number_within}
+use Rattle.tf_model.proofs.Judged.{none_found, past_end}
 use Rattle.tf_model.proofs.Outcomes.{bind_ok}
 use Rattle.tf_model.specs.Outcome.{◌>>=◌}
 use Rattle.tf_read.specs.Faults.{each_from, natural, integer}
@@ -95,10 +95,6 @@ natural_within line (Value (pos m)) z h =
     (ap Value e, subst (λ (y : ℤ). is_negative y ≡ false) e (le-ltb m 0 (omega arith)))
 
 -- no element passes
-pub past_end : {Y : Type 0} (test : Y → Bool) (y : Y) (ys : List Y) → test y ≡ false
-    → position_or_len test ys ≡ length ys → position_or_len test (y ∷ ys) ≡ length (y ∷ ys)
-past_end test y ys e h = rw (e, h) (omega arith)
-
 none_passes : {X Y : Type 0} (read : ℕ → X → Result Y ReadFault) (test : Y → Bool)
     → ((k : ℕ) (x : X) (y : Y) → read k x ≡ Ok y → test y ≡ false)
     → (k : ℕ) (xs : List X) (ys : List Y) → each_from read k xs ≡ Ok ys
@@ -113,8 +109,7 @@ none_passes read test ok k (x ∷ xs) ys h =
 pub none_there : {X Y : Type 0} (read : ℕ → X → Result Y ReadFault) (test : Y → Bool)
     → ((k : ℕ) (x : X) (y : Y) → read k x ≡ Ok y → test y ≡ false)
     → (k : ℕ) (xs : List X) (ys : List Y) → each_from read k xs ≡ Ok ys → position test ys ≡ None
-none_there read test ok k xs ys h = let e = none_passes read test ok k xs ys h in
-    let t : ltb (length ys) (length ys) ≡ false = le-ltb _ _ (omega arith) in rw (e, t) refl
+none_there read test ok k xs ys h = none_found test ys (none_passes read test ok k xs ys h)
 
 -- no more than the number up to which they are read
 pub few : {X Y : Type 0} (read : ℕ → X → Result Y ReadFault) (most : ℕ)
@@ -128,25 +123,3 @@ few read most ok k (x ∷ xs) ys from h =
     let more : length r.1 + (k + 1) ≤ most + 1 =
     few read most ok (k + 1) xs r.1 (omega arith) r.3 in
     omega (arith, ap length r.4, more)
-
--- counts within the limits, no number that is negative or beyond the limit, and no arc of a job
--- that isn't there
-pub record IsJudged (i : InstanceData) : Type 0 where
-  pub some : 0 < length i.jobs
-  pub few : length i.jobs ≤ most_jobs
-  pub machines : count_fault i.machines ≡ None
-  pub arcs : length i.arcs ≤ most_arcs
-  pub negative : position has_negative i.jobs ≡ None
-  pub beyond : position has_beyond i.jobs ≡ None
-  pub bad_arc : position (is_bad_arc (length i.jobs)) i.arcs ≡ None
-
-pub judged : (i : InstanceData) → IsJudged i → IsInstance i
-judged i j =
-    let some : eqb (length i.jobs) 0 ≡ false = ne_eqb _ _ (λ e. omega (arith, j.some, e)) in
-    let few : ltb most_jobs (length i.jobs) ≡ false = le-ltb _ _ j.few in
-    let arcs : ltb most_arcs (length i.arcs) ≡ false = le-ltb _ _ j.arcs in
-    let machines : count_fault i.machines ≡ None = j.machines in
-    let negative : position has_negative i.jobs ≡ None = j.negative in
-    let beyond : position has_beyond i.jobs ≡ None = j.beyond in
-    let bad_arc : position (is_bad_arc (length i.jobs)) i.arcs ≡ None = j.bad_arc in
-    rw (some, few, arcs, machines, negative, beyond, bad_arc) refl

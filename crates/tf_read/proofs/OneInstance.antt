@@ -20,7 +20,8 @@ use Rattle.tf_read.specs.Faults.{each_from, number_at}
 use Rattle.tf_read.specs.WeightedTardiness.{tardiness_number_read, tardiness_number, tardiness_job, tardiness_jobs, tardiness_of, instance_of}
 use Rattle.tf_read.specs.Numbers.{Progress, skipped, tardiness_wanted, tardiness_missing, with_number, HoldsTardiness, HasReadTardiness, AreInRange}
 use Rattle.tf_words.specs.Scan.{IsInRange}
-use Rattle.tf_read.proofs.Judged.{in_range, or_false, natural_within, integer_within, past_end, judged as is_instance}
+use Rattle.tf_read.proofs.Judged.{in_range, or_false, natural_within, integer_within}
+use Rattle.tf_model.proofs.Judged.{past_end, judged as is_instance}
 
 -- how a whole reading goes on
 pub goes_on : (n k : ℕ) (seen : List Word) (r : Result (List ℤ) ReadFault)

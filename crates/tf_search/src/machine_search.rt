@@ -15,12 +15,11 @@ use tf_bound::task::ProblemTask;
 use tf_check::certificate::Certificate;
 use tf_model::class::Class;
 use tf_model::ids::JobId;
-use tf_model::instance::Instance;
 use tf_model::job::{Job, Times};
 use tf_model::memory::OutOfMemory;
-use tf_model::prepare::{Refusal, prepare};
 use tf_model::problem::{Env, Goal, Problem};
 use tf_model::task::Task;
+use tf_model::task_builder::TaskBuilder;
 use tf_single::edd::edd;
 
 /// Some jobs on a machine, counted from 0, and what they bound.
@@ -127,27 +126,25 @@ fn task_on<A: Allocator + Copy, B: Allocator>(
     requires env { IsTrue (is_by_machine task.now.problem.env) }
     requires jobs { All (IsProblemJob task.now) jobs.now }
 {
-    let mut rows: Vec<Job<A>, A> = Vec::with_capacity(alloc, jobs.len())?;
+    let mut problem = Problem::plain(Env::Single, Goal::Lmax);
+    problem.release = true;
+    problem.prmp = true;
+    let Some(mut builder) = TaskBuilder::judging(alloc, &problem, jobs.len()) else {
+        return Err(OutOfMemory);
+    };
     for job in jobs {
-        rows.push(Job {
+        let row = Job {
             times: Times::One(task.time_on(machine, *job) as i64),
             weight: None,
             due: Some(task.due(*job) - task.tail(machine, *job) as i64),
             release: Some(task.head(machine, *job) as i64),
             cost: None,
-        })?;
+        };
+        let Some(()) = builder.push_judged(row) else {
+            return Ok(None);
+        };
     }
-    let mut problem = Problem::plain(Env::Single, Goal::Lmax);
-    problem.release = true;
-    problem.prmp = true;
-    let Ok(instance) = Instance::new(rows, Vec::new(alloc), None) else {
-        return Ok(None);
-    };
-    match prepare(alloc, &instance, &problem, None) {
-        Ok(task) => Ok(Some(task)),
-        Err(Refusal::OutOfMemory) => Err(OutOfMemory),
-        Err(_) => Ok(None),
-    }
+    Ok(builder.finish_judged())
 }
 
 // The window of a timetable of least greatest lateness, by the numbers that the jobs had before.
