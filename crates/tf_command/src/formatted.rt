@@ -1,17 +1,13 @@
 //! Commands whose output is written in the format of another program.
 ghost use Rattle.std.specs.Prelude.{◌≡◌, ◌⊎◌, [], IfOk};
-ghost use Rattle.tf_options.specs.Columns.{IsSized};
-ghost use Rattle.tf_command.specs.Performing.{Performs};
 ghost use Rattle.tf_command.specs.Wrote.{Wrote};
 ghost use Rattle.tf_command.specs.Formatted.{formatted, said_in, memory_line, device_line};
-ghost use Rattle.tf_command.specs.Formatted.{IsWritten, IsCutOff, EndsFormatted, EndsKept};
+ghost use Rattle.tf_command.specs.Formatted.{IsWritten, IsCutOff, EndsKept};
 ghost use Rattle.tf_command.specs.Formatted.{HasPrinted};
 ghost use Rattle.tf_text.specs.Counted.{inner_of, use_of};
 
-use crate::commands::perform;
 use crate::console::Console;
 use crate::gathered::send;
-use crate::source::Sources;
 use std::alloc::Global;
 use std::io::Write;
 use tf_export::csv::csv;
@@ -19,7 +15,6 @@ use tf_export::documents::json;
 use tf_export::faults::fault_json;
 use tf_model::memory::OutOfMemory;
 use tf_options::format::Format;
-use tf_options::options::Work;
 use tf_text::counted::Counted;
 
 /// Texts in a format: that of standard output, and that of standard error.
@@ -144,22 +139,4 @@ pub fn print_kept<W: Write, E: Write>(
             3
         }
     }
-}
-
-/// Does what is asked for, as [`perform`] does, and writes in a format what that prints and what it
-/// says of faults. Nothing is written before the command has ended.
-pub fn perform_formatted<S: Sources, W: Write, E: Write>(
-    console: &mut Console<W, E>,
-    sources: &S,
-    work: &Work<'_>,
-    format: Format,
-) -> u8
-    requires { IsSized work.now }
-    ensures { EndsFormatted (Performs (S.text_of sources.now) work.now) format
-        (use_of W.contents console.old.writer console.new.writer)
-        (Wrote E.contents console.old.errors console.new.errors) result }
-{
-    let mut kept = memory(console.alloc);
-    let status = perform(&mut kept, sources, work);
-    print_kept(console, format, &kept, status)
 }
