@@ -256,18 +256,20 @@ piece_step front new piece line words all more total push is key read same =
     ap (λ (pieces : List Piece). with_pieces pieces (pieces_at more)) push
     ∙ sym (piece_read front piece line all more is key.0 here) ∙ same
 
-pub piece_fails : (front : List Piece) (line : KeptLine) (all more : List KeptLine)
-    (e : AnswerFault) (total : Read)
+pub piece_fails : (front : List Piece) (line : KeptLine) (words : List (List ℕ))
+    (all more : List KeptLine) (e : AnswerFault) (total : Read)
     → with_pieces front (pieces_at all) ≡ total
-    → all ≡ line ∷ more → is_piece line → Fails e (piece_in line.number (drop 1 (words line.bytes)))
+    → all ≡ line ∷ more → IsPieceLine line words → Fails e (piece_in line.number words)
     → Fails e total
-piece_fails front line all more e total same is key fails =
+piece_fails front line words all more e total same is key fails =
+    let here : Fails e (piece_in line.number (drop 1 (words_of line))) =
+    subst (λ (ws : List (List ℕ)). Fails e (piece_in line.number ws)) key.1 fails in
     subst (Fails e)
-    (sym (ap (with_pieces front) (at_piece line more key))
+    (sym (ap (with_pieces front) (at_piece line more key.0))
     ∙ sym (ap (λ ls. with_pieces front (pieces_at ls)) is) ∙ same)
-    (fails_then e (piece_in line.number (drop 1 (words line.bytes)) >>= then_others more)
+    (fails_then e (piece_in line.number (drop 1 (words_of line)) >>= then_others more)
     (λ x. Ok (front ++ x.0, x.1))
-    (fails_then e (piece_in line.number (drop 1 (words line.bytes))) (then_others more) fails))
+    (fails_then e (piece_in line.number (drop 1 (words_of line))) (then_others more) here))
 
 -- a line of another kind
 pub pieces_stop : (line : KeptLine) (all more : List KeptLine)

@@ -172,8 +172,7 @@ piece_fault h value front line behind more e total key fails leads =
     subst (Fails e) (by_pieces h value front (pieces_at (line ∷ more)) ∙ leads)
     (fails_then e (with_pieces front (pieces_at (line ∷ more)))
     (λ x. from_certificate h value x.0 x.1)
-    (piece_fails front line (line ∷ more) more e _ refl refl key.0
-    (subst (λ ws. Fails e (piece_in line.number ws)) key.1 fails)))
+    (piece_fails front line behind (line ∷ more) more e _ refl refl key fails))
 
 -- a line that is of no piece
 pub other_line : (h : HeadData) (value : ℤ) (front : List Piece) (line : KeptLine)

@@ -1,14 +1,14 @@
 -- The line of a piece in its usual form.
-use Rattle.std.proofs.Common.{◌≡◌, ◌+◌, ◌<◌, ◌≤◌, ◌⊎◌, inl, inr, ℕ, pos, negsuc, true, List, [], ◌∷◌, ◌++◌, length, drop, codes, is_some, Ok, to_z, w64, refl, sym, ap, ◌∙◌, arith, append_assoc, length-append}
+use Rattle.std.proofs.Common.{◌≡◌, ◌+◌, ◌<◌, ◌≤◌, ◌⊎◌, inl, inr, ℕ, pos, negsuc, true, List, [], ◌∷◌, ◌++◌, length, codes, is_some, Ok, to_z, w64, refl, sym, ap, ◌∙◌, arith, append_assoc, length-append}
 use Rattle.std.proofs.lemmas.Int.{ints}
 use Rattle.tf_words.specs.Ranged.{placed, is_number}
-use Rattle.tf_words.specs.Words.{words, lines, is_kept, KeptLine, kept_lines}
-use Rattle.tf_words.specs.FirstLine.{IsNumeralOf, IsWordBefore, IsLineEnd, first_words, line_words, lines_behind}
+use Rattle.tf_words.specs.Words.{words, lines, kept_lines}
+use Rattle.tf_words.specs.FirstLine.{IsNumeralOf, IsWordBefore, IsLineEnd, first_words, line_words}
 use Rattle.tf_words.proofs.FirstLine.{word_first, line_ends, return_ends, numeral_parts}
 use Rattle.tf_words.proofs.NumeralOf.{Few, as_pos, numeral_is}
 use Rattle.tf_schedule.specs.declared.piece.Piece.{Piece}
 use Rattle.tf_text.specs.AnswerReading.{counted, count_in, signed_within, time_in, most_job, most_machine, piece_in, pieces_at}
-use Rattle.tf_text.specs.NextPiece.{BeginsWithPiece, IsUsual, with_pieces, Moves}
+use Rattle.tf_text.specs.NextPiece.{IsUsual, with_pieces, Moves}
 use Rattle.tf_text.proofs.Reading.{piece_read}
 use Rattle.tf_text.proofs.Stages.{kept_line}
 use Rattle.tf_text.proofs.TextLines.{AreOfLine, line_over, digits_of_line, row, row_then, row_of_line}
@@ -129,34 +129,6 @@ usual_text text t1 t2 t3 t4 t5 rest a b c d job machine start stop is is1 is2 is
       key = rw whole refl;
       read = λ n. rw whole (read_piece n a b c d job machine start stop are);
     }
-
--- it is the first of the lines that are left
-pub usual_first : (text rest bytes : List ℕ) (piece : Piece) (n : ℕ) (all others : List KeptLine)
-    → IsUsual text piece rest → words bytes ≡ line_words text
-    → all ≡ record { number = n; bytes = bytes } ∷ others → BeginsWithPiece all piece others
-unfolding line_words
-usual_first text rest bytes piece n all others at same is =
-    let here : words bytes ≡ words at.line =
-    same ∙ ap first_words (ap lines at.is ∙ line_over at.line rest at.own) in
-    record {
-      line = record { number = n; bytes = bytes };
-      is = is;
-      key = rw here at.key;
-      read = rw here (at.read n);
-    }
-
--- what a first line of the usual form is before the others
-pub usual_kept : (text rest : List ℕ) (piece : Piece) → IsUsual text piece rest
-    → is_kept (line_words text) ≡ true
-unfolding line_words
-usual_kept text rest piece at =
-    ap (λ ls. is_kept (first_words ls)) (ap lines at.is ∙ line_over at.line rest at.own) ∙ at.kept
-
-pub usual_behind : (text rest : List ℕ) (piece : Piece) → IsUsual text piece rest
-    → lines_behind text ≡ lines rest
-unfolding lines_behind
-usual_behind text rest piece at =
-    ap (drop 1) (ap lines at.is ∙ line_over at.line rest at.own)
 
 pub usual_shorter : (text rest : List ℕ) (piece : Piece) → IsUsual text piece rest
     → length rest < length text

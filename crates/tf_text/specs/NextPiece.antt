@@ -1,31 +1,11 @@
--- The first of the lines of pieces that are left.
-use Rattle.std.specs.Prelude.{◌≡◌, ℕ, ◌==◌, true, not, List, [], ◌∷◌, ◌++◌, drop, codes, Result, Ok}
+-- Lines of pieces in their usual form, read from the front of a text.
+use Rattle.std.specs.Prelude.{◌≡◌, ℕ, ◌==◌, true, not, List, ◌∷◌, ◌++◌, drop, codes, Result, Ok}
 use Rattle.std.specs.List.{list_all}
 use Rattle.tf_model.specs.Outcome.{◌>>=◌}
 use Rattle.tf_words.specs.Words.{words, lines, first_is, is_kept, KeptLine, kept_lines}
 use Rattle.tf_schedule.specs.declared.piece.Piece.{Piece}
-use Rattle.tf_text.specs.AnswerReading.{Fails, piece_in, pieces_at}
+use Rattle.tf_text.specs.AnswerReading.{piece_in, pieces_at}
 use Rattle.tf_text.specs.declared.answer.fault.AnswerFault.{AnswerFault}
-
--- there is none
-pub record HasNoPiece (all : List KeptLine) : Type 0 where
-  pub none : pieces_at all ≡ Ok ([], all)
-
--- it is that of this piece, and others follow it
-pub record BeginsWithPiece (all : List KeptLine) (piece : Piece) (others : List KeptLine) : Type 0
-  where
-    pub line : KeptLine
-    pub is : all ≡ line ∷ others
-    pub key : first_is (codes "piece") (words line.bytes) ≡ true
-    pub read : piece_in line.number (drop 1 (words line.bytes)) ≡ Ok piece
-
--- it is to be that of a piece, and has a fault
-pub record BeginsWithFault (all : List KeptLine) (fault : AnswerFault) : Type 0 where
-  pub line : KeptLine
-  pub others : List KeptLine
-  pub is : all ≡ line ∷ others
-  pub key : first_is (codes "piece") (words line.bytes) ≡ true
-  pub fails : Fails fault (piece_in line.number (drop 1 (words line.bytes)))
 
 -- a text begins with the line of this piece, which ends at a line feed, whatever its number
 pub record IsUsual (text : List ℕ) (piece : Piece) (rest : List ℕ) : Type 0 where

@@ -1,14 +1,14 @@
 //! The lines of pieces in an answer text.
-ghost use Rattle.std.specs.Prelude.{◌≡◌, ◌+◌, ◌^◌, ◌<◌, ◌≤◌, ◌++◌, ℕ, List, length, option_map};
-ghost use Rattle.std.specs.Prelude.{MatchOption, MatchResult, OnOk, IfOk};
+ghost use Rattle.std.specs.Prelude.{◌≡◌, ◌+◌, ◌^◌, ◌<◌, ◌≤◌, length, option_map};
+ghost use Rattle.std.specs.Prelude.{IfOk};
 ghost use Rattle.tf_words.specs.Words.{words};
 ghost use Rattle.tf_words.specs.Lines.{lines_of};
-ghost use Rattle.tf_text.specs.NextPiece.{HasNoPiece, BeginsWithPiece, BeginsWithFault, Moves};
+ghost use Rattle.tf_text.specs.NextPiece.{Moves};
 ghost use Rattle.tf_text.specs.AnswerReading.{Gives, four, piece_in, pieces_at, finished};
 
 use crate::answer::fault::AnswerFault;
 use crate::answer::field::{job_in, machine_in, time_in};
-use crate::answer::usual::{usual_line, usual_piece};
+use crate::answer::usual::usual_line;
 use std::alloc::Allocator;
 use tf_model::memory::OutOfMemory;
 use tf_schedule::piece::Piece;
@@ -73,27 +73,6 @@ pub(crate) fn piece_in(line: u32, text: &[u8]) -> Result<Piece, AnswerFault>
     })
 }
 
-/// Returns the piece whose line comes first, and the lines after it; `None` where the first line is
-/// no line `piece`.
-fn next_piece<'a>(lines: &Lines<'a>) -> Result<Option<(Piece, Lines<'a>)>, AnswerFault>
-    ensures { MatchResult result
-        (λ next. MatchOption next (HasNoPiece (lines_of lines.now))
-        (λ x. BeginsWithPiece (lines_of lines.now) x.0 (lines_of x.1)))
-        (λ e. BeginsWithFault (lines_of lines.now) e) }
-{
-    if let Some(next) = usual_piece(lines) {
-        return Ok(Some(next));
-    }
-    let Some((line, after)) = lines.split_first() else {
-        return Ok(None);
-    };
-    let Some(words) = behind_key(line.bytes, b"piece") else {
-        return Ok(None);
-    };
-    let piece = piece_in(line.number, words)?;
-    Ok(Some((piece, after)))
-}
-
 /// Reads all lines `piece` that come first, and returns the lines after them.
 pub fn pieces_at<'a, A: Allocator + Copy>(
     alloc: A,
@@ -103,16 +82,14 @@ pub fn pieces_at<'a, A: Allocator + Copy>(
 {
     let mut pieces = Vec::new(alloc);
     let mut rest = *lines;
-    loop {
-        match next_piece(&rest) {
-            Err(fault) => return Err(fault),
-            Ok(None) => return Ok((PieceList::new(pieces), rest)),
-            Ok(Some((piece, after))) => {
-                pieces.push(piece)?;
-                rest = after;
-            }
-        }
+    while let Some((line, after)) = rest.split_first() {
+        let Some(words) = behind_key(line.bytes, b"piece") else {
+            break;
+        };
+        pieces.push(piece_in(line.number, words)?)?;
+        rest = after;
     }
+    Ok((PieceList::new(pieces), rest))
 }
 
 /// Refuses any line.

@@ -1,14 +1,12 @@
 //! Piece lines in their usual form: one blank between the words, digits, and a line feed, maybe
 //! behind a carriage return.
 ghost use Rattle.std.specs.Prelude.{IfSome, ◌≡◌, ◌∷◌, ◌⊎◌};
-ghost use Rattle.tf_words.specs.Lines.{lines_of};
-ghost use Rattle.tf_text.specs.NextPiece.{BeginsWithPiece, IsUsual};
+ghost use Rattle.tf_text.specs.NextPiece.{IsUsual};
 
 use tf_model::ids::{JobId, MachineId};
 use tf_model::limit::{MOST_JOBS, MOST_MACHINES};
 use tf_schedule::piece::Piece;
 use tf_words::first_line::next_number;
-use tf_words::line::Lines;
 
 const MOST_JOB: u64 = MOST_JOBS as u64;
 
@@ -45,15 +43,4 @@ pub(crate) fn usual_line(text: &[u8]) -> Option<(Piece, &[u8])>
         stop: stop as i64,
     };
     Some((piece, rest))
-}
-
-/// The piece of the first line that is left, where that has the usual form, and the lines behind it.
-pub(crate) fn usual_piece<'a>(lines: &Lines<'a>) -> Option<(Piece, Lines<'a>)>
-    ensures { IfSome result (λ x.
-        BeginsWithPiece (lines_of lines.now) x.0 (lines_of x.1)) }
-{
-    match usual_line(lines.bytes_left()) {
-        None => None,
-        Some((piece, rest)) => Some((piece, lines.behind_first(rest))),
-    }
 }

@@ -5,9 +5,9 @@ use Rattle.tf_text.specs.NextPiece.{with_pieces}
 use Rattle.tf_text.proofs.answer.pieces.pieces_at.Given as goal
 
 -- the pieces so far, and those of the lines that are left
-abbrev pub invariant-loop-fault : goal.invariant-loop-fault
-invariant-loop-fault g l =
+abbrev pub invariant-loop-line : goal.invariant-loop-line
+invariant-loop-line g l =
     with_pieces l.pieces.items (pieces_at (lines_of l.rest)) ≡ pieces_at (lines_of l.lines)
 
-abbrev pub decreases-loop-fault : goal.decreases-loop-fault
-decreases-loop-fault g l = length (lines_of l.rest)
+abbrev pub decreases-loop-line : goal.decreases-loop-line
+decreases-loop-line g l = length (lines_of l.rest)
