@@ -5,7 +5,8 @@
 //! test`: under `rt try` they are not over in time.
 #![tactic(auto)]
 
-pub mod drawn;
+#[cfg(test)]
+mod drawn;
 #[cfg(test)]
 mod lengths;
 #[cfg(test)]

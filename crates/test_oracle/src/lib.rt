@@ -4,9 +4,13 @@
 //! found or shown to be best. It shares no code with the solvers and the checker.
 #![tactic(auto)]
 
-pub mod arrangement;
-pub mod family;
-pub mod small_task;
+#[cfg(test)]
+mod arrangement;
+#[cfg(test)]
+mod family;
+#[cfg(test)]
+mod small_task;
 #[cfg(test)]
 mod tests;
-pub mod timetable;
+#[cfg(test)]
+mod timetable;

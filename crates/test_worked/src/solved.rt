@@ -2,10 +2,10 @@
 mod cut;
 mod forms;
 
-use crate::examples::Given;
-use crate::runs::{ensure, request, solve_into};
 use std::alloc::AllocError;
 use std::test::Fail;
+use test_runs::examples::Given;
+use test_runs::runs::{ensure, request, solve_into};
 use tf_engine::request::Request;
 use tf_text::answer::layout::Layout;
 

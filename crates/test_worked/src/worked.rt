@@ -1,11 +1,11 @@
 //! Each worked example through the three runs, in both versions of the answer text: with each
 //! growth refused, and after each of them with ample memory.
-use crate::examples::{Example, WORKED, answer_in};
-use crate::growths::{Ended, refuse_each_growth};
-use crate::runs::{LAYOUTS, check_into, draw_into, ensure, request_for, solve_into};
 use refusing::Refusing;
 use std::alloc::Global;
 use std::test::Fail;
+use test_runs::examples::{Example, WORKED, answer_in};
+use test_runs::growths::{Ended, refuse_each_growth};
+use test_runs::runs::{LAYOUTS, check_into, draw_into, ensure, request_for, solve_into};
 use tf_engine::fault::RunFault;
 use tf_engine::request::Request;
 use tf_text::answer::layout::Layout;

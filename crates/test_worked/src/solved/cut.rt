@@ -1,10 +1,10 @@
 //! Instance texts cut at each byte: what is left is answered, or has its one fault.
 use super::asked;
-use crate::examples::Example;
-use crate::examples::files::{SECOND_OF_TWO, TWO_OF_THREE};
-use crate::examples::parallel::FOURS;
-use crate::runs::{ensure, solve_into};
 use std::test::Fail;
+use test_runs::examples::Example;
+use test_runs::examples::files::{SECOND_OF_TWO, TWO_OF_THREE};
+use test_runs::examples::parallel::FOURS;
+use test_runs::runs::{ensure, solve_into};
 use tf_engine::fault::RunFault;
 use tf_engine::request::Request;
 use tf_read::fault::ReadFault;

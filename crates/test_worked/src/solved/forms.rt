@@ -1,12 +1,12 @@
 //! The forms of an instance.
 use super::{answers, asked};
-use crate::devices::{Sink, Source};
-use crate::examples::Given;
-use crate::examples::files::{SHOP, TARDINESS};
-use crate::examples::parallel::FOURS;
-use crate::runs::ensure;
 use std::alloc::AllocError;
 use std::test::Fail;
+use test_runs::devices::{Sink, Source};
+use test_runs::examples::Given;
+use test_runs::examples::files::{SHOP, TARDINESS};
+use test_runs::examples::parallel::FOURS;
+use test_runs::runs::ensure;
 use tf_engine::fault::RunFault;
 use tf_engine::run_solve::run_solve;
 use tf_read::fault::ReadFault;
