@@ -16,6 +16,6 @@ is_none [] = true
 is_none (item ∷ items) = false
 
 -- these values or members were added
-pub record Adds {A : Type 0} (old new : Json A) (items : List (List ℕ)) : Type 0 where
+pub record Adds (old new : Json) (items : List (List ℕ)) : Type 0 where
   pub text : new.text.items ≡ old.text.items ++ listed old.is_first items
   pub first : new.is_first ≡ (old.is_first && is_none items)

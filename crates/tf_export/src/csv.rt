@@ -8,7 +8,7 @@ ghost use Rattle.tf_export.specs.Csv.{csv_line, column_names, row_key, csv_of};
 use crate::documents::{OUTCOME_NAMES, PIECE_NAMES};
 use crate::line::{count_words, next_line, row_in};
 use crate::value::push_joined;
-use std::alloc::Allocator;
+use std::alloc::Global;
 use tf_model::memory::OutOfMemory;
 
 /// What the rows of a table are.
@@ -43,7 +43,7 @@ impl Table {
 }
 
 /// Adds a line of values.
-fn push_line<A: Allocator>(text: &mut Vec<u8, A>, row: &[u8]) -> Result<(), OutOfMemory>
+fn push_line(text: &mut Vec<u8>, row: &[u8]) -> Result<(), OutOfMemory>
     ensures { OnOk result (text.new.items ≡ text.old.items ++ csv_line (words row.now)) }
 {
     push_joined(text, b',', row)?;
@@ -52,12 +52,7 @@ fn push_line<A: Allocator>(text: &mut Vec<u8, A>, row: &[u8]) -> Result<(), OutO
 }
 
 /// Adds a line of a key, if it has so many words behind it.
-fn push_row<A: Allocator>(
-    csv: &mut Vec<u8, A>,
-    key: &[u8],
-    count: usize,
-    line: &[u8],
-) -> Result<(), OutOfMemory>
+fn push_row(csv: &mut Vec<u8>, key: &[u8], count: usize, line: &[u8]) -> Result<(), OutOfMemory>
     ensures { OnOk result (csv.new.items
         ≡ csv.old.items ++ flat_map csv_line (row_in key.now count (words line.now))) }
 {
@@ -68,12 +63,7 @@ fn push_row<A: Allocator>(
 }
 
 /// Adds the lines of a key that have a word for each name.
-fn push_rows<A: Allocator>(
-    csv: &mut Vec<u8, A>,
-    key: &[u8],
-    names: &[u8],
-    text: &[u8],
-) -> Result<(), OutOfMemory>
+fn push_rows(csv: &mut Vec<u8>, key: &[u8], names: &[u8], text: &[u8]) -> Result<(), OutOfMemory>
     ensures { OnOk result (csv.new.items
         ≡ csv.old.items ++ flat_map csv_line (rows key.now names.now text.now)) }
 {
@@ -93,7 +83,7 @@ fn push_rows<A: Allocator>(
 ///
 /// There was no memory.
 #[tactic(auto, unfolding(crate::specs::Csv::csv_of))]
-pub fn csv<A: Allocator>(alloc: A, table: Table, text: &[u8]) -> Result<Vec<u8, A>, OutOfMemory>
+pub fn csv(alloc: Global, table: Table, text: &[u8]) -> Result<Vec<u8>, OutOfMemory>
     ensures { IfOk result (λ csv. csv.items ≡ csv_of table text.now) }
 {
     let mut csv = Vec::new(alloc);

@@ -9,7 +9,7 @@ ghost use Rattle.tf_export.specs.Documents.{members_behind, answer_members, eval
 
 use crate::json::Json;
 use crate::line::{count_words, next_line, row_in};
-use std::alloc::Allocator;
+use std::alloc::Global;
 use tf_model::memory::OutOfMemory;
 use tf_words::word::behind_key;
 
@@ -57,7 +57,7 @@ fn cut(line: &[u8], width: usize) -> (&[u8], &[u8])
     }
 }
 
-impl<A: Allocator + Copy> Json<A> {
+impl Json {
     ghost use Rattle.tf_export.specs.Adds.{Adds};
 
     /// Adds a line of a key as an object, if it has a word for each name.
@@ -103,7 +103,7 @@ impl<A: Allocator + Copy> Json<A> {
         Ok(())
     }
 
-    fn step_in(&mut self, alloc: A, line: &[u8]) -> Result<(), OutOfMemory>
+    fn step_in(&mut self, alloc: Global, line: &[u8]) -> Result<(), OutOfMemory>
         ensures { OnOk result (Adds self.old self.new (step_in (words line.now))) }
     {
         match behind_key(line, b"step") {
@@ -112,7 +112,7 @@ impl<A: Allocator + Copy> Json<A> {
         }
     }
 
-    fn step_items(&mut self, alloc: A, text: &[u8]) -> Result<(), OutOfMemory>
+    fn step_items(&mut self, alloc: Global, text: &[u8]) -> Result<(), OutOfMemory>
         ensures { OnOk result
             (Adds self.old self.new (flat_map (λ line. step_in (words line)) (lines text.now))) }
     {
@@ -126,7 +126,7 @@ impl<A: Allocator + Copy> Json<A> {
     }
 
     /// Adds the steps of a certificate's arithmetic.
-    fn steps(&mut self, alloc: A, text: &[u8]) -> Result<(), OutOfMemory>
+    fn steps(&mut self, alloc: Global, text: &[u8]) -> Result<(), OutOfMemory>
         ensures { OnOk result (Adds self.old self.new (steps text.now ∷ [])) }
     {
         self.name(b"steps")?;
@@ -137,7 +137,7 @@ impl<A: Allocator + Copy> Json<A> {
     }
 
     /// Adds a line of the list of problems as an object.
-    fn problem_in(&mut self, alloc: A, line: &[u8]) -> Result<(), OutOfMemory>
+    fn problem_in(&mut self, alloc: Global, line: &[u8]) -> Result<(), OutOfMemory>
         ensures { OnOk result (Adds self.old self.new (problem_in line.now ∷ [])) }
     {
         let (notation, behind) = cut(line, 17);
@@ -151,7 +151,7 @@ impl<A: Allocator + Copy> Json<A> {
         Ok(())
     }
 
-    fn problem_items(&mut self, alloc: A, text: &[u8]) -> Result<(), OutOfMemory>
+    fn problem_items(&mut self, alloc: Global, text: &[u8]) -> Result<(), OutOfMemory>
         ensures { OnOk result (Adds self.old self.new (map problem_in (lines text.now))) }
     {
         let mut rest = text;
@@ -164,7 +164,7 @@ impl<A: Allocator + Copy> Json<A> {
     }
 
     /// Adds the lines behind the heading of a list of problems.
-    fn problems(&mut self, alloc: A, text: &[u8]) -> Result<(), OutOfMemory>
+    fn problems(&mut self, alloc: Global, text: &[u8]) -> Result<(), OutOfMemory>
         ensures { OnOk result (Adds self.old self.new (problems text.now ∷ [])) }
     {
         self.name(b"problems")?;
@@ -175,7 +175,7 @@ impl<A: Allocator + Copy> Json<A> {
     }
 
     /// Adds what the lines behind the heading of a text say.
-    fn members_behind(&mut self, alloc: A, text: &[u8]) -> Result<(), OutOfMemory>
+    fn members_behind(&mut self, alloc: Global, text: &[u8]) -> Result<(), OutOfMemory>
         ensures { OnOk result (Adds self.old self.new (members_behind text.now)) }
     {
         self.members_in(alloc, behind_heading(text))?;
@@ -183,7 +183,7 @@ impl<A: Allocator + Copy> Json<A> {
     }
 
     /// Adds an answer.
-    fn answer_members(&mut self, alloc: A, text: &[u8]) -> Result<(), OutOfMemory>
+    fn answer_members(&mut self, alloc: Global, text: &[u8]) -> Result<(), OutOfMemory>
         ensures { OnOk result (Adds self.old self.new (answer_members text.now)) }
     {
         self.members_behind(alloc, text)?;
@@ -192,7 +192,7 @@ impl<A: Allocator + Copy> Json<A> {
     }
 
     /// Adds an evaluation.
-    fn evaluation_members(&mut self, alloc: A, text: &[u8]) -> Result<(), OutOfMemory>
+    fn evaluation_members(&mut self, alloc: Global, text: &[u8]) -> Result<(), OutOfMemory>
         ensures { OnOk result (Adds self.old self.new (evaluation_members text.now)) }
     {
         self.members_behind(alloc, text)?;
@@ -204,7 +204,7 @@ impl<A: Allocator + Copy> Json<A> {
     /// Adds the members of a document.
     fn document_members(
         &mut self,
-        alloc: A,
+        alloc: Global,
         document: Document,
         text: &[u8],
     ) -> Result<(), OutOfMemory>
@@ -225,11 +225,7 @@ impl<A: Allocator + Copy> Json<A> {
 /// # Errors
 ///
 /// There was no memory.
-pub fn json<A: Allocator + Copy>(
-    alloc: A,
-    document: Document,
-    text: &[u8],
-) -> Result<Vec<u8, A>, OutOfMemory>
+pub fn json(alloc: Global, document: Document, text: &[u8]) -> Result<Vec<u8>, OutOfMemory>
     ensures { IfOk result (λ json. json.items ≡ json_of document text.now) }
 {
     let mut json = Json::new(alloc);

@@ -7,12 +7,11 @@ ghost use Rattle.tf_export.specs.Entry.{entry, told_in, told_of};
 use crate::line::next_line;
 use crate::value::push_behind;
 use itoa::Buffer;
-use std::alloc::Allocator;
 use tf_model::memory::OutOfMemory;
 use tf_words::word::{first_word, is};
 
 /// Adds what a line tells: a value, a gap, or a misfit.
-fn push_told<A: Allocator>(all: &mut Vec<u8, A>, line: &[u8]) -> Result<(), OutOfMemory>
+fn push_told(all: &mut Vec<u8>, line: &[u8]) -> Result<(), OutOfMemory>
     ensures { OnOk result (all.new.items
         ≡ all.old.items ++ flat_map (λ word. 32 ∷ word) (told_in (words line.now))) }
 {
@@ -29,7 +28,7 @@ fn push_told<A: Allocator>(all: &mut Vec<u8, A>, line: &[u8]) -> Result<(), OutO
 }
 
 /// Adds what the lines of a text tell.
-fn push_lines<A: Allocator>(all: &mut Vec<u8, A>, text: &[u8]) -> Result<(), OutOfMemory>
+fn push_lines(all: &mut Vec<u8>, text: &[u8]) -> Result<(), OutOfMemory>
     ensures { OnOk result (all.new.items ≡ all.old.items ++ flat_map told_of (lines text.now)) }
 {
     let mut rest = text;
@@ -48,11 +47,7 @@ fn push_lines<A: Allocator>(all: &mut Vec<u8, A>, text: &[u8]) -> Result<(), Out
 /// # Errors
 ///
 /// There was no memory.
-pub fn push_entry<A: Allocator>(
-    all: &mut Vec<u8, A>,
-    number: u32,
-    text: &[u8],
-) -> Result<(), OutOfMemory>
+pub fn push_entry(all: &mut Vec<u8>, number: u32, text: &[u8]) -> Result<(), OutOfMemory>
     ensures { OnOk result (all.new.items ≡ all.old.items ++ entry number text.now) }
 {
     let mut digits = Buffer::new();

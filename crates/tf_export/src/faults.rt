@@ -7,11 +7,11 @@ ghost use Rattle.tf_export.specs.Faults.{fault_json};
 
 use crate::json::Json;
 use crate::line::next_line;
-use std::alloc::Allocator;
+use std::alloc::Global;
 use tf_model::memory::OutOfMemory;
 use tf_words::word::behind_key;
 
-impl<A: Allocator + Copy> Json<A> {
+impl Json {
     ghost use Rattle.tf_export.specs.Adds.{Adds};
 
     fn refusal(&mut self, row: &[u8]) -> Result<(), OutOfMemory>
@@ -42,7 +42,7 @@ impl<A: Allocator + Copy> Json<A> {
         self.refusal(row)
     }
 
-    fn fault(&mut self, alloc: A, row: &[u8]) -> Result<(), OutOfMemory>
+    fn fault(&mut self, alloc: Global, row: &[u8]) -> Result<(), OutOfMemory>
         ensures { OnOk result (Adds self.old self.new (fault (words row.now))) }
     {
         match behind_key(row, b"refused:") {
@@ -60,7 +60,7 @@ impl<A: Allocator + Copy> Json<A> {
         self.string_member(b"explanation", text)
     }
 
-    fn fault_members(&mut self, alloc: A, text: &[u8]) -> Result<(), OutOfMemory>
+    fn fault_members(&mut self, alloc: Global, text: &[u8]) -> Result<(), OutOfMemory>
         requires { 0 < length text.now }
         ensures { OnOk result (Adds self.old self.new (fault_members text.now)) }
     {
@@ -82,7 +82,7 @@ impl<A: Allocator + Copy> Json<A> {
 /// # Errors
 ///
 /// There was no memory.
-pub fn fault_json<A: Allocator + Copy>(alloc: A, text: &[u8]) -> Result<Vec<u8, A>, OutOfMemory>
+pub fn fault_json(alloc: Global, text: &[u8]) -> Result<Vec<u8>, OutOfMemory>
     ensures { IfOk result (λ json. json.items ≡ fault_json text.now) }
 {
     let mut json = Json::new(alloc);

@@ -5,22 +5,22 @@ ghost use Rattle.tf_export.specs.Json.{string, scalar, array, member, object};
 ghost use Rattle.tf_export.specs.Members.{phrase, said, fields, rest_members, record_of};
 
 use crate::value::{push_phrase, push_said, push_scalar, push_string};
-use std::alloc::{Allocator, Global};
+use std::alloc::Global;
 use tf_model::memory::OutOfMemory;
 use tf_words::word::first_word;
 
 /// A text, and whether what is added next is the first value or member of its array or object.
 #[derive(Drop)]
-pub(crate) struct Json<A: Allocator = Global> {
-    text: Vec<u8, A>,
+pub(crate) struct Json {
+    text: Vec<u8>,
     is_first: bool,
 }
 
-impl<A: Allocator> Json<A> {
+impl Json {
     ghost use Rattle.tf_export.specs.Adds.{Adds, comma};
 
     /// Nothing is written yet.
-    pub(crate) fn new(alloc: A) -> Json<A>
+    pub(crate) fn new(alloc: Global) -> Json
         ensures text { result.text.items ≡ [] }
         ensures first { result.is_first ≡ true }
     {
@@ -31,7 +31,7 @@ impl<A: Allocator> Json<A> {
     }
 
     /// What is written.
-    pub(crate) fn into_text(self) -> Vec<u8, A>
+    pub(crate) fn into_text(self) -> Vec<u8>
         ensures { result ≡ self.text }
     {
         self.text
@@ -122,9 +122,9 @@ impl<A: Allocator> Json<A> {
     }
 
     /// Adds a member with one word, or a phrase.
-    pub(crate) fn said_member<B: Allocator>(
+    pub(crate) fn said_member(
         &mut self,
-        alloc: B,
+        alloc: Global,
         name: &[u8],
         row: &[u8],
     ) -> Result<(), OutOfMemory>
@@ -136,9 +136,9 @@ impl<A: Allocator> Json<A> {
     }
 
     /// Adds a member with a phrase.
-    pub(crate) fn phrase_member<B: Allocator>(
+    pub(crate) fn phrase_member(
         &mut self,
-        alloc: B,
+        alloc: Global,
         name: &[u8],
         row: &[u8],
     ) -> Result<(), OutOfMemory>
@@ -151,7 +151,7 @@ impl<A: Allocator> Json<A> {
     }
 
     /// Adds words as one value.
-    pub(crate) fn phrase<B: Allocator>(&mut self, alloc: B, row: &[u8]) -> Result<(), OutOfMemory>
+    pub(crate) fn phrase(&mut self, alloc: Global, row: &[u8]) -> Result<(), OutOfMemory>
         ensures { OnOk result (Adds self.old self.new (phrase (words row.now) ∷ [])) }
     {
         self.begin()?;

@@ -7,7 +7,7 @@ ghost use Rattle.tf_export.specs.Members.{verdict_members, keyed_members, line_m
 
 use crate::json::Json;
 use crate::line::{count_words, next_line};
-use std::alloc::Allocator;
+use std::alloc::Global;
 use tf_model::memory::OutOfMemory;
 use tf_words::word::{first_word, is};
 
@@ -86,7 +86,7 @@ fn is_plain_key(key: &[u8]) -> bool
         || is(key, b"bound")
 }
 
-impl<A: Allocator + Copy> Json<A> {
+impl Json {
     ghost use Rattle.tf_export.specs.Adds.{Adds};
 
     /// Adds a certificate by its kind, the name of its list and its other words.
@@ -146,7 +146,7 @@ impl<A: Allocator + Copy> Json<A> {
     }
 
     /// Adds what a line says, by its key and its other words.
-    fn keyed_members(&mut self, alloc: A, key: &[u8], row: &[u8]) -> Result<(), OutOfMemory>
+    fn keyed_members(&mut self, alloc: Global, key: &[u8], row: &[u8]) -> Result<(), OutOfMemory>
         ensures { OnOk result (Adds self.old self.new (keyed_members key.now (words row.now))) }
     {
         if is_plain_key(key) {
@@ -161,7 +161,7 @@ impl<A: Allocator + Copy> Json<A> {
         self.verdict_members(key, row)
     }
 
-    fn line_members(&mut self, alloc: A, line: &[u8]) -> Result<(), OutOfMemory>
+    fn line_members(&mut self, alloc: Global, line: &[u8]) -> Result<(), OutOfMemory>
         ensures { OnOk result (Adds self.old self.new (line_members (words line.now))) }
     {
         match first_word(line) {
@@ -171,7 +171,7 @@ impl<A: Allocator + Copy> Json<A> {
     }
 
     /// Adds what all lines of a text say.
-    pub(crate) fn members_in(&mut self, alloc: A, text: &[u8]) -> Result<(), OutOfMemory>
+    pub(crate) fn members_in(&mut self, alloc: Global, text: &[u8]) -> Result<(), OutOfMemory>
         ensures { OnOk result (Adds self.old self.new (members_in (lines text.now))) }
     {
         let mut rest = text;

@@ -5,7 +5,7 @@ ghost use Rattle.tf_words.specs.Words.{words};
 ghost use Rattle.tf_export.specs.Json.{hex_digit, escaped, string, is_natural, is_integer, scalar};
 ghost use Rattle.tf_export.specs.Members.{phrase, said};
 
-use std::alloc::Allocator;
+use std::alloc::Global;
 use tf_model::memory::OutOfMemory;
 use tf_words::digits::is_numeral;
 use tf_words::word::first_word;
@@ -23,7 +23,7 @@ fn hex_digit(value: u8) -> u8
 }
 
 /// Adds a byte of a string.
-fn push_escaped<A: Allocator>(text: &mut Vec<u8, A>, byte: u8) -> Result<(), OutOfMemory>
+fn push_escaped(text: &mut Vec<u8>, byte: u8) -> Result<(), OutOfMemory>
     ensures { OnOk result (text.new.items ≡ text.old.items ++ escaped byte) }
 {
     if byte == b'"' {
@@ -46,7 +46,7 @@ fn push_escaped<A: Allocator>(text: &mut Vec<u8, A>, byte: u8) -> Result<(), Out
 }
 
 /// Adds a byte by its number.
-fn push_code<A: Allocator>(text: &mut Vec<u8, A>, byte: u8) -> Result<(), OutOfMemory>
+fn push_code(text: &mut Vec<u8>, byte: u8) -> Result<(), OutOfMemory>
     ensures { OnOk result (text.new.items ≡ text.old.items
         ++ 92 ∷ 117 ∷ 48 ∷ 48 ∷ hex_digit (byte / 16) ∷ hex_digit (byte % 16) ∷ []) }
 {
@@ -56,7 +56,7 @@ fn push_code<A: Allocator>(text: &mut Vec<u8, A>, byte: u8) -> Result<(), OutOfM
     Ok(())
 }
 
-fn push_bytes<A: Allocator>(text: &mut Vec<u8, A>, bytes: &[u8]) -> Result<(), OutOfMemory>
+fn push_bytes(text: &mut Vec<u8>, bytes: &[u8]) -> Result<(), OutOfMemory>
     ensures { OnOk result (text.new.items ≡ text.old.items ++ flat_map escaped bytes.now) }
 {
     for byte in bytes {
@@ -67,10 +67,7 @@ fn push_bytes<A: Allocator>(text: &mut Vec<u8, A>, bytes: &[u8]) -> Result<(), O
 
 /// Adds a string.
 #[tactic(auto, unfolding(crate::specs::Json::string))]
-pub(crate) fn push_string<A: Allocator>(
-    text: &mut Vec<u8, A>,
-    bytes: &[u8],
-) -> Result<(), OutOfMemory>
+pub(crate) fn push_string(text: &mut Vec<u8>, bytes: &[u8]) -> Result<(), OutOfMemory>
     ensures { OnOk result (text.new.items ≡ text.old.items ++ string bytes.now) }
 {
     text.push(b'"')?;
@@ -101,10 +98,7 @@ fn is_integer(word: &[u8]) -> bool
 
 /// Adds a whole number as it is written, and every other word as a string.
 #[tactic(auto, unfolding(crate::specs::Json::scalar))]
-pub(crate) fn push_scalar<A: Allocator>(
-    text: &mut Vec<u8, A>,
-    word: &[u8],
-) -> Result<(), OutOfMemory>
+pub(crate) fn push_scalar(text: &mut Vec<u8>, word: &[u8]) -> Result<(), OutOfMemory>
     ensures { OnOk result (text.new.items ≡ text.old.items ++ scalar word.now) }
 {
     if !is_integer(word) {
@@ -115,11 +109,7 @@ pub(crate) fn push_scalar<A: Allocator>(
 }
 
 /// Adds words, each behind this byte.
-pub(crate) fn push_behind<A: Allocator>(
-    text: &mut Vec<u8, A>,
-    separator: u8,
-    row: &[u8],
-) -> Result<(), OutOfMemory>
+pub(crate) fn push_behind(text: &mut Vec<u8>, separator: u8, row: &[u8]) -> Result<(), OutOfMemory>
     ensures { OnOk result (text.new.items
         ≡ text.old.items ++ flat_map (λ word. separator ∷ word) (words row.now)) }
 {
@@ -133,11 +123,7 @@ pub(crate) fn push_behind<A: Allocator>(
 }
 
 /// Adds words with this byte between each two.
-pub(crate) fn push_joined<A: Allocator>(
-    text: &mut Vec<u8, A>,
-    separator: u8,
-    row: &[u8],
-) -> Result<(), OutOfMemory>
+pub(crate) fn push_joined(text: &mut Vec<u8>, separator: u8, row: &[u8]) -> Result<(), OutOfMemory>
     ensures { OnOk result (text.new.items
         ≡ text.old.items ++ join_with_byte separator (words row.now)) }
 {
@@ -150,11 +136,7 @@ pub(crate) fn push_joined<A: Allocator>(
 }
 
 /// Adds words as one string, with a blank between each two.
-pub(crate) fn push_phrase<A: Allocator, B: Allocator>(
-    alloc: B,
-    text: &mut Vec<u8, A>,
-    row: &[u8],
-) -> Result<(), OutOfMemory>
+pub(crate) fn push_phrase(alloc: Global, text: &mut Vec<u8>, row: &[u8]) -> Result<(), OutOfMemory>
     ensures { OnOk result (text.new.items ≡ text.old.items ++ phrase (words row.now)) }
 {
     let mut joined = Vec::new(alloc);
@@ -175,11 +157,7 @@ fn only_word(row: &[u8]) -> Option<&[u8]>
 }
 
 /// Adds one word by itself, and otherwise a phrase.
-pub(crate) fn push_said<A: Allocator, B: Allocator>(
-    alloc: B,
-    text: &mut Vec<u8, A>,
-    row: &[u8],
-) -> Result<(), OutOfMemory>
+pub(crate) fn push_said(alloc: Global, text: &mut Vec<u8>, row: &[u8]) -> Result<(), OutOfMemory>
     ensures { OnOk result (text.new.items ≡ text.old.items ++ said (words row.now)) }
 {
     match only_word(row) {

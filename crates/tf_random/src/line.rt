@@ -5,12 +5,11 @@ ghost use Rattle.tf_random.specs.Table.{release, rise, times};
 
 use crate::plan::Plan;
 use crate::writing::{push_part, push_part_if};
-use std::alloc::Allocator;
 use tf_model::memory::OutOfMemory;
 
 /// Adds the line of job k, k from 1.
 #[tactic(auto, unfolding(crate::specs::Table::job_line))]
-pub fn push_job<A: Allocator>(text: &mut Vec<u8, A>, plan: &Plan, k: u32) -> Result<(), OutOfMemory>
+pub fn push_job(text: &mut Vec<u8>, plan: &Plan, k: u32) -> Result<(), OutOfMemory>
     requires { 0 < k }
     ensures { OnOk result (text.new.items ≡ text.old.items ++ job_line plan.now k) }
 {
@@ -22,7 +21,7 @@ pub fn push_job<A: Allocator>(text: &mut Vec<u8, A>, plan: &Plan, k: u32) -> Res
 }
 
 // The job's number and its processing times.
-fn push_times<A: Allocator>(text: &mut Vec<u8, A>, plan: &Plan, k: u32) -> Result<(), OutOfMemory>
+fn push_times(text: &mut Vec<u8>, plan: &Plan, k: u32) -> Result<(), OutOfMemory>
     requires { 0 < k }
     ensures { OnOk result (text.new.items ≡ text.old.items ++ times plan.now k) }
 {
@@ -32,7 +31,7 @@ fn push_times<A: Allocator>(text: &mut Vec<u8, A>, plan: &Plan, k: u32) -> Resul
 }
 
 // The fields that are numbers.
-fn push_fields<A: Allocator>(text: &mut Vec<u8, A>, plan: &Plan, k: u32) -> Result<(), OutOfMemory>
+fn push_fields(text: &mut Vec<u8>, plan: &Plan, k: u32) -> Result<(), OutOfMemory>
     requires { 0 < k }
     ensures { OnOk result (text.new.items ≡ text.old.items ++ fields plan.now k) }
 {
@@ -66,7 +65,7 @@ fn rise(plan: &Plan, k: u32) -> u64
     plan.value(k, 7, plan.work / 2 + 1)
 }
 
-fn push_cost_if<A: Allocator>(text: &mut Vec<u8, A>, plan: &Plan, k: u32) -> Result<(), OutOfMemory>
+fn push_cost_if(text: &mut Vec<u8>, plan: &Plan, k: u32) -> Result<(), OutOfMemory>
     requires { 0 < k }
     ensures { OnOk result (text.new.items ≡ text.old.items ++ cost_if plan.now k) }
 {
@@ -77,7 +76,7 @@ fn push_cost_if<A: Allocator>(text: &mut Vec<u8, A>, plan: &Plan, k: u32) -> Res
 }
 
 // A base below 10, and from a time up to the work on up to 100 more.
-fn push_cost<A: Allocator>(text: &mut Vec<u8, A>, plan: &Plan, k: u32) -> Result<(), OutOfMemory>
+fn push_cost(text: &mut Vec<u8>, plan: &Plan, k: u32) -> Result<(), OutOfMemory>
     requires { 0 < k }
     ensures { OnOk result (text.new.items ≡ text.old.items ++ cost plan.now k) }
 {
@@ -89,11 +88,7 @@ fn push_cost<A: Allocator>(text: &mut Vec<u8, A>, plan: &Plan, k: u32) -> Result
 
 /// Adds the arc to job k from an earlier job, if there is one.
 #[tactic(auto, unfolding(crate::specs::Table::arc_line))]
-pub fn push_arc_if<A: Allocator>(
-    text: &mut Vec<u8, A>,
-    plan: &Plan,
-    k: u32,
-) -> Result<(), OutOfMemory>
+pub fn push_arc_if(text: &mut Vec<u8>, plan: &Plan, k: u32) -> Result<(), OutOfMemory>
     requires { 0 < k }
     ensures { OnOk result (text.new.items ≡ text.old.items ++ arc_line plan.now k) }
 {
@@ -103,7 +98,7 @@ pub fn push_arc_if<A: Allocator>(
     Ok(())
 }
 
-fn push_arc<A: Allocator>(text: &mut Vec<u8, A>, plan: &Plan, k: u32) -> Result<(), OutOfMemory>
+fn push_arc(text: &mut Vec<u8>, plan: &Plan, k: u32) -> Result<(), OutOfMemory>
     requires { 2 ≤ k }
     ensures { OnOk result (text.new.items ≡ text.old.items ++ arc plan.now k) }
 {

@@ -4,7 +4,7 @@ ghost use Rattle.tf_random.specs.Asked.{IsFaultOf, IsTableFor};
 
 use crate::plan::Plan;
 use crate::table::random_table;
-use std::alloc::{Allocator, Global};
+use std::alloc::Global;
 use tf_model::memory::OutOfMemory;
 use tf_notation::reading::{NotationFault, read};
 
@@ -31,10 +31,7 @@ pub enum RandomFault {
 }
 
 /// The random table that is wanted.
-pub fn run_random<A: Allocator + Copy>(
-    alloc: A,
-    wanted: &Wanted<'_>,
-) -> Result<Vec<u8, A>, RandomFault>
+pub fn run_random(alloc: Global, wanted: &Wanted<'_>) -> Result<Vec<u8>, RandomFault>
     ensures { MatchResult result (λ text. IsTableFor wanted.now text.items) (IsFaultOf wanted.now) }
 {
     let problem = match read(wanted.problem.as_bytes()) {

@@ -7,7 +7,7 @@ ghost use Rattle.tf_random.specs.Table.{random_table};
 use crate::line::{push_arc_if, push_job};
 use crate::plan::Plan;
 use crate::writing::push_part;
-use std::alloc::Allocator;
+use std::alloc::Global;
 use tf_model::memory::OutOfMemory;
 use tf_model::problem::Problem;
 use tf_notation::writing::notation_text;
@@ -15,11 +15,7 @@ use tf_notation::writing::notation_text;
 /// The random table of a plan that was made for this problem. Its first line is a comment that
 /// names the problem and the seed.
 #[tactic(auto, unfolding(crate::specs::Table::random_table))]
-pub fn random_table<A: Allocator + Copy>(
-    alloc: A,
-    problem: &Problem,
-    plan: &Plan,
-) -> Result<Vec<u8, A>, OutOfMemory>
+pub fn random_table(alloc: Global, problem: &Problem, plan: &Plan) -> Result<Vec<u8>, OutOfMemory>
     ensures { IfOk result (λ text. text.items ≡ random_table problem.now plan.now) }
 {
     let notation = notation_text(alloc, problem)?;
@@ -30,11 +26,7 @@ pub fn random_table<A: Allocator + Copy>(
     Ok(text)
 }
 
-fn push_heading<A: Allocator>(
-    text: &mut Vec<u8, A>,
-    notation: &[u8],
-    plan: &Plan,
-) -> Result<(), OutOfMemory>
+fn push_heading(text: &mut Vec<u8>, notation: &[u8], plan: &Plan) -> Result<(), OutOfMemory>
     ensures { OnOk result (text.new.items ≡ text.old.items ++ heading notation.now plan.now) }
 {
     text.extend_from_slice(b"# ")?;
@@ -44,7 +36,7 @@ fn push_heading<A: Allocator>(
     push_machines(text, plan.machines)
 }
 
-fn push_machines<A: Allocator>(text: &mut Vec<u8, A>, machines: u32) -> Result<(), OutOfMemory>
+fn push_machines(text: &mut Vec<u8>, machines: u32) -> Result<(), OutOfMemory>
     ensures { OnOk result (text.new.items ≡ text.old.items ++ machines_line machines) }
 {
     if machines == 0 {
@@ -56,7 +48,7 @@ fn push_machines<A: Allocator>(text: &mut Vec<u8, A>, machines: u32) -> Result<(
 }
 
 #[tactic(auto, using(crate::proofs::Parts::each_more))]
-fn push_jobs<A: Allocator>(text: &mut Vec<u8, A>, plan: &Plan) -> Result<(), OutOfMemory>
+fn push_jobs(text: &mut Vec<u8>, plan: &Plan) -> Result<(), OutOfMemory>
     ensures { OnOk result (text.new.items ≡ text.old.items
         ++ flat_map (job_line plan.now) (range_with_len 1 plan.now.jobs)) }
 {
@@ -66,7 +58,7 @@ fn push_jobs<A: Allocator>(text: &mut Vec<u8, A>, plan: &Plan) -> Result<(), Out
     Ok(())
 }
 
-fn push_arcs<A: Allocator>(text: &mut Vec<u8, A>, plan: &Plan) -> Result<(), OutOfMemory>
+fn push_arcs(text: &mut Vec<u8>, plan: &Plan) -> Result<(), OutOfMemory>
     ensures { OnOk result (text.new.items ≡ text.old.items ++ arc_lines plan.now) }
 {
     if plan.arcs {
@@ -76,7 +68,7 @@ fn push_arcs<A: Allocator>(text: &mut Vec<u8, A>, plan: &Plan) -> Result<(), Out
 }
 
 #[tactic(auto, using(crate::proofs::Parts::each_more))]
-fn push_each_arc<A: Allocator>(text: &mut Vec<u8, A>, plan: &Plan) -> Result<(), OutOfMemory>
+fn push_each_arc(text: &mut Vec<u8>, plan: &Plan) -> Result<(), OutOfMemory>
     ensures { OnOk result (text.new.items ≡ text.old.items
         ++ flat_map (arc_line plan.now) (range_with_len 1 plan.now.jobs)) }
 {

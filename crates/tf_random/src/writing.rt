@@ -3,15 +3,10 @@ ghost use Rattle.std.specs.Prelude.{◌≡◌, ◌++◌, OnOk};
 ghost use Rattle.tf_random.specs.Table.{part, part_if};
 
 use itoa::Buffer;
-use std::alloc::Allocator;
 use tf_model::memory::OutOfMemory;
 
 /// Adds a text and a number behind it.
-pub fn push_part<A: Allocator>(
-    text: &mut Vec<u8, A>,
-    before: &[u8],
-    number: u64,
-) -> Result<(), OutOfMemory>
+pub fn push_part(text: &mut Vec<u8>, before: &[u8], number: u64) -> Result<(), OutOfMemory>
     ensures { OnOk result (text.new.items ≡ text.old.items ++ part before.now number) }
 {
     let mut digits = Buffer::new();
@@ -21,8 +16,8 @@ pub fn push_part<A: Allocator>(
 }
 
 /// The same where it is wanted.
-pub fn push_part_if<A: Allocator>(
-    text: &mut Vec<u8, A>,
+pub fn push_part_if(
+    text: &mut Vec<u8>,
     wanted: bool,
     before: &[u8],
     number: u64,

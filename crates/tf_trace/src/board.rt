@@ -1,6 +1,6 @@
 //! The board: sentences and tables, as plain text or for LaTeX.
 use crate::table::Table;
-use std::alloc::{AllocError, Allocator};
+use std::alloc::{AllocError, Global};
 use tf_model::ids::JobId;
 
 /// The most rows of a table: longer ones are shortened in the middle.
@@ -20,11 +20,11 @@ const MOST_COLUMNS: usize = 78;
 
 /// What is written so far.
 #[derive(Drop)]
-pub(crate) struct Board<A: Allocator> {
-    pub alloc: A,
+pub(crate) struct Board {
+    pub alloc: Global,
     /// The sentence that is being written.
-    pub text: String<A>,
-    page: String<A>,
+    pub text: String,
+    page: String,
     style: Style,
 }
 
@@ -49,8 +49,8 @@ pub(crate) fn shown(place: usize, rows: usize) -> Visible {
     }
 }
 
-impl<A: Allocator + Copy> Board<A> {
-    pub(crate) fn new(alloc: A, style: Style) -> Self {
+impl Board {
+    pub(crate) fn new(alloc: Global, style: Style) -> Self {
         Board {
             alloc,
             text: String::new(alloc),
@@ -60,7 +60,7 @@ impl<A: Allocator + Copy> Board<A> {
     }
 
     /// All that is written.
-    pub(crate) fn into_page(self) -> String<A> {
+    pub(crate) fn into_page(self) -> String {
         self.page
     }
 
@@ -110,7 +110,7 @@ impl<A: Allocator + Copy> Board<A> {
     }
 
     /// A table.
-    pub(crate) fn show(&mut self, table: &Table<A>) -> Result<(), AllocError> {
+    pub(crate) fn show(&mut self, table: &Table) -> Result<(), AllocError> {
         match self.style {
             Style::Plain => {
                 if !self.page.as_str().ends_with("\n\n") {

@@ -1,7 +1,7 @@
 //! Why no schedule costs less, in sentences.
 use crate::board::Board;
 use crate::trace::row_of;
-use std::alloc::{AllocError, Allocator};
+use std::alloc::AllocError;
 use tf_check::answer::Answer;
 use tf_check::certificate::Certificate;
 use tf_check::split::Split;
@@ -9,10 +9,10 @@ use tf_model::ids::JobId;
 use tf_model::task::Task;
 
 /// Why no schedule costs less than the answer's.
-pub(crate) fn write_certificate<A: Allocator + Copy, B: Allocator, C: Allocator>(
-    board: &mut Board<A>,
-    task: &Task<B>,
-    answer: &Answer<C>,
+pub(crate) fn write_certificate(
+    board: &mut Board,
+    task: &Task,
+    answer: &Answer,
 ) -> Result<(), AllocError> {
     let value = i128::from(answer.value);
     match &answer.certificate {
@@ -43,7 +43,7 @@ pub(crate) fn write_certificate<A: Allocator + Copy, B: Allocator, C: Allocator>
 }
 
 // The processing times of some jobs together.
-fn work_of<B: Allocator>(task: &Task<B>, jobs: &[JobId]) -> u64 {
+fn work_of(task: &Task, jobs: &[JobId]) -> u64 {
     let mut work: u64 = 0;
     for job in jobs {
         if let Some(row) = row_of(task, *job) {
@@ -53,11 +53,7 @@ fn work_of<B: Allocator>(task: &Task<B>, jobs: &[JobId]) -> u64 {
     work
 }
 
-fn say_pairs<A: Allocator + Copy, B: Allocator>(
-    board: &mut Board<A>,
-    task: &Task<B>,
-    value: i128,
-) -> Result<(), AllocError> {
+fn say_pairs(board: &mut Board, task: &Task, value: i128) -> Result<(), AllocError> {
     let mut own: i128 = 0;
     for k in 0..task.len() {
         let row = task.job(JobId::at(k));
@@ -80,12 +76,7 @@ fn say_pairs<A: Allocator + Copy, B: Allocator>(
     )
 }
 
-fn say_last<A: Allocator + Copy, B: Allocator>(
-    board: &mut Board<A>,
-    task: &Task<B>,
-    jobs: &[JobId],
-    value: i128,
-) -> Result<(), AllocError> {
+fn say_last(board: &mut Board, task: &Task, jobs: &[JobId], value: i128) -> Result<(), AllocError> {
     let work = work_of(task, jobs);
     board.list("The jobs", jobs)?;
     let among = if task.class().is_ordered() {
@@ -100,11 +91,7 @@ fn say_last<A: Allocator + Copy, B: Allocator>(
     )
 }
 
-fn say_window<A: Allocator + Copy, B: Allocator>(
-    board: &mut Board<A>,
-    task: &Task<B>,
-    jobs: &[JobId],
-) -> Result<(), AllocError> {
+fn say_window(board: &mut Board, task: &Task, jobs: &[JobId]) -> Result<(), AllocError> {
     let work = work_of(task, jobs);
     let mut release = u64::MAX;
     let mut due = i64::MIN;
@@ -125,11 +112,7 @@ fn say_window<A: Allocator + Copy, B: Allocator>(
     )
 }
 
-fn say_split<A: Allocator + Copy, B: Allocator, C: Allocator>(
-    board: &mut Board<A>,
-    task: &Task<B>,
-    split: &Split<C>,
-) -> Result<(), AllocError> {
+fn say_split(board: &mut Board, task: &Task, split: &Split) -> Result<(), AllocError> {
     let side = split.side.as_slice();
     let (first, rest) = counted(task, side);
     let delta = split.delta;
@@ -154,7 +137,7 @@ fn say_split<A: Allocator + Copy, B: Allocator, C: Allocator>(
 }
 
 // The times of these jobs on machine 1, and those of the others on machine 2.
-fn counted<B: Allocator>(task: &Task<B>, side: &[JobId]) -> (i128, i128) {
+fn counted(task: &Task, side: &[JobId]) -> (i128, i128) {
     let mut first: i128 = 0;
     let mut rest: i128 = 0;
     for k in 0..task.len() {

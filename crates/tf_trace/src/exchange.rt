@@ -1,6 +1,6 @@
 //! Other optimal schedules, by exchanging two neighbours on a machine.
 use crate::board::{Board, MOST_ROWS};
-use std::alloc::Allocator;
+use std::alloc::Global;
 use tf_model::memory::OutOfMemory;
 use tf_model::task::Task;
 use tf_schedule::judge::judge;
@@ -9,9 +9,9 @@ use tf_schedule::schedule::Schedule;
 
 /// Says which two neighbouring pieces may be exchanged, the first such pair, where the schedule
 /// then still fits and costs the same. Longer schedules than the tables show are not looked at.
-pub(crate) fn say_exchange<A: Allocator + Copy, B: Allocator>(
-    board: &mut Board<A>,
-    task: &Task<B>,
+pub(crate) fn say_exchange(
+    board: &mut Board,
+    task: &Task,
     pieces: &[Piece],
     value: i128,
 ) -> Result<(), OutOfMemory> {
@@ -39,9 +39,9 @@ pub(crate) fn say_exchange<A: Allocator + Copy, B: Allocator>(
 }
 
 // What the pieces cost with the one at a place and the next one exchanged, if they still fit.
-fn costs_exchanged<A: Allocator + Copy, B: Allocator>(
-    alloc: A,
-    task: &Task<B>,
+fn costs_exchanged(
+    alloc: Global,
+    task: &Task,
     pieces: &[Piece],
     place: usize,
 ) -> Result<Option<i128>, OutOfMemory> {

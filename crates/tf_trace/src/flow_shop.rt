@@ -2,16 +2,13 @@
 use crate::board::{Board, MOST_ROWS, Visible, shown};
 use crate::table::{Cell, Table};
 use crate::trace::row_of;
-use std::alloc::{AllocError, Allocator};
+use std::alloc::{AllocError, Global};
 use tf_model::ids::JobId;
 use tf_model::job_rows::JobRow;
 use tf_model::task::Task;
 
 /// The two sets, the order, and when each job is on each machine.
-pub(crate) fn write_johnson<A: Allocator + Copy, B: Allocator>(
-    board: &mut Board<A>,
-    task: &Task<B>,
-) -> Result<(), AllocError> {
+pub(crate) fn write_johnson(board: &mut Board, task: &Task) -> Result<(), AllocError> {
     board.say(
         "Johnson's rule (Johnson 1954): first the jobs that take no longer on machine 1 than on \
          machine 2, by rising time a on machine 1; then the others, by falling time b on machine 2; \
@@ -35,11 +32,7 @@ pub(crate) fn write_johnson<A: Allocator + Copy, B: Allocator>(
 }
 
 // Whether another optimal schedule exchanges two neighbours, of the first ones.
-fn say_tie<A: Allocator + Copy, B: Allocator>(
-    board: &mut Board<A>,
-    task: &Task<B>,
-    order: &[JobId],
-) -> Result<(), AllocError> {
+fn say_tie(board: &mut Board, task: &Task, order: &[JobId]) -> Result<(), AllocError> {
     let makespan = makespan_exchanged(task, order, order.len());
     let neighbours = order.iter().zip(order.iter().skip(1));
     for (place, (job, next)) in neighbours.take(MOST_ROWS).enumerate() {
@@ -58,7 +51,7 @@ fn say_tie<A: Allocator + Copy, B: Allocator>(
 
 // When the jobs are done in this order, but with the one at a place, if it is there, behind the
 // next one.
-fn makespan_exchanged<B: Allocator>(task: &Task<B>, order: &[JobId], place: usize) -> u64 {
+fn makespan_exchanged(task: &Task, order: &[JobId], place: usize) -> u64 {
     let mut front = Front {
         first: 0,
         second: 0,
@@ -81,12 +74,8 @@ fn makespan_exchanged<B: Allocator>(task: &Task<B>, order: &[JobId], place: usiz
 }
 
 // The jobs that take no longer on machine 1, or the others, in their order.
-fn ordered<A: Allocator + Copy, B: Allocator>(
-    alloc: A,
-    task: &Task<B>,
-    is_early: bool,
-) -> Result<Vec<JobId, A>, AllocError> {
-    let mut keyed: Vec<(u64, JobId), A> = Vec::new(alloc);
+fn ordered(alloc: Global, task: &Task, is_early: bool) -> Result<Vec<JobId>, AllocError> {
+    let mut keyed: Vec<(u64, JobId)> = Vec::new(alloc);
     for k in 0..task.len() {
         let job = JobId::at(k);
         let row = task.job(job);
@@ -124,11 +113,7 @@ impl Front {
     }
 }
 
-fn times_table<A: Allocator + Copy, B: Allocator>(
-    alloc: A,
-    task: &Task<B>,
-    order: &[JobId],
-) -> Result<Table<A>, AllocError> {
+fn times_table(alloc: Global, task: &Task, order: &[JobId]) -> Result<Table, AllocError> {
     let headings = &[
         "job", "a", "b", "from 1", "to 1", "idle 2", "from 2", "to 2",
     ];

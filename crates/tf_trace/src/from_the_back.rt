@@ -2,7 +2,7 @@
 use crate::board::{Board, MOST_ROWS, Visible, shown};
 use crate::table::{Cell, Table};
 use crate::trace::{price_at, row_of};
-use std::alloc::{AllocError, Allocator};
+use std::alloc::{AllocError, Global};
 use tf_model::ids::JobId;
 use tf_model::task::Task;
 use tf_schedule::piece::Piece;
@@ -11,9 +11,9 @@ use tf_schedule::piece::Piece;
 const MOST_CANDIDATES: usize = 8;
 
 /// The steps from the last place to the first, and then the schedule.
-pub(crate) fn write_lawler<A: Allocator + Copy, B: Allocator>(
-    board: &mut Board<A>,
-    task: &Task<B>,
+pub(crate) fn write_lawler(
+    board: &mut Board,
+    task: &Task,
     pieces: &[Piece],
     value: i128,
 ) -> Result<(), AllocError> {
@@ -37,9 +37,9 @@ pub(crate) fn write_lawler<A: Allocator + Copy, B: Allocator>(
 }
 
 // Whether another optimal schedule exchanges two neighbours, of the first ones.
-fn say_tie<A: Allocator + Copy, B: Allocator>(
-    board: &mut Board<A>,
-    task: &Task<B>,
+fn say_tie(
+    board: &mut Board,
+    task: &Task,
     pieces: &[Piece],
     value: i128,
 ) -> Result<(), AllocError> {
@@ -59,7 +59,7 @@ fn say_tie<A: Allocator + Copy, B: Allocator>(
 }
 
 // Whether two neighbours, exchanged, keep their precedence, and neither costs more than this.
-fn may_exchange<B: Allocator>(task: &Task<B>, piece: &Piece, next: &Piece, value: i128) -> bool {
+fn may_exchange(task: &Task, piece: &Piece, next: &Piece, value: i128) -> bool {
     let time = next.stop.saturating_sub(next.start);
     let sooner = price_at(task, next.job, piece.start.saturating_add(time));
     let later = price_at(task, piece.job, next.stop);
@@ -72,13 +72,13 @@ fn may_exchange<B: Allocator>(task: &Task<B>, piece: &Piece, next: &Piece, value
 
 /// The place of each job in the schedule, and the first place of its successors.
 #[derive(Drop)]
-struct Places<A: Allocator> {
-    own: Vec<usize, A>,
-    successors: Vec<usize, A>,
+struct Places {
+    own: Vec<usize>,
+    successors: Vec<usize>,
 }
 
-impl<A: Allocator + Copy> Places<A> {
-    fn new<B: Allocator>(alloc: A, task: &Task<B>, pieces: &[Piece]) -> Result<Self, AllocError> {
+impl Places {
+    fn new(alloc: Global, task: &Task, pieces: &[Piece]) -> Result<Self, AllocError> {
         let mut own = Vec::with_capacity(alloc, task.len())?;
         let mut successors = Vec::with_capacity(alloc, task.len())?;
         for _ in 0..task.len() {
@@ -117,12 +117,12 @@ impl<A: Allocator + Copy> Places<A> {
     }
 }
 
-fn steps_table<A: Allocator + Copy, B: Allocator>(
-    alloc: A,
-    task: &Task<B>,
+fn steps_table(
+    alloc: Global,
+    task: &Task,
     pieces: &[Piece],
-    places: &Places<A>,
-) -> Result<Table<A>, AllocError> {
+    places: &Places,
+) -> Result<Table, AllocError> {
     let mut table = Table::new(
         alloc,
         &["place", "t", "job", "cost", "candidates: job (cost at t)"],
@@ -148,13 +148,13 @@ fn steps_table<A: Allocator + Copy, B: Allocator>(
 }
 
 // The candidates for a place with what each costs at this time.
-fn candidates_at<A: Allocator + Copy, B: Allocator>(
-    alloc: A,
-    task: &Task<B>,
-    places: &Places<A>,
+fn candidates_at(
+    alloc: Global,
+    task: &Task,
+    places: &Places,
     place: usize,
     time: i64,
-) -> Result<String<A>, AllocError> {
+) -> Result<String, AllocError> {
     let mut text = String::new(alloc);
     let mut count: usize = 0;
     for k in 0..task.len() {
@@ -174,11 +174,7 @@ fn candidates_at<A: Allocator + Copy, B: Allocator>(
     Ok(text)
 }
 
-fn schedule_table<A: Allocator + Copy, B: Allocator>(
-    alloc: A,
-    task: &Task<B>,
-    pieces: &[Piece],
-) -> Result<Table<A>, AllocError> {
+fn schedule_table(alloc: Global, task: &Task, pieces: &[Piece]) -> Result<Table, AllocError> {
     let is_due = task.class().is_due();
     let headings: &[&str] = if is_due {
         &["job", "p", "start", "C", "d", "C - d"]

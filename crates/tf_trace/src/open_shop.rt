@@ -3,16 +3,16 @@ use crate::board::{Board, Visible, shown};
 use crate::exchange::say_exchange;
 use crate::table::{Cell, Table};
 use crate::trace::row_of;
-use std::alloc::{AllocError, Allocator};
+use std::alloc::{AllocError, Global};
 use tf_model::ids::JobId;
 use tf_model::memory::OutOfMemory;
 use tf_model::task::Task;
 use tf_schedule::piece::Piece;
 
 /// The two groups, the job that leads, and the pieces.
-pub(crate) fn write_open_shop<A: Allocator + Copy, B: Allocator>(
-    board: &mut Board<A>,
-    task: &Task<B>,
+pub(crate) fn write_open_shop(
+    board: &mut Board,
+    task: &Task,
     pieces: &[Piece],
     value: i128,
 ) -> Result<(), OutOfMemory> {
@@ -37,7 +37,7 @@ pub(crate) fn write_open_shop<A: Allocator + Copy, B: Allocator>(
     say_exchange(board, task, pieces, value)
 }
 
-fn is_early<B: Allocator>(task: &Task<B>, job: JobId) -> bool {
+fn is_early(task: &Task, job: JobId) -> bool {
     match row_of(task, job) {
         Some(row) => row.first <= row.second,
         None => false,
@@ -45,14 +45,14 @@ fn is_early<B: Allocator>(task: &Task<B>, job: JobId) -> bool {
 }
 
 // The smaller time of a job, and whether it is early.
-fn rank_of<B: Allocator>(task: &Task<B>, job: JobId) -> (u64, bool) {
+fn rank_of(task: &Task, job: JobId) -> (u64, bool) {
     match row_of(task, job) {
         Some(row) => (row.first.min(row.second), row.first <= row.second),
         None => (0, false),
     }
 }
 
-fn leader_of<B: Allocator>(task: &Task<B>) -> JobId {
+fn leader_of(task: &Task) -> JobId {
     let mut leader = JobId::at(0);
     for k in 1..task.len() {
         let job = JobId::at(k);
@@ -63,11 +63,7 @@ fn leader_of<B: Allocator>(task: &Task<B>) -> JobId {
     leader
 }
 
-fn group<A: Allocator + Copy, B: Allocator>(
-    alloc: A,
-    task: &Task<B>,
-    early: bool,
-) -> Result<Vec<JobId, A>, AllocError> {
+fn group(alloc: Global, task: &Task, early: bool) -> Result<Vec<JobId>, AllocError> {
     let mut jobs = Vec::new(alloc);
     for k in 0..task.len() {
         let job = JobId::at(k);
@@ -78,11 +74,7 @@ fn group<A: Allocator + Copy, B: Allocator>(
     Ok(jobs)
 }
 
-fn say_leader<A: Allocator + Copy, B: Allocator>(
-    board: &mut Board<A>,
-    task: &Task<B>,
-    leader: JobId,
-) -> Result<(), AllocError> {
+fn say_leader(board: &mut Board, task: &Task, leader: JobId) -> Result<(), AllocError> {
     let leads_early = is_early(task, leader);
     let (first, second) = if leads_early { (1, 2) } else { (2, 1) };
     let (group, others) = if leads_early {
@@ -102,11 +94,7 @@ fn say_leader<A: Allocator + Copy, B: Allocator>(
     board.end_sentence()
 }
 
-fn pieces_table<A: Allocator + Copy, B: Allocator>(
-    alloc: A,
-    task: &Task<B>,
-    pieces: &[Piece],
-) -> Result<Table<A>, AllocError> {
+fn pieces_table(alloc: Global, task: &Task, pieces: &[Piece]) -> Result<Table, AllocError> {
     let mut table = Table::new(alloc, &["machine", "job", "time", "start", "C"])?;
     for (place, piece) in pieces.iter().enumerate() {
         match (shown(place, pieces.len()), row_of(task, piece.job)) {

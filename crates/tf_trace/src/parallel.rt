@@ -3,7 +3,7 @@ use crate::board::{Board, Visible, shown};
 use crate::exchange::say_exchange;
 use crate::table::{Cell, Table};
 use crate::trace::row_of;
-use std::alloc::{AllocError, Allocator};
+use std::alloc::{AllocError, Global};
 use tf_check::answer::Answer;
 use tf_check::certificate::Certificate;
 use tf_model::ids::JobId;
@@ -12,9 +12,9 @@ use tf_model::task::Task;
 use tf_schedule::piece::Piece;
 
 /// The length of the schedule, and how the machines are filled up to it.
-pub(crate) fn write_wrap_around<A: Allocator + Copy, B: Allocator>(
-    board: &mut Board<A>,
-    task: &Task<B>,
+pub(crate) fn write_wrap_around(
+    board: &mut Board,
+    task: &Task,
     pieces: &[Piece],
     value: i128,
 ) -> Result<(), OutOfMemory> {
@@ -39,7 +39,7 @@ pub(crate) fn write_wrap_around<A: Allocator + Copy, B: Allocator>(
     say_exchange(board, task, pieces, value)
 }
 
-fn longest_time<B: Allocator>(task: &Task<B>) -> u64 {
+fn longest_time(task: &Task) -> u64 {
     let mut longest = 0;
     for k in 0..task.len() {
         longest = task.time(JobId::at(k)).max(longest);
@@ -47,7 +47,7 @@ fn longest_time<B: Allocator>(task: &Task<B>) -> u64 {
     longest
 }
 
-fn filling_table<A: Allocator + Copy>(alloc: A, pieces: &[Piece]) -> Result<Table<A>, AllocError> {
+fn filling_table(alloc: Global, pieces: &[Piece]) -> Result<Table, AllocError> {
     let mut table = Table::new(alloc, &["machine", "job", "start", "C", ""])?;
     for (place, piece) in pieces.iter().enumerate() {
         match shown(place, pieces.len()) {
@@ -80,10 +80,10 @@ fn wraps(pieces: &[Piece], place: usize) -> bool {
 }
 
 /// The ranks of the jobs, and the machines.
-pub(crate) fn write_shortest_first<A: Allocator + Copy, B: Allocator, C: Allocator>(
-    board: &mut Board<A>,
-    task: &Task<B>,
-    answer: &Answer<C>,
+pub(crate) fn write_shortest_first(
+    board: &mut Board,
+    task: &Task,
+    answer: &Answer,
 ) -> Result<(), AllocError> {
     board.say(
         "Shortest processing time first (Conway, Maxwell and Miller 1967): the jobs, by rising \
@@ -106,15 +106,11 @@ pub(crate) fn write_shortest_first<A: Allocator + Copy, B: Allocator, C: Allocat
 }
 
 // Whether two jobs count as often as each other.
-fn jobs_exchange<B: Allocator>(task: &Task<B>) -> bool {
+fn jobs_exchange(task: &Task) -> bool {
     task.len() > 1 && task.machines() > 1
 }
 
-fn ranks_table<A: Allocator + Copy, B: Allocator>(
-    alloc: A,
-    task: &Task<B>,
-    jobs: &[JobId],
-) -> Result<Table<A>, AllocError> {
+fn ranks_table(alloc: Global, task: &Task, jobs: &[JobId]) -> Result<Table, AllocError> {
     let machines = u64::from(task.machines()).max(1);
     let mut table = Table::new(alloc, &["rank", "job", "p", "times", "product"])?;
     for (place, job) in jobs.iter().enumerate() {
@@ -137,11 +133,7 @@ fn ranks_table<A: Allocator + Copy, B: Allocator>(
     Ok(table)
 }
 
-fn machines_table<A: Allocator + Copy, B: Allocator>(
-    alloc: A,
-    task: &Task<B>,
-    pieces: &[Piece],
-) -> Result<Table<A>, AllocError> {
+fn machines_table(alloc: Global, task: &Task, pieces: &[Piece]) -> Result<Table, AllocError> {
     let mut table = Table::new(alloc, &["machine", "job", "p", "start", "C"])?;
     for (place, piece) in pieces.iter().enumerate() {
         match (shown(place, pieces.len()), row_of(task, piece.job)) {

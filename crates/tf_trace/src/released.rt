@@ -2,7 +2,7 @@
 use crate::board::{Board, Visible, shown};
 use crate::exchange::say_exchange;
 use crate::table::{Cell, Table};
-use std::alloc::{AllocError, Allocator};
+use std::alloc::{AllocError, Global};
 use tf_model::ids::JobId;
 use tf_model::memory::OutOfMemory;
 use tf_model::task::Task;
@@ -12,9 +12,9 @@ use tf_schedule::piece::Piece;
 const MOST_WAITING: usize = 8;
 
 /// Each time at which a job starts or goes on, and who waits there.
-pub(crate) fn write_released<A: Allocator + Copy, B: Allocator>(
-    board: &mut Board<A>,
-    task: &Task<B>,
+pub(crate) fn write_released(
+    board: &mut Board,
+    task: &Task,
     pieces: &[Piece],
     value: i128,
 ) -> Result<(), OutOfMemory> {
@@ -31,11 +31,7 @@ pub(crate) fn write_released<A: Allocator + Copy, B: Allocator>(
 }
 
 // The completion times, job by job.
-fn ends_of<A: Allocator + Copy, B: Allocator>(
-    alloc: A,
-    task: &Task<B>,
-    pieces: &[Piece],
-) -> Result<Vec<i64, A>, AllocError> {
+fn ends_of(alloc: Global, task: &Task, pieces: &[Piece]) -> Result<Vec<i64>, AllocError> {
     let mut ends = Vec::with_capacity(alloc, task.len())?;
     for _ in 0..task.len() {
         ends.push(0)?;
@@ -48,12 +44,12 @@ fn ends_of<A: Allocator + Copy, B: Allocator>(
     Ok(ends)
 }
 
-fn events_table<A: Allocator + Copy, B: Allocator>(
-    alloc: A,
-    task: &Task<B>,
+fn events_table(
+    alloc: Global,
+    task: &Task,
     pieces: &[Piece],
     ends: &[i64],
-) -> Result<Table<A>, AllocError> {
+) -> Result<Table, AllocError> {
     let headings = &[
         "from",
         "to",
@@ -87,12 +83,7 @@ fn events_table<A: Allocator + Copy, B: Allocator>(
 }
 
 // The jobs that are released by this time and unfinished, with their due dates.
-fn waiting_at<A: Allocator + Copy, B: Allocator>(
-    alloc: A,
-    task: &Task<B>,
-    ends: &[i64],
-    time: i64,
-) -> Result<String<A>, AllocError> {
+fn waiting_at(alloc: Global, task: &Task, ends: &[i64], time: i64) -> Result<String, AllocError> {
     let mut text = String::new(alloc);
     let mut count: usize = 0;
     for k in 0..task.len() {
@@ -114,11 +105,7 @@ fn waiting_at<A: Allocator + Copy, B: Allocator>(
     Ok(text)
 }
 
-fn jobs_table<A: Allocator + Copy, B: Allocator>(
-    alloc: A,
-    task: &Task<B>,
-    ends: &[i64],
-) -> Result<Table<A>, AllocError> {
+fn jobs_table(alloc: Global, task: &Task, ends: &[i64]) -> Result<Table, AllocError> {
     let mut table = Table::new(alloc, &["job", "p", "r", "d", "C", "C - d"])?;
     for k in 0..task.len() {
         let job = JobId::at(k);

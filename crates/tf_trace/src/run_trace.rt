@@ -10,7 +10,7 @@ ghost use Rattle.tf_trace.specs.RunTracing.{EndsInValue, IsOfCycle, IsTraceOf};
 
 use crate::board::{Board, Style};
 use crate::trace::write_trace;
-use std::alloc::Allocator;
+use std::alloc::Global;
 use std::io::{Read, Write};
 use tf_check::answer::Answer;
 use tf_engine::case::{Asked, asked_read};
@@ -29,13 +29,13 @@ use tf_text::counted::Counted;
 /// The refusals are those of [`tf_engine::run_solve::run_solve`], in the same order. After a
 /// refusal nothing was written, unless it is [`RunFault::Device`], after which a prefix may have
 /// been.
-pub fn run_trace<A: Allocator + Copy, B: Allocator, R: Read, W: Write>(
-    alloc: A,
-    request: &Request<B>,
+pub fn run_trace<R: Read, W: Write>(
+    alloc: Global,
+    request: &Request,
     style: Style,
     reader: &mut Counted<R>,
     writer: &mut Counted<W>,
-) -> Result<(), RunFault<A>>
+) -> Result<(), RunFault>
     ensures outcome { IsTraceOf request.now (use_of R.remaining reader.old reader.new)
         (use_of W.contents writer.old writer.new) result }
     ensures devices { LeavesRun (problem_for request.now.problem) R.remaining reader.old reader.new
@@ -49,10 +49,7 @@ pub fn run_trace<A: Allocator + Copy, B: Allocator, R: Read, W: Write>(
 }
 
 // An optimal answer, or a cycle of arcs.
-fn answer_to<A: Allocator + Copy, B: Allocator>(
-    alloc: A,
-    task: &Task<B>,
-) -> Result<Answer<A>, RunFault<A>>
+fn answer_to(alloc: Global, task: &Task) -> Result<Answer, RunFault>
     ensures accepted { IfOk result (IsAccepted task.now) }
     ensures best { MatchResult result (IsBestAnswer task.now)
         (λ e. StopsBy (IsOfCycle task.now) (stop_of e)) }
@@ -62,12 +59,12 @@ fn answer_to<A: Allocator + Copy, B: Allocator>(
 }
 
 // The working, and behind it the line of the value.
-fn trace_bytes<A: Allocator + Copy, B: Allocator, C: Allocator>(
-    alloc: A,
-    asked: &Asked<B>,
-    answer: &Answer<C>,
+fn trace_bytes(
+    alloc: Global,
+    asked: &Asked,
+    answer: &Answer,
     style: Style,
-) -> Result<Vec<u8, A>, OutOfMemory>
+) -> Result<Vec<u8>, OutOfMemory>
     ensures { IfOk result (λ text. EndsInValue answer.now.value text.items) }
 {
     let mut board = Board::new(alloc, style);

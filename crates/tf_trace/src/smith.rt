@@ -2,16 +2,16 @@
 use crate::board::{Board, Visible, shown};
 use crate::table::{Cell, Table};
 use crate::trace::row_of;
-use std::alloc::{AllocError, Allocator};
+use std::alloc::{AllocError, Global};
 use tf_model::ids::JobId;
 use tf_model::job_rows::JobRow;
 use tf_model::task::Task;
 use tf_schedule::piece::Piece;
 
 /// The jobs by their ratios, and what each costs.
-pub(crate) fn write_smith<A: Allocator + Copy, B: Allocator>(
-    board: &mut Board<A>,
-    task: &Task<B>,
+pub(crate) fn write_smith(
+    board: &mut Board,
+    task: &Task,
     pieces: &[Piece],
 ) -> Result<(), AllocError> {
     let is_weighted = task.class().is_weighted();
@@ -30,12 +30,12 @@ pub(crate) fn write_smith<A: Allocator + Copy, B: Allocator>(
     say_tie(board, task, pieces, is_weighted)
 }
 
-fn table_of<A: Allocator + Copy, B: Allocator>(
-    alloc: A,
-    task: &Task<B>,
+fn table_of(
+    alloc: Global,
+    task: &Task,
     pieces: &[Piece],
     is_weighted: bool,
-) -> Result<Table<A>, AllocError> {
+) -> Result<Table, AllocError> {
     let headings: &[&str] = if is_weighted {
         &["job", "w", "p", "w/p", "start", "C", "wC"]
     } else {
@@ -52,8 +52,8 @@ fn table_of<A: Allocator + Copy, B: Allocator>(
     Ok(table)
 }
 
-fn push_job<A: Allocator + Copy>(
-    table: &mut Table<A>,
+fn push_job(
+    table: &mut Table,
     piece: &Piece,
     row: JobRow,
     is_weighted: bool,
@@ -72,9 +72,9 @@ fn push_job<A: Allocator + Copy>(
 }
 
 // Whether another optimal schedule exchanges two neighbours.
-fn say_tie<A: Allocator + Copy, B: Allocator>(
-    board: &mut Board<A>,
-    task: &Task<B>,
+fn say_tie(
+    board: &mut Board,
+    task: &Task,
     pieces: &[Piece],
     is_weighted: bool,
 ) -> Result<(), AllocError> {
@@ -93,7 +93,7 @@ fn say_tie<A: Allocator + Copy, B: Allocator>(
     Ok(())
 }
 
-fn are_equal<B: Allocator>(task: &Task<B>, job: JobId, other: JobId) -> bool {
+fn are_equal(task: &Task, job: JobId, other: JobId) -> bool {
     match (row_of(task, job), row_of(task, other)) {
         (Some(job), Some(other)) => {
             let one = u128::from(job.weight).saturating_mul(u128::from(other.first));

@@ -1,5 +1,5 @@
 //! Tables: headings, and rows of as many cells.
-use std::alloc::{AllocError, Allocator};
+use std::alloc::{AllocError, Global};
 
 /// A cell of a row.
 #[derive(Clone, Copy)]
@@ -13,18 +13,18 @@ pub(crate) enum Cell {
 
 /// A table as it is written.
 #[derive(Drop)]
-pub(crate) struct Table<A: Allocator> {
-    alloc: A,
+pub(crate) struct Table {
+    alloc: Global,
     /// The headings first.
-    rows: Vec<Vec<String<A>, A>, A>,
+    rows: Vec<Vec<String>>,
     /// The greatest number of bytes of a cell, column by column.
-    widths: Vec<usize, A>,
+    widths: Vec<usize>,
     /// Whether the last column holds words, which stand at its left.
     is_ragged: bool,
 }
 
-impl<A: Allocator + Copy> Table<A> {
-    pub(crate) fn new(alloc: A, headings: &[&str]) -> Result<Self, AllocError> {
+impl Table {
+    pub(crate) fn new(alloc: Global, headings: &[&str]) -> Result<Self, AllocError> {
         let mut table = Table {
             alloc,
             rows: Vec::new(alloc),
@@ -47,14 +47,14 @@ impl<A: Allocator + Copy> Table<A> {
     }
 
     /// A row more, whose last cell holds these words.
-    pub(crate) fn row_with(&mut self, cells: &[Cell], words: String<A>) -> Result<(), AllocError> {
+    pub(crate) fn row_with(&mut self, cells: &[Cell], words: String) -> Result<(), AllocError> {
         self.is_ragged = true;
         let mut row = self.written_all(cells)?;
         row.push(words)?;
         self.push(row)
     }
 
-    fn written_all(&self, cells: &[Cell]) -> Result<Vec<String<A>, A>, AllocError> {
+    fn written_all(&self, cells: &[Cell]) -> Result<Vec<String>, AllocError> {
         let mut row = Vec::new(self.alloc);
         for cell in cells {
             row.push(self.written(*cell)?)?;
@@ -71,7 +71,7 @@ impl<A: Allocator + Copy> Table<A> {
         self.push(row)
     }
 
-    fn written(&self, cell: Cell) -> Result<String<A>, AllocError> {
+    fn written(&self, cell: Cell) -> Result<String, AllocError> {
         let mut text = String::new(self.alloc);
         match cell {
             Cell::Number(number) => write!(text, "{number}")?,
@@ -82,7 +82,7 @@ impl<A: Allocator + Copy> Table<A> {
         Ok(text)
     }
 
-    fn push(&mut self, row: Vec<String<A>, A>) -> Result<(), AllocError> {
+    fn push(&mut self, row: Vec<String>) -> Result<(), AllocError> {
         for (width, cell) in self.widths.iter_mut().zip(row.iter()) {
             *width = (*width).max(cell.len());
         }
@@ -91,14 +91,14 @@ impl<A: Allocator + Copy> Table<A> {
     }
 
     /// In columns, with an empty line behind.
-    pub(crate) fn write_plain(&self, text: &mut String<A>) -> Result<(), AllocError> {
+    pub(crate) fn write_plain(&self, text: &mut String) -> Result<(), AllocError> {
         for row in self.rows.iter() {
             self.write_row(text, row)?;
         }
         text.push('\n')
     }
 
-    fn write_row(&self, text: &mut String<A>, row: &[String<A>]) -> Result<(), AllocError> {
+    fn write_row(&self, text: &mut String, row: &[String]) -> Result<(), AllocError> {
         let last = row.len().saturating_sub(1);
         for (k, (cell, width)) in row.iter().zip(self.widths.iter()).enumerate() {
             if k == last && cell.is_empty() {
@@ -116,7 +116,7 @@ impl<A: Allocator + Copy> Table<A> {
     }
 
     /// For LaTeX.
-    pub(crate) fn write_latex(&self, text: &mut String<A>) -> Result<(), AllocError> {
+    pub(crate) fn write_latex(&self, text: &mut String) -> Result<(), AllocError> {
         text.push_str("\\begin{center}\\begin{tabular}{")?;
         for k in 0..self.widths.len() {
             let is_left = self.is_ragged && k + 1 == self.widths.len();
@@ -131,14 +131,14 @@ impl<A: Allocator + Copy> Table<A> {
     }
 }
 
-fn push_spaces<A: Allocator>(text: &mut String<A>, times: usize) -> Result<(), AllocError> {
+fn push_spaces(text: &mut String, times: usize) -> Result<(), AllocError> {
     for _ in 0..times {
         text.push(' ')?;
     }
     Ok(())
 }
 
-fn write_cells<A: Allocator>(text: &mut String<A>, row: &[String<A>]) -> Result<(), AllocError> {
+fn write_cells(text: &mut String, row: &[String]) -> Result<(), AllocError> {
     for (k, cell) in row.iter().enumerate() {
         if k > 0 {
             text.push_str(" & ")?;

@@ -7,7 +7,6 @@ use crate::open_shop::write_open_shop;
 use crate::parallel::{write_shortest_first, write_wrap_around};
 use crate::released::write_released;
 use crate::smith::write_smith;
-use std::alloc::Allocator;
 use tf_check::answer::Answer;
 use tf_model::class::Class;
 use tf_model::ids::JobId;
@@ -18,10 +17,10 @@ use tf_model::task::Task;
 use tf_schedule::cost::price;
 
 /// How the answer is found, and why none costs less.
-pub(crate) fn write_trace<A: Allocator + Copy, B: Allocator, C: Allocator>(
-    board: &mut Board<A>,
-    task: &Task<B>,
-    answer: &Answer<C>,
+pub(crate) fn write_trace(
+    board: &mut Board,
+    task: &Task,
+    answer: &Answer,
 ) -> Result<(), OutOfMemory> {
     let pieces = answer.pieces.as_slice();
     let value = i128::from(answer.value);
@@ -48,7 +47,7 @@ pub(crate) fn write_trace<A: Allocator + Copy, B: Allocator, C: Allocator>(
 }
 
 /// What is known of a job, if it is there.
-pub(crate) fn row_of<B: Allocator>(task: &Task<B>, job: JobId) -> Option<JobRow> {
+pub(crate) fn row_of(task: &Task, job: JobId) -> Option<JobRow> {
     if job.place() < task.len() {
         Some(task.job(job))
     } else {
@@ -57,7 +56,7 @@ pub(crate) fn row_of<B: Allocator>(task: &Task<B>, job: JobId) -> Option<JobRow>
 }
 
 /// What a job costs that completes at this time, where the objective is a greatest cost.
-pub(crate) fn price_at<B: Allocator>(task: &Task<B>, job: JobId, time: i64) -> i128 {
+pub(crate) fn price_at(task: &Task, job: JobId, time: i64) -> i128 {
     if task.class().is_sum() || job.place() >= task.len() || !(0..=LIMIT).contains(&time) {
         return 0;
     }

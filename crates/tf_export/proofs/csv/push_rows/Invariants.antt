@@ -6,9 +6,9 @@ use Rattle.tf_export.proofs.csv.push_rows.Given as goal
 
 -- the rows so far are written
 abbrev pub invariant-loop-rest : goal.invariant-loop-rest
-invariant-loop-rest g l =
+invariant-loop-rest l =
     l.csv.items ++ flat_map csv_line (rows l.fn.key l.fn.names l.rest)
     ≡ l.fn.csv.items ++ flat_map csv_line (rows l.fn.key l.fn.names l.fn.text)
 
 abbrev pub decreases-loop-rest : goal.decreases-loop-rest
-decreases-loop-rest g l = length l.rest
+decreases-loop-rest l = length l.rest

@@ -5,7 +5,7 @@ use Rattle.tf_export.proofs.documents.json.Goals as goal
 
 pub returns : goal.returns
 unfolding json_of
-returns g c =
+returns c =
     ap (λ v. v.items) c.into_text.ensures
     ∙ whole c.enter.new.self c.document_members.new.self _ _
     (c.in_ok-enter.ensures.text ∙ ap (λ text. text ++ 123 ∷ []) c.new-json.ensures.text)

@@ -7,13 +7,13 @@ use Rattle.tf_export.proofs.Texts.{lines_give, more_left, none_left}
 use Rattle.tf_export.proofs.entry.push_lines.Goals as goal
 
 pub loop-rest-preserved : goal.loop-rest-preserved
-loop-rest-preserved g c =
+loop-rest-preserved c =
     more_left c.loop-rest.all.items _ _ _ _ _
     (lines_give told_of c.loop-rest.rest.now _ _ c.next_line.ensures.lines)
     c.in_ok-push_told.ensures c.loop-rest.invariant
 
 pub returns : goal.returns
-returns g c =
+returns c =
     none_left _ _ _
     (ap (flat_map told_of)
     (line_none c.loop-rest.rest.now (eqb-true _ _ (sym c.is_empty.ensures ∙ c.loop-rest-test.false))))

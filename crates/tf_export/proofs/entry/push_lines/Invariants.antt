@@ -6,9 +6,9 @@ use Rattle.tf_export.proofs.entry.push_lines.Given as goal
 
 -- what the lines so far tell is written
 abbrev pub invariant-loop-rest : goal.invariant-loop-rest
-invariant-loop-rest g l =
+invariant-loop-rest l =
     l.all.items ++ flat_map told_of (lines l.rest)
     ≡ l.fn.all.items ++ flat_map told_of (lines l.fn.text)
 
 abbrev pub decreases-loop-rest : goal.decreases-loop-rest
-decreases-loop-rest g l = length l.rest
+decreases-loop-rest l = length l.rest

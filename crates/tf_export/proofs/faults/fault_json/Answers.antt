@@ -5,13 +5,13 @@ use Rattle.tf_export.proofs.Saying.{unsaid, is_said}
 use Rattle.tf_export.proofs.faults.fault_json.Goals as goal
 
 pub returns-then-is_empty : goal.returns-then-is_empty
-returns-then-is_empty g c =
+returns-then-is_empty c =
     ap (λ v. v.items) c.into_text.ensures
     ∙ c.new-json.ensures.text
     ∙ sym (unsaid c.args.text.now (eqb-true _ _ (sym c.is_empty.ensures ∙ c.if-is_empty.true)))
 
 pub returns : goal.returns
-returns g c =
+returns c =
     ap (λ v. v.items) c.into_text-2.ensures
     ∙ whole c.enter.new.self c.fault_members.new.self _ _
     (c.in_ok-enter.ensures.text ∙ ap (λ text. text ++ 123 ∷ []) c.new-json.ensures.text)

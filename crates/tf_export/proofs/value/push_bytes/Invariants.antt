@@ -5,5 +5,5 @@ use Rattle.tf_export.proofs.value.push_bytes.Given as goal
 
 -- the bytes so far are written
 abbrev pub invariant-loop-byte : goal.invariant-loop-byte
-invariant-loop-byte g l =
+invariant-loop-byte l =
     l.text.items ≡ l.fn.text.items ++ flat_map escaped (take l.byte-index l.bytes)

@@ -5,7 +5,7 @@ use Rattle.tf_export.proofs.Texts.{then, joined_by}
 use Rattle.tf_export.proofs.value.push_joined.Goals as goal
 
 pub returns : goal.returns
-returns g c =
+returns c =
     then c.args.text.now.items c.extend_from_slice.new.self.items _ c.in-Some.word.now _
     c.in_ok-extend_from_slice.ensures.items c.in_ok-push_behind.ensures
     ∙ ap (λ (text : List ℕ). c.args.text.now.items ++ text)

@@ -4,5 +4,5 @@ use Rattle.tf_random.specs.Table.{arc_line}
 use Rattle.tf_random.proofs.table.push_each_arc.Given as goal
 
 abbrev pub invariant-loop-place : goal.invariant-loop-place
-invariant-loop-place g l = l.text.items ≡ l.initial.text.items
+invariant-loop-place l = l.text.items ≡ l.initial.text.items
     ++ flat_map (arc_line l.plan) (range_with_len 1 l.place)

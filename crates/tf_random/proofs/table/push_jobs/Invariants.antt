@@ -4,5 +4,5 @@ use Rattle.tf_random.specs.Table.{job_line}
 use Rattle.tf_random.proofs.table.push_jobs.Given as goal
 
 abbrev pub invariant-loop-place : goal.invariant-loop-place
-invariant-loop-place g l = l.text.items ≡ l.initial.text.items
+invariant-loop-place l = l.text.items ≡ l.initial.text.items
     ++ flat_map (job_line l.plan) (range_with_len 1 l.place)

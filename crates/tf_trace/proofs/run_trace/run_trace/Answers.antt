@@ -1,5 +1,6 @@
 use Rattle.std.proofs.Common.{subst}
 use Rattle.std.specs.Io.KnownBytes.{Appends}
+use Rattle.std.specs.declared.alloc.Global.{Global}
 use Rattle.tf_text.specs.Counted.{inner_of, AppendsPrefix}
 use Rattle.tf_engine.specs.declared.fault.RunFault.TheVariants.{Device, OutOfMemory}
 use Rattle.tf_engine.specs.Devices.{LeavesRun}
@@ -13,7 +14,7 @@ use Rattle.tf_trace.proofs.run_trace.run_trace.Goals as goal
 pub returns-in_err-asked-clause-outcome : goal.returns-in_err-asked-clause-outcome
 returns-in_err-asked-clause-outcome g c =
     err_is (IsTraceOf c.args.request.now _ _) c.in_err-asked.field-0.0 _ c.from_residual.ensures.1
-    (unasked g.row.A.Denot _ c.args.request.now _ _ _ _ _ c.in_err-asked.field-0.0
+    (unasked Global _ c.args.request.now _ _ _ _ _ c.in_err-asked.field-0.0
     c.in_err-asked.ensures)
 
 pub returns-in_err-asked-clause-devices : goal.returns-in_err-asked-clause-devices
@@ -25,7 +26,7 @@ pub returns-in_err-answer-clause-outcome : goal.returns-in_err-answer-clause-out
 returns-in_err-answer-clause-outcome g c =
     err_is (IsTraceOf c.args.request.now _ _) c.in_err-answer.field-0.0 _
     c.from_residual-in_err-answer.ensures.1
-    (cyclic g.row.A.Denot _ c.args.request.now _ _ _ _ c.in_ok-asked.ensures _ _
+    (cyclic Global _ c.args.request.now _ _ _ _ c.in_ok-asked.ensures _ _
     c.in_err-answer.field-0.0 c.in_err-answer.ensures.best)
 
 pub returns-in_err-answer-clause-devices : goal.returns-in_err-answer-clause-devices
@@ -38,7 +39,7 @@ returns-in_err-answer-clause-devices g c =
 pub returns-in_err-text-clause-outcome : goal.returns-in_err-text-clause-outcome
 returns-in_err-text-clause-outcome g c =
     err_is (IsTraceOf c.args.request.now _ _) OutOfMemory _ c.from_residual-in_err-text.ensures.1
-    (wanting g.row.A.Denot _ c.args.request.now _ _ _ _ c.in_ok-asked.ensures _ _)
+    (wanting Global _ c.args.request.now _ _ _ _ c.in_ok-asked.ensures _ _)
 
 pub returns-in_err-text-clause-devices : goal.returns-in_err-text-clause-devices
 returns-in_err-text-clause-devices g c =
@@ -48,7 +49,7 @@ returns-in_err-text-clause-devices g c =
 pub returns-in_err-push_all-clause-outcome : goal.returns-in_err-push_all-clause-outcome
 returns-in_err-push_all-clause-outcome g c =
     err_is (IsTraceOf c.args.request.now _ _) Device _ c.from_residual-in_err-push_all.ensures.1
-    (cut_off g.row.A.Denot _ c.args.request.now _ _ _ _ c.in_ok-asked.ensures _
+    (cut_off Global _ c.args.request.now _ _ _ _ c.in_ok-asked.ensures _
     c.in_ok-answer.answer c.in_ok-answer.ensures.accepted c.in_ok-answer.ensures.best _
     c.in_ok-text.ensures c.in_err-push_all.ensures.device
     (subst (AppendsPrefix (g.W.Write.contents (inner_of c.args.writer.now))
@@ -63,7 +64,7 @@ returns-in_err-push_all-clause-devices g c =
 
 pub returns-clause-outcome : goal.returns-clause-outcome
 returns-clause-outcome g c =
-    said g.row.A.Denot _ c.args.request.now _ _ _ _ c.in_ok-asked.ensures _
+    said Global _ c.args.request.now _ _ _ _ c.in_ok-asked.ensures _
     c.in_ok-answer.answer c.in_ok-answer.ensures.accepted c.in_ok-answer.ensures.best _
     c.in_ok-text.ensures
     (subst (Appends (g.W.Write.contents (inner_of c.args.writer.now))

@@ -5,7 +5,7 @@ use Rattle.tf_trace.proofs.Running.{ends_in}
 use Rattle.tf_trace.proofs.run_trace.trace_bytes.Goals as goal
 
 pub returns : goal.returns
-returns g c =
+returns c =
     let fits : SFits w64 c.answer.inside.value = search rules in
     subst (λ (v : ℤ). EndsInValue v c.push_number_line.new.text.items)
     (ap (λ a. a.value) c.answer.view_is)

@@ -2,6 +2,6 @@ use Rattle.tf_export.proofs.Adding.{both}
 use Rattle.tf_export.proofs.json.Json.answer_members.Goals as goal
 
 pub returns : goal.returns
-returns g c =
+returns c =
     both c.args.self.now c.members_behind.new.self c.records.new.self _ _
     c.in_ok-members_behind.ensures c.in_ok-records.ensures

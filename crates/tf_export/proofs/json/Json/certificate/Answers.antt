@@ -7,7 +7,7 @@ use Rattle.tf_export.proofs.Adding.{named, both, bracketed}
 use Rattle.tf_export.proofs.json.Json.certificate.Goals as goal
 
 pub returns : goal.returns
-returns g c =
+returns c =
     let list = c.args.list.now in
     let row = words c.args.row.now in
     let others = subst (λ names. Adds c.string_member.new.self c.fields.new.self

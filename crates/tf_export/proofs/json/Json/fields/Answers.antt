@@ -8,10 +8,10 @@ use Rattle.tf_export.proofs.Saying.{fields_next, fields_out, fields_rest}
 use Rattle.tf_export.proofs.json.Json.fields.Goals as goal
 
 pub loop-name-init : goal.loop-name-init
-loop-name-init g c = λ end rest. rest
+loop-name-init c = λ end rest. rest
 
 pub loop-name-preserved : goal.loop-name-preserved
-loop-name-preserved g c =
+loop-name-preserved c =
     let rest = c.args.rest.now in
     next c.args.self.now c.loop-name.self c.scalar_member.new.self
     (fields (words c.args.names.now) rest (words c.args.row.now))
@@ -24,7 +24,7 @@ loop-name-preserved g c =
     c.in_ok-scalar_member.ensures c.loop-name.invariant
 
 pub returns-in_default-first_word : goal.returns-in_default-first_word
-returns-in_default-first_word g c =
+returns-in_default-first_word c =
     let rest = c.args.rest.now in
     done c.args.self.now c.loop-name.self
     (fields (words c.args.names.now) rest (words c.args.row.now))
@@ -34,7 +34,7 @@ returns-in_default-first_word g c =
     c.in_default-first_word.ensures.words) c.loop-name.invariant
 
 pub returns : goal.returns
-returns g c =
+returns c =
     c.loop-name.invariant c.rest_members.new.self
     (subst (Adds c.loop-name.self c.rest_members.new.self)
     (sym (fields_rest (words c.loop-name.names_left.now) (words c.loop-name.left.now)

@@ -6,11 +6,11 @@ use Rattle.tf_export.proofs.json.Json.line_members.Goals as goal
 
 pub returns-in-None : goal.returns-in-None
 unfolding line_members
-returns-in-None g c = nothing c.args.self.now _ (ap line_members c.in-None.ensures.words)
+returns-in-None c = nothing c.args.self.now _ (ap line_members c.in-None.ensures.words)
 
 pub returns-in-Some : goal.returns-in-Some
 unfolding line_members
-returns-in-Some g c =
+returns-in-Some c =
     subst (λ items. OnOk c.keyed_members.result
     (Adds c.args.self.now c.keyed_members.new.self items))
     (sym (ap line_members c.in-Some.ensures.words)) c.keyed_members.ensures

@@ -2,4 +2,4 @@ use Rattle.tf_export.proofs.Adding.{one}
 use Rattle.tf_export.proofs.json.Json.phrase.Goals as goal
 
 pub returns : goal.returns
-returns g c = one _ _ _ _ c.in_ok-begin.ensures.text c.in_ok-push_phrase.ensures c.begin.ensures.first
+returns c = one _ _ _ _ c.in_ok-begin.ensures.text c.in_ok-push_phrase.ensures c.begin.ensures.first

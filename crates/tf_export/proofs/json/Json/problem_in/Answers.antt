@@ -7,7 +7,7 @@ use Rattle.tf_export.proofs.Adding.{one, both, bracketed}
 use Rattle.tf_export.proofs.json.Json.problem_in.Goals as goal
 
 pub returns : goal.returns
-returns g c =
+returns c =
     let said = λ (name part : List ℕ). member name (phrase (words part)) ∷ [] in
     let first = subst (λ part. Adds c.enter.new.self c.phrase_member.new.self
     (said (codes "problem") part)) c.cut.ensures.front c.in_ok-phrase_member.ensures in

@@ -7,10 +7,10 @@ use Rattle.tf_export.proofs.Adding.{next, done}
 use Rattle.tf_export.proofs.json.Json.problem_items.Goals as goal
 
 pub loop-rest-init : goal.loop-rest-init
-loop-rest-init g c = λ end rest. rest
+loop-rest-init c = λ end rest. rest
 
 pub loop-rest-preserved : goal.loop-rest-preserved
-loop-rest-preserved g c =
+loop-rest-preserved c =
     next c.args.self.now c.loop-rest.self c.problem_in.new.self
     (map problem_in (lines c.args.text.now))
     (map problem_in (lines c.loop-rest.rest.now)) (problem_in c.next_line.result.0.now ∷ [])
@@ -19,7 +19,7 @@ loop-rest-preserved g c =
     c.loop-rest.invariant
 
 pub returns : goal.returns
-returns g c =
+returns c =
     done c.args.self.now c.loop-rest.self
     (map problem_in (lines c.args.text.now))
     (map problem_in (lines c.loop-rest.rest.now))

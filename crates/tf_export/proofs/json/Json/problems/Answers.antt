@@ -5,7 +5,7 @@ use Rattle.tf_export.proofs.Adding.{named, bracketed}
 use Rattle.tf_export.proofs.json.Json.problems.Goals as goal
 
 pub returns : goal.returns
-returns g c =
+returns c =
     let items = subst (Adds c.enter.new.self c.problem_items.new.self)
     (ap (map problem_in) c.behind_heading.ensures) c.in_ok-problem_items.ensures in
     named _ _ (codes "problems") _ c.name.new.self.text.items c.in_ok-name.ensures.text

@@ -4,7 +4,7 @@ use Rattle.tf_export.proofs.Adding.{both}
 use Rattle.tf_export.proofs.json.Json.refused_text.Goals as goal
 
 pub returns : goal.returns
-returns g c =
+returns c =
     both c.args.self.now c.string_member.new.self c.refusal.new.self
     (member (codes "text") (string c.args.name.now) ∷ []) _
     c.in_ok-string_member.ensures c.in_ok-refusal.ensures

@@ -5,4 +5,4 @@ use Rattle.tf_export.proofs.Adding.{nothing}
 use Rattle.tf_export.proofs.json.Json.rest_members.Goals as goal
 
 pub returns-then-is_empty : goal.returns-then-is_empty
-returns-then-is_empty g c = nothing c.args.self.now _ (rest_none c.args.name.now _ (eqb-true _ _ (sym c.is_empty.ensures ∙ c.if-is_empty.true)))
+returns-then-is_empty c = nothing c.args.self.now _ (rest_none c.args.name.now _ (eqb-true _ _ (sym c.is_empty.ensures ∙ c.if-is_empty.true)))

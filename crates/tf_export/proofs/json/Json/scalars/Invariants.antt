@@ -5,7 +5,7 @@ use Rattle.tf_export.proofs.Adding.{Remains}
 use Rattle.tf_export.proofs.json.Json.scalars.Given as goal
 
 abbrev pub invariant-loop-word : goal.invariant-loop-word
-invariant-loop-word g l = Remains l.fn.self (map scalar (words l.fn.row)) l.self (map scalar (words l.rest))
+invariant-loop-word l = Remains l.fn.self (map scalar (words l.fn.row)) l.self (map scalar (words l.rest))
 
 abbrev pub decreases-loop-word : goal.decreases-loop-word
-decreases-loop-word g l = length l.rest
+decreases-loop-word l = length l.rest

@@ -2,7 +2,7 @@ use Rattle.tf_export.proofs.Adding.{named, bracketed}
 use Rattle.tf_export.proofs.json.Json.scalars_member.Goals as goal
 
 pub returns : goal.returns
-returns g c =
+returns c =
     named _ _ c.args.name.now _ c.name.new.self.text.items c.in_ok-name.ensures.text
     (bracketed c.name.new.self.text.items _ c.enter.new.self c.scalars.new.self 91 93 _
     c.in_ok-enter.ensures.text c.enter.ensures.first c.in_ok-scalars.ensures

@@ -6,10 +6,10 @@ use Rattle.tf_export.proofs.Adding.{nothing}
 use Rattle.tf_export.proofs.json.Json.step_in.Goals as goal
 
 pub returns-in-None : goal.returns-in-None
-returns-in-None g c = nothing c.args.self.now _ (step_none (words c.args.line.now) c.in-None.ensures)
+returns-in-None c = nothing c.args.self.now _ (step_none (words c.args.line.now) c.in-None.ensures)
 
 pub returns-in-Some : goal.returns-in-Some
-returns-in-Some g c =
+returns-in-Some c =
     subst (λ items. OnOk c.phrase.result (Adds c.args.self.now c.phrase.new.self items))
     (step_some (words c.args.line.now) (words c.in-Some.row.now) c.in-Some.ensures.0
     c.in-Some.ensures.1) c.phrase.ensures

@@ -8,10 +8,10 @@ use Rattle.tf_export.proofs.Adding.{next, done}
 use Rattle.tf_export.proofs.json.Json.step_items.Goals as goal
 
 pub loop-rest-init : goal.loop-rest-init
-loop-rest-init g c = λ end rest. rest
+loop-rest-init c = λ end rest. rest
 
 pub loop-rest-preserved : goal.loop-rest-preserved
-loop-rest-preserved g c =
+loop-rest-preserved c =
     next c.args.self.now c.loop-rest.self c.step_in.new.self
     (flat_map (λ (line : List ℕ). step_in (words line)) (lines c.args.text.now))
     (flat_map (λ (line : List ℕ). step_in (words line)) (lines c.loop-rest.rest.now)) ((λ (line : List ℕ). step_in (words line)) c.next_line.result.0.now)
@@ -20,7 +20,7 @@ loop-rest-preserved g c =
     c.loop-rest.invariant
 
 pub returns : goal.returns
-returns g c =
+returns c =
     done c.args.self.now c.loop-rest.self
     (flat_map (λ (line : List ℕ). step_in (words line)) (lines c.args.text.now))
     (flat_map (λ (line : List ℕ). step_in (words line)) (lines c.loop-rest.rest.now))

@@ -3,7 +3,7 @@ use Rattle.tf_export.proofs.Adding.{named, bracketed}
 use Rattle.tf_export.proofs.json.Json.steps.Goals as goal
 
 pub returns : goal.returns
-returns g c =
+returns c =
     named _ _ (codes "steps") _ c.name.new.self.text.items c.in_ok-name.ensures.text
     (bracketed c.name.new.self.text.items _ c.enter.new.self c.step_items.new.self 91 93 _
     c.in_ok-enter.ensures.text c.enter.ensures.first c.in_ok-step_items.ensures

@@ -2,5 +2,5 @@ use Rattle.tf_export.proofs.Adding.{named}
 use Rattle.tf_export.proofs.json.Json.string_member.Goals as goal
 
 pub returns : goal.returns
-returns g c =
+returns c =
     named _ _ c.args.name.now _ _ c.in_ok-name.ensures.text c.in_ok-push_string.ensures c.name.ensures.first
