@@ -190,46 +190,70 @@ impl Lent {
         let bounds = |heap: &Refusing<Global>| self.bounds(heap);
         refuse_each_growth(rt, bounds)
     }
+
+    fn prepares_and_solves(&self, rt: &HostRuntime) -> Result<bool, Fail> {
+        let prepared = self.growths_of_preparing(rt)?;
+        let solved = self.growths_of_solving(rt)?;
+        Ok(prepared > 0 && solved > 0)
+    }
+
+    /// An answer that is given up is judged without a growth for a copy of its pieces, if it has
+    /// some.
+    fn saves_a_copy(&self, rt: &HostRuntime) -> Result<bool, Fail> {
+        let copies = u64::from(!self.answer.pieces.as_slice().is_empty());
+        let kept = self.growths_of_checking(rt)?;
+        let owned = self.growths_of_checking_owned(rt)?;
+        let judged = self.growths_of_judging(rt)?;
+        Ok(kept.checked_sub(owned) == Some(copies) && judged > 0)
+    }
+
+    fn bounds_by_its_kind(&self, rt: &HostRuntime) -> Result<bool, Fail> {
+        let is_small = self.has_small_certificate();
+        let growths = self.growths_of_bounding(rt)?;
+        let first = self.bounds(&Refusing::new(rt.alloc(), 0))?;
+        Ok((growths == 0) == is_small && (first == Ended::Answered) == is_small)
+    }
+}
+
+/// Growths are asked for to prepare the example's task and to solve it.
+fn is_prepared_and_solved(rt: &HostRuntime, example: &'static Example) -> Result<bool, Fail> {
+    let lent = lend(rt, example)?;
+    lent.prepares_and_solves(rt)
 }
 
 #[test]
 fn preparing_and_solving_answer_whatever_growth_is_refused(rt: HostRuntime) -> Result<(), Fail> {
     for example in WORKED.iter() {
-        let lent = lend(&rt, example)?;
-        ensure(lent.growths_of_preparing(&rt)? > 0, example.name)?;
-        ensure(lent.growths_of_solving(&rt)? > 0, example.name)?;
+        ensure(is_prepared_and_solved(&rt, example)?, example.name)?;
     }
     Ok(())
 }
 
-/// An answer that is given up is judged without a growth for a copy of its pieces, if it has some.
+/// The example's answer is judged without a growth for a copy of its pieces where it is given up.
+fn is_judged(rt: &HostRuntime, example: &'static Example) -> Result<bool, Fail> {
+    let lent = lend(rt, example)?;
+    lent.saves_a_copy(rt)
+}
+
 #[test]
 fn judging_answers_whatever_growth_is_refused(rt: HostRuntime) -> Result<(), Fail> {
     for example in WORKED.iter() {
-        let lent = lend(&rt, example)?;
-        let copies = u64::from(!lent.answer.pieces.as_slice().is_empty());
-        let saved = lent
-            .growths_of_checking(&rt)?
-            .checked_sub(lent.growths_of_checking_owned(&rt)?);
-        ensure(saved == Some(copies), example.name)?;
-        ensure(lent.growths_of_judging(&rt)? > 0, example.name)?;
+        ensure(is_judged(&rt, example)?, example.name)?;
     }
     Ok(())
 }
 
 /// The bounds of `load`, `machine` and `job` take no memory. Those of the other kinds do, and are
 /// out of memory where their first growth is refused.
+fn is_bounded(rt: &HostRuntime, example: &'static Example) -> Result<bool, Fail> {
+    let lent = lend(rt, example)?;
+    lent.bounds_by_its_kind(rt)
+}
+
 #[test]
 fn certificates_bound_whatever_growth_is_refused(rt: HostRuntime) -> Result<(), Fail> {
     for example in WORKED.iter() {
-        let lent = lend(&rt, example)?;
-        let is_small = lent.has_small_certificate();
-        ensure(
-            (lent.growths_of_bounding(&rt)? == 0) == is_small,
-            example.name,
-        )?;
-        let first = lent.bounds(&Refusing::new(rt.alloc(), 0))?;
-        ensure((first == Ended::Answered) == is_small, example.name)?;
+        ensure(is_bounded(&rt, example)?, example.name)?;
     }
     Ok(())
 }
