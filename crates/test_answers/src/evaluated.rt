@@ -7,7 +7,7 @@ use test_runs::examples::latest::{COSTS, DUE_ARC, EQUAL_DUE, PREEMPTED, TWO_ARCS
 use test_runs::examples::parallel::{DEALT, FOURS, ONE_LONG, ONES};
 use test_runs::examples::shops::{FLOW, FLOW_ZEROS, OPEN};
 use test_runs::examples::sums::{NO_WEIGHT, RATIOS, SHORTEST};
-use test_runs::examples::{Example, WORKED, answer_in, with_line};
+use test_runs::examples::{Example, answer_in, with_line, worked};
 use test_runs::growths::{Ended, refuse_each_growth};
 use test_runs::runs::{LAYOUTS, ensure, request_for, request_table};
 use tf_engine::fault::RunFault;
@@ -170,23 +170,29 @@ fn has_line(text: &[u8], wanted: &[u8]) -> bool {
     false
 }
 
+/// The answer is evaluated as the best one.
+fn is_best(rt: &HostRuntime, request: &Request, example: &Example, answer: &[u8]) -> bool {
+    let asked = EvaluationRequest {
+        request,
+        detail: Detail::Summary,
+    };
+    let mut out = Vec::new(rt.alloc());
+    let result = evaluate_into(rt.alloc(), asked, example.instance, answer, &mut out);
+    result == Ok(Standing::Best) && has_line(&out, b"fits") && has_line(&out, b"gap 0")
+}
+
+/// The example's answer in this layout is evaluated as the best one.
+fn is_best_in(rt: &HostRuntime, example: &Example, layout: Layout) -> Result<bool, Fail> {
+    let request = request_for(rt, example, Layout::One)?;
+    let answer = answer_in(rt, example, layout)?;
+    Ok(is_best(rt, &request, example, &answer))
+}
+
 #[test]
 fn what_is_printed_is_best(rt: HostRuntime) -> Result<(), Fail> {
-    for example in WORKED.iter() {
+    for example in worked() {
         for layout in LAYOUTS {
-            let request = request_for(&rt, example, Layout::One)?;
-            let answer = answer_in(&rt, example, layout)?;
-            let asked = EvaluationRequest {
-                request: &request,
-                detail: Detail::Summary,
-            };
-            let mut out = Vec::new(rt.alloc());
-            let result = evaluate_into(rt.alloc(), asked, example.instance, &answer, &mut out);
-            ensure(result == Ok(Standing::Best), example.name)?;
-            ensure(
-                has_line(&out, b"fits") && has_line(&out, b"gap 0"),
-                example.name,
-            )?;
+            ensure(is_best_in(&rt, example, layout)?, example.name)?;
         }
     }
     Ok(())
@@ -253,18 +259,32 @@ fn evaluates_on(
     }
 }
 
+/// The case is evaluated alike in this detail with each growth refused.
+fn is_alike_in(
+    rt: &HostRuntime,
+    request: &Request,
+    detail: Detail,
+    case: &Case,
+    answer: &[u8],
+) -> Result<bool, Fail> {
+    let wanted = evaluate(rt, request, detail, case, answer)?;
+    let call = |heap: &Refusing<Global>| evaluates_on(heap, request, case, answer, &wanted);
+    Ok(refuse_each_growth(rt, call)? > 3)
+}
+
+/// The case is evaluated alike in both details with each growth refused.
+fn is_alike(rt: &HostRuntime, case: &Case) -> Result<bool, Fail> {
+    let request = request_for(rt, &case.example, Layout::One)?;
+    let answer = answer_of(rt, case)?;
+    let summary = is_alike_in(rt, &request, Detail::Summary, case, &answer)?;
+    let arithmetic = is_alike_in(rt, &request, Detail::WithArithmetic, case, &answer)?;
+    Ok(summary && arithmetic)
+}
+
 #[test]
 fn each_case_is_evaluated_alike_whatever_growth_is_refused(rt: HostRuntime) -> Result<(), Fail> {
     for case in CASES.iter() {
-        let request = request_for(&rt, &case.example, Layout::One)?;
-        let answer = answer_of(&rt, case)?;
-        for detail in [Detail::Summary, Detail::WithArithmetic] {
-            let wanted = evaluate(&rt, &request, detail, case, &answer)?;
-            let call = |heap: &Refusing<Global>| evaluates_on(
-                heap, &request, case, &answer, &wanted,
-            );
-            ensure(refuse_each_growth(&rt, call)? > 3, case.example.name)?;
-        }
+        ensure(is_alike(&rt, case)?, case.example.name)?;
     }
     Ok(())
 }

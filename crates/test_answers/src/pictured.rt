@@ -3,12 +3,13 @@ use refusing::Refusing;
 use std::alloc::{Allocator, Global};
 use std::test::Fail;
 use test_runs::devices::{Failure, Sink, Source, Way};
-use test_runs::examples::{WORKED, answer_in};
+use test_runs::examples::{Example, answer_in, worked};
 use test_runs::growths::{Ended, refuse_each_growth};
 use test_runs::runs::{LAYOUTS, ensure};
 use tf_engine::fault::RunFault;
 use tf_picture::run_picture::run_picture;
 use tf_picture::view::View;
+use tf_text::answer::layout::Layout;
 use tf_text::counted::Counted;
 
 mod texts;
@@ -54,14 +55,18 @@ fn lines_with(text: &[u8], words: &[u8]) -> usize {
     count
 }
 
+/// The picture of the example's answer has as many bars as that has pieces.
+fn has_its_bars(rt: &HostRuntime, example: &Example, layout: Layout) -> Result<bool, Fail> {
+    let answer = answer_in(rt, example, layout)?;
+    let out = picture_of(rt, &answer)?;
+    Ok(lines_with(&out, b"<title>job ") == lines_with(&answer, b"piece "))
+}
+
 #[test]
 fn each_piece_has_its_bar(rt: HostRuntime) -> Result<(), Fail> {
-    for example in WORKED.iter() {
+    for example in worked() {
         for layout in LAYOUTS {
-            let answer = answer_in(&rt, example, layout)?;
-            let out = picture_of(&rt, &answer)?;
-            let pieces = lines_with(&answer, b"piece ");
-            ensure(lines_with(&out, b"<title>job ") == pieces, example.name)?;
+            ensure(has_its_bars(&rt, example, layout)?, example.name)?;
         }
     }
     Ok(())

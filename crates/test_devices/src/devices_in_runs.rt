@@ -5,7 +5,7 @@ use std::test::Fail;
 use test_runs::devices::{Failure, Sink, Source, Way};
 use test_runs::examples::files::{SECOND_OF_TWO, SHOP, TARDINESS, TWO_OF_THREE};
 use test_runs::examples::parallel::FOURS;
-use test_runs::examples::{Example, Given, WORKED, answer_in};
+use test_runs::examples::{Example, Given, answer_in, worked};
 use test_runs::runs::{LAYOUTS, ensure, request, request_for};
 use tf_engine::fault::RunFault;
 use tf_engine::request::Request;
@@ -80,7 +80,7 @@ fn by_bytes(rt: &HostRuntime, example: &Example, layout: Layout) -> Result<(), F
 
 #[test]
 fn each_example_is_answered_by_one_byte_a_call(rt: HostRuntime) -> Result<(), Fail> {
-    for example in WORKED.iter() {
+    for example in worked() {
         for layout in LAYOUTS {
             by_bytes(&rt, example, layout)?;
         }

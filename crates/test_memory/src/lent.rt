@@ -2,7 +2,7 @@
 use refusing::Refusing;
 use std::alloc::{Allocator, Global};
 use std::test::Fail;
-use test_runs::examples::{Example, Given, WORKED};
+use test_runs::examples::{Example, Given, worked};
 use test_runs::growths::{Ended, refuse_each_growth};
 use test_runs::runs::ensure;
 use tf_check::answer::Answer;
@@ -223,7 +223,7 @@ fn is_prepared_and_solved(rt: &HostRuntime, example: &'static Example) -> Result
 
 #[test]
 fn preparing_and_solving_answer_whatever_growth_is_refused(rt: HostRuntime) -> Result<(), Fail> {
-    for example in WORKED.iter() {
+    for example in worked() {
         ensure(is_prepared_and_solved(&rt, example)?, example.name)?;
     }
     Ok(())
@@ -237,7 +237,7 @@ fn is_judged(rt: &HostRuntime, example: &'static Example) -> Result<bool, Fail> 
 
 #[test]
 fn judging_answers_whatever_growth_is_refused(rt: HostRuntime) -> Result<(), Fail> {
-    for example in WORKED.iter() {
+    for example in worked() {
         ensure(is_judged(&rt, example)?, example.name)?;
     }
     Ok(())
@@ -252,7 +252,7 @@ fn is_bounded(rt: &HostRuntime, example: &'static Example) -> Result<bool, Fail>
 
 #[test]
 fn certificates_bound_whatever_growth_is_refused(rt: HostRuntime) -> Result<(), Fail> {
-    for example in WORKED.iter() {
+    for example in worked() {
         ensure(is_bounded(&rt, example)?, example.name)?;
     }
     Ok(())

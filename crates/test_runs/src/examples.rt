@@ -84,7 +84,12 @@ pub fn answer_in(
     }
 }
 
-pub static WORKED: [Example; 35] = [
+/// All worked examples. A function that names the table itself takes the prover half a minute.
+pub fn worked() -> &'static [Example] {
+    &WORKED
+}
+
+static WORKED: [Example; 35] = [
     parallel::FOURS,
     parallel::ONES,
     parallel::ONE_LONG,

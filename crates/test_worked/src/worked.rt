@@ -3,7 +3,7 @@
 use refusing::Refusing;
 use std::alloc::Global;
 use std::test::Fail;
-use test_runs::examples::{Example, WORKED, answer_in};
+use test_runs::examples::{Example, answer_in, worked};
 use test_runs::growths::{Ended, refuse_each_growth};
 use test_runs::runs::{LAYOUTS, check_into, draw_into, ensure, request_for, solve_into};
 use tf_engine::fault::RunFault;
@@ -84,7 +84,7 @@ fn passes(rt: &HostRuntime, example: &Example, layout: Layout) -> Result<(), Fai
 
 #[test]
 fn each_passes_the_runs_whatever_growth_is_refused(rt: HostRuntime) -> Result<(), Fail> {
-    for example in WORKED.iter() {
+    for example in worked() {
         for layout in LAYOUTS {
             passes(&rt, example, layout)?;
         }
