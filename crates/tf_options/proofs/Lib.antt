@@ -1,2 +1,2 @@
 pub mod Flags
-pub mod Asked
+pub mod Told

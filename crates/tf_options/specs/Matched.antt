@@ -16,12 +16,12 @@ use Rattle.tf_evaluate.specs.declared.evaluation.Detail.TheVariants.{Summary, Wi
 use Rattle.tf_listing.specs.declared.listing.Listed.{Listed}
 use Rattle.tf_listing.specs.declared.listing.Listed.TheVariants.{Solved, Bounded}
 use Rattle.tf_options.specs.OptionNumber.{numeral_in}
-use Rattle.tf_options.specs.declared.options.Asked.{Asked}
-use Rattle.tf_options.specs.declared.options.Asked.TheVariants.{Work, Formatted, Series, Measured, Help, Misused, Unfit, NoMemory}
 use Rattle.tf_options.specs.declared.options.FormOption.{FormOption}
 use Rattle.tf_options.specs.declared.options.FormOption.TheVariants.{Table, Wt, Flow}
 use Rattle.tf_options.specs.declared.options.Idle.{Idle}
 use Rattle.tf_options.specs.declared.options.Options.{Options}
+use Rattle.tf_options.specs.declared.wrong.Wrong.{Wrong}
+use Rattle.tf_options.specs.declared.wrong.Wrong.TheVariants.{Unfit, Missing}
 
 -- by the name of an option or an argument: its first value, its first value as it is read for a
 -- flag, and whether it was given or has a default
@@ -191,17 +191,10 @@ abbrev pub columns_fault : Given → Option (List ℕ)
 columns_fault given = unless_some (codes "--columns takes a number from 1 to 1000")
     (number_by given (codes "columns") 1 most_columns)
 
--- that fault is told; or one of the values is not there that clap always gives, which is answered
--- as want of memory
-abbrev pub IsToldInstead : Bool → Option (List ℕ) → Asked → Type 0
-IsToldInstead lacking fault (Work work) = ⊥
-IsToldInstead lacking fault (Formatted work format) = ⊥
-IsToldInstead lacking fault (Series series) = ⊥
-IsToldInstead lacking fault (Measured evaluating) = ⊥
-IsToldInstead lacking fault (Help error) = ⊥
-IsToldInstead lacking fault (Misused error) = ⊥
+-- that fault is told; or one of the values is not there that clap always gives
+abbrev pub IsToldInstead : Bool → Option (List ℕ) → Wrong → Type 0
 IsToldInstead lacking fault (Unfit message) = fault ≡ Some message.now
-IsToldInstead lacking fault NoMemory = IsTrue lacking
+IsToldInstead lacking fault Missing = IsTrue lacking
 
 -- the command has no value of this name
 abbrev pub lacks : Given → List ℕ → Bool

@@ -1,5 +1,5 @@
 -- What a command line asks for, by the name of its command and by what clap found of that.
-use Rattle.std.specs.Prelude.{◌≡◌, ℕ, Bool, false, not, ◌&&◌, ◌||◌, List, Option, None, Some, IsTrue, is_some, option_map, codes, if◌then◌else◌}
+use Rattle.std.specs.Prelude.{◌≡◌, ℕ, Bool, not, ◌&&◌, ◌||◌, List, Option, None, Some, IsTrue, is_some, option_map, codes, if◌then◌else◌}
 use Rattle.std.specs.Str.{bytes_eq}
 use Rattle.tf_model.specs.Limit.{most_jobs, most_machines}
 use Rattle.tf_random.specs.declared.run_random.Wanted.{Wanted}
@@ -8,7 +8,7 @@ use Rattle.tf_options.specs.Viewing.{IsDrawingBy, IsPicturingBy, gantt_fault}
 use Rattle.tf_options.specs.FormatAsked.{IsSolvedLayoutBy}
 use Rattle.tf_options.specs.declared.options.Aids.{Aids}
 use Rattle.tf_options.specs.declared.options.Asked.{Asked}
-use Rattle.tf_options.specs.declared.options.Asked.TheVariants.{Work, Formatted, Series, Measured, Help, Misused, Unfit, NoMemory}
+use Rattle.tf_options.specs.declared.options.Asked.TheVariants.{Work, Unfit, NoMemory}
 use Rattle.tf_options.specs.declared.options.OrderSource.{OrderSource}
 use Rattle.tf_options.specs.declared.options.OrderSource.TheVariants.{Given as Written, Named, Drawn}
 use Rattle.tf_options.specs.declared.options.Work.{Work as Asking}
@@ -214,24 +214,9 @@ is_incomplete name given =
     else (if bytes_eq name (codes "random") then lacks given (codes "problem")
     else lacks_own name given)
 
--- of a command that reads an instance, where the options of that are sound
-abbrev pub IsAskedOver : List ℕ → Given → Bool → Asked → Type 0
-IsAskedOver name given on_terminal (Work work) = IsWorkBy name given on_terminal work
-IsAskedOver name given on_terminal (Formatted work format) = ⊥
-IsAskedOver name given on_terminal (Series series) = ⊥
-IsAskedOver name given on_terminal (Measured evaluating) = ⊥
-IsAskedOver name given on_terminal (Help error) = ⊥
-IsAskedOver name given on_terminal (Misused error) = ⊥
-IsAskedOver name given on_terminal (Unfit message) = own_fault name given ≡ Some message.now
-IsAskedOver name given on_terminal NoMemory = IsTrue (lacks_own name given)
-
 -- the command's work, the first fault of its values, or want of memory where clap gave too little
 abbrev pub IsAskedBy : List ℕ → Given → Bool → Asked → Type 0
 IsAskedBy name given on_terminal (Work work) = IsWorkBy name given on_terminal work
-IsAskedBy name given on_terminal (Formatted work format) = ⊥
-IsAskedBy name given on_terminal (Series series) = ⊥
-IsAskedBy name given on_terminal (Measured evaluating) = ⊥
-IsAskedBy name given on_terminal (Help error) = ⊥
-IsAskedBy name given on_terminal (Misused error) = ⊥
 IsAskedBy name given on_terminal (Unfit message) = fault_by name given ≡ Some message.now
 IsAskedBy name given on_terminal NoMemory = IsTrue (is_incomplete name given)
+IsAskedBy name given on_terminal _ = ⊥

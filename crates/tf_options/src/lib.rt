@@ -7,3 +7,4 @@ pub mod options;
 pub mod series;
 mod viewing;
 mod wanting;
+mod wrong;

@@ -4,7 +4,7 @@ ghost use Rattle.std.specs.Prelude.{MatchOption};
 ghost use Rattle.tf_engine.specs.FormData.{form_of};
 ghost use Rattle.tf_model.specs.Limit.{most_machines};
 ghost use Rattle.tf_options.specs.Asking.{form_asked, requested};
-ghost use Rattle.tf_options.specs.Columns.{HasColumns};
+ghost use Rattle.tf_options.specs.Columns.{HasColumns, IsSized};
 ghost use Rattle.tf_options.specs.FormatAsked.{IsFormatBy, IsSolvedLayoutBy, asked_in_format};
 ghost use Rattle.tf_options.specs.FormatAsked.{csv_format, json_format};
 ghost use Rattle.tf_options.specs.Matched.{AreIdleBy, AreOptionsBy, IsFlagBy};
@@ -16,14 +16,15 @@ ghost use Rattle.tf_options.specs.Matched.{machines_fault, most_steps, options_f
 ghost use Rattle.tf_options.specs.Matched.{number_by, steps_fault, wt_fault};
 ghost use Rattle.tf_options.specs.MeasuresAsked.{IsMeasuredBy};
 ghost use Rattle.tf_options.specs.OptionNumber.{numeral_in};
-ghost use Rattle.tf_options.specs.Understood.{AreAidsBy, HasNoOrder, IsAskedBy, IsAskedOver};
-ghost use Rattle.tf_options.specs.Understood.{IsOrderBy, aids_fault, input_fault};
-ghost use Rattle.tf_options.specs.Understood.{is_standard_input, lacks_options};
+ghost use Rattle.tf_options.specs.Understood.{AreAidsBy, HasNoOrder, IsAskedBy, IsOrderBy, IsWorkBy};
+ghost use Rattle.tf_options.specs.Understood.{aids_fault, fault_by, input_fault, is_incomplete};
+ghost use Rattle.tf_options.specs.Understood.{is_standard_input, lacks_options, lacks_own, own_fault};
 
 use crate::format::Format;
 use crate::series::{Series, series_asked, span_for};
 use crate::viewing::gantt_in;
 use crate::wanting::wanted_in;
+use crate::wrong::Wrong;
 use clap::error::ErrorKind;
 use clap::{ArgMatches, Command, Error};
 use std::alloc::{AllocError, Allocator, Global};
@@ -351,46 +352,54 @@ pub fn asked_by<'a>(name: &str, given: &ArgMatches<'a>, on_terminal: bool) -> As
     ensures columns { HasColumns result }
     ensures asked { IsAskedBy name.now (given_of given.now) on_terminal result }
 {
+    match work_by(name, given, on_terminal) {
+        Ok(work) => Asked::Work(work),
+        Err(Wrong::Unfit(message)) => Asked::Unfit(message),
+        Err(Wrong::Missing) => Asked::NoMemory,
+    }
+}
+
+// The work of the command of this name.
+fn work_by<'a>(name: &str, given: &ArgMatches<'a>, on_terminal: bool) -> Result<Work<'a>, Wrong>
+    ensures sized { IfOk result IsSized }
+    ensures given { IfOk result (IsWorkBy name.now (given_of given.now) on_terminal) }
+    ensures fault { IfErr result (IsToldInstead (is_incomplete name.now (given_of given.now))
+        (fault_by name.now (given_of given.now))) }
+{
     if name == "gantt" {
         return gantt_in(given, on_terminal);
     }
     if name == "problems" {
-        return Asked::Work(Work::Problems(listed_in(given), given.get_str("FILE")));
+        return Ok(Work::Problems(listed_in(given), given.get_str("FILE")));
     }
     if name == "random" {
-        return match wanted_in(given) {
-            Ok(wanted) => Asked::Work(Work::Random(wanted)),
-            Err(asked) => asked,
-        };
+        return Ok(Work::Random(wanted_in(given)?));
     }
-    match options_in(given, on_terminal) {
-        Ok(options) => asked_over(name, given, on_terminal, options),
-        Err(asked) => asked,
-    }
+    let options = options_in(given, on_terminal)?;
+    work_over(name, given, on_terminal, options)
 }
 
-// What a command that reads an instance asks for, with these options.
-fn asked_over<'a>(
+// The work of a command that reads an instance, with these options.
+fn work_over<'a>(
     name: &str,
     given: &ArgMatches<'a>,
     on_terminal: bool,
     options: Options<'a>,
-) -> Asked<'a>
+) -> Result<Work<'a>, Wrong>
     requires { AreOptionsBy (given_of given.now) on_terminal options }
-    ensures columns { HasColumns result }
-    ensures asked { IsAskedOver name.now (given_of given.now) on_terminal result }
+    ensures sized { IfOk result IsSized }
+    ensures given { IfOk result (IsWorkBy name.now (given_of given.now) on_terminal) }
+    ensures fault { IfErr result (IsToldInstead (lacks_own name.now (given_of given.now))
+        (own_fault name.now (given_of given.now))) }
 {
     if name == "solve" {
-        return Asked::Work(Work::Solve(options, solved_layout_in(given)));
+        return Ok(Work::Solve(options, solved_layout_in(given)));
     }
     if name == "bound" {
-        return match steps_in(given) {
-            Ok(steps) => Asked::Work(Work::Bound(options, steps)),
-            Err(asked) => asked,
-        };
+        return Ok(Work::Bound(options, steps_in(given)?));
     }
     if name == "trace" {
-        return Asked::Work(Work::Trace(options, style_in(given)));
+        return Ok(Work::Trace(options, style_in(given)));
     }
     if name == "evaluate"
         && let Some(orders) = orders_in(given)
@@ -398,25 +407,22 @@ fn asked_over<'a>(
         if options.input == "-"
             && let Some(fault) = input_fault(&orders)
         {
-            return Asked::Unfit(fault);
+            return Err(Wrong::Unfit(fault));
         }
-        return Asked::Work(Work::Rate(options, orders));
+        return Ok(Work::Rate(options, orders));
     }
     let Some(answer) = given.get_str("ANSWER") else {
-        return Asked::NoMemory;
+        return Err(Wrong::Missing);
     };
     if answer == "-" && options.input == "-" {
-        return Asked::Unfit("INPUT and ANSWER cannot both be standard input");
+        return Err(Wrong::Unfit("INPUT and ANSWER cannot both be standard input"));
     }
     if name == "check" {
-        return Asked::Work(Work::Check(options, answer));
+        return Ok(Work::Check(options, answer));
     }
     if name == "evaluate" {
-        let Aids { bound, steps } = match aids_in(given) {
-            Ok(aids) => aids,
-            Err(asked) => return asked,
-        };
-        return Asked::Work(match bound {
+        let Aids { bound, steps } = aids_in(given)?;
+        return Ok(match bound {
             None => Work::Evaluate(Evaluating {
                 options,
                 answer,
@@ -431,7 +437,7 @@ fn asked_over<'a>(
             }),
         });
     }
-    Asked::NoMemory
+    Err(Wrong::Missing)
 }
 
 // The version of the answer text that is solved for: 1 for JSON, which names each job of a
@@ -479,8 +485,7 @@ fn listed_in(given: &ArgMatches<'_>) -> Listed
 }
 
 // The steps of the search for prices, where they are given.
-pub(crate) fn steps_in<'a>(given: &ArgMatches<'a>) -> Result<Option<u32>, Asked<'a>>
-    ensures columns { IfErr result HasColumns }
+pub(crate) fn steps_in(given: &ArgMatches<'_>) -> Result<Option<u32>, Wrong>
     ensures given { IfOk result
         (IsNumberBy 1 most_steps ((given_of given.now).value (codes "steps"))) }
     ensures fault { IfErr result (IsToldInstead false (steps_fault (given_of given.now))) }
@@ -490,7 +495,7 @@ pub(crate) fn steps_in<'a>(given: &ArgMatches<'a>) -> Result<Option<u32>, Asked<
     };
     match number_within(word, 1, MOST_STEPS) {
         Some(steps) => Ok(Some(steps)),
-        None => Err(Asked::Unfit("--steps takes a number from 1 to 1000000")),
+        None => Err(Wrong::Unfit("--steps takes a number from 1 to 1000000")),
     }
 }
 
@@ -527,15 +532,14 @@ fn input_fault(orders: &OrderSource<'_>) -> Option<&'static str>
 
 // The text of a bound and the steps of the search for prices, where they are given. The instance
 // and the answer cannot be standard input beside the text.
-fn aids_in<'a>(given: &ArgMatches<'a>) -> Result<Aids<'a>, Asked<'a>>
-    ensures columns { IfErr result HasColumns }
+fn aids_in<'a>(given: &ArgMatches<'a>) -> Result<Aids<'a>, Wrong>
     ensures given { IfOk result (AreAidsBy (given_of given.now)) }
     ensures fault { IfErr result (IsToldInstead false (aids_fault (given_of given.now))) }
 {
     if is_standard_input(given, "bound")
         && (is_standard_input(given, "ANSWER") || is_standard_input(given, "INPUT"))
     {
-        return Err(Asked::Unfit("--bound and INPUT or ANSWER cannot both be standard input"));
+        return Err(Wrong::Unfit("--bound and INPUT or ANSWER cannot both be standard input"));
     }
     Ok(Aids {
         bound: given.get_str("bound"),
@@ -565,8 +569,7 @@ fn detail_in(given: &ArgMatches<'_>) -> Detail
 }
 
 // What names the problem and the instance, or what is asked for in place of it.
-fn options_in<'a>(given: &ArgMatches<'a>, on_terminal: bool) -> Result<Options<'a>, Asked<'a>>
-    ensures columns { IfErr result HasColumns }
+fn options_in<'a>(given: &ArgMatches<'a>, on_terminal: bool) -> Result<Options<'a>, Wrong>
     ensures given { IfOk result (AreOptionsBy (given_of given.now) on_terminal) }
     ensures sound { IfOk result (λ _. options_fault (given_of given.now) ≡ None) }
     ensures fault { IfErr result
@@ -574,7 +577,7 @@ fn options_in<'a>(given: &ArgMatches<'a>, on_terminal: bool) -> Result<Options<'
         (options_fault (given_of given.now))) }
 {
     let (Some(problem), Some(input)) = (given.get_str("problem"), given.get_str("INPUT")) else {
-        return Err(Asked::NoMemory);
+        return Err(Wrong::Missing);
     };
     let machines = machines_in(given)?;
     let form = form_in(given)?;
@@ -591,8 +594,7 @@ fn options_in<'a>(given: &ArgMatches<'a>, on_terminal: bool) -> Result<Options<'
 }
 
 // The number of machines, where it is given.
-pub(crate) fn machines_in<'a>(given: &ArgMatches<'a>) -> Result<Option<u32>, Asked<'a>>
-    ensures columns { IfErr result HasColumns }
+pub(crate) fn machines_in(given: &ArgMatches<'_>) -> Result<Option<u32>, Wrong>
     ensures given { IfOk result
         (IsNumberBy 1 most_machines ((given_of given.now).value (codes "machines"))) }
     ensures unhurt { IfOk result (λ _. machines_fault (given_of given.now) ≡ None) }
@@ -603,7 +605,7 @@ pub(crate) fn machines_in<'a>(given: &ArgMatches<'a>) -> Result<Option<u32>, Ask
     };
     match number_within(word, 1, MOST_MACHINES) {
         Some(machines) => Ok(Some(machines)),
-        None => Err(Asked::Unfit("--machines takes a number from 1 to 1000")),
+        None => Err(Wrong::Unfit("--machines takes a number from 1 to 1000")),
     }
 }
 
@@ -632,15 +634,14 @@ pub(crate) fn idle_in(given: &ArgMatches<'_>, form: &FormOption<'_>) -> Idle
 }
 
 // The form that was chosen. The options of the others are not looked at.
-pub(crate) fn form_in<'a>(given: &ArgMatches<'a>) -> Result<FormOption<'a>, Asked<'a>>
-    ensures columns { IfErr result HasColumns }
+pub(crate) fn form_in<'a>(given: &ArgMatches<'a>) -> Result<FormOption<'a>, Wrong>
     ensures given { IfOk result (IsFormBy (given_of given.now)) }
     ensures fault { IfErr result
         (IsToldInstead (lacks (given_of given.now) (codes "format"))
         (form_fault (given_of given.now))) }
 {
     let Some(format) = given.get_str("format") else {
-        return Err(Asked::NoMemory);
+        return Err(Wrong::Missing);
     };
     if format == "wt" {
         return wt_in(given);
@@ -651,9 +652,8 @@ pub(crate) fn form_in<'a>(given: &ArgMatches<'a>) -> Result<FormOption<'a>, Aske
     Ok(FormOption::Table)
 }
 
-fn wt_in<'a>(given: &ArgMatches<'a>) -> Result<FormOption<'a>, Asked<'a>>
+fn wt_in<'a>(given: &ArgMatches<'a>) -> Result<FormOption<'a>, Wrong>
     requires { (given_of given.now).value (codes "format") ≡ Some (codes "wt") }
-    ensures columns { IfErr result HasColumns }
     ensures given { IfOk result (IsFormBy (given_of given.now)) }
     ensures fault { IfErr result (IsToldInstead false (wt_fault (given_of given.now))) }
 {
@@ -664,20 +664,19 @@ fn wt_in<'a>(given: &ArgMatches<'a>) -> Result<FormOption<'a>, Asked<'a>>
         .get_str("index")
         .and_then(|word| number_within(word, 1, u32::MAX));
     match (jobs, index) {
-        (None, _) => Err(Asked::Unfit("--format wt needs --jobs, a number from 1 to 100000")),
-        (_, None) => Err(Asked::Unfit("--index takes a number from 1 to 4294967295")),
+        (None, _) => Err(Wrong::Unfit("--format wt needs --jobs, a number from 1 to 100000")),
+        (_, None) => Err(Wrong::Unfit("--index takes a number from 1 to 4294967295")),
         (Some(jobs), Some(index)) => Ok(FormOption::Wt { jobs, index }),
     }
 }
 
-fn flow_in<'a>(given: &ArgMatches<'a>) -> Result<FormOption<'a>, Asked<'a>>
+fn flow_in<'a>(given: &ArgMatches<'a>) -> Result<FormOption<'a>, Wrong>
     requires { (given_of given.now).value (codes "format") ≡ Some (codes "flow") }
-    ensures columns { IfErr result HasColumns }
     ensures given { IfOk result (IsFormBy (given_of given.now)) }
     ensures fault { IfErr result (IsToldInstead false (flow_fault (given_of given.now))) }
 {
     let Some(name) = given.get_str("name") else {
-        return Err(Asked::Unfit("--format flow needs --name"));
+        return Err(Wrong::Unfit("--format flow needs --name"));
     };
     let Some(word) = given.get_str("pair") else {
         return Ok(FormOption::Flow { name, pair: None });
@@ -687,7 +686,7 @@ fn flow_in<'a>(given: &ArgMatches<'a>) -> Result<FormOption<'a>, Asked<'a>>
             name,
             pair: Some(pair),
         }),
-        None => Err(Asked::Unfit("--pair takes two numbers up to 1000 with a comma between them")),
+        None => Err(Wrong::Unfit("--pair takes two numbers up to 1000 with a comma between them")),
     }
 }
 

@@ -10,6 +10,7 @@ ghost use Rattle.tf_options.specs.SeriesAsked.{span_for, span_in, span_of, takes
 use crate::options::{
     Asked, is_explained, is_standard_input, machines_in, number_within, steps_in,
 };
+use crate::wrong::Wrong;
 use clap::ArgMatches;
 use tf_model::limit::MOST_JOBS;
 
@@ -107,8 +108,7 @@ pub(crate) fn span_for(name: &str, given: &ArgMatches<'_>) -> Option<Span>
 }
 
 // The number of jobs of each instance.
-fn jobs_in<'a>(given: &ArgMatches<'a>) -> Result<u32, Asked<'a>>
-    ensures columns { IfErr result HasColumns }
+fn jobs_in(given: &ArgMatches<'_>) -> Result<u32, Wrong>
     ensures given { IfOk result (λ jobs. number_by (given_of given.now) (codes "jobs") 1 most_jobs
         ≡ Some jobs) }
     ensures unhurt { IfOk result (λ _. jobs_fault (given_of given.now) ≡ None) }
@@ -119,31 +119,29 @@ fn jobs_in<'a>(given: &ArgMatches<'a>) -> Result<u32, Asked<'a>>
         .and_then(|word| number_within(word, 1, MOST_JOBS as u32));
     match jobs {
         Some(jobs) => Ok(jobs),
-        None => Err(Asked::Unfit("--format wt needs --jobs, a number from 1 to 100000")),
+        None => Err(Wrong::Unfit("--format wt needs --jobs, a number from 1 to 100000")),
     }
 }
 
 // The name of the answers, which cannot be standard input beside the instances.
-fn answers_in<'a>(given: &ArgMatches<'a>) -> Result<&'a str, Asked<'a>>
-    ensures columns { IfErr result HasColumns }
+fn answers_in<'a>(given: &ArgMatches<'a>) -> Result<&'a str, Wrong>
     ensures given { IfOk result (λ name. (given_of given.now).value (codes "ANSWER") ≡ Some name.now) }
     ensures unhurt { IfOk result (λ _. answers_fault (given_of given.now) ≡ None) }
     ensures fault { IfErr result (IsToldInstead (lacks (given_of given.now) (codes "ANSWER"))
         (answers_fault (given_of given.now))) }
 {
     let Some(answer) = given.get_str("ANSWER") else {
-        return Err(Asked::NoMemory);
+        return Err(Wrong::Missing);
     };
     if answer == "-" && is_standard_input(given, "INPUT") {
-        return Err(Asked::Unfit("INPUT and ANSWER cannot both be standard input"));
+        return Err(Wrong::Unfit("INPUT and ANSWER cannot both be standard input"));
     }
     Ok(answer)
 }
 
 // What the command of this name tells of each instance.
-fn told_in<'a>(name: &str, given: &ArgMatches<'a>) -> Result<Told<'a>, Asked<'a>>
+fn told_in<'a>(name: &str, given: &ArgMatches<'a>) -> Result<Told<'a>, Wrong>
     requires { takes_span name.now (given_of given.now) ≡ true }
-    ensures columns { IfErr result HasColumns }
     ensures given { IfOk result (IsToldBy name.now (given_of given.now)) }
     ensures fault { IfErr result (IsToldInstead (lacks (given_of given.now) (codes "ANSWER"))
         (told_fault name.now (given_of given.now))) }
@@ -171,7 +169,8 @@ pub fn series_asked<'a>(
 {
     match series_in(name, given, on_terminal, span) {
         Ok(series) => Asked::Series(series),
-        Err(asked) => asked,
+        Err(Wrong::Unfit(message)) => Asked::Unfit(message),
+        Err(Wrong::Missing) => Asked::NoMemory,
     }
 }
 
@@ -180,16 +179,15 @@ fn series_in<'a>(
     given: &ArgMatches<'a>,
     on_terminal: bool,
     span: Span,
-) -> Result<Series<'a>, Asked<'a>>
+) -> Result<Series<'a>, Wrong>
     requires { span_for name.now (given_of given.now) ≡ Some span }
-    ensures columns { IfErr result HasColumns }
     ensures given { IfOk result (IsSeriesBy name.now (given_of given.now) on_terminal) }
     ensures fault { IfErr result
         (IsToldInstead (lacks_names (given_of given.now) || lacks (given_of given.now) (codes "ANSWER"))
         (series_fault name.now (given_of given.now))) }
 {
     let (Some(problem), Some(input)) = (given.get_str("problem"), given.get_str("INPUT")) else {
-        return Err(Asked::NoMemory);
+        return Err(Wrong::Missing);
     };
     let machines = machines_in(given)?;
     let jobs = jobs_in(given)?;

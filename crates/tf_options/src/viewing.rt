@@ -1,17 +1,18 @@
 //! What a drawing is asked to show.
 ghost use Rattle.std.specs.Prelude.{◌≡◌, None, Some, false, codes, IfOk, IfErr};
 ghost use Rattle.tf_model.specs.Limit.{limit};
-ghost use Rattle.tf_options.specs.Columns.{HasColumns, HasWidth};
+ghost use Rattle.tf_options.specs.Columns.{HasWidth, IsSized};
 ghost use Rattle.tf_options.specs.Matched.{IsToldInstead, given_of, lacks, number_by};
 ghost use Rattle.tf_options.specs.OptionNumber.{numeral_in};
-ghost use Rattle.tf_options.specs.Understood.{IsAskedBy};
+ghost use Rattle.tf_options.specs.Understood.{IsWorkBy, lacks_drawing};
 ghost use Rattle.tf_options.specs.Viewing.{IsDrawingBy, IsPicturingBy, IsViewBy, drawing_fault};
-ghost use Rattle.tf_options.specs.Viewing.{most_side, number_fault, page_by, picturing_fault};
+ghost use Rattle.tf_options.specs.Viewing.{gantt_fault, most_side, number_fault, page_by, picturing_fault};
 ghost use Rattle.tf_options.specs.Viewing.{sides_fault, size_by, view_fault};
 
 use crate::options::{
-    Asked, Drawing, Picturing, Telling, Work, form_in, idle_in, is_explained, number_within,
+    Drawing, Picturing, Telling, Work, form_in, idle_in, is_explained, number_within,
 };
+use crate::wrong::Wrong;
 use clap::ArgMatches;
 use tf_model::limit::LIMIT;
 use tf_picture::view::{Size, View};
@@ -33,27 +34,23 @@ const WIDTH_TOLD: &str = "--width takes a number from 1 to 100000";
 const HEIGHT_TOLD: &str = "--height takes a number from 1 to 100000";
 
 /// What `gantt` asks for.
-pub(crate) fn gantt_in<'a>(given: &ArgMatches<'a>, on_terminal: bool) -> Asked<'a>
-    ensures columns { HasColumns result }
-    ensures asked { IsAskedBy (codes "gantt") (given_of given.now) on_terminal result }
+pub(crate) fn gantt_in<'a>(given: &ArgMatches<'a>, on_terminal: bool) -> Result<Work<'a>, Wrong>
+    ensures sized { IfOk result IsSized }
+    ensures given { IfOk result (IsWorkBy (codes "gantt") (given_of given.now) on_terminal) }
+    ensures fault { IfErr result
+        (IsToldInstead (lacks_drawing (given_of given.now)) (gantt_fault (given_of given.now))) }
 {
     let Some(answer) = given.get_str("ANSWER") else {
-        return Asked::NoMemory;
+        return Err(Wrong::Missing);
     };
     if let Some(input) = given.get_str("input") {
-        return match picturing_in(given, on_terminal, input, answer) {
-            Ok(picturing) => Asked::Work(Work::Picture(picturing)),
-            Err(asked) => asked,
-        };
+        return Ok(Work::Picture(picturing_in(given, on_terminal, input, answer)?));
     }
-    match drawing_in(given) {
-        Ok(drawing) => Asked::Work(Work::Gantt {
-            answer,
-            drawing,
-            explain: is_explained(given, on_terminal),
-        }),
-        Err(asked) => asked,
-    }
+    Ok(Work::Gantt {
+        answer,
+        drawing: drawing_in(given)?,
+        explain: is_explained(given, on_terminal),
+    })
 }
 
 // A picture of this answer with the dates of this instance.
@@ -62,17 +59,16 @@ fn picturing_in<'a>(
     on_terminal: bool,
     input: &'a str,
     answer: &'a str,
-) -> Result<Picturing<'a>, Asked<'a>>
+) -> Result<Picturing<'a>, Wrong>
     requires input { (given_of given.now).value (codes "input") ≡ Some input.now }
     requires answer { (given_of given.now).value (codes "ANSWER") ≡ Some answer.now }
-    ensures columns { IfErr result HasColumns }
     ensures given { IfOk result (IsPicturingBy (given_of given.now) on_terminal) }
     ensures fault { IfErr result
         (IsToldInstead (lacks (given_of given.now) (codes "format"))
         (picturing_fault (given_of given.now))) }
 {
     if answer == "-" && input == "-" {
-        return Err(Asked::Unfit("--input and ANSWER cannot both be standard input"));
+        return Err(Wrong::Unfit("--input and ANSWER cannot both be standard input"));
     }
     let view = view_in(given)?;
     let form = form_in(given)?;
@@ -89,9 +85,8 @@ fn picturing_in<'a>(
 }
 
 // A picture where it is asked for, otherwise a chart of so many columns.
-fn drawing_in<'a>(given: &ArgMatches<'a>) -> Result<Drawing, Asked<'a>>
+fn drawing_in(given: &ArgMatches<'_>) -> Result<Drawing, Wrong>
     ensures sized { IfOk result HasWidth }
-    ensures columns { IfErr result HasColumns }
     ensures given { IfOk result (IsDrawingBy (given_of given.now)) }
     ensures fault { IfErr result
         (IsToldInstead (lacks (given_of given.now) (codes "columns"))
@@ -102,17 +97,16 @@ fn drawing_in<'a>(given: &ArgMatches<'a>) -> Result<Drawing, Asked<'a>>
         return Ok(Drawing::Picture(view));
     }
     let Some(word) = given.get_str("columns") else {
-        return Err(Asked::NoMemory);
+        return Err(Wrong::Missing);
     };
     match number_within(word, 1, MOST_COLUMNS) {
         Some(columns) => Ok(Drawing::Chart { columns }),
-        None => Err(Asked::Unfit("--columns takes a number from 1 to 1000")),
+        None => Err(Wrong::Unfit("--columns takes a number from 1 to 1000")),
     }
 }
 
 // What a picture shows of a schedule, and how large it is.
-fn view_in<'a>(given: &ArgMatches<'a>) -> Result<View, Asked<'a>>
-    ensures columns { IfErr result HasColumns }
+fn view_in(given: &ArgMatches<'_>) -> Result<View, Wrong>
     ensures given { IfOk result (IsViewBy (given_of given.now)) }
     ensures unhurt { IfOk result (λ _. view_fault (given_of given.now) ≡ None) }
     ensures fault { IfErr result (IsToldInstead false (view_fault (given_of given.now))) }
@@ -129,13 +123,12 @@ fn view_in<'a>(given: &ArgMatches<'a>) -> Result<View, Asked<'a>>
 }
 
 // The time that an option gives, or the number of time steps, where it is given.
-fn time_in<'a>(
-    given: &ArgMatches<'a>,
+fn time_in(
+    given: &ArgMatches<'_>,
     name: &'static str,
     least: u32,
     told: &'static str,
-) -> Result<Option<u64>, Asked<'a>>
-    ensures columns { IfErr result HasColumns }
+) -> Result<Option<u64>, Wrong>
     ensures given { IfOk result (λ time. time ≡ number_by (given_of given.now) name.now least limit) }
     ensures unhurt { IfOk result (λ _. number_fault (given_of given.now) name.now least limit
         told.now ≡ None) }
@@ -147,13 +140,12 @@ fn time_in<'a>(
     };
     match time_within(word, least) {
         Some(time) => Ok(Some(time)),
-        None => Err(Asked::Unfit(told)),
+        None => Err(Wrong::Unfit(told)),
     }
 }
 
 // How large a picture is.
-fn size_in<'a>(given: &ArgMatches<'a>) -> Result<Size, Asked<'a>>
-    ensures columns { IfErr result HasColumns }
+fn size_in(given: &ArgMatches<'_>) -> Result<Size, Wrong>
     ensures given { IfOk result (λ size. size ≡ size_by (given_of given.now)) }
     ensures unhurt { IfOk result (λ _. sides_fault (given_of given.now) ≡ None) }
     ensures fault { IfErr result (IsToldInstead false (sides_fault (given_of given.now))) }
@@ -182,12 +174,11 @@ fn page_in(given: &ArgMatches<'_>) -> Option<Size>
 }
 
 // The width or height of a picture in pixels, where it is given.
-fn side_in<'a>(
-    given: &ArgMatches<'a>,
+fn side_in(
+    given: &ArgMatches<'_>,
     name: &'static str,
     told: &'static str,
-) -> Result<Option<u32>, Asked<'a>>
-    ensures columns { IfErr result HasColumns }
+) -> Result<Option<u32>, Wrong>
     ensures given { IfOk result (λ side. side ≡ number_by (given_of given.now) name.now 1 most_side) }
     ensures unhurt { IfOk result (λ _. number_fault (given_of given.now) name.now 1 most_side
         told.now ≡ None) }
@@ -199,7 +190,7 @@ fn side_in<'a>(
     };
     match number_within(word, 1, MOST_SIDE) {
         Some(side) => Ok(Some(side)),
-        None => Err(Asked::Unfit(told)),
+        None => Err(Wrong::Unfit(told)),
     }
 }
 

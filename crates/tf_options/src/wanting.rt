@@ -1,24 +1,23 @@
 //! What a random table is to be like.
 ghost use Rattle.std.specs.Prelude.{IfErr, IfOk, codes};
-ghost use Rattle.tf_options.specs.Columns.{HasColumns};
 ghost use Rattle.tf_options.specs.Matched.{IsToldInstead, given_of, lacks};
 ghost use Rattle.tf_options.specs.Understood.{IsWantedBy, wanted_fault};
 
-use crate::options::{Asked, machines_in, number_within};
+use crate::options::{machines_in, number_within};
+use crate::wrong::Wrong;
 use clap::ArgMatches;
 use tf_model::limit::MOST_JOBS;
 use tf_random::run_random::Wanted;
 
 /// The random table that the options ask for.
-pub(crate) fn wanted_in<'a>(given: &ArgMatches<'a>) -> Result<Wanted<'a>, Asked<'a>>
-    ensures columns { IfErr result HasColumns }
+pub(crate) fn wanted_in<'a>(given: &ArgMatches<'a>) -> Result<Wanted<'a>, Wrong>
     ensures given { IfOk result (IsWantedBy (given_of given.now)) }
     ensures fault { IfErr result
         (IsToldInstead (lacks (given_of given.now) (codes "problem"))
         (wanted_fault (given_of given.now))) }
 {
     let Some(problem) = given.get_str("problem") else {
-        return Err(Asked::NoMemory);
+        return Err(Wrong::Missing);
     };
     let machines = machines_in(given)?;
     let jobs = given
@@ -28,8 +27,8 @@ pub(crate) fn wanted_in<'a>(given: &ArgMatches<'a>) -> Result<Wanted<'a>, Asked<
         .get_str("seed")
         .and_then(|word| number_within(word, 0, u32::MAX));
     match (jobs, seed) {
-        (None, _) => Err(Asked::Unfit("--jobs takes a number from 1 to 100000")),
-        (_, None) => Err(Asked::Unfit("--seed takes a number from 0 to 4294967295")),
+        (None, _) => Err(Wrong::Unfit("--jobs takes a number from 1 to 100000")),
+        (_, None) => Err(Wrong::Unfit("--seed takes a number from 0 to 4294967295")),
         (Some(jobs), Some(seed)) => Ok(Wanted {
             problem,
             jobs,
