@@ -19,7 +19,6 @@ mod turning;
 
 use crate::johnson::order::johnson_order;
 use crate::johnson::turning::{Turn, lay_second};
-use crate::stretch::push_stretch;
 use crate::two_machines::{machine_of, operation};
 use std::alloc::Allocator;
 use tf_check::answer::Answer;
@@ -31,6 +30,7 @@ use tf_model::memory::OutOfMemory;
 use tf_model::task::Task;
 use tf_schedule::piece::Piece;
 use tf_schedule::piece_list::PieceList;
+use tf_schedule::semi_active::push_stretch;
 
 /// A shortest timetable of a flow shop with two machines (Johnson 1954).
 ///

@@ -6,5 +6,4 @@ mod longest;
 pub mod mcnaughton;
 pub mod open_two;
 pub mod spt;
-mod stretch;
 mod two_machines;

@@ -12,7 +12,6 @@ ghost use Rattle.tf_check.specs.Accepted.{IsAccepted};
 ghost use Rattle.tf_multi.specs.Dealt.{AreDealt, IsReverseRanks};
 ghost use Rattle.tf_multi.specs.Dealing.{AreFree, turns, share, dealt};
 
-use crate::stretch::push_stretch;
 use std::alloc::Allocator;
 use tf_check::answer::Answer;
 use tf_check::certificate::Certificate;
@@ -24,7 +23,7 @@ use tf_model::memory::OutOfMemory;
 use tf_model::task::Task;
 use tf_schedule::piece::Piece;
 use tf_schedule::piece_list::PieceList;
-use tf_schedule::semi_active::Operation;
+use tf_schedule::semi_active::{Operation, push_stretch};
 use tf_schedule::sequence::reversed;
 
 /// A timetable of least sum of completions on parallel machines (Conway, Maxwell and Miller 1967).

@@ -1,12 +1,13 @@
 //! Jobs one after another on one machine.
-ghost use Rattle.std.specs.Prelude.{◌≡◌, ◌+◌, ◌≤◌, ◌++◌, reverse, IfOk};
+ghost use Rattle.std.specs.Prelude.{◌≡◌, ◌≤◌, reverse, IfOk};
 ghost use Rattle.std.specs.List.{All, sum_by};
 ghost use Rattle.tf_model.specs.Limit.{limit};
 ghost use Rattle.tf_model.specs.SchedulingTask.{IsJob, time_of};
-ghost use Rattle.tf_schedule.specs.SemiActive.{laid, stretch};
+ghost use Rattle.tf_schedule.specs.SemiActive.{laid};
 ghost use Rattle.tf_schedule.specs.Sequence.{in_sequence};
 
 use crate::piece::Piece;
+use crate::semi_active::{Operation, push_stretch};
 use std::alloc::Allocator;
 use tf_model::ids::{JobId, MachineId};
 use tf_model::memory::OutOfMemory;
@@ -26,29 +27,14 @@ pub fn in_sequence<A: Allocator, B: Allocator>(
     let mut pieces = Vec::with_capacity(alloc, jobs.len())?;
     let mut now: u64 = 0;
     for job in jobs {
-        now = run_from(&mut pieces, *job, now, task.time(*job))?;
+        let operation = Operation {
+            job: *job,
+            machine: MachineId::FIRST,
+            time: task.time(*job),
+        };
+        now = push_stretch(&mut pieces, operation, now)?;
     }
     Ok(pieces)
-}
-
-// The job runs from `start` on for its time: when it is over.
-fn run_from<A: Allocator>(
-    pieces: &mut Vec<Piece, A>,
-    job: JobId,
-    start: u64,
-    time: u64,
-) -> Result<u64, OutOfMemory>
-    requires { start + time ≤ limit }
-    ensures pieces { IfOk result (λ _.
-        pieces.new.items ≡ pieces.old.items ++ stretch job 1 start time) }
-    ensures end { IfOk result (λ end. end ≡ start + time) }
-{
-    if time == 0 {
-        return Ok(start);
-    }
-    let end = start + time;
-    pieces.push(Piece::of(job, MachineId::FIRST, start, end))?;
-    Ok(end)
 }
 
 /// The jobs from the last to the first.

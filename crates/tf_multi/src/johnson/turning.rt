@@ -7,7 +7,6 @@ ghost use Rattle.tf_schedule.specs.SemiActive.{laid};
 ghost use Rattle.tf_multi.specs.Johnson.{line_end, IsJohnsonOrder, IsTurn};
 ghost use Rattle.tf_multi.specs.TwoMachines.{time_at, on_machine, in_line};
 
-use crate::stretch::push_stretch;
 use crate::two_machines::{machine_of, operation};
 use std::alloc::Allocator;
 use tf_model::ids::JobId;
@@ -15,6 +14,7 @@ use tf_model::job_rows::JobRow;
 use tf_model::memory::OutOfMemory;
 use tf_model::task::Task;
 use tf_schedule::piece::Piece;
+use tf_schedule::semi_active::push_stretch;
 
 // When the two machines are free of some jobs of a line, and the place of the last of them whose
 // end on machine 1 came after all earlier work on machine 2.

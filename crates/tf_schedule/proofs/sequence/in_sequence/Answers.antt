@@ -16,8 +16,8 @@ in_time : (k : SchedulingTask) (jobs : List ℕ) (i j now time : ℕ) → i < le
 in_time k jobs i j now time lt is work is_time total =
     omega (arith, sum_by_more_le (time_of k) jobs i j lt, work, is_time, ap (time_of k) is, total)
 
-pub run_from-requires : goal.run_from-requires
-run_from-requires g c =
+pub push_stretch-requires : goal.push_stretch-requires
+push_stretch-requires g c =
     in_time c.args.task.now c.args.jobs.now c.loop-job.job-index c.job-item.result _ _
     c.loop-job-test.true c.job-item.is c.loop-job.invariant.work c.time.ensures.value
     c.requires.total
