@@ -16,7 +16,7 @@ use Rattle.tf_engine.specs.Checking.{IsChecked}
 use Rattle.tf_engine.specs.Refusal.{problem_for, task_for}
 use Rattle.tf_engine.specs.Rules.{IsByRule}
 use Rattle.tf_engine.specs.Runs.{Leaves}
-use Rattle.tf_engine.specs.Solvers.{IsNamedCycle}
+use Rattle.tf_single.specs.NotSolved.{IsNamedCycle}
 
 -- a sheet with the request's problem, the task's sizes, and a best answer, whose certificate shows
 -- that it is best, and which is that of the class's rule

@@ -11,8 +11,8 @@ use Rattle.tf_text.specs.declared.answer.fault.AnswerFault.{AnswerFault}
 use Rattle.tf_text.specs.declared.answer.fault.AnswerFault.TheVariants as answers
 use Rattle.tf_text.specs.declared.answer.writing.WriteFault.{WriteFault}
 use Rattle.tf_text.specs.declared.answer.writing.WriteFault.TheVariants as writes
-use Rattle.tf_engine.specs.declared.solve.SolveFault.{SolveFault}
-use Rattle.tf_engine.specs.declared.solve.SolveFault.TheVariants as solves
+use Rattle.tf_single.specs.declared.lawler_fault.LawlerFault.{LawlerFault}
+use Rattle.tf_single.specs.declared.lawler_fault.LawlerFault.TheVariants as solves
 use Rattle.tf_engine.specs.declared.fault.RunFault.{RunFault}
 use Rattle.tf_engine.specs.declared.fault.RunFault.TheVariants.{Notation, Text, Task, Cycle, Answer, Pieces, Device, OutOfMemory}
 
@@ -36,7 +36,7 @@ abbrev pub of_answer : {A : Type 0} → AnswerFault → RunFault A
 of_answer answers.OutOfMemory = OutOfMemory
 of_answer fault = Answer fault
 
-abbrev pub of_solve : {A : Type 0} → SolveFault A → RunFault A
+abbrev pub of_solve : {A : Type 0} → LawlerFault A → RunFault A
 of_solve (solves.Cycle jobs) = Cycle jobs
 of_solve solves.OutOfMemory = OutOfMemory
 

@@ -1,59 +1,22 @@
 //! A solver for each class.
-ghost use Rattle.std.specs.Prelude.{◌≡◌, IfOk, IfErr};
+ghost use Rattle.std.specs.Prelude.{IfOk, IfErr};
 ghost use Rattle.tf_model.specs.Sound.{IsSound};
-ghost use Rattle.tf_engine.specs.declared.solve.SolveFault.TheVariants.{OutOfMemory as NoMemory};
 ghost use Rattle.tf_check.specs.Accepted.{IsAccepted, IsBestAnswer};
 ghost use Rattle.tf_engine.specs.Rules.{IsByRule};
-ghost use Rattle.tf_engine.specs.Solvers.{IsNotSolved, of_lawler};
+ghost use Rattle.tf_single.specs.NotSolved.{IsNotSolved};
 
-use std::alloc::{Allocator, Global};
+use std::alloc::Allocator;
 use tf_check::answer::Answer;
 use tf_model::class::Class;
-use tf_model::job_list::JobList;
-use tf_model::memory::OutOfMemory;
 use tf_model::task::Task;
 use tf_multi::johnson::johnson;
 use tf_multi::mcnaughton::mcnaughton;
 use tf_multi::open_two::open_two;
 use tf_multi::spt::spt;
-use tf_single::costs::step_costs;
 use tf_single::edd::edd;
 use tf_single::lawler::{lawler, lawler_by_due};
-use tf_single::lawler_fault::LawlerFault;
+pub use tf_single::lawler_fault::LawlerFault as SolveFault;
 use tf_single::wspt::wspt;
-use thiserror::Error;
-
-/// Why a task was not solved.
-#[derive(Drop, Error)]
-#[derive_where(Debug, PartialEq, Eq)]
-pub enum SolveFault<A: Allocator = Global> {
-    /// Each of these jobs precedes the next by an arc, and the last precedes the first, so that no
-    /// timetable fits.
-    #[error("the arcs form a cycle")]
-    Cycle(JobList<A>),
-    /// A growth was refused.
-    #[error("want of memory")]
-    OutOfMemory,
-}
-
-impl<A: Allocator> From<LawlerFault<A>> for SolveFault<A> {
-    ghost from_gives = { λ f e. e ≡ of_lawler f };
-
-    fn from(fault: LawlerFault<A>) -> SolveFault<A> {
-        match fault {
-            LawlerFault::Cycle(jobs) => SolveFault::Cycle(jobs),
-            LawlerFault::OutOfMemory => SolveFault::OutOfMemory,
-        }
-    }
-}
-
-impl<A: Allocator> From<OutOfMemory> for SolveFault<A> {
-    ghost from_gives = { λ _ e. e ≡ NoMemory };
-
-    fn from(_: OutOfMemory) -> SolveFault<A> {
-        SolveFault::OutOfMemory
-    }
-}
 
 /// A best timetable of the task, what it costs, and the certificate that none costs less. The class
 /// alone decides which solver is asked; a cycle of arcs is refused, since then no timetable fits.
@@ -85,10 +48,10 @@ fn answer_of<A: Allocator + Copy, B: Allocator>(
             wspt(alloc, task)?,
         ),
         Class::Hmax | Class::PrecHmax | Class::PrmpHmax | Class::PrmpPrecHmax => {
-            Ok(lawler(alloc, task, step_costs(task))?)
+            lawler(alloc, task, task.step_costs())
         }
         Class::Lmax | Class::PrecLmax | Class::PrmpLmax | Class::PrmpPrecLmax => {
-            Ok(lawler_by_due(alloc, task)?)
+            lawler_by_due(alloc, task)
         }
         Class::ReleaseLmax => Ok(edd(alloc, task)?),
         Class::FlowTwo | Class::PrmpFlowTwo => Ok(johnson(alloc, task)?),

@@ -6,8 +6,8 @@ use Rattle.tf_text.specs.Counted.{AppendsPrefix, DeviceUse, use_of, unused}
 use Rattle.tf_engine.specs.declared.case.Case.{Case}
 use Rattle.tf_engine.specs.declared.fault.RunFault.{RunFault}
 use Rattle.tf_engine.specs.declared.fault.RunFault.TheVariants.{Device, OutOfMemory}
-use Rattle.tf_engine.specs.declared.solve.SolveFault.{SolveFault}
-use Rattle.tf_engine.specs.declared.solve.SolveFault.TheVariants as solves
+use Rattle.tf_single.specs.declared.lawler_fault.LawlerFault.{LawlerFault}
+use Rattle.tf_single.specs.declared.lawler_fault.LawlerFault.TheVariants as solves
 use Rattle.tf_engine.specs.RequestData.{RequestData}
 use Rattle.tf_engine.specs.Faults.{is_on_instance, stop_of}
 use Rattle.tf_engine.specs.Passed.{of_solve}
@@ -23,7 +23,7 @@ use Rattle.tf_evaluate.specs.EvaluationText.{evaluation_text}
 use Rattle.tf_evaluate.specs.RunEvaluating.{SaysEvaluation, IsEvaluated, IsRefusedEvaluation, IsEvaluationOf}
 
 -- why a task is not solved has nothing to do with how the instance was read
-pub unsolved_later : (A : Type 0) (f : SolveFault A) → is_on_instance (stop_of (of_solve f)) ≡ false
+pub unsolved_later : (A : Type 0) (f : LawlerFault A) → is_on_instance (stop_of (of_solve f)) ≡ false
 unsolved_later A (solves.Cycle jobs) = refl
 unsolved_later A solves.OutOfMemory = refl
 
@@ -63,7 +63,7 @@ module _ (A T U : Type 0) (detail : Detail) (request : RequestData)
     }
 
     -- nor where the arcs have a cycle
-    pub evaluation_unsolved : Keeps writer.before writer.after → (f : SolveFault A)
+    pub evaluation_unsolved : Keeps writer.before writer.after → (f : LawlerFault A)
         → IsNotSolved case.asked.task f
         → IsEvaluationOf detail request (use_of remaining old new) (use_of giving before after)
         writer (Err (of_solve f))

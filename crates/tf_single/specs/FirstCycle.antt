@@ -4,8 +4,6 @@
 use Rattle.std.specs.Prelude.{◌≡◌, ℕ, ◌+◌, ◌-◌, ◌≤◌, ◌<◌, Bool, List, length, drop, slice_index, IsTrue}
 use Rattle.std.specs.List.{Contains}
 use Rattle.tf_model.specs.SchedulingTask.{SchedulingTask, IsJob}
-use Rattle.tf_single.specs.declared.lawler_fault.LawlerFault.{LawlerFault}
-use Rattle.tf_single.specs.declared.lawler_fault.LawlerFault.TheVariants.{Cycle, OutOfMemory}
 
 -- the job is one of some jobs, each of which precedes one of them
 abbrev pub IsEndless : SchedulingTask → ℕ → Type 0
@@ -42,8 +40,3 @@ pub record IsFirstCycle (k : SchedulingTask) (P : ℕ → Type 0) (jobs : List �
   pub start : ℕ
   pub first : IsFirstOf k P start
   pub walked : IsWalkedCycle start (IsNextOf k P) jobs
-
--- the jobs of a cycle are that one
-abbrev pub HoldsFirstCycle : {A : Type 0} → SchedulingTask → LawlerFault A → Type 0
-HoldsFirstCycle k (Cycle jobs) = IsFirstCycle k (IsEndless k) jobs
-HoldsFirstCycle k OutOfMemory = Unit {0}

@@ -2,8 +2,8 @@
 pub mod RunsByRatio
 pub mod EarliestDue
 pub mod Horn
-pub mod LawlerFault
 pub mod FirstCycle
+pub mod NotSolved
 pub mod Costs
 pub mod Backward
 pub mod FromTheBack

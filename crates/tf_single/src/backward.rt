@@ -4,8 +4,7 @@ ghost use Rattle.std.specs.Prelude.{IfSome, MatchResult, Some};
 ghost use Rattle.tf_model.specs.Limit.{limit};
 ghost use Rattle.tf_model.specs.Sound.{IsSound};
 ghost use Rattle.tf_single.specs.Backward.{AreChosen, IsDearest, rest_of};
-ghost use Rattle.tf_single.specs.FirstCycle.{HoldsFirstCycle};
-ghost use Rattle.tf_single.specs.LawlerFault.{HoldsCycle};
+ghost use Rattle.tf_single.specs.NotSolved.{IsNotSolved};
 
 use crate::arc_counts::ArcCounts;
 use crate::arcs_into::ArcsInto;
@@ -47,7 +46,7 @@ pub(crate) fn last_first<A: Allocator + Copy, B: Allocator, F: FreeJobs + Drop>(
         (λ order. IsSound task.now × AreChosen task.now order.jobs.items
         × (rest_of task.now order.jobs.items ≡ [])
         × IsDearest task.now order.jobs.items order.dearest)
-        (λ fault. HoldsCycle task.now fault × HoldsFirstCycle task.now fault) }
+        (IsNotSolved task.now) }
 {
     let counts = ArcCounts::of(alloc, task)?;
     let arcs = ArcsInto::of(alloc, task, counts.predecessors)?;

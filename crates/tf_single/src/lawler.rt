@@ -11,9 +11,8 @@ ghost use Rattle.tf_check.specs.Free.{AreMarks};
 ghost use Rattle.tf_check.specs.Kinds.{takes_last_of};
 ghost use Rattle.tf_single.specs.Backward.{AreChosen, IsDearest, rest_of};
 ghost use Rattle.tf_single.specs.Costs.{AreCosts};
-ghost use Rattle.tf_single.specs.FirstCycle.{HoldsFirstCycle};
 ghost use Rattle.tf_single.specs.FromTheBack.{IsFromTheBack};
-ghost use Rattle.tf_single.specs.LawlerFault.{HoldsCycle};
+ghost use Rattle.tf_single.specs.NotSolved.{IsNotSolved};
 
 use crate::backward::{LastFirst, last_first};
 use crate::by_cost::ByCost;
@@ -53,8 +52,7 @@ pub fn lawler<A: Allocator + Copy, B: Allocator, C: Cost>(
     ensures schedule { IfOk result (λ a. IsSchedule a.pieces) }
     ensures accepted { IfOk result (IsAccepted task.now) }
     ensures rule { IfOk result (λ a. IsFromTheBack task.now a.pieces a.certificate) }
-    ensures cycle { IfErr result (HoldsCycle task.now) }
-    ensures first { IfErr result (HoldsFirstCycle task.now) }
+    ensures cycle { IfErr result (IsNotSolved task.now) }
 {
     let taken = Vec::with_capacity(alloc, task.len())?;
     from_the_back(alloc, task, taken, ByCost::new(alloc, task, costs)?)
@@ -75,8 +73,7 @@ pub fn lawler_by_due<A: Allocator + Copy, B: Allocator>(
     ensures schedule { IfOk result (λ a. IsSchedule a.pieces) }
     ensures accepted { IfOk result (IsAccepted task.now) }
     ensures rule { IfOk result (λ a. IsFromTheBack task.now a.pieces a.certificate) }
-    ensures cycle { IfErr result (HoldsCycle task.now) }
-    ensures first { IfErr result (HoldsFirstCycle task.now) }
+    ensures cycle { IfErr result (IsNotSolved task.now) }
 {
     let taken = Vec::with_capacity(alloc, task.len())?;
     match near_due(task) {
@@ -99,8 +96,7 @@ fn from_the_back<A: Allocator + Copy, B: Allocator, F: FreeJobs + Drop>(
     ensures schedule { IfOk result (λ a. IsSchedule a.pieces) }
     ensures accepted { IfOk result (IsAccepted task.now) }
     ensures rule { IfOk result (λ a. IsFromTheBack task.now a.pieces a.certificate) }
-    ensures cycle { IfErr result (HoldsCycle task.now) }
-    ensures first { IfErr result (HoldsFirstCycle task.now) }
+    ensures cycle { IfErr result (IsNotSolved task.now) }
 {
     let order = last_first(alloc, task, taken, free)?;
     Ok(answer_of(alloc, task, order)?)

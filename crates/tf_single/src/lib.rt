@@ -7,7 +7,6 @@ mod backward;
 mod by_cost;
 mod by_due;
 mod costed_job;
-pub mod costs;
 mod cycle;
 pub mod edd;
 mod free_jobs;

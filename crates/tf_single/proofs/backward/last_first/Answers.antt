@@ -58,15 +58,16 @@ unwrap-requires g c = search rules
 pub returns-then-is_empty : goal.returns-then-is_empty
 returns-then-is_empty g c =
     let k : SchedulingTask = c.args.task.now in
-    let jobs : List ℕ = c.in_ok-cycle.field-0 in (
-      c.in_ok-cycle.ensures.forbids,
-      first_endless k c.len-place-end.ensures.sound c.loop-place.open.taken.items
+    let jobs : List ℕ = c.in_ok-cycle.field-0 in
+    record {
+      forbids = c.in_ok-cycle.ensures.forbids;
+      first = first_endless k c.len-place-end.ensures.sound c.loop-place.open.taken.items
           c.loop-place.open.counts.items (g.F.FreeJobs.jobs_of c.loop-place.open.free)
           c.loop-place.invariant.now.now (c.is_empty.ensures.none c.if-is_empty.true)
           c.loop-place.invariant.now.chosen jobs
           (subst (λ counts. IsFirstCycle k (IsLeft counts) jobs) c.deref.ensures.value
-          c.in_ok-cycle.ensures.first),
-    )
+          c.in_ok-cycle.ensures.first);
+    }
 
 pub returns : goal.returns
 returns g c =
