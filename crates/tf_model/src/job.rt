@@ -1,6 +1,6 @@
 //! A job as an instance gives it.
 use crate::cost::StepCost;
-use std::alloc::{Allocator, Global};
+use std::alloc::{AllocError, Allocator, Global};
 use std::marker::Model;
 
 /// The processing times of a job, in time steps from 0 to `LIMIT`.
@@ -40,4 +40,25 @@ impl<A: Allocator> Model for Job<A> {
           release = j.release;
           cost = option_map (λ cost. cost.value) j.cost;
         } };
+}
+
+impl<A: Allocator> Job<A> {
+    ghost use Rattle.std.specs.Prelude.{◌≡◌, IfOk};
+
+    /// The same job, kept elsewhere.
+    pub(crate) fn copied<B: Allocator + Copy>(&self, alloc: B) -> Result<Job<B>, AllocError>
+        ensures { IfOk result (λ copy. copy ≡ self.now) }
+    {
+        let cost = match &self.cost {
+            Some(cost) => Some(Box::new(alloc, cost.copied(alloc)?)?),
+            None => None,
+        };
+        Ok(Job {
+            times: self.times,
+            weight: self.weight,
+            due: self.due,
+            release: self.release,
+            cost,
+        })
+    }
 }

@@ -1,37 +1,27 @@
 //! From an instance and a problem to a task, or to the one refusal.
-ghost use Rattle.std.specs.Prelude.{◌≡◌, ℕ, false, ◌+◌, ◌<◌, ◌≤◌, ◌^◌, ◌*◌, Ok, Err, Option, None};
-ghost use Rattle.std.specs.Prelude.{Some, length, map, take, position, MatchResult, IfOk, IfErr};
-ghost use Rattle.std.specs.Prelude.{All};
+ghost use Rattle.std.specs.Prelude.{◌≡◌, ◌+◌, ◌<◌, ◌≤◌, Ok, length, map, position, IfSome};
 ghost use Rattle.std.specs.Bool.{then_some};
-ghost use Rattle.std.specs.Option.{option_map, ForSome};
+ghost use Rattle.std.specs.Option.{ForSome};
 ghost use Rattle.std.specs.List.{list_all};
 ghost use Rattle.tf_model.specs.Whole.{as_time};
-ghost use Rattle.tf_model.specs.StepFaults.{IsStepCost};
-ghost use Rattle.tf_model.specs.InstanceData.{IsInstance, first_with};
-ghost use Rattle.tf_model.specs.SchedulingTask.{SchedulingTask};
-ghost use Rattle.tf_model.specs.ClassTable.{is_shop, is_single, is_weighted, is_released, is_due};
-ghost use Rattle.tf_model.specs.ClassTable.{is_costed, is_ordered, is_sum};
-ghost use Rattle.tf_model.specs.JobRows.{HasRows};
-ghost use Rattle.tf_model.specs.Prepare.{is_too_many, machines_for, agreed, given, count_for};
+ghost use Rattle.tf_model.specs.Prepare.{is_too_many, machines_for, agreed, count_for};
 ghost use Rattle.tf_model.specs.Prepare.{has_wrong_times, lacking, missing_from, has_zero_time};
-ghost use Rattle.tf_model.specs.Prepare.{zero_time, data_of, steps_of, kept_costs, kept_arcs};
-ghost use Rattle.tf_model.specs.Prepare.{task_of, is_too_large, jobs_refusal, prepared, Prepares};
+ghost use Rattle.tf_model.specs.Prepare.{data_of, is_too_large, jobs_refusal, prepared, Prepares};
 ghost use Rattle.tf_model.specs.Complete.{is_complete};
 ghost use Rattle.tf_model.specs.Summed.{HasSummed};
-ghost use Rattle.tf_model.specs.CountFor.{IsCountFor};
 ghost use Rattle.tf_model.specs.declared.prepare.Refusal.TheVariants.{OutOfMemory, TotalTooLarge};
 
 use crate::class::{Class, class_of};
-use crate::cost::StepCost;
 use crate::ids::JobId;
 use crate::instance::{Instance, numbered};
 use crate::job::{Job, Times};
-use crate::job_rows::{JobRow, JobRows};
+use crate::job_rows::JobRow;
 use crate::job_totals::JobTotals;
 use crate::limit::{MOST_COSTED_JOBS, MOST_JOBS, MOST_MACHINES};
 use crate::problem::Problem;
 use crate::task::Task;
-use std::alloc::{AllocError, AllocFailed, Allocator};
+use crate::task_builder::TaskBuilder;
+use std::alloc::{AllocError, Allocator};
 use thiserror::Error;
 
 /// A field that some classes use of a job.
@@ -85,14 +75,6 @@ impl From<AllocError> for Refusal {
     }
 }
 
-impl<T: Drop> From<AllocFailed<T>> for Refusal {
-    ghost from_gives = { λ _ e. e ≡ OutOfMemory };
-
-    fn from(_: AllocFailed<T>) -> Refusal {
-        Refusal::OutOfMemory
-    }
-}
-
 /// The task of an instance and a problem: the fields that the class uses, with the number of
 /// machines that the notation, the argument or the instance gives. Otherwise the first refusal,
 /// each kind over all jobs before the next kind, with the smallest job; want of memory comes last.
@@ -110,11 +92,11 @@ pub fn prepare<A: Allocator + Copy, B: Allocator>(
     if is_too_many(class, instance.len()) {
         return Err(Refusal::TooManyJobs);
     }
-    let machines = machines_for(class, problem.count, machines, instance.machines())?;
+    machines_for(class, problem.count, machines, instance.machines())?;
     if let Some(refusal) = jobs_refusal(class, instance.jobs()) {
         return Err(refusal);
     }
-    assemble(alloc, class, machines, instance)
+    assemble(alloc, instance, problem, machines).ok_or(Refusal::OutOfMemory)
 }
 
 // Whether there are more jobs than the class allows.
@@ -324,90 +306,21 @@ fn jobs_refusal<A: Allocator>(class: Class, jobs: &[Job<A>]) -> Option<Refusal>
     total_refusal(class, jobs)
 }
 
-fn rows_of<A: Allocator, B: Allocator>(
-    alloc: A,
-    class: Class,
-    jobs: &[Job<B>],
-) -> Result<JobRows<A>, AllocError>
-    requires { All (λ job. has_wrong_times class job ≡ false) jobs.now }
-    ensures { IfOk result (λ rows. HasRows class rows jobs.now) }
-{
-    let mut rows = JobRows::new(alloc, class, jobs.len())?;
-    for job in jobs {
-        rows.push(row_of(class, job))?;
-    }
-    Ok(rows)
-}
-
-fn steps_of<A: Allocator, B: Allocator>(alloc: A, job: &Job<B>) -> Result<StepCost<A>, AllocError>
-    ensures { IfOk result (λ cost. (cost ≡ steps_of job.now) × IsStepCost cost) }
-{
-    match &job.cost {
-        Some(cost) => cost.copied(alloc),
-        None => Ok(StepCost::nothing(alloc)),
-    }
-}
-
-fn costs_of<A: Allocator + Copy, B: Allocator>(
-    alloc: A,
-    jobs: &[Job<B>],
-) -> Result<Vec<StepCost<A>, A>, AllocError>
-    ensures { IfOk result
-        (λ costs. (costs.items ≡ map steps_of jobs.now) × All IsStepCost costs.items) }
-{
-    let mut costs = Vec::with_capacity(alloc, jobs.len())?;
-    for job in jobs {
-        costs.push(steps_of(alloc, job)?)?;
-    }
-    Ok(costs)
-}
-
-// The cost functions, where the class has them.
-fn kept_costs<A: Allocator + Copy, B: Allocator>(
-    alloc: A,
-    class: Class,
-    jobs: &[Job<B>],
-) -> Result<Vec<StepCost<A>, A>, AllocError>
-    ensures { IfOk result
-        (λ costs. (costs.items ≡ kept_costs class jobs.now) × All IsStepCost costs.items) }
-{
-    if class.is_costed() {
-        costs_of(alloc, jobs)
-    } else {
-        Ok(Vec::new(alloc))
-    }
-}
-
-// The arcs, where the class keeps them.
-fn kept_arcs<A: Allocator>(
-    alloc: A,
-    class: Class,
-    arcs: &[(JobId, JobId)],
-) -> Result<Vec<(JobId, JobId), A>, AllocError>
-    ensures { IfOk result (λ kept. kept.items ≡ kept_arcs class arcs.now) }
-{
-    if class.is_ordered() {
-        Vec::from_slice(alloc, arcs)
-    } else {
-        Ok(Vec::new(alloc))
-    }
-}
-
-// The task of what was accepted.
+// The task of what was accepted, where memory is not wanting.
 fn assemble<A: Allocator + Copy, B: Allocator>(
     alloc: A,
-    class: Class,
-    machines: u32,
     instance: &Instance<B>,
-) -> Result<Task<A>, Refusal>
-    requires refusal { jobs_refusal class instance.now.jobs ≡ None }
-    requires machines { IsCountFor class machines }
-    ensures ok { IfOk result (λ task. task ≡ task_of class machines instance.now) }
-    ensures err { IfErr result (λ e. e ≡ OutOfMemory) }
+    problem: &Problem,
+    machines: Option<u32>,
+) -> Option<Task<A>>
+    ensures { IfSome result (λ task. prepared instance.now problem.now machines ≡ Ok task) }
 {
     let jobs = instance.jobs();
-    let rows = rows_of(alloc, class, jobs)?;
-    let costs = kept_costs(alloc, class, jobs)?;
-    let arcs = kept_arcs(alloc, class, instance.arcs())?;
-    Ok(Task::new(class, machines, rows, costs, arcs))
+    let mut builder = TaskBuilder::new(alloc, problem, machines, instance.machines(), jobs.len())?;
+    for job in jobs {
+        let job = job.copied(alloc).ok()?;
+        builder.push(job)?;
+    }
+    let arcs = Vec::from_slice(alloc, instance.arcs()).ok()?;
+    builder.finish(arcs)
 }

@@ -1,41 +1,54 @@
-use Rattle.std.proofs.Common.{◌≡◌, ℕ, false, None, ap, sym, ◌∙◌, subst, map, List, All}
-use Rattle.tf_model.specs.Steps.{Steps}
-use Rattle.tf_model.specs.StepFaults.{IsStepCost}
+use Rattle.std.specs.Prelude.{IfOk}
+use Rattle.std.specs.Result.{result_ok}
+use Rattle.std.proofs.Common.{◌≡◌, ℕ, ◌+◌, ◌++◌, List, [], ◌∷◌, Some, Result, Ok, Err, take, ap, sym, ◌∙◌, subst}
+use Rattle.std.proofs.lemmas.List.{take_all, take_more}
 use Rattle.tf_model.specs.JobFields.{JobFields}
-use Rattle.tf_model.specs.InstanceData.{InstanceData, IsInstance}
-use Rattle.tf_model.specs.SchedulingTask.{JobData}
-use Rattle.tf_model.specs.Sound.{IsSound}
-use Rattle.tf_model.specs.CountFor.{IsCountFor}
-use Rattle.tf_model.specs.Prepare.{data_of, has_wrong_times, kept_costs, kept_arcs, jobs_refusal}
-use Rattle.tf_model.specs.declared.class.Class.{Class}
-use Rattle.tf_model.proofs.Prepared.{task_of-IsSound, times_right}
+use Rattle.tf_model.specs.TaskBuilder.{HasTaken}
 use Rattle.tf_model.proofs.prepare.assemble.Goals as goal
 
--- the parts make the task, which is sound
-assembled : (class : Class) (m : ℕ) (i : InstanceData) (jobs : List JobFields)
-    (pairs : List (ℕ × ℕ))
-    (rows : List JobData) (costs : List Steps) (arcs : List (ℕ × ℕ))
-    → IsInstance i → jobs_refusal class i.jobs ≡ None → IsCountFor class m → jobs ≡ i.jobs
-    → pairs ≡ i.arcs
-    → rows ≡ map (data_of class) jobs → costs ≡ kept_costs class jobs → All IsStepCost costs
-    → arcs ≡ kept_arcs class pairs
-    → IsSound (record { class = class; machines = m; jobs = rows; costs = costs; arcs = arcs })
-assembled class m i jobs pairs rows costs arcs instance refusal counted read read_arcs e f steps h =
-    let rows_are : rows ≡ map (data_of class) i.jobs = e ∙ ap (map (data_of class)) read in
-    let costs_are : costs ≡ kept_costs class i.jobs = f ∙ ap (kept_costs class) read in
-    let arcs_are : arcs ≡ kept_arcs class i.arcs = h ∙ ap (kept_arcs class) read_arcs in
-    rw (rows_are, costs_are, arcs_are)
-    (task_of-IsSound class m i instance refusal counted
-    (subst (λ xs. All IsStepCost xs) costs_are steps))
+-- what is known of what a call made
+made_is : {X E Y : Type 0} (f : X → Y) (r : Result X E) (x : X) (y : Y) → Some x ≡ result_ok r
+    → IfOk r (λ made. f made ≡ y) → f x ≡ y
+made_is f (Ok made) x y is same = cc
+made_is f (Err e) x y is same = cc
 
-pub new-requires : goal.new-requires
-new-requires g c =
-    assembled c.args.class c.args.machines c.args.instance.now _ _ _ _ _ c.jobs-jobs.ensures.sound
-    c.requires.refusal c.requires.machines
-    c.jobs-jobs.ensures.value c.arcs.ensures.value c.in_ok-rows.ensures.rows_are c.in_ok-costs.ensures.0
-    c.in_ok-costs.ensures.1 c.in_ok-arcs.ensures
+pub loop-job-init : goal.loop-job-init
+loop-job-init g c =
+    subst (λ count. HasTaken c.args.problem.now c.args.machines count c.in_ok-builder.builder [])
+    c.machines.ensures.value c.in_ok-builder.ensures
 
-pub rows_of-requires : goal.rows_of-requires
-rows_of-requires g c =
-    subst (All (λ job. has_wrong_times c.args.class job ≡ false)) (sym c.jobs-jobs.ensures.value)
-    (times_right c.args.class c.args.instance.now.jobs c.requires.refusal)
+pub loop-job-preserved : goal.loop-job-preserved
+loop-job-preserved g c =
+    let jobs : List JobFields = c.jobs-jobs.result.now in
+    let i : ℕ = c.loop-job.job-index in
+    let item : JobFields = c.job-item.result in
+    let copy : c.in_ok-job.job ≡ item =
+    made_is (λ x. x) c.copied.result _ item (sym c.in_ok-job.was ∙ c.ok.ensures.value) c.copied.ensures in
+    let next : take i jobs ++ c.in_ok-job.job ∷ [] ≡ take (i + 1) jobs =
+    ap (λ x. take i jobs ++ x ∷ []) (copy ∙ c.job-item.is)
+    ∙ sym (take_more jobs i item c.loop-job-test.true) in
+    subst (HasTaken c.args.problem.now c.args.machines c.args.instance.now.machines c.push.new.self)
+    next (c.in_ok-push.ensures c.args.problem.now c.args.machines c.args.instance.now.machines
+    (take i jobs) c.loop-job.invariant)
+
+pub finish-requires : goal.finish-requires
+finish-requires g c = (
+  c.args.problem.now,
+  c.args.machines,
+  c.args.instance.now,
+  subst (HasTaken c.args.problem.now c.args.machines c.args.instance.now.machines c.loop-job.builder)
+      (take_all c.loop-job.job-index c.jobs-jobs.result.now c.loop-job-test.false
+      ∙ c.jobs-jobs.ensures.value) c.loop-job.invariant,
+  sym (made_is (λ v. v.items) c.from_slice.result _ _ (sym c.in_ok-arcs.was ∙ c.ok-2.ensures.value)
+      c.from_slice.ensures.items ∙ c.arcs.ensures.value),
+  c.jobs-jobs.ensures.sound,
+)
+
+pub returns : goal.returns
+returns g c =
+    c.finish.ensures c.args.problem.now c.args.machines c.args.instance.now
+    (subst (HasTaken c.args.problem.now c.args.machines c.args.instance.now.machines c.loop-job.builder)
+    (take_all c.loop-job.job-index c.jobs-jobs.result.now c.loop-job-test.false
+    ∙ c.jobs-jobs.ensures.value) c.loop-job.invariant)
+    (sym (made_is (λ v. v.items) c.from_slice.result _ _ (sym c.in_ok-arcs.was ∙ c.ok-2.ensures.value)
+    c.from_slice.ensures.items ∙ c.arcs.ensures.value))

@@ -1,6 +1,7 @@
-use Rattle.std.proofs.Common.{◌≡◌, ℕ, ◌+◌, Option, None, Some, Result, Ok, Err, List, [], ◌∷◌, refl, ap, sym, ◌∙◌, Bool, true, false, cond, map, length}
+use Rattle.std.proofs.Common.{◌≡◌, ℕ, ◌+◌, Option, None, Some, Result, Ok, Err, List, [], ◌∷◌, refl, ap, sym, ◌∙◌, subst, Bool, true, false, cond, map, length}
 use Rattle.std.specs.Bool.{then_some}
-use Rattle.std.specs.Option.{option_map, option_or}
+use Rattle.std.specs.Prelude.{IfSome, IsOk}
+use Rattle.std.specs.Option.{option_map, option_or, ok_or}
 use Rattle.tf_model.specs.ClassTable.{class_of}
 use Rattle.tf_model.specs.declared.class.Class.{Class}
 use Rattle.tf_model.specs.declared.problem.Problem.{Problem}
@@ -11,7 +12,6 @@ use Rattle.tf_model.specs.InstanceData.{InstanceData, first_with}
 use Rattle.tf_model.specs.SchedulingTask.{SchedulingTask}
 use Rattle.tf_model.specs.ClassTable.{is_shop}
 use Rattle.tf_model.specs.Prepare.{is_too_many, machines_for, has_wrong_times, lacking, missing_from, has_zero_time, data_of, is_too_large, jobs_refusal, prepared, Prepares}
-use Rattle.tf_model.proofs.Prepared.{IsCountFor-machines_for}
 use Rattle.tf_model.proofs.prepare.prepare.Goals as goal
 
 -- no refusal for the jobs' sake is want of memory
@@ -68,20 +68,44 @@ prepared-Err i problem argument count class m jobs refusal of few read_count cou
     sym (e ∙ ap (jobs_refusal class) read_jobs) in
     rw (← of, few, count_is, refusal_is) refl
 
-pub assemble-requires-clause-machines : goal.assemble-requires-clause-machines
-assemble-requires-clause-machines g c =
-    IsCountFor-machines_for c.in-Some.class c.args.problem.now.count c.args.machines
-    c.machines.result c.in_ok-machines.machines (sym c.in_ok-machines.ensures)
+prepared-Ok : (i : InstanceData) (problem : Problem) (argument count : Option ℕ) (class : Class)
+    (m : ℕ) (jobs : List JobFields)
+    → Some class ≡ class_of problem → is_too_many class (length i.jobs) ≡ false → count ≡ i.machines
+    → Ok m ≡ machines_for class problem.count argument count
+    → jobs ≡ i.jobs → None ≡ jobs_refusal class jobs → IsOk (prepared i problem argument)
+prepared-Ok i problem argument count class m jobs of few read_count counted read_jobs e =
+    let count_is : machines_for class problem.count argument i.machines ≡ Ok m =
+    sym (counted ∙ ap (machines_for class problem.count argument) read_count) in
+    let none : jobs_refusal class i.jobs ≡ None = sym (e ∙ ap (jobs_refusal class) read_jobs) in
+    rw (← of, few, count_is, none) refl
+
+-- the task that was assembled, or want of memory
+assembled : (o : Option SchedulingTask) (wanted : Result SchedulingTask Refusal)
+    → IfSome o (λ task. wanted ≡ Ok task) → IsOk wanted → Prepares (ok_or o OutOfMemory) wanted
+assembled (Some task) wanted is ok = is
+assembled None wanted is ok = ok
 
 pub returns-in-Some-jobs_refusal : goal.returns-in-Some-jobs_refusal
 returns-in-Some-jobs_refusal g c =
     refused c.in-Some-jobs_refusal.refusal _
     (λ e. memory_apart c.in-Some.class c.jobs.result.now
     (sym c.in-Some-jobs_refusal.ensures ∙ ap Some e))
-    (let few : is_too_many c.in-Some.class (length c.args.instance.now.jobs) ≡ false =
-    ap (is_too_many c.in-Some.class) (sym c.len.ensures.value) ∙ sym c.is_too_many.ensures
-    ∙ c.if-is_too_many.false in
-    prepared-Err c.args.instance.now c.args.problem.now c.args.machines c.machines.result
-    c.in-Some.class c.in_ok-machines.machines c.jobs.result.now c.in-Some-jobs_refusal.refusal
-    c.in-Some.ensures.value few c.machines.ensures.value c.in_ok-machines.ensures c.jobs.ensures.value
+    (prepared-Err c.args.instance.now c.args.problem.now c.args.machines c.machines.result
+    c.in-Some.class c.in_ok-machines_for.field-0 c.jobs.result.now c.in-Some-jobs_refusal.refusal
+    c.in-Some.ensures.value
+    (ap (is_too_many c.in-Some.class) (sym c.len.ensures.value) ∙ sym c.is_too_many.ensures
+    ∙ c.if-is_too_many.false)
+    c.machines.ensures.value c.in_ok-machines_for.ensures c.jobs.ensures.value
     c.in-Some-jobs_refusal.ensures)
+
+pub returns : goal.returns
+returns g c =
+    subst (λ r. Prepares r (prepared c.args.instance.now c.args.problem.now c.args.machines))
+    (sym c.ok_or.ensures.value)
+    (assembled c.assemble.result _ c.assemble.ensures
+    (prepared-Ok c.args.instance.now c.args.problem.now c.args.machines c.machines.result
+    c.in-Some.class c.in_ok-machines_for.field-0 c.jobs.result.now c.in-Some.ensures.value
+    (ap (is_too_many c.in-Some.class) (sym c.len.ensures.value) ∙ sym c.is_too_many.ensures
+    ∙ c.if-is_too_many.false)
+    c.machines.ensures.value c.in_ok-machines_for.ensures c.jobs.ensures.value
+    c.in_default-jobs_refusal.ensures))
