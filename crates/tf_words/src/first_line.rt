@@ -3,7 +3,7 @@
 //! Each byte is looked at once. Where one of these functions gives nothing, the line has another
 //! form, and nothing is said of it.
 ghost use Rattle.std.specs.Prelude.{◌≡◌, ◌∷◌, ◌++◌, ◌<◌, ◌≤◌, ℕ, List, Some, true, not, take};
-ghost use Rattle.std.specs.Prelude.{length, IfSome};
+ghost use Rattle.std.specs.Prelude.{length, IfSome, ◌⊎◌};
 ghost use Rattle.std.specs.List.{list_all};
 ghost use Rattle.std.specs.Char.{is_ascii_digit};
 ghost use Rattle.std.specs.Str.Parse.{digits_value};
@@ -110,7 +110,9 @@ pub fn behind_first_key<'a>(text: &'a [u8], key: &[u8]) -> Option<&'a [u8]>
 
 /// What follows the line feed with which a text begins, maybe behind a carriage return.
 pub fn behind_line_feed(text: &[u8]) -> Option<&[u8]>
-    ensures { IfSome result (λ rest. IsLineEnd text.now rest.now) }
+    ensures end { IfSome result (λ rest. IsLineEnd text.now rest.now) }
+    ensures bytes { IfSome result
+        (λ rest. (text.now ≡ 10 ∷ rest.now) ⊎ (text.now ≡ 13 ∷ 10 ∷ rest.now)) }
 {
     if let [b'\n', rest @ ..] = text {
         return Some(rest);

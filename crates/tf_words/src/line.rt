@@ -69,7 +69,7 @@ fn next_line(text: &[u8]) -> (&[u8], &[u8])
 }
 
 /// Whether the line has a word and is no comment, which its front tells.
-fn is_kept(line: &[u8]) -> bool
+pub fn is_kept(line: &[u8]) -> bool
     ensures { result ≡ is_kept (words line.now) }
 {
     match word_at(line) {

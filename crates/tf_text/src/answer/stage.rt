@@ -25,7 +25,7 @@ use tf_model::problem::Problem;
 use tf_notation::reading::read;
 use tf_schedule::piece::Piece;
 use tf_schedule::piece_list::PieceList;
-use tf_words::line::{Line, after_word, without_return};
+use tf_words::line::{Line, after_word, is_kept, without_return};
 use tf_words::word::{behind_key, first_word, is};
 
 /// The line that is wanted next, and what the lines before it say.
@@ -119,16 +119,6 @@ fn value_line(line: &Line<'_>) -> Result<i64, AnswerFault>
 {
     let word = word_behind(line, b"value")?;
     value_in(line.number, word)
-}
-
-/// Whether a line has a word and is no comment.
-fn is_kept(line: &[u8]) -> bool
-    ensures { result ≡ is_kept (words line.now) }
-{
-    match first_word(line) {
-        None => false,
-        Some((word, _)) => word[0] != b'#',
-    }
 }
 
 impl<A: Allocator + Copy> Stage<A> {

@@ -1,26 +1,16 @@
 //! Piece lines in their usual form: one blank between the words, digits, and a line feed, maybe
 //! behind a carriage return.
-ghost use Rattle.std.specs.Prelude.{IfSome, ◌≡◌, ◌∷◌, ◌⊎◌};
+ghost use Rattle.std.specs.Prelude.{IfSome};
 ghost use Rattle.tf_text.specs.NextPiece.{IsUsual};
 
 use tf_model::ids::{JobId, MachineId};
 use tf_model::limit::{MOST_JOBS, MOST_MACHINES};
 use tf_schedule::piece::Piece;
-use tf_words::first_line::next_number;
+use tf_words::first_line::{behind_line_feed, next_number};
 
 const MOST_JOB: u64 = MOST_JOBS as u64;
 
 const MOST_MACHINE: u64 = MOST_MACHINES as u64;
-
-/// What follows the end of the line with which a text begins.
-fn behind_end(text: &[u8]) -> Option<&[u8]>
-    ensures { IfSome result (λ rest. (text.now ≡ 10 ∷ rest.now) ⊎ (text.now ≡ 13 ∷ 10 ∷ rest.now)) }
-{
-    match text {
-        [b'\n', rest @ ..] | [b'\r', b'\n', rest @ ..] => Some(rest),
-        _ => None,
-    }
-}
 
 /// The piece of the line with which a text begins, which is read in one pass, and what follows its
 /// line feed. Nothing is said of a line of another form.
@@ -32,7 +22,7 @@ pub(crate) fn usual_line(text: &[u8]) -> Option<(Piece, &[u8])>
     let (machine, from) = next_number(from)?;
     let (start, from) = next_number(from)?;
     let (stop, from) = next_number(from)?;
-    let rest = behind_end(from)?;
+    let rest = behind_line_feed(from)?;
     if job > MOST_JOB || machine > MOST_MACHINE {
         return None;
     }

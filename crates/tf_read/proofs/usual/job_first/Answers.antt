@@ -4,7 +4,7 @@ use Rattle.tf_read.proofs.usual.job_first.Goals as goal
 
 pub returns-in-Some-clause-job : goal.returns-in-Some-clause-job
 returns-in-Some-clause-job g c =
-    let over = c.in-Some.ensures in
+    let over = c.in-Some.ensures.end in
     λ line. sym (c.loop-behind.invariant.fields line)
     ∙ fields_end line c.loop-behind.fields _ over.words
     ∙ rw (← c.fields.view_is, c.in_ok-times.was) refl

@@ -15,7 +15,7 @@ returns c =
     let few : c.args.k ≤ most_arcs = omega arith in
     usual_line c.args.jobs c.args.k _ _ _ a.0 b.0 _ _ _ c.behind_first.ensures.words
     (ap line_words (sym c.bytes_left.ensures)
-    ∙ three_words _ a.0 b.0 _ _ _ _ _ c.in_ok-text.ensures a.2 b.2 c.in_ok-rest.ensures) few
+    ∙ three_words _ a.0 b.0 _ _ _ _ _ c.in_ok-text.ensures a.2 b.2 c.in_ok-rest.ensures.end) few
     (record {
       numeral = subst (λ (n : ℕ). IsNumeralOf a.0 n) (sym first) a.1;
       few = omega (arith, c.in_ok-first.ensures.few);

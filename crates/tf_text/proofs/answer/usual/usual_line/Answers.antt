@@ -17,7 +17,7 @@ returns c =
     let some_machine : 1 ≤ c.in_ok-machine.machine = c.in_ok-new-2.ensures.valid.0 refl in
     usual_text _ _ _ _ _ _ _ a.0 b.0 s.0 t.0 _ _ _ _
     (key_front _ (take 5 c.args.text.now) _ (codes "piece") 5 refl key.1 key.0) a.3 b.3 s.3 t.3
-    c.in_ok-rest.ensures a.2 b.2 s.2 t.2
+    c.in_ok-rest.ensures.bytes a.2 b.2 s.2 t.2
     (record {
       job = subst (λ (n : ℕ). IsNumeralOf a.0 n) (sym job) a.1;
       job_low = omega arith;
