@@ -41,38 +41,34 @@ impl<'a> Session<'a> {
 
     /// Takes the next line, which stands at this place of the file, from 1.
     pub fn take(&mut self, place: usize, line: &'a str) -> Result<(), AllocError> {
-        let is_taken = match Line::read(line) {
-            None => false,
-            Some(Line::Nothing) => true,
-            Some(Line::Written(line)) => self.show(line, false)?,
-            Some(Line::Said(line)) => self.show(line, true)?,
-            Some(Line::Status(status)) => self.show_status(status),
-            Some(Line::Command(words)) => {
-                self.run_shown()?;
-                self.shown = Some(Shown::new(self.alloc, place, words));
-                true
-            }
-            Some(Line::File(name)) => {
-                self.run_shown()?;
-                self.begin(name, String::new(self.alloc))?
-            }
-            Some(Line::Copy(name, other)) => {
-                self.run_shown()?;
-                self.copy(name, other)?
-            }
-            Some(Line::Text(line)) => {
-                self.run_shown()?;
-                self.add(line)?
-            }
-            Some(Line::Changed(place, line)) => {
-                self.run_shown()?;
-                self.change(place, line)?
-            }
+        let Some(read) = Line::read(line) else {
+            return self.complain(place, line);
         };
-        if is_taken {
+        if read.begins_anew() {
+            self.run_shown()?;
+        }
+        if self.is_taken(place, read)? {
             Ok(())
         } else {
             self.complain(place, line)
+        }
+    }
+
+    /// Takes a line, and tells whether it has a place where it stands.
+    fn is_taken(&mut self, place: usize, line: Line<'a>) -> Result<bool, AllocError> {
+        match line {
+            Line::Nothing => Ok(true),
+            Line::Written(line) => self.show(line, false),
+            Line::Said(line) => self.show(line, true),
+            Line::Status(status) => Ok(self.show_status(status)),
+            Line::Command(words) => {
+                self.shown = Some(Shown::new(self.alloc, place, words));
+                Ok(true)
+            }
+            Line::File(name) => self.begin(name, String::new(self.alloc)),
+            Line::Copy(name, other) => self.copy(name, other),
+            Line::Text(line) => self.add(line),
+            Line::Changed(place, line) => self.change(place, line),
         }
     }
 

@@ -44,6 +44,14 @@ impl<'a> Line<'a> {
             changed(line)
         }
     }
+
+    /// Whether it ends what is shown of the command before it.
+    pub fn begins_anew(&self) -> bool {
+        match self {
+            Line::Nothing | Line::Written(_) | Line::Said(_) | Line::Status(_) => false,
+            _ => true,
+        }
+    }
 }
 
 /// What stands behind a sign and a blank, or behind the sign alone.

@@ -19,6 +19,9 @@ pub struct Ended {
     pub said: Vec<u8>,
 }
 
+/// A console whose devices are kept in memory.
+type Kept<'a> = Console<&'a mut Vec<u8>, &'a mut Vec<u8>>;
+
 /// Runs the command line of these words behind the program's name, as the program does.
 pub fn run(alloc: Global, line: &str, texts: Texts<'_>) -> Result<Ended, AllocError> {
     let words = words_of(alloc, line)?;
@@ -30,28 +33,31 @@ pub fn run(alloc: Global, line: &str, texts: Texts<'_>) -> Result<Ended, AllocEr
         errors: Counted::new(&mut said),
         is_terminal: true,
     };
-    let status = match understand(command(alloc)?, words.as_slice(), false) {
-        Asked::Work(work) => perform_counted(&mut console, &texts, work),
-        Asked::Formatted(work, format) => counted_formatted(&mut console, &texts, work, format),
-        Asked::Series(series) => perform_series(&mut console, &texts, &series),
-        Asked::Measured(evaluating) => perform_measured(&mut console, &texts, evaluating),
-        Asked::Help(text) => {
-            let _ = console.writer.push_all(text.to_string(alloc)?.as_bytes());
-            0
-        }
-        Asked::Misused(fault) => {
-            drop(fault);
-            say_misuse(alloc, words.as_slice(), &mut console.errors)
-        }
-        Asked::Unfit(text) => say_usage(&mut console.errors, text),
-        Asked::NoMemory => say_memory(&mut console.errors),
-    };
+    let status = perform(&mut console, words.as_slice(), texts);
     drop(console);
     Ok(Ended {
-        status,
+        status: status?,
         written,
         said,
     })
+}
+
+/// Runs the command line, and gives its status.
+fn perform(console: &mut Kept<'_>, words: &[String], texts: Texts<'_>) -> Result<u8, AllocError> {
+    match understand(command(console.alloc)?, words, false) {
+        Asked::Work(work) => Ok(perform_counted(console, &texts, work)),
+        Asked::Formatted(work, format) => Ok(counted_formatted(console, &texts, work, format)),
+        Asked::Series(series) => Ok(perform_series(console, &texts, &series)),
+        Asked::Measured(evaluating) => Ok(perform_measured(console, &texts, evaluating)),
+        Asked::Help(text) => {
+            let text = text.to_string(console.alloc)?;
+            let _ = console.writer.push_all(text.as_bytes());
+            Ok(0)
+        }
+        Asked::Misused(_) => Ok(say_misuse(console.alloc, words, &mut console.errors)),
+        Asked::Unfit(text) => Ok(say_usage(&mut console.errors, text)),
+        Asked::NoMemory => Ok(say_memory(&mut console.errors)),
+    }
 }
 
 /// The program's name and the words of a line: parted by blanks, or between double quotes.
