@@ -1,11 +1,10 @@
 -- Jobs with keys are in order where their ranks are.
-use Rattle.std.proofs.Common.{◌≡◌, ℕ, ◌+◌, ◌*◌, ◌<◌, ◌≤◌, ◌/◌, ◌%◌, ℤ, pos, ◌+ℤ◌, false, List, length, get_or, map, take, subst, sym, arith}
+use Rattle.std.proofs.Common.{◌≡◌, ℕ, ◌+◌, ◌*◌, ◌<◌, ◌≤◌, ◌/◌, ◌%◌, ℤ, pos, ◌+ℤ◌, false, List, length, get_or, take, subst, sym, arith}
 use Rattle.std.specs.List.{All}
-use Rattle.std.specs.List.Sorted.{IsSorted}
 use Rattle.std.specs.Ordering.{nat_cmp, int_cmp, ordering_then, is_lt}
 use Rattle.std.proofs.lemmas.Bool.Decides.{nat_tests}
 use Rattle.std.proofs.lemmas.Int.{ints}
-use Rattle.std.proofs.lemmas.List.{get_or-map, length-map, take_more}
+use Rattle.std.proofs.lemmas.List.{take_more}
 use Rattle.std.proofs.lemmas.List.Elements.{All-push}
 use Rattle.tf_check.specs.KeyedJob.{key_cmp}
 use Rattle.tf_check.specs.Ranked.{IsBetween, ranked}
@@ -26,17 +25,6 @@ pub pair_in_order : (least : ℤ) (a b : ℕ) → a ≤ b
 pair_in_order least a b le =
     in_order least (a / 4294967296) (a % 4294967296) (b / 4294967296) (b % 4294967296) (omega arith)
     (omega arith) (omega (arith, le))
-
-pub ranked_sorted : (least : ℤ) (rs : List ℕ) → IsSorted nat_cmp rs
-    → IsSorted key_cmp (map (ranked least) rs)
-ranked_sorted least rs rising k d low high =
-    let lt : k + 1 < length rs = omega (arith, high, length-map rs (ranked least)) in
-    subst (λ (e : KeyedJob). is_lt (key_cmp (get_or (map (ranked least) rs) (k + 1) d) e) ≡ false)
-    (sym (get_or-map (ranked least) rs k 0 d (omega arith)))
-    (subst (λ (e : KeyedJob). is_lt (key_cmp e (ranked least (get_or rs k 0))) ≡ false)
-    (sym (get_or-map (ranked least) rs (k + 1) 0 d lt))
-    (pair_in_order least (get_or rs k 0) (get_or rs (k + 1) 0)
-    (not_less (get_or rs k 0) (get_or rs (k + 1) 0) (rising k 0 low lt))))
 
 -- ---- keys within a span
 

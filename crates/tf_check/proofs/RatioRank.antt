@@ -266,8 +266,3 @@ scale_from k n w t s greatest all is small = record {
       mul-le-mul_right s (greatest.times j known.0 (omega (arith, known.1, all))) in
       omega (arith, le, small);
 }
-
--- with a weight, the time over it
-pub scaled_some : (w t s : ℕ) → 1 ≤ w → scaled w t s ≡ (t * s) / w
-scaled_some zero t s some = absurd (omega (arith, some))
-scaled_some (suc w) t s some = refl

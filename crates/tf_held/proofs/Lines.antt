@@ -122,21 +122,6 @@ over series instance rest answer after number None none next later untold =
 over series instance rest answer after number (Some last) none next later untold =
     absurd (no_last last none)
 
--- the file has no more instances
-pub all_told : (series : Series) (instance answers all rest answer after : List ℕ) (steps number : ℕ)
-    → Progress series instance answers all rest steps → number ≡ series.span.first + steps
-    → IsNext rest answer after → Tells series instance answer number None
-    → AreLines series instance answers all
-all_told series instance answers all rest answer after steps number done at next none = record {
-  lines = done.lines;
-  rest = rest;
-  entries = done.entries;
-  all = subst (IsAll series instance rest series.span.last)
-      (here_is series.span.first number steps (length done.lines) at done.count)
-      (over series instance rest answer after number series.span.last none.0 next none.1 none.2);
-  written = done.written;
-}
-
 -- the instance whose turn it is has no line
 stops_here : (series : Series) (instance answers all rest answer after : List ℕ) (steps number : ℕ)
     (stop : Stop) → Progress series instance answers all rest steps
