@@ -7,16 +7,16 @@ use Rattle.std.specs.Prelude.{IsTrue, IsFalse}
 use Rattle.tf_model.specs.ClassTable.{is_shop_env}
 use Rattle.tf_model.specs.declared.problem.Problem.{Problem}
 use Rattle.tf_problem.specs.ProblemData.{ProblemData, ProblemJobData, is_covered, is_job_shop, no_problem_job}
-use Rattle.tf_bound.specs.Sized.{IsSized, IsSizedJob, work, all_work}
+use Rattle.tf_bound.specs.Sized.{IsSized, IsSizedJob, task_of, work, all_work}
 use Rattle.tf_model.specs.Limit.{limit}
-use Rattle.tf_bound.specs.Refused.{is_taken_problem, IsFitJob, AreFit, IsUnfitAt, IsTooMuchAt, IsJobsFault, IsCounted, IsTaskFault}
+use Rattle.tf_bound.specs.Refused.{is_taken_problem, IsFitJob, AreFit, IsUnfitAt, IsTooMuchAt, IsJobsFault, IsCounted, IsInHorizon, AreArcsIn, IsTaskFault}
 use Rattle.tf_bound.proofs.Steps.{sum_next}
 use Rattle.tf_bound.specs.declared.fault.TaskFault.{TaskFault}
 use Rattle.tf_bound.specs.declared.fault.TaskFault.TheVariants.{NotCovered, Jobs, Machines, Times, TooLarge, Arc}
 
 -- ---- the problem
 
-pub is_taken : (p : Problem) → IsTrue (is_taken_problem p)
+is_taken : (p : Problem) → IsTrue (is_taken_problem p)
     → IsTrue (is_covered p) × IsFalse (is_job_shop p.env)
 is_taken p taken = parts (is_covered p) (is_job_shop p.env) taken
   where
@@ -110,57 +110,61 @@ jobs_fault k counted Arc fault = absurd fault
 
 -- ---- the parts of a task
 
-module _ (k : ProblemData) (counted : IsCounted k) (all : ℕ) (xs : List ProblemJobData)
-    (same : xs ≡ k.jobs) (value : all ≡ sum_by work xs) (small : all ≤ limit) (shop : Bool)
-    (is_shop : shop ≡ is_shop_env k.problem.env)
-    (sized : All (IsSizedJob shop k.machines) xs) where
+module _ (k : ProblemData) (counted : IsCounted k) (all : ℕ) (value : all ≡ all_work k)
+    (small : all ≤ limit) (shop : Bool) (is_shop : shop ≡ is_shop_env k.problem.env)
+    (sized : All (IsSizedJob shop k.machines) k.jobs) where
+  its : All (IsSizedJob (is_shop_env k.problem.env) k.machines) k.jobs
+  its = subst (λ (b : Bool). All (IsSizedJob b k.machines) k.jobs) is_shop sized
+
   all_fit : AreFit (is_shop_env k.problem.env) k.machines k.jobs (length k.jobs)
   all_fit =
       let whole : take (length k.jobs) k.jobs ≡ k.jobs =
       take_all (length k.jobs) k.jobs (omega arith) in
-      let its : All (IsSizedJob (is_shop_env k.problem.env) k.machines) k.jobs =
-      subst (λ (b : Bool). All (IsSizedJob b k.machines) k.jobs) is_shop
-      (subst (λ (ys : List ProblemJobData). All (IsSizedJob shop k.machines) ys) same sized) in
       record {
         sized = subst (λ (ys : List ProblemJobData). All (IsSizedJob (is_shop_env k.problem.env) k.machines) ys)
             (sym whole) its;
-        total = omega (arith, small, value, ap (sum_by work) same, ap (sum_by work) whole);
+        total = omega (arith, small, value, ap (sum_by work) whole);
       }
 
-  work_is : all ≡ all_work k
-  work_is = value ∙ ap (sum_by work) same
-
   -- not all work after some release date is within the limit
-  pub too_late : (ys : List ProblemJobData) → ys ≡ k.jobs
-      → (All (λ x. x.release + all ≤ limit) ys → ⊥) → IsTaskFault k TooLarge
-  too_late ys are late = (
+  pub too_late : (All (λ x. x.release + all ≤ limit) k.jobs → ⊥) → IsTaskFault k TooLarge
+  too_late late = (
     counted,
     inr (record {
       fit = all_fit;
-      late = λ horizon.
-          late (subst (λ (zs : List ProblemJobData). All (λ (x : ProblemJobData). x.release + all ≤ limit) zs)
-          (sym are)
-          (subst (λ (n : ℕ). All (λ (x : ProblemJobData). x.release + n ≤ limit) k.jobs) (sym work_is)
-          horizon));
+      late = subst (λ (n : ℕ). All (λ (x : ProblemJobData). x.release + n ≤ limit) k.jobs → ⊥) value
+          late;
     }),
   )
 
-  -- an arc is not between two of the jobs
-  pub not_in : (ys : List ProblemJobData) → ys ≡ k.jobs → All (λ x. x.release + all ≤ limit) ys
-      → (arcs : List (ℕ × ℕ)) → arcs ≡ k.arcs → (n : ℕ) → n ≡ length k.jobs
-      → (All (λ arc. ((1 ≤ arc.0) × (arc.0 ≤ n)) × ((1 ≤ arc.1) × (arc.1 ≤ n))) arcs → ⊥)
-      → IsTaskFault k Arc
-  not_in ys are horizon arcs arcs_are n count none = (
-    record {
-      counted = counted;
-      fit = all_fit;
-      horizon = subst (λ (m : ℕ). All (λ (x : ProblemJobData). x.release + m ≤ limit) k.jobs) work_is
-          (subst (λ (zs : List ProblemJobData). All (λ (x : ProblemJobData). x.release + all ≤ limit) zs) are
-          horizon);
-    },
-    λ between. none
-        (subst (λ (m : ℕ). All (λ (arc : ℕ × ℕ). ((1 ≤ arc.0) × (arc.0 ≤ m))
-        × ((1 ≤ arc.1) × (arc.1 ≤ m))) arcs) (sym count)
-        (subst (λ (pairs : List (ℕ × ℕ)). All (λ (arc : ℕ × ℕ). ((1 ≤ arc.0) × (arc.0 ≤ length k.jobs))
-        × ((1 ≤ arc.1) × (arc.1 ≤ length k.jobs))) pairs) (sym arcs_are) between)),
-  )
+  module _ (within : All (λ x. x.release + all ≤ limit) k.jobs) where
+    horizon : IsInHorizon k
+    horizon = subst (λ (n : ℕ). All (λ (x : ProblemJobData). x.release + n ≤ limit) k.jobs) value
+        within
+
+    -- an arc is not between two of the jobs
+    pub not_in : (AreArcsIn k → ⊥) → IsTaskFault k Arc
+    not_in none = (record { counted = counted; fit = all_fit; horizon = horizon }, none)
+
+    pub sized_task : AreArcsIn k → IsSized k
+    sized_task arcs = record {
+      covered = (is_taken k.problem counted.taken).0;
+      no_routes = (is_taken k.problem counted.taken).1;
+      some_job = counted.jobs.0;
+      few_jobs = counted.jobs.1;
+      some_machine = counted.machines.some;
+      few_machines = counted.machines.few;
+      single = counted.machines.single;
+      jobs = its;
+      arcs_in = arcs;
+      total = omega (arith, value, small);
+      horizon = horizon;
+    }
+
+-- a task whose jobs and arcs are named otherwise
+pub same_task : (Q : ProblemData → Type 0) (problem : Problem) (machines : ℕ)
+    (xs jobs : List ProblemJobData) (ys arcs : List (ℕ × ℕ)) → xs ≡ jobs → ys ≡ arcs
+    → Q (task_of problem machines xs ys) → Q (task_of problem machines jobs arcs)
+same_task Q problem machines xs jobs ys arcs is are h =
+    subst (λ (js : List ProblemJobData). Q (task_of problem machines js arcs)) is
+    (subst (λ (zs : List (ℕ × ℕ)). Q (task_of problem machines xs zs)) are h)

@@ -20,10 +20,6 @@ pub sum_next : {X : Type 0} (f : X → ℕ) (xs : List X) (i : ℕ) (x : X) → 
 sum_next f xs i x lt is =
     sum_by_more f xs i x lt ∙ ap (λ y. sum_by f (take i xs) + f y) (sym is)
 
-pub sum_whole : {X : Type 0} (f : X → ℕ) (xs : List X) (i : ℕ) → length xs ≤ i
-    → sum_by f (take i xs) ≡ sum_by f xs
-sum_whole f xs i le = ap (sum_by f) (take_all i xs le)
-
 -- one numerator more
 pub numerators_more : (P : ℕ → ℕ → Type 0) (xs : List ℕ) (x i j : ℕ) → length xs ≡ i → j ≡ i + 1
     → ((n : ℕ) → 1 ≤ n → n ≤ i → P n (numerator xs n)) → P j x

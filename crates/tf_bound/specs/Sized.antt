@@ -1,10 +1,16 @@
 -- What every task satisfies at run time: it is sound, and its numbers and totals are within the limits.
-use Rattle.std.specs.Prelude.{◌≡◌, ℕ, ◌+◌, ◌≤◌, Bool, sum, length, IsTrue, IsFalse}
+use Rattle.std.specs.Prelude.{◌≡◌, ℕ, ◌+◌, ◌≤◌, Bool, List, sum, length, IsTrue, IsFalse}
 use Rattle.std.specs.List.{All, sum_by}
 use Rattle.tf_model.specs.ClassTable.{is_single_env, is_shop_env}
+use Rattle.tf_model.specs.declared.problem.Problem.{Problem}
 use Rattle.tf_model.specs.Limit.{limit, most_jobs, most_machines}
 use Rattle.tf_model.specs.Whole.{IsWithin}
 use Rattle.tf_problem.specs.ProblemData.{ProblemData, ProblemJobData, IsProblemJob, is_covered, is_job_shop}
+
+-- the task of these parts
+abbrev pub task_of : Problem → ℕ → List ProblemJobData → List (ℕ × ℕ) → ProblemData
+task_of problem machines jobs arcs =
+    record { problem = problem; machines = machines; jobs = jobs; arcs = arcs }
 
 -- the time of a job on all machines together
 abbrev pub work : ProblemJobData → ℕ

@@ -1,5 +1,5 @@
 //! The bounds of jobs that have one time each: windows, crowds, and one job anywhere.
-ghost use Rattle.std.specs.Prelude.{◌≡◌, ℕ, ◌+◌, ◌*◌, ◌<◌, ◌≤◌, ◌||◌, pos, ◌-ℤ◌, length, sum_by};
+ghost use Rattle.std.specs.Prelude.{◌≡◌, ℕ, ◌+◌, ◌*◌, ◌^◌, ◌<◌, ◌≤◌, ◌||◌, pos, ◌-ℤ◌, length, sum_by};
 ghost use Rattle.std.specs.Prelude.{None, Some, IfOk, IsTrue, IsFalse, MatchResult};
 ghost use Rattle.std.specs.List.{All};
 ghost use Rattle.tf_model.specs.ClassTable.{is_shop_env};
@@ -107,6 +107,14 @@ fn work_of<B: Allocator>(task: &ProblemTask<B>, jobs: &[JobId]) -> u128
     work
 }
 
+// How long an end is after a due date.
+fn after_due(end: u128, due: i64) -> i128
+    requires { end < 2 ^ 126 }
+    ensures { result ≡ pos end -ℤ due }
+{
+    end as i128 - i128::from(due)
+}
+
 /// The bound by some jobs: they cannot begin before the least of their release dates.
 pub fn window_bound<A: Allocator, B: Allocator>(
     alloc: A,
@@ -136,7 +144,7 @@ fn window_span<B: Allocator>(task: &ProblemTask<B>, jobs: &[JobId]) -> i128
 {
     let shared = work_of(task, jobs).div_ceil(u128::from(task.machines()));
     let end = u128::from(least_release(task, jobs)) + shared;
-    end as i128 - i128::from(greatest_due(task, jobs))
+    after_due(end, greatest_due(task, jobs))
 }
 
 /// The bound by more than `h` jobs for each machine, where none is preempted: one machine has to
@@ -170,7 +178,7 @@ fn crowd_span<B: Allocator>(task: &ProblemTask<B>, h: u32, jobs: &[JobId]) -> i1
 {
     let work = (u128::from(h) + 1) * u128::from(least_time(task, jobs));
     let end = u128::from(least_release(task, jobs)) + work;
-    end as i128 - i128::from(greatest_due(task, jobs))
+    after_due(end, greatest_due(task, jobs))
 }
 
 /// The bound by one job.

@@ -1,6 +1,6 @@
 //! The bound by one machine, or one of a shop: of some jobs, the least head, their time there, and
 //! the least of what each then still has to go, less its due date.
-ghost use Rattle.std.specs.Prelude.{◌≡◌, ◌*◌, ◌<◌, ◌≤ℤ◌, ◌-ℤ◌, pos, length, sum_by, IfOk, IsTrue};
+ghost use Rattle.std.specs.Prelude.{◌≡◌, ◌*◌, ◌<◌, ◌≤◌, ◌-ℤ◌, pos, length, sum_by, IfOk, IsTrue};
 ghost use Rattle.std.specs.List.{All};
 ghost use Rattle.tf_model.specs.Limit.{limit};
 ghost use Rattle.tf_check.specs.Bound.{least, least_number};
@@ -51,16 +51,16 @@ pub(crate) fn least_head<B: Allocator>(task: &ProblemTask<B>, machine: usize, jo
 }
 
 // The time of jobs on the machine.
-fn work_on<B: Allocator>(task: &ProblemTask<B>, machine: usize, jobs: &[JobId]) -> i128
+fn work_on<B: Allocator>(task: &ProblemTask<B>, machine: usize, jobs: &[JobId]) -> u128
     requires machine { machine < task.now.machines }
     requires env { IsTrue (is_by_machine task.now.problem.env) }
     requires known { All (IsProblemJob task.now) jobs.now }
-    ensures value { result ≡ pos (sum_by (λ j. problem_time_on task.now j machine) jobs.now) }
-    ensures small { result ≤ℤ pos (length jobs.now * limit) }
+    ensures value { result ≡ sum_by (λ j. problem_time_on task.now j machine) jobs.now }
+    ensures small { result ≤ length jobs.now * limit }
 {
-    let mut work: i128 = 0;
+    let mut work: u128 = 0;
     for job in jobs {
-        work += i128::from(task.time_on(machine, *job));
+        work += u128::from(task.time_on(machine, *job));
     }
     work
 }
@@ -125,5 +125,5 @@ fn span<B: Allocator>(task: &ProblemTask<B>, machine: usize, jobs: &[JobId]) -> 
 {
     let begun = i128::from(least_head(task, machine, jobs));
     let rest = i128::from(least_rest(task, machine, jobs));
-    begun + work_on(task, machine, jobs) + rest
+    begun + work_on(task, machine, jobs) as i128 + rest
 }

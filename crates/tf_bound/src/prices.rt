@@ -170,8 +170,8 @@ fn prices_value(machines: u32, all: u64, cheapest: &[u64], q: u64) -> i128
     requires some { 1 ≤ q }
     ensures { result ≡ share_up (pos (sum cheapest.now) -ℤ pos (machines * all)) q }
 {
-    let taken = i128::from(machines) * i128::from(all);
-    share_up(total_of(cheapest) as i128 - taken, q)
+    let taken = u128::from(machines) * u128::from(all);
+    share_up(total_of(cheapest) as i128 - taken as i128, q)
 }
 
 /// The bound by the prices of the rows from 0 on, which are over q. It takes memory for the rows

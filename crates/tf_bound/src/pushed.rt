@@ -1,5 +1,5 @@
 //! The task whose release dates and due dates follow by its arcs.
-ghost use Rattle.std.specs.Prelude.{◌≡◌, ℕ, ℤ, List, ◌<◌, ◌≤◌, pos, ◌-ℤ◌, length, map, IfOk, IfSome};
+ghost use Rattle.std.specs.Prelude.{◌≡◌, ◌*◌, ℕ, ℤ, List, ◌<◌, ◌≤◌, pos, ◌-ℤ◌, length, map, IfOk, IfSome};
 ghost use Rattle.std.specs.Prelude.{MatchOption, slice_index, slice_index_or};
 ghost use Rattle.tf_model.specs.Limit.{limit};
 ghost use Rattle.tf_problem.specs.ProblemData.{ProblemData, IsProblemJob, problem_jobs};
@@ -138,6 +138,14 @@ fn reversed<A: Allocator>(
     Ok(back)
 }
 
+// The date that is so long before the limit.
+fn date_of(tail: u64) -> i64
+    requires { tail ≤ 2 * limit }
+    ensures { result ≡ pos limit -ℤ pos tail }
+{
+    LIMIT - tail as i64
+}
+
 // The dates that are so long before the limit.
 fn before_limit<A: Allocator>(alloc: A, tails: &[u64]) -> Result<Vec<i64, A>, OutOfMemory>
     requires { AreWithin tails.now }
@@ -146,7 +154,7 @@ fn before_limit<A: Allocator>(alloc: A, tails: &[u64]) -> Result<Vec<i64, A>, Ou
 {
     let mut dates = Vec::with_capacity(alloc, tails.len())?;
     for tail in tails {
-        dates.push((i128::from(LIMIT) - i128::from(*tail)) as i64)?;
+        dates.push(date_of(*tail))?;
     }
     Ok(dates)
 }

@@ -1,11 +1,13 @@
 //! A task of any problem, as it is written.
 ghost use Rattle.std.specs.Prelude.{◌≡◌, ◌↔◌, ◌+◌, ◌≤◌, ◌<◌, sum, IfOk, IfErr, IfSome, IfNone};
-ghost use Rattle.std.specs.Prelude.{IsTrue};
+ghost use Rattle.std.specs.Prelude.{length, IsTrue, MatchResult};
 ghost use Rattle.std.specs.List.{All, sum_by};
 ghost use Rattle.tf_model.specs.ClassTable.{is_single_env, is_flow_env};
 ghost use Rattle.tf_model.specs.Limit.{limit};
-ghost use Rattle.tf_bound.specs.Refused.{is_taken_problem, IsFitJob, IsJobsFault};
-ghost use Rattle.tf_bound.specs.Sized.{IsSizedJob, work};
+ghost use Rattle.tf_problem.specs.ProblemData.{ProblemData};
+ghost use Rattle.tf_bound.specs.Refused.{is_taken_problem, IsCounted, IsFitJob, IsJobsFault};
+ghost use Rattle.tf_bound.specs.Refused.{IsTaskFault};
+ghost use Rattle.tf_bound.specs.Sized.{IsSized, IsSizedJob, task_of, work};
 
 use crate::fault::TaskFault;
 use crate::job_times::JobTimes;
@@ -176,7 +178,13 @@ fn is_within<A: Allocator>(jobs: &[ProblemJob<A>], all: u64) -> bool
     requires { all ≤ limit }
     ensures { IsTrue result ↔ All (λ x. x.release + all ≤ limit) jobs.now }
 {
-    jobs.iter().all(|job| job.release <= LIMIT as u64 - all)
+    let last = LIMIT as u64 - all;
+    for job in jobs {
+        if job.release > last {
+            return false;
+        }
+    }
+    true
 }
 
 // Whether each arc is between two of so many jobs.
@@ -192,6 +200,47 @@ fn are_in(arcs: &[(JobId, JobId)], jobs: usize) -> bool
     true
 }
 
+// The first fault of the problem, of the number of jobs, or of that of machines.
+fn judge_counts(problem: &Problem, machines: u32, jobs: usize) -> Result<(), TaskFault>
+    ensures { (k : ProblemData) → k.problem ≡ problem.now → k.machines ≡ machines →
+        length k.jobs ≡ jobs → MatchResult result (λ _. IsCounted k) (IsTaskFault k) }
+{
+    if !is_taken(problem) {
+        return Err(TaskFault::NotCovered);
+    }
+    if jobs == 0 || jobs > MOST_JOBS {
+        return Err(TaskFault::Jobs);
+    }
+    if machines == 0 || machines > MOST_MACHINES {
+        return Err(TaskFault::Machines);
+    }
+    if is_single(problem.env) && machines != 1 {
+        return Err(TaskFault::Machines);
+    }
+    Ok(())
+}
+
+// The first fault of the parts of a task.
+fn judge_parts<A: Allocator>(
+    problem: &Problem,
+    machines: u32,
+    jobs: &[ProblemJob<A>],
+    arcs: &[(JobId, JobId)],
+) -> Result<(), TaskFault>
+    ensures { MatchResult result (λ _. IsSized (task_of problem.now machines jobs.now arcs.now))
+        (IsTaskFault (task_of problem.now machines jobs.now arcs.now)) }
+{
+    judge_counts(problem, machines, jobs.len())?;
+    let all = all_work(problem.env.is_shop(), machines, jobs)?;
+    if !is_within(jobs, all) {
+        return Err(TaskFault::TooLarge);
+    }
+    if !are_in(arcs, jobs.len()) {
+        return Err(TaskFault::Arc);
+    }
+    Ok(())
+}
+
 impl<A: Allocator> ProblemTask<A> {
     ghost use Rattle.std.specs.Prelude.{◌≡◌, ◌*◌, ◌-◌, ◌<◌, ◌≤◌, length, IfOk, IfErr};
     ghost use Rattle.std.specs.Prelude.{IsTrue, IsFalse};
@@ -202,7 +251,7 @@ impl<A: Allocator> ProblemTask<A> {
     ghost use Rattle.tf_problem.specs.ProblemData.{problem_time_on, problem_release};
     ghost use Rattle.tf_problem.specs.ProblemData.{problem_weight, problem_due};
     ghost use Rattle.tf_problem.specs.ProblemBounds.{is_by_machine, head, problem_work, tail};
-    ghost use Rattle.tf_bound.specs.Sized.{IsSized};
+    ghost use Rattle.tf_bound.specs.Sized.{IsSized, task_of};
     ghost use Rattle.tf_bound.specs.Refused.{IsTaskFault};
 
     /// The task of these parts, or the first fault: of the problem, the number of jobs, that of
@@ -214,47 +263,14 @@ impl<A: Allocator> ProblemTask<A> {
         arcs: Vec<(JobId, JobId), A>,
     ) -> Result<Self, TaskFault>
         ensures task { IfOk result (λ task. task
-            ≡ record {
-              problem = problem;
-              machines = machines;
-              jobs = jobs.items;
-              arcs = arcs.items;
-            }) }
+            ≡ task_of problem machines jobs.items arcs.items) }
         ensures sized { IfOk result IsSized }
         ensures fault { IfErr result (IsTaskFault
-            (record {
-              problem = problem;
-              machines = machines;
-              jobs = jobs.items;
-              arcs = arcs.items;
-            })) }
-        ensures refused { IfErr result (λ _. ¬ (IsSized
-            (record {
-              problem = problem;
-              machines = machines;
-              jobs = jobs.items;
-              arcs = arcs.items;
-            }))) }
+            (task_of problem machines jobs.items arcs.items)) }
+        ensures refused { IfErr result (λ _.
+            ¬ (IsSized (task_of problem machines jobs.items arcs.items))) }
     {
-        if !is_taken(&problem) {
-            return Err(TaskFault::NotCovered);
-        }
-        if jobs.is_empty() || jobs.len() > MOST_JOBS {
-            return Err(TaskFault::Jobs);
-        }
-        if machines == 0 || machines > MOST_MACHINES {
-            return Err(TaskFault::Machines);
-        }
-        if is_single(problem.env) && machines != 1 {
-            return Err(TaskFault::Machines);
-        }
-        let all = all_work(problem.env.is_shop(), machines, &jobs)?;
-        if !is_within(&jobs, all) {
-            return Err(TaskFault::TooLarge);
-        }
-        if !are_in(&arcs, jobs.len()) {
-            return Err(TaskFault::Arc);
-        }
+        judge_parts(&problem, machines, &jobs, &arcs)?;
         Ok(ProblemTask {
             problem,
             machines,

@@ -1,7 +1,8 @@
-use Rattle.std.proofs.Common.{arith}
+use Rattle.std.proofs.Common.{sum_by, ap, ◌∙◌, arith}
+use Rattle.std.proofs.lemmas.List.{take_all}
 use Rattle.tf_bound.specs.Sized.{IsSizedJob, work}
 use Rattle.tf_bound.proofs.Refused.{unfit_at, too_much_at}
-use Rattle.tf_bound.proofs.Steps.{all_next, sum_next}
+use Rattle.tf_bound.proofs.Steps.{all_next, all_whole, sum_next}
 use Rattle.tf_bound.proofs.task.all_work.Goals as goal
 
 pub loop-place-preserved : goal.loop-place-preserved
@@ -40,3 +41,22 @@ returns-then-work-all-clause-fault g c =
           c.index-jobs-place.is told.sized (omega (arith, told.value, told.small))
           (omega (arith, told.value, c.if-work-all.true)),
     )
+
+pub overflow_sub-all : goal.overflow_sub-all
+overflow_sub-all g c = omega (arith, c.loop-place.invariant.small)
+
+pub overflow_add-all : goal.overflow_add-all
+overflow_add-all g c = omega (arith, c.if-work-all.false, c.loop-place.invariant.small)
+
+pub returns-clause-sized : goal.returns-clause-sized
+returns-clause-sized g c =
+    all_whole (IsSizedJob c.args.shop c.args.machines) c.args.jobs.now c.loop-place.place
+    c.loop-place-test.false c.loop-place.invariant.sized
+
+pub returns-clause-value : goal.returns-clause-value
+returns-clause-value g c =
+    c.loop-place.invariant.value
+    ∙ ap (sum_by work) (take_all c.loop-place.place c.args.jobs.now c.loop-place-test.false)
+
+pub returns-clause-small : goal.returns-clause-small
+returns-clause-small g c = c.loop-place.invariant.small
