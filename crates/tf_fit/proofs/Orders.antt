@@ -25,7 +25,7 @@ use Rattle.tf_schedule.proofs.Scan.{test_from_claimed}
 use Rattle.tf_schedule.proofs.Times.{sound_times, time_le}
 use Rattle.tf_fit.specs.declared.order.Walk.{Walk}
 use Rattle.tf_fit.specs.declared.order.Walk.TheVariants.{Settled, Raised, Endless}
-use Rattle.tf_fit.specs.Passing.{IsPassed, ArePlaced, rank_in, IsRankOf, AreRanks, AreBelow, IsEndless, IsRaised, IsOutcome, IsWalked}
+use Rattle.tf_fit.specs.Passing.{IsPassed, ArePlaced, rank_in, IsRankOf, AreRanks, AreBelow, IsEndless, IsRaised, IsWalked}
 
 -- ---- ranks with one more step
 
@@ -98,29 +98,6 @@ pub record IsWalking (ps : List Piece) (k : ℕ) (old new : List ℕ) (walk : Wa
   pub small : AreRanks new
   pub below : (place : ℕ → ℕ) → ArePlaced place ps → AreBelow old place → AreBelow new place
   pub outcome : IsSoFar ps k old new walk
-
-pub walking_start : (ps : List Piece) (ranks : List ℕ) → AreRanks ranks
-    → IsWalking ps 1 ranks ranks Settled
-walking_start ps ranks small = record {
-  len = refl;
-  small = small;
-  below = λ place placed below. below;
-  outcome = (refl, λ i d lt. absurd (omega arith));
-}
-
-pub walking_end : (ps : List Piece) (k : ℕ) (old new : List ℕ) (walk : Walk) → length ps ≤ k
-    → IsWalking ps k old new walk → IsWalked ps old new walk
-walking_end ps k old new walk all walking = record {
-  len = walking.len;
-  small = walking.small;
-  below = walking.below;
-  outcome = by walk walking.outcome;
-}
-  where
-    by : (w : Walk) → IsSoFar ps k old new w → IsOutcome ps old new w
-    by Settled so = λ i d lt passed. so.1 i d (omega (arith, lt, all)) lt passed
-    by Raised so = so
-    by Endless so = absurd so
 
 module _ (ps : List Piece) (k : ℕ) (old new : List ℕ) (walk : Walk)
     (walking : IsWalking ps k old new walk) (some : 1 ≤ k) (on : k < length ps) (p q : Piece)
