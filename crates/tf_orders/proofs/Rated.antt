@@ -1,18 +1,12 @@
 -- Schedules of orders, and what is written of them.
-use Rattle.std.proofs.Common.{◌≡◌, ℕ, ℤ, ◌++◌, List, Option, Some, Result, Ok, Err, MatchResult, IsErrAnd, refl, sym, subst, ap, ◌∙◌}
+use Rattle.std.proofs.Common.{◌≡◌, ℕ, ◌++◌, List, sym, subst}
 use Rattle.tf_schedule.specs.declared.piece.Piece.{Piece}
-use Rattle.tf_text.specs.AnswerText.{line_text}
-use Rattle.tf_engine.specs.Faults.{stop_of}
-use Rattle.tf_engine.specs.declared.fault.RunFault.{RunFault}
-use Rattle.tf_engine.specs.declared.fault.RunFault.TheVariants.{OutOfMemory}
 use Rattle.tf_orders.specs.declared.order.Turn.{Turn}
 use Rattle.tf_orders.specs.declared.measure.Measure.{Measure}
-use Rattle.tf_orders.specs.declared.run_orders.OrderForm.TheVariants.{Single}
-use Rattle.tf_orders.specs.declared.run_orders.OrdersRated.{OrdersRated}
 use Rattle.tf_orders.specs.declared.run_orders.OrdersRated.TheVariants as rateds
 use Rattle.tf_orders.specs.Orders.{IsOrder, IsNoOrder}
 use Rattle.tf_orders.specs.Measuring.{jobs_in, orders_in, schedule_in, IsScheduled, IsUnordered}
-use Rattle.tf_orders.specs.OrderText.{AreRated, IsEvaluatedAs, IsRow, IsRowOf}
+use Rattle.tf_orders.specs.OrderText.{IsRow, IsRowOf}
 
 module _ {A : Type 0} (m : Measure A) (text : List ℕ) (n g : ℕ) (jobs : n ≡ jobs_in m)
     (orders : g ≡ orders_in m) where
@@ -30,12 +24,6 @@ module _ {A : Type 0} (m : Measure A) (text : List ℕ) (n g : ℕ) (jobs : n �
         (subst (λ (n : ℕ). IsOrder n g text turns) jobs order);
     pieces = is;
   }
-
-pub single_is : {A : Type 0} (m : Measure A) (text out : List ℕ) (ps : List Piece)
-    (rated : OrdersRated) → IsScheduled m text ps → IsEvaluatedAs m ps out rated
-    → AreRated Single m text out rated
-single_is m text out ps (rateds.Single standing) scheduled h = (ps, scheduled, h)
-single_is m text out ps rateds.Lines scheduled h = h
 
 -- the line of a schedule is that of its order
 pub row_is : {A : Type 0} (m : Measure A) (text before after : List ℕ) (ps : List Piece)
