@@ -1,11 +1,10 @@
+use crate::pieces::pieces;
 use std::alloc::{AllocError, Allocator, Global};
 use std::test::Fail;
 use tf_check::answer::Answer;
 use tf_check::certificate::Certificate;
 use tf_check::load::Load;
-use tf_model::ids::{JobId, MachineId};
 use tf_model::problem::{Env, Goal, Problem};
-use tf_schedule::piece::Piece;
 use tf_schedule::piece_list::PieceList;
 use tf_text::answer::fault::AnswerFault;
 use tf_text::answer::layout::Layout;
@@ -40,105 +39,90 @@ fn two_parallel_text(alloc: Global, layout: Layout) -> Result<Vec<u8>, AllocErro
     Ok(text)
 }
 
-fn piece(job: u32, machine: u32, start: i64, stop: i64) -> Option<Piece> {
-    let job = JobId::new(job)?;
-    let machine = MachineId::new(machine)?;
-    Some(Piece {
-        job,
-        machine,
-        start,
-        stop,
-    })
-}
-
-fn two_parallel(alloc: Global) -> Result<Sheet, Fail> {
+fn two_parallel(alloc: Global) -> Result<Sheet, AllocError> {
     let rows = [(1, 1, 0, 4), (2, 1, 4, 6), (2, 2, 0, 2), (3, 2, 2, 6)];
-    let mut pieces = Vec::new(alloc);
-    for (job, machine, start, stop) in rows {
-        if let Some(piece) = piece(job, machine, start, stop) {
-            pieces.push(piece)?;
-        }
-    }
+    let pieces = PieceList::new(pieces(alloc, &rows)?);
     Ok(Sheet {
         problem: Problem {
-            env: Env::Parallel,
             count: Some(2),
-            release: false,
-            prec: false,
             prmp: true,
-            prmu: false,
-            nwt: false,
-            block: false,
-            rcrc: false,
-            goal: Goal::Cmax,
+            ..Problem::plain(Env::Parallel, Goal::Cmax)
         },
         jobs: 3,
         machines: 2,
         answer: Answer {
-            pieces: PieceList::new(pieces),
+            pieces,
             value: 6,
             certificate: Certificate::Load(Load),
         },
     })
 }
 
-fn ensure(is_so: bool, otherwise: &'static str) -> Result<(), Fail> {
-    if is_so {
-        Ok(())
-    } else {
-        Err(Fail::new(otherwise))
-    }
-}
-
-fn writes(alloc: Global, sheet: &Sheet, layout: Layout, wanted: &[u8]) -> Result<(), Fail> {
+fn writes(alloc: Global, sheet: &Sheet, layout: Layout, wanted: &[u8]) -> bool {
     let mut taken = Vec::new(alloc);
     let mut writer = Counted::new(&mut taken);
     let result = write_answer(alloc, &mut writer, sheet, layout);
     drop(writer);
-    ensure(result == Ok(()), "not written")?;
-    ensure(taken.as_slice() == wanted, "another text")
+    result == Ok(()) && taken.as_slice() == wanted
+}
+
+// The text is read, and then written as is wanted.
+fn rewrites(alloc: Global, layout: Layout, text: &[u8], wanted: &[u8]) -> bool {
+    match read_answer(alloc, text) {
+        Ok(sheet) => writes(alloc, &sheet, layout, wanted),
+        Err(_) => false,
+    }
+}
+
+fn writes_two_parallel(alloc: Global, layout: Layout, wanted: &[u8]) -> Result<bool, AllocError> {
+    let sheet = two_parallel(alloc)?;
+    Ok(writes(alloc, &sheet, layout, wanted))
+}
+
+fn is_written_and_read(alloc: Global, layout: Layout) -> Result<bool, AllocError> {
+    let text = two_parallel_text(alloc, layout)?;
+    let is_written = writes_two_parallel(alloc, layout, &text)?;
+    Ok(is_written && rewrites(alloc, layout, &text, &text))
 }
 
 #[test]
 fn an_answer_is_written_and_read_and_written_again(rt: HostRuntime) -> Result<(), Fail> {
-    let alloc = rt.alloc();
-    let sheet = two_parallel(alloc)?;
-    for layout in [Layout::One, Layout::Two] {
-        let text = two_parallel_text(alloc, layout)?;
-        writes(alloc, &sheet, layout, &text)?;
-        writes(alloc, &read_answer(alloc, &text)?, layout, &text)?;
-    }
+    assert!(rt; is_written_and_read(rt.alloc(), Layout::One)?);
+    assert!(rt; is_written_and_read(rt.alloc(), Layout::Two)?);
     Ok(())
 }
 
 // A text that is cut behind its last word says the same, and any shorter one is at fault.
-fn is_judged_cut(alloc: Global, layout: Layout, text: &[u8], cut: &[u8]) -> Result<(), Fail> {
+fn is_judged_cut(alloc: Global, layout: Layout, text: &[u8], cut: &[u8]) -> bool {
+    let has_end = cut.ends_with(b"\nend");
     match read_answer(alloc, cut) {
-        Ok(sheet) => {
-            ensure(cut.ends_with(b"\nend"), "read without its end")?;
-            writes(alloc, &sheet, layout, text)
-        }
+        Ok(sheet) => has_end && writes(alloc, &sheet, layout, text),
         Err(AnswerFault::EndsEarly | AnswerFault::BadLine(_) | AnswerFault::BadNotation) => {
-            ensure(!cut.ends_with(b"\nend"), "not read with its end")
+            !has_end
         }
-        Err(_) => Err(Fail::new("another fault")),
+        Err(_) => false,
     }
+}
+
+fn is_judged_in_each_cut(alloc: Global, layout: Layout) -> Result<bool, AllocError> {
+    let text = two_parallel_text(alloc, layout)?;
+    for cut in 0..text.len() {
+        if !is_judged_cut(alloc, layout, &text, &text[..cut]) {
+            return Ok(false);
+        }
+    }
+    Ok(true)
 }
 
 #[test]
 fn an_answer_is_read_only_with_its_end(rt: HostRuntime) -> Result<(), Fail> {
-    let alloc = rt.alloc();
-    for layout in [Layout::One, Layout::Two] {
-        let text = two_parallel_text(alloc, layout)?;
-        for cut in 0..text.len() {
-            is_judged_cut(alloc, layout, &text, &text[..cut])?;
-        }
-    }
+    assert!(rt; is_judged_in_each_cut(rt.alloc(), Layout::One)?);
+    assert!(rt; is_judged_in_each_cut(rt.alloc(), Layout::Two)?);
     Ok(())
 }
 
 // A text of version 2 with this certificate.
-fn with_certificate(alloc: Global, line: &str) -> Result<Vec<u8>, Fail> {
+fn with_certificate(alloc: Global, line: &str) -> Result<Vec<u8>, AllocError> {
     let front = b"answer 2\nproblem F2||Cmax\njobs 5\nmachines 2\nvalue 6\n";
     let mut text = Vec::from_slice(alloc, front)?;
     text.extend_from_slice(line.as_bytes())?;
@@ -146,23 +130,29 @@ fn with_certificate(alloc: Global, line: &str) -> Result<Vec<u8>, Fail> {
     Ok(text)
 }
 
-fn is_written(alloc: Global, line: &str, wanted: &str) -> Result<(), Fail> {
+fn is_written(alloc: Global, line: &str, wanted: &str) -> Result<bool, AllocError> {
     let text = with_certificate(alloc, line)?;
     let wanted = with_certificate(alloc, wanted)?;
-    let sheet = read_answer(alloc, text.as_slice())?;
-    writes(alloc, &sheet, Layout::Two, &wanted)
+    Ok(rewrites(alloc, Layout::Two, &text, &wanted))
 }
+
+// Lines of certificates, and how each is written.
+const CERTIFICATES: &[(&str, &str)] = &[
+    ("cert last 3 4 5 1", "cert last 3-5 1"),
+    ("cert last 3-5 1", "cert last 3-5 1"),
+    ("cert window 5 4 3", "cert window 5 4 3"),
+    ("cert window 1 2", "cert window 1 2"),
+    ("cert last 1-2", "cert last 1 2"),
+    ("cert last 01-0002", "cert last 1 2"),
+    ("cert last 1-100000", "cert last 1-100000"),
+    ("cert split second 0 1-3", "cert split second 0 1-3"),
+    ("cert ranks 1 2 3", "cert ranks 1 2 3"),
+];
 
 #[test]
 fn three_jobs_that_count_up_are_written_as_a_range(rt: HostRuntime) -> Result<(), Fail> {
-    let alloc = rt.alloc();
-    is_written(alloc, "cert last 3 4 5 1", "cert last 3-5 1")?;
-    is_written(alloc, "cert last 3-5 1", "cert last 3-5 1")?;
-    is_written(alloc, "cert window 5 4 3", "cert window 5 4 3")?;
-    is_written(alloc, "cert window 1 2", "cert window 1 2")?;
-    is_written(alloc, "cert last 1-2", "cert last 1 2")?;
-    is_written(alloc, "cert last 01-0002", "cert last 1 2")?;
-    is_written(alloc, "cert last 1-100000", "cert last 1-100000")?;
-    is_written(alloc, "cert split second 0 1-3", "cert split second 0 1-3")?;
-    is_written(alloc, "cert ranks 1 2 3", "cert ranks 1 2 3")
+    for (line, wanted) in CERTIFICATES {
+        assert!(rt; is_written(rt.alloc(), line, wanted)?, "{line}");
+    }
+    Ok(())
 }

@@ -1,4 +1,4 @@
-use std::alloc::AllocError;
+use std::alloc::{AllocError, Global};
 use std::test::Fail;
 use tf_model::class::{Class, class_of};
 use tf_model::cost::{Cost, CostFault, StepCost};
@@ -8,24 +8,31 @@ use tf_model::job::{Job, Times};
 use tf_model::prepare::{Refusal, prepare};
 use tf_model::problem::{Env, Goal, Problem};
 
-fn step_fault(base: i64, steps: Vec<(i64, i64)>) -> Option<CostFault> {
-    StepCost::new(base, steps).err()
+/// What refuses a cost of these steps.
+fn step_fault(
+    alloc: Global,
+    base: i64,
+    steps: &[(i64, i64)],
+) -> Result<Option<CostFault>, AllocError> {
+    Ok(StepCost::new(base, Vec::from_slice(alloc, steps)?).err())
+}
+
+fn is_fault_of_steps(alloc: Global, base: i64, steps: &[(i64, i64)], fault: CostFault) -> bool {
+    step_fault(alloc, base, steps) == Ok(Some(fault))
 }
 
 #[test]
 fn steps_rise_and_do_not_fall(rt: HostRuntime) -> Result<(), Fail> {
-    let steps = vec![in rt.alloc(); (5, 3), (5, 4)]?;
-    assert!(rt; step_fault(0, steps) == Some(CostFault::TimesNotRising));
-    let steps = vec![in rt.alloc(); (5, 3), (9, 2)]?;
-    assert!(rt; step_fault(0, steps) == Some(CostFault::CostFalls));
-    let steps = vec![in rt.alloc(); (-1, 3)]?;
-    assert!(rt; step_fault(0, steps) == Some(CostFault::OutOfRange));
-    let steps = vec![in rt.alloc(); (0, -2)]?;
+    let alloc = rt.alloc();
+    assert!(rt; is_fault_of_steps(alloc, 0, &[(5, 3), (5, 4)], CostFault::TimesNotRising));
+    assert!(rt; is_fault_of_steps(alloc, 0, &[(5, 3), (9, 2)], CostFault::CostFalls));
+    assert!(rt; is_fault_of_steps(alloc, 0, &[(-1, 3)], CostFault::OutOfRange));
+    let steps = Vec::from_slice(alloc, &[(0, -2)])?;
     assert!(rt; StepCost::new(-2, steps).is_ok_and(|cost| cost.value_at(0) == -2));
     Ok(())
 }
 
-fn timed(times: Times) -> Job {
+pub fn timed(times: Times) -> Job {
     Job {
         times,
         weight: None,
@@ -35,72 +42,74 @@ fn timed(times: Times) -> Job {
     }
 }
 
-fn weighted(time: i64, weight: i64) -> Job {
-    Job {
-        weight: Some(weight),
-        ..timed(Times::One(time))
-    }
-}
-
-/// What refuses one job of time 1 with these arcs and machines.
+/// What refuses one job with these arcs and machines.
 fn refused_with(
-    rt: &HostRuntime,
+    alloc: Global,
     job: Job,
-    arcs: Vec<(JobId, JobId)>,
+    arcs: &[(JobId, JobId)],
     machines: Option<u32>,
 ) -> Result<Option<InstanceFault>, AllocError> {
-    let jobs = vec![in rt.alloc(); job]?;
+    let jobs = vec![in alloc; job]?;
+    let arcs = Vec::from_slice(alloc, arcs)?;
     Ok(Instance::new(jobs, arcs, machines).err())
 }
 
-/// What refuses one job alone.
-fn refused_alone(rt: &HostRuntime, job: Job) -> Result<Option<InstanceFault>, AllocError> {
-    refused_with(rt, job, Vec::new(rt.alloc()), None)
+fn is_refused_with(
+    alloc: Global,
+    job: Job,
+    arcs: &[(JobId, JobId)],
+    machines: Option<u32>,
+    fault: InstanceFault,
+) -> bool {
+    refused_with(alloc, job, arcs, machines) == Ok(Some(fault))
 }
 
 #[test]
-fn an_instance_has_its_first_fault(rt: HostRuntime) -> Result<(), Fail> {
-    let fault = Instance::new(Vec::new(rt.alloc()), Vec::new(rt.alloc()), None).err();
+fn an_instance_has_its_first_fault(rt: HostRuntime) {
+    let alloc = rt.alloc();
+    let first = JobId::at(0);
+    let fault = Instance::new(Vec::new(alloc), Vec::new(alloc), None).err();
     assert!(rt; fault == Some(InstanceFault::NoJobs));
     let one = timed(Times::One(1));
-    let fault = refused_with(&rt, one, Vec::new(rt.alloc()), Some(0))?;
-    assert!(rt; fault == Some(InstanceFault::TooManyMachines));
-    let arcs = vec![in rt.alloc(); (JobId::at(0), JobId::at(1))]?;
-    let fault = refused_with(&rt, timed(Times::One(1)), arcs, None)?;
-    assert!(rt; fault == Some(InstanceFault::BadArc(1)));
-    let fault = refused_alone(&rt, weighted(1, -1))?;
-    assert!(rt; fault == Some(InstanceFault::NegativeNumber(JobId::at(0))));
-    let far = Job {
-        due: Some(-4_000_000_000_000_000_001),
-        ..timed(Times::One(1))
-    };
-    let fault = refused_alone(&rt, far)?;
-    assert!(rt; fault == Some(InstanceFault::OutOfRange(JobId::at(0))));
-    Ok(())
+    assert!(rt; is_refused_with(alloc, one, &[], Some(0), InstanceFault::TooManyMachines));
+    let one = timed(Times::One(1));
+    let arcs = [(first, JobId::at(1))];
+    assert!(rt; is_refused_with(alloc, one, &arcs, None, InstanceFault::BadArc(1)));
+    let mut job = timed(Times::One(1));
+    job.weight = Some(-1);
+    assert!(rt; is_refused_with(alloc, job, &[], None, InstanceFault::NegativeNumber(first)));
+    let mut job = timed(Times::One(1));
+    job.due = Some(-4_000_000_000_000_000_001);
+    assert!(rt; is_refused_with(alloc, job, &[], None, InstanceFault::OutOfRange(first)));
 }
 
-/// What refuses a task on 0 parallel machines.
-fn refused_machines(rt: &HostRuntime) -> Result<Option<Refusal>, Fail> {
+/// Whether 0 parallel machines are refused.
+fn are_refused_without_machines(alloc: Global) -> Result<bool, Fail> {
     let problem = Problem {
         prmp: true,
         ..Problem::plain(Env::Parallel, Goal::Cmax)
     };
-    let jobs = vec![in rt.alloc(); timed(Times::One(1))]?;
-    let instance = Instance::new(jobs, Vec::new(rt.alloc()), None)?;
-    Ok(prepare(rt.alloc(), &instance, &problem, Some(0)).err())
+    let jobs = vec![in alloc; timed(Times::One(1))]?;
+    let instance = Instance::new(jobs, Vec::new(alloc), None)?;
+    Ok(prepare(alloc, &instance, &problem, Some(0)).err() == Some(Refusal::MachineCount(0)))
+}
+
+fn numbers_count_from_1() -> bool {
+    JobId::new(0).is_none()
+        && MachineId::new(0).is_none()
+        && JobId::new(1).map(JobId::get) == Some(1)
+        && MachineId::new(1_000).map(MachineId::get) == Some(1_000)
 }
 
 #[test]
 fn jobs_and_machines_count_from_1(rt: HostRuntime) -> Result<(), Fail> {
-    assert!(rt; JobId::new(0).is_none() && MachineId::new(0).is_none());
-    assert!(rt; JobId::new(1).map(JobId::get) == Some(1));
-    assert!(rt; MachineId::new(1_000).map(MachineId::get) == Some(1_000));
-    assert!(rt; refused_machines(&rt)? == Some(Refusal::MachineCount(0)));
+    assert!(rt; numbers_count_from_1());
+    assert!(rt; are_refused_without_machines(rt.alloc())?);
     Ok(())
 }
 
 /// Problems without conditions, and the class of each.
-const CLASSES: [(Env, Goal, Option<Class>); 8] = [
+const CLASSES: &[(Env, Goal, Option<Class>)] = &[
     (Env::Single, Goal::SumWC, Some(Class::WeightedSum)),
     (Env::Single, Goal::SumC, Some(Class::PlainSum)),
     (Env::Single, Goal::Lmax, Some(Class::Lmax)),
@@ -114,6 +123,6 @@ const CLASSES: [(Env, Goal, Option<Class>); 8] = [
 #[test]
 fn a_problem_has_the_class_of_its_notation(rt: HostRuntime) {
     for (env, goal, class) in CLASSES {
-        assert!(rt; class_of(&Problem::plain(env, goal)) == class);
+        assert!(rt; class_of(&Problem::plain(*env, *goal)) == *class);
     }
 }

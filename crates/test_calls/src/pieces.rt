@@ -1,65 +1,83 @@
 //! Schedules of pieces.
-use std::process::Abort;
+use crate::model::timed;
+use std::alloc::{AllocError, Global};
 use std::test::Fail;
 use tf_model::ids::{JobId, MachineId};
 use tf_model::instance::Instance;
 use tf_model::job::{Job, Times};
 use tf_model::prepare::prepare;
 use tf_model::problem::{Env, Goal, Problem};
+use tf_model::task::Task;
 use tf_schedule::cost::cost;
 use tf_schedule::piece::Piece;
 use tf_schedule::schedule::Schedule;
 
-fn piece(rt: &impl Abort, job: u32, machine: u32, start: i64, stop: i64) -> Piece {
-    Piece {
-        job: JobId::new(job).expect(rt, "a job"),
-        machine: MachineId::new(machine).expect(rt, "a machine"),
+/// The job and the machine of a piece, from 1, and its times.
+pub type Row = (u32, u32, i64, i64);
+
+fn piece(row: &Row) -> Option<Piece> {
+    let (job, machine, start, stop) = *row;
+    let job = JobId::new(job)?;
+    let machine = MachineId::new(machine)?;
+    Some(Piece {
+        job,
+        machine,
         start,
         stop,
+    })
+}
+
+/// The pieces of these rows.
+pub fn pieces(alloc: Global, rows: &[Row]) -> Result<Vec<Piece>, AllocError> {
+    let mut pieces = Vec::new(alloc);
+    for piece in rows.iter().filter_map(piece) {
+        pieces.push(piece)?;
     }
+    Ok(pieces)
+}
+
+/// Job 3 on machine 2 is the last piece, and the jobs of machine 2 are these from time -1 on.
+fn has_cells(schedule: &Schedule, jobs: [u32; 8]) -> bool {
+    let machine = MachineId::at(1);
+    schedule.length() == 6
+        && schedule.pieces().last() == piece(&(3, 2, 2, 6)).as_ref()
+        && (-1i64..7).zip(jobs).all(|(t, job)| schedule.cell(machine, t).map_or(0, JobId::get)
+            == job)
 }
 
 #[test]
-fn pieces_may_touch(rt: HostRuntime) -> Result<(), Fail> {
-    let third = piece(&rt, 3, 2, 2, 6);
-    let pieces = vec![in rt.alloc();
-        third,
-        piece(&rt, 2, 1, 4, 6),
-        piece(&rt, 1, 1, 0, 4),
-        piece(&rt, 2, 2, 0, 2),
-    ]?;
-    let schedule = Schedule::new(pieces).ok().ok_or("a fault")?;
-    assert_eq!(rt; schedule.pieces().last(), Some(&third));
-    assert_eq!(rt; schedule.length(), 6);
-    let machine = MachineId::new(2).expect(&rt, "a machine");
-    let mut jobs = [0u32; 8];
-    for (t, job) in jobs.iter_mut().enumerate() {
-        *job = schedule.cell(machine, t as i64 - 1).map_or(0, JobId::get);
-    }
-    assert_eq!(rt; jobs, [0, 2, 2, 3, 3, 3, 3, 0]);
-    Ok(())
+fn pieces_may_touch(rt: HostRuntime) {
+    let rows = [(3, 2, 2, 6), (2, 1, 4, 6), (1, 1, 0, 4), (2, 2, 0, 2)];
+    let pieces = pieces(rt.alloc(), &rows).expect(&rt, "room");
+    let is_so = Schedule::new(pieces).is_ok_and(|schedule| has_cells(
+        &schedule,
+        [0, 2, 2, 3, 3, 3, 3, 0],
+    ));
+    assert!(rt; is_so);
 }
 
-#[test]
-fn a_job_that_the_task_does_not_have_costs_nothing(rt: HostRuntime) -> Result<(), Fail> {
-    let mut jobs = Vec::new(rt.alloc());
+fn fours(alloc: Global) -> Result<Vec<Job>, AllocError> {
+    let mut jobs = Vec::new(alloc);
     for _ in 0..3 {
-        jobs.push(Job {
-            times: Times::One(4),
-            weight: None,
-            due: None,
-            release: None,
-            cost: None,
-        })?;
+        jobs.push(timed(Times::One(4)))?;
     }
-    let instance = Instance::new(jobs, Vec::new(rt.alloc()), None)?;
+    Ok(jobs)
+}
+
+/// Three jobs of time 4 on two parallel machines.
+fn task(alloc: Global) -> Result<Task, Fail> {
+    let instance = Instance::new(fours(alloc)?, Vec::new(alloc), None)?;
     let problem = Problem {
         prmp: true,
         ..Problem::plain(Env::Parallel, Goal::Cmax)
     };
-    let task = prepare(rt.alloc(), &instance, &problem, Some(2))?;
-    let pieces = vec![in rt.alloc(); piece(&rt, 4, 1, 0, 4)]?;
-    let stranger = Schedule::new(pieces).ok().ok_or("a fault")?;
-    assert_eq!(rt; cost(&task, &stranger), 0);
+    Ok(prepare(alloc, &instance, &problem, Some(2))?)
+}
+
+#[test]
+fn a_job_that_the_task_does_not_have_costs_nothing(rt: HostRuntime) -> Result<(), Fail> {
+    let task = task(rt.alloc())?;
+    let pieces = pieces(rt.alloc(), &[(4, 1, 0, 4)])?;
+    assert!(rt; Schedule::new(pieces).is_ok_and(|stranger| cost(&task, &stranger) == 0));
     Ok(())
 }
