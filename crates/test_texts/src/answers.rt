@@ -1,6 +1,6 @@
 //! Answer texts.
-use crate::refused::is_refused_answer;
-use std::test::Fail;
+use crate::refused::{holds, is_refused_answer};
+use std::alloc::Global;
 use tf_check::certificate::Certificate;
 use tf_schedule::piece::Piece;
 use tf_text::answer::fault::AnswerFault;
@@ -18,14 +18,14 @@ const LINES: [&str; 7] = [
     "end",
 ];
 
-/// The answer with this heading, in which another line stands for the one of this number.
-fn answer(rt: &HostRuntime, heading: &str, number: u32, line: &str) -> Result<String, Fail> {
-    let mut text = String::from_str(rt.alloc(), if number == 1 { line } else { heading })?;
+/// Reads the answer with this heading, in which another line stands for the one of this number.
+fn read_with(alloc: Global, heading: &str, number: u32, line: &str) -> Result<Sheet, AnswerFault> {
+    let mut text = String::from_str(alloc, if number == 1 { line } else { heading })?;
     for (place, usual) in (2u32..).zip(LINES) {
         text.push_str("\n")?;
         text.push_str(if number == place { line } else { usual })?;
     }
-    Ok(text)
+    read_answer(alloc, text.as_bytes())
 }
 
 /// Another line in an answer of version 1.
@@ -200,18 +200,15 @@ const FAULTS_OF_RANGES: &[(&str, AnswerFault)] = &[
 ];
 
 #[test]
-fn an_answer_has_its_first_fault(rt: HostRuntime) -> Result<(), Fail> {
+fn an_answer_has_its_first_fault(rt: HostRuntime) {
     for (number, line, fault) in FAULTS {
-        let text = answer(&rt, "answer 1", *number, line)?;
-        let read = read_answer(rt.alloc(), text.as_bytes());
-        assert!(rt; is_refused_answer(read, *fault), "{line}");
+        let read = read_with(rt.alloc(), "answer 1", *number, line);
+        holds(&rt, is_refused_answer(read, *fault), line);
     }
     for (line, fault) in FAULTS_OF_RANGES {
-        let text = answer(&rt, "answer 2", 7, line)?;
-        let read = read_answer(rt.alloc(), text.as_bytes());
-        assert!(rt; is_refused_answer(read, *fault), "{line}");
+        let read = read_with(rt.alloc(), "answer 2", 7, line);
+        holds(&rt, is_refused_answer(read, *fault), line);
     }
-    Ok(())
 }
 
 /// Other lines with which an answer of either version is read.
@@ -249,27 +246,20 @@ const READ: &[(u32, &str)] = &[
 ];
 
 #[test]
-fn an_answer_is_read(rt: HostRuntime) -> Result<(), Fail> {
+fn an_answer_is_read(rt: HostRuntime) {
     for (number, line) in READ {
-        for heading in ["answer 1", "answer 2"] {
-            let text = answer(&rt, heading, *number, line)?;
-            let read = read_answer(rt.alloc(), text.as_bytes());
-            assert!(rt; read.is_ok(), "{line}");
+        for heading in &["answer 1", "answer 2"] {
+            let read = read_with(rt.alloc(), heading, *number, line);
+            holds(&rt, read.is_ok(), line);
         }
     }
-    Ok(())
 }
 
 #[test]
-fn each_number_of_an_answer_is_read(rt: HostRuntime) -> Result<(), Fail> {
+fn each_number_of_an_answer_is_read(rt: HostRuntime) {
     let text = b"answer 1\r\nproblem P7||sumC\r\njobs 02\r\nmachines 7\r\nvalue -3\r\n\
         piece 2 7 04 5\r\ncert ranks 2 1 2\r\nend\r\n";
-    let sheet = read_answer(rt.alloc(), text)?;
-    if has_numbers(&sheet) {
-        Ok(())
-    } else {
-        Err(Fail::new("another number"))
-    }
+    assert!(rt; read_answer(rt.alloc(), text).is_ok_and(|sheet| has_numbers(&sheet)));
 }
 
 /// Its numbers are those of the text, each of which is another one.

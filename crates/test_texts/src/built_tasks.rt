@@ -1,38 +1,37 @@
 //! Tasks that a table gives without an instance on the way.
-use std::test::Fail;
+use std::alloc::Global;
 use tf_model::ids::JobId;
 use tf_model::problem::{Env, Goal, Problem};
-use tf_model::task::Task;
 use tf_read::table_task::table_task;
 
 const ORDERED: &[u8] = b"table 1\njob 1 p=3 w=2 d=4\njob 2 p=2 d=6\nprec 1 2\n";
 
-/// The task has two jobs on one machine, and these arcs.
-fn is_built(task: &Task, arcs: &[(JobId, JobId)]) -> bool {
-    task.len() == 2 && task.machines() == 1 && task.arcs() == arcs
+/// The table gives a task that has two jobs on one machine, and these arcs.
+fn is_built(alloc: Global, problem: &Problem, arcs: &[(JobId, JobId)]) -> bool {
+    match table_task(alloc, problem, None, ORDERED) {
+        Some(task) => task.len() == 2 && task.machines() == 1 && task.arcs() == arcs,
+        None => false,
+    }
 }
 
 #[test]
-fn a_task_has_its_jobs_and_the_arcs_that_count(rt: HostRuntime) -> Result<(), Fail> {
+fn a_task_has_its_jobs_and_the_arcs_that_count(rt: HostRuntime) {
     let plain = Problem::plain(Env::Single, Goal::Lmax);
-    let problem = Problem {
+    let ordered = Problem {
         prec: true,
         ..plain
     };
-    let task = table_task(rt.alloc(), &problem, None, ORDERED).ok_or("it is refused")?;
-    assert!(rt; is_built(&task, &[(JobId::at(0), JobId::at(1))]));
-    let task = table_task(rt.alloc(), &plain, None, ORDERED).ok_or("it is refused")?;
-    assert!(rt; is_built(&task, &[]));
-    Ok(())
+    assert!(rt; is_built(rt.alloc(), &ordered, &[(JobId::at(0), JobId::at(1))]));
+    assert!(rt; is_built(rt.alloc(), &plain, &[]));
 }
 
 #[test]
-fn a_table_that_is_refused_gives_no_task(rt: HostRuntime) -> Result<(), Fail> {
+fn a_table_that_is_refused_gives_no_task(rt: HostRuntime) {
     let single = Problem::plain(Env::Single, Goal::SumWC);
     let parallel = Problem::plain(Env::Parallel, Goal::SumC);
     let late = Problem::plain(Env::Single, Goal::SumWT);
     let most = b"table 1\njob 1 p=4000000000000000000 w=1\njob 2 p=1 w=1\n";
-    let rows: [(Problem, Option<u32>, &[u8]); 8] = [
+    let rows: &[(Problem, Option<u32>, &[u8])] = &[
         (single, None, b"table 2\njob 1 p=1 w=1\n"),
         (single, None, b"table 1\njob 2 p=1 w=1\n"),
         (single, None, b"table 1\njob 1 p=1\n"),
@@ -43,7 +42,6 @@ fn a_table_that_is_refused_gives_no_task(rt: HostRuntime) -> Result<(), Fail> {
         (late, None, b"table 1\njob 1 p=1 w=1 d=1\n"),
     ];
     for (problem, machines, text) in rows {
-        assert!(rt; table_task(rt.alloc(), &problem, machines, text).is_none());
+        assert!(rt; table_task(rt.alloc(), problem, *machines, text).is_none());
     }
-    Ok(())
 }

@@ -1,5 +1,5 @@
 //! Flow shop files.
-use crate::refused::is_refused;
+use crate::refused::{holds, is_refused};
 use tf_model::instance::Instance;
 use tf_model::job::Times;
 use tf_read::fault::ReadFault;
@@ -101,11 +101,11 @@ const ABSENT: &[(&str, Option<(u32, u32)>, ReadFault)] = &[
 fn a_flow_shop_file_has_its_first_fault(rt: HostRuntime) {
     for (text, fault) in FAULTS {
         let read = read_flowshop(rt.alloc(), text.as_bytes(), b"demo", None);
-        assert!(rt; is_refused(read, *fault), "{text}");
+        holds(&rt, is_refused(read, *fault), text);
     }
     for (name, pair, fault) in ABSENT {
         let read = read_flowshop(rt.alloc(), DEMO.as_bytes(), name.as_bytes(), *pair);
-        assert!(rt; is_refused(read, *fault), "{name} {pair:?}");
+        holds(&rt, is_refused(read, *fault), name);
     }
 }
 
@@ -166,6 +166,6 @@ const READ: &[(&str, Option<(u32, u32)>, u32, &[Times])] = &[
 fn a_flow_shop_file_is_read(rt: HostRuntime) {
     for (text, pair, machines, times) in READ {
         let read = read_flowshop(rt.alloc(), text.as_bytes(), b"demo", *pair);
-        assert!(rt; is_read(read, *machines, times), "{pair:?} of {text}");
+        holds(&rt, is_read(read, *machines, times), text);
     }
 }

@@ -1,6 +1,6 @@
 //! Job tables.
-use crate::refused::is_refused;
-use std::alloc::AllocError;
+use crate::refused::{holds, is_refused, table_of};
+use std::alloc::{AllocError, Global};
 use std::test::Fail;
 use tf_model::ids::JobId;
 use tf_model::instance::Instance;
@@ -65,7 +65,7 @@ const TABLES: &[(&str, ReadFault)] = &[
 ];
 
 /// Tables with bytes that are no text.
-const BYTES: [(&[u8], ReadFault); 5] = [
+const BYTES: &[(&[u8], ReadFault)] = &[
     (b"\xff", ReadFault::BadLine(1)),
     (b"\0table 1\njob 1 p=1", ReadFault::BadLine(1)),
     (b"table 1\njob 1 p=\0", ReadFault::BadNumber(2)),
@@ -74,15 +74,15 @@ const BYTES: [(&[u8], ReadFault); 5] = [
 ];
 
 /// The front of a table whose next word has 10,000 digits.
-const LONG: [(&[u8], ReadFault); 3] = [
+const LONG: &[(&[u8], ReadFault)] = &[
     (b"table 1\njob 1 p=", ReadFault::NumberTooLarge(2)),
     (b"table 1\njob 1 p=-", ReadFault::NumberTooLarge(2)),
     (b"table 1\nmachines ", ReadFault::BadLine(2)),
 ];
 
 /// A text, and 10,000 times a digit behind it.
-fn with_digits(rt: &HostRuntime, front: &[u8], digit: u8) -> Result<Vec<u8>, AllocError> {
-    let mut text = Vec::from_slice(rt.alloc(), front)?;
+fn with_digits(alloc: Global, front: &[u8], digit: u8) -> Result<Vec<u8>, AllocError> {
+    let mut text = Vec::from_slice(alloc, front)?;
     for _ in 0..10_000 {
         text.push(digit)?;
     }
@@ -174,25 +174,31 @@ const JOBS: &[(&str, ReadFault)] = &[
     ("job 1 h=5,3:4", ReadFault::BadCost(2)),
 ];
 
+/// A table whose last word has 10,000 digits has this fault.
+fn is_refused_long(alloc: Global, front: &[u8], fault: ReadFault) -> Result<bool, AllocError> {
+    let text = with_digits(alloc, front, b'9')?;
+    Ok(is_refused(read_table(alloc, &text), fault))
+}
+
 #[test]
 fn a_table_has_its_first_fault(rt: HostRuntime) -> Result<(), Fail> {
+    let alloc = rt.alloc();
     for (text, fault) in TABLES {
-        let read = read_table(rt.alloc(), text.as_bytes());
-        assert!(rt; is_refused(read, *fault), "{text}");
+        holds(
+            &rt,
+            is_refused(read_table(alloc, text.as_bytes()), *fault),
+            text,
+        );
     }
     for (text, fault) in BYTES {
-        let read = read_table(rt.alloc(), text);
-        assert!(rt; is_refused(read, fault));
+        assert!(rt; is_refused(read_table(alloc, text), *fault));
     }
     for (front, fault) in LONG {
-        let text = with_digits(&rt, front, b'9')?;
-        let read = read_table(rt.alloc(), &text);
-        assert!(rt; is_refused(read, fault));
+        assert!(rt; is_refused_long(alloc, front, *fault)?);
     }
     for (line, fault) in JOBS {
-        let text = format!(in rt.alloc(); "table 1\n{line}\njob 2 p=x")?;
-        let read = read_table(rt.alloc(), text.as_bytes());
-        assert!(rt; is_refused(read, *fault), "{line}");
+        let read = table_of(alloc, &["table 1\n", line, "\njob 2 p=x"]);
+        holds(&rt, is_refused(read, *fault), line);
     }
     Ok(())
 }
@@ -245,28 +251,29 @@ const READ: &[(&str, Option<u32>, Times)] = &[
     ),
 ];
 
+/// Leading zeros are allowed without end.
+fn is_read_long(alloc: Global) -> Result<bool, AllocError> {
+    let mut text = with_digits(alloc, b"table 1\njob 1 p=", b'0')?;
+    text.push(b'4')?;
+    Ok(is_read(read_table(alloc, &text), None, Times::One(4)))
+}
+
 #[test]
 fn a_table_is_read(rt: HostRuntime) -> Result<(), Fail> {
     for (text, machines, times) in READ {
         let read = read_table(rt.alloc(), text.as_bytes());
-        assert!(rt; is_read(read, *machines, *times), "{text}");
+        holds(&rt, is_read(read, *machines, *times), text);
     }
-    // leading zeros are allowed without end
-    let mut text = with_digits(&rt, b"table 1\njob 1 p=", b'0')?;
-    text.push(b'4')?;
-    assert!(rt; is_read(read_table(rt.alloc(), &text), None, Times::One(4)));
+    assert!(rt; is_read_long(rt.alloc())?);
     Ok(())
 }
 
 #[test]
-fn each_field_is_read(rt: HostRuntime) -> Result<(), Fail> {
+fn each_field_is_read(rt: HostRuntime) {
     let text = b"table 1\njob 1 h=-1,2:-1,3:4 r=03 d=-5 w=6 p=7,8\njob 2 p=1\nprec 2 1\nprec 2 1";
-    let instance = read_table(rt.alloc(), text)?;
-    if has_fields(instance.jobs()) && has_arcs(instance.arcs()) {
-        Ok(())
-    } else {
-        Err(Fail::new("another field"))
-    }
+    let is_so = read_table(rt.alloc(), text).is_ok_and(|instance| has_fields(instance.jobs())
+        && has_arcs(instance.arcs()));
+    assert!(rt; is_so);
 }
 
 /// Of two jobs the first has all fields and the second none but its time.
@@ -291,14 +298,20 @@ fn has_arcs(arcs: &[(JobId, JobId)]) -> bool {
     }
 }
 
-/// A table of so many jobs and arcs from job 1 to itself.
-fn large_table(rt: &HostRuntime, jobs: u32, arcs: u32) -> Result<Vec<u8>, Fail> {
-    let mut text = Vec::from_slice(rt.alloc(), b"table 1\n")?;
+/// A table of so many jobs of time 1.
+fn table_of_jobs(alloc: Global, jobs: u32) -> Result<Vec<u8>, AllocError> {
+    let mut text = Vec::from_slice(alloc, b"table 1\n")?;
     for job in 0..jobs {
-        let line = format!(in rt.alloc(); "job {} p=1\n", job.wrapping_add(1))?;
+        let line = format!(in alloc; "job {} p=1\n", job.wrapping_add(1))?;
         text.extend_from_slice(line.as_bytes())?;
     }
-    for _ in 0..arcs {
+    Ok(text)
+}
+
+/// A table of one job and 200,000 arcs from it to itself.
+fn table_of_arcs(alloc: Global) -> Result<Vec<u8>, AllocError> {
+    let mut text = table_of_jobs(alloc, 1)?;
+    for _ in 0..200_000 {
         text.extend_from_slice(b"prec 1 1\n")?;
     }
     Ok(text)
@@ -306,21 +319,22 @@ fn large_table(rt: &HostRuntime, jobs: u32, arcs: u32) -> Result<Vec<u8>, Fail> 
 
 /// The table is read, and refused by this fault with one more line.
 fn is_full(
-    rt: &HostRuntime,
+    alloc: Global,
     mut text: Vec<u8>,
     line: &[u8],
     fault: ReadFault,
 ) -> Result<bool, AllocError> {
-    let is_read = read_table(rt.alloc(), &text).is_ok();
+    let is_read = read_table(alloc, &text).is_ok();
     text.extend_from_slice(line)?;
-    Ok(is_read && is_refused(read_table(rt.alloc(), &text), fault))
+    Ok(is_read && is_refused(read_table(alloc, &text), fault))
 }
 
 #[test]
 fn a_table_has_at_most_100_000_jobs_and_200_000_arcs(rt: HostRuntime) -> Result<(), Fail> {
-    let jobs = large_table(&rt, 100_000, 0)?;
-    assert!(rt; is_full(&rt, jobs, b"job x", ReadFault::TooManyJobs)?);
-    let arcs = large_table(&rt, 1, 200_000)?;
-    assert!(rt; is_full(&rt, arcs, b"prec x", ReadFault::TooManyArcs)?);
+    let alloc = rt.alloc();
+    let jobs = table_of_jobs(alloc, 100_000)?;
+    assert!(rt; is_full(alloc, jobs, b"job x", ReadFault::TooManyJobs)?);
+    let arcs = table_of_arcs(alloc)?;
+    assert!(rt; is_full(alloc, arcs, b"prec x", ReadFault::TooManyArcs)?);
     Ok(())
 }

@@ -1,61 +1,61 @@
 //! Three-field notation.
-use std::process::Abort;
-use std::test::Fail;
+use crate::refused::{holds, joined};
+use std::alloc::Global;
 use tf_model::problem::{Env, Goal, Problem};
 use tf_notation::reading::{NotationFault, read};
 use tf_notation::writing::notation_text;
 
-/// Every word for an environment, with its number of machines.
+/// Texts with every word for an environment, and its number of machines.
 const ENVIRONMENTS: &[(&str, Env, Option<u32>)] = &[
-    ("1", Env::Single, None),
-    ("P", Env::Parallel, None),
-    ("Pm", Env::Parallel, None),
-    ("P1", Env::Parallel, Some(1)),
-    ("P2", Env::Parallel, Some(2)),
-    ("P1000", Env::Parallel, Some(1000)),
-    ("Q", Env::Uniform, None),
-    ("Qm", Env::Uniform, None),
-    ("Q9", Env::Uniform, Some(9)),
-    ("R", Env::Unrelated, None),
-    ("Rm", Env::Unrelated, None),
-    ("R10", Env::Unrelated, Some(10)),
-    ("F", Env::Flow, None),
-    ("Fm", Env::Flow, None),
-    ("F2", Env::Flow, Some(2)),
-    ("O", Env::OpenShop, None),
-    ("Om", Env::OpenShop, None),
-    ("O99", Env::OpenShop, Some(99)),
-    ("J", Env::JobShop, None),
-    ("Jm", Env::JobShop, None),
-    ("J100", Env::JobShop, Some(100)),
+    ("1||Cmax", Env::Single, None),
+    ("P||Cmax", Env::Parallel, None),
+    ("Pm||Cmax", Env::Parallel, None),
+    ("P1||Cmax", Env::Parallel, Some(1)),
+    ("P2||Cmax", Env::Parallel, Some(2)),
+    ("P1000||Cmax", Env::Parallel, Some(1000)),
+    ("Q||Cmax", Env::Uniform, None),
+    ("Qm||Cmax", Env::Uniform, None),
+    ("Q9||Cmax", Env::Uniform, Some(9)),
+    ("R||Cmax", Env::Unrelated, None),
+    ("Rm||Cmax", Env::Unrelated, None),
+    ("R10||Cmax", Env::Unrelated, Some(10)),
+    ("F||Cmax", Env::Flow, None),
+    ("Fm||Cmax", Env::Flow, None),
+    ("F2||Cmax", Env::Flow, Some(2)),
+    ("O||Cmax", Env::OpenShop, None),
+    ("Om||Cmax", Env::OpenShop, None),
+    ("O99||Cmax", Env::OpenShop, Some(99)),
+    ("J||Cmax", Env::JobShop, None),
+    ("Jm||Cmax", Env::JobShop, None),
+    ("J100||Cmax", Env::JobShop, Some(100)),
 ];
 
-/// Every word for an objective, with the one that is written.
+/// Texts with every word for an objective, and the text that is written.
 const OBJECTIVES: &[(&str, Goal, &str)] = &[
-    ("Cmax", Goal::Cmax, "Cmax"),
-    ("C_max", Goal::Cmax, "Cmax"),
-    ("Lmax", Goal::Lmax, "Lmax"),
-    ("L_max", Goal::Lmax, "Lmax"),
-    ("hmax", Goal::Hmax, "hmax"),
-    ("h_max", Goal::Hmax, "hmax"),
-    ("sumC", Goal::SumC, "sumC"),
-    ("sumCj", Goal::SumC, "sumC"),
-    ("sumC_j", Goal::SumC, "sumC"),
-    ("sumwC", Goal::SumWC, "sumwC"),
-    ("sumwjCj", Goal::SumWC, "sumwC"),
-    ("sumw_jC_j", Goal::SumWC, "sumwC"),
-    ("sumT", Goal::SumT, "sumT"),
-    ("sumTj", Goal::SumT, "sumT"),
-    ("sumT_j", Goal::SumT, "sumT"),
-    ("sumwT", Goal::SumWT, "sumwT"),
-    ("sumwjTj", Goal::SumWT, "sumwT"),
-    ("sumw_jT_j", Goal::SumWT, "sumwT"),
-    ("sumU", Goal::SumU, "sumU"),
-    ("sumUj", Goal::SumU, "sumU"),
-    ("sumU_j", Goal::SumU, "sumU"),
-    ("sumwU", Goal::SumWU, "sumwU"),
-    ("sumwjUj", Goal::SumWU, "sumwU"),
-    ("sumw_jU_j", Goal::SumWU, "sumwU"),
+    ("1||Cmax", Goal::Cmax, "1||Cmax"),
+    ("1||C_max", Goal::Cmax, "1||Cmax"),
+    ("1||Lmax", Goal::Lmax, "1||Lmax"),
+    ("1||L_max", Goal::Lmax, "1||Lmax"),
+    ("1||hmax", Goal::Hmax, "1||hmax"),
+    ("1||h_max", Goal::Hmax, "1||hmax"),
+    ("1||sumC", Goal::SumC, "1||sumC"),
+    ("1||sumCj", Goal::SumC, "1||sumC"),
+    ("1||sumC_j", Goal::SumC, "1||sumC"),
+    ("1||sumwC", Goal::SumWC, "1||sumwC"),
+    ("1||sumwjCj", Goal::SumWC, "1||sumwC"),
+    ("1||sumw_jC_j", Goal::SumWC, "1||sumwC"),
+    ("1||sumT", Goal::SumT, "1||sumT"),
+    ("1||sumTj", Goal::SumT, "1||sumT"),
+    ("1||sumT_j", Goal::SumT, "1||sumT"),
+    ("1||sumwT", Goal::SumWT, "1||sumwT"),
+    ("1||sumwjTj", Goal::SumWT, "1||sumwT"),
+    ("1||sumw_jT_j", Goal::SumWT, "1||sumwT"),
+    ("1||sumU", Goal::SumU, "1||sumU"),
+    ("1||sumUj", Goal::SumU, "1||sumU"),
+    ("1||sumU_j", Goal::SumU, "1||sumU"),
+    ("1||sumwU", Goal::SumWU, "1||sumwU"),
+    ("1||sumwjUj", Goal::SumWU, "1||sumwU"),
+    ("1||sumw_jU_j", Goal::SumWU, "1||sumwU"),
 ];
 
 /// Whether release dates, precedence, preemption, permutation, no wait, blocking and recirculation
@@ -97,27 +97,30 @@ fn with_conditions(named: Named) -> Problem {
     }
 }
 
+/// The text is read as this problem.
+fn is_read(text: &str, wanted: &Problem) -> bool {
+    read(text.as_bytes()) == Ok(*wanted)
+}
+
+/// The notation with these conditions is read.
+fn has_conditions(alloc: Global, words: &str, named: Named) -> bool {
+    joined(alloc, &["1|", words, "|Cmax"]).is_ok_and(|text| is_read(&text, &with_conditions(named)))
+}
+
 #[test]
-fn each_word_is_read(rt: HostRuntime) -> Result<(), Fail> {
-    for (word, env, count) in ENVIRONMENTS {
-        let text = format!(in rt.alloc(); "{word}||Cmax")?;
-        let wanted = Problem {
-            count: *count,
-            ..Problem::plain(*env, Goal::Cmax)
-        };
-        assert!(rt; read(text.as_bytes()) == Ok(wanted), "{word}");
+fn each_word_is_read(rt: HostRuntime) {
+    for (text, env, count) in ENVIRONMENTS {
+        let mut wanted = Problem::plain(*env, Goal::Cmax);
+        wanted.count = *count;
+        holds(&rt, is_read(text, &wanted), text);
     }
-    for (word, goal, _) in OBJECTIVES {
-        let text = format!(in rt.alloc(); "1||{word}")?;
+    for (text, goal, _) in OBJECTIVES {
         let wanted = Problem::plain(Env::Single, *goal);
-        assert!(rt; read(text.as_bytes()) == Ok(wanted), "{word}");
+        holds(&rt, is_read(text, &wanted), text);
     }
     for (words, named) in CONDITIONS {
-        let text = format!(in rt.alloc(); "1|{words}|Cmax")?;
-        let wanted = with_conditions(*named);
-        assert!(rt; read(text.as_bytes()) == Ok(wanted), "{words}");
+        holds(&rt, has_conditions(rt.alloc(), words, *named), words);
     }
-    Ok(())
 }
 
 /// Texts, and the canonical text of what they mean.
@@ -134,28 +137,30 @@ const CANONICAL: &[(&str, &str)] = &[
     ("J3||Cmax", "J3||Cmax"),
 ];
 
-fn writes(rt: &(impl Abort + AllocGlobal), problem: &Problem, wanted: &str) -> Result<(), Fail> {
-    let written = notation_text(rt.alloc(), problem)?;
-    assert!(rt; written.as_str() == wanted);
-    Ok(())
+/// The text of this problem is written so.
+fn is_written(alloc: Global, problem: &Problem, wanted: &str) -> bool {
+    notation_text(alloc, problem).is_ok_and(|text| text.as_str() == wanted)
+}
+
+/// What this text means is written so.
+fn is_canonical(alloc: Global, text: &str, wanted: &str) -> bool {
+    read(text.as_bytes()).is_ok_and(|problem| is_written(alloc, &problem, wanted))
 }
 
 #[test]
-fn a_problem_is_written_in_its_canonical_text(rt: HostRuntime) -> Result<(), Fail> {
+fn a_problem_is_written_in_its_canonical_text(rt: HostRuntime) {
     for (text, canonical) in CANONICAL {
-        writes(&rt, &read(text.as_bytes())?, canonical)?;
+        holds(&rt, is_canonical(rt.alloc(), text, canonical), text);
     }
-    for (word, _, canonical) in OBJECTIVES {
-        let text = format!(in rt.alloc(); "1||{word}")?;
-        let wanted = format!(in rt.alloc(); "1||{canonical}")?;
-        writes(&rt, &read(text.as_bytes())?, &wanted)?;
+    for (text, _, canonical) in OBJECTIVES {
+        holds(&rt, is_canonical(rt.alloc(), text, canonical), text);
     }
     // a count of machines beside the single machine is left out
-    let counted = Problem {
-        count: Some(2),
-        ..read(b"1|rj,prmp|Lmax")?
-    };
-    writes(&rt, &counted, "1|rj,prmp|Lmax")
+    let mut counted = Problem::plain(Env::Single, Goal::Lmax);
+    counted.count = Some(2);
+    counted.release = true;
+    counted.prmp = true;
+    assert!(rt; is_written(rt.alloc(), &counted, "1|rj,prmp|Lmax"));
 }
 
 /// Texts with the byte that isn't expected.
@@ -223,10 +228,14 @@ const FAULTS: &[(&[u8], usize)] = &[
     (b"\xef\xbb\xbf1||Lmax", 0),
 ];
 
+/// The text has its first fault at this byte.
+fn is_fault_at(text: &[u8], byte: usize) -> bool {
+    read(text) == Err(NotationFault { byte })
+}
+
 #[test]
 fn the_first_byte_that_is_not_expected_is_named(rt: HostRuntime) {
     for (text, byte) in FAULTS {
-        let wanted = Err(NotationFault { byte: *byte });
-        assert!(rt; read(text) == wanted, "{text:?}");
+        assert!(rt; is_fault_at(text, *byte));
     }
 }

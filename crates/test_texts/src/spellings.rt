@@ -1,16 +1,13 @@
 //! The same line in many spellings: with one blank between its words, digits and a line feed, as
 //! lines mostly are, and otherwise.
-use crate::refused::is_refused;
-use std::test::Fail;
+use crate::refused::{answer_of, holds, is_refused, table_of};
 use tf_model::cost::Cost;
 use tf_model::ids::{JobId, MachineId};
 use tf_model::instance::Instance;
 use tf_model::job::Times;
 use tf_read::fault::ReadFault;
-use tf_read::job_table::read_table;
 use tf_schedule::piece::Piece;
 use tf_text::answer::fault::AnswerFault;
-use tf_text::answer::reading::read_answer;
 use tf_text::answer::sheet::Sheet;
 
 /// Ends of tables whose job 1 has the times 5 and 0, weight 3, due date 7 and release date 2.
@@ -103,37 +100,31 @@ const ARCS: &[&str] = &[
 ];
 
 #[test]
-fn a_line_of_a_table_is_the_same_in_each_spelling(rt: HostRuntime) -> Result<(), Fail> {
+fn a_line_of_a_table_is_the_same_in_each_spelling(rt: HostRuntime) {
+    let alloc = rt.alloc();
     for line in JOBS {
-        let text = format!(in rt.alloc(); "table 1\n{line}")?;
-        assert!(rt;
-            has_job(read_table(rt.alloc(), text.as_bytes()), WANTED),
-            "{line}"
+        holds(
+            &rt,
+            has_job(table_of(alloc, &["table 1\n", line]), WANTED),
+            line,
         );
-        let text = format!(in rt.alloc(); "table 1\n{line}\njob 2 p=1")?;
-        assert!(rt;
-            has_two_jobs(read_table(rt.alloc(), text.as_bytes())),
-            "{line}"
-        );
+        let two = table_of(alloc, &["table 1\n", line, "\njob 2 p=1"]);
+        holds(&rt, has_two_jobs(two), line);
     }
     for cost in COSTS {
-        let text = format!(in rt.alloc(); "table 1\njob 1 p=1 h={cost} w=6\n")?;
-        assert!(rt;
-            read_table(rt.alloc(), text.as_bytes()).is_ok_and(|table| is_cost(&table)),
-            "{cost}"
-        );
+        let read = table_of(alloc, &["table 1\njob 1 p=1 h=", cost, " w=6\n"]);
+        holds(&rt, read.is_ok_and(|table| is_cost(&table)), cost);
     }
     for line in ARCS {
-        let text = format!(in rt.alloc(); "table 1\njob 1 p=1\njob 2 p=1\n{line}")?;
-        assert!(rt; has_arc(read_table(rt.alloc(), text.as_bytes())), "{line}");
+        let read = table_of(alloc, &["table 1\njob 1 p=1\njob 2 p=1\n", line]);
+        holds(&rt, has_arc(read), line);
     }
-    Ok(())
 }
 
 /// The lines of an answer before and behind a piece.
-const BEFORE: &str = "answer 1\nproblem P9||sumC\njobs 3\nmachines 9\nvalue 4";
+const BEFORE: &str = "answer 1\nproblem P9||sumC\njobs 3\nmachines 9\nvalue 4\n";
 
-const BEHIND: &str = "cert pairs\nend";
+const BEHIND: &str = "\ncert pairs\nend";
 
 /// Lines of the piece of job 2 on machine 7 from 0 to 4.
 const PIECES: &[&str] = &[
@@ -160,7 +151,7 @@ fn has_piece(read: Result<Sheet, AnswerFault>, piece: &Piece) -> bool {
 }
 
 #[test]
-fn a_piece_is_the_same_in_each_spelling(rt: HostRuntime) -> Result<(), Fail> {
+fn a_piece_is_the_same_in_each_spelling(rt: HostRuntime) {
     let piece = Piece {
         job: JobId::at(1),
         machine: MachineId::at(6),
@@ -168,13 +159,9 @@ fn a_piece_is_the_same_in_each_spelling(rt: HostRuntime) -> Result<(), Fail> {
         stop: 4,
     };
     for line in PIECES {
-        let text = format!(in rt.alloc(); "{BEFORE}\n{line}\n{BEHIND}")?;
-        assert!(rt;
-            has_piece(read_answer(rt.alloc(), text.as_bytes()), &piece),
-            "{line}"
-        );
+        let read = answer_of(rt.alloc(), &[BEFORE, line, BEHIND]);
+        holds(&rt, has_piece(read, &piece), line);
     }
-    Ok(())
 }
 
 /// Times of 18 and 19 digits, and whether they are too large.
@@ -210,20 +197,13 @@ fn stops_at(read: Result<Sheet, AnswerFault>, stop: Option<i64>) -> bool {
 }
 
 #[test]
-fn wide_numbers_are_read_up_to_the_limit(rt: HostRuntime) -> Result<(), Fail> {
+fn wide_numbers_are_read_up_to_the_limit(rt: HostRuntime) {
     for (number, value) in WIDE {
-        let text = format!(in rt.alloc(); "table 1\njob 1 p={number}\n")?;
-        assert!(rt;
-            has_time(read_table(rt.alloc(), text.as_bytes()), *value),
-            "{number}"
-        );
-        let text = format!(in rt.alloc(); "{BEFORE}\npiece 1 1 0 {number}\n{BEHIND}")?;
-        assert!(rt;
-            stops_at(read_answer(rt.alloc(), text.as_bytes()), *value),
-            "{number}"
-        );
+        let table = table_of(rt.alloc(), &["table 1\njob 1 p=", number, "\n"]);
+        holds(&rt, has_time(table, *value), number);
+        let answer = answer_of(rt.alloc(), &[BEFORE, "piece 1 1 0 ", number, BEHIND]);
+        holds(&rt, stops_at(answer, *value), number);
     }
-    Ok(())
 }
 
 /// Due dates below 0 and at it, and whether they are too large.
@@ -249,25 +229,23 @@ fn is_due(read: Result<Instance, ReadFault>, due: Option<i64>) -> bool {
     }
 }
 
+/// What stands before and behind the due date in tables of the same job.
+const AROUND: &[(&str, &str)] = &[
+    ("table 1\njob 1 p=1 w=3 d=", " r=2\n"),
+    ("table 1\njob 1 d=", " w=3 r=2 p=1\r\n"),
+    ("table 1\njob 1  p=1 w=3 d=", "\tr=2"),
+];
+
 #[test]
-fn due_dates_are_read_down_to_the_limit(rt: HostRuntime) -> Result<(), Fail> {
+fn due_dates_are_read_down_to_the_limit(rt: HostRuntime) {
     for (number, value) in SIGNED {
-        for line in [
-            format!(in rt.alloc(); "job 1 p=1 w=3 d={number} r=2\n")?,
-            format!(in rt.alloc(); "job 1 d={number} w=3 r=2 p=1\r\n")?,
-            format!(in rt.alloc(); "job 1  p=1 w=3 d={number}\tr=2")?,
-        ] {
-            let text = format!(in rt.alloc(); "table 1\n{line}")?;
-            assert!(rt;
-                is_due(read_table(rt.alloc(), text.as_bytes()), *value),
-                "{line}"
-            );
+        for (before, behind) in AROUND {
+            let read = table_of(rt.alloc(), &[before, number, behind]);
+            holds(&rt, is_due(read, *value), number);
         }
     }
-    for number in ["-", "--5", "-5-", "-x", "5-"] {
-        let text = format!(in rt.alloc(); "table 1\njob 1 p=1 d={number}\n")?;
-        let read = read_table(rt.alloc(), text.as_bytes());
-        assert!(rt; is_refused(read, ReadFault::BadNumber(2)), "{number}");
+    for number in &["-", "--5", "-5-", "-x", "5-"] {
+        let read = table_of(rt.alloc(), &["table 1\njob 1 p=1 d=", number, "\n"]);
+        holds(&rt, is_refused(read, ReadFault::BadNumber(2)), number);
     }
-    Ok(())
 }

@@ -1,12 +1,13 @@
 //! Weighted tardiness files.
-use crate::refused::is_refused;
-use std::test::Fail;
+use crate::refused::{holds, is_refused};
 use tf_model::instance::Instance;
 use tf_model::job::Times;
 use tf_read::fault::ReadFault;
 use tf_read::weighted_tardiness::read_wt;
 
 const TWO_INSTANCES: &str = "2 3 1\n1 2 4\n5 -2 9\n4 1 3\n2 2 3\n6 7 8";
+
+const WITHOUT_LAST: &str = "2 3 1\n1 2 4\n5 -2 9\n4 1 3\n2 2 3\n6 7 ";
 
 /// Texts with the number of jobs and the index that are asked for.
 const FAULTS: &[(&str, u32, u32, ReadFault)] = &[
@@ -18,6 +19,7 @@ const FAULTS: &[(&str, u32, u32, ReadFault)] = &[
     (TWO_INSTANCES, 100_001, 0, ReadFault::TooManyJobs),
     (TWO_INSTANCES, 4, 2, ReadFault::Negative(3)),
     (TWO_INSTANCES, 6, 1, ReadFault::Negative(3)),
+    (WITHOUT_LAST, 3, 2, ReadFault::EndsEarly),
     ("", 1, 1, ReadFault::NoInstance),
     (" \r\n\t\n", 1, 1, ReadFault::NoInstance),
     ("", 100_000, 4_294_967_295, ReadFault::NoInstance),
@@ -73,10 +75,7 @@ const FAULTS: &[(&str, u32, u32, ReadFault)] = &[
 fn a_file_has_its_first_fault(rt: HostRuntime) {
     for (text, jobs, index, fault) in FAULTS {
         let read = read_wt(rt.alloc(), text.as_bytes(), *jobs, *index);
-        assert!(rt;
-            is_refused(read, *fault),
-            "{jobs} jobs, index {index} of {text}"
-        );
+        holds(&rt, is_refused(read, *fault), text);
     }
 }
 
@@ -122,21 +121,25 @@ fn is_read(read: Result<Instance, ReadFault>, jobs: u32, wanted: FirstJob) -> bo
     })
 }
 
-/// The instance has these jobs, each with its processing time, weight and due date.
-fn has_jobs(instance: &Instance, jobs: [(i64, i64, i64); 3]) -> bool {
-    instance.jobs().len() == 3
-        && instance.jobs().iter().zip(jobs).all(|(job, (time, weight, due))| {
-            job.times == Times::One(time) && job.weight == Some(weight) && job.due == Some(due)
-        })
+/// An instance of these jobs was read, each with its processing time, weight and due date.
+fn has_jobs(read: Result<Instance, ReadFault>, wanted: &[FirstJob]) -> bool {
+    read.is_ok_and(|instance| {
+        instance.len() == wanted.len()
+            && instance.jobs().iter().zip(wanted).all(|(job, fields)| {
+                (job.times, job.weight, job.due)
+                    == (Times::One(fields.0), Some(fields.1), Some(fields.2))
+            })
+    })
 }
 
 #[test]
-fn a_file_is_read(rt: HostRuntime) -> Result<(), Fail> {
+fn a_file_is_read(rt: HostRuntime) {
     for (text, jobs, index, wanted) in READ {
         let read = read_wt(rt.alloc(), text.as_bytes(), *jobs, *index);
-        assert!(rt; is_read(read, *jobs, *wanted), "index {index} of {text}");
+        holds(&rt, is_read(read, *jobs, *wanted), text);
     }
-    let instance = read_wt(rt.alloc(), TWO_INSTANCES.as_bytes(), 3, 1)?;
-    assert!(rt; has_jobs(&instance, [(2, 1, 5), (3, 2, -2), (1, 4, 9)]));
-    Ok(())
+    let first = read_wt(rt.alloc(), TWO_INSTANCES.as_bytes(), 3, 1);
+    assert!(rt; has_jobs(first, &[(2, 1, 5), (3, 2, -2), (1, 4, 9)]));
+    let second = read_wt(rt.alloc(), TWO_INSTANCES.as_bytes(), 3, 2);
+    assert!(rt; has_jobs(second, &[(4, 2, 6), (1, 2, 7), (3, 3, 8)]));
 }
