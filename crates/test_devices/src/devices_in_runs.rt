@@ -1,13 +1,12 @@
 //! The three runs on devices that give and take one byte a call, or fail.
 use refusing::Refusing;
-use std::alloc::Global;
+use std::alloc::{AllocError, Global};
 use std::test::Fail;
 use test_runs::devices::{Failure, Sink, Source, Way};
 use test_runs::examples::files::{SECOND_OF_TWO, SHOP, TARDINESS, TWO_OF_THREE};
 use test_runs::examples::parallel::FOURS;
 use test_runs::examples::{Example, Given, answer_in, worked};
-use test_runs::runs::{LAYOUTS, ensure, request, request_for};
-use tf_engine::fault::RunFault;
+use test_runs::runs::{Ending, LAYOUTS, ending_of, ensure, request, request_for};
 use tf_engine::request::Request;
 use tf_engine::run_check::{Checked, run_check};
 use tf_engine::run_gantt::run_gantt;
@@ -16,73 +15,195 @@ use tf_read::fault::ReadFault;
 use tf_text::answer::layout::Layout;
 use tf_text::counted::Counted;
 
-fn solve(
-    rt: &HostRuntime,
-    request: &Request,
-    source: &mut Source<'_>,
-    sink: &mut Sink,
-) -> Result<(), RunFault> {
+fn solve(alloc: Global, request: &Request, source: &mut Source<'_>, sink: &mut Sink) -> Ending {
     let mut reader = Counted::new(source);
     let mut writer = Counted::new(sink);
-    run_solve(rt.alloc(), request, &mut reader, &mut writer)
+    match run_solve(alloc, request, &mut reader, &mut writer) {
+        Ok(()) => Ending::Answered,
+        Err(fault) => ending_of(&fault),
+    }
 }
 
+/// A check that does not accept has another ending.
 fn check(
-    rt: &HostRuntime,
+    alloc: Global,
     request: &Request,
     source: &mut Source<'_>,
     other: &mut Source<'_>,
     sink: &mut Sink,
-) -> Result<Checked, RunFault> {
+) -> Ending {
     let mut instance = Counted::new(source);
     let mut answer = Counted::new(other);
     let mut writer = Counted::new(sink);
-    run_check(rt.alloc(), request, &mut instance, &mut answer, &mut writer)
+    match run_check(alloc, request, &mut instance, &mut answer, &mut writer) {
+        Ok(Checked::Accepted) => Ending::Answered,
+        Ok(_) => Ending::Other,
+        Err(fault) => ending_of(&fault),
+    }
 }
 
-fn draw(rt: &HostRuntime, source: &mut Source<'_>, sink: &mut Sink) -> Result<(), RunFault> {
+fn draw(alloc: Global, source: &mut Source<'_>, sink: &mut Sink) -> Ending {
     let mut reader = Counted::new(source);
     let mut writer = Counted::new(sink);
-    run_gantt(rt.alloc(), &mut reader, &mut writer, 72)
+    match run_gantt(alloc, &mut reader, &mut writer, 72) {
+        Ok(()) => Ending::Answered,
+        Err(fault) => ending_of(&fault),
+    }
 }
 
-fn solves_by_bytes(rt: &HostRuntime, request: &Request, instance: &[u8], answer: &[u8]) -> bool {
-    let mut source = Source::new(instance).by(1);
-    let mut sink = Sink::new(rt.alloc()).by(1);
-    let result = solve(rt, request, &mut source, &mut sink);
-    result == Ok(()) && sink.taken() == answer
+#[derive(Clone, Copy)]
+enum Run {
+    Solve,
+    Check,
+    Draw,
 }
 
-fn checks_by_bytes(rt: &HostRuntime, request: &Request, instance: &[u8], answer: &[u8]) -> bool {
-    let mut source = Source::new(instance).by(1);
-    let mut other = Source::new(answer).by(1);
-    let mut sink = Sink::new(rt.alloc()).by(1);
-    let result = check(rt, request, &mut source, &mut other, &mut sink);
-    result == Ok(Checked::Accepted) && sink.taken() == b"accepted\n".as_slice()
+/// The reader that fails.
+#[derive(Clone, Copy, PartialEq, Eq)]
+enum Failing {
+    Instance,
+    Answer,
 }
 
-fn draws_by_bytes(rt: &HostRuntime, answer: &[u8], chart: &[u8]) -> bool {
-    let mut source = Source::new(answer).by(1);
-    let mut sink = Sink::new(rt.alloc()).by(1);
-    let result = draw(rt, &mut source, &mut sink);
-    result == Ok(()) && sink.taken() == chart
+/// A run, and the texts that it may read.
+#[derive(Clone, Copy)]
+struct Asked<'a> {
+    run: Run,
+    request: &'a Request,
+    instance: &'a [u8],
+    answer: &'a [u8],
+}
+
+impl Asked<'_> {
+    fn ends(
+        &self,
+        alloc: Global,
+        source: &mut Source<'_>,
+        other: &mut Source<'_>,
+        sink: &mut Sink,
+    ) -> Ending {
+        match self.run {
+            Run::Solve => solve(alloc, self.request, source, sink),
+            Run::Check => check(alloc, self.request, source, other, sink),
+            Run::Draw => draw(alloc, other, sink),
+        }
+    }
+
+    /// It writes this where each device gives or takes one byte a call.
+    fn writes_by_bytes(&self, alloc: Global, wanted: &[u8]) -> bool {
+        let mut source = Source::new(self.instance).by(1);
+        let mut other = Source::new(self.answer).by(1);
+        let mut sink = Sink::new(alloc).by(1);
+        let ending = self.ends(alloc, &mut source, &mut other, &mut sink);
+        ending == Ending::Answered && sink.taken() == wanted
+    }
+
+    /// Where a call of the reader of the instance fails, the run is refused, the reader was called
+    /// up to its failure, the other one was not called, and nothing was written.
+    fn is_cut_off_at_once(&self, alloc: Global, failure: Failure) -> bool {
+        let mut source = Source::new(self.instance).by(5).failing(failure);
+        let mut other = Source::new(self.answer);
+        let mut sink = Sink::new(alloc);
+        self.ends(alloc, &mut source, &mut other, &mut sink) == Ending::Device
+            && source.calls() == failure.call
+            && other.calls() == 0
+            && sink.calls() == 0
+    }
+
+    /// Where a call of the reader of the answer fails, the run is refused, the reader was called up
+    /// to its failure, and nothing was written.
+    fn is_cut_off(&self, alloc: Global, failure: Failure) -> bool {
+        let mut source = Source::new(self.instance);
+        let mut other = Source::new(self.answer).by(5).failing(failure);
+        let mut sink = Sink::new(alloc);
+        self.ends(alloc, &mut source, &mut other, &mut sink) == Ending::Device
+            && other.calls() == failure.call
+            && sink.calls() == 0
+    }
+
+    /// The run is refused where any call of this reader fails.
+    fn is_cut_off_by_each(&self, alloc: Global, failing: Failing) -> bool {
+        let at_once = failing == Failing::Instance;
+        let text = if at_once { self.instance } else { self.answer };
+        for number in 0..reader_failures(text) {
+            let failure = reader_failure(number);
+            let is_so = if at_once {
+                self.is_cut_off_at_once(alloc, failure)
+            } else {
+                self.is_cut_off(alloc, failure)
+            };
+            if !is_so {
+                return false;
+            }
+        }
+        true
+    }
+
+    /// Where a call of the writer fails, the run is refused, the writer was called up to its
+    /// failure, and took a byte in each call before.
+    fn is_cut_short(&self, alloc: Global, wanted: &[u8], failure: Failure) -> bool {
+        let mut source = Source::new(self.instance);
+        let mut other = Source::new(self.answer);
+        let mut sink = Sink::new(alloc).by(1).failing(failure);
+        let ending = self.ends(alloc, &mut source, &mut other, &mut sink);
+        let taken = sink.taken();
+        ending == Ending::Device
+            && sink.calls() == failure.call
+            && wanted.starts_with(taken)
+            && taken.len() as u64 + 1 == failure.call
+    }
+
+    /// The run that writes this is refused where any call of its writer fails.
+    fn is_cut_short_by_each(&self, alloc: Global, wanted: &[u8]) -> bool {
+        for number in 0..writer_failures(wanted) {
+            if !self.is_cut_short(alloc, wanted, writer_failure(number)) {
+                return false;
+            }
+        }
+        true
+    }
+}
+
+/// The runs of an example, with what each of them writes.
+fn runs<'a>(request: &'a Request, example: &'a Example, answer: &'a [u8]) -> [Asked<'a>; 3] {
+    let solving = Asked {
+        run: Run::Solve,
+        request,
+        instance: example.instance,
+        answer,
+    };
+    let checking = Asked {
+        run: Run::Check,
+        ..solving
+    };
+    let drawing = Asked {
+        run: Run::Draw,
+        ..solving
+    };
+    [solving, checking, drawing]
 }
 
 /// An example through the three runs, each device by one byte a call.
-fn by_bytes(rt: &HostRuntime, example: &Example, layout: Layout) -> Result<(), Fail> {
+fn is_answered_by_bytes(
+    rt: &HostRuntime,
+    example: &Example,
+    layout: Layout,
+) -> Result<bool, AllocError> {
     let request = request_for(rt, example, layout)?;
     let answer = answer_in(rt, example, layout)?;
-    let is_so = solves_by_bytes(rt, &request, example.instance, &answer)
-        && checks_by_bytes(rt, &request, example.instance, &answer)
-        && draws_by_bytes(rt, &answer, example.chart);
-    ensure(is_so, example.name)
+    let [solving, checking, drawing] = runs(&request, example, &answer);
+    Ok(
+        solving.writes_by_bytes(rt.alloc(), &answer)
+            && checking.writes_by_bytes(rt.alloc(), b"accepted\n")
+            && drawing.writes_by_bytes(rt.alloc(), example.chart),
+    )
 }
 
 #[test]
 fn each_example_is_answered_by_one_byte_a_call(rt: HostRuntime) -> Result<(), Fail> {
     for example in worked() {
         for layout in LAYOUTS {
-            by_bytes(&rt, example, layout)?;
+            ensure(is_answered_by_bytes(&rt, example, layout)?, example.name)?;
         }
     }
     Ok(())
@@ -111,117 +232,35 @@ fn reader_failures(text: &[u8]) -> u64 {
     calls_by_five(text).saturating_mul(4)
 }
 
-/// The run is refused, the reader was called up to its failure, and nothing was written.
-fn is_cut_off<T: PartialEq + Drop>(
-    outcome: Result<T, RunFault>,
-    source: &Source<'_>,
-    failure: Failure,
-    sink: &Sink,
-) -> Result<(), Fail> {
-    ensure(outcome == Err(RunFault::Device), "another outcome")?;
-    ensure(source.calls() == failure.call, "another number of reads")?;
-    ensure(sink.calls() == 0, "something was written")
-}
-
-fn solving_is_cut_off(
-    rt: &HostRuntime,
-    request: &Request,
-    text: &[u8],
-    failure: Failure,
-) -> Result<(), Fail> {
-    let mut source = Source::new(text).by(5).failing(failure);
-    let mut sink = Sink::new(rt.alloc());
-    let result = solve(rt, request, &mut source, &mut sink);
-    is_cut_off(result, &source, failure, &sink)
-}
-
-/// An example, where each call of its reader fails in turn.
-fn example_by_reads(rt: &HostRuntime, example: &Example) -> Result<(), Fail> {
+/// An example is solved, and each call of its reader fails in turn.
+fn is_solving_cut_off(rt: &HostRuntime, example: &Example) -> Result<bool, AllocError> {
     let request = request_for(rt, example, Layout::Two)?;
-    for number in 0..reader_failures(example.instance) {
-        solving_is_cut_off(rt, &request, example.instance, reader_failure(number))?;
-    }
-    Ok(())
+    let [solving, ..] = runs(&request, example, example.answer);
+    Ok(solving.is_cut_off_by_each(rt.alloc(), Failing::Instance))
 }
 
-/// An instance of each form.
-fn solving_by_reads(rt: &HostRuntime) -> Result<(), Fail> {
-    example_by_reads(rt, &FOURS)?;
-    example_by_reads(rt, &SECOND_OF_TWO)?;
-    example_by_reads(rt, &TWO_OF_THREE)
-}
-
-/// Where the first reader of a check fails, the second one is not called.
-fn checking_is_cut_off_at_once(
-    rt: &HostRuntime,
-    request: &Request,
-    answer: &[u8],
-    failure: Failure,
-) -> Result<(), Fail> {
-    let mut source = Source::new(FOURS.instance).by(5).failing(failure);
-    let mut other = Source::new(answer);
-    let mut sink = Sink::new(rt.alloc());
-    let result = check(rt, request, &mut source, &mut other, &mut sink);
-    ensure(other.calls() == 0, "the second reader was called")?;
-    is_cut_off(result, &source, failure, &sink)
-}
-
-fn checking_is_cut_off(
-    rt: &HostRuntime,
-    request: &Request,
-    answer: &[u8],
-    failure: Failure,
-) -> Result<(), Fail> {
-    let mut source = Source::new(FOURS.instance);
-    let mut other = Source::new(answer).by(5).failing(failure);
-    let mut sink = Sink::new(rt.alloc());
-    let result = check(rt, request, &mut source, &mut other, &mut sink);
-    is_cut_off(result, &other, failure, &sink)
-}
-
-/// Each of the two readers of a check.
-fn checking_by_reads(rt: &HostRuntime) -> Result<(), Fail> {
+/// An answer is checked and drawn, and each call of a reader fails in turn.
+fn is_reading_cut_off(rt: &HostRuntime, layout: Layout) -> Result<bool, AllocError> {
     let request = request_for(rt, &FOURS, Layout::One)?;
-    for layout in LAYOUTS {
-        let answer = answer_in(rt, &FOURS, layout)?;
-        answer_by_reads(rt, &request, &answer)?;
-    }
-    Ok(())
-}
-
-/// Each call of the two readers of a check of this answer fails in turn.
-fn answer_by_reads(rt: &HostRuntime, request: &Request, answer: &[u8]) -> Result<(), Fail> {
-    for number in 0..reader_failures(FOURS.instance) {
-        checking_is_cut_off_at_once(rt, request, answer, reader_failure(number))?;
-    }
-    for number in 0..reader_failures(answer) {
-        checking_is_cut_off(rt, request, answer, reader_failure(number))?;
-    }
-    Ok(())
-}
-
-fn drawing_is_cut_off(rt: &HostRuntime, answer: &[u8], failure: Failure) -> Result<(), Fail> {
-    let mut source = Source::new(answer).by(5).failing(failure);
-    let mut sink = Sink::new(rt.alloc());
-    let result = draw(rt, &mut source, &mut sink);
-    is_cut_off(result, &source, failure, &sink)
-}
-
-fn drawing_by_reads(rt: &HostRuntime) -> Result<(), Fail> {
-    for layout in LAYOUTS {
-        let answer = answer_in(rt, &FOURS, layout)?;
-        for number in 0..reader_failures(&answer) {
-            drawing_is_cut_off(rt, &answer, reader_failure(number))?;
-        }
-    }
-    Ok(())
+    let answer = answer_in(rt, &FOURS, layout)?;
+    let [_, checking, drawing] = runs(&request, &FOURS, &answer);
+    Ok(
+        checking.is_cut_off_by_each(rt.alloc(), Failing::Instance)
+            && checking.is_cut_off_by_each(rt.alloc(), Failing::Answer)
+            && drawing.is_cut_off_by_each(rt.alloc(), Failing::Answer),
+    )
 }
 
 #[test]
 fn a_run_is_refused_where_any_read_fails(rt: HostRuntime) -> Result<(), Fail> {
-    solving_by_reads(&rt)?;
-    checking_by_reads(&rt)?;
-    drawing_by_reads(&rt)
+    // an instance of each form
+    for example in &[&FOURS, &SECOND_OF_TWO, &TWO_OF_THREE] {
+        ensure(is_solving_cut_off(&rt, example)?, example.name)?;
+    }
+    for layout in LAYOUTS {
+        ensure(is_reading_cut_off(&rt, layout)?, "another outcome or call")?;
+    }
+    Ok(())
 }
 
 /// The ways in which one call of a writer fails, call after call: 6 for each call.
@@ -244,90 +283,32 @@ fn writer_failures(text: &[u8]) -> u64 {
     (text.len() as u64).saturating_mul(6)
 }
 
-/// The run is refused, the writer was called up to its failure, and took a byte in each call
-/// before.
-fn is_cut_short<T: PartialEq + Drop>(
-    outcome: Result<T, RunFault>,
-    wanted: &[u8],
-    failure: Failure,
-    sink: &Sink,
-) -> Result<(), Fail> {
-    ensure(outcome == Err(RunFault::Device), "another outcome")?;
-    ensure(sink.calls() == failure.call, "another number of writes")?;
-    let taken = sink.taken();
-    ensure(wanted.starts_with(taken), "no prefix")?;
-    ensure(taken.len() as u64 + 1 == failure.call, "another prefix")
+/// The answer is solved, and each call of the writer fails in turn.
+fn is_solving_cut_short(rt: &HostRuntime, layout: Layout) -> Result<bool, AllocError> {
+    let request = request_for(rt, &FOURS, layout)?;
+    let answer = answer_in(rt, &FOURS, layout)?;
+    let [solving, ..] = runs(&request, &FOURS, &answer);
+    Ok(solving.is_cut_short_by_each(rt.alloc(), &answer))
 }
 
-fn solving_is_cut_short(
-    rt: &HostRuntime,
-    request: &Request,
-    wanted: &[u8],
-    failure: Failure,
-) -> Result<(), Fail> {
-    let mut source = Source::new(FOURS.instance);
-    let mut sink = Sink::new(rt.alloc()).by(1).failing(failure);
-    let result = solve(rt, request, &mut source, &mut sink);
-    is_cut_short(result, wanted, failure, &sink)
-}
-
-fn solving_by_writes(rt: &HostRuntime) -> Result<(), Fail> {
-    for layout in LAYOUTS {
-        let request = request_for(rt, &FOURS, layout)?;
-        let wanted = answer_in(rt, &FOURS, layout)?;
-        for number in 0..writer_failures(&wanted) {
-            solving_is_cut_short(rt, &request, &wanted, writer_failure(number))?;
-        }
-    }
-    Ok(())
-}
-
-fn checking_is_cut_short(
-    rt: &HostRuntime,
-    request: &Request,
-    answer: &[u8],
-    failure: Failure,
-) -> Result<(), Fail> {
-    let mut source = Source::new(FOURS.instance);
-    let mut other = Source::new(answer);
-    let mut sink = Sink::new(rt.alloc()).by(1).failing(failure);
-    let result = check(rt, request, &mut source, &mut other, &mut sink);
-    is_cut_short(result, b"accepted\n", failure, &sink)
-}
-
-fn checking_by_writes(rt: &HostRuntime) -> Result<(), Fail> {
+/// The answer is checked and drawn, and each call of the writer fails in turn.
+fn is_judging_cut_short(rt: &HostRuntime, layout: Layout) -> Result<bool, AllocError> {
     let request = request_for(rt, &FOURS, Layout::One)?;
-    for layout in LAYOUTS {
-        let answer = answer_in(rt, &FOURS, layout)?;
-        for number in 0..writer_failures(b"accepted\n") {
-            checking_is_cut_short(rt, &request, &answer, writer_failure(number))?;
-        }
-    }
-    Ok(())
-}
-
-fn drawing_is_cut_short(rt: &HostRuntime, answer: &[u8], failure: Failure) -> Result<(), Fail> {
-    let mut source = Source::new(answer);
-    let mut sink = Sink::new(rt.alloc()).by(1).failing(failure);
-    let result = draw(rt, &mut source, &mut sink);
-    is_cut_short(result, FOURS.chart, failure, &sink)
-}
-
-fn drawing_by_writes(rt: &HostRuntime) -> Result<(), Fail> {
-    for layout in LAYOUTS {
-        let answer = answer_in(rt, &FOURS, layout)?;
-        for number in 0..writer_failures(FOURS.chart) {
-            drawing_is_cut_short(rt, &answer, writer_failure(number))?;
-        }
-    }
-    Ok(())
+    let answer = answer_in(rt, &FOURS, layout)?;
+    let [_, checking, drawing] = runs(&request, &FOURS, &answer);
+    Ok(
+        checking.is_cut_short_by_each(rt.alloc(), b"accepted\n")
+            && drawing.is_cut_short_by_each(rt.alloc(), FOURS.chart),
+    )
 }
 
 #[test]
 fn a_run_writes_a_prefix_where_any_write_fails(rt: HostRuntime) -> Result<(), Fail> {
-    solving_by_writes(&rt)?;
-    checking_by_writes(&rt)?;
-    drawing_by_writes(&rt)
+    for layout in LAYOUTS {
+        ensure(is_solving_cut_short(&rt, layout)?, "another prefix or call")?;
+        ensure(is_judging_cut_short(&rt, layout)?, "another prefix or call")?;
+    }
+    Ok(())
 }
 
 /// A call that fails as the text behind a fault is read.
@@ -337,74 +318,74 @@ const BEHIND: Failure = Failure {
     heals: true,
 };
 
+/// Solving ends so, after so many calls of the reader, and writes nothing.
+fn ends_after(
+    alloc: Global,
+    request: &Request,
+    mut source: Source<'_>,
+    end: (Ending, u64),
+) -> bool {
+    let mut sink = Sink::new(alloc);
+    let ending = solve(alloc, request, &mut source, &mut sink);
+    (ending, source.calls()) == end && sink.calls() == 0
+}
+
 #[test]
 fn a_failing_reader_comes_before_a_fault_of_the_text(rt: HostRuntime) -> Result<(), Fail> {
     let first = Given::Tardiness { jobs: 3, index: 1 };
     let request = request(&rt, "1||Lmax", first, Layout::Two)?;
-    let mut source = Source::new(b"x 3 1\n").by(1).failing(BEHIND);
-    let mut sink = Sink::new(rt.alloc());
-    let result = solve(&rt, &request, &mut source, &mut sink);
-    is_cut_off(result, &source, BEHIND, &sink)?;
-    ensure(is_read_to_its_end(&rt, &request), "another outcome")
+    let source = Source::new(b"x 3 1\n").by(1);
+    let end = (Ending::Text(ReadFault::BadNumber(1)), 7);
+    let is_read = ends_after(rt.alloc(), &request, source, end);
+    let source = Source::new(b"x 3 1\n").by(1).failing(BEHIND);
+    let end = (Ending::Device, BEHIND.call);
+    let is_cut_off = ends_after(rt.alloc(), &request, source, end);
+    ensure(is_read && is_cut_off, "another outcome")
 }
 
-/// The text `x 3 1` is read to its end, and then refused.
-fn is_read_to_its_end(rt: &HostRuntime, request: &Request) -> bool {
-    let mut source = Source::new(b"x 3 1\n").by(1);
-    let mut sink = Sink::new(rt.alloc());
-    let result = solve(rt, request, &mut source, &mut sink);
-    result == Err(RunFault::Text(ReadFault::BadNumber(1))) && source.calls() == 7
+/// How solving ends on this heap.
+fn solve_on(
+    heap: &Refusing<Global>,
+    request: &Request,
+    source: &mut Source<'_>,
+    sink: &mut Sink,
+) -> Ending {
+    let mut reader = Counted::new(source);
+    let mut writer = Counted::new(sink);
+    match run_solve(heap, request, &mut reader, &mut writer) {
+        Ok(()) => Ending::Answered,
+        Err(fault) => ending_of(&fault),
+    }
+}
+
+/// Solving without memory ends so, after so many calls of the reader, and writes nothing. A growth
+/// was refused.
+fn ends_without_memory(
+    alloc: Global,
+    request: &Request,
+    mut source: Source<'_>,
+    end: (Ending, u64),
+) -> bool {
+    let mut sink = Sink::new(alloc);
+    let heap = Refusing::new(alloc, 0);
+    let ending = solve_on(&heap, request, &mut source, &mut sink);
+    (ending, source.calls()) == end && sink.calls() == 0 && heap.has_refused()
 }
 
 /// The sizes of the shop stand in its third part of 30 bytes.
 #[test]
 fn a_failing_reader_comes_before_a_refused_growth(rt: HostRuntime) -> Result<(), Fail> {
     let request = request_for(&rt, &TWO_OF_THREE, Layout::Two)?;
-    let mut source = Source::new(SHOP).by(30).failing(BEHIND);
-    let mut sink = Sink::new(rt.alloc());
-    let heap = Refusing::new(rt.alloc(), 0);
-    let ends = solves_on(&heap, &request, &mut source, &mut sink, Ending::Device);
-    ensure(ends && heap.has_refused(), "another outcome")?;
-    ensure(
-        source.calls() == BEHIND.call && sink.calls() == 0,
-        "another number of calls",
-    )
-}
-
-/// How a run ends that has no answer.
-#[derive(Clone, Copy, PartialEq, Eq)]
-enum Ending {
-    Device,
-    OutOfMemory,
-}
-
-/// The run on this heap ends so.
-fn solves_on(
-    heap: &Refusing<Global>,
-    request: &Request,
-    source: &mut Source<'_>,
-    sink: &mut Sink,
-    end: Ending,
-) -> bool {
-    let mut reader = Counted::new(source);
-    let mut writer = Counted::new(sink);
-    match run_solve(heap, request, &mut reader, &mut writer) {
-        Err(RunFault::Device) => end == Ending::Device,
-        Err(RunFault::OutOfMemory) => end == Ending::OutOfMemory,
-        _ => false,
-    }
+    let source = Source::new(SHOP).by(30).failing(BEHIND);
+    let end = (Ending::Device, BEHIND.call);
+    let is_so = ends_without_memory(rt.alloc(), &request, source, end);
+    ensure(is_so, "another outcome or call")
 }
 
 #[test]
 fn no_room_for_the_numbers_is_told_before_the_text(rt: HostRuntime) -> Result<(), Fail> {
     let request = request_for(&rt, &SECOND_OF_TWO, Layout::Two)?;
-    let mut source = Source::new(TARDINESS);
-    let mut sink = Sink::new(rt.alloc());
-    let heap = Refusing::new(rt.alloc(), 0);
-    let ends = solves_on(&heap, &request, &mut source, &mut sink, Ending::OutOfMemory);
-    ensure(ends, "another outcome")?;
-    ensure(
-        source.calls() == 0 && sink.calls() == 0,
-        "a device was called",
-    )
+    let end = (Ending::OutOfMemory, 0);
+    let is_so = ends_without_memory(rt.alloc(), &request, Source::new(TARDINESS), end);
+    ensure(is_so, "another outcome or call")
 }

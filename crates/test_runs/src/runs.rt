@@ -11,6 +11,9 @@ use tf_engine::run_check::{Checked, run_check};
 use tf_engine::run_gantt::run_gantt;
 use tf_engine::run_solve::run_solve;
 use tf_engine::text::Text;
+use tf_model::prepare::Refusal;
+use tf_read::fault::ReadFault;
+use tf_text::answer::fault::AnswerFault;
 use tf_text::answer::layout::Layout;
 use tf_text::counted::Counted;
 
@@ -21,6 +24,31 @@ pub fn ensure(is_so: bool, otherwise: &'static str) -> Result<(), Fail> {
         Ok(())
     } else {
         Err(Fail::new(otherwise))
+    }
+}
+
+/// How a run ends, as a value that owns nothing.
+#[derive(Clone, Copy, PartialEq, Eq)]
+pub enum Ending {
+    Answered,
+    Device,
+    Text(ReadFault),
+    Task(Refusal),
+    Answer(AnswerFault),
+    Cycle,
+    OutOfMemory,
+    Other,
+}
+
+pub fn ending_of<A: Allocator>(fault: &RunFault<A>) -> Ending {
+    match fault {
+        RunFault::Device => Ending::Device,
+        RunFault::Text(fault) => Ending::Text(*fault),
+        RunFault::Task(refusal) => Ending::Task(*refusal),
+        RunFault::Answer(fault) => Ending::Answer(*fault),
+        RunFault::Cycle(_) => Ending::Cycle,
+        RunFault::OutOfMemory => Ending::OutOfMemory,
+        _ => Ending::Other,
     }
 }
 
