@@ -1,6 +1,6 @@
 //! Refusals that come before any growth is asked for, and calls that ask for none.
 use refusing::Refusing;
-use std::alloc::Allocator;
+use std::alloc::{Allocator, Global};
 use std::test::Fail;
 use test_runs::devices::{Sink, Source};
 use test_runs::examples::parallel::FOURS;
@@ -11,6 +11,7 @@ use tf_engine::run_check::{Checked, run_check};
 use tf_engine::run_solve::run_solve;
 use tf_model::ids::JobId;
 use tf_model::prepare::{Field, Refusal, prepare};
+use tf_model::problem::Problem;
 use tf_notation::reading::read;
 use tf_read::fault::ReadFault;
 use tf_read::flow_shop::FlowReader;
@@ -19,7 +20,7 @@ use tf_text::counted::Counted;
 use tf_words::feed::Feed;
 
 /// Problems that are refused, with the byte of the fault where it is one of the notation.
-const REFUSED: [(&str, Option<usize>); 11] = [
+const REFUSED: &[(&str, Option<usize>)] = &[
     ("1||sumX", Some(3)),
     ("1||", Some(3)),
     ("1|rj,r_j|Lmax", Some(5)),
@@ -34,10 +35,12 @@ const REFUSED: [(&str, Option<usize>); 11] = [
 ];
 
 /// How many growths are granted: none, and more than any call asks for.
-const GRANTED: [u64; 2] = [0, 1_000_000_000];
+const GRANTED: &[u64] = &[0, 1_000_000_000];
+
+type Heap = Refusing<Global>;
 
 /// The fault is of the notation at this byte, or there is no solver where none is given.
-fn is_told<A: Allocator>(fault: &RunFault<A>, byte: Option<usize>) -> bool {
+fn is_told(fault: &RunFault<&Heap>, byte: Option<usize>) -> bool {
     match (fault, byte) {
         (RunFault::Notation(fault), Some(byte)) => fault.byte == byte,
         (RunFault::Task(Refusal::NoSolver), None) => true,
@@ -45,40 +48,35 @@ fn is_told<A: Allocator>(fault: &RunFault<A>, byte: Option<usize>) -> bool {
     }
 }
 
-fn solved<A: Allocator + Copy>(
-    alloc: A,
+fn solved<'a>(
+    heap: &'a Heap,
     request: &Request,
     instance: &mut Source,
     sink: &mut Sink,
-) -> Result<(), RunFault<A>> {
+) -> Result<(), RunFault<&'a Heap>> {
     let mut reader = Counted::new(instance);
     let mut writer = Counted::new(sink);
-    run_solve(alloc, request, &mut reader, &mut writer)
+    run_solve(heap, request, &mut reader, &mut writer)
 }
 
-fn checked<A: Allocator + Copy>(
-    alloc: A,
+fn checked<'a>(
+    heap: &'a Heap,
     request: &Request,
     instance: &mut Source,
     answer: &mut Source,
     sink: &mut Sink,
-) -> Result<Checked, RunFault<A>> {
+) -> Result<Checked, RunFault<&'a Heap>> {
     let mut reader = Counted::new(instance);
     let mut other = Counted::new(answer);
     let mut writer = Counted::new(sink);
-    run_check(alloc, request, &mut reader, &mut other, &mut writer)
+    run_check(heap, request, &mut reader, &mut other, &mut writer)
 }
 
 /// Solving refuses the problem, reads nothing and writes nothing.
-fn solving_refuses<A: Allocator + Copy>(
-    rt: &HostRuntime,
-    alloc: A,
-    request: &Request,
-    byte: Option<usize>,
-) -> bool {
+fn solving_refuses(alloc: Global, heap: &Heap, request: &Request, byte: Option<usize>) -> bool {
     let mut instance = Source::new(FOURS.instance);
-    let mut sink = Sink::new(rt.alloc());
-    let is_told = match solved(alloc, request, &mut instance, &mut sink) {
+    let mut sink = Sink::new(alloc);
+    let is_told = match solved(heap, request, &mut instance, &mut sink) {
         Ok(_) => false,
         Err(fault) => is_told(&fault, byte),
     };
@@ -86,16 +84,11 @@ fn solving_refuses<A: Allocator + Copy>(
 }
 
 /// Checking refuses the problem, reads nothing and writes nothing.
-fn checking_refuses<A: Allocator + Copy>(
-    rt: &HostRuntime,
-    alloc: A,
-    request: &Request,
-    byte: Option<usize>,
-) -> bool {
+fn checking_refuses(alloc: Global, heap: &Heap, request: &Request, byte: Option<usize>) -> bool {
     let mut instance = Source::new(FOURS.instance);
     let mut answer = Source::new(FOURS.answer);
-    let mut sink = Sink::new(rt.alloc());
-    let is_told = match checked(alloc, request, &mut instance, &mut answer, &mut sink) {
+    let mut sink = Sink::new(alloc);
+    let is_told = match checked(heap, request, &mut instance, &mut answer, &mut sink) {
         Ok(_) => false,
         Err(fault) => is_told(&fault, byte),
     };
@@ -106,8 +99,8 @@ fn checking_refuses<A: Allocator + Copy>(
 fn refuses(rt: &HostRuntime, problem: &str, byte: Option<usize>, granted: u64) -> Result<(), Fail> {
     let request = request_table(rt, problem)?;
     let heap = Refusing::new(rt.alloc(), granted);
-    let both = solving_refuses(rt, &heap, &request, byte)
-        && checking_refuses(rt, &heap, &request, byte)
+    let both = solving_refuses(rt.alloc(), &heap, &request, byte)
+        && checking_refuses(rt.alloc(), &heap, &request, byte)
         && !heap.has_refused();
     ensure(both, "another outcome")
 }
@@ -116,7 +109,7 @@ fn refuses(rt: &HostRuntime, problem: &str, byte: Option<usize>, granted: u64) -
 fn a_problem_is_refused_before_any_read_and_any_growth(rt: HostRuntime) -> Result<(), Fail> {
     for (problem, byte) in REFUSED {
         for granted in GRANTED {
-            refuses(&rt, problem, byte, granted)?;
+            refuses(&rt, problem, *byte, *granted)?;
         }
     }
     Ok(())
@@ -124,49 +117,53 @@ fn a_problem_is_refused_before_any_read_and_any_growth(rt: HostRuntime) -> Resul
 
 #[test]
 fn a_task_is_refused_before_any_growth(rt: HostRuntime) -> Result<(), Fail> {
-    let first = JobId::new(1).ok_or("a job")?;
-    let refused = [
-        ("P||sumC", "job 1 p=3", Refusal::MachinesMissing),
+    let first = JobId::at(0);
+    let no_weight = Refusal::MissingField(first, Field::Weight);
+    let refused: &[(&str, &[u8], Refusal)] = &[
+        ("P||sumC", b"table 1\njob 1 p=3\n", Refusal::MachinesMissing),
         (
             "P2||sumC",
-            "machines 3\njob 1 p=3",
+            b"table 1\nmachines 3\njob 1 p=3\n",
             Refusal::MachinesDisagree,
         ),
-        ("F2||Cmax", "job 1 p=3", Refusal::WrongTimes(first)),
         (
-            "1||sumwC",
-            "job 1 p=3",
-            Refusal::MissingField(first, Field::Weight),
+            "F2||Cmax",
+            b"table 1\njob 1 p=3\n",
+            Refusal::WrongTimes(first),
         ),
-        ("1||sumC", "job 1 p=0", Refusal::ZeroTime(first)),
+        ("1||sumwC", b"table 1\njob 1 p=3\n", no_weight),
+        ("1||sumC", b"table 1\njob 1 p=0\n", Refusal::ZeroTime(first)),
     ];
-    for (problem, lines, refusal) in refused {
-        let text = format!(in rt.alloc(); "table 1\n{lines}\n")?;
-        is_refused_at_once(&rt, problem, text.as_bytes(), refusal)?;
+    for (problem, table, refusal) in refused {
+        let problem = read(problem.as_bytes())?;
+        let is_so = is_refused_at_once(rt.alloc(), &problem, table, *refusal)?;
+        ensure(is_so, "another refusal, or a growth")?;
     }
     Ok(())
 }
 
 /// The task of this table is refused so, and asks for no growth.
 fn is_refused_at_once(
-    rt: &HostRuntime,
-    problem: &str,
+    alloc: Global,
+    problem: &Problem,
     table: &[u8],
     refusal: Refusal,
-) -> Result<(), Fail> {
-    let problem = read(problem.as_bytes())?;
-    let instance = read_table(rt.alloc(), table)?;
-    let heap = Refusing::new(rt.alloc(), 0);
-    let is_so = prepare(&heap, &instance, &problem, None).err() == Some(refusal);
-    ensure(is_so && !heap.has_refused(), "another refusal, or a growth")
+) -> Result<bool, ReadFault> {
+    let instance = read_table(alloc, table)?;
+    let heap = Refusing::new(alloc, 0);
+    let is_so = prepare(&heap, &instance, problem, None).err() == Some(refusal);
+    Ok(is_so && !heap.has_refused())
+}
+
+/// A reader of a flow shop is made without memory.
+fn is_made_without_memory(alloc: Global) -> bool {
+    let heap = Refusing::new(alloc, 0);
+    let mut reader = FlowReader::new(&heap, b"demo", None);
+    reader.feed(b"no instance\n");
+    reader.finish().err() == Some(ReadFault::NoInstance) && !heap.has_refused()
 }
 
 #[test]
 fn a_flow_shop_reader_is_made_without_memory(rt: HostRuntime) {
-    let heap = Refusing::new(rt.alloc(), 0);
-    let mut reader = FlowReader::new(&heap, b"demo", None);
-    reader.feed(b"no instance\n");
-    let fault = reader.finish().err();
-    assert!(rt; !heap.has_refused());
-    assert_eq!(rt; fault, Some(ReadFault::NoInstance));
+    assert!(rt; is_made_without_memory(rt.alloc()));
 }
