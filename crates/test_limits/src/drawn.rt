@@ -1,7 +1,7 @@
 //! Jobs of random numbers, as texts of each form of an instance.
 ghost use Rattle.std.specs.Prelude.{◌<◌};
 
-use std::alloc::AllocError;
+use std::alloc::{AllocError, Global};
 
 /// Numbers by a linear congruence, which begins at 1.
 #[derive(Drop)]
@@ -86,13 +86,13 @@ pub struct Drawn {
 
 impl Drawn {
     /// So many jobs.
-    pub fn new(rt: &HostRuntime, machines: Machines, count: u32) -> Result<Drawn, AllocError> {
+    pub fn new(alloc: Global, machines: Machines, count: u32) -> Result<Drawn, AllocError> {
         let mut draws = Draws::new();
-        let mut jobs = Vec::new(rt.alloc());
+        let mut jobs = Vec::new(alloc);
         for _ in 0..count {
             jobs.push(Numbers::draw(&mut draws, machines))?;
         }
-        let mut before = Vec::new(rt.alloc());
+        let mut before = Vec::new(alloc);
         for earlier in 1..count {
             before.push(1 + draws.below(earlier))?;
         }
@@ -104,56 +104,56 @@ impl Drawn {
     }
 
     /// A job table of all fields and arcs.
-    pub fn table(&self, rt: &HostRuntime) -> Result<Vec<u8>, AllocError> {
-        let mut text = Vec::from_slice(rt.alloc(), b"table 1\n")?;
+    pub fn table(&self, alloc: Global) -> Result<Vec<u8>, AllocError> {
+        let mut text = Vec::from_slice(alloc, b"table 1\n")?;
         if self.machines == Machines::Seven {
             text.extend_from_slice(b"machines 7\n")?;
         }
         for (number, job) in (1u32..).zip(self.jobs.iter()) {
-            push_job(rt, &mut text, number, job)?;
+            push_job(alloc, &mut text, number, job)?;
         }
         for (number, before) in (2u32..).zip(self.before.iter()) {
-            let line = format!(in rt.alloc(); "prec {before} {number}\n")?;
+            let line = format!(in alloc; "prec {before} {number}\n")?;
             text.extend_from_slice(line.as_bytes())?;
         }
         Ok(text)
     }
 
     /// The only instance of a weighted tardiness file.
-    pub fn tardiness(&self, rt: &HostRuntime) -> Result<Vec<u8>, AllocError> {
-        let mut text = Vec::new(rt.alloc());
+    pub fn tardiness(&self, alloc: Global) -> Result<Vec<u8>, AllocError> {
+        let mut text = Vec::new(alloc);
         for job in self.jobs.iter() {
-            push_word(rt, &mut text, job.time)?;
+            push_word(alloc, &mut text, job.time)?;
         }
         for job in self.jobs.iter() {
-            push_word(rt, &mut text, job.weight)?;
+            push_word(alloc, &mut text, job.weight)?;
         }
         for job in self.jobs.iter() {
-            push_word(rt, &mut text, job.due)?;
+            push_word(alloc, &mut text, job.due)?;
         }
         Ok(text)
     }
 
     /// A flow shop file of one instance, by the name `drawn`.
-    pub fn flow_shop(&self, rt: &HostRuntime) -> Result<Vec<u8>, AllocError> {
-        let head = format!(in rt.alloc(); "instance drawn\n{} 2\n", self.jobs.len())?;
-        let mut text = Vec::from_slice(rt.alloc(), head.as_bytes())?;
+    pub fn flow_shop(&self, alloc: Global) -> Result<Vec<u8>, AllocError> {
+        let head = format!(in alloc; "instance drawn\n{} 2\n", self.jobs.len())?;
+        let mut text = Vec::from_slice(alloc, head.as_bytes())?;
         for job in self.jobs.iter() {
             let second = job.second.unwrap_or(0);
-            let line = format!(in rt.alloc(); "0 {} 1 {second}\n", job.time)?;
+            let line = format!(in alloc; "0 {} 1 {second}\n", job.time)?;
             text.extend_from_slice(line.as_bytes())?;
         }
         Ok(text)
     }
 }
 
-fn push_word(rt: &HostRuntime, text: &mut Vec<u8>, number: u32) -> Result<(), AllocError> {
-    let word = format!(in rt.alloc(); "{number}\n")?;
+fn push_word(alloc: Global, text: &mut Vec<u8>, number: u32) -> Result<(), AllocError> {
+    let word = format!(in alloc; "{number}\n")?;
     text.extend_from_slice(word.as_bytes())
 }
 
 fn push_job(
-    rt: &HostRuntime,
+    alloc: Global,
     text: &mut Vec<u8>,
     number: u32,
     job: &Numbers,
@@ -169,10 +169,10 @@ fn push_job(
         ..
     } = *job;
     let times = match job.second {
-        None => format!(in rt.alloc(); "{time}")?,
-        Some(second) => format!(in rt.alloc(); "{time},{second}")?,
+        None => format!(in alloc; "{time}")?,
+        Some(second) => format!(in alloc; "{time},{second}")?,
     };
-    let line = format!(in rt.alloc();
+    let line = format!(in alloc;
         "job {number} p={times} w={weight} d={due} r={release} h={base},{step}:{later}\n"
     )?;
     text.extend_from_slice(line.as_bytes())

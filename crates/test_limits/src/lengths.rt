@@ -1,11 +1,11 @@
 //! Texts of as many bytes as there may be, of one more, and without an end.
-use std::alloc::AllocError;
+use std::alloc::Global;
 use std::test::Fail;
 use test_runs::devices::{Sink, Source};
 use test_runs::examples::Given;
 use test_runs::examples::parallel::FOURS;
-use test_runs::runs::{ensure, request, request_for};
-use tf_engine::fault::RunFault;
+use test_runs::runs::{Ending, ending_of, request, request_for};
+use tf_engine::request::Request;
 use tf_engine::run_check::run_check;
 use tf_engine::run_gantt::run_gantt;
 use tf_engine::run_solve::run_solve;
@@ -24,26 +24,30 @@ fn asked_of(bytes: usize) -> u64 {
     bytes.min(MOST + 1) as u64
 }
 
+/// How solving ends.
+fn solves(alloc: Global, request: &Request, source: &mut Source<'_>, sink: &mut Sink) -> Ending {
+    let mut reader = Counted::new(source);
+    let mut writer = Counted::new(sink);
+    match run_solve(alloc, request, &mut reader, &mut writer) {
+        Ok(()) => Ending::Answered,
+        Err(fault) => ending_of(&fault),
+    }
+}
+
 /// Solving so many bytes, this text over and over, is refused after so many of them were read, and
 /// nothing is written.
 fn is_not_solved(
-    rt: &HostRuntime,
-    given: Given,
+    alloc: Global,
+    request: &Request,
     text: &[u8],
     bytes: usize,
     fault: ReadFault,
-) -> Result<(), Fail> {
-    let request = request(rt, "1||Lmax", given, Layout::Two)?;
+) -> bool {
     let mut source = Source::repeating(text, bytes);
-    let mut sink = Sink::new(rt.alloc());
-    let mut reader = Counted::new(&mut source);
-    let mut writer = Counted::new(&mut sink);
-    let result = run_solve(rt.alloc(), &request, &mut reader, &mut writer);
-    drop(reader);
-    drop(writer);
-    ensure(result == Err(RunFault::Text(fault)), "another outcome")?;
-    ensure(source.given() == asked_of(bytes), "another number of bytes")?;
-    ensure(sink.calls() == 0, "something was written")
+    let mut sink = Sink::new(alloc);
+    solves(alloc, request, &mut source, &mut sink) == Ending::Text(fault)
+        && source.given() == asked_of(bytes)
+        && sink.calls() == 0
 }
 
 const TARDINESS: Given = Given::Tardiness { jobs: 1, index: 1 };
@@ -53,75 +57,88 @@ const SHOP: Given = Given::FlowShop {
     pair: None,
 };
 
+const NO_JOBS: Given = Given::Tardiness { jobs: 0, index: 1 };
+
+/// Forms of instances, texts of so many bytes, and why they are refused.
+const REFUSED: &[(Given, &[u8], usize, ReadFault)] = &[
+    (Given::Table, &BLANKS, MOST, ReadFault::EndsEarly),
+    (TARDINESS, &BLANKS, MOST, ReadFault::NoInstance),
+    (NO_JOBS, &BLANKS, MOST, ReadFault::NoJobs),
+    (SHOP, &BLANKS, MOST, ReadFault::NoInstance),
+    (Given::Table, &BLANKS, MOST + 1, ReadFault::TooLong),
+    (TARDINESS, &BLANKS, MOST + 1, ReadFault::TooLong),
+    (NO_JOBS, &BLANKS, MOST + 1, ReadFault::TooLong),
+    (SHOP, &BLANKS, MOST + 1, ReadFault::TooLong),
+    // a text without an end is read by one byte more
+    (Given::Table, &BLANKS, usize::MAX, ReadFault::TooLong),
+    (TARDINESS, &BLANKS, usize::MAX, ReadFault::TooLong),
+    (SHOP, &BLANKS, usize::MAX, ReadFault::TooLong),
+    // behind a fault it is refused as too long
+    (TARDINESS, b"4 x ", MOST, ReadFault::BadNumber(1)),
+    (TARDINESS, b"4 x ", MOST + 1, ReadFault::TooLong),
+];
+
 #[test]
 fn an_instance_has_at_most_67_108_864_bytes(rt: HostRuntime) -> Result<(), Fail> {
-    is_not_solved(&rt, Given::Table, &BLANKS, MOST, ReadFault::EndsEarly)?;
-    is_not_solved(&rt, TARDINESS, &BLANKS, MOST, ReadFault::NoInstance)?;
-    is_not_solved(&rt, SHOP, &BLANKS, MOST, ReadFault::NoInstance)?;
-    for given in [Given::Table, TARDINESS, SHOP] {
-        is_not_solved(&rt, given, &BLANKS, MOST + 1, ReadFault::TooLong)?;
-        // a text without an end is read by one byte more
-        is_not_solved(&rt, given, &BLANKS, usize::MAX, ReadFault::TooLong)?;
+    for (given, text, bytes, fault) in REFUSED {
+        let request = request(&rt, "1||Lmax", *given, Layout::Two)?;
+        let is_so = is_not_solved(rt.alloc(), &request, text, *bytes, *fault);
+        assert!(rt; is_so, "{bytes} bytes");
     }
-    // behind a fault it is refused as too long
-    is_not_solved(&rt, TARDINESS, b"4 x ", MOST, ReadFault::BadNumber(1))?;
-    is_not_solved(&rt, TARDINESS, b"4 x ", MOST + 1, ReadFault::TooLong)
+    Ok(())
 }
 
-/// An answer of so many blanks is refused in both runs that read one.
-fn is_no_answer(rt: &HostRuntime, bytes: usize, fault: AnswerFault) -> Result<(), Fail> {
-    let mut sink = Sink::new(rt.alloc());
-    let mut source = Source::repeating(&BLANKS, bytes);
-    ensure(
-        check_fault(rt, &mut source, &mut sink)? == Some(fault),
-        "another outcome",
-    )?;
-    ensure(source.given() == asked_of(bytes), "another number of bytes")?;
-    let mut source = Source::repeating(&BLANKS, bytes);
-    ensure(
-        gantt_fault(rt, &mut source, &mut sink) == Some(fault),
-        "another outcome",
-    )?;
-    ensure(source.given() == asked_of(bytes), "another number of bytes")?;
-    ensure(sink.calls() == 0, "something was written")
-}
-
-/// The fault of the answer text that a check names.
-fn check_fault(
-    rt: &HostRuntime,
-    source: &mut Source<'_>,
-    sink: &mut Sink,
-) -> Result<Option<AnswerFault>, AllocError> {
-    let request = request_for(rt, &FOURS, Layout::Two)?;
+/// How a check ends.
+fn checks(alloc: Global, request: &Request, source: &mut Source<'_>, sink: &mut Sink) -> Ending {
     let mut instance = Counted::new(FOURS.instance);
     let mut reader = Counted::new(source);
     let mut writer = Counted::new(sink);
-    let result = run_check(
-        rt.alloc(),
-        &request,
-        &mut instance,
-        &mut reader,
-        &mut writer,
-    );
-    Ok(match result {
-        Err(RunFault::Answer(fault)) => Some(fault),
-        _ => None,
-    })
-}
-
-/// The fault of the answer text that a drawing names.
-fn gantt_fault(rt: &HostRuntime, source: &mut Source<'_>, sink: &mut Sink) -> Option<AnswerFault> {
-    let mut reader = Counted::new(source);
-    let mut writer = Counted::new(sink);
-    match run_gantt(rt.alloc(), &mut reader, &mut writer, 72) {
-        Err(RunFault::Answer(fault)) => Some(fault),
-        _ => None,
+    match run_check(alloc, request, &mut instance, &mut reader, &mut writer) {
+        Ok(_) => Ending::Answered,
+        Err(fault) => ending_of(&fault),
     }
 }
 
+/// How a drawing ends.
+fn draws(alloc: Global, source: &mut Source<'_>, sink: &mut Sink) -> Ending {
+    let mut reader = Counted::new(source);
+    let mut writer = Counted::new(sink);
+    match run_gantt(alloc, &mut reader, &mut writer, 72) {
+        Ok(_) => Ending::Answered,
+        Err(fault) => ending_of(&fault),
+    }
+}
+
+/// An answer of so many blanks is refused by a check.
+fn is_not_checked(alloc: Global, request: &Request, bytes: usize, fault: AnswerFault) -> bool {
+    let mut source = Source::repeating(&BLANKS, bytes);
+    let mut sink = Sink::new(alloc);
+    checks(alloc, request, &mut source, &mut sink) == Ending::Answer(fault)
+        && source.given() == asked_of(bytes)
+        && sink.calls() == 0
+}
+
+/// An answer of so many blanks is not drawn.
+fn is_not_drawn(alloc: Global, bytes: usize, fault: AnswerFault) -> bool {
+    let mut source = Source::repeating(&BLANKS, bytes);
+    let mut sink = Sink::new(alloc);
+    draws(alloc, &mut source, &mut sink) == Ending::Answer(fault)
+        && source.given() == asked_of(bytes)
+        && sink.calls() == 0
+}
+
+const REFUSED_ANSWERS: &[(usize, AnswerFault)] = &[
+    (MOST, AnswerFault::EndsEarly),
+    (MOST + 1, AnswerFault::TooLong),
+    (usize::MAX, AnswerFault::TooLong),
+];
+
 #[test]
 fn an_answer_has_at_most_67_108_864_bytes(rt: HostRuntime) -> Result<(), Fail> {
-    is_no_answer(&rt, MOST, AnswerFault::EndsEarly)?;
-    is_no_answer(&rt, MOST + 1, AnswerFault::TooLong)?;
-    is_no_answer(&rt, usize::MAX, AnswerFault::TooLong)
+    let request = request_for(&rt, &FOURS, Layout::Two)?;
+    for (bytes, fault) in REFUSED_ANSWERS {
+        assert!(rt; is_not_checked(rt.alloc(), &request, *bytes, *fault));
+        assert!(rt; is_not_drawn(rt.alloc(), *bytes, *fault));
+    }
+    Ok(())
 }

@@ -1,5 +1,6 @@
 //! Random jobs of each class, and files beside tables of the same jobs.
 use crate::drawn::{Drawn, Machines};
+use std::alloc::{AllocError, Global};
 use std::test::Fail;
 use test_runs::examples::Given;
 use test_runs::runs::{LAYOUTS, check_into, draw_into, ensure, request, solve_into};
@@ -27,39 +28,50 @@ const PARALLEL: [&str; 2] = ["P||sumC", "P|prmp|Cmax"];
 
 const SHOPS: [&str; 4] = ["F2||Cmax", "F2|prmp|Cmax", "O2||Cmax", "O2|prmp|Cmax"];
 
-/// The answer of an instance, which is accepted and drawn.
-fn answers(rt: &HostRuntime, request: &Request, instance: &[u8]) -> Result<Vec<u8>, Fail> {
-    let mut answer = Vec::new(rt.alloc());
-    let solved = solve_into(rt.alloc(), request, instance, &mut answer);
-    ensure(solved == Ok(()), "not solved")?;
-    ensure(is_accepted(rt, request, instance, &answer), "not accepted")?;
-    ensure(is_drawn(rt, &answer), "not drawn")?;
-    Ok(answer)
+/// The answer of an instance is accepted and drawn.
+fn answers(alloc: Global, request: &Request, instance: &[u8], answer: &mut Vec<u8>) -> bool {
+    solve_into(alloc, request, instance, answer) == Ok(())
+        && is_accepted(alloc, request, instance, answer)
+        && is_drawn(alloc, answer)
 }
 
-fn is_accepted(rt: &HostRuntime, request: &Request, instance: &[u8], answer: &[u8]) -> bool {
-    let mut line = Vec::new(rt.alloc());
-    let checked = check_into(rt.alloc(), request, instance, answer, &mut line);
+fn is_accepted(alloc: Global, request: &Request, instance: &[u8], answer: &[u8]) -> bool {
+    let mut line = Vec::new(alloc);
+    let checked = check_into(alloc, request, instance, answer, &mut line);
     checked == Ok(Checked::Accepted) && line.as_slice() == b"accepted\n".as_slice()
 }
 
-fn is_drawn(rt: &HostRuntime, answer: &[u8]) -> bool {
-    let mut chart = Vec::new(rt.alloc());
-    draw_into(rt.alloc(), answer, 72, &mut chart) == Ok(())
+fn is_drawn(alloc: Global, answer: &[u8]) -> bool {
+    let mut chart = Vec::new(alloc);
+    draw_into(alloc, answer, 72, &mut chart) == Ok(())
+}
+
+fn is_answered(
+    rt: &HostRuntime,
+    problem: &str,
+    layout: Layout,
+    table: &[u8],
+) -> Result<bool, AllocError> {
+    let request = request(rt, problem, Given::Table, layout)?;
+    let mut answer = Vec::new(rt.alloc());
+    Ok(answers(rt.alloc(), &request, table, &mut answer))
+}
+
+fn table_of(alloc: Global, machines: Machines, jobs: u32) -> Result<Vec<u8>, AllocError> {
+    Drawn::new(alloc, machines, jobs)?.table(alloc)
 }
 
 /// So many jobs are answered under each of the problems in each version.
 fn are_answered(
     rt: &HostRuntime,
-    problems: &[&str],
+    problems: &[&'static str],
     machines: Machines,
     jobs: u32,
 ) -> Result<(), Fail> {
-    let table = Drawn::new(rt, machines, jobs)?.table(rt)?;
+    let table = table_of(rt.alloc(), machines, jobs)?;
     for problem in problems {
         for layout in LAYOUTS {
-            let request = request(rt, problem, Given::Table, layout)?;
-            answers(rt, &request, &table)?;
+            ensure(is_answered(rt, problem, layout, &table)?, problem)?;
         }
     }
     Ok(())
@@ -84,55 +96,58 @@ fn as_many_jobs_of_each_class_as_there_may_be(rt: HostRuntime) -> Result<(), Fai
     are_answered(&rt, &SHOPS, Machines::Shop, 100_000)
 }
 
+/// The answer of an instance of this form, which is accepted and drawn.
+fn answer_of(
+    rt: &HostRuntime,
+    problem: &'static str,
+    given: Given,
+    text: &[u8],
+) -> Result<Vec<u8>, Fail> {
+    let request = request(rt, problem, given, Layout::Two)?;
+    let mut answer = Vec::new(rt.alloc());
+    ensure(answers(rt.alloc(), &request, text, &mut answer), problem)?;
+    Ok(answer)
+}
+
 /// The jobs of a table have the same answer as those of a file.
 fn are_answered_alike(
     rt: &HostRuntime,
-    problem: &str,
+    problem: &'static str,
     table: &[u8],
     given: Given,
     file: &[u8],
-) -> Result<(), Fail> {
-    let of_table = request(rt, problem, Given::Table, Layout::Two)?;
-    let of_file = request(rt, problem, given, Layout::Two)?;
-    let same = answers(rt, &of_table, table)? == answers(rt, &of_file, file)?;
-    ensure(same, "another answer")
+) -> Result<bool, Fail> {
+    let answer = answer_of(rt, problem, Given::Table, table)?;
+    Ok(answer_of(rt, problem, given, file)? == answer)
 }
 
 /// So many jobs of one machine from a table and from a weighted tardiness file.
-fn is_tardiness_alike(rt: &HostRuntime, jobs: u32) -> Result<(), Fail> {
-    let drawn = Drawn::new(rt, Machines::One, jobs)?;
+fn is_tardiness_alike(rt: &HostRuntime, jobs: u32) -> Result<bool, Fail> {
+    let drawn = Drawn::new(rt.alloc(), Machines::One, jobs)?;
+    let table = drawn.table(rt.alloc())?;
+    let file = drawn.tardiness(rt.alloc())?;
     let given = Given::Tardiness { jobs, index: 1 };
-    are_answered_alike(
-        rt,
-        "1||Lmax",
-        &drawn.table(rt)?,
-        given,
-        &drawn.tardiness(rt)?,
-    )
+    are_answered_alike(rt, "1||Lmax", &table, given, &file)
 }
 
 /// So many jobs of a flow shop from a table and from a flow shop file.
-fn is_flow_shop_alike(rt: &HostRuntime, jobs: u32) -> Result<(), Fail> {
-    let drawn = Drawn::new(rt, Machines::Shop, jobs)?;
+fn is_flow_shop_alike(rt: &HostRuntime, jobs: u32) -> Result<bool, Fail> {
+    let drawn = Drawn::new(rt.alloc(), Machines::Shop, jobs)?;
+    let table = drawn.table(rt.alloc())?;
+    let file = drawn.flow_shop(rt.alloc())?;
     let given = Given::FlowShop {
         name: "drawn",
         pair: None,
     };
-    are_answered_alike(
-        rt,
-        "F2||Cmax",
-        &drawn.table(rt)?,
-        given,
-        &drawn.flow_shop(rt)?,
-    )
+    are_answered_alike(rt, "F2||Cmax", &table, given, &file)
 }
 
 #[test]
 fn files_have_the_answers_of_tables(rt: HostRuntime) -> Result<(), Fail> {
     for jobs in 1..101 {
-        is_tardiness_alike(&rt, jobs)?;
-        is_flow_shop_alike(&rt, jobs)?;
+        assert!(rt; is_tardiness_alike(&rt, jobs)? && is_flow_shop_alike(&rt, jobs)?);
     }
-    is_tardiness_alike(&rt, 100_000)?;
-    is_flow_shop_alike(&rt, 100_000)
+    assert!(rt; is_tardiness_alike(&rt, 100_000)?);
+    assert!(rt; is_flow_shop_alike(&rt, 100_000)?);
+    Ok(())
 }

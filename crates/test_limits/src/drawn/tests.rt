@@ -1,4 +1,5 @@
 use super::{Drawn, Machines};
+use std::alloc::{AllocError, Global};
 use std::test::Fail;
 
 const THREE: &[u8] = b"table 1
@@ -9,12 +10,20 @@ prec 1 2
 prec 1 3
 ";
 
+fn is_table(
+    alloc: Global,
+    machines: Machines,
+    jobs: u32,
+    wanted: &[u8],
+) -> Result<bool, AllocError> {
+    let drawn = Drawn::new(alloc, machines, jobs)?;
+    Ok(drawn.table(alloc)?.as_slice() == wanted)
+}
+
 #[test]
 fn the_first_jobs_are_these(rt: HostRuntime) -> Result<(), Fail> {
-    let three = Drawn::new(&rt, Machines::One, 3)?.table(&rt)?;
-    assert!(rt; three.as_slice() == THREE);
-    let shop = Drawn::new(&rt, Machines::Shop, 1)?.table(&rt)?;
+    assert!(rt; is_table(rt.alloc(), Machines::One, 3, THREE)?);
     let first = b"table 1\njob 1 p=38,8 w=13 d=515 r=51 h=27,10:37\n";
-    assert!(rt; shop.as_slice() == first.as_slice());
+    assert!(rt; is_table(rt.alloc(), Machines::Shop, 1, first)?);
     Ok(())
 }
