@@ -42,6 +42,15 @@ edge width edged =
 abbrev pub part : List ℕ → ℕ → List ℕ
 part before number = before ++ decimal number
 
+-- texts with a number behind each, and the text that ends them
+abbrev pub parts_from : List ℕ → List (List ℕ × ℕ) → List ℕ → List ℕ
+parts_from text [] end = text ++ end
+parts_from text ((before, number) ∷ parts) end = parts_from (text ++ part before number) parts end
+
+abbrev pub parts_to : List (List ℕ × ℕ) → List ℕ → List ℕ
+parts_to [] end = end
+parts_to ((before, number) ∷ parts) end = parts_from (part before number) parts end
+
 -- what a reader sees who points at the bar
 abbrev pub told : Piece → List ℕ
 told p =
@@ -49,27 +58,25 @@ told p =
     ++ part (codes ", machine ") p.machine
     ++ part (codes ", ") (as_time p.start)
     ++ part (codes " to ") (as_time p.stop)
-    ++ codes "</title>"
+    ++ codes "</title></rect>\n"
 
 -- the width of the bar of a piece, unless that is less than the least
 abbrev pub width : Frame → Piece → ℕ
 width f p = across f (as_time p.stop) - across f (as_time p.start)
 
--- where the bar begins, and how wide it is
-abbrev pub extent : Frame → Piece → List ℕ
-extent f p =
+-- a rectangle where the bar lies, as high as this, up to an end
+abbrev pub rect : Frame → Piece → ℕ → List ℕ → List ℕ
+rect f p high end =
     part (codes "<rect x=\"") (across f (as_time p.start))
     ++ part (codes "\" y=\"") (top f p.machine)
     ++ part (codes "\" width=\"") (max (width f p) 50)
-
--- where the bar lies
-abbrev pub place : Frame → Piece → List ℕ
-place f p = extent f p ++ part (codes "\" height=\"") (bar_height f.machines)
+    ++ part (codes "\" height=\"") high
+    ++ end
 
 unfoldable pub bar_text : Frame → Bar → List ℕ
 bar_text f b =
-    place f b.piece ++ codes "\" fill=\"" ++ fill b.fill ++ edge (width f b.piece) b.edged
-    ++ told b.piece ++ codes "</rect>\n"
+    rect f b.piece (bar_height f.machines) (codes "\" fill=\"") ++ fill b.fill
+    ++ edge (width f b.piece) b.edged ++ told b.piece
 
 -- the piece is on one of the machines, and some of it lies in the strip
 abbrev pub is_shown : Frame → Piece → Bool
@@ -91,19 +98,14 @@ bar_group f bars =
 abbrev pub foot : Frame → ℕ → ℕ
 foot f machine = top f machine + bar_height f.machines * 9 / 10
 
-abbrev pub link_begin : Frame → Piece → List ℕ
-link_begin f p =
-    part (codes "<line x1=\"") (across f (as_time p.stop))
-    ++ part (codes "\" y1=\"") (foot f p.machine)
-
-abbrev pub link_end : Frame → Piece → List ℕ
-link_end f p =
-    part (codes "\" x2=\"") (across f (as_time p.start))
-    ++ part (codes "\" y2=\"") (foot f p.machine)
-
 -- a line from the end of a piece to the start of the next
 abbrev pub link : Frame → Piece → Piece → List ℕ
-link f p q = link_begin f p ++ link_end f q ++ codes "\"/>\n"
+link f p q =
+    part (codes "<line x1=\"") (across f (as_time p.stop))
+    ++ part (codes "\" y1=\"") (foot f p.machine)
+    ++ part (codes "\" x2=\"") (across f (as_time q.start))
+    ++ part (codes "\" y2=\"") (foot f q.machine)
+    ++ codes "\"/>\n"
 
 -- they are pieces of one job, both shown, with both ends of the line in the strip
 abbrev pub is_linked : Frame → Piece → Piece → Bool
@@ -121,8 +123,7 @@ links f before (p ∷ ps) = link_if_shown f before p ++ links f (Some p) ps
 
 abbrev pub link_group : Frame → List Piece → List ℕ
 link_group f resumed =
-    codes "<g stroke=\"#222222\" stroke-width=\"70\""
-    ++ codes " stroke-dasharray=\"300 200\">\n"
+    codes "<g stroke=\"#222222\" stroke-width=\"70\" stroke-dasharray=\"300 200\">\n"
     ++ links f None resumed
     ++ codes "</g>\n"
 
@@ -140,11 +141,9 @@ IsResumed false pieces sorted = sorted ≡ []
 -- a strip along the upper edge of the bar of a piece that stops so many steps too late
 unfoldable pub late_mark : Frame → ℕ → Piece → List ℕ
 late_mark f steps p =
-    extent f p
-    ++ part (codes "\" height=\"") (bar_height f.machines / 8)
-    ++ part (codes "\"><title>job ") p.job
-    ++ part (codes ", late by ") steps
-    ++ codes "</title></rect>\n"
+    rect f p (bar_height f.machines / 8) (codes "\">")
+    ++ (part (codes "<title>job ") p.job ++ part (codes ", late by ") steps
+    ++ codes "</title></rect>\n")
 
 -- the piece is shown, and it stops after the due date of its job
 abbrev pub late_if_shown : Frame → List JobDates → Bar → List ℕ
@@ -169,31 +168,29 @@ shown_at f (Some date) = time_shown f date
 
 -- A triangle whose tip is at the edge of the bars: above them and pointing down for a release date,
 -- below them and pointing up for a due date.
-abbrev pub mark_tip : Frame → DateKind → Piece → List ℕ
-mark_tip f Release p =
-    part (codes " ") (top f p.machine) ++ part (codes "l-400 -") (row_height f.machines / 10)
-mark_tip f Due p =
-    part (codes " ") (top f p.machine + bar_height f.machines)
-    ++ part (codes "l-400 ") (row_height f.machines / 10)
+abbrev pub tip : Frame → DateKind → Piece → ℕ
+tip f Release p = top f p.machine
+tip f Due p = top f p.machine + bar_height f.machines
 
-abbrev pub mark_place : Frame → DateKind → ℕ → Piece → List ℕ
-mark_place f kind time p =
-    part (codes "<path d=\"M") (across f time) ++ mark_tip f kind p
-    ++ codes "h800z\" fill=\""
+abbrev pub side : DateKind → List ℕ
+side Release = codes "l-400 -"
+side Due = codes "l-400 "
 
 -- what a reader sees who points at the mark
-abbrev pub date_told : DateKind → ℕ → List ℕ
-date_told Release time = part (codes ", release date ") time
-date_told Due time = part (codes ", due date ") time
+abbrev pub date_name : DateKind → List ℕ
+date_name Release = codes ", release date "
+date_name Due = codes ", due date "
 
 abbrev pub mark_title : DateKind → ℕ → Piece → List ℕ
 mark_title kind time p =
-    part (codes "\"><title>job ") p.job ++ date_told kind time ++ codes "</title></path>\n"
+    part (codes "\"><title>job ") p.job ++ part (date_name kind) time ++ codes "</title></path>\n"
 
 -- the mark of a date that is this time, with the fill of the bar
 abbrev pub date_mark : Frame → DateKind → ℕ → Bar → List ℕ
 date_mark f kind time b =
-    mark_place f kind time b.piece ++ fill b.fill ++ mark_title kind time b.piece
+    (part (codes "<path d=\"M") (across f time) ++ part (codes " ") (tip f kind b.piece)
+    ++ part (side kind) (row_height f.machines / 10) ++ codes "h800z\" fill=\"")
+    ++ fill b.fill ++ mark_title kind time b.piece
 
 abbrev pub mark_if_some : Frame → DateKind → Option ℕ → Bar → List ℕ
 mark_if_some f kind None b = []
@@ -243,20 +240,6 @@ abbrev pub title : Heading → List ℕ
 title heading =
     canonical heading.problem ++ codes ", value" ++ 32 ∷ signed_decimal heading.value
 
--- the size of the picture that is so many hundredths of a pixel high
-abbrev pub sides : Size → ℕ → List ℕ
-sides size high =
-    part (codes " role=\"img\" width=\"") (width_of size high) ++ unit_of size
-    ++ part (codes "\" height=\"") (height_of size high) ++ unit_of size
-
-abbrev pub view_box : ℕ → List ℕ
-view_box high = part (codes "\" viewBox=\"0 0 ") 120000 ++ part (codes " ") high
-
-abbrev pub opening : Size → ℕ → List ℕ
-opening size high =
-    codes "<svg xmlns=\"http://www.w3.org/2000/svg\"" ++ sides size high ++ view_box high
-    ++ codes "\" font-family=\"sans-serif\">\n"
-
 -- the hatching of idle time
 abbrev pub hatching : List ℕ
 hatching =
@@ -266,18 +249,26 @@ hatching =
     ++ codes "<rect width=\"90\" height=\"500\" fill=\"#cccccc\"/>"
     ++ codes "</pattern></defs>\n"
 
+-- the size of the picture that is so many hundredths of a pixel high, and the hatching
+abbrev pub opening : Size → ℕ → List ℕ
+opening size high =
+    (part (codes "<svg xmlns=\"http://www.w3.org/2000/svg\" role=\"img\" width=\"")
+    (width_of size high) ++ unit_of size)
+    ++ (part (codes "\" height=\"") (height_of size high) ++ unit_of size)
+    ++ (part (codes "\" viewBox=\"0 0 ") 120000 ++ part (codes " ") high
+    ++ (codes "\" font-family=\"sans-serif\">\n" ++ hatching))
+
 -- its title, for a reader who points at the picture and, on white, for all
 abbrev pub titles : List ℕ → List ℕ
 titles text =
     codes "<title>" ++ text
-    ++ codes "</title>\n<rect width=\"100%\" height=\"100%\" fill=\"#ffffff\"/>\n"
-    ++ codes "<text x=\"7000\" y=\"3200\" font-size=\"2000\">" ++ text ++ codes "</text>\n"
+    ++ codes "</title>\n<rect width=\"100%\" height=\"100%\" fill=\"#ffffff\"/>\n<text x=\"7000\" y=\"3200\" font-size=\"2000\">"
+    ++ text
 
 -- the numbers of jobs, machines and time steps
 abbrev pub sizes : Heading → ℕ → List ℕ
 sizes heading length =
-    codes "<text x=\"7000\" y=\"5200\" font-size=\"1300\">"
-    ++ part (codes "jobs ") heading.jobs
+    part (codes "</text>\n<text x=\"7000\" y=\"5200\" font-size=\"1300\">jobs ") heading.jobs
     ++ part (codes ", machines ") heading.machines
     ++ part (codes ", length ") length
     ++ codes "</text>\n"
@@ -285,8 +276,7 @@ sizes heading length =
 -- all that comes before the strips
 unfoldable pub front : Heading → Size → Strips → List ℕ
 front heading size strips =
-    opening size (height strips) ++ hatching ++ titles (title heading)
-    ++ sizes heading strips.last
+    opening size (height strips) ++ titles (title heading) ++ sizes heading strips.last
 
 -- ---- the rows and the axis of a strip
 
@@ -303,30 +293,25 @@ row f machine =
 abbrev pub number : Frame → ℕ → List ℕ
 number f machine = label 6200 (base f machine) machine
 
-abbrev pub row_group : Frame → List ℕ
-row_group f =
-    codes "<g fill=\"url(#idle)\" stroke=\"#bbbbbb\" stroke-width=\"50\">\n"
-    ++ flat_map (row f) (range_with_len 1 f.machines)
-    ++ codes "</g>\n"
+-- the end of the rows, and how large the numbers are
+abbrev pub number_font : Frame → List ℕ
+number_font f =
+    part (codes "</g>\n<g text-anchor=\"end\" font-size=\"") (font f.machines) ++ codes "\">\n"
 
 -- what the numbers beside the rows and below them are
 abbrev pub names : Frame → List ℕ
 names f =
     part (codes "<text x=\"4700\" y=\"") (down f - 700)
-    ++ codes "\" font-size=\"1100\">machine</text>\n"
-    ++ part (codes "<text x=\"4700\" y=\"") (bottom f + 1500)
-    ++ codes "\" font-size=\"1100\">time</text>\n"
-
-abbrev pub number_group : Frame → List ℕ
-number_group f =
-    part (codes "<g text-anchor=\"end\" font-size=\"") (font f.machines)
-    ++ codes "\">\n"
-    ++ flat_map (number f) (range_with_len 1 f.machines)
-    ++ names f
-    ++ codes "</g>\n"
+    ++ part (codes "\" font-size=\"1100\">machine</text>\n<text x=\"4700\" y=\"") (bottom f + 1500)
+    ++ codes "\" font-size=\"1100\">time</text>\n</g>\n"
 
 abbrev pub rows : Frame → List ℕ
-rows f = row_group f ++ number_group f
+rows f =
+    codes "<g fill=\"url(#idle)\" stroke=\"#bbbbbb\" stroke-width=\"50\">\n"
+    ++ flat_map (row f) (range_with_len 1 f.machines)
+    ++ number_font f
+    ++ flat_map (number f) (range_with_len 1 f.machines)
+    ++ names f
 
 -- a line through all rows at a time, and the time above and below them
 abbrev pub line : Frame → ℕ → List ℕ
@@ -357,38 +342,27 @@ time_labels_at f step n = if is_marked f step (n * step) then time_labels f (n *
 abbrev pub multiples : Frame → ℕ → List ℕ
 multiples f step = range_with_len (f.from / step) (f.to / step + 1 - f.from / step)
 
-abbrev pub line_group : Frame → ℕ → List ℕ
-line_group f step =
-    codes "<g stroke=\"#bbbbbb\" stroke-width=\"50\">\n"
-    ++ flat_map (line_at f step) (multiples f step)
-    ++ codes "</g>\n"
-
-abbrev pub time_group : Frame → ℕ → List ℕ
-time_group f step =
-    codes "<g font-size=\"1100\" text-anchor=\"middle\">\n"
-    ++ flat_map (time_labels_at f step) (multiples f step)
-    ++ codes "</g>\n"
-
 -- a darker line and a bold number at the last stop
-abbrev pub last_line : Frame → List ℕ
-last_line f =
-    codes "<g stroke=\"#555555\" stroke-width=\"100\">\n" ++ line f f.last ++ codes "</g>\n"
-
-abbrev pub last_time : Frame → List ℕ
-last_time f =
-    codes "<g font-size=\"1100\" font-weight=\"bold\""
-    ++ codes " text-anchor=\"middle\">\n"
-    ++ time_labels f f.last ++ codes "</g>\n"
-
 abbrev pub last_mark : Frame → List ℕ
-last_mark f = last_line f ++ last_time f
+last_mark f =
+    codes "<g stroke=\"#555555\" stroke-width=\"100\">\n"
+    ++ line f f.last
+    ++ codes "</g>\n<g font-size=\"1100\" font-weight=\"bold\" text-anchor=\"middle\">\n"
+    ++ time_labels f f.last
+    ++ codes "</g>\n"
 
 abbrev pub end_mark : Frame → List ℕ
 end_mark f = if shows_time f f.last then last_mark f else []
 
 -- a line and its time at each multiple of a step, and the last stop
 abbrev pub axis : Frame → ℕ → List ℕ
-axis f step = line_group f step ++ time_group f step ++ end_mark f
+axis f step =
+    codes "<g stroke=\"#bbbbbb\" stroke-width=\"50\">\n"
+    ++ flat_map (line_at f step) (multiples f step)
+    ++ codes "</g>\n<g font-size=\"1100\" text-anchor=\"middle\">\n"
+    ++ flat_map (time_labels_at f step) (multiples f step)
+    ++ codes "</g>\n"
+    ++ end_mark f
 
 -- ---- the numbers in the bars
 
@@ -410,8 +384,8 @@ number_if_shown f b =
 
 abbrev pub label_group : Frame → List Bar → List ℕ
 label_group f bars =
-    part (codes "<g text-anchor=\"middle\" font-size=\"") (font f.machines)
-    ++ codes "\" pointer-events=\"none\">\n"
+    (part (codes "<g text-anchor=\"middle\" font-size=\"") (font f.machines)
+    ++ codes "\" pointer-events=\"none\">\n")
     ++ flat_map (number_if_shown f) bars
     ++ codes "</g>\n"
 

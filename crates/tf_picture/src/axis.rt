@@ -1,13 +1,12 @@
 //! The axis of time.
 ghost use Rattle.std.specs.Prelude.{◌≡◌, ◌*◌, ◌/◌, ◌<◌, ◌≤◌, ◌++◌, OnOk};
 ghost use Rattle.std.specs.List.{flat_map};
-ghost use Rattle.tf_picture.specs.Picture.{axis, end_mark, is_marked, last_line, last_mark};
-ghost use Rattle.tf_picture.specs.Picture.{last_time, line, line_group, line_at, multiples};
-ghost use Rattle.tf_picture.specs.Picture.{time_group, time_labels, time_labels_at};
+ghost use Rattle.tf_picture.specs.Picture.{axis, end_mark, is_marked, last_mark, line, line_at};
+ghost use Rattle.tf_picture.specs.Picture.{multiples, time_labels, time_labels_at};
 
 use crate::frame::{Frame, SPAN};
 use crate::strips::Strips;
-use crate::writing::{push_label, push_part};
+use crate::writing::{push_label, push_parts};
 use itoa::Buffer;
 use std::alloc::Allocator;
 use tf_model::memory::OutOfMemory;
@@ -21,7 +20,6 @@ pub fn step_of(strips: &Strips) -> u64
 
 /// Adds a line through all rows for each multiple of a step, with its time above and below, and one
 /// for the last stop.
-#[tactic(auto, using(crate::proofs::Texts::three))]
 pub fn push_axis<A: Allocator>(
     text: &mut Vec<u8, A>,
     frame: &Frame,
@@ -30,39 +28,12 @@ pub fn push_axis<A: Allocator>(
     requires { 0 < step }
     ensures { OnOk result (text.new.items ≡ text.old.items ++ axis frame.now step) }
 {
-    push_line_group(text, frame, step)?;
-    push_time_group(text, frame, step)?;
-    push_end(text, frame)
-}
-
-#[tactic(auto, using(crate::proofs::Texts::three))]
-fn push_line_group<A: Allocator>(
-    text: &mut Vec<u8, A>,
-    frame: &Frame,
-    step: u64,
-) -> Result<(), OutOfMemory>
-    requires { 0 < step }
-    ensures { OnOk result (text.new.items ≡ text.old.items ++ line_group frame.now step) }
-{
     text.extend_from_slice(b"<g stroke=\"#bbbbbb\" stroke-width=\"50\">\n")?;
     push_lines(text, frame, step)?;
-    text.extend_from_slice(b"</g>\n")?;
-    Ok(())
-}
-
-#[tactic(auto, using(crate::proofs::Texts::three))]
-fn push_time_group<A: Allocator>(
-    text: &mut Vec<u8, A>,
-    frame: &Frame,
-    step: u64,
-) -> Result<(), OutOfMemory>
-    requires { 0 < step }
-    ensures { OnOk result (text.new.items ≡ text.old.items ++ time_group frame.now step) }
-{
-    text.extend_from_slice(b"<g font-size=\"1100\" text-anchor=\"middle\">\n")?;
+    text.extend_from_slice(b"</g>\n<g font-size=\"1100\" text-anchor=\"middle\">\n")?;
     push_times(text, frame, step)?;
     text.extend_from_slice(b"</g>\n")?;
-    Ok(())
+    push_end(text, frame)
 }
 
 #[tactic(auto, using(crate::proofs::Texts::each_later))]
@@ -161,26 +132,11 @@ fn push_end<A: Allocator>(text: &mut Vec<u8, A>, frame: &Frame) -> Result<(), Ou
 fn push_end_mark<A: Allocator>(text: &mut Vec<u8, A>, frame: &Frame) -> Result<(), OutOfMemory>
     ensures { OnOk result (text.new.items ≡ text.old.items ++ last_mark frame.now) }
 {
-    push_last_line(text, frame)?;
-    push_last_time(text, frame)
-}
-
-#[tactic(auto, using(crate::proofs::Texts::three))]
-fn push_last_line<A: Allocator>(text: &mut Vec<u8, A>, frame: &Frame) -> Result<(), OutOfMemory>
-    ensures { OnOk result (text.new.items ≡ text.old.items ++ last_line frame.now) }
-{
     text.extend_from_slice(b"<g stroke=\"#555555\" stroke-width=\"100\">\n")?;
     push_line(text, frame, frame.last)?;
-    text.extend_from_slice(b"</g>\n")?;
-    Ok(())
-}
-
-#[tactic(auto, using(crate::proofs::Texts::four))]
-fn push_last_time<A: Allocator>(text: &mut Vec<u8, A>, frame: &Frame) -> Result<(), OutOfMemory>
-    ensures { OnOk result (text.new.items ≡ text.old.items ++ last_time frame.now) }
-{
-    text.extend_from_slice(b"<g font-size=\"1100\" font-weight=\"bold\"")?;
-    text.extend_from_slice(b" text-anchor=\"middle\">\n")?;
+    text.extend_from_slice(
+        b"</g>\n<g font-size=\"1100\" font-weight=\"bold\" text-anchor=\"middle\">\n",
+    )?;
     push_time(text, frame, frame.last)?;
     text.extend_from_slice(b"</g>\n")?;
     Ok(())
@@ -193,12 +149,16 @@ fn push_line<A: Allocator>(
 ) -> Result<(), OutOfMemory>
     ensures { OnOk result (text.new.items ≡ text.old.items ++ line frame.now time) }
 {
-    push_part(text, b"<line x1=\"", frame.across(time))?;
-    push_part(text, b"\" y1=\"", frame.down() - 400)?;
-    push_part(text, b"\" x2=\"", frame.across(time))?;
-    push_part(text, b"\" y2=\"", frame.bottom() + 300)?;
-    text.extend_from_slice(b"\"/>\n")?;
-    Ok(())
+    push_parts(
+        text,
+        &[
+            (b"<line x1=\"", frame.across(time)),
+            (b"\" y1=\"", frame.down() - 400),
+            (b"\" x2=\"", frame.across(time)),
+            (b"\" y2=\"", frame.bottom() + 300),
+        ],
+        b"\"/>\n",
+    )
 }
 
 fn push_time<A: Allocator>(

@@ -1,14 +1,15 @@
 //! The bars of a picture.
 ghost use Rattle.std.specs.Prelude.{◌≡◌, ◌++◌, ◌≤◌, None, IfOk, IfSome, OnOk};
 ghost use Rattle.std.specs.List.{All, flat_map};
+ghost use Rattle.tf_schedule.specs.Piece.{as_time};
 ghost use Rattle.tf_schedule.specs.Schedule.{IsPiece};
 ghost use Rattle.tf_picture.specs.Bars.{IsApart, bar_of, bars_of, fill_of, has_fill, is_taken};
-ghost use Rattle.tf_picture.specs.Picture.{bar_group, bar_if_shown, bar_text, edge, extent, fill};
-ghost use Rattle.tf_picture.specs.Picture.{told, place, is_shown, width};
+ghost use Rattle.tf_picture.specs.Picture.{bar_group, bar_if_shown, bar_text, edge, fill};
+ghost use Rattle.tf_picture.specs.Picture.{told, is_shown, rect, width};
 ghost use Rattle.tf_picture.specs.Sound.{HasPiece};
 
 use crate::frame::Frame;
-use crate::writing::push_part;
+use crate::writing::push_parts;
 use std::alloc::Allocator;
 use tf_model::memory::OutOfMemory;
 use tf_schedule::piece::Piece;
@@ -92,7 +93,6 @@ fn has_fill(before: &Option<Bar>, piece: &Piece, fill: u32) -> bool
 }
 
 /// Adds the bars that the frame shows.
-#[tactic(auto, using(crate::proofs::Texts::three))]
 pub fn push_bars<A: Allocator>(
     text: &mut Vec<u8, A>,
     frame: &Frame,
@@ -102,23 +102,10 @@ pub fn push_bars<A: Allocator>(
     ensures { OnOk result (text.new.items ≡ text.old.items ++ bar_group frame.now bars.now) }
 {
     text.extend_from_slice(b"<g stroke=\"#222222\" stroke-width=\"60\">\n")?;
-    push_each(text, frame, bars)?;
-    text.extend_from_slice(b"</g>\n")?;
-    Ok(())
-}
-
-fn push_each<A: Allocator>(
-    text: &mut Vec<u8, A>,
-    frame: &Frame,
-    bars: &[Bar],
-) -> Result<(), OutOfMemory>
-    requires { All HasPiece bars.now }
-    ensures { OnOk result (text.new.items ≡ text.old.items
-        ++ flat_map (bar_if_shown frame.now) bars.now) }
-{
     for bar in bars {
         push_if_shown(text, frame, bar)?;
     }
+    text.extend_from_slice(b"</g>\n")?;
     Ok(())
 }
 
@@ -154,42 +141,34 @@ fn push_bar<A: Allocator>(
     requires { HasPiece bar.now }
     ensures { OnOk result (text.new.items ≡ text.old.items ++ bar_text frame.now bar.now) }
 {
-    push_place(text, frame, &bar.piece)?;
-    text.extend_from_slice(b"\" fill=\"")?;
+    push_rect(text, frame, &bar.piece, frame.bar(), b"\" fill=\"")?;
     text.extend_from_slice(fill(bar.fill))?;
     text.extend_from_slice(edge(width(frame, &bar.piece), bar.edged))?;
-    push_told(text, &bar.piece)?;
-    text.extend_from_slice(b"</rect>\n")?;
-    Ok(())
+    push_told(text, &bar.piece)
 }
 
-// Where the bar lies.
-fn push_place<A: Allocator>(
+/// Adds a rectangle where the bar of a piece lies, as high as this, up to an end.
+pub fn push_rect<A: Allocator>(
     text: &mut Vec<u8, A>,
     frame: &Frame,
     piece: &Piece,
+    high: u64,
+    end: &[u8],
 ) -> Result<(), OutOfMemory>
     requires { IsPiece piece.now }
     ensures { OnOk result (text.new.items
-        ≡ text.old.items ++ place frame.now piece.now) }
+        ≡ text.old.items ++ rect frame.now piece.now high end.now) }
 {
-    push_extent(text, frame, piece)?;
-    push_part(text, b"\" height=\"", frame.bar())
-}
-
-/// Adds where the bar of a piece begins, and how wide it is.
-pub fn push_extent<A: Allocator>(
-    text: &mut Vec<u8, A>,
-    frame: &Frame,
-    piece: &Piece,
-) -> Result<(), OutOfMemory>
-    requires { IsPiece piece.now }
-    ensures { OnOk result (text.new.items
-        ≡ text.old.items ++ extent frame.now piece.now) }
-{
-    push_part(text, b"<rect x=\"", frame.across(piece.start as u64))?;
-    push_part(text, b"\" y=\"", frame.top(piece.machine.get()))?;
-    push_part(text, b"\" width=\"", width(frame, piece).max(LEAST))
+    push_parts(
+        text,
+        &[
+            (b"<rect x=\"", frame.across(piece.start as u64)),
+            (b"\" y=\"", frame.top(piece.machine.get())),
+            (b"\" width=\"", width(frame, piece).max(LEAST)),
+            (b"\" height=\"", high),
+        ],
+        end,
+    )
 }
 
 /// How wide the bar of a piece is, to scale.
@@ -203,15 +182,25 @@ pub fn width(frame: &Frame, piece: &Piece) -> u64
 
 // What a reader sees who points at the bar.
 fn push_told<A: Allocator>(text: &mut Vec<u8, A>, piece: &Piece) -> Result<(), OutOfMemory>
-    requires { IsPiece piece.now }
     ensures { OnOk result (text.new.items ≡ text.old.items ++ told piece.now) }
 {
-    push_part(text, b"<title>job ", u64::from(piece.job.get()))?;
-    push_part(text, b", machine ", u64::from(piece.machine.get()))?;
-    push_part(text, b", ", piece.start as u64)?;
-    push_part(text, b" to ", piece.stop as u64)?;
-    text.extend_from_slice(b"</title>")?;
-    Ok(())
+    push_parts(
+        text,
+        &[
+            (b"<title>job ", u64::from(piece.job.get())),
+            (b", machine ", u64::from(piece.machine.get())),
+            (b", ", steps(piece.start)),
+            (b" to ", steps(piece.stop)),
+        ],
+        b"</title></rect>\n",
+    )
+}
+
+// The time steps before a time of a piece.
+fn steps(time: i64) -> u64
+    ensures { result ≡ as_time time }
+{
+    time.max(0) as u64
 }
 
 /// The fill of this number, which counts on from 0 after 10.

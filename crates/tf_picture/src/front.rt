@@ -1,12 +1,11 @@
 //! What a picture shows before its strips.
 ghost use Rattle.std.specs.Prelude.{◌≡◌, ◌++◌, IfOk, OnOk};
-ghost use Rattle.tf_picture.specs.Picture.{front, hatching, opening, sides, sizes, title, titles};
-ghost use Rattle.tf_picture.specs.Picture.{view_box};
+ghost use Rattle.tf_picture.specs.Picture.{front, opening, sizes, title, titles};
 
 use crate::frame::WIDTH;
 use crate::strips::Strips;
 use crate::view::Size;
-use crate::writing::push_part;
+use crate::writing::push_parts;
 use std::alloc::Allocator;
 use tf_model::memory::OutOfMemory;
 use tf_model::problem::Problem;
@@ -43,6 +42,16 @@ impl Heading {
     }
 }
 
+// The end of the opening, the hatching of idle time, and the beginning of the title.
+const HATCHING: &[u8] = b"\" font-family=\"sans-serif\">\n\
+<defs><pattern id=\"idle\" width=\"500\" height=\"500\" patternUnits=\"userSpaceOnUse\" \
+patternTransform=\"rotate(45)\"><rect width=\"500\" height=\"500\" fill=\"#fdfdfd\"/>\
+<rect width=\"90\" height=\"500\" fill=\"#cccccc\"/></pattern></defs>\n";
+
+// What stands between the title for a reader who points and the one for all.
+const TITLE: &[u8] = b"</title>\n<rect width=\"100%\" height=\"100%\" fill=\"#ffffff\"/>\n\
+<text x=\"7000\" y=\"3200\" font-size=\"2000\">";
+
 /// Adds the picture up to its strips.
 pub(crate) fn push_front<A: Allocator + Copy>(
     alloc: A,
@@ -54,12 +63,10 @@ pub(crate) fn push_front<A: Allocator + Copy>(
     ensures { OnOk result (text.new.items
         ≡ text.old.items ++ front heading.now size strips.now) }
 {
-    let title = title(alloc, heading)?;
     push_opening(text, size, strips.height())?;
-    push_hatching(text)?;
+    let title = title(alloc, heading)?;
     push_titles(text, title.as_slice())?;
-    push_sizes(text, heading, strips.last)?;
-    Ok(())
+    push_sizes(text, heading, strips.last)
 }
 
 // The problem and the value that the answer claims.
@@ -73,8 +80,7 @@ fn title<A: Allocator + Copy>(alloc: A, heading: &Heading) -> Result<Vec<u8, A>,
     Ok(title)
 }
 
-// The size of the picture, which is so many hundredths of a pixel high.
-#[tactic(auto, using(crate::proofs::Texts::four))]
+// The size of the picture, which is so many hundredths of a pixel high, and the hatching.
 fn push_opening<A: Allocator>(
     text: &mut Vec<u8, A>,
     size: Size,
@@ -82,42 +88,21 @@ fn push_opening<A: Allocator>(
 ) -> Result<(), OutOfMemory>
     ensures { OnOk result (text.new.items ≡ text.old.items ++ opening size high) }
 {
-    text.extend_from_slice(b"<svg xmlns=\"http://www.w3.org/2000/svg\"")?;
-    push_sides(text, size, high)?;
-    push_box(text, high)?;
-    text.extend_from_slice(b"\" font-family=\"sans-serif\">\n")?;
-    Ok(())
-}
-
-#[tactic(auto, using(crate::proofs::Texts::four))]
-fn push_sides<A: Allocator>(text: &mut Vec<u8, A>, size: Size, high: u64) -> Result<(), OutOfMemory>
-    ensures { OnOk result (text.new.items ≡ text.old.items ++ sides size high) }
-{
-    push_part(text, b" role=\"img\" width=\"", size.width(high))?;
-    text.extend_from_slice(size.unit())?;
-    push_part(text, b"\" height=\"", size.height(high))?;
-    text.extend_from_slice(size.unit())?;
-    Ok(())
-}
-
-fn push_box<A: Allocator>(text: &mut Vec<u8, A>, high: u64) -> Result<(), OutOfMemory>
-    ensures { OnOk result (text.new.items ≡ text.old.items ++ view_box high) }
-{
-    push_part(text, b"\" viewBox=\"0 0 ", WIDTH)?;
-    push_part(text, b" ", high)
-}
-
-// The hatching of idle time.
-#[tactic(auto, using(crate::proofs::Texts::five))]
-fn push_hatching<A: Allocator>(text: &mut Vec<u8, A>) -> Result<(), OutOfMemory>
-    ensures { OnOk result (text.new.items ≡ text.old.items ++ hatching) }
-{
-    text.extend_from_slice(b"<defs><pattern id=\"idle\" width=\"500\" height=\"500\"")?;
-    text.extend_from_slice(b" patternUnits=\"userSpaceOnUse\" patternTransform=\"rotate(45)\">")?;
-    text.extend_from_slice(b"<rect width=\"500\" height=\"500\" fill=\"#fdfdfd\"/>")?;
-    text.extend_from_slice(b"<rect width=\"90\" height=\"500\" fill=\"#cccccc\"/>")?;
-    text.extend_from_slice(b"</pattern></defs>\n")?;
-    Ok(())
+    let width = size.width(high);
+    push_parts(
+        text,
+        &[(
+            b"<svg xmlns=\"http://www.w3.org/2000/svg\" role=\"img\" width=\"",
+            width,
+        )],
+        size.unit(),
+    )?;
+    push_parts(text, &[(b"\" height=\"", size.height(high))], size.unit())?;
+    push_parts(
+        text,
+        &[(b"\" viewBox=\"0 0 ", WIDTH), (b" ", high)],
+        HATCHING,
+    )
 }
 
 // The title, for a reader who points at the picture and, on white, for all.
@@ -126,10 +111,8 @@ fn push_titles<A: Allocator>(text: &mut Vec<u8, A>, title: &[u8]) -> Result<(), 
 {
     text.extend_from_slice(b"<title>")?;
     text.extend_from_slice(title)?;
-    text.extend_from_slice(b"</title>\n<rect width=\"100%\" height=\"100%\" fill=\"#ffffff\"/>\n")?;
-    text.extend_from_slice(b"<text x=\"7000\" y=\"3200\" font-size=\"2000\">")?;
+    text.extend_from_slice(TITLE)?;
     text.extend_from_slice(title)?;
-    text.extend_from_slice(b"</text>\n")?;
     Ok(())
 }
 
@@ -141,10 +124,16 @@ fn push_sizes<A: Allocator>(
 ) -> Result<(), OutOfMemory>
     ensures { OnOk result (text.new.items ≡ text.old.items ++ sizes heading.now length) }
 {
-    text.extend_from_slice(b"<text x=\"7000\" y=\"5200\" font-size=\"1300\">")?;
-    push_part(text, b"jobs ", u64::from(heading.jobs))?;
-    push_part(text, b", machines ", u64::from(heading.machines))?;
-    push_part(text, b", length ", length)?;
-    text.extend_from_slice(b"</text>\n")?;
-    Ok(())
+    push_parts(
+        text,
+        &[
+            (
+                b"</text>\n<text x=\"7000\" y=\"5200\" font-size=\"1300\">jobs ",
+                u64::from(heading.jobs),
+            ),
+            (b", machines ", u64::from(heading.machines)),
+            (b", length ", length),
+        ],
+        b"</text>\n",
+    )
 }

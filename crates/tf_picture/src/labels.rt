@@ -9,14 +9,13 @@ ghost use Rattle.tf_picture.specs.Strips.{across, base};
 
 use crate::bars::{Bar, is_shown, width};
 use crate::frame::Frame;
-use crate::writing::{push_label, push_part};
+use crate::writing::{push_label, push_parts};
 use itoa::Buffer;
 use std::alloc::Allocator;
 use tf_model::memory::OutOfMemory;
 use tf_schedule::piece::Piece;
 
 /// Adds the job's number for each bar that the frame shows and that has room for it.
-#[tactic(auto, using(crate::proofs::Texts::four))]
 pub fn push_labels<A: Allocator>(
     text: &mut Vec<u8, A>,
     frame: &Frame,
@@ -25,29 +24,15 @@ pub fn push_labels<A: Allocator>(
     requires { All HasPiece bars.now }
     ensures { OnOk result (text.new.items ≡ text.old.items ++ label_group frame.now bars.now) }
 {
-    push_part(
+    push_parts(
         text,
-        b"<g text-anchor=\"middle\" font-size=\"",
-        frame.font(),
+        &[(b"<g text-anchor=\"middle\" font-size=\"", frame.font())],
+        b"\" pointer-events=\"none\">\n",
     )?;
-    text.extend_from_slice(b"\" pointer-events=\"none\">\n")?;
-    push_each(text, frame, bars)?;
-    text.extend_from_slice(b"</g>\n")?;
-    Ok(())
-}
-
-fn push_each<A: Allocator>(
-    text: &mut Vec<u8, A>,
-    frame: &Frame,
-    bars: &[Bar],
-) -> Result<(), OutOfMemory>
-    requires { All HasPiece bars.now }
-    ensures { OnOk result (text.new.items ≡ text.old.items
-        ++ flat_map (number_if_shown frame.now) bars.now) }
-{
     for bar in bars {
         push_if_shown(text, frame, bar)?;
     }
+    text.extend_from_slice(b"</g>\n")?;
     Ok(())
 }
 

@@ -4,12 +4,12 @@ ghost use Rattle.std.specs.List.{All, AllPairs};
 ghost use Rattle.std.specs.List.Sorted.{IsPermutation};
 ghost use Rattle.tf_schedule.specs.Piece.{job_of};
 ghost use Rattle.tf_schedule.specs.Schedule.{ComesBeforeBy, IsPiece};
-ghost use Rattle.tf_picture.specs.Picture.{IsResumed, foot, is_linked, link, link_begin, link_end};
-ghost use Rattle.tf_picture.specs.Picture.{link_group, link_if_shown, links};
+ghost use Rattle.tf_picture.specs.Picture.{IsResumed, foot, is_linked, link, link_group};
+ghost use Rattle.tf_picture.specs.Picture.{link_if_shown, links};
 
 use crate::bars::is_shown;
 use crate::frame::Frame;
-use crate::writing::push_part;
+use crate::writing::push_parts;
 use std::alloc::Allocator;
 use tf_model::memory::OutOfMemory;
 use tf_schedule::piece::Piece;
@@ -39,7 +39,6 @@ fn sort_by_job<A: Allocator>(pieces: &mut Vec<Piece, A>)
 }
 
 /// Adds a line from each piece to the next one of its job, where the frame shows both.
-#[tactic(auto, using(crate::proofs::Texts::four))]
 pub fn push_links<A: Allocator>(
     text: &mut Vec<u8, A>,
     frame: &Frame,
@@ -48,8 +47,9 @@ pub fn push_links<A: Allocator>(
     requires { All IsPiece pieces.now }
     ensures { OnOk result (text.new.items ≡ text.old.items ++ link_group frame.now pieces.now) }
 {
-    text.extend_from_slice(b"<g stroke=\"#222222\" stroke-width=\"70\"")?;
-    text.extend_from_slice(b" stroke-dasharray=\"300 200\">\n")?;
+    text.extend_from_slice(
+        b"<g stroke=\"#222222\" stroke-width=\"70\" stroke-dasharray=\"300 200\">\n",
+    )?;
     push_each(text, frame, pieces)?;
     text.extend_from_slice(b"</g>\n")?;
     Ok(())
@@ -112,34 +112,16 @@ fn push_link<A: Allocator>(
     ensures { OnOk result (text.new.items
         ≡ text.old.items ++ link frame.now before.now piece.now) }
 {
-    push_begin(text, frame, before)?;
-    push_end(text, frame, piece)?;
-    text.extend_from_slice(b"\"/>\n")?;
-    Ok(())
-}
-
-fn push_begin<A: Allocator>(
-    text: &mut Vec<u8, A>,
-    frame: &Frame,
-    piece: &Piece,
-) -> Result<(), OutOfMemory>
-    requires { IsPiece piece.now }
-    ensures { OnOk result (text.new.items ≡ text.old.items ++ link_begin frame.now piece.now) }
-{
-    push_part(text, b"<line x1=\"", frame.across(piece.stop as u64))?;
-    push_part(text, b"\" y1=\"", foot(frame, piece))
-}
-
-fn push_end<A: Allocator>(
-    text: &mut Vec<u8, A>,
-    frame: &Frame,
-    piece: &Piece,
-) -> Result<(), OutOfMemory>
-    requires { IsPiece piece.now }
-    ensures { OnOk result (text.new.items ≡ text.old.items ++ link_end frame.now piece.now) }
-{
-    push_part(text, b"\" x2=\"", frame.across(piece.start as u64))?;
-    push_part(text, b"\" y2=\"", foot(frame, piece))
+    push_parts(
+        text,
+        &[
+            (b"<line x1=\"", frame.across(before.stop as u64)),
+            (b"\" y1=\"", foot(frame, before)),
+            (b"\" x2=\"", frame.across(piece.start as u64)),
+            (b"\" y2=\"", foot(frame, piece)),
+        ],
+        b"\"/>\n",
+    )
 }
 
 // Where the lines meet the bar of a piece: below its number.

@@ -3,16 +3,15 @@ ghost use Rattle.std.specs.Prelude.{◌≡◌, ◌++◌, ◌<◌, OnOk};
 ghost use Rattle.std.specs.List.{All, flat_map};
 ghost use Rattle.tf_schedule.specs.Schedule.{IsPiece};
 ghost use Rattle.tf_picture.specs.Dates.{due_of, release_of, tardiness};
-ghost use Rattle.tf_picture.specs.Picture.{date_mark, date_group, date_if_shown, date_told};
+ghost use Rattle.tf_picture.specs.Picture.{date_mark, date_group, date_if_shown, date_name};
 ghost use Rattle.tf_picture.specs.Picture.{dates_shown, late_group, late_if_shown, late_mark};
-ghost use Rattle.tf_picture.specs.Picture.{mark_place, mark_tip, mark_title, marks, shown_at};
-ghost use Rattle.tf_picture.specs.Picture.{time_shown};
+ghost use Rattle.tf_picture.specs.Picture.{mark_title, marks, shown_at, side, time_shown, tip};
 ghost use Rattle.tf_picture.specs.Sound.{HasPiece};
 
-use crate::bars::{Bar, fill, is_shown, push_extent};
+use crate::bars::{Bar, fill, is_shown, push_rect};
 use crate::dates::{JobDates, due_of, release_of, tardiness};
 use crate::frame::Frame;
-use crate::writing::push_part;
+use crate::writing::push_parts;
 use std::alloc::Allocator;
 use tf_model::memory::OutOfMemory;
 use tf_schedule::piece::Piece;
@@ -54,24 +53,10 @@ fn push_late_group<A: Allocator>(
         ≡ text.old.items ++ late_group frame.now dates.now bars.now) }
 {
     text.extend_from_slice(b"<g fill=\"#000000\">\n")?;
-    push_each_late(text, frame, dates, bars)?;
-    text.extend_from_slice(b"</g>\n")?;
-    Ok(())
-}
-
-fn push_each_late<A: Allocator>(
-    text: &mut Vec<u8, A>,
-    frame: &Frame,
-    dates: &[JobDates],
-    bars: &[Bar],
-) -> Result<(), OutOfMemory>
-    requires { All HasPiece bars.now }
-    ensures { OnOk result (text.new.items ≡ text.old.items
-        ++ flat_map (late_if_shown frame.now dates.now) bars.now) }
-{
     for bar in bars {
         push_late_if_shown(text, frame, dates, bar)?;
     }
+    text.extend_from_slice(b"</g>\n")?;
     Ok(())
 }
 
@@ -103,12 +88,15 @@ fn push_late<A: Allocator>(
     ensures { OnOk result (text.new.items
         ≡ text.old.items ++ late_mark frame.now steps piece.now) }
 {
-    push_extent(text, frame, piece)?;
-    push_part(text, b"\" height=\"", frame.bar() / 8)?;
-    push_part(text, b"\"><title>job ", u64::from(piece.job.get()))?;
-    push_part(text, b", late by ", steps)?;
-    text.extend_from_slice(b"</title></rect>\n")?;
-    Ok(())
+    push_rect(text, frame, piece, frame.bar() / 8, b"\">")?;
+    push_parts(
+        text,
+        &[
+            (b"<title>job ", u64::from(piece.job.get())),
+            (b", late by ", steps),
+        ],
+        b"</title></rect>\n",
+    )
 }
 
 fn push_date_group<A: Allocator>(
@@ -121,23 +109,10 @@ fn push_date_group<A: Allocator>(
         ≡ text.old.items ++ date_group frame.now dates.now bars.now) }
 {
     text.extend_from_slice(b"<g stroke=\"#222222\" stroke-width=\"60\">\n")?;
-    push_each_date(text, frame, dates, bars)?;
-    text.extend_from_slice(b"</g>\n")?;
-    Ok(())
-}
-
-fn push_each_date<A: Allocator>(
-    text: &mut Vec<u8, A>,
-    frame: &Frame,
-    dates: &[JobDates],
-    bars: &[Bar],
-) -> Result<(), OutOfMemory>
-    ensures { OnOk result (text.new.items ≡ text.old.items
-        ++ flat_map (dates_shown frame.now dates.now) bars.now) }
-{
     for bar in bars {
         push_dates(text, frame, dates, bar)?;
     }
+    text.extend_from_slice(b"</g>\n")?;
     Ok(())
 }
 
@@ -198,7 +173,7 @@ fn time_shown(frame: &Frame, date: i64) -> Option<u64>
     }
 }
 
-// The mark of a date that is this time.
+// The mark of a date that is this time: its tip is at the edge of the bars.
 fn push_mark<A: Allocator>(
     text: &mut Vec<u8, A>,
     frame: &Frame,
@@ -209,46 +184,37 @@ fn push_mark<A: Allocator>(
     ensures { OnOk result (text.new.items
         ≡ text.old.items ++ date_mark frame.now kind time bar.now) }
 {
-    push_place(text, frame, kind, time, &bar.piece)?;
+    push_parts(
+        text,
+        &[
+            (b"<path d=\"M", frame.across(time)),
+            (b" ", tip(frame, kind, &bar.piece)),
+            (side(kind), frame.row() / 10),
+        ],
+        b"h800z\" fill=\"",
+    )?;
     text.extend_from_slice(fill(bar.fill))?;
     push_title(text, kind, time, &bar.piece)
 }
 
-// Where the mark is: its tip at the edge of the bars, and its width.
-fn push_place<A: Allocator>(
-    text: &mut Vec<u8, A>,
-    frame: &Frame,
-    kind: DateKind,
-    time: u64,
-    piece: &Piece,
-) -> Result<(), OutOfMemory>
-    ensures { OnOk result (text.new.items
-        ≡ text.old.items ++ mark_place frame.now kind time piece.now) }
-{
-    push_part(text, b"<path d=\"M", frame.across(time))?;
-    push_tip(text, frame, kind, piece)?;
-    text.extend_from_slice(b"h800z\" fill=\"")?;
-    Ok(())
-}
-
-fn push_tip<A: Allocator>(
-    text: &mut Vec<u8, A>,
-    frame: &Frame,
-    kind: DateKind,
-    piece: &Piece,
-) -> Result<(), OutOfMemory>
-    ensures { OnOk result (text.new.items ≡ text.old.items ++ mark_tip frame.now kind piece.now) }
+// How far down the tip is.
+fn tip(frame: &Frame, kind: DateKind, piece: &Piece) -> u64
+    ensures { result ≡ tip frame.now kind piece.now }
 {
     let top = frame.top(piece.machine.get());
     match kind {
-        DateKind::Release => {
-            push_part(text, b" ", top)?;
-            push_part(text, b"l-400 -", frame.row() / 10)
-        }
-        DateKind::Due => {
-            push_part(text, b" ", top + frame.bar())?;
-            push_part(text, b"l-400 ", frame.row() / 10)
-        }
+        DateKind::Release => top,
+        DateKind::Due => top + frame.bar(),
+    }
+}
+
+// The side from the tip, up or down.
+fn side(kind: DateKind) -> &'static [u8]
+    ensures { result.now ≡ side kind }
+{
+    match kind {
+        DateKind::Release => b"l-400 -",
+        DateKind::Due => b"l-400 ",
     }
 }
 
@@ -261,21 +227,21 @@ fn push_title<A: Allocator>(
 ) -> Result<(), OutOfMemory>
     ensures { OnOk result (text.new.items ≡ text.old.items ++ mark_title kind time piece.now) }
 {
-    push_part(text, b"\"><title>job ", u64::from(piece.job.get()))?;
-    push_date(text, kind, time)?;
-    text.extend_from_slice(b"</title></path>\n")?;
-    Ok(())
+    push_parts(
+        text,
+        &[
+            (b"\"><title>job ", u64::from(piece.job.get())),
+            (date_name(kind), time),
+        ],
+        b"</title></path>\n",
+    )
 }
 
-fn push_date<A: Allocator>(
-    text: &mut Vec<u8, A>,
-    kind: DateKind,
-    time: u64,
-) -> Result<(), OutOfMemory>
-    ensures { OnOk result (text.new.items ≡ text.old.items ++ date_told kind time) }
+fn date_name(kind: DateKind) -> &'static [u8]
+    ensures { result.now ≡ date_name kind }
 {
     match kind {
-        DateKind::Release => push_part(text, b", release date ", time),
-        DateKind::Due => push_part(text, b", due date ", time),
+        DateKind::Release => b", release date ",
+        DateKind::Due => b", due date ",
     }
 }

@@ -1,13 +1,37 @@
 //! Parts of an SVG text.
-ghost use Rattle.std.specs.Prelude.{◌≡◌, ◌++◌, OnOk};
-ghost use Rattle.tf_picture.specs.Picture.{label, part};
+ghost use Rattle.std.specs.Prelude.{◌≡◌, ◌++◌, OnOk, map};
+ghost use Rattle.std.specs.List.{flat_map};
+ghost use Rattle.tf_picture.specs.Picture.{label, part, parts_to};
 
 use itoa::Buffer;
 use std::alloc::Allocator;
 use tf_model::memory::OutOfMemory;
 
-/// Adds a text and a number behind it.
-pub fn push_part<A: Allocator>(
+/// Adds texts with a number behind each, and the text that ends them.
+pub fn push_parts<A: Allocator>(
+    text: &mut Vec<u8, A>,
+    parts: &[(&[u8], u64)],
+    end: &[u8],
+) -> Result<(), OutOfMemory>
+    ensures { OnOk result (text.new.items
+        ≡ text.old.items ++ parts_to (map (λ p. (p.0.now, p.1)) parts.now) end.now) }
+{
+    push_each(text, parts)?;
+    text.extend_from_slice(end)?;
+    Ok(())
+}
+
+fn push_each<A: Allocator>(text: &mut Vec<u8, A>, parts: &[(&[u8], u64)]) -> Result<(), OutOfMemory>
+    ensures { OnOk result (text.new.items
+        ≡ text.old.items ++ flat_map (λ p. part p.0.now p.1) parts.now) }
+{
+    for (before, number) in parts {
+        push_part(text, before, *number)?;
+    }
+    Ok(())
+}
+
+fn push_part<A: Allocator>(
     text: &mut Vec<u8, A>,
     before: &[u8],
     number: u64,
@@ -29,9 +53,9 @@ pub fn push_label<A: Allocator>(
 ) -> Result<(), OutOfMemory>
     ensures { OnOk result (text.new.items ≡ text.old.items ++ label x y number) }
 {
-    push_part(text, b"<text x=\"", x)?;
-    push_part(text, b"\" y=\"", y)?;
-    push_part(text, b"\">", number)?;
-    text.extend_from_slice(b"</text>\n")?;
-    Ok(())
+    push_parts(
+        text,
+        &[(b"<text x=\"", x), (b"\" y=\"", y), (b"\">", number)],
+        b"</text>\n",
+    )
 }

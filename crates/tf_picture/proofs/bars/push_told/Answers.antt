@@ -1,6 +1,6 @@
-use Rattle.std.proofs.Common.{◌≡◌, ◌++◌, codes, ap, ◌∙◌, rules}
+use Rattle.std.proofs.Common.{◌≡◌, ◌++◌, ap, ◌∙◌, rules}
+use Rattle.std.proofs.lemmas.Result.{on_ok_weaker}
 use Rattle.tf_schedule.specs.Piece.{as_time}
-use Rattle.tf_picture.specs.Picture.{part}
 use Rattle.tf_picture.proofs.Texts.{told_written}
 use Rattle.tf_picture.proofs.bars.push_told.Goals as goal
 
@@ -8,13 +8,9 @@ pub returns : goal.returns
 returns g c =
     let job : c.from.result ≡ c.args.piece.now.job = search rules in
     let machine : c.from-2.result ≡ c.args.piece.now.machine = search rules in
-    let start : c.push_part-3.new.text.items ≡ c.push_part-2.new.text.items
-    ++ part (codes ", ") (as_time c.args.piece.now.start) = search rules in
-    let stop : c.push_part-4.new.text.items ≡ c.push_part-3.new.text.items
-    ++ part (codes " to ") (as_time c.args.piece.now.stop) = search rules in
-    told_written c.args.piece.now _ _ _ _ _ _
-    (c.in_ok-push_part.ensures
-    ∙ ap (λ n. c.args.text.now.items ++ part (codes "<title>job ") n) job)
-    (c.in_ok-push_part-2.ensures
-    ∙ ap (λ n. c.push_part.new.text.items ++ part (codes ", machine ") n) machine)
-    start stop c.in_ok-extend_from_slice.ensures.items
+    let start : c.steps.result ≡ as_time c.args.piece.now.start = search rules in
+    let stop : c.steps-2.result ≡ as_time c.args.piece.now.stop = search rules in
+    on_ok_weaker c.push_parts.result
+    (λ e. e ∙ ap (λ text. c.args.text.now.items ++ text)
+    (told_written c.args.piece.now _ _ _ _ job machine start stop))
+    c.push_parts.ensures

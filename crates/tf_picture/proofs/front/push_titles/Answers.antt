@@ -1,9 +1,8 @@
-use Rattle.tf_picture.proofs.Texts.{titles_written}
+use Rattle.tf_picture.proofs.Texts.{four}
 use Rattle.tf_picture.proofs.front.push_titles.Goals as goal
 
 pub returns : goal.returns
 returns g c =
-    titles_written c.args.title.now _ _ _ _ _ _ _
+    four _ _ _ _ _ _ _ _ _
     c.in_ok-extend_from_slice.ensures.items c.in_ok-extend_from_slice-2.ensures.items
     c.in_ok-extend_from_slice-3.ensures.items c.in_ok-extend_from_slice-4.ensures.items
-    c.in_ok-extend_from_slice-5.ensures.items c.in_ok-extend_from_slice-6.ensures.items

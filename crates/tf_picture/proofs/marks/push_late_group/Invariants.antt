@@ -1,8 +1,8 @@
 use Rattle.std.proofs.Common.{◌≡◌, ◌++◌, take}
 use Rattle.std.specs.List.{flat_map}
-use Rattle.tf_picture.specs.Picture.{dates_shown}
-use Rattle.tf_picture.proofs.marks.push_each_date.Given as goal
+use Rattle.tf_picture.specs.Picture.{late_if_shown}
+use Rattle.tf_picture.proofs.marks.push_late_group.Given as goal
 
 abbrev pub invariant-loop-bar : goal.invariant-loop-bar
 invariant-loop-bar g l = l.text.items ≡ l.initial.text.items
-    ++ flat_map (dates_shown l.frame l.dates) (take l.bar-index l.bars)
+    ++ flat_map (late_if_shown l.frame l.dates) (take l.bar-index l.bars)

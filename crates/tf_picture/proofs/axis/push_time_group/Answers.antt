@@ -1,8 +1,0 @@
-use Rattle.tf_picture.proofs.Texts.{three}
-use Rattle.tf_picture.proofs.axis.push_time_group.Goals as goal
-
-pub returns : goal.returns
-returns g c =
-    three _ _ _ _ _ _ _
-    c.in_ok-extend_from_slice.ensures.items c.in_ok-push_times.ensures
-    c.in_ok-extend_from_slice-2.ensures.items

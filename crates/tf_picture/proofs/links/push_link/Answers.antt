@@ -1,7 +1,0 @@
-use Rattle.tf_picture.proofs.Texts.{three}
-use Rattle.tf_picture.proofs.links.push_link.Goals as goal
-
-pub returns : goal.returns
-returns g c =
-    three _ _ _ _ _ _ _
-    c.in_ok-push_begin.ensures c.in_ok-push_end.ensures c.in_ok-extend_from_slice.ensures.items
