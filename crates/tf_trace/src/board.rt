@@ -1,5 +1,5 @@
 //! The board: sentences and tables, as plain text or for LaTeX.
-use crate::table::Table;
+use crate::table::{Cell, Table};
 use std::alloc::{AllocError, Global};
 use tf_model::ids::JobId;
 
@@ -24,6 +24,8 @@ pub(crate) struct Board {
     pub alloc: Global,
     /// The sentence that is being written.
     pub text: String,
+    /// The table that is being written.
+    pub table: Table,
     page: String,
     style: Style,
 }
@@ -54,6 +56,7 @@ impl Board {
         Board {
             alloc,
             text: String::new(alloc),
+            table: Table::new(alloc),
             page: String::new(alloc),
             style,
         }
@@ -75,15 +78,15 @@ impl Board {
         let mut columns: usize = 0;
         for word in self.text.as_str().split(' ') {
             let behind = columns.saturating_add(1).saturating_add(word.len());
-            if columns == 0 {
-                columns = word.len();
+            let (gap, len) = if columns == 0 {
+                ("", word.len())
             } else if behind > MOST_COLUMNS {
-                self.page.push('\n')?;
-                columns = word.len();
+                ("\n", word.len())
             } else {
-                self.page.push(' ')?;
-                columns = behind;
-            }
+                (" ", behind)
+            };
+            columns = len;
+            self.page.push_str(gap)?;
             self.page.push_str(word)?;
         }
         self.text.clear();
@@ -109,16 +112,36 @@ impl Board {
         Ok(())
     }
 
-    /// A table.
-    pub(crate) fn show(&mut self, table: &Table) -> Result<(), AllocError> {
+    /// A sentence of words and a list of jobs.
+    pub(crate) fn say_list(&mut self, words: &str, jobs: &[JobId]) -> Result<(), AllocError> {
+        self.list(words, jobs)?;
+        self.end_sentence()
+    }
+
+    /// A row of the table, the one at this place of so many, as far as it is shown.
+    pub(crate) fn row(
+        &mut self,
+        place: usize,
+        rows: usize,
+        cells: &[Cell<'_>],
+    ) -> Result<(), AllocError> {
+        match shown(place, rows) {
+            Visible::Row => self.table.row(cells),
+            Visible::Gap => self.table.gap(),
+            Visible::Hidden => Ok(()),
+        }
+    }
+
+    /// Writes the table.
+    pub(crate) fn show(&mut self) -> Result<(), AllocError> {
         match self.style {
             Style::Plain => {
                 if !self.page.as_str().ends_with("\n\n") {
                     self.page.push('\n')?;
                 }
-                table.write_plain(&mut self.page)
+                self.table.write_plain(&mut self.page)
             }
-            Style::Latex => table.write_latex(&mut self.page),
+            Style::Latex => self.table.write_latex(&mut self.page),
         }
     }
 }

@@ -1,7 +1,7 @@
 //! Johnson's rule for two machines in a flow shop.
-use crate::board::{Board, MOST_ROWS, Visible, shown};
-use crate::table::{Cell, Table};
-use crate::trace::row_of;
+use crate::board::{Board, MOST_ROWS};
+use crate::table::Cell;
+use crate::trace::{row_of, say_preemption};
 use std::alloc::{AllocError, Global};
 use tf_model::ids::JobId;
 use tf_model::job_rows::JobRow;
@@ -14,20 +14,12 @@ pub(crate) fn write_johnson(board: &mut Board, task: &Task) -> Result<(), AllocE
          machine 2, by rising time a on machine 1; then the others, by falling time b on machine 2; \
          of equal times the smaller number first.",
     )?;
-    if task.class().may_break() {
-        board.say("Preemption is allowed, and does not help.")?;
-    }
-    let mut order = ordered(board.alloc, task, true)?;
-    board.list("First:", &order)?;
-    board.end_sentence()?;
-    let late = ordered(board.alloc, task, false)?;
-    board.list("Then:", &late)?;
-    board.end_sentence()?;
-    for job in late.iter() {
-        order.push(*job)?;
-    }
-    let table = times_table(board.alloc, task, &order)?;
-    board.show(&table)?;
+    say_preemption(board, task)?;
+    let order = order_of(board.alloc, task)?;
+    let early = order.iter().take_while(|job| is_early(task, **job)).count();
+    board.say_list("First:", order.get(..early).unwrap_or(&[]))?;
+    board.say_list("Then:", order.get(early..).unwrap_or(&[]))?;
+    show_times(board, task, &order)?;
     say_tie(board, task, &order)
 }
 
@@ -73,24 +65,29 @@ fn makespan_exchanged(task: &Task, order: &[JobId], place: usize) -> u64 {
     front.second
 }
 
-// The jobs that take no longer on machine 1, or the others, in their order.
-fn ordered(alloc: Global, task: &Task, is_early: bool) -> Result<Vec<JobId>, AllocError> {
-    let mut keyed: Vec<(u64, JobId)> = Vec::new(alloc);
+// Whether a job takes no longer on machine 1.
+fn is_early(task: &Task, job: JobId) -> bool {
+    match row_of(task, job) {
+        Some(row) => row.first <= row.second,
+        None => false,
+    }
+}
+
+// The jobs in their order, those first that take no longer on machine 1.
+fn order_of(alloc: Global, task: &Task) -> Result<Vec<JobId>, AllocError> {
+    let mut keyed: Vec<(bool, u64, JobId)> = Vec::new(alloc);
     for k in 0..task.len() {
         let job = JobId::at(k);
         let row = task.job(job);
-        if (row.first <= row.second) == is_early {
-            let key = if is_early {
-                row.first
-            } else {
-                u64::MAX - row.second
-            };
-            keyed.push((key, job))?;
-        }
+        keyed.push(if row.first <= row.second {
+            (false, row.first, job)
+        } else {
+            (true, u64::MAX - row.second, job)
+        })?;
     }
     keyed.sort_unstable();
     let mut jobs = Vec::with_capacity(alloc, keyed.len())?;
-    for (_, job) in keyed.iter() {
+    for (_, _, job) in keyed.iter() {
         jobs.push(*job)?;
     }
     Ok(jobs)
@@ -113,11 +110,10 @@ impl Front {
     }
 }
 
-fn times_table(alloc: Global, task: &Task, order: &[JobId]) -> Result<Table, AllocError> {
-    let headings = &[
+fn show_times(board: &mut Board, task: &Task, order: &[JobId]) -> Result<(), AllocError> {
+    board.table.begin(&[
         "job", "a", "b", "from 1", "to 1", "idle 2", "from 2", "to 2",
-    ];
-    let mut table = Table::new(alloc, headings)?;
+    ])?;
     let mut front = Front {
         first: 0,
         second: 0,
@@ -127,21 +123,18 @@ fn times_table(alloc: Global, task: &Task, order: &[JobId]) -> Result<Table, All
             break;
         };
         let (next, start) = front.behind(row);
-        match shown(place, order.len()) {
-            Visible::Row => table.row(&[
-                Cell::Number(i128::from(job.get())),
-                Cell::Number(i128::from(row.first)),
-                Cell::Number(i128::from(row.second)),
-                Cell::Number(i128::from(front.first)),
-                Cell::Number(i128::from(next.first)),
-                Cell::Number(i128::from(start.saturating_sub(front.second))),
-                Cell::Number(i128::from(start)),
-                Cell::Number(i128::from(next.second)),
-            ])?,
-            Visible::Gap => table.gap()?,
-            Visible::Hidden => {}
-        }
+        let cells = [
+            Cell::Number(i128::from(job.get())),
+            Cell::Number(i128::from(row.first)),
+            Cell::Number(i128::from(row.second)),
+            Cell::Number(i128::from(front.first)),
+            Cell::Number(i128::from(next.first)),
+            Cell::Number(i128::from(start.saturating_sub(front.second))),
+            Cell::Number(i128::from(start)),
+            Cell::Number(i128::from(next.second)),
+        ];
+        board.row(place, order.len(), &cells)?;
         front = next;
     }
-    Ok(table)
+    board.show()
 }

@@ -1,7 +1,7 @@
 //! Lawler's algorithm for the greatest cost on one machine.
 use crate::board::{Board, MOST_ROWS, Visible, shown};
-use crate::table::{Cell, Table};
-use crate::trace::{price_at, row_of};
+use crate::table::Cell;
+use crate::trace::{price_at, row_of, say_preemption};
 use std::alloc::{AllocError, Global};
 use tf_model::ids::JobId;
 use tf_model::task::Task;
@@ -25,14 +25,10 @@ pub(crate) fn write_lawler(
     if task.class().is_due() {
         board.say("The cost of a job is its lateness C - d.")?;
     }
-    if task.class().may_break() {
-        board.say("Preemption is allowed, and does not help.")?;
-    }
+    say_preemption(board, task)?;
     let places = Places::new(board.alloc, task, pieces)?;
-    let steps = steps_table(board.alloc, task, pieces, &places)?;
-    board.show(&steps)?;
-    let schedule = schedule_table(board.alloc, task, pieces)?;
-    board.show(&schedule)?;
+    show_steps(board, task, pieces, &places)?;
+    show_schedule(board, task, pieces)?;
     say_tie(board, task, pieces, value)
 }
 
@@ -117,34 +113,45 @@ impl Places {
     }
 }
 
-fn steps_table(
-    alloc: Global,
+fn show_steps(
+    board: &mut Board,
     task: &Task,
     pieces: &[Piece],
     places: &Places,
-) -> Result<Table, AllocError> {
-    let mut table = Table::new(
-        alloc,
-        &["place", "t", "job", "cost", "candidates: job (cost at t)"],
-    )?;
+) -> Result<(), AllocError> {
+    let headings = ["place", "t", "job", "cost", "candidates: job (cost at t)"];
+    board.table.begin_ragged(&headings)?;
     for (k, piece) in pieces.iter().rev().enumerate() {
         match shown(k, pieces.len()) {
-            Visible::Row => {
-                let place = pieces.len().saturating_sub(k + 1);
-                let candidates = candidates_at(alloc, task, places, place, piece.stop)?;
-                let cells = [
-                    Cell::Number(place as i128 + 1),
-                    Cell::Number(i128::from(piece.stop)),
-                    Cell::Number(i128::from(piece.job.get())),
-                    Cell::Number(price_at(task, piece.job, piece.stop)),
-                ];
-                table.row_with(&cells, candidates)?;
-            }
-            Visible::Gap => table.gap()?,
+            Visible::Row => push_step(
+                board,
+                task,
+                places,
+                pieces.len().saturating_sub(k + 1),
+                piece,
+            )?,
+            Visible::Gap => board.table.gap()?,
             Visible::Hidden => {}
         }
     }
-    Ok(table)
+    board.show()
+}
+
+fn push_step(
+    board: &mut Board,
+    task: &Task,
+    places: &Places,
+    place: usize,
+    piece: &Piece,
+) -> Result<(), AllocError> {
+    let candidates = candidates_at(board.alloc, task, places, place, piece.stop)?;
+    board.table.row(&[
+        Cell::Number(place as i128 + 1),
+        Cell::Number(i128::from(piece.stop)),
+        Cell::Number(i128::from(piece.job.get())),
+        Cell::Number(price_at(task, piece.job, piece.stop)),
+        Cell::Words(candidates.as_str()),
+    ])
 }
 
 // The candidates for a place with what each costs at this time.
@@ -174,32 +181,37 @@ fn candidates_at(
     Ok(text)
 }
 
-fn schedule_table(alloc: Global, task: &Task, pieces: &[Piece]) -> Result<Table, AllocError> {
-    let is_due = task.class().is_due();
-    let headings: &[&str] = if is_due {
+fn show_schedule(board: &mut Board, task: &Task, pieces: &[Piece]) -> Result<(), AllocError> {
+    board.table.begin(if task.class().is_due() {
         &["job", "p", "start", "C", "d", "C - d"]
     } else {
         &["job", "p", "start", "C", "cost"]
-    };
-    let mut table = Table::new(alloc, headings)?;
+    })?;
     for (place, piece) in pieces.iter().enumerate() {
-        match (shown(place, pieces.len()), row_of(task, piece.job)) {
-            (Visible::Row, Some(row)) => {
-                let job = Cell::Number(i128::from(piece.job.get()));
-                let time = Cell::Number(i128::from(row.first));
-                let start = Cell::Number(i128::from(piece.start));
-                let stop = Cell::Number(i128::from(piece.stop));
-                let cost = Cell::Number(price_at(task, piece.job, piece.stop));
-                if is_due {
-                    let due = Cell::Number(i128::from(row.due));
-                    table.row(&[job, time, start, stop, due, cost])?;
-                } else {
-                    table.row(&[job, time, start, stop, cost])?;
-                }
-            }
-            (Visible::Gap, _) => table.gap()?,
-            _ => {}
-        }
+        push_piece(board, task, pieces.len(), place, piece)?;
     }
-    Ok(table)
+    board.show()
+}
+
+fn push_piece(
+    board: &mut Board,
+    task: &Task,
+    rows: usize,
+    place: usize,
+    piece: &Piece,
+) -> Result<(), AllocError> {
+    let Some(row) = row_of(task, piece.job) else {
+        return Ok(());
+    };
+    let job = Cell::Number(i128::from(piece.job.get()));
+    let time = Cell::Number(i128::from(row.first));
+    let start = Cell::Number(i128::from(piece.start));
+    let stop = Cell::Number(i128::from(piece.stop));
+    let cost = Cell::Number(price_at(task, piece.job, piece.stop));
+    if task.class().is_due() {
+        let due = Cell::Number(i128::from(row.due));
+        board.row(place, rows, &[job, time, start, stop, due, cost])
+    } else {
+        board.row(place, rows, &[job, time, start, stop, cost])
+    }
 }

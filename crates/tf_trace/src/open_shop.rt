@@ -1,9 +1,9 @@
 //! The method of Gonzalez and Sahni for two machines in an open shop.
-use crate::board::{Board, Visible, shown};
+use crate::board::Board;
 use crate::exchange::say_exchange;
-use crate::table::{Cell, Table};
-use crate::trace::row_of;
-use std::alloc::{AllocError, Global};
+use crate::table::Cell;
+use crate::trace::{row_of, say_preemption};
+use std::alloc::AllocError;
 use tf_model::ids::JobId;
 use tf_model::memory::OutOfMemory;
 use tf_model::task::Task;
@@ -21,19 +21,11 @@ pub(crate) fn write_open_shop(
          longer on machine 1 than on machine 2, and otherwise late. The job whose smaller time is \
          the greatest leads, an early one among equals.",
     )?;
-    if task.class().may_break() {
-        board.say("Preemption is allowed, and does not help.")?;
-    }
-    let leader = leader_of(task);
-    let early = group(board.alloc, task, true)?;
-    board.list("Early:", &early)?;
-    board.end_sentence()?;
-    let late = group(board.alloc, task, false)?;
-    board.list("Late:", &late)?;
-    board.end_sentence()?;
-    say_leader(board, task, leader)?;
-    let table = pieces_table(board.alloc, task, pieces)?;
-    board.show(&table)?;
+    say_preemption(board, task)?;
+    say_group(board, task, "Early:", true)?;
+    say_group(board, task, "Late:", false)?;
+    say_leader(board, task, leader_of(task))?;
+    show_pieces(board, task, pieces)?;
     say_exchange(board, task, pieces, value)
 }
 
@@ -63,15 +55,15 @@ fn leader_of(task: &Task) -> JobId {
     leader
 }
 
-fn group(alloc: Global, task: &Task, early: bool) -> Result<Vec<JobId>, AllocError> {
-    let mut jobs = Vec::new(alloc);
+fn say_group(board: &mut Board, task: &Task, words: &str, early: bool) -> Result<(), AllocError> {
+    let mut jobs = Vec::new(board.alloc);
     for k in 0..task.len() {
         let job = JobId::at(k);
         if is_early(task, job) == early {
             jobs.push(job)?;
         }
     }
-    Ok(jobs)
+    board.say_list(words, &jobs)
 }
 
 fn say_leader(board: &mut Board, task: &Task, leader: JobId) -> Result<(), AllocError> {
@@ -94,24 +86,27 @@ fn say_leader(board: &mut Board, task: &Task, leader: JobId) -> Result<(), Alloc
     board.end_sentence()
 }
 
-fn pieces_table(alloc: Global, task: &Task, pieces: &[Piece]) -> Result<Table, AllocError> {
-    let mut table = Table::new(alloc, &["machine", "job", "time", "start", "C"])?;
+fn show_pieces(board: &mut Board, task: &Task, pieces: &[Piece]) -> Result<(), AllocError> {
+    board
+        .table
+        .begin(&["machine", "job", "time", "start", "C"])?;
     for (place, piece) in pieces.iter().enumerate() {
-        match (shown(place, pieces.len()), row_of(task, piece.job)) {
-            (Visible::Row, Some(row)) => {
-                let is_first = piece.machine.get() == 1;
-                let time = if is_first { row.first } else { row.second };
-                table.row(&[
-                    Cell::Number(i128::from(piece.machine.get())),
-                    Cell::Number(i128::from(piece.job.get())),
-                    Cell::Number(i128::from(time)),
-                    Cell::Number(i128::from(piece.start)),
-                    Cell::Number(i128::from(piece.stop)),
-                ])?;
-            }
-            (Visible::Gap, _) => table.gap()?,
-            _ => {}
+        if let Some(row) = row_of(task, piece.job) {
+            let is_first = piece.machine.get() == 1;
+            let time = if is_first { row.first } else { row.second };
+            board.row(place, pieces.len(), &piece_cells(piece, time))?;
         }
     }
-    Ok(table)
+    board.show()
+}
+
+/// The machine, the job, so much time, the start and the end of a piece.
+pub(crate) fn piece_cells(piece: &Piece, time: u64) -> [Cell<'static>; 5] {
+    [
+        Cell::Number(i128::from(piece.machine.get())),
+        Cell::Number(i128::from(piece.job.get())),
+        Cell::Number(i128::from(time)),
+        Cell::Number(i128::from(piece.start)),
+        Cell::Number(i128::from(piece.stop)),
+    ]
 }

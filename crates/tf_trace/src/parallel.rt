@@ -1,9 +1,10 @@
 //! Machines in parallel: McNaughton's wrap-around rule, and the shortest processing time first.
-use crate::board::{Board, Visible, shown};
+use crate::board::Board;
 use crate::exchange::say_exchange;
-use crate::table::{Cell, Table};
+use crate::open_shop::piece_cells;
+use crate::table::Cell;
 use crate::trace::row_of;
-use std::alloc::{AllocError, Global};
+use std::alloc::AllocError;
 use tf_check::answer::Answer;
 use tf_check::certificate::Certificate;
 use tf_model::ids::JobId;
@@ -34,8 +35,7 @@ pub(crate) fn write_wrap_around(
         longest_time(task)
     )?;
     board.end_sentence()?;
-    let table = filling_table(board.alloc, pieces)?;
-    board.show(&table)?;
+    show_filling(board, pieces)?;
     say_exchange(board, task, pieces, value)
 }
 
@@ -47,28 +47,26 @@ fn longest_time(task: &Task) -> u64 {
     longest
 }
 
-fn filling_table(alloc: Global, pieces: &[Piece]) -> Result<Table, AllocError> {
-    let mut table = Table::new(alloc, &["machine", "job", "start", "C", ""])?;
+fn show_filling(board: &mut Board, pieces: &[Piece]) -> Result<(), AllocError> {
+    board
+        .table
+        .begin_ragged(&["machine", "job", "start", "C", ""])?;
     for (place, piece) in pieces.iter().enumerate() {
-        match shown(place, pieces.len()) {
-            Visible::Row => {
-                let cells = [
-                    Cell::Number(i128::from(piece.machine.get())),
-                    Cell::Number(i128::from(piece.job.get())),
-                    Cell::Number(i128::from(piece.start)),
-                    Cell::Number(i128::from(piece.stop)),
-                ];
-                let mut note = String::new(alloc);
-                if wraps(pieces, place) {
-                    note.push_str("the rest on the next machine")?;
-                }
-                table.row_with(&cells, note)?;
-            }
-            Visible::Gap => table.gap()?,
-            Visible::Hidden => {}
-        }
+        let note = if wraps(pieces, place) {
+            "the rest on the next machine"
+        } else {
+            ""
+        };
+        let cells = [
+            Cell::Number(i128::from(piece.machine.get())),
+            Cell::Number(i128::from(piece.job.get())),
+            Cell::Number(i128::from(piece.start)),
+            Cell::Number(i128::from(piece.stop)),
+            Cell::Words(note),
+        ];
+        board.row(place, pieces.len(), &cells)?;
     }
-    Ok(table)
+    board.show()
 }
 
 // Whether the job of a piece goes on with the next one.
@@ -90,19 +88,9 @@ pub(crate) fn write_shortest_first(
          processing time p and then by number, go to the machines in turn.",
     )?;
     if let Certificate::Ranks(ranks) = &answer.certificate {
-        let table = ranks_table(board.alloc, task, ranks.jobs.as_slice())?;
-        board.say(
-            "A processing time counts once for the job itself and once for each job after it on \
-             its machine. From the longest job on, the first m are the last on their machines and \
-             count once, the next m count twice, and so on.",
-        )?;
-        board.show(&table)?;
-        if jobs_exchange(task) {
-            board.say("Two jobs that count as often may exchange places: the sum stays the same.")?;
-        }
+        show_ranks(board, task, ranks.jobs.as_slice())?;
     }
-    let table = machines_table(board.alloc, task, answer.pieces.as_slice())?;
-    board.show(&table)
+    show_machines(board, task, answer.pieces.as_slice())
 }
 
 // Whether two jobs count as often as each other.
@@ -110,43 +98,43 @@ fn jobs_exchange(task: &Task) -> bool {
     task.len() > 1 && task.machines() > 1
 }
 
-fn ranks_table(alloc: Global, task: &Task, jobs: &[JobId]) -> Result<Table, AllocError> {
+fn show_ranks(board: &mut Board, task: &Task, jobs: &[JobId]) -> Result<(), AllocError> {
+    board.say(
+        "A processing time counts once for the job itself and once for each job after it on \
+         its machine. From the longest job on, the first m are the last on their machines and \
+         count once, the next m count twice, and so on.",
+    )?;
     let machines = u64::from(task.machines()).max(1);
-    let mut table = Table::new(alloc, &["rank", "job", "p", "times", "product"])?;
+    board
+        .table
+        .begin(&["rank", "job", "p", "times", "product"])?;
     for (place, job) in jobs.iter().enumerate() {
         let rank = (place as u64).saturating_add(1);
-        match (shown(place, jobs.len()), row_of(task, *job)) {
-            (Visible::Row, Some(row)) => {
-                let coefficient = i128::from(rank.div_ceil(machines));
-                table.row(&[
-                    Cell::Number(i128::from(rank)),
-                    Cell::Number(i128::from(job.get())),
-                    Cell::Number(i128::from(row.first)),
-                    Cell::Number(coefficient),
-                    Cell::Number(coefficient.saturating_mul(i128::from(row.first))),
-                ])?;
-            }
-            (Visible::Gap, _) => table.gap()?,
-            _ => {}
+        if let Some(row) = row_of(task, *job) {
+            let coefficient = i128::from(rank.div_ceil(machines));
+            let cells = [
+                Cell::Number(i128::from(rank)),
+                Cell::Number(i128::from(job.get())),
+                Cell::Number(i128::from(row.first)),
+                Cell::Number(coefficient),
+                Cell::Number(coefficient.saturating_mul(i128::from(row.first))),
+            ];
+            board.row(place, jobs.len(), &cells)?;
         }
     }
-    Ok(table)
+    board.show()?;
+    if jobs_exchange(task) {
+        board.say("Two jobs that count as often may exchange places: the sum stays the same.")?;
+    }
+    Ok(())
 }
 
-fn machines_table(alloc: Global, task: &Task, pieces: &[Piece]) -> Result<Table, AllocError> {
-    let mut table = Table::new(alloc, &["machine", "job", "p", "start", "C"])?;
+fn show_machines(board: &mut Board, task: &Task, pieces: &[Piece]) -> Result<(), AllocError> {
+    board.table.begin(&["machine", "job", "p", "start", "C"])?;
     for (place, piece) in pieces.iter().enumerate() {
-        match (shown(place, pieces.len()), row_of(task, piece.job)) {
-            (Visible::Row, Some(row)) => table.row(&[
-                Cell::Number(i128::from(piece.machine.get())),
-                Cell::Number(i128::from(piece.job.get())),
-                Cell::Number(i128::from(row.first)),
-                Cell::Number(i128::from(piece.start)),
-                Cell::Number(i128::from(piece.stop)),
-            ])?,
-            (Visible::Gap, _) => table.gap()?,
-            _ => {}
+        if let Some(row) = row_of(task, piece.job) {
+            board.row(place, pieces.len(), &piece_cells(piece, row.first))?;
         }
     }
-    Ok(table)
+    board.show()
 }

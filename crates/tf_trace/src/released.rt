@@ -1,7 +1,7 @@
 //! Horn's rule for release dates, preemption and the greatest lateness on one machine.
 use crate::board::{Board, Visible, shown};
 use crate::exchange::say_exchange;
-use crate::table::{Cell, Table};
+use crate::table::Cell;
 use std::alloc::{AllocError, Global};
 use tf_model::ids::JobId;
 use tf_model::memory::OutOfMemory;
@@ -23,10 +23,8 @@ pub(crate) fn write_released(
          job with the earliest due date d is processed, the smaller number among equals.",
     )?;
     let ends = ends_of(board.alloc, task, pieces)?;
-    let events = events_table(board.alloc, task, pieces, &ends)?;
-    board.show(&events)?;
-    let jobs = jobs_table(board.alloc, task, &ends)?;
-    board.show(&jobs)?;
+    show_events(board, task, pieces, &ends)?;
+    show_jobs(board, task, &ends)?;
     say_exchange(board, task, pieces, value)
 }
 
@@ -44,42 +42,44 @@ fn ends_of(alloc: Global, task: &Task, pieces: &[Piece]) -> Result<Vec<i64>, All
     Ok(ends)
 }
 
-fn events_table(
-    alloc: Global,
+fn show_events(
+    board: &mut Board,
     task: &Task,
     pieces: &[Piece],
     ends: &[i64],
-) -> Result<Table, AllocError> {
-    let headings = &[
+) -> Result<(), AllocError> {
+    board.table.begin_ragged(&[
         "from",
         "to",
         "job",
         "then",
         "released and unfinished: job (d)",
-    ];
-    let mut table = Table::new(alloc, headings)?;
+    ])?;
     for (place, piece) in pieces.iter().enumerate() {
         match shown(place, pieces.len()) {
-            Visible::Row => {
-                let waiting = waiting_at(alloc, task, ends, piece.start)?;
-                let is_done = ends.get(piece.job.place()) == Some(&piece.stop);
-                let cells = [
-                    Cell::Number(i128::from(piece.start)),
-                    Cell::Number(i128::from(piece.stop)),
-                    Cell::Number(i128::from(piece.job.get())),
-                    if is_done {
-                        Cell::Done
-                    } else {
-                        Cell::Interrupted
-                    },
-                ];
-                table.row_with(&cells, waiting)?;
-            }
-            Visible::Gap => table.gap()?,
+            Visible::Row => push_event(board, task, ends, piece)?,
+            Visible::Gap => board.table.gap()?,
             Visible::Hidden => {}
         }
     }
-    Ok(table)
+    board.show()
+}
+
+fn push_event(
+    board: &mut Board,
+    task: &Task,
+    ends: &[i64],
+    piece: &Piece,
+) -> Result<(), AllocError> {
+    let waiting = waiting_at(board.alloc, task, ends, piece.start)?;
+    let is_done = ends.get(piece.job.place()) == Some(&piece.stop);
+    board.table.row(&[
+        Cell::Number(i128::from(piece.start)),
+        Cell::Number(i128::from(piece.stop)),
+        Cell::Number(i128::from(piece.job.get())),
+        Cell::Words(if is_done { "done" } else { "interrupted" }),
+        Cell::Words(waiting.as_str()),
+    ])
 }
 
 // The jobs that are released by this time and unfinished, with their due dates.
@@ -105,23 +105,22 @@ fn waiting_at(alloc: Global, task: &Task, ends: &[i64], time: i64) -> Result<Str
     Ok(text)
 }
 
-fn jobs_table(alloc: Global, task: &Task, ends: &[i64]) -> Result<Table, AllocError> {
-    let mut table = Table::new(alloc, &["job", "p", "r", "d", "C", "C - d"])?;
+fn show_jobs(board: &mut Board, task: &Task, ends: &[i64]) -> Result<(), AllocError> {
+    board.table.begin(&["job", "p", "r", "d", "C", "C - d"])?;
     for k in 0..task.len() {
         let job = JobId::at(k);
         let row = task.job(job);
-        match (shown(k, task.len()), ends.get(k)) {
-            (Visible::Row, Some(end)) => table.row(&[
+        if let Some(end) = ends.get(k) {
+            let cells = [
                 Cell::Number(i128::from(job.get())),
                 Cell::Number(i128::from(row.first)),
                 Cell::Number(i128::from(row.release)),
                 Cell::Number(i128::from(row.due)),
                 Cell::Number(i128::from(*end)),
                 Cell::Number(i128::from(*end) - i128::from(row.due)),
-            ])?,
-            (Visible::Gap, _) => table.gap()?,
-            _ => {}
+            ];
+            board.row(k, task.len(), &cells)?;
         }
     }
-    Ok(table)
+    board.show()
 }

@@ -1,8 +1,8 @@
 //! Smith's rule for sums of completion times on one machine.
 use crate::board::{Board, Visible, shown};
 use crate::table::{Cell, Table};
-use crate::trace::row_of;
-use std::alloc::{AllocError, Global};
+use crate::trace::{row_of, say_preemption};
+use std::alloc::AllocError;
 use tf_model::ids::JobId;
 use tf_model::job_rows::JobRow;
 use tf_model::task::Task;
@@ -22,34 +22,30 @@ pub(crate) fn write_smith(
         "Shortest processing time first (Smith 1956): one job after another without idle time; \
          of equal times the smaller number first."
     })?;
-    if task.class().may_break() {
-        board.say("Preemption is allowed, and does not help.")?;
-    }
-    let table = table_of(board.alloc, task, pieces, is_weighted)?;
-    board.show(&table)?;
+    say_preemption(board, task)?;
+    show_jobs(board, task, pieces, is_weighted)?;
     say_tie(board, task, pieces, is_weighted)
 }
 
-fn table_of(
-    alloc: Global,
+fn show_jobs(
+    board: &mut Board,
     task: &Task,
     pieces: &[Piece],
     is_weighted: bool,
-) -> Result<Table, AllocError> {
-    let headings: &[&str] = if is_weighted {
+) -> Result<(), AllocError> {
+    board.table.begin(if is_weighted {
         &["job", "w", "p", "w/p", "start", "C", "wC"]
     } else {
         &["job", "p", "start", "C"]
-    };
-    let mut table = Table::new(alloc, headings)?;
+    })?;
     for (place, piece) in pieces.iter().enumerate() {
         match (shown(place, pieces.len()), row_of(task, piece.job)) {
-            (Visible::Row, Some(row)) => push_job(&mut table, piece, row, is_weighted)?,
-            (Visible::Gap, _) => table.gap()?,
+            (Visible::Row, Some(row)) => push_job(&mut board.table, piece, row, is_weighted)?,
+            (Visible::Gap, _) => board.table.gap()?,
             _ => {}
         }
     }
-    Ok(table)
+    board.show()
 }
 
 fn push_job(

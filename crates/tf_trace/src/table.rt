@@ -1,134 +1,150 @@
 //! Tables: headings, and rows of as many cells.
 use std::alloc::{AllocError, Global};
 
+/// The most columns of a table.
+const MOST_COLUMNS: usize = 8;
+
 /// A cell of a row.
 #[derive(Clone, Copy)]
-pub(crate) enum Cell {
+pub(crate) enum Cell<'a> {
     Number(i128),
     /// A fraction.
     Ratio(u64, u64),
-    Done,
-    Interrupted,
+    Words(&'a str),
 }
 
 /// A table as it is written.
 #[derive(Drop)]
 pub(crate) struct Table {
-    alloc: Global,
-    /// The headings first.
-    rows: Vec<Vec<String>>,
+    /// A line for the headings and for each row, with tabs between the cells.
+    text: String,
     /// The greatest number of bytes of a cell, column by column.
-    widths: Vec<usize>,
+    widths: [usize; MOST_COLUMNS],
+    columns: usize,
     /// Whether the last column holds words, which stand at its left.
     is_ragged: bool,
 }
 
 impl Table {
-    pub(crate) fn new(alloc: Global, headings: &[&str]) -> Result<Self, AllocError> {
-        let mut table = Table {
-            alloc,
-            rows: Vec::new(alloc),
-            widths: Vec::new(alloc),
+    pub(crate) fn new(alloc: Global) -> Self {
+        Table {
+            text: String::new(alloc),
+            widths: [0; MOST_COLUMNS],
+            columns: 0,
             is_ragged: false,
-        };
-        let mut row = Vec::new(alloc);
-        for heading in headings {
-            row.push(String::from_str(alloc, heading)?)?;
-            table.widths.push(heading.len())?;
         }
-        table.rows.push(row)?;
-        Ok(table)
+    }
+
+    /// Begins anew with these headings.
+    pub(crate) fn begin(&mut self, headings: &[&str]) -> Result<(), AllocError> {
+        self.text.clear();
+        self.widths = [0; MOST_COLUMNS];
+        self.columns = headings.len();
+        self.is_ragged = false;
+        for (column, heading) in headings.iter().enumerate() {
+            self.push(column, Cell::Words(heading))?;
+        }
+        self.text.push('\n')
+    }
+
+    /// The same, where the last column holds words.
+    pub(crate) fn begin_ragged(&mut self, headings: &[&str]) -> Result<(), AllocError> {
+        self.begin(headings)?;
+        self.is_ragged = true;
+        Ok(())
     }
 
     /// A row more.
-    pub(crate) fn row(&mut self, cells: &[Cell]) -> Result<(), AllocError> {
-        let row = self.written_all(cells)?;
-        self.push(row)
-    }
-
-    /// A row more, whose last cell holds these words.
-    pub(crate) fn row_with(&mut self, cells: &[Cell], words: String) -> Result<(), AllocError> {
-        self.is_ragged = true;
-        let mut row = self.written_all(cells)?;
-        row.push(words)?;
-        self.push(row)
-    }
-
-    fn written_all(&self, cells: &[Cell]) -> Result<Vec<String>, AllocError> {
-        let mut row = Vec::new(self.alloc);
-        for cell in cells {
-            row.push(self.written(*cell)?)?;
+    pub(crate) fn row(&mut self, cells: &[Cell<'_>]) -> Result<(), AllocError> {
+        for (column, cell) in cells.iter().enumerate() {
+            self.push(column, *cell)?;
         }
-        Ok(row)
+        self.text.push('\n')
     }
 
     /// A row that stands for those that are hidden.
     pub(crate) fn gap(&mut self) -> Result<(), AllocError> {
-        let mut row = Vec::new(self.alloc);
-        for _ in 0..self.widths.len() {
-            row.push(String::from_str(self.alloc, "..")?)?;
+        for column in 0..self.columns {
+            self.push(column, Cell::Words(".."))?;
         }
-        self.push(row)
+        self.text.push('\n')
     }
 
-    fn written(&self, cell: Cell) -> Result<String, AllocError> {
-        let mut text = String::new(self.alloc);
-        match cell {
-            Cell::Number(number) => write!(text, "{number}")?,
-            Cell::Ratio(of, by) => write!(text, "{of}/{by}")?,
-            Cell::Done => text.push_str("done")?,
-            Cell::Interrupted => text.push_str("interrupted")?,
+    // Adds a cell to the last line.
+    fn push(&mut self, column: usize, cell: Cell<'_>) -> Result<(), AllocError> {
+        self.text.push_str(if column == 0 { "" } else { "\t" })?;
+        let len = push_cell(&mut self.text, cell)?;
+        if let Some(width) = self.widths.get_mut(column) {
+            *width = len.max(*width);
         }
-        Ok(text)
-    }
-
-    fn push(&mut self, row: Vec<String>) -> Result<(), AllocError> {
-        for (width, cell) in self.widths.iter_mut().zip(row.iter()) {
-            *width = (*width).max(cell.len());
-        }
-        self.rows.push(row)?;
         Ok(())
     }
 
     /// In columns, with an empty line behind.
     pub(crate) fn write_plain(&self, text: &mut String) -> Result<(), AllocError> {
-        for row in self.rows.iter() {
-            self.write_row(text, row)?;
+        for row in self.text.as_str().split('\n') {
+            if !row.is_empty() {
+                self.write_row(text, row)?;
+                text.push('\n')?;
+            }
         }
         text.push('\n')
     }
 
-    fn write_row(&self, text: &mut String, row: &[String]) -> Result<(), AllocError> {
-        let last = row.len().saturating_sub(1);
-        for (k, (cell, width)) in row.iter().zip(self.widths.iter()).enumerate() {
-            if k == last && cell.is_empty() {
-                break;
+    fn write_row(&self, text: &mut String, row: &str) -> Result<(), AllocError> {
+        for (column, cell) in row.split('\t').enumerate() {
+            if !self.is_last(column) || !cell.is_empty() {
+                text.push_str(if column == 0 { "" } else { "  " })?;
+                push_spaces(text, self.blanks(column, cell))?;
+                text.push_str(cell)?;
             }
-            if k > 0 {
-                text.push_str("  ")?;
-            }
-            if k < last || !self.is_ragged {
-                push_spaces(text, width.saturating_sub(cell.len()))?;
-            }
-            text.push_str(cell)?;
         }
-        text.push('\n')
+        Ok(())
+    }
+
+    // How many blanks stand before a cell of a column.
+    fn blanks(&self, column: usize, cell: &str) -> usize {
+        match self.widths.get(column) {
+            Some(width) if !self.is_left(column) => width.saturating_sub(cell.len()),
+            _ => 0,
+        }
+    }
+
+    // Whether the cells of a column stand at its left.
+    fn is_left(&self, column: usize) -> bool {
+        self.is_ragged && self.is_last(column)
+    }
+
+    fn is_last(&self, column: usize) -> bool {
+        column.saturating_add(1) == self.columns
     }
 
     /// For LaTeX.
     pub(crate) fn write_latex(&self, text: &mut String) -> Result<(), AllocError> {
         text.push_str("\\begin{center}\\begin{tabular}{")?;
-        for k in 0..self.widths.len() {
-            let is_left = self.is_ragged && k + 1 == self.widths.len();
-            text.push(if is_left { 'l' } else { 'r' })?;
+        for column in 0..self.columns {
+            text.push(if self.is_left(column) { 'l' } else { 'r' })?;
         }
         text.push_str("}\n")?;
-        for (k, row) in self.rows.iter().enumerate() {
-            write_cells(text, row)?;
-            text.push_str(if k == 0 { " \\\\ \\hline\n" } else { " \\\\\n" })?;
+        for (k, row) in self.text.as_str().split('\n').enumerate() {
+            if !row.is_empty() {
+                write_cells(text, row)?;
+                text.push_str(if k == 0 { " \\\\ \\hline\n" } else { " \\\\\n" })?;
+            }
         }
         text.push_str("\\end{tabular}\\end{center}\n\n")
     }
+}
+
+// Adds a cell, and tells how many bytes it has.
+fn push_cell(text: &mut String, cell: Cell<'_>) -> Result<usize, AllocError> {
+    let before = text.len();
+    match cell {
+        Cell::Number(number) => write!(text, "{number}")?,
+        Cell::Ratio(of, by) => write!(text, "{of}/{by}")?,
+        Cell::Words(words) => text.push_str(words)?,
+    }
+    Ok(text.len().saturating_sub(before))
 }
 
 fn push_spaces(text: &mut String, times: usize) -> Result<(), AllocError> {
@@ -138,11 +154,9 @@ fn push_spaces(text: &mut String, times: usize) -> Result<(), AllocError> {
     Ok(())
 }
 
-fn write_cells(text: &mut String, row: &[String]) -> Result<(), AllocError> {
-    for (k, cell) in row.iter().enumerate() {
-        if k > 0 {
-            text.push_str(" & ")?;
-        }
+fn write_cells(text: &mut String, row: &str) -> Result<(), AllocError> {
+    for (column, cell) in row.split('\t').enumerate() {
+        text.push_str(if column == 0 { "" } else { " & " })?;
         text.push_str(cell)?;
     }
     Ok(())

@@ -7,6 +7,7 @@ use crate::open_shop::write_open_shop;
 use crate::parallel::{write_shortest_first, write_wrap_around};
 use crate::released::write_released;
 use crate::smith::write_smith;
+use std::alloc::AllocError;
 use tf_check::answer::Answer;
 use tf_model::class::Class;
 use tf_model::ids::JobId;
@@ -43,6 +44,14 @@ pub(crate) fn write_trace(
         Class::ParallelSum => write_shortest_first(board, task, answer)?,
     }
     write_certificate(board, task, answer)?;
+    Ok(())
+}
+
+/// Says that a problem allows preemption, if it does.
+pub(crate) fn say_preemption(board: &mut Board, task: &Task) -> Result<(), AllocError> {
+    if task.class().may_break() {
+        board.say("Preemption is allowed, and does not help.")?;
+    }
     Ok(())
 }
 
