@@ -4,9 +4,8 @@ use refusing::Refusing;
 use std::alloc::{Allocator, Global};
 use std::test::Fail;
 use test_runs::growths::{Ended, refuse_each_growth};
-use test_runs::runs::ensure;
+use test_runs::runs::{Ending, ending_of, ensure};
 use tf_dated::run_dated::{DatedRequest, Pictured, run_dated};
-use tf_engine::fault::RunFault;
 use tf_engine::request::Form;
 use tf_picture::view::View;
 use tf_text::counted::Counted;
@@ -23,7 +22,7 @@ cert load
 end
 ";
 
-fn dated_into<A: Allocator + Copy>(alloc: A, out: &mut Vec<u8>) -> Result<Pictured, RunFault<A>> {
+fn dated_into(heap: &Refusing<Global>, out: &mut Vec<u8>) -> Ending {
     let form: Form = Form::Table;
     let mut instance = Counted::new(JOBS);
     let mut answer = Counted::new(ANSWER);
@@ -33,20 +32,18 @@ fn dated_into<A: Allocator + Copy>(alloc: A, out: &mut Vec<u8>) -> Result<Pictur
         view: &view,
         form: &form,
     };
-    run_dated(alloc, asked, &mut instance, &mut answer, &mut writer)
+    match run_dated(heap, asked, &mut instance, &mut answer, &mut writer) {
+        Ok(Pictured::Drawn) => Ending::Answered,
+        Ok(_) => Ending::Other,
+        Err(fault) => ending_of(&fault),
+    }
 }
 
 fn dated_on(rt: &HostRuntime, heap: &Refusing<Global>) -> Result<Ended, Fail> {
     let mut out = Vec::with_capacity(rt.alloc(), 5_000)?;
     match dated_into(heap, &mut out) {
-        Ok(Pictured::Drawn) => {
-            ensure(has(&out, b"<title>job 1, late by 1</title>"), "not late")?;
-            Ok(Ended::Answered)
-        }
-        Err(RunFault::OutOfMemory) => {
-            ensure(out.is_empty(), "a part was written")?;
-            Ok(Ended::OutOfMemory)
-        }
+        Ending::Answered if has(&out, b"<title>job 1, late by 1</title>") => Ok(Ended::Answered),
+        Ending::OutOfMemory if out.is_empty() => Ok(Ended::OutOfMemory),
         _ => Err(Fail::new("another outcome")),
     }
 }

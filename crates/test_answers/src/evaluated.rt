@@ -9,152 +9,76 @@ use test_runs::examples::shops::{FLOW, FLOW_ZEROS, OPEN};
 use test_runs::examples::sums::{NO_WEIGHT, RATIOS, SHORTEST};
 use test_runs::examples::{Example, answer_in, with_line, worked};
 use test_runs::growths::{Ended, refuse_each_growth};
-use test_runs::runs::{LAYOUTS, ensure, request_for, request_table};
-use tf_engine::fault::RunFault;
+use test_runs::runs::{Ending, LAYOUTS, ending_of, ensure, request_for, request_table};
 use tf_engine::request::Request;
 use tf_evaluate::evaluation::{Detail, Standing};
 use tf_evaluate::run_evaluate::{EvaluationRequest, run_evaluate};
 use tf_text::answer::layout::Layout;
 use tf_text::counted::Counted;
 
-/// Evaluates an answer text.
+/// How good an answer text is.
 fn evaluate_into<A: Allocator + Copy>(
     alloc: A,
     asked: EvaluationRequest<'_>,
     instance: &[u8],
     answer: &[u8],
     out: &mut Vec<u8>,
-) -> Result<Standing, RunFault<A>> {
+) -> Result<Standing, Ending> {
     let mut instance = Counted::new(instance);
     let mut answer = Counted::new(answer);
     let mut writer = Counted::new(out);
-    run_evaluate(alloc, asked, &mut instance, &mut answer, &mut writer)
+    match run_evaluate(alloc, asked, &mut instance, &mut answer, &mut writer) {
+        Ok(standing) => Ok(standing),
+        Err(fault) => Err(ending_of(&fault)),
+    }
 }
 
 /// An example whose answer has other lines, counted from 1. What is evaluated of each stands, typed
 /// by hand, among the sessions.
-#[derive(Clone, Copy)]
-struct Case {
-    example: Example,
-    changes: &'static [(usize, &'static str)],
-}
+type Case = (&'static Example, &'static [(usize, &'static str)]);
 
 static CASES: [Case; 26] = [
-    Case {
-        example: FOURS,
-        changes: &[],
-    },
-    Case {
-        example: ONES,
-        changes: &[],
-    },
-    Case {
-        example: ONE_LONG,
-        changes: &[],
-    },
-    Case {
-        example: DEALT,
-        changes: &[],
-    },
-    Case {
-        example: RATIOS,
-        changes: &[],
-    },
-    Case {
-        example: SHORTEST,
-        changes: &[],
-    },
-    Case {
-        example: NO_WEIGHT,
-        changes: &[],
-    },
-    Case {
-        example: COSTS,
-        changes: &[],
-    },
-    Case {
-        example: EQUAL_DUE,
-        changes: &[],
-    },
-    Case {
-        example: DUE_ARC,
-        changes: &[],
-    },
-    Case {
-        example: PREEMPTED,
-        changes: &[],
-    },
-    Case {
-        example: FLOW,
-        changes: &[],
-    },
-    Case {
-        example: FLOW_ZEROS,
-        changes: &[],
-    },
-    Case {
-        example: OPEN,
-        changes: &[],
-    },
-    Case {
-        example: SHORTEST,
-        changes: &[
+    (&FOURS, &[]),
+    (&ONES, &[]),
+    (&ONE_LONG, &[]),
+    (&DEALT, &[]),
+    (&RATIOS, &[]),
+    (&SHORTEST, &[]),
+    (&NO_WEIGHT, &[]),
+    (&COSTS, &[]),
+    (&EQUAL_DUE, &[]),
+    (&DUE_ARC, &[]),
+    (&PREEMPTED, &[]),
+    (&FLOW, &[]),
+    (&FLOW_ZEROS, &[]),
+    (&OPEN, &[]),
+    (
+        &SHORTEST,
+        &[
             (5, "value 13"),
             (6, "piece 1 1 0 3"),
             (7, "piece 2 1 3 4"),
             (8, "piece 3 1 4 6"),
         ],
-    },
-    Case {
-        example: EQUAL_DUE,
-        changes: &[(5, "value 7"), (8, "cert last 1")],
-    },
-    Case {
-        example: EQUAL_DUE,
-        changes: &[(7, "piece 2 1 5 6"), (8, "cert pairs")],
-    },
-    Case {
-        example: EQUAL_DUE,
-        changes: &[(8, "cert last 1 3")],
-    },
-    Case {
-        example: EQUAL_DUE,
-        changes: &[(8, "cert last 1 1")],
-    },
-    Case {
-        example: EQUAL_DUE,
-        changes: &[(7, "piece 3 1 1 2")],
-    },
-    Case {
-        example: FOURS,
-        changes: &[(9, "piece 1 2 2 6")],
-    },
-    Case {
-        example: FOURS,
-        changes: &[(8, "piece 2 2 0 3")],
-    },
-    Case {
-        example: FOURS,
-        changes: &[(4, "machines 3")],
-    },
-    Case {
-        example: OPEN,
-        changes: &[(12, "cert job 2")],
-    },
-    Case {
-        example: OPEN,
-        changes: &[(12, "cert machine 2")],
-    },
-    Case {
-        example: PREEMPTED,
-        changes: &[(10, "cert window 3 1 2")],
-    },
+    ),
+    (&EQUAL_DUE, &[(5, "value 7"), (8, "cert last 1")]),
+    (&EQUAL_DUE, &[(7, "piece 2 1 5 6"), (8, "cert pairs")]),
+    (&EQUAL_DUE, &[(8, "cert last 1 3")]),
+    (&EQUAL_DUE, &[(8, "cert last 1 1")]),
+    (&EQUAL_DUE, &[(7, "piece 3 1 1 2")]),
+    (&FOURS, &[(9, "piece 1 2 2 6")]),
+    (&FOURS, &[(8, "piece 2 2 0 3")]),
+    (&FOURS, &[(4, "machines 3")]),
+    (&OPEN, &[(12, "cert job 2")]),
+    (&OPEN, &[(12, "cert machine 2")]),
+    (&PREEMPTED, &[(10, "cert window 3 1 2")]),
 ];
 
 /// The answer of a case.
 fn answer_of(rt: &HostRuntime, case: &Case) -> Result<Vec<u8>, AllocError> {
-    let mut text = Vec::from_slice(rt.alloc(), case.example.answer)?;
-    for (place, line) in case.changes.iter() {
+    let (example, changes) = case;
+    let mut text = Vec::from_slice(rt.alloc(), example.answer)?;
+    for (place, line) in changes.iter() {
         text = with_line(rt, &text, *place, line)?;
     }
     Ok(text)
@@ -198,93 +122,79 @@ fn what_is_printed_is_best(rt: HostRuntime) -> Result<(), Fail> {
     Ok(())
 }
 
-/// An evaluation: of what detail it is, how good the answer is, and what is written.
-#[derive(Drop)]
-struct Evaluated {
+/// What is evaluated.
+#[derive(Clone, Copy)]
+struct Asked<'a> {
     alloc: Global,
+    request: &'a Request,
     detail: Detail,
-    standing: Standing,
-    written: Vec<u8>,
+    instance: &'a [u8],
+    answer: &'a [u8],
 }
 
-fn evaluate(
-    rt: &HostRuntime,
-    request: &Request,
-    detail: Detail,
-    case: &Case,
-    answer: &[u8],
-) -> Result<Evaluated, Fail> {
-    let asked = EvaluationRequest { request, detail };
-    let mut written = Vec::new(rt.alloc());
-    match evaluate_into(
-        rt.alloc(),
-        asked,
-        case.example.instance,
-        answer,
-        &mut written,
-    ) {
-        Ok(standing) => Ok(Evaluated {
-            alloc: rt.alloc(),
-            detail,
-            standing,
-            written,
-        }),
-        Err(_) => Err(Fail::new(case.example.name)),
+impl Asked<'_> {
+    fn evaluate<A: Allocator + Copy>(
+        &self,
+        alloc: A,
+        out: &mut Vec<u8>,
+    ) -> Result<Standing, Ending> {
+        let asked = EvaluationRequest {
+            request: self.request,
+            detail: self.detail,
+        };
+        evaluate_into(alloc, asked, self.instance, self.answer, out)
     }
-}
 
-fn evaluates_on(
-    heap: &Refusing<Global>,
-    request: &Request,
-    case: &Case,
-    answer: &[u8],
-    wanted: &Evaluated,
-) -> Result<Ended, Fail> {
-    let asked = EvaluationRequest {
-        request,
-        detail: wanted.detail,
-    };
-    let mut out = Vec::with_capacity(wanted.alloc, 2_000)?;
-    match evaluate_into(heap, asked, case.example.instance, answer, &mut out) {
-        Ok(standing) => {
-            ensure(standing == wanted.standing, case.example.name)?;
-            ensure(out == wanted.written, case.example.name)?;
-            Ok(Ended::Answered)
+    /// On this heap the outcome and what is written are these, or memory is wanting and nothing is
+    /// written.
+    fn evaluates_on(
+        &self,
+        heap: &Refusing<Global>,
+        wanted: Result<Standing, Ending>,
+        written: &[u8],
+    ) -> Result<Ended, Fail> {
+        let mut out = Vec::with_capacity(self.alloc, 2_000)?;
+        let outcome = self.evaluate(heap, &mut out);
+        if outcome == wanted && out.as_slice() == written {
+            return Ok(Ended::Answered);
         }
-        Err(RunFault::OutOfMemory) => {
-            ensure(out.is_empty(), case.example.name)?;
-            Ok(Ended::OutOfMemory)
-        }
-        Err(_) => Err(Fail::new(case.example.name)),
+        let is_refused = outcome == Err(Ending::OutOfMemory) && out.is_empty();
+        ensure(is_refused, "another outcome")?;
+        Ok(Ended::OutOfMemory)
     }
-}
 
-/// The case is evaluated alike in this detail with each growth refused.
-fn is_alike_in(
-    rt: &HostRuntime,
-    request: &Request,
-    detail: Detail,
-    case: &Case,
-    answer: &[u8],
-) -> Result<bool, Fail> {
-    let wanted = evaluate(rt, request, detail, case, answer)?;
-    let call = |heap: &Refusing<Global>| evaluates_on(heap, request, case, answer, &wanted);
-    Ok(refuse_each_growth(rt, call)? > 3)
+    /// It is evaluated alike with each growth refused.
+    fn is_alike(&self, rt: &HostRuntime) -> Result<bool, Fail> {
+        let mut written = Vec::new(self.alloc);
+        let outcome = self.evaluate(self.alloc, &mut written);
+        ensure(outcome.is_ok(), "refused")?;
+        let call = |heap: &Refusing<Global>| self.evaluates_on(heap, outcome, &written);
+        Ok(refuse_each_growth(rt, call)? > 3)
+    }
 }
 
 /// The case is evaluated alike in both details with each growth refused.
 fn is_alike(rt: &HostRuntime, case: &Case) -> Result<bool, Fail> {
-    let request = request_for(rt, &case.example, Layout::One)?;
+    let request = request_for(rt, case.0, Layout::One)?;
     let answer = answer_of(rt, case)?;
-    let summary = is_alike_in(rt, &request, Detail::Summary, case, &answer)?;
-    let arithmetic = is_alike_in(rt, &request, Detail::WithArithmetic, case, &answer)?;
-    Ok(summary && arithmetic)
+    let summary = Asked {
+        alloc: rt.alloc(),
+        request: &request,
+        detail: Detail::Summary,
+        instance: case.0.instance,
+        answer: &answer,
+    };
+    let arithmetic = Asked {
+        detail: Detail::WithArithmetic,
+        ..summary
+    };
+    Ok(summary.is_alike(rt)? && arithmetic.is_alike(rt)?)
 }
 
 #[test]
 fn each_case_is_evaluated_alike_whatever_growth_is_refused(rt: HostRuntime) -> Result<(), Fail> {
     for case in CASES.iter() {
-        ensure(is_alike(&rt, case)?, case.example.name)?;
+        ensure(is_alike(&rt, case)?, case.0.name)?;
     }
     Ok(())
 }
@@ -298,8 +208,7 @@ fn cycles_are_refused(rt: HostRuntime) -> Result<(), Fail> {
     };
     let mut out = Vec::new(rt.alloc());
     let result = evaluate_into(rt.alloc(), asked, TWO_ARCS, COSTS.answer, &mut out);
-    let is_cycle = matches!(&result, Err(RunFault::Cycle(_)));
-    ensure(is_cycle && out.is_empty(), "no cycle")
+    ensure(result == Err(Ending::Cycle) && out.is_empty(), "no cycle")
 }
 
 /// Evaluates on devices.
@@ -309,7 +218,7 @@ fn evaluate_on(
     instance: &mut Source,
     answer: &mut Source,
     sink: &mut Sink,
-) -> Result<Standing, RunFault> {
+) -> Result<Standing, Ending> {
     let mut instance = Counted::new(instance);
     let mut answer = Counted::new(answer);
     let mut writer = Counted::new(sink);
@@ -317,7 +226,10 @@ fn evaluate_on(
         request,
         detail: Detail::WithArithmetic,
     };
-    run_evaluate(rt.alloc(), asked, &mut instance, &mut answer, &mut writer)
+    match run_evaluate(rt.alloc(), asked, &mut instance, &mut answer, &mut writer) {
+        Ok(standing) => Ok(standing),
+        Err(fault) => Err(ending_of(&fault)),
+    }
 }
 
 /// Where this call of the writer fails, the run fails, and there is no further call.
@@ -331,7 +243,7 @@ fn stops_at(rt: &HostRuntime, request: &Request, call: u64) -> bool {
     let mut answer = Source::new(FOURS.answer);
     let mut sink = Sink::new(rt.alloc()).by(1).failing(failure);
     let result = evaluate_on(rt, request, &mut instance, &mut answer, &mut sink);
-    matches!(&result, Err(RunFault::Device)) && sink.calls() == call
+    result == Err(Ending::Device) && sink.calls() == call
 }
 
 #[test]

@@ -2,11 +2,10 @@
 use refusing::Refusing;
 use std::alloc::{Allocator, Global};
 use std::test::Fail;
-use test_runs::devices::{Failure, Sink, Source, Way};
+use test_runs::devices::{Failure, Sink, Way};
 use test_runs::examples::{Example, answer_in, worked};
 use test_runs::growths::{Ended, refuse_each_growth};
-use test_runs::runs::{LAYOUTS, ensure};
-use tf_engine::fault::RunFault;
+use test_runs::runs::{Ending, LAYOUTS, ending_of, ensure};
 use tf_picture::run_picture::run_picture;
 use tf_picture::view::View;
 use tf_text::answer::layout::Layout;
@@ -16,21 +15,20 @@ mod texts;
 
 use texts::{IDLE, NONE, ONE, Pictured};
 
-fn picture_into<A: Allocator + Copy>(
-    alloc: A,
-    answer: &[u8],
-    out: &mut Vec<u8>,
-) -> Result<(), RunFault<A>> {
+fn picture_into<A: Allocator + Copy>(alloc: A, answer: &[u8], out: &mut Vec<u8>) -> Ending {
     let mut answer = Counted::new(answer);
     let mut writer = Counted::new(out);
-    run_picture(alloc, &View::whole(), &mut answer, &mut writer)
+    match run_picture(alloc, &View::whole(), &mut answer, &mut writer) {
+        Ok(()) => Ending::Answered,
+        Err(fault) => ending_of(&fault),
+    }
 }
 
 /// The picture of an answer.
 fn picture_of(rt: &HostRuntime, answer: &[u8]) -> Result<Vec<u8>, Fail> {
     let mut out = Vec::new(rt.alloc());
     let result = picture_into(rt.alloc(), answer, &mut out);
-    ensure(result == Ok(()), "refused")?;
+    ensure(result == Ending::Answered, "refused")?;
     Ok(out)
 }
 
@@ -86,14 +84,12 @@ cert pairs
 end
 ";
     let out = picture_of(&rt, long)?;
-    ensure(lines_with(&out, b" width=\"50\" ") == 2, "no least width")?;
+    let is_seen = lines_with(&out, b" width=\"50\" ") == 2
+        && lines_with(&out, b" stroke=\"none\"") == 2
+        && has(&out, b"<text x=\"59999\" y=\"10968\">2</text>");
     ensure(
-        lines_with(&out, b" stroke=\"none\"") == 2,
-        "an edge hides the fill",
-    )?;
-    ensure(
-        has(&out, b"<text x=\"59999\" y=\"10968\">2</text>"),
-        "no number",
+        is_seen,
+        "no least width, an edge that hides the fill, or no number",
     )
 }
 
@@ -110,11 +106,8 @@ cert pairs
 end
 ";
     let out = picture_of(&rt, further)?;
-    ensure(
-        lines_with(&out, b"<title>job ") == 1,
-        "another number of bars",
-    )?;
-    ensure(has(&out, b"jobs 1, machines 1, length 3"), "another length")
+    let is_so = lines_with(&out, b"<title>job ") == 1 && has(&out, b"jobs 1, machines 1, length 3");
+    ensure(is_so, "another number of bars, or another length")
 }
 
 #[test]
@@ -135,44 +128,41 @@ fn has_prefix(rt: &HostRuntime, call: u64) -> bool {
     let mut sink = Sink::new(rt.alloc()).by(17).failing(failure);
     let outcome = picture_on(rt, &mut sink);
     let taken = sink.taken();
-    outcome == Err(RunFault::Device)
+    outcome == Ending::Device
         && sink.calls() == call
         && (taken.len() as u64 / 17).checked_add(1) == Some(call)
         && taken.len() % 17 == 0
         && IDLE.picture.starts_with(taken)
 }
 
-fn picture_on(rt: &HostRuntime, sink: &mut Sink) -> Result<(), RunFault> {
-    let mut source = Source::new(IDLE.answer);
-    let mut answer = Counted::new(&mut source);
+fn picture_on(rt: &HostRuntime, sink: &mut Sink) -> Ending {
+    let mut answer = Counted::new(IDLE.answer);
     let mut writer = Counted::new(sink);
-    run_picture(rt.alloc(), &View::whole(), &mut answer, &mut writer)
+    match run_picture(rt.alloc(), &View::whole(), &mut answer, &mut writer) {
+        Ok(()) => Ending::Answered,
+        Err(fault) => ending_of(&fault),
+    }
 }
 
-fn pictures_on(
-    rt: &HostRuntime,
-    heap: &Refusing<Global>,
-    pictured: &Pictured,
-) -> Result<Ended, Fail> {
-    let mut out = Vec::with_capacity(rt.alloc(), 5_000)?;
+fn pictures_on(alloc: Global, heap: &Refusing<Global>, pictured: &Pictured) -> Result<Ended, Fail> {
+    let mut out = Vec::with_capacity(alloc, 5_000)?;
     match picture_into(heap, pictured.answer, &mut out) {
-        Ok(()) => {
-            ensure(out.as_slice() == pictured.picture, pictured.name)?;
-            Ok(Ended::Answered)
-        }
-        Err(RunFault::OutOfMemory) => {
-            ensure(out.is_empty(), pictured.name)?;
-            Ok(Ended::OutOfMemory)
-        }
-        Err(_) => Err(Fail::new(pictured.name)),
+        Ending::Answered if out.as_slice() == pictured.picture => Ok(Ended::Answered),
+        Ending::OutOfMemory if out.is_empty() => Ok(Ended::OutOfMemory),
+        _ => Err(Fail::new(pictured.name)),
     }
+}
+
+fn is_pictured(rt: &HostRuntime, pictured: &Pictured) -> Result<bool, Fail> {
+    let alloc = rt.alloc();
+    let call = |heap: &Refusing<Global>| pictures_on(alloc, heap, pictured);
+    Ok(refuse_each_growth(rt, call)? > 3)
 }
 
 #[test]
 fn schedules_are_pictured_whatever_growth_is_refused(rt: HostRuntime) -> Result<(), Fail> {
-    for pictured in [ONE, IDLE, NONE] {
-        let call = |heap: &Refusing<Global>| pictures_on(&rt, heap, &pictured);
-        ensure(refuse_each_growth(&rt, call)? > 3, pictured.name)?;
+    for pictured in &[&ONE, &IDLE, &NONE] {
+        ensure(is_pictured(&rt, pictured)?, pictured.name)?;
     }
     Ok(())
 }
