@@ -31,7 +31,7 @@ none_found {X} p q fails (x ∷ xs) all = by_found (position p (x ∷ xs)) refl
         ))
 
 -- what is complete is no reason by any of the three tests
-wrong_none : (class : Class) (job : JobFields) → is_complete class job ≡ true
+pub wrong_none : (class : Class) (job : JobFields) → is_complete class job ≡ true
     → has_wrong_times class job ≡ false
 wrong_none class job = by_test (has_wrong_times class job) _
   where

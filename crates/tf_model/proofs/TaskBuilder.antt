@@ -1,5 +1,5 @@
 -- A task that grows job by job, and at its end.
-use Rattle.std.specs.Prelude.{IfOk, IfSome, is_ok, is_some, not, ◌&&◌, ◌||◌, if◌then◌else◌}
+use Rattle.std.specs.Prelude.{IfOk, IfSome, is_ok, if◌then◌else◌}
 use Rattle.std.proofs.Common.{◌≡◌, ◌≢◌, ◌≤◌, ℕ, zero, suc, Bool, true, false, Option, None, Some, Result, Ok, Err, List, [], ◌∷◌, ◌++◌, append_assoc, map, length, sym, ap, ◌∙◌, refl, subst, arith, All}
 use Rattle.std.specs.Bool.{then_some}
 use Rattle.std.specs.List.{list_all}
@@ -16,17 +16,17 @@ use Rattle.tf_model.specs.JobRows.{rows_of}
 use Rattle.tf_model.specs.SchedulingTask.{JobData, SchedulingTask}
 use Rattle.tf_model.specs.Sound.{IsSound}
 use Rattle.tf_model.specs.Summed.{HasSummed}
-use Rattle.tf_model.specs.ClassTable.{is_costed, is_shop}
+use Rattle.tf_model.specs.ClassTable.{is_costed}
 use Rattle.tf_model.specs.Complete.{is_complete}
-use Rattle.tf_model.specs.Prepare.{data_of, has_wrong_times, has_zero_time, lacking, is_too_large, is_too_many, jobs_refusal, kept_arcs, kept_costs, prepared, steps_of, task_of}
+use Rattle.tf_model.specs.Prepare.{data_of, is_too_large, is_too_many, jobs_refusal, kept_arcs, kept_costs, prepared, steps_of, task_of}
 use Rattle.tf_model.specs.Steps.{Steps}
 use Rattle.tf_model.specs.declared.class.Class.{Class}
-use Rattle.tf_model.specs.declared.job_totals.JobTotals.{JobTotals}
 use Rattle.tf_model.specs.TaskBuilder.{HasTaken, HasJudged, CanFinish, Takes}
 use Rattle.tf_model.specs.declared.prepare.Refusal.TheVariants.{TotalTooLarge}
 use Rattle.tf_model.specs.declared.problem.Problem.{Problem}
 use Rattle.tf_model.specs.declared.task_builder.TaskBuilder.{TaskBuilder}
 use Rattle.tf_model.proofs.Complete.{complete_refusal}
+use Rattle.tf_model.proofs.JobRows.{rows_are}
 use Rattle.tf_model.proofs.Judged.{within_instance, within_more}
 use Rattle.tf_model.proofs.Prepared.{IsCountFor-machines_for, task_of-IsSound}
 
@@ -63,23 +63,12 @@ pub complete_more : (class : Class) (before : List JobFields) (job : JobFields) 
 complete_more class before job r all passed is =
     list_all-append (is_complete class) before (job ∷ []) ∙ rw (all, sym is ∙ passed) refl
 
--- a complete job has as many times as the class wants
-pub right_times : (class : Class) (job : JobFields) (r : Bool) → r ≡ true
-    → r ≡ is_complete class job → has_wrong_times class job ≡ false
-right_times class job r passed is = by (has_wrong_times class job) (sym is ∙ passed)
-  where
-    by : (wrong : Bool) → (not wrong && (not (is_some (lacking class job))
-        && (is_shop class || not (has_zero_time job)))) ≡ true → wrong ≡ false
-    by true e = cc
-    by false e = refl
-
-pub summed_more : (class : Class) (totals : JobTotals) (before : List JobFields) (job : JobFields)
-    (row : JobData) → row ≡ data_of class job
-    → HasSummed totals (map (data_of class) before ++ row ∷ [])
-    → HasSummed totals (map (data_of class) (before ++ job ∷ []))
-summed_more class totals before job row is =
-    subst (HasSummed totals) (ap (λ d. map (data_of class) before ++ d ∷ []) is
-    ∙ sym (map-append (data_of class) before (job ∷ [])))
+pub data_more : (class : Class) (before : List JobFields) (job : JobFields) (row : JobData)
+    → row ≡ data_of class job
+    → map (data_of class) before ++ row ∷ [] ≡ map (data_of class) (before ++ job ∷ [])
+data_more class before job row is =
+    ap (λ d. map (data_of class) before ++ d ∷ []) is
+    ∙ sym (map-append (data_of class) before (job ∷ []))
 
 pub costs_more : (class : Class) (before : List JobFields) (job : JobFields) (old new : List Steps)
     (cost : Steps) → is_costed class ≡ true → old ≡ kept_costs class before → new ≡ old ++ cost ∷ []
@@ -132,7 +121,9 @@ module _ {A : Type 0} (builder : TaskBuilder A) (kept given : List (ℕ × ℕ))
 
   -- its parts are those of the task
   parts_are : task ≡ task_of builder.class builder.machines i
-  parts_are = rw (had.rows.rows_are, had.costs, arcs, same) refl
+  parts_are =
+      rw (rows_are builder.class builder.rows i.jobs had.complete had.rows, had.costs, arcs, same)
+      refl
 
   -- so it is sound
   pub built_sound : IsInstance i → IsSound task

@@ -18,7 +18,7 @@ pub record HasTaken {A : Type 0} (problem : Problem) (argument count : Option �
   pub class_is : class_of problem ≡ Some builder.class
   pub machines_are : machines_for builder.class problem.count argument count ≡ Ok builder.machines
   pub complete : list_all (is_complete builder.class) jobs ≡ true
-  pub rows : HasRows builder.class builder.rows jobs
+  pub rows : HasRows builder.class builder.rows (map (data_of builder.class) jobs)
   pub summed : HasSummed builder.totals (map (data_of builder.class) jobs)
   pub costs : builder.costs.items ≡ kept_costs builder.class jobs
   pub sound : All IsStepCost builder.costs.items

@@ -1,6 +1,5 @@
-//! What a task knows of its jobs, in rows as narrow as its class allows.
-ghost use Rattle.std.specs.Prelude.{◌≡◌};
-ghost use Rattle.tf_model.specs.JobRows.{timed, weighted, with_due, released, in_shop};
+//! What a task knows of its jobs, in columns, of which it has those that its class uses.
+ghost use Rattle.std.specs.Prelude.{◌≡◌, [], ◌∷◌, ◌++◌, IfOk, if◌then◌else◌, slice_get, unwrap_or};
 
 use crate::class::Class;
 use std::alloc::{AllocError, Allocator};
@@ -58,111 +57,57 @@ impl Model for JobRow {
         } };
 }
 
-/// A job whose completion has a weight.
-#[derive(Clone, Copy)]
-pub(crate) struct WeightedRow {
-    pub(crate) time: u64,
-    pub(crate) weight: u64,
-}
-
-/// A job with a due date.
-#[derive(Clone, Copy)]
-pub(crate) struct DueRow {
-    pub(crate) time: u64,
-    pub(crate) due: i64,
-}
-
-/// A job with a release date and a due date.
-#[derive(Clone, Copy)]
-pub(crate) struct ReleasedRow {
-    pub(crate) time: u64,
-    pub(crate) release: u64,
-    pub(crate) due: i64,
-}
-
-/// A job of a shop.
-#[derive(Clone, Copy)]
-pub(crate) struct ShopRow {
-    pub(crate) first: u64,
-    pub(crate) second: u64,
-}
-
-/// The rows of jobs, in the order of their numbers: of each what its class uses. No class uses more
-/// than three numbers of a job, and most use two.
+/// The numbers of the jobs, in the order of the jobs. A column that the class does not use is empty.
 #[derive(Drop)]
-pub(crate) enum JobRows<A: Allocator> {
-    Timed(Vec<u64, A>),
-    Weighted(Vec<WeightedRow, A>),
-    Due(Vec<DueRow, A>),
-    Released(Vec<ReleasedRow, A>),
-    Shop(Vec<ShopRow, A>),
+pub(crate) struct JobRows<A: Allocator> {
+    firsts: Vec<u64, A>,
+    seconds: Vec<u64, A>,
+    weights: Vec<u64, A>,
+    releases: Vec<u64, A>,
+    dues: Vec<i64, A>,
 }
 
-impl<A: Allocator> JobRows<A> {
-    ghost use Rattle.std.specs.Prelude.{◌≡◌, ◌<◌, [], ◌∷◌, ◌++◌, length, slice_index_or, IfOk};
-    ghost use Rattle.tf_model.specs.SchedulingTask.{JobData};
-    ghost use Rattle.tf_model.specs.JobRows.{HasRows, rows_of, kept_by};
+impl<A: Allocator + Copy> JobRows<A> {
+    ghost use Rattle.std.specs.Prelude.{[], IfOk};
+    ghost use Rattle.tf_model.specs.JobRows.{HasRows};
 
     /// Of no job yet, with room for so many.
     pub(crate) fn new(alloc: A, class: Class, room: usize) -> Result<Self, AllocError>
         ensures { IfOk result (λ rows. HasRows class rows []) }
     {
-        if class.is_shop() {
-            return Ok(JobRows::Shop(Vec::with_capacity(alloc, room)?));
-        }
-        if class.is_weighted() {
-            return Ok(JobRows::Weighted(Vec::with_capacity(alloc, room)?));
-        }
-        if class.is_released() {
-            return Ok(JobRows::Released(Vec::with_capacity(alloc, room)?));
-        }
-        if class.is_due() {
-            return Ok(JobRows::Due(Vec::with_capacity(alloc, room)?));
-        }
-        Ok(JobRows::Timed(Vec::with_capacity(alloc, room)?))
+        Ok(JobRows {
+            firsts: Vec::with_capacity(alloc, room)?,
+            seconds: Vec::with_capacity(alloc, room_if(class.is_shop(), room))?,
+            weights: Vec::with_capacity(alloc, room_if(class.is_weighted(), room))?,
+            releases: Vec::with_capacity(alloc, room_if(class.is_released(), room))?,
+            dues: Vec::with_capacity(alloc, room_if(class.is_due(), room))?,
+        })
     }
+}
 
-    /// With one job more, of which it keeps what there is room for.
+impl<A: Allocator> JobRows<A> {
+    ghost use Rattle.std.specs.Prelude.{◌≡◌, ◌<◌, List, ◌∷◌, ◌++◌, length, slice_index_or, IfOk};
+    ghost use Rattle.tf_model.specs.SchedulingTask.{JobData};
+    ghost use Rattle.tf_model.specs.JobRows.{HasRows, rows_of};
+
+    /// With one job more, of which it keeps what the class uses.
     #[inline(always)]
-    pub(crate) fn push(&mut self, row: JobRow) -> Result<(), AllocError>
-        ensures rows { IfOk result (λ _.
-            rows_of self.new ≡ rows_of self.old ++ kept_by self.old row ∷ []) }
-        ensures kept { (d : JobData) → kept_by self.new d ≡ kept_by self.old d }
+    pub(crate) fn push(&mut self, class: Class, row: JobRow) -> Result<(), AllocError>
+        ensures { (jobs : List JobData) → HasRows class self.old jobs →
+            IfOk result (λ _. HasRows class self.new (jobs ++ row ∷ [])) }
     {
-        match self {
-            JobRows::Timed(rows) => rows.push(row.first)?,
-            JobRows::Weighted(rows) => rows.push(WeightedRow {
-                time: row.first,
-                weight: row.weight,
-            })?,
-            JobRows::Due(rows) => rows.push(DueRow {
-                time: row.first,
-                due: row.due,
-            })?,
-            JobRows::Released(rows) => rows.push(ReleasedRow {
-                time: row.first,
-                release: row.release,
-                due: row.due,
-            })?,
-            JobRows::Shop(rows) => rows.push(ShopRow {
-                first: row.first,
-                second: row.second,
-            })?,
-        }
-        Ok(())
+        self.firsts.push(row.first)?;
+        push_used(&mut self.seconds, class.is_shop(), row.second)?;
+        push_used(&mut self.weights, class.is_weighted(), row.weight)?;
+        push_used(&mut self.releases, class.is_released(), row.release)?;
+        push_used(&mut self.dues, class.is_due(), row.due)
     }
 
     /// How many jobs there are.
     pub(crate) fn len(&self) -> usize
         ensures { result ≡ length (rows_of self.now) }
     {
-        match self {
-            JobRows::Timed(rows) => rows.len(),
-            JobRows::Weighted(rows) => rows.len(),
-            JobRows::Due(rows) => rows.len(),
-            JobRows::Released(rows) => rows.len(),
-            JobRows::Shop(rows) => rows.len(),
-        }
+        self.firsts.len()
     }
 
     /// What is known of the job at this place.
@@ -171,61 +116,44 @@ impl<A: Allocator> JobRows<A> {
         requires { place < length (rows_of self.now) }
         ensures { (d : JobData) → slice_index_or (rows_of self.now) place d ≡ result }
     {
-        match self {
-            JobRows::Timed(rows) => timed(rows[place]),
-            JobRows::Weighted(rows) => weighted(rows[place]),
-            JobRows::Due(rows) => with_due(rows[place]),
-            JobRows::Released(rows) => released(rows[place]),
-            JobRows::Shop(rows) => in_shop(rows[place]),
+        JobRow {
+            first: self.firsts[place],
+            second: number_at(&self.seconds, place, 0),
+            weight: number_at(&self.weights, place, 1),
+            release: number_at(&self.releases, place, 0),
+            due: number_at(&self.dues, place, 0),
         }
     }
 }
 
-fn timed(time: u64) -> JobRow
-    ensures { result ≡ timed time }
+// The number at a place of a column; where there is none, what stands for it.
+#[inline(always)]
+fn number_at<T: Copy + Drop>(column: &[T], place: usize, neutral: T) -> T
+    ensures { result ≡ unwrap_or (slice_get column.now place) neutral }
 {
-    JobRow {
-        first: time,
-        second: 0,
-        weight: 1,
-        release: 0,
-        due: 0,
+    match column.get(place) {
+        Some(number) => *number,
+        None => neutral,
     }
 }
 
-fn weighted(row: WeightedRow) -> JobRow
-    ensures { result ≡ weighted row }
-{
-    JobRow {
-        weight: row.weight,
-        ..timed(row.time)
-    }
+// The room of a column.
+fn room_if(is_used: bool, room: usize) -> usize {
+    if is_used { room } else { 0 }
 }
 
-fn with_due(row: DueRow) -> JobRow
-    ensures { result ≡ with_due row }
+// The column with a number more, where it is used.
+#[inline(always)]
+fn push_used<T: Drop, A: Allocator>(
+    column: &mut Vec<T, A>,
+    is_used: bool,
+    number: T,
+) -> Result<(), AllocError>
+    ensures { IfOk result (λ _. column.new.items
+        ≡ column.old.items ++ (if is_used then number ∷ [] else [])) }
 {
-    JobRow {
-        due: row.due,
-        ..timed(row.time)
+    if is_used {
+        column.push(number)?;
     }
-}
-
-fn released(row: ReleasedRow) -> JobRow
-    ensures { result ≡ released row }
-{
-    JobRow {
-        release: row.release,
-        due: row.due,
-        ..timed(row.time)
-    }
-}
-
-fn in_shop(row: ShopRow) -> JobRow
-    ensures { result ≡ in_shop row }
-{
-    JobRow {
-        second: row.second,
-        ..timed(row.first)
-    }
+    Ok(())
 }

@@ -96,7 +96,7 @@ impl<A: Allocator + Copy> TaskBuilder<A> {
         }
         let row = row_of(self.class, &job);
         self.totals = self.totals.with(row);
-        self.rows.push(row).ok()?;
+        self.rows.push(self.class, row).ok()?;
         if self.class.is_costed() {
             self.costs.push(cost_of(self.alloc, job)).ok()?;
         }
