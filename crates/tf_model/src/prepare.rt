@@ -86,6 +86,9 @@ pub fn prepare<A: Allocator + Copy, B: Allocator>(
 ) -> Result<Task<A>, Refusal>
     ensures { Prepares result (prepared instance.now problem.now machines) }
 {
+    if let Some(task) = assemble(alloc, instance, problem, machines) {
+        return Ok(task);
+    }
     let Some(class) = class_of(problem) else {
         return Err(Refusal::NoSolver);
     };
@@ -93,10 +96,10 @@ pub fn prepare<A: Allocator + Copy, B: Allocator>(
         return Err(Refusal::TooManyJobs);
     }
     machines_for(class, problem.count, machines, instance.machines())?;
-    if let Some(refusal) = jobs_refusal(class, instance.jobs()) {
-        return Err(refusal);
+    match jobs_refusal(class, instance.jobs()) {
+        Some(refusal) => Err(refusal),
+        None => Err(Refusal::OutOfMemory),
     }
-    assemble(alloc, instance, problem, machines).ok_or(Refusal::OutOfMemory)
 }
 
 // Whether there are more jobs than the class allows.
@@ -221,12 +224,6 @@ pub(crate) fn is_complete<A: Allocator>(class: Class, job: &Job<A>) -> bool
         && (class.is_shop() || !has_zero_time(job))
 }
 
-fn are_complete<A: Allocator>(class: Class, jobs: &[Job<A>]) -> bool
-    ensures { result ≡ list_all (is_complete class) jobs.now }
-{
-    jobs.iter().all(|job| is_complete(class, job))
-}
-
 // A number that is not negative.
 fn as_time(number: i64) -> u64
     ensures { result ≡ as_time number }
@@ -275,23 +272,11 @@ fn totals_of<A: Allocator>(class: Class, jobs: &[Job<A>]) -> JobTotals
     totals
 }
 
-fn total_refusal<A: Allocator>(class: Class, jobs: &[Job<A>]) -> Option<Refusal>
-    requires { length jobs.now ≤ MOST_JOBS }
-    ensures { result ≡ then_some (is_too_large class (map (data_of class) jobs.now)) TotalTooLarge }
-{
-    totals_of(class, jobs)
-        .is_too_large(class)
-        .then_some(Refusal::TotalTooLarge)
-}
-
-// The first refusal for the jobs' sake. Mostly there is none, which one walk tells.
+// The first refusal for the jobs' sake.
 fn jobs_refusal<A: Allocator>(class: Class, jobs: &[Job<A>]) -> Option<Refusal>
     requires { length jobs.now ≤ MOST_JOBS }
     ensures { result ≡ jobs_refusal class jobs.now }
 {
-    if are_complete(class, jobs) {
-        return total_refusal(class, jobs);
-    }
     if let Some(job) = numbered(wrong_times_at(class, jobs)) {
         return Some(Refusal::WrongTimes(job));
     }
@@ -303,10 +288,12 @@ fn jobs_refusal<A: Allocator>(class: Class, jobs: &[Job<A>]) -> Option<Refusal>
     {
         return Some(Refusal::ZeroTime(job));
     }
-    total_refusal(class, jobs)
+    totals_of(class, jobs)
+        .is_too_large(class)
+        .then_some(Refusal::TotalTooLarge)
 }
 
-// The task of what was accepted, where memory is not wanting.
+// The task, where nothing is refused and memory is not wanting.
 fn assemble<A: Allocator + Copy, B: Allocator>(
     alloc: A,
     instance: &Instance<B>,

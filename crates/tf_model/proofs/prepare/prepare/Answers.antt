@@ -1,7 +1,7 @@
-use Rattle.std.proofs.Common.{◌≡◌, ℕ, ◌+◌, Option, None, Some, Result, Ok, Err, List, [], ◌∷◌, refl, ap, sym, ◌∙◌, subst, Bool, true, false, cond, map, length}
+use Rattle.std.proofs.Common.{◌≡◌, ℕ, ◌+◌, Option, None, Some, Result, Ok, Err, List, [], ◌∷◌, refl, ap, sym, ◌∙◌, Bool, true, false, cond, map, length}
 use Rattle.std.specs.Bool.{then_some}
-use Rattle.std.specs.Prelude.{IfSome, IsOk}
-use Rattle.std.specs.Option.{option_map, option_or, ok_or}
+use Rattle.std.specs.Prelude.{IsOk}
+use Rattle.std.specs.Option.{option_map, option_or}
 use Rattle.tf_model.specs.ClassTable.{class_of}
 use Rattle.tf_model.specs.declared.class.Class.{Class}
 use Rattle.tf_model.specs.declared.problem.Problem.{Problem}
@@ -79,33 +79,25 @@ prepared-Ok i problem argument count class m jobs of few read_count counted read
     let none : jobs_refusal class i.jobs ≡ None = sym (e ∙ ap (jobs_refusal class) read_jobs) in
     rw (← of, few, count_is, none) refl
 
--- the task that was assembled, or want of memory
-assembled : (o : Option SchedulingTask) (wanted : Result SchedulingTask Refusal)
-    → IfSome o (λ task. wanted ≡ Ok task) → IsOk wanted → Prepares (ok_or o OutOfMemory) wanted
-assembled (Some task) wanted is ok = is
-assembled None wanted is ok = ok
-
 pub returns-in-Some-jobs_refusal : goal.returns-in-Some-jobs_refusal
 returns-in-Some-jobs_refusal g c =
     refused c.in-Some-jobs_refusal.refusal _
-    (λ e. memory_apart c.in-Some.class c.jobs.result.now
+    (λ e. memory_apart c.in-Some-class_of.class c.jobs.result.now
     (sym c.in-Some-jobs_refusal.ensures ∙ ap Some e))
     (prepared-Err c.args.instance.now c.args.problem.now c.args.machines c.machines.result
-    c.in-Some.class c.in_ok-machines_for.field-0 c.jobs.result.now c.in-Some-jobs_refusal.refusal
-    c.in-Some.ensures.value
-    (ap (is_too_many c.in-Some.class) (sym c.len.ensures.value) ∙ sym c.is_too_many.ensures
+    c.in-Some-class_of.class c.in_ok-machines_for.field-0 c.jobs.result.now
+    c.in-Some-jobs_refusal.refusal c.in-Some-class_of.ensures.value
+    (ap (is_too_many c.in-Some-class_of.class) (sym c.len.ensures.value) ∙ sym c.is_too_many.ensures
     ∙ c.if-is_too_many.false)
     c.machines.ensures.value c.in_ok-machines_for.ensures c.jobs.ensures.value
     c.in-Some-jobs_refusal.ensures)
 
-pub returns : goal.returns
-returns g c =
-    subst (λ r. Prepares r (prepared c.args.instance.now c.args.problem.now c.args.machines))
-    (sym c.ok_or.ensures.value)
-    (assembled c.assemble.result _ c.assemble.ensures
-    (prepared-Ok c.args.instance.now c.args.problem.now c.args.machines c.machines.result
-    c.in-Some.class c.in_ok-machines_for.field-0 c.jobs.result.now c.in-Some.ensures.value
-    (ap (is_too_many c.in-Some.class) (sym c.len.ensures.value) ∙ sym c.is_too_many.ensures
+pub returns-in-None : goal.returns-in-None
+returns-in-None g c =
+    prepared-Ok c.args.instance.now c.args.problem.now c.args.machines c.machines.result
+    c.in-Some-class_of.class c.in_ok-machines_for.field-0 c.jobs.result.now
+    c.in-Some-class_of.ensures.value
+    (ap (is_too_many c.in-Some-class_of.class) (sym c.len.ensures.value) ∙ sym c.is_too_many.ensures
     ∙ c.if-is_too_many.false)
     c.machines.ensures.value c.in_ok-machines_for.ensures c.jobs.ensures.value
-    c.in_default-jobs_refusal.ensures))
+    c.in-None.ensures
