@@ -1,7 +1,7 @@
-//! Arcs, found by the job that they lead to.
-ghost use Rattle.std.specs.Prelude.{◌≡◌, ℕ, length};
+//! Arcs, counted at both of their jobs and found by the job that they lead to.
+ghost use Rattle.std.specs.Prelude.{◌≡◌, ℕ, length, IfOk};
 ghost use Rattle.tf_model.specs.SchedulingTask.{IsJob};
-ghost use Rattle.tf_single.specs.ArcCounts.{AreArcsTo};
+ghost use Rattle.tf_single.specs.ArcCounts.{AreArcsFrom, AreArcsTo};
 ghost use Rattle.tf_single.specs.ArcsInto.{arcs_before};
 ghost use Rattle.tf_single.specs.Progress.{of_job};
 
@@ -9,6 +9,23 @@ use std::alloc::Allocator;
 use tf_model::ids::JobId;
 use tf_model::memory::OutOfMemory;
 use tf_model::task::Task;
+
+/// For each job of a task, how many arcs lead from it, and how many lead to it.
+pub(crate) fn arc_counts<A: Allocator + Copy, B: Allocator>(
+    alloc: A,
+    task: &Task<B>,
+) -> Result<(Vec<u32, A>, Vec<u32, A>), OutOfMemory>
+    ensures successors { IfOk result (λ counts. AreArcsFrom task.now counts.0.items) }
+    ensures predecessors { IfOk result (λ counts. AreArcsTo task.now counts.1.items) }
+{
+    let mut successors = vec![in alloc; 0_u32; task.len()]?;
+    let mut predecessors = vec![in alloc; 0_u32; task.len()]?;
+    for (before, after) in task.arcs() {
+        successors[before.place()] += 1;
+        predecessors[after.place()] += 1;
+    }
+    Ok((successors, predecessors))
+}
 
 /// The arcs of a task, in one list by the job that they lead to.
 #[derive(Drop)]

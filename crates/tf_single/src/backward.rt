@@ -6,8 +6,7 @@ ghost use Rattle.tf_model.specs.Sound.{IsSound};
 ghost use Rattle.tf_single.specs.Backward.{AreChosen, IsDearest, rest_of};
 ghost use Rattle.tf_single.specs.NotSolved.{IsNotSolved};
 
-use crate::arc_counts::ArcCounts;
-use crate::arcs_into::ArcsInto;
+use crate::arcs_into::{ArcsInto, arc_counts};
 use crate::cycle::cycle;
 use crate::free_jobs::{FreeJobs, LastJob};
 use crate::lawler_fault::LawlerFault;
@@ -48,9 +47,9 @@ pub(crate) fn last_first<A: Allocator + Copy, B: Allocator, F: FreeJobs + Drop>(
         × IsDearest task.now order.jobs.items order.dearest)
         (IsNotSolved task.now) }
 {
-    let counts = ArcCounts::of(alloc, task)?;
-    let arcs = ArcsInto::of(alloc, task, counts.predecessors)?;
-    let mut open = Open::new(task, taken, counts.successors, free)?;
+    let (successors, predecessors) = arc_counts(alloc, task)?;
+    let arcs = ArcsInto::of(alloc, task, predecessors)?;
+    let mut open = Open::new(task, taken, successors, free)?;
     let mut dearest = None;
     for place in 0..task.len() {
         if open.free.is_empty() {

@@ -64,41 +64,35 @@ impl<C: Cost, A: Allocator> FreeJobs for ByCost<'_, C, A> {
 
     fn take_last<B: Allocator>(&mut self, task: &Task<B>, work: u64) -> LastJob {
         let costs = self.costs;
-        let cheapest = cheapest(task, costs, self.free.as_mut_slice(), work);
+        let (place, cost) = cheapest(task, costs, self.free.as_mut_slice(), work);
         LastJob {
-            job: self.free.swap_remove(cheapest.place).job,
-            cost: cheapest.cost,
+            job: self.free.swap_remove(place).job,
+            cost,
         }
     }
 }
 
-// A free job, and what it costs.
-#[derive(Clone, Copy)]
-struct Found {
-    place: usize,
-    cost: i64,
-}
-
-// The cheapest of these jobs if it completes at `end`, of the greatest number among equals.
+// The place of the cheapest of these jobs if it completes at `end`, of the greatest number among
+// equals, and what it costs.
 fn cheapest<B: Allocator, C: Cost>(
     task: &Task<B>,
     costs: &[C],
     free: &mut [CostedJob],
     end: u64,
-) -> Found
+) -> (usize, i64)
     requires costs { AreCosts C.cost_at task.now costs.now }
     requires some { 0 < length free.old }
     requires known { All (IsJob task.now) (jobs_of free.old) }
     requires end { end ≤ limit }
     requires levels { All (HasLevel task.now end) free.old }
-    ensures within { result.place < length free.new }
-    ensures cost { result.cost
-        ≡ price task.now (slice_index (jobs_of free.new) result.place) end }
+    ensures within { result.0 < length free.new }
+    ensures cost { result.1
+        ≡ price task.now (slice_index (jobs_of free.new) result.0) end }
     ensures cheapest { (k : ℕ) → k < length free.new
-        → result.cost ≤ℤ price task.now (slice_index (jobs_of free.new) k) end }
+        → result.1 ≤ℤ price task.now (slice_index (jobs_of free.new) k) end }
     ensures ties { (k : ℕ) → k < length free.new
-        → price task.now (slice_index (jobs_of free.new) k) end ≡ result.cost
-        → slice_index (jobs_of free.new) k ≤ slice_index (jobs_of free.new) result.place }
+        → price task.now (slice_index (jobs_of free.new) k) end ≡ result.1
+        → slice_index (jobs_of free.new) k ≤ slice_index (jobs_of free.new) result.0 }
     ensures jobs { jobs_of free.new ≡ jobs_of free.old }
     ensures levels { All (HasLevel task.now end) free.new }
 {
@@ -117,5 +111,5 @@ fn cheapest<B: Allocator, C: Cost>(
             least = cost;
         }
     }
-    Found { place, cost: least }
+    (place, least)
 }

@@ -14,52 +14,27 @@ use tf_model::task::Task;
 
 /// Free jobs by their due dates, which are their keys: what is due last is the least late, whatever
 /// the work.
-#[derive(Drop)]
-pub(crate) struct ByDue<A: Allocator> {
-    jobs: GreatestFirst<KeyedJob, A>,
-}
-
-impl<A: Allocator + Copy> ByDue<A> {
-    ghost use Rattle.std.specs.Prelude.{◌≡◌, [], IsTrue, IfOk};
-    ghost use Rattle.tf_model.specs.ClassTable.{is_due};
+impl<A: Allocator + Copy> FreeJobs for GreatestFirst<KeyedJob, A> {
     ghost use Rattle.tf_check.specs.KeyedJob.{key_cmp};
     ghost use Rattle.tf_single.specs.ByDue.{AreDue, jobs_due};
     ghost use Rattle.tf_single.specs.GreatestFirst.{AreOrdered, entries};
 
-    /// No job is free.
-    pub(crate) fn new<B: Allocator>(alloc: A, task: &Task<B>) -> Result<Self, OutOfMemory>
-        requires { IsTrue (is_due task.now.class) }
-        ensures none { IfOk result (λ free. jobs_due (entries free.jobs) ≡ []) }
-        ensures due { IfOk result (λ free. AreDue task.now (entries free.jobs)) }
-        ensures ordered { IfOk result (λ free. AreOrdered key_cmp free.jobs) }
-    {
-        Ok(ByDue {
-            jobs: GreatestFirst::new(alloc, task.len())?,
-        })
-    }
-}
+    ghost jobs_of = { λ free. jobs_due (entries free) };
 
-impl<A: Allocator + Copy> FreeJobs for ByDue<A> {
-    ghost use Rattle.tf_check.specs.KeyedJob.{key_cmp};
-    ghost use Rattle.tf_single.specs.ByDue.{AreDue, jobs_due};
-    ghost use Rattle.tf_single.specs.GreatestFirst.{AreOrdered, entries};
-
-    ghost jobs_of = { λ free. jobs_due (entries free.jobs) };
-
-    ghost IsKept = { λ free k _. AreDue k (entries free.jobs) × AreOrdered key_cmp free.jobs };
+    ghost IsKept = { λ free k _. AreDue k (entries free) × AreOrdered key_cmp free };
 
     fn is_empty(&self) -> bool {
-        self.jobs.is_empty()
+        GreatestFirst::is_empty(self)
     }
 
     fn add<B: Allocator>(&mut self, task: &Task<B>, job: JobId) -> Result<(), OutOfMemory> {
         let key = task.due(job);
-        self.jobs.push(KeyedJob { key, job })?;
+        self.push(KeyedJob { key, job })?;
         Ok(())
     }
 
     fn take_last<B: Allocator>(&mut self, _: &Task<B>, work: u64) -> LastJob {
-        let KeyedJob { key: due, job } = self.jobs.pop();
+        let KeyedJob { key: due, job } = self.pop();
         LastJob {
             job,
             cost: Late { due }.value_at(work as i64),

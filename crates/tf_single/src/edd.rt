@@ -102,13 +102,6 @@ fn completions<A: Allocator, B: Allocator>(
     Ok(ends)
 }
 
-fn start_of(piece: &Piece) -> u64
-    requires { IsPiece piece.now }
-    ensures { result ≡ as_time piece.now.start }
-{
-    piece.start as u64
-}
-
 fn stop_of(piece: &Piece) -> u64
     requires { IsPiece piece.now }
     ensures { result ≡ as_time piece.now.stop }
@@ -172,7 +165,7 @@ fn stretch_with<B: Allocator>(task: &Task<B>, piece: &Piece, due: i64, start: u6
     requires job { IsJob task.now piece.now.job }
     ensures { IsStretchStart task.now due start over piece.now result }
 {
-    let begin = start_of(piece);
+    let begin = piece.start as u64;
     if due < task.due(piece.job) {
         stop_of(piece)
     } else if over < begin {

@@ -7,7 +7,6 @@ ghost use Rattle.tf_model.specs.SchedulingTask.{IsJob};
 ghost use Rattle.tf_model.specs.Sound.{IsSound};
 ghost use Rattle.tf_schedule.specs.Schedule.{IsSchedule};
 ghost use Rattle.tf_check.specs.Accepted.{IsAccepted};
-ghost use Rattle.tf_check.specs.Free.{AreMarks};
 ghost use Rattle.tf_check.specs.Kinds.{takes_last_of};
 ghost use Rattle.tf_single.specs.Backward.{AreChosen, IsDearest, rest_of};
 ghost use Rattle.tf_single.specs.Costs.{AreCosts};
@@ -16,12 +15,14 @@ ghost use Rattle.tf_single.specs.NotSolved.{IsNotSolved};
 
 use crate::backward::{LastFirst, last_first};
 use crate::by_cost::ByCost;
-use crate::by_due::{ByDue, ByNearDue, near_due};
+use crate::by_due::{ByNearDue, near_due};
 use crate::free_jobs::FreeJobs;
+use crate::greatest_first::GreatestFirst;
 use crate::lawler_fault::LawlerFault;
 use std::alloc::Allocator;
 use tf_check::answer::Answer;
 use tf_check::certificate::Certificate;
+use tf_check::keyed_job::KeyedJob;
 use tf_check::last_of::LastOf;
 use tf_model::cost::Cost;
 use tf_model::ids::JobId;
@@ -78,7 +79,10 @@ pub fn lawler_by_due<A: Allocator + Copy, B: Allocator>(
     let taken = Vec::with_capacity(alloc, task.len())?;
     match near_due(task) {
         Some(least) => from_the_back(alloc, task, taken, ByNearDue::new(alloc, task, least)?),
-        None => from_the_back(alloc, task, taken, ByDue::new(alloc, task)?),
+        None => {
+            let free: GreatestFirst<KeyedJob, A> = GreatestFirst::new(alloc, task.len())?;
+            from_the_back(alloc, task, taken, free)
+        }
     }
 }
 
@@ -131,24 +135,7 @@ fn answer_of<A: Allocator + Copy, B: Allocator>(
     })
 }
 
-// Job by job, whether it was taken.
-fn taken_marks<A: Allocator, B: Allocator>(
-    alloc: A,
-    task: &Task<B>,
-    taken: &[JobId],
-) -> Result<Vec<bool, A>, OutOfMemory>
-    requires { All (IsJob task.now) taken.now }
-    ensures { IfOk result (λ v. AreMarks task.now v.items taken.now) }
-{
-    let mut marks = vec![in alloc; false; task.len()]?;
-    for job in taken {
-        marks[job.place()] = true;
-    }
-    Ok(marks)
-}
-
 // The jobs that are left when these are taken, in rising order.
-#[tactic(auto, using(crate::proofs::Ranges::filter_range_keeps, crate::proofs::Ranges::filter_range_skips))]
 fn left_jobs<A: Allocator + Copy, B: Allocator>(
     alloc: A,
     task: &Task<B>,
@@ -157,10 +144,13 @@ fn left_jobs<A: Allocator + Copy, B: Allocator>(
     requires { All (IsJob task.now) taken.now }
     ensures { IfOk result (λ v. v.items ≡ rest_of task.now taken.now) }
 {
-    let marks = taken_marks(alloc, task, taken)?;
+    let mut is_taken = vec![in alloc; false; task.len()]?;
+    for job in taken {
+        is_taken[job.place()] = true;
+    }
     let mut left = Vec::with_capacity(alloc, task.len())?;
     for k in 0..task.len() {
-        if !marks[k] {
+        if !is_taken[k] {
             left.push(JobId::at(k))?;
         }
     }

@@ -1,7 +1,6 @@
 //! Solvers for one machine.
 #![tactic(auto)]
 
-mod arc_counts;
 mod arcs_into;
 mod backward;
 mod by_cost;

@@ -1,15 +1,13 @@
 //! The timetable of earliest due dates.
 ghost use Rattle.std.specs.Prelude.{◌≡◌, ℕ, ◌+◌, ◌*◌, ◌<◌, ◌≤◌, ◌⊎◌, ◌++◌, length, map, [], IfOk};
-ghost use Rattle.std.specs.List.{All};
 ghost use Rattle.std.specs.List.Sorted.{IsPermutation};
 ghost use Rattle.std.specs.BinaryHeap.{heap_items};
 ghost use Rattle.tf_model.specs.Limit.{limit};
 ghost use Rattle.tf_model.specs.SchedulingTask.{all_jobs, job_data, time_of};
 ghost use Rattle.tf_model.specs.Sound.{IsSound};
 ghost use Rattle.tf_model.specs.declared.class.Class.TheVariants.{ReleaseLmax};
-ghost use Rattle.tf_check.specs.RatioRank.{job_in};
 ghost use Rattle.tf_single.specs.Progress.{IsTimeline};
-ghost use Rattle.tf_single.specs.Agenda.{AreByRelease, IsReleaseRank, IsUnderway, IsLonger};
+ghost use Rattle.tf_single.specs.Agenda.{AreByRelease, IsUnderway, IsLonger};
 
 use std::alloc::Allocator;
 use std::cmp::Reverse;
@@ -61,27 +59,14 @@ fn jobs_by_release<A: Allocator + Copy, B: Allocator>(
     ensures in_order { IfOk result (λ v. AreByRelease task.now v.items) }
 {
     let mut jobs = Vec::with_capacity(alloc, task.len())?;
-    let mut ranks = ranks_of(alloc, task)?;
-    ranks.sort_unstable();
-    push_jobs(&mut jobs, &ranks)?;
-    Ok(jobs)
-}
-
-// Of each job the release date and then the number, as one number.
-fn ranks_of<A: Allocator, B: Allocator>(
-    alloc: A,
-    task: &Task<B>,
-) -> Result<Vec<u128, A>, OutOfMemory>
-    requires { task.now.class ≡ ReleaseLmax }
-    ensures jobs { IfOk result (λ v. map job_in v.items ≡ all_jobs task.now) }
-    ensures ranks { IfOk result (λ v. All (IsReleaseRank task.now) v.items) }
-{
     let mut ranks = Vec::with_capacity(alloc, task.len())?;
     for k in 0..task.len() {
         let job = JobId::at(k);
         ranks.push(rank_at(task.release(job), job))?;
     }
-    Ok(ranks)
+    ranks.sort_unstable();
+    push_jobs(&mut jobs, &ranks)?;
+    Ok(jobs)
 }
 
 // The time of each job.

@@ -17,15 +17,15 @@ pub returns : goal.returns
 returns g c =
     let k = c.args.task.now in
     let work : ℕ = c.args.work in
-    let place : ℕ = c.cheapest-cheapest.result.place in
+    let place : ℕ = c.cheapest-place.result.0 in
     let found : CostedJob = c.swap_remove.result in
     let before : List CostedJob = c.args.self.now.free.items in
-    let free : List CostedJob = c.cheapest-cheapest.new.free in
+    let free : List CostedJob = c.cheapest-place.new.free in
     let others : List CostedJob = drop (length free) before in
     let lent : ◌≡◌ {A = List CostedJob} c.as_mut_slice.result.now before =
     c.as_mut_slice.ensures.value in
     let jobs : jobs_of free ≡ jobs_of before =
-    c.cheapest-cheapest.ensures.jobs ∙ ap jobs_of lent in
+    c.cheapest-place.ensures.jobs ∙ ap jobs_of lent in
     let whole : take c.args.self.now.free.len (free ++ others) ≡ free =
     ap (λ n. take n (free ++ others))
     (omega (
@@ -36,7 +36,7 @@ returns g c =
       c.args.self.now.free.ok.0,
     ))
     ∙ take-append_seam free others in
-    let within : place < length free = c.cheapest-cheapest.ensures.within in
+    let within : place < length free = c.cheapest-place.ensures.within in
     let value =
     subst (λ xs. found ≡ slice_index_or xs place found) whole c.swap_remove.ensures.value in
     let rest : List CostedJob = c.swap_remove.new.self.items in
@@ -53,26 +53,26 @@ returns g c =
     ∙ at.2 in
     let found_in : (j : ℕ) (at : Contains (jobs_of before) j) → at.0 < length free = λ j at.
     omega (arith, at.1, ap length jobs, length-map free (λ x. x.job)) in
-    rw (to_z-of_z w64 c.cheapest-cheapest.result.cost (search rules))
+    rw (to_z-of_z w64 c.cheapest-place.result.1 (search rules))
     (record {
       jobs = subst (λ js. IsPermutation js (found.job ∷ jobs_of rest)) jobs
           (IsPermutation-map (λ x. x.job) free (found ∷ rest) moved);
-      cost = c.cheapest-cheapest.ensures.cost ∙ ap (λ j. price k j work) (sym at_place);
+      cost = c.cheapest-place.ensures.cost ∙ ap (λ j. price k j work) (sym at_place);
       cheapest = λ j at.
           let here = found_at j at in
           let inside = found_in j at in
-          subst (λ z. c.cheapest-cheapest.result.cost ≤ℤ price k z work) here
-          (c.cheapest-cheapest.ensures.cheapest at.0 inside);
+          subst (λ z. c.cheapest-place.result.1 ≤ℤ price k z work) here
+          (c.cheapest-place.ensures.cheapest at.0 inside);
       ties = λ j at same.
           let here = found_at j at in
           let least : price k (slice_index (jobs_of free) at.0) work
-          ≡ c.cheapest-cheapest.result.cost = ap (λ z. price k z work) here ∙ same in
-          omega (arith, here, at_place, c.cheapest-cheapest.ensures.ties at.0 (found_in j at) least);
+          ≡ c.cheapest-place.result.1 = ap (λ z. price k z work) here ∙ same in
+          omega (arith, here, at_place, c.cheapest-place.ensures.ties at.0 (found_in j at) least);
       kept = λ end le. (
         c.requires.kept.0,
         λ n d h e from to small.
             All-tail (HasLevel k work) found rest
             (All-permutation (HasLevel k work) free (found ∷ rest) moved
-            c.cheapest-cheapest.ensures.levels) n d h e from (omega (arith, to, le)) small,
+            c.cheapest-place.ensures.levels) n d h e from (omega (arith, to, le)) small,
       );
     })

@@ -1,7 +1,7 @@
 use Rattle.std.proofs.Common.{ℕ, List, arith}
 use Rattle.tf_model.specs.SchedulingTask.{SchedulingTask}
 use Rattle.tf_single.proofs.ArcCounts.{next_from, next_to, none_counted, all_counted}
-use Rattle.tf_single.proofs.arc_counts.ArcCounts.of.Goals as goal
+use Rattle.tf_single.proofs.arcs_into.arc_counts.Goals as goal
 
 pub loop-before-init : goal.loop-before-init
 loop-before-init g c = record {

@@ -1,6 +1,6 @@
 use Rattle.std.proofs.Common.{take}
 use Rattle.tf_single.specs.ArcCounts.{AreCounts}
-use Rattle.tf_single.proofs.arc_counts.ArcCounts.of.Given as goal
+use Rattle.tf_single.proofs.arcs_into.arc_counts.Given as goal
 
 abbrev pub invariant-loop-before : goal.invariant-loop-before
 invariant-loop-before g l = record {
