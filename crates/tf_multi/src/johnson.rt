@@ -1,7 +1,7 @@
 //! Flow shops with two machines.
 ghost use Rattle.std.specs.Prelude.{◌≡◌, ◌+◌, ◌≤◌, take, pos, Ok, IfOk, IsTrue};
 ghost use Rattle.std.specs.List.{sum_by};
-ghost use Rattle.std.specs.List.Sorted.{IsPermutation, IsNonDecreasing};
+ghost use Rattle.std.specs.List.Sorted.{IsPermutation};
 ghost use Rattle.tf_model.specs.ClassTable.{is_flow};
 ghost use Rattle.tf_model.specs.Limit.{limit};
 ghost use Rattle.tf_model.specs.SchedulingTask.{all_jobs};
@@ -104,30 +104,19 @@ fn split_at<A: Allocator, B: Allocator>(
         (BySplit split.side split.delta split.first)) }
 {
     let job = order[turn.late];
-    let first = task.time_on(job, machine_of(true));
-    let second = task.time_on(job, machine_of(false));
-    if first <= second {
-        let side = rising(alloc, &order[..turn.late])?;
-        return Ok(Split {
-            side: JobList::new(side),
-            delta: first as i64,
-            first: true,
-        });
-    }
-    let side = rising(alloc, &order[..turn.late + 1])?;
+    let on_first = task.time_on(job, machine_of(true));
+    let on_second = task.time_on(job, machine_of(false));
+    let (count, delta, first) = if on_first <= on_second {
+        (turn.late, on_first, true)
+    } else {
+        (turn.late + 1, on_second, false)
+    };
+    // In rising order.
+    let mut side = order[..count].to_vec(alloc)?;
+    side.sort_unstable();
     Ok(Split {
         side: JobList::new(side),
-        delta: second as i64,
-        first: false,
+        delta: delta as i64,
+        first,
     })
-}
-
-// The jobs in rising order.
-fn rising<A: Allocator>(alloc: A, jobs: &[JobId]) -> Result<Vec<JobId, A>, OutOfMemory>
-    ensures jobs { IfOk result (λ sorted. IsPermutation jobs.now sorted.items) }
-    ensures rising { IfOk result (λ sorted. IsNonDecreasing sorted.items) }
-{
-    let mut sorted = jobs.to_vec(alloc)?;
-    sorted.sort_unstable();
-    Ok(sorted)
 }

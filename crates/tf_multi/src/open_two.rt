@@ -151,7 +151,7 @@ fn push_group<A: Allocator, B: Allocator>(
 {
     for k in 0..task.len() {
         let job = JobId::at(k);
-        if is_in_group(task, leader, early, job) {
+        if job != leader && is_early(task, job) == early {
             jobs.push(job)?;
         }
     }
@@ -214,20 +214,6 @@ fn push_in_part<A: Allocator>(
     }
     pieces.push(Piece::of(operation.job, operation.machine, start, over))?;
     Ok(over)
-}
-
-fn is_in_group<B: Allocator>(task: &Task<B>, leader: JobId, early: bool, job: JobId) -> bool
-    requires { IsJob task.now job }
-    ensures { result ≡ is_in_group task.now leader early job }
-{
-    if job == leader {
-        return false;
-    }
-    if early {
-        is_early(task, job)
-    } else {
-        !is_early(task, job)
-    }
 }
 
 fn is_early<B: Allocator>(task: &Task<B>, job: JobId) -> bool

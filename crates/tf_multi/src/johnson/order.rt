@@ -1,8 +1,7 @@
 //! Johnson's order.
-ghost use Rattle.std.specs.Prelude.{◌≡◌, ◌<◌, ◌≤◌, ◌++◌, map, IfOk};
-ghost use Rattle.std.specs.List.{All};
+ghost use Rattle.std.specs.Prelude.{◌≡◌, ◌<◌, ◌≤◌, IfOk};
 ghost use Rattle.tf_model.specs.Limit.{limit};
-ghost use Rattle.tf_model.specs.SchedulingTask.{IsJob, all_jobs, time_of};
+ghost use Rattle.tf_model.specs.SchedulingTask.{IsJob, time_of};
 ghost use Rattle.tf_check.specs.RatioRank.{job_in};
 ghost use Rattle.tf_multi.specs.FlowShop.{IsRanked};
 ghost use Rattle.tf_multi.specs.Johnson.{IsJohnsonOrder};
@@ -26,25 +25,13 @@ pub(super) fn johnson_order<A: Allocator + Copy, B: Allocator>(
     ensures { IfOk result (λ order. IsJohnsonOrder task.now order.items) }
 {
     let mut order = Vec::with_capacity(alloc, task.len())?;
-    let mut ranks = ranks_of(alloc, task)?;
-    ranks.sort_unstable();
-    push_jobs(&mut order, &ranks)?;
-    Ok(order)
-}
-
-// The ranks of all jobs.
-fn ranks_of<A: Allocator, B: Allocator>(
-    alloc: A,
-    task: &Task<B>,
-) -> Result<Vec<u128, A>, OutOfMemory>
-    ensures jobs { IfOk result (λ ranks. map job_in ranks.items ≡ all_jobs task.now) }
-    ensures ranks { IfOk result (λ ranks. All (IsRanked task.now) ranks.items) }
-{
     let mut ranks = Vec::with_capacity(alloc, task.len())?;
     for k in 0..task.len() {
         ranks.push(rank_in(task, JobId::at(k)))?;
     }
-    Ok(ranks)
+    ranks.sort_unstable();
+    push_jobs(&mut order, &ranks)?;
+    Ok(order)
 }
 
 // Where a job belongs in the order, and then its number, as one number.

@@ -1,5 +1,5 @@
 //! The pieces on machine 2, and the job at which the split of Johnson's order turns.
-ghost use Rattle.std.specs.Prelude.{◌≡◌, ◌+◌, ◌<◌, ◌≤◌, max, take, IfOk};
+ghost use Rattle.std.specs.Prelude.{◌≡◌, ◌+◌, ◌≤◌, take, IfOk};
 ghost use Rattle.std.specs.List.{sum_by};
 ghost use Rattle.tf_model.specs.Limit.{limit};
 ghost use Rattle.tf_model.specs.Sound.{IsSound};
@@ -10,17 +10,15 @@ ghost use Rattle.tf_multi.specs.TwoMachines.{time_at, on_machine, in_line};
 use crate::two_machines::{machine_of, operation};
 use std::alloc::Allocator;
 use tf_model::ids::JobId;
-use tf_model::job_rows::JobRow;
 use tf_model::memory::OutOfMemory;
 use tf_model::task::Task;
 use tf_schedule::piece::Piece;
 use tf_schedule::semi_active::push_stretch;
 
-// When the two machines are free of some jobs of a line, and the place of the last of them whose
-// end on machine 1 came after all earlier work on machine 2.
+// When machine 2 has completed the jobs of a line, and the place of the last of them whose end on
+// machine 1 came after all earlier work on machine 2.
 #[derive(Clone, Copy)]
 pub(super) struct Turn {
-    first: u64,
     pub(super) second: u64,
     pub(super) late: usize,
 }
@@ -46,38 +44,18 @@ pub(super) fn lay_second<A: Allocator, B: Allocator>(
         + sum_by (λ j. time_at task.now j 2) order.now) }
     ensures small { IfOk result (λ turn. turn.second ≤ limit) }
 {
-    let mut turn = Turn {
-        first: 0,
-        second: 0,
-        late: 0,
-    };
+    let mut first: u64 = 0;
+    let mut second: u64 = 0;
+    let mut late: usize = 0;
     for (i, job) in order.iter().enumerate() {
-        turn = pass(turn, i, task.job(*job));
+        let row = task.job(*job);
+        first += row.first;
+        if first > second {
+            late = i;
+        }
+        second = first.max(second) + row.second;
         let operation = operation(task, *job, machine_of(false));
-        push_stretch(pieces, operation, turn.second - operation.time)?;
+        push_stretch(pieces, operation, second - operation.time)?;
     }
-    Ok(turn)
-}
-
-// With one more job, at place i.
-fn pass(turn: Turn, i: usize, row: JobRow) -> Turn
-    requires { max (turn.first + row.first) turn.second + row.second ≤ limit }
-    ensures first { result.first ≡ turn.first + row.first }
-    ensures second { result.second ≡ max (turn.first + row.first) turn.second + row.second }
-    ensures late { turn.second < turn.first + row.first → result.late ≡ i }
-    ensures same { turn.first + row.first ≤ turn.second → result.late ≡ turn.late }
-{
-    let first = turn.first + row.first;
-    if first > turn.second {
-        return Turn {
-            first,
-            second: first + row.second,
-            late: i,
-        };
-    }
-    Turn {
-        first,
-        second: turn.second + row.second,
-        late: turn.late,
-    }
+    Ok(Turn { second, late })
 }
