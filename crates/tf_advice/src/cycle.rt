@@ -17,6 +17,15 @@ struct ArcLine<'a> {
     line: Option<SourceLine<'a>>,
 }
 
+impl<'a> ArcLine<'a> {
+    // Takes the line of an arc, if it is the first one of this arc.
+    fn offer(&mut self, before: Number, after: Number, line: SourceLine<'a>) {
+        if self.line.is_none() && self.before == before && self.after == after {
+            self.line = Some(line);
+        }
+    }
+}
+
 /// Each arc of the cycle that these jobs make.
 pub fn explain_cycle(
     page: &mut Page,
@@ -29,13 +38,7 @@ pub fn explain_cycle(
     } else {
         "These precedence constraints form a cycle, so none of their jobs can start:"
     })?;
-    let mut arcs = first_arcs(page.alloc, jobs)?;
-    find_lines(source, &mut arcs);
-    for arc in &arcs {
-        if let Some(line) = &arc.line {
-            page.quote(source, line, None)?;
-        }
-    }
+    quote_arcs(page, source, jobs)?;
     page.say(if is_one {
         "Delete it."
     } else {
@@ -43,18 +46,37 @@ pub fn explain_cycle(
     })
 }
 
-// The first arcs of the cycle.
+// The lines of the first arcs of the cycle.
+fn quote_arcs(page: &mut Page, source: &Source<'_>, jobs: &[JobId]) -> Result<(), AllocError> {
+    let mut arcs = first_arcs(page.alloc, jobs)?;
+    find_lines(source, &mut arcs);
+    for arc in &arcs {
+        if let Some(line) = &arc.line {
+            page.quote(source, line, None)?;
+        }
+    }
+    Ok(())
+}
+
 fn first_arcs<'a>(alloc: Global, jobs: &[JobId]) -> Result<Vec<ArcLine<'a>>, AllocError> {
     let mut arcs = Vec::new(alloc);
-    let after = jobs.iter().skip(1).chain(jobs.iter().take(1));
-    for (before, after) in jobs.iter().zip(after).take(MOST_ARCS) {
-        arcs.push(ArcLine {
-            before: Number::Value(i64::from(before.get())),
-            after: Number::Value(i64::from(after.get())),
-            line: None,
-        })?;
+    for place in 0..jobs.len().min(MOST_ARCS) {
+        if let Some(arc) = arc_at(jobs, place) {
+            arcs.push(arc)?;
+        }
     }
     Ok(arcs)
+}
+
+// The arc from the job at this place to the next one, or from the last one to the first.
+fn arc_at<'a>(jobs: &[JobId], place: usize) -> Option<ArcLine<'a>> {
+    let before = jobs.get(place)?;
+    let after = jobs.get(place.saturating_add(1)).or(jobs.first())?;
+    Some(ArcLine {
+        before: Number::Value(i64::from(before.get())),
+        after: Number::Value(i64::from(after.get())),
+        line: None,
+    })
 }
 
 // Finds the first line of each arc, in one walk over the text.
@@ -62,9 +84,7 @@ fn find_lines<'a>(source: &Source<'a>, arcs: &mut Vec<ArcLine<'a>>) {
     for line in source.lines() {
         if let Some((before, after)) = arc_in(line.bytes) {
             for arc in arcs.iter_mut() {
-                if arc.line.is_none() && arc.before == before && arc.after == after {
-                    arc.line = Some(line);
-                }
+                arc.offer(before, after, line);
             }
         }
     }

@@ -101,34 +101,53 @@ fn fault_of_times(value: &[u8]) -> Option<Cause> {
 
 // The value of `h=`: a base, and steps with rising times and values that do not fall.
 fn fault_of_cost(value: &[u8]) -> Option<Cause> {
-    let mut last: Option<i64> = None;
-    let mut time: Option<i64> = None;
+    let mut last: Option<Level> = None;
     for part in value.split(|byte| *byte == b',') {
-        let Some(before) = last else {
-            match number_of(part) {
-                Number::Value(base) => last = Some(base),
-                _ => return fault_of_base(part),
-            }
-            continue;
+        let level = match last {
+            None => base_in(part),
+            Some(last) => last.step_in(part),
         };
-        let Some((when, cost)) = divided(part, b':') else {
-            return Some(Cause::StepForm);
-        };
-        match (number_of(when), number_of(cost)) {
-            (Number::Value(at), Number::Value(next)) if at >= 0 => {
-                if time.is_some_and(|earlier| at <= earlier) {
-                    return Some(Cause::TimesNotRising);
-                }
-                if next < before {
-                    return Some(Cause::CostFalls);
-                }
-                time = Some(at);
-                last = Some(next);
-            }
-            _ => return fault_of_step(when, cost),
+        match level {
+            Ok(level) => last = Some(level),
+            Err(fault) => return fault,
         }
     }
     None
+}
+
+/// A value of a cost, and a time below all from which on the next one may hold.
+#[derive(Clone, Copy)]
+struct Level {
+    after: i64,
+    value: i64,
+}
+
+impl Level {
+    // The level of a step behind this one, or what is wrong with it.
+    fn step_in(self, part: &[u8]) -> Result<Level, Option<Cause>> {
+        let Some((when, cost)) = divided(part, b':') else {
+            return Err(Some(Cause::StepForm));
+        };
+        match (number_of(when), number_of(cost)) {
+            (Number::Value(after), Number::Value(value)) if after >= 0 => {
+                if after <= self.after {
+                    Err(Some(Cause::TimesNotRising))
+                } else if value < self.value {
+                    Err(Some(Cause::CostFalls))
+                } else {
+                    Ok(Level { after, value })
+                }
+            }
+            _ => Err(fault_of_step(when, cost)),
+        }
+    }
+}
+
+fn base_in(part: &[u8]) -> Result<Level, Option<Cause>> {
+    match number_of(part) {
+        Number::Value(value) => Ok(Level { after: -1, value }),
+        _ => Err(fault_of_base(part)),
+    }
 }
 
 fn fault_of_base(base: &[u8]) -> Option<Cause> {

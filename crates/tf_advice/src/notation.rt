@@ -126,18 +126,31 @@ pub fn explain_notation(
     page.say(expected.allows())?;
     match hint_for(text, byte, word) {
         Some(advice) => page.say(advice)?,
-        None if expected == Expected::Condition && is_objective(word) => {
-            page.say("The objective comes after a second \"|\", as in \"1||Lmax\".")?;
-        }
-        None => say_nearest(alloc, page, expected, word)?,
+        None => say_meant(alloc, page, expected, word)?,
     }
     if text.contains(&b'/') {
-        page.say("Fields are divided by \"|\" and not by \"/\", as in \"1||Lmax\".")?;
+        return page.say("Fields are divided by \"|\" and not by \"/\", as in \"1||Lmax\".");
     }
-    if !text.contains(&b'|') && !text.contains(&b'/') {
-        page.say("Put quotes round the notation: without them the shell takes \"|\" for a pipe.")?;
+    if text.contains(&b'|') {
+        return Ok(());
     }
-    Ok(())
+    page.say("Put quotes round the notation: without them the shell takes \"|\" for a pipe.")
+}
+
+// What may be meant by a word that is not expected.
+fn say_meant(
+    alloc: Global,
+    page: &mut Page,
+    expected: Expected,
+    word: &[u8],
+) -> Result<(), AllocError> {
+    if expected == Expected::Condition && is_objective(word) {
+        return page.say("The objective comes after a second \"|\", as in \"1||Lmax\".");
+    }
+    match std::str::from_utf8(word) {
+        Ok(word) if !word.is_empty() => say_nearest(alloc, page, expected.words(), word),
+        _ => Ok(()),
+    }
 }
 
 // What to write for a sign or a word that the literature uses and that is not read.
@@ -146,14 +159,18 @@ fn hint_for(text: &[u8], byte: usize, word: &[u8]) -> Option<&'static str> {
     if rest.starts_with("Σ".as_bytes()) || rest.starts_with("∑".as_bytes()) {
         return Some("Write \"sum\" for the sign, as in sumC or sumwC.");
     }
-    if rest.first().is_some_and(|byte| *byte >= 128) {
+    if matches!(rest.first(), Some(128..)) {
         return Some("Write ASCII characters only, with plain spaces and quotes.");
     }
     if text.contains(&b'\\') || text.contains(&b'{') {
         return Some("LaTeX is not read: write Cmax, Lmax, sumC or sumwC.");
     }
-    let (_, advice) = HINTS.iter().find(|hint| hint.0.as_bytes() == word)?;
-    Some(*advice)
+    for (known, advice) in &HINTS {
+        if known.as_bytes() == word {
+            return Some(*advice);
+        }
+    }
+    None
 }
 
 // Whether the word is an objective's.
@@ -173,53 +190,51 @@ fn word_at(text: &[u8], byte: usize) -> &[u8] {
         .unwrap_or(&[])
 }
 
-// Of how many edits and at which place the spelling is that differs least from a word.
+// The spelling that differs least from a word, behind the number of edits.
 fn nearest(
     alloc: Global,
-    words: &[&str],
+    words: &[&'static str],
     word: &str,
-) -> Result<Option<(usize, usize)>, AllocError> {
-    let lower = word.to_ascii_lowercase(alloc)?;
-    let mut best: Option<(usize, usize)> = None;
-    for (place, known) in words.iter().enumerate() {
-        let other = known.to_ascii_lowercase(alloc)?;
-        let edits = osa_distance(alloc, lower.as_str(), other.as_str())?;
-        if edits <= MOST_EDITS && best.is_none_or(|(least, _)| edits < least) {
-            best = Some((edits, place));
+) -> Result<Option<(usize, &'static str)>, AllocError> {
+    let mut best: Option<(usize, &str)> = None;
+    for known in words {
+        let edits = edits_between(alloc, word, known)?;
+        let least = match best {
+            Some((least, _)) => least,
+            None => MOST_EDITS + 1,
+        };
+        if edits < least {
+            best = Some((edits, *known));
         }
     }
     Ok(best)
+}
+
+// By how many edits two words differ beside upper and lower case.
+fn edits_between(alloc: Global, one: &str, other: &str) -> Result<usize, AllocError> {
+    let one = one.to_ascii_lowercase(alloc)?;
+    let other = other.to_ascii_lowercase(alloc)?;
+    osa_distance(alloc, one.as_str(), other.as_str())
 }
 
 // The spelling that is read and differs least.
 fn say_nearest(
     alloc: Global,
     page: &mut Page,
-    expected: Expected,
-    word: &[u8],
+    words: &[&'static str],
+    word: &str,
 ) -> Result<(), AllocError> {
-    let Ok(word) = std::str::from_utf8(word) else {
+    let Some((edits, known)) = nearest(alloc, words, word)? else {
         return Ok(());
     };
-    if word.is_empty() {
-        return Ok(());
-    }
-    let Some((edits, place)) = nearest(alloc, expected.words(), word)? else {
-        return Ok(());
+    let (front, behind) = if known == word {
+        ("", " occurs here a second time.")
+    } else if edits == 0 {
+        ("It is written ", ": upper and lower case differ.")
+    } else {
+        ("Perhaps ", " is meant.")
     };
-    match expected.words().get(place) {
-        None => Ok(()),
-        Some(known) if *known == word => {
-            writeln!(page.text, "\"{known}\" occurs here a second time.")
-        }
-        Some(known) if edits == 0 => {
-            writeln!(
-                page.text,
-                "It is written \"{known}\": upper and lower case differ."
-            )
-        }
-        Some(known) => writeln!(page.text, "Perhaps \"{known}\" is meant."),
-    }
+    writeln!(page.text, "{front}\"{known}\"{behind}")
 }
 
 /// The solved problems nearest to one that is not solved.
@@ -232,19 +247,29 @@ pub fn explain_unsolved(alloc: Global, page: &mut Page, problem: &str) -> Result
     if let Some(reason) = reason_of(&asked) {
         page.say(reason)?;
     }
-    let least = CLASSES
-        .iter()
-        .map(|class| distance(&asked, &class.notation()))
-        .min()
-        .unwrap_or(0);
     page.say("Nearest to it of those that are solved:")?;
+    push_nearest(alloc, page, &asked)?;
+    page.say("\"threefield problems\" lists them all.")
+}
+
+fn push_nearest(alloc: Global, page: &mut Page, asked: &Problem) -> Result<(), AllocError> {
+    let least = least_distance(asked);
     for class in &CLASSES {
-        if distance(&asked, &class.notation()) == least {
+        if distance(asked, &class.notation()) == least {
             page.text.push_str("    ")?;
             push_problem(alloc, &mut page.text, &class.notation())?;
         }
     }
-    page.say("\"threefield problems\" lists them all.")
+    Ok(())
+}
+
+// In how much a problem differs from the nearest one that is solved.
+fn least_distance(asked: &Problem) -> usize {
+    let mut least = usize::MAX;
+    for class in &CLASSES {
+        least = distance(asked, &class.notation()).min(least);
+    }
+    least
 }
 
 // Why such a problem is not solved, where it is one that is often asked for.

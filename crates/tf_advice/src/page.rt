@@ -29,6 +29,18 @@ impl Page {
         self.text.push('\n')
     }
 
+    /// A line of its own that begins with a name, which is escaped.
+    pub fn say_of(&mut self, name: &str, sentence: &str) -> Result<(), AllocError> {
+        push_name(&mut self.text, name)?;
+        self.say(sentence)
+    }
+
+    /// A line of its own that begins with what a source is called.
+    pub fn say_of_source(&mut self, source: &Source<'_>, sentence: &str) -> Result<(), AllocError> {
+        source.push_title(&mut self.text)?;
+        self.say(sentence)
+    }
+
     /// A line of a source with its number, and marks under one of its words.
     pub fn quote(
         &mut self,
@@ -36,10 +48,9 @@ impl Page {
         line: &SourceLine<'_>,
         word: Option<Word<'_>>,
     ) -> Result<(), AllocError> {
-        let title = source.title(self.alloc)?;
-        let title = title.as_str();
+        source.push_title(&mut self.text)?;
         let number = line.number;
-        writeln!(self.text, "{title}, line {number}:")?;
+        writeln!(self.text, ", line {number}:")?;
         self.show(line.bytes)?;
         match word {
             Some(word) => self.mark(line.bytes, word.start, word.bytes.len()),
@@ -84,8 +95,13 @@ impl Page {
 /// those of a text are, so that it can neither steer a terminal nor begin a line.
 pub fn escape(alloc: Global, text: &str) -> Result<String, AllocError> {
     let mut escaped = String::new(alloc);
-    push_bytes(&mut escaped, text.as_bytes())?;
+    push_name(&mut escaped, text)?;
     Ok(escaped)
+}
+
+/// Adds a name or an argument as [`escape`] gives it.
+pub fn push_name(text: &mut String, name: &str) -> Result<(), AllocError> {
+    push_bytes(text, name.as_bytes())
 }
 
 fn is_plain(byte: u8) -> bool {

@@ -58,13 +58,21 @@ fn piece_in(line: SourceLine<'_>) -> Option<PieceLine<'_>> {
     if front.len() != 5 || !is(front.word(0)?.bytes, b"piece") {
         return None;
     }
-    Some(PieceLine {
-        line,
-        job: front.value(1)?,
-        machine: front.value(2)?,
-        start: front.value(3)?,
-        stop: front.value(4)?,
-    })
+    match (
+        front.value(1),
+        front.value(2),
+        front.value(3),
+        front.value(4),
+    ) {
+        (Some(job), Some(machine), Some(start), Some(stop)) => Some(PieceLine {
+            line,
+            job,
+            machine,
+            start,
+            stop,
+        }),
+        _ => None,
+    }
 }
 
 /// Lines of some of the pieces, those first that stand first.

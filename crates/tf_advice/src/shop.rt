@@ -1,5 +1,5 @@
 //! What is wrong with a flow shop file.
-use crate::page::{Page, escape, push_word};
+use crate::page::{Page, push_word};
 use crate::source::{Front, Source, Word};
 use crate::tardiness::is_table;
 use std::alloc::{AllocError, Global};
@@ -62,24 +62,34 @@ fn line_at_fault(fault: &ReadFault) -> Option<(u32, &'static str)> {
 // The names of the instances that the file has.
 fn say_names(page: &mut Page, source: &Source<'_>, name: &str) -> Result<(), AllocError> {
     page.text.push_str("The file has no line \"instance ")?;
-    page.text.push_str(escape(page.alloc, name)?.as_str())?;
-    page.say("\".")?;
+    page.say_of(name, "\".")?;
+    let names = push_names(&mut page.text, source)?;
+    page.say(match names {
+        0 => "It has no line \"instance NAME\" at all: perhaps it is another file.",
+        1..=MOST_NAMES => ".",
+        _ => " and more.",
+    })
+}
+
+// Adds the first names, and tells how many there are.
+fn push_names(text: &mut String, source: &Source<'_>) -> Result<usize, AllocError> {
     let mut names: usize = 0;
     for line in source.lines() {
         if let Some(found) = name_in(line.bytes) {
+            push_found(text, names, found.bytes)?;
             names = names.saturating_add(1);
-            if names <= MOST_NAMES {
-                page.text
-                    .push_str(if names == 1 { "It has: " } else { ", " })?;
-                push_word(&mut page.text, found.bytes)?;
-            }
         }
     }
-    match names {
-        0 => page.say("It has no line \"instance NAME\" at all: perhaps it is another file."),
-        _ if names > MOST_NAMES => page.say(" and more."),
-        _ => page.say("."),
+    Ok(names)
+}
+
+// Adds a name behind so many others, if it is one of the first.
+fn push_found(text: &mut String, before: usize, name: &[u8]) -> Result<(), AllocError> {
+    if before >= MOST_NAMES {
+        return Ok(());
     }
+    text.push_str(if before == 0 { "It has: " } else { ", " })?;
+    push_word(text, name)
 }
 
 fn name_in(line: &[u8]) -> Option<Word<'_>> {
@@ -97,13 +107,19 @@ fn say_machines(
     source: &Source<'_>,
     name: &str,
 ) -> Result<(), AllocError> {
-    let whole = read_flowshop(alloc, source.text, name.as_bytes(), None);
     page.say("--pair takes two different machines of the instance, counted from 0.")?;
-    match whole.ok().and_then(|instance| instance.machines()) {
+    match machines_of(alloc, source, name) {
         Some(machines) => {
             let last = machines.saturating_sub(1);
             writeln!(page.text, "This one has the machines 0 to {last}.")
         }
         None => Ok(()),
+    }
+}
+
+fn machines_of(alloc: Global, source: &Source<'_>, name: &str) -> Option<u32> {
+    match read_flowshop(alloc, source.text, name.as_bytes(), None) {
+        Ok(instance) => instance.machines(),
+        Err(_) => None,
     }
 }

@@ -3,7 +3,7 @@ ghost use Rattle.std.specs.Prelude.{◌+◌, length};
 ghost use Rattle.std.specs.Iterator.{at_most};
 ghost use Rattle.std.specs.Option.{option_map_or};
 
-use crate::page::escape;
+use crate::page::push_name;
 use std::alloc::{AllocError, Global};
 use tf_words::line::{line_len, without_return};
 use tf_words::number::{Number, number_of};
@@ -40,10 +40,17 @@ pub struct Word<'a> {
 impl<'a> Source<'a> {
     /// What the source is called in a sentence.
     pub fn title(&self, alloc: Global) -> Result<String, AllocError> {
+        let mut title = String::new(alloc);
+        self.push_title(&mut title)?;
+        Ok(title)
+    }
+
+    /// Adds what the source is called in a sentence.
+    pub fn push_title(&self, text: &mut String) -> Result<(), AllocError> {
         if self.name == "-" {
-            String::from_str(alloc, "standard input")
+            text.push_str("standard input")
         } else {
-            escape(alloc, self.name)
+            push_name(text, self.name)
         }
     }
 

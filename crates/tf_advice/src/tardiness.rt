@@ -11,6 +11,10 @@ const NEGATIVE: &str = "\
 A negative number stands where a time or a weight is read.
 Due dates alone may be negative, so the usual cause is a wrong --jobs.";
 
+const NO_INSTANCE: &str = "The file ends before the instance that --index names.";
+
+const ENDS_EARLY: &str = "The file ends within the instance: it is cut off, or --jobs is wrong.";
+
 /// What is wrong, where the file was read as instances of so many jobs.
 pub fn explain_tardiness(
     page: &mut Page,
@@ -29,19 +33,23 @@ pub fn explain_tardiness(
         }
         ReadFault::Negative(line) => {
             quote_bad_word(page, source, line as usize, true)?;
-            page.say(NEGATIVE)?;
-            say_counts(page, source, jobs)
+            say_size(page, source, jobs, NEGATIVE)
         }
-        ReadFault::NoInstance => {
-            page.say("The file ends before the instance that --index names.")?;
-            say_counts(page, source, jobs)
-        }
-        ReadFault::EndsEarly => {
-            page.say("The file ends within the instance: it is cut off, or --jobs is wrong.")?;
-            say_counts(page, source, jobs)
-        }
+        ReadFault::NoInstance => say_size(page, source, jobs, NO_INSTANCE),
+        ReadFault::EndsEarly => say_size(page, source, jobs, ENDS_EARLY),
         _ => Ok(()),
     }
+}
+
+// A sentence, and how many instances of this size the file has room for.
+fn say_size(
+    page: &mut Page,
+    source: &Source<'_>,
+    jobs: u32,
+    sentence: &str,
+) -> Result<(), AllocError> {
+    page.say(sentence)?;
+    say_counts(page, source, jobs)
 }
 
 /// Whether the text begins as a job table does.

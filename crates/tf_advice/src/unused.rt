@@ -3,6 +3,8 @@ use crate::page::Page;
 use std::alloc::AllocError;
 use tf_model::class::Class;
 use tf_model::instance::Instance;
+use tf_model::job::Job;
+use tf_model::prepare::Field;
 
 /// Notes on what the class does not use.
 pub fn explain_unused(
@@ -12,40 +14,59 @@ pub fn explain_unused(
     machines: Option<u32>,
     instance: &Instance,
 ) -> Result<(), AllocError> {
-    let jobs = instance.jobs();
-    let weights = jobs.iter().filter(|job| job.weight.is_some()).count();
-    let dues = jobs.iter().filter(|job| job.due.is_some()).count();
-    let releases = jobs.iter().filter(|job| job.release.is_some()).count();
-    let costs = jobs.iter().filter(|job| job.cost.is_some()).count();
+    for field in &[Field::Weight, Field::Due, Field::Release, Field::Cost] {
+        let (letter, is_used) = letter_of(*field, class);
+        if !is_used {
+            note(page, notation, letter, count(instance.jobs(), *field))?;
+        }
+    }
     let arcs = instance.arcs().len();
-    note(page, notation, "w=", weights, class.is_weighted())?;
-    note(page, notation, "d=", dues, class.is_due())?;
-    note(page, notation, "r=", releases, class.is_released())?;
-    note(page, notation, "h=", costs, class.is_costed())?;
     if arcs > 0 && !class.is_ordered() {
         writeln!(
             page.text,
             "{notation} ignores precedence constraints (lines \"prec\": {arcs})."
         )?;
     }
-    let given = machines.or(instance.machines());
-    if class.is_single() && given.is_some_and(|m| m != 1) {
-        writeln!(
-            page.text,
-            "{notation} ignores the number of machines: it has one machine."
-        )?;
+    if !class.is_single() || matches!(machines.or(instance.machines()), None | Some(1)) {
+        return Ok(());
     }
-    Ok(())
+    writeln!(
+        page.text,
+        "{notation} ignores the number of machines: it has one machine."
+    )
 }
 
-fn note(
-    page: &mut Page,
-    notation: &str,
-    field: &str,
-    jobs: usize,
-    is_used: bool,
-) -> Result<(), AllocError> {
-    if is_used || jobs == 0 {
+// The letter of a field, and whether the class uses it.
+fn letter_of(field: Field, class: Class) -> (&'static str, bool) {
+    match field {
+        Field::Weight => ("w=", class.is_weighted()),
+        Field::Due => ("d=", class.is_due()),
+        Field::Release => ("r=", class.is_released()),
+        Field::Cost => ("h=", class.is_costed()),
+    }
+}
+
+fn has(job: &Job, field: Field) -> bool {
+    match field {
+        Field::Weight => job.weight.is_some(),
+        Field::Due => job.due.is_some(),
+        Field::Release => job.release.is_some(),
+        Field::Cost => job.cost.is_some(),
+    }
+}
+
+fn count(jobs: &[Job], field: Field) -> usize {
+    let mut count: usize = 0;
+    for job in jobs {
+        if has(job, field) {
+            count = count.saturating_add(1);
+        }
+    }
+    count
+}
+
+fn note(page: &mut Page, notation: &str, field: &str, jobs: usize) -> Result<(), AllocError> {
+    if jobs == 0 {
         return Ok(());
     }
     writeln!(
