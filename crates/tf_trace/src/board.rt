@@ -51,6 +51,29 @@ pub(crate) fn shown(place: usize, rows: usize) -> Visible {
     }
 }
 
+// What stands before a word behind so many columns, and how many there are then.
+fn placed(columns: usize, word: usize) -> (&'static str, usize) {
+    let behind = columns.saturating_add(1).saturating_add(word);
+    if columns == 0 {
+        ("", word)
+    } else if behind > MOST_COLUMNS {
+        ("\n", word)
+    } else {
+        (" ", behind)
+    }
+}
+
+fn push_lines(page: &mut String, sentence: &str) -> Result<(), AllocError> {
+    let mut columns: usize = 0;
+    for word in sentence.split(' ') {
+        let (gap, len) = placed(columns, word.len());
+        columns = len;
+        page.push_str(gap)?;
+        page.push_str(word)?;
+    }
+    Ok(())
+}
+
 impl Board {
     pub(crate) fn new(alloc: Global, style: Style) -> Self {
         Board {
@@ -75,20 +98,7 @@ impl Board {
 
     /// Ends a sentence: it is written in lines that are not too long.
     pub(crate) fn end_sentence(&mut self) -> Result<(), AllocError> {
-        let mut columns: usize = 0;
-        for word in self.text.as_str().split(' ') {
-            let behind = columns.saturating_add(1).saturating_add(word.len());
-            let (gap, len) = if columns == 0 {
-                ("", word.len())
-            } else if behind > MOST_COLUMNS {
-                ("\n", word.len())
-            } else {
-                (" ", behind)
-            };
-            columns = len;
-            self.page.push_str(gap)?;
-            self.page.push_str(word)?;
-        }
+        push_lines(&mut self.page, self.text.as_str())?;
         self.text.clear();
         self.page.push_str(match self.style {
             Style::Plain => "\n",

@@ -14,32 +14,45 @@ pub(crate) fn write_certificate(
     task: &Task,
     answer: &Answer,
 ) -> Result<(), AllocError> {
-    let value = i128::from(answer.value);
-    match &answer.certificate {
-        Certificate::Pairs(_) => say_pairs(board, task, value)?,
-        Certificate::LastOf(last) => say_last(board, task, last.jobs.as_slice(), value)?,
-        Certificate::Window(window) => say_window(board, task, window.jobs.as_slice())?,
-        Certificate::Split(split) => say_split(board, task, split)?,
-        Certificate::Load(_) => write!(
-            board.text,
-            "Some machine works for {value} time steps or more.",
-        )?,
-        Certificate::Machine(load) => write!(
-            board.text,
-            "All jobs together take {value} on machine {}.",
-            load.machine.get()
-        )?,
+    say_bound(board, task, &answer.certificate, answer.value)?;
+    board.end_sentence()?;
+    board.say("Hence no schedule costs less: this one is optimal.")
+}
+
+fn say_bound(
+    board: &mut Board,
+    task: &Task,
+    certificate: &Certificate,
+    value: i64,
+) -> Result<(), AllocError> {
+    match certificate {
+        Certificate::Pairs(_) => say_pairs(board, task, i128::from(value)),
+        Certificate::LastOf(last) => say_last(board, task, last.jobs.as_slice(), value),
+        Certificate::Window(window) => say_window(board, task, window.jobs.as_slice()),
+        Certificate::Split(split) => say_split(board, task, split),
+        Certificate::Load(_) => {
+            write!(
+                board.text,
+                "Some machine works for {value} time steps or more."
+            )
+        }
+        Certificate::Machine(load) => {
+            let machine = load.machine.get();
+            write!(
+                board.text,
+                "All jobs together take {value} on machine {machine}."
+            )
+        }
         Certificate::OneJob(one) => {
-            write!(board.text, "Job {} alone takes {value}.", one.job.get())?;
+            let job = one.job.get();
+            write!(board.text, "Job {job} alone takes {value}.")
         }
         Certificate::Ranks(_) => write!(
             board.text,
             "In any schedule at most m processing times count once, at most m twice, and so on. The \
              sum is least where the longest count least: {value}.",
-        )?,
+        ),
     }
-    board.end_sentence()?;
-    board.say("Hence no schedule costs less: this one is optimal.")
 }
 
 // The processing times of some jobs together.
@@ -76,7 +89,7 @@ fn say_pairs(board: &mut Board, task: &Task, value: i128) -> Result<(), AllocErr
     )
 }
 
-fn say_last(board: &mut Board, task: &Task, jobs: &[JobId], value: i128) -> Result<(), AllocError> {
+fn say_last(board: &mut Board, task: &Task, jobs: &[JobId], value: i64) -> Result<(), AllocError> {
     let work = work_of(task, jobs);
     board.list("The jobs", jobs)?;
     let among = if task.class().is_ordered() {

@@ -1,6 +1,7 @@
 //! Other optimal schedules, by exchanging two neighbours on a machine.
 use crate::board::{Board, MOST_ROWS};
-use std::alloc::Global;
+use std::alloc::{AllocError, Global};
+use tf_model::ids::JobId;
 use tf_model::memory::OutOfMemory;
 use tf_model::task::Task;
 use tf_schedule::judge::judge;
@@ -18,24 +19,57 @@ pub(crate) fn say_exchange(
     if pieces.len() > MOST_ROWS {
         return Ok(());
     }
-    for (place, (piece, next)) in pieces.iter().zip(pieces.iter().skip(1)).enumerate() {
-        let are_neighbours = piece.machine == next.machine && piece.stop == next.start;
-        if are_neighbours && costs_exchanged(board.alloc, task, pieces, place)? == Some(value) {
-            write!(
-                board.text,
-                "On machine {}, job {} from {} to {} and job {} after it may be exchanged: that is \
-                 another optimal schedule.",
-                piece.machine.get(),
-                piece.job.get(),
-                piece.start,
-                piece.stop,
-                next.job.get()
-            )?;
-            board.end_sentence()?;
-            return Ok(());
-        }
+    if let Some((piece, next)) = exchange_in(board.alloc, task, pieces, value)? {
+        say_pieces(board, &piece, next.job)?;
     }
     Ok(())
+}
+
+// The first two neighbouring pieces that may be exchanged.
+fn exchange_in(
+    alloc: Global,
+    task: &Task,
+    pieces: &[Piece],
+    value: i128,
+) -> Result<Option<(Piece, Piece)>, OutOfMemory> {
+    for (place, pair) in pieces.windows(2).enumerate() {
+        if let [piece, next] = pair
+            && piece.machine == next.machine
+            && piece.stop == next.start
+            && costs_exchanged(alloc, task, pieces, place)? == Some(value)
+        {
+            return Ok(Some((*piece, *next)));
+        }
+    }
+    Ok(None)
+}
+
+fn say_pieces(board: &mut Board, piece: &Piece, next: JobId) -> Result<(), AllocError> {
+    write!(
+        board.text,
+        "On machine {}, job {} from {} to {} and job {} after it may be exchanged: that is another \
+         optimal schedule.",
+        piece.machine.get(),
+        piece.job.get(),
+        piece.start,
+        piece.stop,
+        next.get()
+    )?;
+    board.end_sentence()
+}
+
+/// Says that two jobs may be exchanged, if there are such.
+pub(crate) fn say_tie(board: &mut Board, tie: Option<(JobId, JobId)>) -> Result<(), AllocError> {
+    let Some((job, next)) = tie else {
+        return Ok(());
+    };
+    write!(
+        board.text,
+        "Jobs {} and {} may be exchanged: that is another optimal schedule.",
+        job.get(),
+        next.get()
+    )?;
+    board.end_sentence()
 }
 
 // What the pieces cost with the one at a place and the next one exchanged, if they still fit.

@@ -1,5 +1,6 @@
 //! Johnson's rule for two machines in a flow shop.
 use crate::board::{Board, MOST_ROWS};
+use crate::exchange::say_tie;
 use crate::table::Cell;
 use crate::trace::{row_of, say_preemption};
 use std::alloc::{AllocError, Global};
@@ -20,25 +21,21 @@ pub(crate) fn write_johnson(board: &mut Board, task: &Task) -> Result<(), AllocE
     board.say_list("First:", order.get(..early).unwrap_or(&[]))?;
     board.say_list("Then:", order.get(early..).unwrap_or(&[]))?;
     show_times(board, task, &order)?;
-    say_tie(board, task, &order)
+    say_tie(board, tie_in(task, &order))
 }
 
-// Whether another optimal schedule exchanges two neighbours, of the first ones.
-fn say_tie(board: &mut Board, task: &Task, order: &[JobId]) -> Result<(), AllocError> {
+// The first two neighbours, of the first ones, that another optimal schedule exchanges.
+fn tie_in(task: &Task, order: &[JobId]) -> Option<(JobId, JobId)> {
     let makespan = makespan_exchanged(task, order, order.len());
-    let neighbours = order.iter().zip(order.iter().skip(1));
-    for (place, (job, next)) in neighbours.take(MOST_ROWS).enumerate() {
-        if makespan_exchanged(task, order, place) == makespan {
-            write!(
-                board.text,
-                "Jobs {} and {} may be exchanged: that is another optimal schedule.",
-                job.get(),
-                next.get()
-            )?;
-            return board.end_sentence();
+    let first = order.get(..=MOST_ROWS).unwrap_or(order);
+    for (place, pair) in first.windows(2).enumerate() {
+        if let [job, next] = pair
+            && makespan_exchanged(task, order, place) == makespan
+        {
+            return Some((*job, *next));
         }
     }
-    Ok(())
+    None
 }
 
 // When the jobs are done in this order, but with the one at a place, if it is there, behind the

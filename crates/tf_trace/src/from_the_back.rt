@@ -1,5 +1,6 @@
 //! Lawler's algorithm for the greatest cost on one machine.
 use crate::board::{Board, MOST_ROWS, Visible, shown};
+use crate::exchange::say_tie;
 use crate::table::Cell;
 use crate::trace::{price_at, row_of, say_preemption};
 use std::alloc::{AllocError, Global};
@@ -29,29 +30,20 @@ pub(crate) fn write_lawler(
     let places = Places::new(board.alloc, task, pieces)?;
     show_steps(board, task, pieces, &places)?;
     show_schedule(board, task, pieces)?;
-    say_tie(board, task, pieces, value)
+    say_tie(board, tie_in(task, pieces, value))
 }
 
-// Whether another optimal schedule exchanges two neighbours, of the first ones.
-fn say_tie(
-    board: &mut Board,
-    task: &Task,
-    pieces: &[Piece],
-    value: i128,
-) -> Result<(), AllocError> {
-    let neighbours = pieces.iter().zip(pieces.iter().skip(1));
-    for (piece, next) in neighbours.take(MOST_ROWS) {
-        if may_exchange(task, piece, next, value) {
-            write!(
-                board.text,
-                "Jobs {} and {} may be exchanged: that is another optimal schedule.",
-                piece.job.get(),
-                next.job.get()
-            )?;
-            return board.end_sentence();
+// The first two neighbours, of the first ones, that another optimal schedule exchanges.
+fn tie_in(task: &Task, pieces: &[Piece], value: i128) -> Option<(JobId, JobId)> {
+    let first = pieces.get(..=MOST_ROWS).unwrap_or(pieces);
+    for pair in first.windows(2) {
+        if let [piece, next] = pair
+            && may_exchange(task, piece, next, value)
+        {
+            return Some((piece.job, next.job));
         }
     }
-    Ok(())
+    None
 }
 
 // Whether two neighbours, exchanged, keep their precedence, and neither costs more than this.

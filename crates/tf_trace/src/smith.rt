@@ -74,19 +74,27 @@ fn say_tie(
     pieces: &[Piece],
     is_weighted: bool,
 ) -> Result<(), AllocError> {
+    let Some((job, next)) = tie_in(task, pieces) else {
+        return Ok(());
+    };
     let same = if is_weighted { "ratios" } else { "times" };
-    for (piece, next) in pieces.iter().zip(pieces.iter().skip(1)) {
-        if are_equal(task, piece.job, next.job) {
-            write!(
-                board.text,
-                "Jobs {} and {} have equal {same}: exchanged, they give another optimal schedule.",
-                piece.job.get(),
-                next.job.get()
-            )?;
-            return board.end_sentence();
+    write!(
+        board.text,
+        "Jobs {job} and {next} have equal {same}: exchanged, they give another optimal schedule."
+    )?;
+    board.end_sentence()
+}
+
+// The first two neighbours that are equal.
+fn tie_in(task: &Task, pieces: &[Piece]) -> Option<(u32, u32)> {
+    for pair in pieces.windows(2) {
+        if let [piece, next] = pair
+            && are_equal(task, piece.job, next.job)
+        {
+            return Some((piece.job.get(), next.job.get()));
         }
     }
-    Ok(())
+    None
 }
 
 fn are_equal(task: &Task, job: JobId, other: JobId) -> bool {
