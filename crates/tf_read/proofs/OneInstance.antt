@@ -16,7 +16,7 @@ use Rattle.tf_model.specs.Limit.{most_jobs}
 use Rattle.tf_read.specs.declared.fault.ReadFault.{ReadFault}
 use Rattle.tf_read.specs.declared.fault.ReadFault.TheVariants.{NoInstance, EndsEarly}
 use Rattle.tf_model.specs.Outcome.{◌>>=◌}
-use Rattle.tf_read.specs.Faults.{each_from, number_at}
+use Rattle.tf_read.specs.Faults.{each_from, integer, number_at}
 use Rattle.tf_read.specs.WeightedTardiness.{tardiness_number_read, tardiness_number, tardiness_job, tardiness_jobs, tardiness_of, instance_of}
 use Rattle.tf_read.specs.Numbers.{Progress, skipped, tardiness_wanted, tardiness_missing, with_number, HoldsTardiness, HasReadTardiness, AreInRange}
 use Rattle.tf_words.specs.Scan.{IsInRange}
@@ -125,6 +125,12 @@ natural_anywhere n i line number (pos m) is some =
       | inl early ↦ rw early refl
       | inr late ↦ rw late refl
     ])
+
+-- a number that is read is read as well where a due date stands
+pub signed_late : (n i line : ℕ) (number : Number) (z : ℤ) → integer line number ≡ Ok z
+    → 2 * n ≤ i % (3 * n) → tardiness_number_read n i line number ≡ Ok z
+signed_late n i line number z is late =
+    let here : ltb (i % (3 * n)) (2 * n) ≡ false = le-ltb _ _ late in rw here is
 
 -- a number that is read is within the limit, and not negative where a time or a weight stands
 read_number : (n i line : ℕ) (number : Number) (z : ℤ) → IsInRange number

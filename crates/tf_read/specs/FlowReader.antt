@@ -1,5 +1,5 @@
 -- A reader of a flow shop, to which a text is fed.
-use Rattle.std.specs.Prelude.{◌≡◌, ℕ, ◌+◌, ◌≤◌, List, ◌++◌, length, min}
+use Rattle.std.specs.Prelude.{◌≡◌, ℕ, ◌+◌, ◌-◌, ◌≤◌, List, ◌++◌, length}
 use Rattle.tf_model.specs.Limit.{most_bytes}
 use Rattle.tf_read.specs.declared.flow_shop.FlowReader.{FlowReader}
 use Rattle.tf_read.specs.FlowShop.{flow_shop}
@@ -12,7 +12,7 @@ pub record HasFedShop {A : Type 0} (reader : FlowReader A) (says : TextSays) (fe
   where
     pub wanted : (text : List ℕ)
         → says text ≡ flow_shop reader.wanted.name.now reader.wanted.pair text
-    pub length_is : reader.length.bytes ≡ min (length fed) (most_bytes + 1)
+    pub left : reader.left ≡ most_bytes + 1 - length fed
     pub taken : length fed ≤ most_bytes
         → HasTakenShop reader.wanted.name.now reader.wanted.pair reader.stage fed
 

@@ -1,5 +1,5 @@
 -- A reader of a weighted tardiness instance, to which a text is fed.
-use Rattle.std.specs.Prelude.{◌≡◌, ℕ, ◌+◌, ◌≤◌, List, ◌++◌, length, min}
+use Rattle.std.specs.Prelude.{◌≡◌, ℕ, ◌+◌, ◌-◌, ◌≤◌, List, ◌++◌, length}
 use Rattle.tf_model.specs.Limit.{most_bytes}
 use Rattle.tf_read.specs.declared.weighted_tardiness.WtReader.{WtReader}
 use Rattle.tf_read.specs.Said.{TextSays}
@@ -13,7 +13,7 @@ pub record HasFedTardiness {A : Type 0} (reader : WtReader A) (says : TextSays)
   pub jobs : ℕ
   pub index : ℕ
   pub wanted : (text : List ℕ) → says text ≡ weighted_tardiness jobs index text
-  pub length_is : reader.length.bytes ≡ min (length fed) (most_bytes + 1)
+  pub left : reader.left ≡ most_bytes + 1 - length fed
   pub taken : length fed ≤ most_bytes → HasTakenTardiness jobs index reader.reading fed
 
 -- whatever is wanted and was fed before, the piece was fed since

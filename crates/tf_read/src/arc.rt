@@ -5,10 +5,9 @@ ghost use Rattle.tf_words.specs.Words.{words};
 ghost use Rattle.tf_words.specs.Lines.{word_line_of, word_lines_of};
 ghost use Rattle.tf_read.specs.Faults.{Gives, each_from};
 ghost use Rattle.tf_read.specs.NextArc.{BeginsWithArc, BeginsWithBadArc};
-ghost use Rattle.tf_read.specs.JobTable.{is_arc, arc_job, arc_of, arc_line, without_jobs, arcs_of};
+ghost use Rattle.tf_read.specs.JobTable.{is_arc, arc_job, arc_of, arc_line, arcs_of};
 
 use crate::fault::ReadFault;
-use crate::room::room_for;
 use crate::usual::usual_arc;
 use std::alloc::Allocator;
 use tf_model::ids::JobId;
@@ -102,7 +101,7 @@ fn arcs_from<A: Allocator>(
 ) -> Result<Vec<(JobId, JobId), A>, ReadFault>
     ensures { Gives (λ v. v.items) result (each_from (arc_line jobs) 1 (word_lines_of lines.now)) }
 {
-    let room = room_for(lines.bytes_left(), SHORTEST_LINE, MOST_ARCS);
+    let room = MOST_ARCS.min((lines.bytes_left().len() + 1) / SHORTEST_LINE);
     let mut arcs = Vec::with_capacity(alloc, room)?;
     let mut rest = *lines;
     loop {
@@ -117,15 +116,6 @@ fn arcs_from<A: Allocator>(
     }
 }
 
-fn no_job(lines: &Lines<'_>) -> ReadFault
-    ensures { result ≡ without_jobs (word_lines_of lines.now) }
-{
-    match lines.split_first() {
-        None => ReadFault::NoJobs,
-        Some((line, _)) => ReadFault::BadLine(line.number),
-    }
-}
-
 /// The arcs between this many jobs, a line for each.
 #[tactic(auto, unfolding(crate::specs::JobTable::arcs_of))]
 pub(crate) fn arcs_of<A: Allocator>(
@@ -136,7 +126,10 @@ pub(crate) fn arcs_of<A: Allocator>(
     ensures { Gives (λ v. v.items) result (arcs_of jobs (word_lines_of lines.now)) }
 {
     if jobs == 0 {
-        return Err(no_job(lines));
+        return match lines.split_first() {
+            None => Err(ReadFault::NoJobs),
+            Some((line, _)) => Err(ReadFault::BadLine(line.number)),
+        };
     }
     arcs_from(alloc, jobs, lines)
 }

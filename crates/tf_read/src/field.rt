@@ -1,5 +1,5 @@
 //! The fields of a job line.
-ghost use Rattle.std.specs.Prelude.{◌≡◌, IfOk};
+ghost use Rattle.std.specs.Prelude.{◌≡◌};
 ghost use Rattle.tf_words.specs.Words.{words};
 ghost use Rattle.tf_read.specs.Faults.{Gives};
 ghost use Rattle.tf_read.specs.JobLine.{times_at, field_at, later_in, fields_at, no_fields};
@@ -7,7 +7,7 @@ ghost use Rattle.tf_read.specs.JobLine.{times_at, field_at, later_in, fields_at,
 use crate::cost_field::cost_at;
 use crate::fault::ReadFault;
 use crate::number::{integer, natural};
-use std::alloc::{AllocError, Allocator};
+use std::alloc::Allocator;
 use std::marker::Model;
 use tf_model::cost::StepCost;
 use tf_model::job::{Job, Times};
@@ -60,13 +60,6 @@ fn times_at(line: u32, value: &[u8]) -> Result<Times, ReadFault>
     }
 }
 
-// The cost in memory of its own, since few jobs have one.
-fn boxed<A: Allocator>(alloc: A, cost: StepCost<A>) -> Result<Box<StepCost<A>, A>, AllocError>
-    ensures { IfOk result (λ kept. kept.value ≡ cost) }
-{
-    Ok(Box::new(alloc, cost)?)
-}
-
 impl<A: Allocator> Fields<A> {
     pub(crate) fn none() -> Self
         ensures { result ≡ no_fields }
@@ -116,7 +109,8 @@ impl<A: Allocator> Fields<A> {
             return Ok(());
         }
         if is(key, b"h") && self.cost.is_none() {
-            self.cost = Some(boxed(alloc, cost_at(alloc, line, value)?)?);
+            // It has memory of its own, since few jobs have one.
+            self.cost = Some(Box::new(alloc, cost_at(alloc, line, value)?)?);
             return Ok(());
         }
         Err(ReadFault::BadLine(line))

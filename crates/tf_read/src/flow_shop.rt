@@ -1,5 +1,6 @@
 //! Flow shop files: a heading with a name, the sizes, and for each job the pairs machine, time.
 ghost use Rattle.std.specs.Prelude.{◌≡◌, ℕ, ◌+◌, ◌≤◌, List, [], Option};
+ghost use Rattle.tf_model.specs.Limit.{most_bytes};
 ghost use Rattle.tf_read.specs.Faults.{Gives};
 ghost use Rattle.tf_read.specs.FlowShop.{flow_shop};
 ghost use Rattle.tf_read.specs.FlowStage.{line_of};
@@ -7,9 +8,9 @@ ghost use Rattle.tf_read.specs.FlowStage.{line_of};
 use crate::fault::ReadFault;
 use crate::flow_stage::{Stage, Wanted};
 use crate::instance_numbers::InstanceNumbers;
-use crate::length::Length;
 use std::alloc::{Allocator, Global};
 use tf_model::instance::Instance;
+use tf_model::limit::MOST_BYTES;
 use tf_words::feed::Feed;
 
 /// A reader of the instance of a name, to which a text is fed piece by piece.
@@ -22,9 +23,10 @@ use tf_words::feed::Feed;
 pub struct FlowReader<'a, A: Allocator = Global> {
     alloc: A,
     wanted: Wanted<'a>,
-    length: Length,
+    // how many bytes may follow, and one that is too many
+    left: usize,
     stage: Stage<A>,
-    ghost early: { line_of stage ≤ length.bytes + 1 },
+    ghost early: { line_of stage + left ≤ most_bytes + 2 },
 }
 
 impl<'a, A: Allocator + Copy> FlowReader<'a, A> {
@@ -42,7 +44,7 @@ impl<'a, A: Allocator + Copy> FlowReader<'a, A> {
         FlowReader {
             alloc,
             wanted: Wanted { name, pair },
-            length: Length::new(),
+            left: MOST_BYTES + 1,
             stage: Stage::new(),
         }
     }
@@ -61,7 +63,7 @@ impl<'a, A: Allocator + Copy> FlowReader<'a, A> {
         ensures too_long { (says : TextSays) (fed : List ℕ) → HasFedShop self.entry says fed →
             most_bytes < length fed → result ≡ Err ReadFault.TooLong }
     {
-        if self.length.is_too_long() {
+        if self.left == 0 {
             return Err(ReadFault::TooLong);
         }
         self.stage.ended(&self.wanted)
@@ -93,8 +95,8 @@ impl<A: Allocator + Copy> Feed for FlowReader<'_, A> {
     ghost Takes = { TakesShop };
 
     fn feed(&mut self, piece: &[u8]) {
-        self.length.grow(piece.len());
-        if !self.length.is_too_long() {
+        self.left = self.left.saturating_sub(piece.len());
+        if self.left > 0 {
             self.stage.feed(self.alloc, &self.wanted, piece);
         }
     }

@@ -46,33 +46,7 @@ fn below_heading<A: Allocator>(line: u32, shown: HeadingLine, name: &[u8]) -> St
     }
 }
 
-/// Behind a line of sizes. It makes all room.
-fn below_found<A: Allocator + Copy>(
-    alloc: A,
-    pair: Option<(u32, u32)>,
-    line: u32,
-    sizes: (u64, u64),
-) -> Stage<A>
-    requires { line + 1 < 2 ^ 32 }
-    ensures later { line_of result ≤ line + 1 }
-    ensures taken { (name : List ℕ) (fed : List ℕ) →
-        ((more : List ℕ) →
-        from_heading name pair 1 (lines (fed ++ more))
-        ≡ sized pair line sizes.0 sizes.1 (words_from (line + 1) (lines more))) →
-        HasTakenShop name pair result fed }
-{
-    match judged_sizes(pair, line, sizes) {
-        Err(fault) => Stage::Ended(fault),
-        Ok((jobs, machines)) => {
-            match Pairs::new(alloc, jobs, machines, pair) {
-                Err(_) => Stage::Ended(ReadFault::OutOfMemory),
-                Ok(pairs) => Stage::Pairs(WordFeed::new(line + 1, pairs)),
-            }
-        }
-    }
-}
-
-/// Behind a line on which the sizes were wanted.
+/// Behind a line on which the sizes were wanted. Behind the sizes it makes all room.
 fn below_sizes<A: Allocator + Copy>(
     alloc: A,
     pair: Option<(u32, u32)>,
@@ -84,9 +58,15 @@ fn below_sizes<A: Allocator + Copy>(
     ensures taken { (name : List ℕ) (fed : List ℕ) → WantsSizes name pair line shown fed →
         HasTakenShop name pair result (fed ++ 10 ∷ []) }
 {
-    match shown.sizes() {
-        None => Stage::Sizes(line + 1, SizesLine::new()),
-        Some(sizes) => below_found(alloc, pair, line, sizes),
+    let Some(sizes) = shown.sizes() else {
+        return Stage::Sizes(line + 1, SizesLine::new());
+    };
+    match judged_sizes(pair, line, sizes) {
+        Err(fault) => Stage::Ended(fault),
+        Ok((jobs, machines)) => match Pairs::new(alloc, jobs, machines, pair) {
+            Err(_) => Stage::Ended(ReadFault::OutOfMemory),
+            Ok(pairs) => Stage::Pairs(WordFeed::new(line + 1, pairs)),
+        },
     }
 }
 
@@ -112,12 +92,10 @@ fn without_pairs(pair: Option<(u32, u32)>, line: u32, shown: SizesLine) -> ReadF
 {
     match shown.sizes() {
         None => ReadFault::EndsEarly,
-        Some(sizes) => {
-            match judged_sizes(pair, line, sizes) {
-                Err(fault) => fault,
-                Ok(_) => ReadFault::EndsEarly,
-            }
-        }
+        Some(sizes) => match judged_sizes(pair, line, sizes) {
+            Err(fault) => fault,
+            Ok(_) => ReadFault::EndsEarly,
+        },
     }
 }
 

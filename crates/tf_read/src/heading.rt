@@ -6,14 +6,14 @@ ghost use Rattle.tf_read.specs.Heading.{spelling, HeadingShown};
 
 use tf_words::word::is_white;
 
-#[derive(Clone, Copy, Debug)]
+#[derive(Clone, Copy)]
 pub(crate) enum HeadingWord {
     Instance,
     Name,
 }
 
 /// What the bytes of a line have shown of a heading.
-#[derive(Clone, Copy, Debug)]
+#[derive(Clone, Copy)]
 pub(crate) enum HeadingLine {
     /// The words before this one are over, and of this one so many bytes are there.
     Spelled(HeadingWord, usize),
@@ -67,17 +67,6 @@ fn ended(word: HeadingWord, matched: usize, len: usize) -> HeadingLine
     }
 }
 
-/// Whether the word is the name and all of it is there.
-fn is_whole(word: HeadingWord, matched: usize, name: &[u8]) -> bool
-    ensures { (bytes : List ℕ) → HeadingShown name.now bytes (HeadingLine.Spelled word matched) →
-        result ≡ is_name_line name.now (words bytes) }
-{
-    match word {
-        HeadingWord::Instance => false,
-        HeadingWord::Name => matched > 0 && matched == name.len(),
-    }
-}
-
 impl HeadingLine {
     /// The front of a line.
     pub(crate) fn new() -> HeadingLine
@@ -118,7 +107,10 @@ impl HeadingLine {
     {
         match self {
             HeadingLine::Whole => true,
-            HeadingLine::Spelled(word, matched) => is_whole(word, matched, name),
+            HeadingLine::Spelled(word, matched) => match word {
+                HeadingWord::Instance => false,
+                HeadingWord::Name => matched > 0 && matched == name.len(),
+            },
             HeadingLine::Other => false,
         }
     }

@@ -1,9 +1,7 @@
 //! The numbers of an instance as a file of OR-Library has them, of which its jobs are made.
-ghost use Rattle.std.specs.Prelude.{◌≡◌, ◌*◌, ◌<◌, ◌≤◌, length, map, IfSome, vec_len, vec_capacity};
+ghost use Rattle.std.specs.Prelude.{◌≡◌, ◌<◌, ◌≤◌, map, IfSome, vec_len, vec_capacity};
 ghost use Rattle.std.specs.List.{range_with_len};
 ghost use Rattle.tf_model.specs.TaskBuilder.{Takes};
-ghost use Rattle.tf_read.specs.WeightedTardiness.{tardiness_job};
-ghost use Rattle.tf_read.specs.Pairs.{kept_job};
 ghost use Rattle.tf_read.specs.InstanceNumbers.{job_of, HasJobs};
 
 use std::alloc::{Allocator, Global};
@@ -24,38 +22,6 @@ pub(crate) enum Columns<A: Allocator> {
     Shop(u32, Vec<i64, A>, Vec<i64, A>),
 }
 
-fn tardiness_job<A: Allocator>(jobs: usize, numbers: &[i64], j: usize) -> Job<A>
-    requires all { length numbers.now ≡ 3 * jobs }
-    requires there { j < jobs }
-    ensures { result ≡ tardiness_job jobs numbers.now j }
-{
-    Job {
-        times: Times::One(numbers[j]),
-        weight: Some(numbers[jobs + j]),
-        due: Some(numbers[2 * jobs + j]),
-        release: None,
-        cost: None,
-    }
-}
-
-fn shop_job<A: Allocator>(machines: u32, firsts: &[i64], seconds: &[i64], j: usize) -> Job<A>
-    requires first { j < length firsts.now }
-    requires second { j < length seconds.now }
-    ensures { result ≡ kept_job machines firsts.now seconds.now j }
-{
-    Job {
-        times: if machines == 1 {
-            Times::One(firsts[j])
-        } else {
-            Times::Two(firsts[j], seconds[j])
-        },
-        weight: None,
-        due: None,
-        release: None,
-        cost: None,
-    }
-}
-
 impl<A: Allocator> Columns<A> {
     /// One of so many jobs, from 0.
     fn job(&self, jobs: usize, j: usize) -> Job<A>
@@ -64,10 +30,24 @@ impl<A: Allocator> Columns<A> {
         ensures { result ≡ job_of jobs self.now j }
     {
         match self {
-            Columns::Tardiness(numbers) => tardiness_job(jobs, numbers.as_slice(), j),
-            Columns::Shop(machines, firsts, seconds) => {
-                shop_job(*machines, firsts.as_slice(), seconds.as_slice(), j)
-            }
+            Columns::Tardiness(numbers) => Job {
+                times: Times::One(numbers[j]),
+                weight: Some(numbers[jobs + j]),
+                due: Some(numbers[2 * jobs + j]),
+                release: None,
+                cost: None,
+            },
+            Columns::Shop(machines, firsts, seconds) => Job {
+                times: if *machines == 1 {
+                    Times::One(firsts[j])
+                } else {
+                    Times::Two(firsts[j], seconds[j])
+                },
+                weight: None,
+                due: None,
+                release: None,
+                cost: None,
+            },
         }
     }
 
@@ -103,11 +83,11 @@ impl<A: Allocator + Copy> Columns<A> {
 /// written before the instance is made.
 #[derive(Drop)]
 pub struct InstanceNumbers<A: Allocator = Global> {
-    columns: Columns<A>,
-    jobs: usize,
-    machines: Option<u32>,
+    pub(crate) columns: Columns<A>,
+    pub(crate) jobs: usize,
+    pub(crate) machines: Option<u32>,
     /// Room for the jobs.
-    room: Vec<Job<A>, A>,
+    pub(crate) room: Vec<Job<A>, A>,
 }
 
 impl<A: Allocator> Model for InstanceNumbers<A> {
@@ -128,31 +108,6 @@ impl<A: Allocator> Model for InstanceNumbers<A> {
 }
 
 impl<A: Allocator> InstanceNumbers<A> {
-    ghost use Rattle.std.specs.Prelude.{◌≡◌, ◌≤◌, vec_len, vec_capacity};
-    ghost use Rattle.tf_model.specs.InstanceData.{IsInstance};
-    ghost use Rattle.tf_read.specs.InstanceNumbers.{HasJobs, numbered};
-
-    /// Those of so many jobs, and room for these, where they are known to make an instance.
-    pub(crate) fn of(
-        columns: Columns<A>,
-        jobs: usize,
-        machines: Option<u32>,
-        room: Vec<Job<A>, A>,
-    ) -> Self
-        requires all { HasJobs jobs columns }
-        requires sound { IsInstance (numbered columns jobs machines) }
-        requires no_job { vec_len room ≡ 0 }
-        requires jobs_room { jobs ≤ vec_capacity room }
-        ensures { result ≡ numbered columns jobs machines }
-    {
-        InstanceNumbers {
-            columns,
-            jobs,
-            machines,
-            room,
-        }
-    }
-
     /// The instance. It takes no memory.
     pub fn into_instance(self, alloc: A) -> Instance<A>
         ensures { result ≡ self }

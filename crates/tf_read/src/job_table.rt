@@ -7,14 +7,13 @@ ghost use Rattle.tf_words.specs.Number.{number};
 ghost use Rattle.tf_model.specs.InstanceData.{count_fault};
 ghost use Rattle.tf_read.specs.Faults.{Gives, each_from};
 ghost use Rattle.tf_read.specs.NextJob.{HasNoJob, BeginsWithJob, BeginsWithFault};
-ghost use Rattle.tf_read.specs.JobTable.{machines_named, machines_at, job_line, is_arc};
+ghost use Rattle.tf_read.specs.JobTable.{machines_at, job_line, is_arc};
 ghost use Rattle.tf_read.specs.JobTable.{since_first, body_of, below_heading, is_table_heading};
 ghost use Rattle.tf_read.specs.JobTable.{job_table};
 
 use crate::arc::{arcs_of, is_arc};
 use crate::fault::ReadFault;
 use crate::field::job_of;
-use crate::room::room_for;
 use crate::usual::usual_job;
 use std::alloc::Allocator;
 use tf_model::instance::Instance;
@@ -27,32 +26,22 @@ use tf_words::word::{behind_key, first_word, is};
 /// The bytes of the shortest line of a job, `job 1 p=1` and a line feed.
 pub(crate) const SHORTEST_LINE: usize = 10;
 
-fn machine_count(line: u32, word: &[u8]) -> Result<u32, ReadFault>
-    ensures { result ≡ machines_named line (number word.now) }
-{
-    match number_of(word) {
-        Number::NotANumber => Err(ReadFault::BadNumber(line)),
-        Number::TooLarge => Err(ReadFault::BadLine(line)),
-        Number::Value(value) => {
-            if 1 <= value && value <= i64::from(MOST_MACHINES) {
-                Ok(value as u32)
-            } else {
-                Err(ReadFault::BadLine(line))
-            }
-        }
-    }
-}
-
 #[tactic(auto, unfolding(crate::specs::JobTable::machines_at))]
 fn machines_at(line: u32, text: &[u8]) -> Result<u32, ReadFault>
     ensures { result ≡ machines_at line (words text.now) }
 {
-    match first_word(text) {
-        None => Err(ReadFault::BadLine(line)),
-        Some((word, after)) => match first_word(after) {
-            Some(_) => Err(ReadFault::BadLine(line)),
-            None => machine_count(line, word),
-        },
+    let Some((word, after)) = first_word(text) else {
+        return Err(ReadFault::BadLine(line));
+    };
+    if first_word(after).is_some() {
+        return Err(ReadFault::BadLine(line));
+    }
+    match number_of(word) {
+        Number::NotANumber => Err(ReadFault::BadNumber(line)),
+        Number::Value(value) if 1 <= value && value <= i64::from(MOST_MACHINES) => {
+            Ok(value as u32)
+        }
+        _ => Err(ReadFault::BadLine(line)),
     }
 }
 
@@ -110,7 +99,7 @@ fn jobs_of<'a, A: Allocator + Copy>(
     ensures rest { IfOk result
         (λ x. word_lines_of x.1 ≡ since_first is_arc (word_lines_of lines.now)) }
 {
-    let room = room_for(lines.bytes_left(), SHORTEST_LINE, MOST_JOBS);
+    let room = MOST_JOBS.min((lines.bytes_left().len() + 1) / SHORTEST_LINE);
     let mut jobs = Vec::with_capacity(alloc, room)?;
     let mut rest = *lines;
     while let Some((job, after)) = next_job(alloc, jobs.len() as u32 + 1, &rest)? {

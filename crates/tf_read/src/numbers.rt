@@ -12,7 +12,7 @@ ghost use Rattle.tf_read.specs.WeightedTardiness.{tardiness_number_read, instanc
 
 use crate::fault::ReadFault;
 use crate::instance_numbers::{Columns, InstanceNumbers};
-use crate::number::{integer_of, natural_of};
+use crate::number::integer_of;
 use crate::word_feed::Judge;
 use std::alloc::{AllocError, Allocator};
 use std::marker::Model;
@@ -104,21 +104,6 @@ impl<A: Allocator> Numbers<A> {
     }
 
     /// The number of the next word, which is not negative where a time or a weight stands.
-    fn number_or_fault(&self, line: u32, number: Number) -> Result<i64, ReadFault>
-        requires wanted { self.now.count < tardiness_wanted self.now }
-        requires in_range { IsInRange number }
-        ensures value { result ≡ tardiness_number_read self.now.jobs self.now.count line number }
-        ensures in_range { IfOk result
-            (λ z. AreInRange self.now.jobs (with_number self.now z).numbers) }
-    {
-        if self.count % (3 * self.jobs) < 2 * self.jobs {
-            natural_of(line, number)
-        } else {
-            integer_of(line, number)
-        }
-    }
-
-    /// The same. The place counts only where a number is negative.
     #[inline(always)]
     fn number(&self, line: u32, number: Number) -> Result<i64, ReadFault>
         requires wanted { self.now.count < tardiness_wanted self.now }
@@ -127,13 +112,16 @@ impl<A: Allocator> Numbers<A> {
         ensures in_range { IfOk result
             (λ z. AreInRange self.now.jobs (with_number self.now z).numbers) }
     {
-        let _ = &self.jobs;
-        if let Number::Value(value) = number {
-            if value >= 0 {
-                return Ok(value);
-            }
+        let jobs = self.jobs;
+        let value = integer_of(line, number)?;
+        // The place counts only where a number is negative.
+        if value >= 0 {
+            return Ok(value);
         }
-        self.number_or_fault(line, number)
+        if self.count % (3 * jobs) < 2 * jobs {
+            return Err(ReadFault::Negative(line));
+        }
+        Ok(value)
     }
 
     fn keep(&mut self, value: i64)
@@ -178,8 +166,12 @@ impl<A: Allocator> Numbers<A> {
                     room,
                     ..
                 } = self;
-                let columns = Columns::Tardiness(numbers);
-                Ok(InstanceNumbers::of(columns, jobs as usize, None, room))
+                Ok(InstanceNumbers {
+                    columns: Columns::Tardiness(numbers),
+                    jobs: jobs as usize,
+                    machines: None,
+                    room,
+                })
             }
         }
     }

@@ -266,9 +266,12 @@ impl<A: Allocator> Pairs<A> {
                     room,
                     ..
                 } = self;
-                let columns = Columns::Shop(machines, firsts, seconds);
-                let count = machine_count(machines, pair);
-                Ok(InstanceNumbers::of(columns, jobs, Some(count), room))
+                Ok(InstanceNumbers {
+                    columns: Columns::Shop(machines, firsts, seconds),
+                    jobs,
+                    machines: Some(machine_count(machines, pair)),
+                    room,
+                })
             }
         }
     }

@@ -13,7 +13,7 @@ use tf_words::digits::with_digit;
 use tf_words::word::is_white;
 
 /// What the bytes of a line have shown of sizes. A number above the limit is cut off.
-#[derive(Clone, Copy, Debug)]
+#[derive(Clone, Copy)]
 pub(crate) enum SizesLine {
     /// No word.
     Blank,

@@ -11,7 +11,6 @@ ghost use Rattle.tf_read.specs.JobTable.{is_arc, job_line, job_table, since_firs
 
 use crate::arc::arcs_of;
 use crate::job_table::{SHORTEST_LINE, body_in, next_job};
-use crate::room::room_for;
 use std::alloc::Allocator;
 use tf_model::limit::MOST_JOBS;
 use tf_model::problem::Problem;
@@ -60,7 +59,7 @@ pub fn table_task<A: Allocator + Copy>(
     let Ok((given, lines)) = body_in(text) else {
         return None;
     };
-    let room = room_for(lines.bytes_left(), SHORTEST_LINE, MOST_JOBS);
+    let room = MOST_JOBS.min((lines.bytes_left().len() + 1) / SHORTEST_LINE);
     let mut builder = TaskBuilder::new(alloc, problem, machines, given, room)?;
     let (jobs, rest) = take_jobs(alloc, &lines, &mut builder)?;
     let Ok(arcs) = arcs_of(alloc, jobs, &rest) else {

@@ -1,18 +1,18 @@
 //! Weighted tardiness files, after OR-Library's: instances one after the other, each of n times,
 //! then n weights, then n due dates.
 ghost use Rattle.std.specs.Prelude.{◌≡◌, ◌+◌, ◌≤◌, List, [], ℕ, IfOk};
+ghost use Rattle.tf_model.specs.Limit.{most_bytes};
 ghost use Rattle.tf_read.specs.Faults.{Gives};
 ghost use Rattle.tf_read.specs.WeightedTardiness.{request_fault, weighted_tardiness};
 ghost use Rattle.tf_read.specs.WtReading.{line_in, HasTakenTardiness};
 
 use crate::fault::ReadFault;
 use crate::instance_numbers::InstanceNumbers;
-use crate::length::Length;
 use crate::numbers::Numbers;
 use crate::word_feed::WordFeed;
 use std::alloc::{Allocator, Global};
 use tf_model::instance::Instance;
-use tf_model::limit::MOST_JOBS;
+use tf_model::limit::{MOST_BYTES, MOST_JOBS};
 use tf_model::memory::OutOfMemory;
 use tf_words::feed::Feed;
 
@@ -23,10 +23,11 @@ use tf_words::feed::Feed;
 #[derive(Drop)]
 pub struct WtReader<A: Allocator = Global> {
     alloc: A,
-    length: Length,
+    // how many bytes may follow, and one that is too many
+    left: usize,
     /// The words, or why what was asked for is not there, whatever the text says.
     reading: Result<WordFeed<Numbers<A>>, ReadFault>,
-    ghost early: { line_in reading ≤ length.bytes + 1 },
+    ghost early: { line_in reading + left ≤ most_bytes + 2 },
 }
 
 /// Why there is no such instance in any text.
@@ -72,7 +73,7 @@ impl<A: Allocator + Copy> WtReader<A> {
     {
         WtReader {
             alloc,
-            length: Length::new(),
+            left: MOST_BYTES + 1,
             reading,
         }
     }
@@ -83,12 +84,8 @@ impl<A: Allocator + Copy> WtReader<A> {
         ensures { (says : TextSays) (fed : List ℕ) → HasFedTardiness self says fed →
             result ≡ says fed }
     {
-        let WtReader {
-            length,
-            reading,
-            ..
-        } = self;
-        if length.is_too_long() {
+        let WtReader { left, reading, .. } = self;
+        if left == 0 {
             return Err(ReadFault::TooLong);
         }
         match reading {
@@ -119,8 +116,8 @@ impl<A: Allocator + Copy> Feed for WtReader<A> {
     ghost Takes = { TakesTardiness };
 
     fn feed(&mut self, piece: &[u8]) {
-        self.length.grow(piece.len());
-        if self.length.is_too_long() {
+        self.left = self.left.saturating_sub(piece.len());
+        if self.left == 0 {
             return;
         }
         if let Ok(words) = &mut self.reading {

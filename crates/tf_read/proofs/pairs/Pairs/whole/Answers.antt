@@ -8,8 +8,8 @@ returns-in-Some g c = λ says seen h.
     sym (h.0 seen ∙ missing_is c.args.self seen c.in-Some.fault c.missing.ensures.within h.1
     (sym c.missing.ensures.value ∙ c.in-Some.is))
 
-pub of-requires-clause-all : goal.of-requires-clause-all
-of-requires-clause-all g c =
+pub invariant_of-result : goal.invariant_of-result
+invariant_of-result g c =
     let kept = c.self.invariant in
     let inside = c.self.inside in
     let over = all_over c.args.self (sym c.missing.ensures.value ∙ c.in-None.is) in
@@ -24,20 +24,22 @@ of-requires-clause-all g c =
     kept.few in
     let seconds = whole_length _ _ _ _ inside.second kept.seconds_len (kept.over over_here)
     over_here kept.few in
-    (omega (arith, firsts, inside.firsts.ok.0), omega (arith, seconds, inside.seconds.ok.0))
-
-pub of-requires-clause-sound : goal.of-requires-clause-sound
-of-requires-clause-sound g c =
-    let kept = c.self.invariant in
-    let inside = c.self.inside in
-    rw c.machine_count-count.ensures
-    (whole_judged inside.jobs inside.machines inside.pair inside.firsts.items inside.seconds.items
-    kept.some kept.jobs_few (omega (arith, kept.within)) kept.machines_few kept.first_times
-    kept.second_times)
+    record {
+      all = (
+        omega (arith, firsts, inside.firsts.ok.0),
+        omega (arith, seconds, inside.seconds.ok.0),
+      );
+      sound = rw c.machine_count.ensures
+          (whole_judged inside.jobs inside.machines inside.pair inside.firsts.items
+          inside.seconds.items kept.some kept.jobs_few (omega (arith, kept.within))
+          kept.machines_few kept.first_times kept.second_times);
+      no_job = kept.no_job;
+      jobs_room = kept.jobs_room;
+    }
 
 pub returns-in-None : goal.returns-in-None
 returns-in-None g c = λ says seen h.
-    rw (c.of.ensures, c.machine_count-count.ensures)
+    rw c.machine_count.ensures
     (sym (h.0 seen ∙ whole_is c.args.self seen c.missing.ensures.few c.missing.ensures.over
     c.missing.ensures.over_named h.1 (sym c.missing.ensures.value ∙ c.in-None.is)
     ∙ rw (← c.self.view_is) refl))

@@ -6,6 +6,6 @@ returns g c = λ n k taken. record {
   jobs = n;
   index = k;
   wanted = λ text. refl;
-  length_is = c.new.ensures;
+  left = refl;
   taken = λ short. taken;
 }
