@@ -21,10 +21,10 @@ use Rattle.tf_text.specs.AnswerText.{SheetData, version, piece_words, side_word,
 use Rattle.tf_words.specs.LineParts.{after_word, without_return}
 use Rattle.tf_words.specs.Ranged.{is_number}
 use Rattle.tf_text.specs.Readable.{IsCount, IsReadablePiece, AreFew, AreListed, IsReadableClaim, IsReadable}
-use Rattle.tf_text.specs.AnswerReading.{count_in, time_in, value_in, side_of, most_job, most_machine, is_item, few, jobs_listed, jobs_in, exactly, heading_at, problem_in, problem_at, word_behind, count_at, value_at, piece_in, pieces_at, split_in, claim_in, kind_in, certificate_in, certificate_at, answer_at, sheet_of, answer_in}
+use Rattle.tf_text.specs.AnswerReading.{count_in, time_in, value_in, side_of, is_item, few, jobs_listed, jobs_in, exactly, heading_at, problem_in, problem_at, word_behind, count_at, value_at, piece_in, pieces_at, split_in, claim_in, kind_in, certificate_in, certificate_at, answer_at, sheet_of, answer_in}
 use Rattle.tf_notation.proofs.Again.{IsCounted, again}
 use Rattle.tf_notation.proofs.Counted.{is_counted}
-use Rattle.tf_model.specs.Limit.{most_bytes, most_jobs}
+use Rattle.tf_model.specs.Limit.{most_bytes, most_jobs, most_machines}
 use Rattle.tf_text.proofs.BehindBlank.{behind_blank}
 use Rattle.tf_text.proofs.NotationWord.{word-canonical, behind_problem, no_return}
 use mir.Val.{SFits}
@@ -69,17 +69,17 @@ piece_again : (line : ℕ) (p : Piece) → IsReadablePiece p
     → piece_in line (drop 1 (piece_words p)) ≡ Ok p
 unfolding piece_in
 piece_again line p is =
-    let a : is_number (decimal p.job) ≡ true = number_count most_job p.job (lit< tt) is.0 in
+    let a : is_number (decimal p.job) ≡ true = number_count most_jobs p.job (lit< tt) is.0 in
     let b : is_number (decimal p.machine) ≡ true =
-    number_count most_machine p.machine (lit< tt) is.1 in
+    number_count most_machines p.machine (lit< tt) is.1 in
     let c : is_number (signed_decimal p.start) ≡ true =
     ap is_some (numeral-signed p.start (omega (arith, ints, is.2))) in
     let d : is_number (signed_decimal p.stop) ≡ true =
     ap is_some (numeral-signed p.stop (omega (arith, ints, is.3))) in
-    let job : count_in line most_job (decimal p.job) ≡ Ok p.job =
-    count-decimal line most_job p.job (lit< tt) is.0 in
-    let machine : count_in line most_machine (decimal p.machine) ≡ Ok p.machine =
-    count-decimal line most_machine p.machine (lit< tt) is.1 in
+    let job : count_in line most_jobs (decimal p.job) ≡ Ok p.job =
+    count-decimal line most_jobs p.job (lit< tt) is.0 in
+    let machine : count_in line most_machines (decimal p.machine) ≡ Ok p.machine =
+    count-decimal line most_machines p.machine (lit< tt) is.1 in
     let start : time_in line (signed_decimal p.start) ≡ Ok p.start =
     time-signed line p.start is.2 in
     let stop : time_in line (signed_decimal p.stop) ≡ Ok p.stop = time-signed line p.stop is.3 in
@@ -90,9 +90,9 @@ key_words : (p : Piece) → IsReadablePiece p → AreWords (piece_words p)
 key_words p is = (
   record { some = omega arith; dark = refl },
   (
-    word_count most_job p.job (lit< tt) is.0,
+    word_count most_jobs p.job (lit< tt) is.0,
     (
-      word_count most_machine p.machine (lit< tt) is.1,
+      word_count most_machines p.machine (lit< tt) is.1,
       (word-time p.start is.2, (word-time p.stop is.3, tt)),
     ),
   ),
@@ -134,11 +134,11 @@ certificate_again layout line (BySplit side delta first) is =
     split_again layout line side delta first is.0 is.1
 certificate_again layout line ByLoad is = refl
 certificate_again layout line (ByMachine machine) is =
-    let read : count_in line most_machine (decimal machine) ≡ Ok machine =
-    count-decimal line most_machine machine (lit< tt) is in rw read refl
+    let read : count_in line most_machines (decimal machine) ≡ Ok machine =
+    count-decimal line most_machines machine (lit< tt) is in rw read refl
 certificate_again layout line (ByOneJob job) is =
-    let read : count_in line most_job (decimal job) ≡ Ok job =
-    count-decimal line most_job job (lit< tt) is in rw read refl
+    let read : count_in line most_jobs (decimal job) ≡ Ok job =
+    count-decimal line most_jobs job (lit< tt) is in rw read refl
 certificate_again layout line (ByRanks jobs) is =
     let read : jobs_in One line (map decimal jobs) ≡ Ok jobs = jobs_again One line jobs (is, tt) in
     rw read refl
@@ -248,9 +248,9 @@ claim_are_words layout (BySplit side delta false) is = (
 )
 claim_are_words layout ByLoad is = (record { some = omega arith; dark = refl }, tt)
 claim_are_words layout (ByMachine machine) is =
-    (record { some = omega arith; dark = refl }, (word_count most_machine machine (lit< tt) is, tt))
+    (record { some = omega arith; dark = refl }, (word_count most_machines machine (lit< tt) is, tt))
 claim_are_words layout (ByOneJob job) is =
-    (record { some = omega arith; dark = refl }, (word_count most_job job (lit< tt) is, tt))
+    (record { some = omega arith; dark = refl }, (word_count most_jobs job (lit< tt) is, tt))
 claim_are_words layout (ByRanks jobs) is =
     (record { some = omega arith; dark = refl }, list_words One jobs is)
 
@@ -352,7 +352,7 @@ sheet_are_lines layout s is counted = (
       record {
         words =
             keyed (codes "jobs") (decimal s.jobs) (record { some = omega arith; dark = refl })
-            (word_count most_job s.jobs (lit< tt) is.jobs);
+            (word_count most_jobs s.jobs (lit< tt) is.jobs);
         kept = refl;
       },
       (
@@ -360,7 +360,7 @@ sheet_are_lines layout s is counted = (
           words =
               keyed (codes "machines") (decimal s.machines)
               (record { some = omega arith; dark = refl })
-              (word_count most_machine s.machines (lit< tt) is.machines);
+              (word_count most_machines s.machines (lit< tt) is.machines);
           kept = refl;
         },
         (
@@ -387,14 +387,14 @@ sheet_again layout s is counted read =
     let problem : problem_at (numbered 2 (drop 1 (answer_lines layout s)))
     ≡ Ok (s.problem, numbered 3 (drop 2 (answer_lines layout s))) =
     problem_again 2 s.problem _ counted read in
-    let jobs : count_at (codes "jobs") most_job (numbered 3 (drop 2 (answer_lines layout s)))
+    let jobs : count_at (codes "jobs") most_jobs (numbered 3 (drop 2 (answer_lines layout s)))
     ≡ Ok (s.jobs, numbered 4 (drop 3 (answer_lines layout s))) =
-    count_again 3 (codes "jobs") most_job s.jobs _ (record { some = omega arith; dark = refl }) refl
+    count_again 3 (codes "jobs") most_jobs s.jobs _ (record { some = omega arith; dark = refl }) refl
     (lit< tt) is.jobs in
-    let machines : count_at (codes "machines") most_machine
+    let machines : count_at (codes "machines") most_machines
     (numbered 4 (drop 3 (answer_lines layout s)))
     ≡ Ok (s.machines, numbered 5 (result_lines layout s.answer)) =
-    count_again 4 (codes "machines") most_machine s.machines _
+    count_again 4 (codes "machines") most_machines s.machines _
     (record { some = omega arith; dark = refl }) refl (lit< tt) is.machines in
     let answer : answer_at layout (numbered 5 (result_lines layout s.answer)) ≡ Ok s.answer =
     answer_again layout 5 s.answer is.value is.pieces is.certificate in

@@ -12,12 +12,13 @@ use Rattle.std.proofs.lemmas.Fmt.{decimal_is_IsNumeral}
 use Rattle.tf_words.specs.Number.{is_numeral}
 use Rattle.tf_words.specs.Words.{is_white}
 use Rattle.tf_model.proofs.Ranges.{range_push}
+use Rattle.tf_model.specs.Limit.{most_jobs}
 use Rattle.tf_text.specs.declared.answer.layout.Layout.{Layout}
 use Rattle.tf_text.specs.declared.answer.layout.Layout.TheVariants.{One, Two}
 use Rattle.tf_text.specs.declared.answer.run.Run.{Run}
 use Rattle.tf_words.specs.Ranged.{is_number}
 use Rattle.tf_text.specs.JobWords.{alone, run_jobs, before, runs, range_word, run_words, job_words}
-use Rattle.tf_text.specs.AnswerReading.{most_job, range_ends, is_item, count_in, run_in, jobs_from}
+use Rattle.tf_text.specs.AnswerReading.{range_ends, is_item, count_in, run_in, jobs_from}
 use Rattle.tf_text.specs.Readable.{IsCount, AreJobs}
 use Rattle.tf_text.proofs.Numerals.{decimal_numeral, word-decimal, numeral-decimal, count-decimal}
 use Rattle.tf_text.proofs.Reading.{with_jobs, no_jobs, word_read, with_twice}
@@ -63,7 +64,7 @@ part_before run job (next ∷ more) other = elim (cases_Bool (eqb next.first (jo
 ]
 
 -- its jobs are jobs that a text may name
-range_are_jobs : (a n : ℕ) → 1 ≤ a → a + n ≤ most_job + 1 → AreJobs (range_with_len a n)
+range_are_jobs : (a n : ℕ) → 1 ≤ a → a + n ≤ most_jobs + 1 → AreJobs (range_with_len a n)
 range_are_jobs a zero low high = tt
 range_are_jobs a (suc n) low high =
     ((low, omega arith), range_are_jobs (a + 1) n (omega arith) (omega arith))
@@ -118,26 +119,26 @@ range_none a small =
     rw (place, nowhere) refl
 
 -- a job alone is read as a run of one
-alone_read : (line job : ℕ) → IsCount most_job job → run_in line (decimal job) ≡ Ok (alone job)
+alone_read : (line job : ℕ) → IsCount most_jobs job → run_in line (decimal job) ≡ Ok (alone job)
 unfolding run_in
 alone_read line job is =
     let none : range_ends (decimal job) ≡ None = range_none job (omega (arith, is.1)) in
-    let number : count_in line most_job (decimal job) ≡ Ok job =
-    count-decimal line most_job job (lit< tt) is in
+    let number : count_in line most_jobs (decimal job) ≡ Ok job =
+    count-decimal line most_jobs job (lit< tt) is in
     rw (none, number) refl
 
 -- a range is read as its run
-range_read : (line : ℕ) (run : Run) → IsCount most_job run.first → IsCount most_job run.last
+range_read : (line : ℕ) (run : Run) → IsCount most_jobs run.first → IsCount most_jobs run.last
     → run.first < run.last → run_in line (range_word run) ≡ Ok run
 unfolding run_in
 range_read line run is-first is-last above =
     let found : range_ends (decimal run.first ++ 45 ∷ decimal run.last)
     ≡ Some (decimal run.first, decimal run.last) =
     range_found run.first run.last (omega (arith, is-first.1)) (omega (arith, is-last.1)) in
-    let first : count_in line most_job (decimal run.first) ≡ Ok run.first =
-    count-decimal line most_job run.first (lit< tt) is-first in
-    let last : count_in line most_job (decimal run.last) ≡ Ok run.last =
-    count-decimal line most_job run.last (lit< tt) is-last in
+    let first : count_in line most_jobs (decimal run.first) ≡ Ok run.first =
+    count-decimal line most_jobs run.first (lit< tt) is-first in
+    let last : count_in line most_jobs (decimal run.last) ≡ Ok run.last =
+    count-decimal line most_jobs run.last (lit< tt) is-last in
     let order : ltb run.first run.last ≡ true = lt-ltb _ _ above in
     rw (found, first, last, order) refl
 
@@ -155,7 +156,7 @@ numbers_read line (job ∷ jobs) more are =
 
 -- a run is read as its jobs
 run_read : (line : ℕ) (run : Run) (more : List (List ℕ)) → 1 ≤ run.first → run.first ≤ run.last
-    → run.last ≤ most_job
+    → run.last ≤ most_jobs
     → jobs_from line (run_words run ++ more) ≡ with_jobs (run_jobs run) (jobs_from line more)
 run_read line run more low order high = elim (cases_Bool (ltb (run.first + 1) run.last)) [
   | inl e ↦ (
@@ -170,7 +171,7 @@ run_read line run more low order high = elim (cases_Bool (ltb (run.first + 1) ru
 
 -- the runs of a list are read as the list
 runs_read : (line : ℕ) (run : Run) (jobs : List ℕ) → 1 ≤ run.first → run.first ≤ run.last
-    → run.last ≤ most_job → AreJobs jobs
+    → run.last ≤ most_jobs → AreJobs jobs
     → jobs_from line (flat_map run_words (before run (runs jobs))) ≡ Ok (run_jobs run ++ jobs)
 unfolding runs jobs_from
 runs_read line run [] low order high are = run_read line run [] low order high
@@ -212,7 +213,7 @@ pub record IsItem (layout : Layout) (word : List ℕ) : Type 0 where
 abbrev AreItems : Layout → List (List ℕ) → Type 0
 AreItems layout = AllByRecursion (IsItem layout)
 
-number_item : (layout : Layout) (job : ℕ) → IsCount most_job job → IsItem layout (decimal job)
+number_item : (layout : Layout) (job : ℕ) → IsCount most_jobs job → IsItem layout (decimal job)
 number_item One job is =
     record {
       dark = word-decimal job (omega (arith, is.1));
@@ -223,7 +224,7 @@ number_item Two job is =
     ap is_some (numeral-decimal job (omega (arith, is.1))) in
     record { dark = word-decimal job (omega (arith, is.1)); form = rw number refl }
 
-range_item : (run : Run) → run.first ≤ most_job → run.last ≤ most_job → IsItem Two (range_word run)
+range_item : (run : Run) → run.first ≤ most_jobs → run.last ≤ most_jobs → IsItem Two (range_word run)
 range_item run first last =
     let found : range_ends (decimal run.first ++ 45 ∷ decimal run.last)
     ≡ Some (decimal run.first, decimal run.last) =
@@ -251,7 +252,7 @@ append_items : (layout : Layout) (xs ys : List (List ℕ)) → AreItems layout x
 append_items layout [] ys h k = k
 append_items layout (x ∷ xs) ys h k = (h.0, append_items layout xs ys h.1 k)
 
-run_items : (run : Run) → 1 ≤ run.first → run.first ≤ run.last → run.last ≤ most_job
+run_items : (run : Run) → 1 ≤ run.first → run.first ≤ run.last → run.last ≤ most_jobs
     → AreItems Two (run_words run)
 run_items run low order high = elim (cases_Bool (ltb (run.first + 1) run.last)) [
   | inl e ↦ rw e (range_item run (omega arith) high, tt)
@@ -261,7 +262,7 @@ run_items run low order high = elim (cases_Bool (ltb (run.first + 1) run.last)) 
 ]
 
 runs_items : (run : Run) (jobs : List ℕ) → 1 ≤ run.first → run.first ≤ run.last
-    → run.last ≤ most_job → AreJobs jobs
+    → run.last ≤ most_jobs → AreJobs jobs
     → AreItems Two (flat_map run_words (before run (runs jobs)))
 unfolding runs
 runs_items run [] low order high are =

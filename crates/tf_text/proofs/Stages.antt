@@ -1,14 +1,14 @@
 -- What a line of an answer text leads to.
 use Rattle.std.proofs.Common.{◌≡◌, ℕ, zero, suc, ℤ, ◌+◌, ◌-◌, ◌<◌, ◌≤◌, true, false, List, [], ◌∷◌, ◌++◌, length, codes, Result, Ok, Err, IsErrAnd, MatchResult, refl, sym, ap, subst, ◌∙◌, append-nil, arith}
 use Rattle.std.proofs.lemmas.Bool.{lt-ltb, le-ltb}
-use Rattle.tf_model.specs.Limit.{most_bytes}
+use Rattle.tf_model.specs.Limit.{most_bytes, most_jobs, most_machines}
 use Rattle.tf_model.specs.Outcome.{◌>>=◌}
 use Rattle.tf_model.specs.declared.problem.Problem.{Problem}
 use Rattle.tf_words.specs.Words.{words, lines, first_is, is_kept, KeptLine, kept_lines}
 use Rattle.tf_schedule.specs.declared.piece.Piece.{Piece}
 use Rattle.tf_check.specs.Claim.{Claim, AnswerData}
 use Rattle.tf_text.specs.AnswerText.{SheetData}
-use Rattle.tf_text.specs.AnswerReading.{Fails, Gives, line_at, is_exactly, piece_in, pieces_at, exactly, finished, most_job, most_machine, heading_at, problem_at, count_at, value_at, certificate_at, answer_at, sheet_of, answer_in}
+use Rattle.tf_text.specs.AnswerReading.{Fails, Gives, line_at, is_exactly, piece_in, pieces_at, exactly, finished, heading_at, problem_at, count_at, value_at, certificate_at, answer_at, sheet_of, answer_in}
 use Rattle.tf_text.specs.NextPiece.{Read, with_pieces, Moves}
 use Rattle.tf_text.specs.AnswerStage.{HeadData, sheet_from, from_over, from_end, from_certificate, from_pieces, from_value, from_machines, from_jobs, from_problem, Leads}
 use Rattle.tf_text.specs.declared.answer.fault.AnswerFault.{AnswerFault}
@@ -114,26 +114,26 @@ module _ (layout : Layout) where
   machines_part problem jobs (Err e) = refl
 
   jobs_part : (problem : Problem) (read : Result (ℕ × List KeptLine) AnswerFault)
-      → (read >>= λ x. (count_at (codes "machines") most_machine x.1 >>= λ y.
+      → (read >>= λ x. (count_at (codes "machines") most_machines x.1 >>= λ y.
       (answer_at layout y.1 >>= λ answer.
       Ok (record { problem = problem; jobs = x.0; machines = y.0; answer = answer }))))
       ≡ (read >>= λ x. from_machines layout problem x.0 x.1)
   jobs_part problem (Ok x) =
-      machines_part problem x.0 (count_at (codes "machines") most_machine x.1)
+      machines_part problem x.0 (count_at (codes "machines") most_machines x.1)
   jobs_part problem (Err e) = refl
 
   problem_part : (read : Result (Problem × List KeptLine) AnswerFault)
-      → (read >>= λ p. (count_at (codes "jobs") most_job p.1 >>= λ x.
-      (count_at (codes "machines") most_machine x.1 >>= λ y.
+      → (read >>= λ p. (count_at (codes "jobs") most_jobs p.1 >>= λ x.
+      (count_at (codes "machines") most_machines x.1 >>= λ y.
       (answer_at layout y.1 >>= λ answer.
       Ok (record { problem = p.0; jobs = x.0; machines = y.0; answer = answer })))))
       ≡ (read >>= λ p. from_jobs layout p.0 p.1)
-  problem_part (Ok p) = jobs_part p.0 (count_at (codes "jobs") most_job p.1)
+  problem_part (Ok p) = jobs_part p.0 (count_at (codes "jobs") most_jobs p.1)
   problem_part (Err e) = refl
 
 heading_part : (read : Result (Layout × List KeptLine) AnswerFault)
-    → (read >>= λ v. (problem_at v.1 >>= λ p. (count_at (codes "jobs") most_job p.1 >>= λ x.
-    (count_at (codes "machines") most_machine x.1 >>= λ y. (answer_at v.0 y.1 >>= λ answer.
+    → (read >>= λ v. (problem_at v.1 >>= λ p. (count_at (codes "jobs") most_jobs p.1 >>= λ x.
+    (count_at (codes "machines") most_machines x.1 >>= λ y. (answer_at v.0 y.1 >>= λ answer.
     Ok (record { problem = p.0; jobs = x.0; machines = y.0; answer = answer }))))))
     ≡ (read >>= λ v. from_problem v.0 v.1)
 heading_part (Ok v) = problem_part v.0 (problem_at v.1)

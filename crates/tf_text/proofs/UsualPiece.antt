@@ -7,7 +7,8 @@ use Rattle.tf_words.specs.FirstLine.{IsNumeralOf, IsWordBefore, IsLineEnd, first
 use Rattle.tf_words.proofs.FirstLine.{word_first, line_ends, return_ends, numeral_parts}
 use Rattle.tf_words.proofs.NumeralOf.{Few, as_pos, numeral_is}
 use Rattle.tf_schedule.specs.declared.piece.Piece.{Piece}
-use Rattle.tf_text.specs.AnswerReading.{counted, count_in, signed_within, time_in, most_job, most_machine, piece_in, pieces_at}
+use Rattle.tf_model.specs.Limit.{most_jobs, most_machines}
+use Rattle.tf_text.specs.AnswerReading.{counted, count_in, signed_within, time_in, piece_in, pieces_at}
 use Rattle.tf_text.specs.NextPiece.{IsUsual, with_pieces, Moves}
 use Rattle.tf_text.proofs.Reading.{piece_read}
 use Rattle.tf_text.proofs.Stages.{kept_line}
@@ -42,10 +43,10 @@ time_is line n word is few =
 pub record AreFour (a b c d : List ℕ) (j m s t : ℕ) : Type 0 where
   pub job : IsNumeralOf a j
   pub job_low : 1 ≤ j
-  pub job_high : j ≤ most_job
+  pub job_high : j ≤ most_jobs
   pub machine : IsNumeralOf b m
   pub machine_low : 1 ≤ m
-  pub machine_high : m ≤ most_machine
+  pub machine_high : m ≤ most_machines
   pub start : IsNumeralOf c s
   pub start_few : Few s
   pub stop : IsNumeralOf d t
@@ -67,8 +68,8 @@ read_piece n a b c d job machine start stop are =
       is_number_word c start are.start,
       is_number_word d stop are.stop,
     )
-    (rw (count_is n most_job job a are.job are.job_low are.job_high)
-    (rw (count_is n most_machine machine b are.machine are.machine_low are.machine_high)
+    (rw (count_is n most_jobs job a are.job are.job_low are.job_high)
+    (rw (count_is n most_machines machine b are.machine are.machine_low are.machine_high)
     (rw (time_is n start c are.start are.start_few)
     (rw (time_is n stop d are.stop are.stop_few) refl))))
 

@@ -1,7 +1,7 @@
 -- What an answer text says, or its first fault. A line that is kept is read by its words.
 use Rattle.std.specs.Prelude.{ℕ, ℤ, pos, negsuc, Bool, true, false, ◌&&◌, ◌||◌, List, [], ◌∷◌, ◌++◌, length, drop, codes, Option, Some, None, is_some, Result, Ok, Err, nat_lt, neg_ℤ, if◌then◌else◌}
 use Rattle.std.specs.List.{list_all}
-use Rattle.std.specs.Option.{option_map_or}
+use Rattle.std.specs.Option.{option_map_or, ok_or}
 use Rattle.std.specs.Str.{bytes_eq}
 use Rattle.std.specs.Cmp.Lexicographic.{pointwise}
 use Rattle.tf_model.specs.Outcome
@@ -41,13 +41,6 @@ Gives = Outcome.Gives fault_in
 
 -- ---- numbers
 
--- the greatest numbers of a job and of a machine that a text may name
-abbrev pub most_job : ℕ
-most_job = most_jobs
-
-abbrev pub most_machine : ℕ
-most_machine = most_machines
-
 -- a number that counts from 1: below 1 the line is none of its kind
 abbrev pub counted : ℕ → Ranged → Result ℕ AnswerFault
 counted line NotANumber = Err (BadLine line)
@@ -78,12 +71,10 @@ value_in line word =
 -- ---- lists of jobs
 
 -- both words, if each is of digits alone
-abbrev pub numerals : List ℕ → List ℕ → Option (List ℕ × List ℕ)
-numerals first last = if is_numeral first && is_numeral last then Some (first, last) else None
-
 abbrev pub ends_of : Option (List ℕ × List ℕ) → Option (List ℕ × List ℕ)
 ends_of None = None
-ends_of (Some (first, last)) = numerals first last
+ends_of (Some (first, last)) =
+    if is_numeral first && is_numeral last then Some (first, last) else None
 
 -- the two numbers of a range: digits, one '-', digits
 unfoldable pub range_ends : List ℕ → Option (List ℕ × List ℕ)
@@ -94,20 +85,15 @@ abbrev pub is_item : Layout → List ℕ → Bool
 is_item One word = is_number word
 is_item Two word = is_number word || is_some (range_ends word)
 
--- the second job is above the first
-abbrev pub ordered : ℕ → ℕ → ℕ → Result Run AnswerFault
-ordered line first last =
-    if nat_lt first last then Ok (record { first = first; last = last }) else Err (BadLine line)
-
--- the numbers of a range from left to right, or the only one of a job
+-- the numbers of a range from left to right, the first below the last, or the only one of a job
 abbrev pub run_of : ℕ → List ℕ → Option (List ℕ × List ℕ) → Result Run AnswerFault
 run_of line word None = do
-  job ← count_in line most_job word
+  job ← count_in line most_jobs word
   Ok (alone job)
 run_of line word (Some (left, right)) = do
-  first ← count_in line most_job left
-  last ← count_in line most_job right
-  ordered line first last
+  first ← count_in line most_jobs left
+  last ← count_in line most_jobs right
+  if nat_lt first last then Ok (record { first = first; last = last }) else Err (BadLine line)
 
 -- a word as a run of jobs
 unfoldable pub run_in : ℕ → List ℕ → Result Run AnswerFault
@@ -155,15 +141,10 @@ next [] = Err EndsEarly
 next (line ∷ more) = Ok (line, more)
 
 -- the lines behind a line of exactly these words
-abbrev pub passed : List (List ℕ) → KeptLine → List KeptLine → Result (List KeptLine) AnswerFault
-passed wanted line more =
-    if is_exactly wanted (words line.bytes) then Ok more else Err (BadLine line.number)
-
--- the line of exactly these words, and those behind it
 unfoldable pub exactly : List (List ℕ) → List KeptLine → Result (List KeptLine) AnswerFault
 exactly wanted all = do
   (line, more) ← next all
-  passed wanted line more
+  if is_exactly wanted (words line.bytes) then Ok more else Err (BadLine line.number)
 
 -- the version that a heading names
 abbrev pub version_in : List (List ℕ) → Option Layout
@@ -172,14 +153,9 @@ version_in words =
     else if is_exactly (codes "answer" ∷ version Two ∷ []) words then Some Two
     else None
 
--- the version that a line names
-abbrev pub versioned : ℕ → Option Layout → Result Layout AnswerFault
-versioned line None = Err (BadLine line)
-versioned line (Some layout) = Ok layout
-
 -- the heading
 abbrev pub heading_in : KeptLine → Result Layout AnswerFault
-heading_in line = versioned line.number (version_in (words line.bytes))
+heading_in line = ok_or (version_in (words line.bytes)) (BadLine line.number)
 
 -- what the next line says, and those after it
 abbrev pub line_at : {X : Type 0} → (KeptLine → Result X AnswerFault) → List KeptLine
@@ -239,22 +215,18 @@ value_at all = line_at value_line all
 
 -- ---- the pieces
 
--- the words of a job, a machine, a start and a stop
-abbrev pub Four : Type 0
-Four = List ℕ × List ℕ × List ℕ × List ℕ
-
 -- the words, if there are four
-abbrev pub four : List (List ℕ) → Option Four
+abbrev pub four : List (List ℕ) → Option (List ℕ × List ℕ × List ℕ × List ℕ)
 four (a ∷ b ∷ c ∷ d ∷ []) = Some (a, b, c, d)
 four _ = None
 
--- the form before the numbers, and these from left to right
-abbrev pub piece_of : ℕ → Option Four → Result Piece AnswerFault
+-- the form before the numbers: a job, a machine, a start and a stop
+abbrev pub piece_of : ℕ → Option (List ℕ × List ℕ × List ℕ × List ℕ) → Result Piece AnswerFault
 piece_of line None = Err (BadLine line)
 piece_of line (Some (a, b, c, d)) =
     if is_number a && is_number b && is_number c && is_number d then (do
-      job ← count_in line most_job a
-      machine ← count_in line most_machine b
+      job ← count_in line most_jobs a
+      machine ← count_in line most_machines b
       start ← time_in line c
       stop ← time_in line d
       Ok (record { job = job; machine = machine; start = start; stop = stop }))
@@ -315,9 +287,9 @@ claim_in layout line kind words =
     else if bytes_eq kind (codes "split") then split_in layout line words
     else if bytes_eq kind (codes "load") then bare line ByLoad words
     else if bytes_eq kind (codes "machine")
-    then (only line words >>= count_in line most_machine >>= λ machine. Ok (ByMachine machine))
+    then (only line words >>= count_in line most_machines >>= λ machine. Ok (ByMachine machine))
     else if bytes_eq kind (codes "job")
-    then (only line words >>= count_in line most_job >>= λ job. Ok (ByOneJob job))
+    then (only line words >>= count_in line most_jobs >>= λ job. Ok (ByOneJob job))
     else if bytes_eq kind (codes "ranks")
     then (jobs_in One line words >>= λ jobs. Ok (ByRanks jobs))
     else Err (BadLine line)
@@ -359,8 +331,8 @@ unfoldable pub sheet_of : List KeptLine → Result SheetData AnswerFault
 sheet_of all = do
   (layout, rest) ← heading_at all
   (problem, rest) ← problem_at rest
-  (jobs, rest) ← count_at (codes "jobs") most_job rest
-  (machines, rest) ← count_at (codes "machines") most_machine rest
+  (jobs, rest) ← count_at (codes "jobs") most_jobs rest
+  (machines, rest) ← count_at (codes "machines") most_machines rest
   answer ← answer_at layout rest
   Ok (record { problem = problem; jobs = jobs; machines = machines; answer = answer })
 

@@ -5,8 +5,9 @@ use Rattle.tf_model.specs.declared.problem.Problem.{Problem}
 use Rattle.tf_words.specs.Words.{KeptLine}
 use Rattle.tf_schedule.specs.declared.piece.Piece.{Piece}
 use Rattle.tf_check.specs.Claim.{AnswerData}
+use Rattle.tf_model.specs.Limit.{most_jobs, most_machines}
 use Rattle.tf_text.specs.AnswerText.{SheetData}
-use Rattle.tf_text.specs.AnswerReading.{Fails, most_job, most_machine, exactly, finished, problem_at, count_at, value_at, pieces_at, certificate_at, sheet_of}
+use Rattle.tf_text.specs.AnswerReading.{Fails, exactly, finished, problem_at, count_at, value_at, pieces_at, certificate_at, sheet_of}
 use Rattle.tf_text.specs.declared.answer.fault.AnswerFault.{AnswerFault}
 use Rattle.tf_text.specs.declared.answer.layout.Layout.{Layout}
 use Rattle.tf_text.specs.declared.answer.head.Head.{Head}
@@ -55,13 +56,13 @@ abbrev pub from_value : HeadData → List KeptLine → Outcome
 from_value h all = value_at all >>= λ x. from_pieces h x.0 [] x.1
 
 abbrev pub from_machines : Layout → Problem → ℕ → List KeptLine → Outcome
-from_machines layout problem jobs all = count_at (codes "machines") most_machine all >>= λ x.
+from_machines layout problem jobs all = count_at (codes "machines") most_machines all >>= λ x.
     from_value
     (record { layout = layout; problem = problem; jobs = jobs; machines = x.0 }) x.1
 
 abbrev pub from_jobs : Layout → Problem → List KeptLine → Outcome
 from_jobs layout problem all =
-    count_at (codes "jobs") most_job all >>= λ x. from_machines layout problem x.0 x.1
+    count_at (codes "jobs") most_jobs all >>= λ x. from_machines layout problem x.0 x.1
 
 abbrev pub from_problem : Layout → List KeptLine → Outcome
 from_problem layout all = problem_at all >>= λ x. from_jobs layout x.0 x.1

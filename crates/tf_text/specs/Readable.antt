@@ -3,12 +3,11 @@ use Rattle.std.specs.Prelude.{ℕ, ◌≤◌, List, length}
 use Rattle.std.specs.Int.RustNames.{FitsSigned}
 use Rattle.std.specs.List.{AllByRecursion}
 use Rattle.tf_model.specs.Whole.{IsWithin}
-use Rattle.tf_model.specs.Limit.{most_jobs}
+use Rattle.tf_model.specs.Limit.{most_jobs, most_machines}
 use Rattle.tf_notation.specs.Reading.{IsRead}
 use Rattle.tf_schedule.specs.declared.piece.Piece.{Piece}
 use Rattle.tf_check.specs.Claim.{Claim, ByPairs, ByLastOf, ByWindow, BySplit, ByLoad, ByMachine, ByOneJob, ByRanks}
 use Rattle.tf_text.specs.AnswerText.{SheetData}
-use Rattle.tf_text.specs.AnswerReading.{most_job, most_machine}
 use Rattle.tf_text.specs.declared.answer.layout.Layout.{Layout}
 use Rattle.tf_text.specs.declared.answer.layout.Layout.TheVariants.{One, Two}
 use mir.Syntax.{w64}
@@ -19,12 +18,12 @@ IsCount most n = (1 ≤ n) × (n ≤ most)
 
 -- a piece whose job, machine and times are in their ranges
 abbrev pub IsReadablePiece : Piece → Type 0
-IsReadablePiece p = IsCount most_job p.job × IsCount most_machine p.machine × IsWithin p.start
+IsReadablePiece p = IsCount most_jobs p.job × IsCount most_machines p.machine × IsWithin p.start
     × IsWithin p.stop
 
 -- all of them are jobs that a text may name
 abbrev pub AreJobs : List ℕ → Type 0
-AreJobs = AllByRecursion (IsCount most_job)
+AreJobs = AllByRecursion (IsCount most_jobs)
 
 -- in version 2 a job set has at most as many jobs as an instance
 abbrev pub AreFew : Layout → List ℕ → Type 0
@@ -42,15 +41,15 @@ IsReadableClaim layout (ByLastOf jobs) = AreListed layout jobs
 IsReadableClaim layout (ByWindow jobs) = AreListed layout jobs
 IsReadableClaim layout (BySplit side delta first) = AreListed layout side × IsWithin delta
 IsReadableClaim layout ByLoad = Unit {0}
-IsReadableClaim layout (ByMachine machine) = IsCount most_machine machine
-IsReadableClaim layout (ByOneJob job) = IsCount most_job job
+IsReadableClaim layout (ByMachine machine) = IsCount most_machines machine
+IsReadableClaim layout (ByOneJob job) = IsCount most_jobs job
 IsReadableClaim layout (ByRanks jobs) = AreJobs jobs
 
 -- its numbers are in the ranges of an answer text, and its problem is one that a notation means
 pub record IsReadable (layout : Layout) (s : SheetData) : Type 0 where
   pub problem : IsRead s.problem
-  pub jobs : IsCount most_job s.jobs
-  pub machines : IsCount most_machine s.machines
+  pub jobs : IsCount most_jobs s.jobs
+  pub machines : IsCount most_machines s.machines
   pub value : FitsSigned w64 s.answer.value
   pub pieces : AllByRecursion IsReadablePiece s.answer.pieces
   pub certificate : IsReadableClaim layout s.answer.certificate

@@ -113,7 +113,7 @@ fn push_cells<A: Allocator>(
     let width = length.min(u64::from(columns)) as u32;
     for column in 0..width {
         let time = column_time(length, columns, column);
-        line.push(sign_at(schedule, machine, time));
+        line.push(cell_sign(schedule.cell(machine, time as i64)));
     }
 }
 
@@ -122,13 +122,6 @@ fn length_of<A: Allocator>(schedule: &Schedule<A>) -> u64
     ensures small { result < 2 ^ 63 }
 {
     schedule.length() as u64
-}
-
-fn sign_at<A: Allocator>(schedule: &Schedule<A>, machine: MachineId, time: u64) -> u8
-    requires { time < 2 ^ 63 }
-    ensures { result ≡ cell_sign (job_at schedule.now machine time) }
-{
-    cell_sign(schedule.cell(machine, time as i64))
 }
 
 // The time that a column shows.

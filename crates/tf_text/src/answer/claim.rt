@@ -2,7 +2,7 @@
 ghost use Rattle.std.specs.Prelude.{◌≡◌};
 ghost use Rattle.tf_words.specs.Words.{words};
 ghost use Rattle.tf_check.specs.Certificate.{claim_of};
-ghost use Rattle.tf_text.specs.AnswerReading.{Gives, bare, side_of, split_of, split_in, claim_in};
+ghost use Rattle.tf_text.specs.AnswerReading.{Gives, bare, side_of, split_in, claim_in};
 ghost use Rattle.tf_text.specs.AnswerReading.{certificate_in};
 
 use crate::answer::fault::AnswerFault;
@@ -50,34 +50,6 @@ fn side_of(word: &[u8]) -> Option<bool>
     }
 }
 
-/// What a split says: which machine it is of, the word of its number, and the words of its jobs.
-#[derive(Clone, Copy)]
-struct SplitWords<'a> {
-    first: bool,
-    delta: &'a [u8],
-    jobs: &'a [u8],
-}
-
-/// Reads the number and the jobs of a split.
-fn split_of<A: Allocator + Copy>(
-    alloc: A,
-    layout: Layout,
-    line: u32,
-    split: SplitWords<'_>,
-) -> Result<Certificate<A>, AnswerFault>
-    ensures { Gives claim_of result
-        (split_of layout line split.entry.first split.entry.delta.now
-        (words split.entry.jobs.now)) }
-{
-    if !(is_number(split.delta) && are_items(layout, split.jobs)) {
-        return Err(AnswerFault::BadLine(line));
-    }
-    let first = split.first;
-    let delta = time_in(line, split.delta)?;
-    let side = jobs_listed(alloc, layout, line, split.jobs)?;
-    Ok(Certificate::Split(Split { side, delta, first }))
-}
-
 /// Reads what follows the kind `split`.
 #[tactic(auto, unfolding(crate::specs::AnswerReading::split_in))]
 fn split_in<A: Allocator + Copy>(
@@ -88,19 +60,21 @@ fn split_in<A: Allocator + Copy>(
 ) -> Result<Certificate<A>, AnswerFault>
     ensures { Gives claim_of result (split_in layout line (words text.now)) }
 {
-    match first_word(text) {
-        None => Err(AnswerFault::BadLine(line)),
-        Some((side, after)) => match first_word(after) {
-            None => Err(AnswerFault::BadLine(line)),
-            Some((delta, jobs)) => match side_of(side) {
-                None => Err(AnswerFault::BadLine(line)),
-                Some(first) => {
-                    let split = SplitWords { first, delta, jobs };
-                    split_of(alloc, layout, line, split)
-                }
-            },
-        },
+    let Some((side, after)) = first_word(text) else {
+        return Err(AnswerFault::BadLine(line));
+    };
+    let Some((delta, jobs)) = first_word(after) else {
+        return Err(AnswerFault::BadLine(line));
+    };
+    let Some(first) = side_of(side) else {
+        return Err(AnswerFault::BadLine(line));
+    };
+    if !(is_number(delta) && are_items(layout, jobs)) {
+        return Err(AnswerFault::BadLine(line));
     }
+    let delta = time_in(line, delta)?;
+    let side = jobs_listed(alloc, layout, line, jobs)?;
+    Ok(Certificate::Split(Split { side, delta, first }))
 }
 
 /// Reads the certificate of a kind from the words that follow it.

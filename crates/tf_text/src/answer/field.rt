@@ -2,8 +2,8 @@
 //! range.
 ghost use Rattle.std.specs.Prelude.{◌<◌, ◌≤◌, IfOk};
 ghost use Rattle.tf_words.specs.Words.{words};
-ghost use Rattle.tf_text.specs.AnswerReading.{Gives, count_in, time_in, value_in, most_job};
-ghost use Rattle.tf_text.specs.AnswerReading.{most_machine, only};
+ghost use Rattle.tf_model.specs.Limit.{most_jobs, most_machines};
+ghost use Rattle.tf_text.specs.AnswerReading.{Gives, count_in, time_in, only};
 
 use crate::answer::fault::AnswerFault;
 use tf_model::ids::{JobId, MachineId};
@@ -28,7 +28,7 @@ pub(crate) fn count_in(line: u32, most: u32, word: &[u8]) -> Result<u32, AnswerF
 
 /// Reads the number of a job.
 pub(crate) fn job_in(line: u32, word: &[u8]) -> Result<JobId, AnswerFault>
-    ensures { Gives (λ j. j) result (count_in line most_job word.now) }
+    ensures { Gives (λ j. j) result (count_in line most_jobs word.now) }
 {
     let number = count_in(line, MOST_JOB, word)?;
     Ok(JobId::new(number).unwrap())
@@ -36,7 +36,7 @@ pub(crate) fn job_in(line: u32, word: &[u8]) -> Result<JobId, AnswerFault>
 
 /// Reads the number of a machine.
 pub(crate) fn machine_in(line: u32, word: &[u8]) -> Result<MachineId, AnswerFault>
-    ensures { Gives (λ i. i) result (count_in line most_machine word.now) }
+    ensures { Gives (λ i. i) result (count_in line most_machines word.now) }
 {
     let number = count_in(line, MOST_MACHINES, word)?;
     Ok(MachineId::new(number).unwrap())
@@ -50,17 +50,6 @@ pub(crate) fn time_in(line: u32, word: &[u8]) -> Result<i64, AnswerFault>
         Ranged::NotANumber => Err(AnswerFault::BadLine(line)),
         Ranged::Below | Ranged::Above => Err(AnswerFault::NumberTooLarge(line)),
         Ranged::Within(time) => Ok(time),
-    }
-}
-
-/// Reads a value, any whole number of 64 bits.
-pub(crate) fn value_in(line: u32, word: &[u8]) -> Result<i64, AnswerFault>
-    ensures { Gives (λ z. z) result (value_in line word.now) }
-{
-    match number_in(word, i64::MIN, i64::MAX) {
-        Ranged::NotANumber => Err(AnswerFault::BadLine(line)),
-        Ranged::Below | Ranged::Above => Err(AnswerFault::NumberTooLarge(line)),
-        Ranged::Within(value) => Ok(value),
     }
 }
 

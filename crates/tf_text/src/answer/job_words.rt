@@ -3,8 +3,7 @@ ghost use Rattle.std.specs.Prelude.{◌≡◌, ◌<◌, ◌≤◌, ◌++◌, opt
 ghost use Rattle.std.specs.List.{list_all};
 ghost use Rattle.tf_words.specs.Words.{words};
 ghost use Rattle.tf_text.specs.JobWords.{run_jobs};
-ghost use Rattle.tf_text.specs.declared.answer.layout.Layout.TheVariants.{Two};
-ghost use Rattle.tf_text.specs.AnswerReading.{Gives, numerals, range_ends, is_item, run_in};
+ghost use Rattle.tf_text.specs.AnswerReading.{Gives, range_ends, is_item, run_in};
 ghost use Rattle.tf_text.specs.AnswerReading.{name_many, jobs_listed, jobs_from, jobs_in};
 
 use crate::answer::fault::AnswerFault;
@@ -20,28 +19,16 @@ use tf_words::part::divided;
 use tf_words::ranged::is_number;
 use tf_words::word::first_word;
 
-/// Returns both words where each is a numeral.
-fn numerals<'a>(first: &'a [u8], last: &'a [u8]) -> Option<(&'a [u8], &'a [u8])>
-    ensures { option_map (λ ends. (ends.0.now, ends.1.now)) result ≡ numerals first.now last.now }
-{
-    if !is_numeral(first) {
-        return None;
-    }
-    if !is_numeral(last) {
-        return None;
-    }
-    Some((first, last))
-}
-
 /// Returns the two numerals of a range, as of `3-7`.
 #[tactic(auto, unfolding(crate::specs::AnswerReading::range_ends))]
 fn range_ends(word: &[u8]) -> Option<(&[u8], &[u8])>
     ensures { option_map (λ ends. (ends.0.now, ends.1.now)) result ≡ range_ends word.now }
 {
-    match divided(word, b'-') {
-        None => None,
-        Some((first, last)) => numerals(first, last),
+    let (first, last) = divided(word, b'-')?;
+    if !(is_numeral(first) && is_numeral(last)) {
+        return None;
     }
+    Some((first, last))
 }
 
 /// Whether the word may stand in a job list of this version.
@@ -138,21 +125,8 @@ fn jobs_from<A: Allocator + Copy>(
     Ok(JobList::new(jobs))
 }
 
-/// Reads a list of version 2, which is counted before memory is asked for.
-fn counted_jobs_from<A: Allocator + Copy>(
-    alloc: A,
-    line: u32,
-    text: &[u8],
-) -> Result<JobList<A>, AnswerFault>
-    ensures { Gives (λ jobs. jobs) result (jobs_listed Two line (words text.now)) }
-{
-    if are_too_many(line, text)? {
-        return Err(AnswerFault::BadLine(line));
-    }
-    jobs_from(alloc, line, text)
-}
-
-/// Reads the jobs of a list whose words all have the right form.
+/// Reads the jobs of a list whose words all have the right form. Those of version 2 are counted
+/// before memory is asked for.
 pub(crate) fn jobs_listed<A: Allocator + Copy>(
     alloc: A,
     layout: Layout,
@@ -163,7 +137,12 @@ pub(crate) fn jobs_listed<A: Allocator + Copy>(
 {
     match layout {
         Layout::One => jobs_from(alloc, line, text),
-        Layout::Two => counted_jobs_from(alloc, line, text),
+        Layout::Two => {
+            if are_too_many(line, text)? {
+                return Err(AnswerFault::BadLine(line));
+            }
+            jobs_from(alloc, line, text)
+        }
     }
 }
 

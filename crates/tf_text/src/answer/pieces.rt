@@ -1,6 +1,5 @@
 //! The lines of pieces in an answer text.
-ghost use Rattle.std.specs.Prelude.{◌≡◌, ◌+◌, ◌^◌, ◌<◌, ◌≤◌, length, option_map};
-ghost use Rattle.std.specs.Prelude.{IfOk};
+ghost use Rattle.std.specs.Prelude.{◌≡◌, ◌+◌, ◌^◌, ◌<◌, ◌≤◌, length, option_map, IfOk};
 ghost use Rattle.tf_words.specs.Words.{words};
 ghost use Rattle.tf_words.specs.Lines.{lines_of};
 ghost use Rattle.tf_text.specs.NextPiece.{Moves};
@@ -17,18 +16,9 @@ use tf_words::line::Lines;
 use tf_words::ranged::is_number;
 use tf_words::word::{behind_key, first_word};
 
-/// The four words of a line `piece`.
-#[derive(Clone, Copy)]
-struct PieceWords<'a> {
-    job: &'a [u8],
-    machine: &'a [u8],
-    start: &'a [u8],
-    stop: &'a [u8],
-}
-
 /// Returns the words of a text that has exactly four.
-fn four(text: &[u8]) -> Option<PieceWords<'_>>
-    ensures { option_map (λ w. (w.job.now, w.machine.now, w.start.now, w.stop.now)) result
+fn four(text: &[u8]) -> Option<(&[u8], &[u8], &[u8], &[u8])>
+    ensures { option_map (λ w. (w.0.now, w.1.now, w.2.now, w.3.now)) result
         ≡ four (words text.now) }
 {
     let (job, rest) = first_word(text)?;
@@ -38,12 +28,7 @@ fn four(text: &[u8]) -> Option<PieceWords<'_>>
     if first_word(rest).is_some() {
         return None;
     }
-    Some(PieceWords {
-        job,
-        machine,
-        start,
-        stop,
-    })
+    Some((job, machine, start, stop))
 }
 
 /// Reads a piece: first the form of its words, then the numbers from left to right.
@@ -51,20 +36,16 @@ fn four(text: &[u8]) -> Option<PieceWords<'_>>
 pub(crate) fn piece_in(line: u32, text: &[u8]) -> Result<Piece, AnswerFault>
     ensures { Gives (λ p. p) result (piece_in line (words text.now)) }
 {
-    let Some(word) = four(text) else {
+    let Some((job, machine, start, stop)) = four(text) else {
         return Err(AnswerFault::BadLine(line));
     };
-    if !(is_number(word.job)
-        && is_number(word.machine)
-        && is_number(word.start)
-        && is_number(word.stop))
-    {
+    if !(is_number(job) && is_number(machine) && is_number(start) && is_number(stop)) {
         return Err(AnswerFault::BadLine(line));
     }
-    let job = job_in(line, word.job)?;
-    let machine = machine_in(line, word.machine)?;
-    let start = time_in(line, word.start)?;
-    let stop = time_in(line, word.stop)?;
+    let job = job_in(line, job)?;
+    let machine = machine_in(line, machine)?;
+    let start = time_in(line, start)?;
+    let stop = time_in(line, stop)?;
     Ok(Piece {
         job,
         machine,

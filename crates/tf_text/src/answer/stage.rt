@@ -12,7 +12,7 @@ ghost use Rattle.tf_text.specs.declared.answer.fault.AnswerFault.{AnswerFault};
 
 use crate::answer::claim::certificate_in;
 use crate::answer::fault::AnswerFault;
-use crate::answer::field::{MOST_JOB, count_in, only, value_in};
+use crate::answer::field::{MOST_JOB, count_in, only};
 use crate::answer::head::Head;
 use crate::answer::layout::Layout;
 use crate::answer::pieces::piece_in;
@@ -26,6 +26,7 @@ use tf_notation::reading::read;
 use tf_schedule::piece::Piece;
 use tf_schedule::piece_list::PieceList;
 use tf_words::line::{Line, after_word, is_kept, without_return};
+use tf_words::ranged::{Ranged, number_in};
 use tf_words::word::{behind_key, first_word, is};
 
 /// The line that is wanted next, and what the lines before it say.
@@ -113,12 +114,15 @@ fn count_line(line: &Line<'_>, key: &[u8], most: u32) -> Result<u32, AnswerFault
     count_in(line.number, most, word)
 }
 
-/// Reads the line `value`.
+/// Reads the line `value`, of any whole number of 64 bits.
 fn value_line(line: &Line<'_>) -> Result<i64, AnswerFault>
     ensures { Gives (λ z. z) result (value_line (line_of line.now)) }
 {
-    let word = word_behind(line, b"value")?;
-    value_in(line.number, word)
+    match number_in(word_behind(line, b"value")?, i64::MIN, i64::MAX) {
+        Ranged::NotANumber => Err(AnswerFault::BadLine(line.number)),
+        Ranged::Below | Ranged::Above => Err(AnswerFault::NumberTooLarge(line.number)),
+        Ranged::Within(value) => Ok(value),
+    }
 }
 
 impl<A: Allocator + Copy> Stage<A> {
@@ -185,18 +189,6 @@ impl<A: Allocator + Copy> Stage<A> {
         }
     }
 
-    /// Behind a line that was read.
-    fn after(read: Result<Self, AnswerFault>) -> Self
-        ensures { (more : List KeptLine) (total : Result SheetData AnswerFault) →
-            MatchResult read (λ s. Leads s more total) (λ e. Fails e total) →
-            Leads result more total }
-    {
-        match read {
-            Ok(stage) => stage,
-            Err(fault) => Stage::Failed(fault),
-        }
-    }
-
     /// Reads a line of this number.
     pub(crate) fn read_line(&mut self, alloc: A, number: u32, bytes: &[u8])
         ensures { (more : List (List ℕ)) (total : Result SheetData AnswerFault) →
@@ -205,7 +197,10 @@ impl<A: Allocator + Copy> Stage<A> {
     {
         if is_kept(bytes) {
             let line = Line { number, bytes };
-            *self = Stage::after(mem::replace(self, Stage::Heading).behind(alloc, &line));
+            match mem::replace(self, Stage::Heading).behind(alloc, &line) {
+                Ok(stage) => *self = stage,
+                Err(fault) => *self = Stage::Failed(fault),
+            }
         }
     }
 

@@ -8,10 +8,6 @@ use tf_model::limit::{MOST_JOBS, MOST_MACHINES};
 use tf_schedule::piece::Piece;
 use tf_words::first_line::{behind_line_feed, next_number};
 
-const MOST_JOB: u64 = MOST_JOBS as u64;
-
-const MOST_MACHINE: u64 = MOST_MACHINES as u64;
-
 /// The piece of the line with which a text begins, which is read in one pass, and what follows its
 /// line feed. Nothing is said of a line of another form.
 pub(crate) fn usual_line(text: &[u8]) -> Option<(Piece, &[u8])>
@@ -23,7 +19,7 @@ pub(crate) fn usual_line(text: &[u8]) -> Option<(Piece, &[u8])>
     let (start, from) = next_number(from)?;
     let (stop, from) = next_number(from)?;
     let rest = behind_line_feed(from)?;
-    if job > MOST_JOB || machine > MOST_MACHINE {
+    if job > MOST_JOBS as u64 || machine > u64::from(MOST_MACHINES) {
         return None;
     }
     let piece = Piece {

@@ -163,12 +163,6 @@ pub fn push_number_line<A: Allocator, I: Integer>(
     Ok(())
 }
 
-fn side_word(first: bool) -> &'static [u8]
-    ensures { result.now ≡ side_word first }
-{
-    if first { b"first" } else { b"second" }
-}
-
 // Adds a word, and jobs behind it.
 fn push_listed<A: Allocator>(
     text: &mut Vec<u8, A>,
@@ -197,14 +191,6 @@ fn push_counted<A: Allocator>(
     push_number(text, number)
 }
 
-// Adds a word alone.
-fn push_word<A: Allocator>(text: &mut Vec<u8, A>, word: &[u8]) -> Result<(), OutOfMemory>
-    ensures { OnOk result (text.new.items ≡ text.old.items ++ word.now) }
-{
-    text.extend_from_slice(word)?;
-    Ok(())
-}
-
 // Adds a split: which machine has to wait, for how long, and the jobs of the side.
 fn push_split<A: Allocator, M: Allocator>(
     text: &mut Vec<u8, A>,
@@ -215,7 +201,7 @@ fn push_split<A: Allocator, M: Allocator>(
         (claim_words layout (BySplit split.now.side split.now.delta split.now.first))) }
 {
     text.extend_from_slice(b"split ")?;
-    text.extend_from_slice(side_word(split.first))?;
+    text.extend_from_slice(if split.first { b"first" } else { b"second" })?;
     push_number(text, split.delta)?;
     push_jobs(text, layout, split.side.as_slice())?;
     Ok(())
@@ -230,13 +216,13 @@ fn push_claim<A: Allocator, M: Allocator>(
         ≡ text.old.items ++ join_with_byte 32 (claim_words layout (claim_of certificate.now))) }
 {
     match certificate {
-        Certificate::Pairs(_) => push_word(text, b"pairs"),
+        Certificate::Pairs(_) => push_listed(text, b"pairs", Layout::One, &[]),
         Certificate::LastOf(last) => push_listed(text, b"last", layout, last.jobs.as_slice()),
         Certificate::Window(window) => {
             push_listed(text, b"window", layout, window.jobs.as_slice())
         }
         Certificate::Split(split) => push_split(text, layout, split),
-        Certificate::Load(_) => push_word(text, b"load"),
+        Certificate::Load(_) => push_listed(text, b"load", Layout::One, &[]),
         Certificate::Machine(load) => push_counted(text, b"machine", load.machine.get()),
         Certificate::OneJob(one) => push_counted(text, b"job", one.job.get()),
         Certificate::Ranks(ranks) => {

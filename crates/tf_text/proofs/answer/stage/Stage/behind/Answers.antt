@@ -1,7 +1,8 @@
 use Rattle.std.proofs.Common.{[], ◌∷◌, codes, w64, SFits, rules, sym, subst, ◌∙◌}
 use Rattle.std.proofs.lemmas.Int.{to_z-of_z}
 use Rattle.tf_words.specs.Lines.{line_of}
-use Rattle.tf_text.specs.AnswerReading.{most_job, most_machine, heading_at, problem_at, count_at, value_at, heading_in, problem_in, count_line, value_line}
+use Rattle.tf_model.specs.Limit.{most_jobs, most_machines}
+use Rattle.tf_text.specs.AnswerReading.{heading_at, problem_at, count_at, value_at, heading_in, problem_in, count_line, value_line}
 use Rattle.tf_text.specs.AnswerStage.{head_of, from_problem, from_jobs, from_machines, from_value, from_pieces, Leads}
 use Rattle.tf_text.specs.declared.answer.stage.Stage.{Stage}
 use Rattle.tf_text.proofs.Stages.{says_then, says_fault, handed_on, whole, end_then, end_fault}
@@ -37,14 +38,14 @@ pub returns-in_err-jobs-in-Jobs : goal.returns-in_err-jobs-in-Jobs
 unfolding count_at
 returns-in_err-jobs-in-Jobs g c = λ more total h.
     handed_on _ _ _ total c.from_residual-in_err-jobs-in-Jobs.ensures.1
-    (says_fault (count_line (codes "jobs") most_job)
+    (says_fault (count_line (codes "jobs") most_jobs)
     (from_machines c.in-Jobs.layout c.in-Jobs.problem) _ more _ total
     c.in_err-jobs-in-Jobs.ensures.read (subst (λ (s : Stage g.row.A.Denot). Leads s (line_of c.args.line.now ∷ more) total) c.in-Jobs.is h))
 
 pub returns-in-Jobs : goal.returns-in-Jobs
 unfolding count_at
 returns-in-Jobs g c = λ more total h.
-    says_then (count_line (codes "jobs") most_job)
+    says_then (count_line (codes "jobs") most_jobs)
     (from_machines c.in-Jobs.layout c.in-Jobs.problem) _ more _ total
     c.in_ok-jobs-in-Jobs.ensures.read (subst (λ (s : Stage g.row.A.Denot). Leads s (line_of c.args.line.now ∷ more) total) c.in-Jobs.is h)
 
@@ -52,7 +53,7 @@ pub returns-in_err-machines-in-Machines : goal.returns-in_err-machines-in-Machin
 unfolding count_at
 returns-in_err-machines-in-Machines g c = λ more total h.
     handed_on _ _ _ total c.from_residual-in_err-machines-in-Machines.ensures.1
-    (says_fault (count_line (codes "machines") most_machine)
+    (says_fault (count_line (codes "machines") most_machines)
     (λ machines. from_value (record {
       layout = c.in-Machines.layout;
       problem = c.in-Machines.problem;
@@ -63,7 +64,7 @@ returns-in_err-machines-in-Machines g c = λ more total h.
 pub returns-in-Machines : goal.returns-in-Machines
 unfolding count_at
 returns-in-Machines g c = λ more total h.
-    says_then (count_line (codes "machines") most_machine)
+    says_then (count_line (codes "machines") most_machines)
     (λ machines. from_value (record {
       layout = c.in-Machines.layout;
       problem = c.in-Machines.problem;
