@@ -18,13 +18,6 @@ use tf_read::weighted_tardiness::WtReader;
 use tf_text::counted::Counted;
 use tf_text::input::{drain, read_all};
 
-/// The problem that is asked for, and the number of machines where the caller gives one.
-#[derive(Clone, Copy)]
-pub(crate) struct AskedProblem<'a> {
-    pub problem: &'a Problem,
-    pub machines: Option<u32>,
-}
-
 // Space for the rows of the most jobs. It is reserved before the text is read and freed after it,
 // so that the rows lie before the text in memory, and what is made of the rows takes the text's
 // pages.
@@ -37,53 +30,21 @@ fn place_for_rows<A: Allocator>(alloc: A, problem: &Problem) -> Option<Vec<u64, 
 /// refused, no instance is made on the way.
 pub(crate) fn table_task_read<A: Allocator + Copy, R: Read>(
     alloc: A,
-    asked: AskedProblem<'_>,
+    problem: &Problem,
+    machines: Option<u32>,
     reader: &mut Counted<R>,
 ) -> Result<Task<A>, RunFault<A>>
-    ensures { ReadsTo (task_said InTable asked.entry.problem.now asked.entry.machines)
-        R.remaining reader.old reader.new result }
+    ensures { ReadsTo (task_said InTable problem.now machines) R.remaining reader.old reader.new
+        result }
 {
-    let place = place_for_rows(alloc, asked.problem);
+    let place = place_for_rows(alloc, problem);
     let text = read_all(alloc, reader)?;
     drop(place);
-    if let Some(task) = table_task(alloc, asked.problem, asked.machines, text.as_slice()) {
+    if let Some(task) = table_task(alloc, problem, machines, text.as_slice()) {
         return Ok(task);
     }
     let instance = read_table(alloc, text.as_slice())?;
-    Ok(prepare(alloc, &instance, asked.problem, asked.machines)?)
-}
-
-/// The task of a problem and of the instance of this number of a weighted tardiness file that the
-/// reader's text is.
-pub(crate) fn wt_task_read<A: Allocator + Copy, R: Read>(
-    alloc: A,
-    asked: AskedProblem<'_>,
-    jobs: u32,
-    index: u32,
-    reader: &mut Counted<R>,
-) -> Result<Task<A>, RunFault<A>>
-    ensures { ReadsTo (task_said (InWt jobs index) asked.entry.problem.now asked.entry.machines)
-        R.remaining reader.old reader.new result }
-{
-    let numbers = wt_read(alloc, jobs, index, reader)?;
-    Ok(numbers.into_task(alloc, asked.problem, asked.machines)?)
-}
-
-/// The task of a problem and of the instance of this name of a flow shop file that the reader's
-/// text is, for a pair of machines.
-pub(crate) fn flow_task_read<A: Allocator + Copy, R: Read>(
-    alloc: A,
-    asked: AskedProblem<'_>,
-    name: &[u8],
-    pair: Option<(u32, u32)>,
-    reader: &mut Counted<R>,
-) -> Result<Task<A>, RunFault<A>>
-    ensures { ReadsTo
-        (task_said (InFlow name.now pair) asked.entry.problem.now asked.entry.machines)
-        R.remaining reader.old reader.new result }
-{
-    let numbers = flow_read(alloc, name, pair, reader)?;
-    Ok(numbers.into_task(alloc, asked.problem, asked.machines)?)
+    Ok(prepare(alloc, &instance, problem, machines)?)
 }
 
 /// The numbers of the instance of this number of a weighted tardiness file that the reader's text

@@ -4,7 +4,7 @@ ghost use Rattle.tf_engine.specs.Refusal.{problem_for, task_in};
 ghost use Rattle.tf_engine.specs.Parts.{GivesProblem, ReadsTo};
 
 use crate::fault::RunFault;
-use crate::form_read::{AskedProblem, flow_task_read, table_task_read, wt_task_read};
+use crate::form_read::{flow_read, table_task_read, wt_read};
 use crate::request::{Form, Request};
 use std::alloc::Allocator;
 use std::io::Read;
@@ -35,16 +35,16 @@ pub fn task_read<A: Allocator + Copy, B: Allocator, R: Read>(
 ) -> Result<Task<A>, RunFault<A>>
     ensures { ReadsTo (task_in request.now problem.now) R.remaining reader.old reader.new result }
 {
-    let asked = AskedProblem {
-        problem,
-        machines: request.machines,
-    };
+    let machines = request.machines;
     match &request.form {
-        Form::Table => table_task_read(alloc, asked, reader),
-        Form::Wt { jobs, index } => wt_task_read(alloc, asked, *jobs, *index, reader),
+        Form::Table => table_task_read(alloc, problem, machines, reader),
+        Form::Wt { jobs, index } => {
+            let numbers = wt_read(alloc, *jobs, *index, reader)?;
+            Ok(numbers.into_task(alloc, problem, machines)?)
+        }
         Form::Flow { name, pair } => {
-            let name = name.as_str().as_bytes();
-            flow_task_read(alloc, asked, name, *pair, reader)
+            let numbers = flow_read(alloc, name.as_str().as_bytes(), *pair, reader)?;
+            Ok(numbers.into_task(alloc, problem, machines)?)
         }
     }
 }

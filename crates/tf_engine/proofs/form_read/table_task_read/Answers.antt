@@ -9,9 +9,9 @@ use Rattle.tf_engine.proofs.form_read.table_task_read.Goals as goal
 pub returns-in_err-text : goal.returns-in_err-text
 returns-in_err-text g c =
     err_is
-    (ReadsTo (task_said InTable c.args.asked.problem.now c.args.asked.machines) _ _ _) _ _
+    (ReadsTo (task_said InTable c.args.problem.now c.args.machines) _ _ _) _ _
     c.from_residual.ensures.1
-    (reads_on (prepared_said c.args.asked.problem.now c.args.asked.machines)
+    (reads_on (prepared_said c.args.problem.now c.args.machines)
     (instance_said InTable) _ _ _ _
     (reads_input _ g.row.A.Denot _ job_table _ _ _ c.in_err-text.ensures.counted
     c.in_err-text.field-0.0
