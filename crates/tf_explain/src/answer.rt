@@ -1,4 +1,5 @@
 //! What is wrong with an answer text.
+use crate::text::say_more;
 use std::alloc::AllocError;
 use tf_advice::advice::EXCHANGED;
 use tf_advice::page::Page;
@@ -33,10 +34,8 @@ pub(crate) fn explain_answer(
     if say_other_file(page, source)? {
         return Ok(());
     }
-    let title = source.title(page.alloc)?;
-    let title = title.as_str();
     match *fault {
-        AnswerFault::TooLong => writeln!(page.text, "{title} has more than {MOST_BYTES} bytes."),
+        AnswerFault::TooLong => say_more(page, source, MOST_BYTES, "bytes"),
         AnswerFault::BadLine(line) => explain_line(page, source, line as usize),
         AnswerFault::NumberTooLarge(line) => explain_number(page, source, line as usize),
         AnswerFault::BadNotation => {
@@ -46,9 +45,9 @@ pub(crate) fn explain_answer(
             page.say("Behind \"problem\" stands a three-field notation, as in \"problem 1||Lmax\".")
         }
         AnswerFault::EndsEarly => {
-            writeln!(
-                page.text,
-                "{title} is cut off: the last line of an answer is \"end\"."
+            page.say_of_source(
+                source,
+                " is cut off: the last line of an answer is \"end\".",
             )
         }
         AnswerFault::OutOfMemory => Ok(()),
@@ -75,11 +74,9 @@ fn explain_number(page: &mut Page, source: &Source<'_>, number: usize) -> Result
 // Whether the text is empty or another file, which is then said.
 fn say_other_file(page: &mut Page, source: &Source<'_>) -> Result<bool, AllocError> {
     if source.text.trim_ascii().is_empty() {
-        let title = source.title(page.alloc)?;
-        let title = title.as_str();
-        writeln!(
-            page.text,
-            "{title} is empty: perhaps the run that wrote it was refused."
+        page.say_of_source(
+            source,
+            " is empty: perhaps the run that wrote it was refused.",
         )?;
         return Ok(true);
     }

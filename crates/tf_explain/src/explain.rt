@@ -70,27 +70,36 @@ pub fn refused(
     answer: Option<&Source<'_>>,
 ) -> Result<String, AllocError> {
     let mut page = Page::new(alloc);
-    match fault {
-        RunFault::Notation(fault) => {
-            explain_notation(alloc, &mut page, request.problem.as_str(), fault.byte)?;
-        }
-        RunFault::Text(fault) => {
-            explain_text(alloc, &mut page, instance, &request.form, fault)?;
-        }
-        RunFault::Task(refusal) => {
-            explain_refusal(alloc, &mut page, request, instance, refusal)?;
-        }
-        RunFault::Cycle(jobs) => {
-            explain_cycle(&mut page, instance, jobs.as_slice())?;
-        }
-        RunFault::Device => say_output(&mut page)?,
-        RunFault::Answer(_) | RunFault::Pieces(_) => match answer {
-            Some(answer) => return not_drawn(alloc, fault, answer),
-            None => page.say(NOT_KEPT)?,
-        },
-        RunFault::OutOfMemory => {}
+    match answer {
+        Some(answer) if is_of_answer(fault) => say_undrawn(&mut page, fault, answer)?,
+        _ => say_refused(&mut page, fault, request, instance)?,
     }
     Ok(page.text)
+}
+
+// Whether a run was refused for its answer.
+fn is_of_answer(fault: &RunFault) -> bool {
+    matches!(fault, RunFault::Answer(_) | RunFault::Pieces(_))
+}
+
+fn say_refused(
+    page: &mut Page,
+    fault: &RunFault,
+    request: &Request,
+    instance: &Source<'_>,
+) -> Result<(), AllocError> {
+    let alloc = page.alloc;
+    match fault {
+        RunFault::Notation(fault) => {
+            explain_notation(alloc, page, request.problem.as_str(), fault.byte)
+        }
+        RunFault::Text(fault) => explain_text(alloc, page, instance, &request.form, fault),
+        RunFault::Task(refusal) => explain_refusal(alloc, page, request, instance, refusal),
+        RunFault::Cycle(jobs) => explain_cycle(page, instance, jobs.as_slice()),
+        RunFault::Device => say_output(page),
+        RunFault::Answer(_) | RunFault::Pieces(_) => page.say(NOT_KEPT),
+        RunFault::OutOfMemory => Ok(()),
+    }
 }
 
 /// What is wrong with an answer that was not read or not drawn.
@@ -104,13 +113,17 @@ pub fn not_drawn(
     answer: &Source<'_>,
 ) -> Result<String, AllocError> {
     let mut page = Page::new(alloc);
-    match fault {
-        RunFault::Answer(fault) => explain_answer(&mut page, answer, fault)?,
-        RunFault::Pieces(fault) => explain_pieces(&mut page, answer, fault)?,
-        RunFault::Device => say_output(&mut page)?,
-        _ => {}
-    }
+    say_undrawn(&mut page, fault, answer)?;
     Ok(page.text)
+}
+
+fn say_undrawn(page: &mut Page, fault: &RunFault, answer: &Source<'_>) -> Result<(), AllocError> {
+    match fault {
+        RunFault::Answer(fault) => explain_answer(page, answer, fault),
+        RunFault::Pieces(fault) => explain_pieces(page, answer, fault),
+        RunFault::Device => say_output(page),
+        _ => Ok(()),
+    }
 }
 
 // A source that failed is named before, so the device was that of the output.
@@ -161,21 +174,19 @@ pub fn checked(
     answer: Option<&Source<'_>>,
 ) -> Result<String, AllocError> {
     let mut page = Page::new(alloc);
-    if let Checked::Accepted = checked {
-        say_unused(alloc, &mut page, request, instance)?;
-        return Ok(page.text);
+    match (checked, answer) {
+        (Checked::Accepted, _) => say_unused(alloc, &mut page, request, instance)?,
+        (_, None) => page.say(NOT_KEPT)?,
+        (_, Some(answer)) => {
+            let case = Case {
+                alloc,
+                request,
+                instance: *instance,
+                answer: *answer,
+            };
+            explain_verdict(&mut page, &case, checked)?;
+        }
     }
-    let Some(answer) = answer else {
-        page.say(NOT_KEPT)?;
-        return Ok(page.text);
-    };
-    let case = Case {
-        alloc,
-        request,
-        instance: *instance,
-        answer: *answer,
-    };
-    explain_verdict(&mut page, &case, checked)?;
     Ok(page.text)
 }
 
@@ -191,17 +202,18 @@ pub fn unfit(
     answer: Option<&Source<'_>>,
 ) -> Result<String, AllocError> {
     let mut page = Page::new(alloc);
-    let Some(answer) = answer else {
-        page.say(NOT_KEPT)?;
-        return Ok(page.text);
-    };
-    let case = Case {
-        alloc,
-        request,
-        instance: *instance,
-        answer: *answer,
-    };
-    explain_unfit(&mut page, &case)?;
+    match answer {
+        None => page.say(NOT_KEPT)?,
+        Some(answer) => {
+            let case = Case {
+                alloc,
+                request,
+                instance: *instance,
+                answer: *answer,
+            };
+            explain_unfit(&mut page, &case)?;
+        }
+    }
     Ok(page.text)
 }
 
@@ -212,8 +224,7 @@ pub fn unfit(
 /// There was no memory.
 pub fn not_read(alloc: Global, name: &str, error: &io::Error) -> Result<String, AllocError> {
     let mut page = Page::new(alloc);
-    let title = Source { name, text: b"" }.title(alloc)?;
-    let title = title.as_str();
-    writeln!(page.text, "{title}: {error}")?;
+    Source { name, text: b"" }.push_title(&mut page.text)?;
+    writeln!(page.text, ": {error}")?;
     Ok(page.text)
 }

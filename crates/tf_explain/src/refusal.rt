@@ -2,7 +2,7 @@
 use crate::instance::instance_in;
 use std::alloc::{AllocError, Global};
 use tf_advice::notation::explain_unsolved;
-use tf_advice::page::{Page, escape};
+use tf_advice::page::{Page, push_name};
 use tf_advice::source::Source;
 use tf_engine::request::{Form, Request};
 use tf_model::class::{Class, class_of};
@@ -23,46 +23,42 @@ pub(crate) fn explain_refusal(
     source: &Source<'_>,
     refusal: &Refusal,
 ) -> Result<(), AllocError> {
-    let problem = escape(alloc, request.problem.as_str())?;
-    let problem = problem.as_str();
+    let problem = request.problem.as_str();
     match *refusal {
-        Refusal::NoSolver => explain_unsolved(alloc, page, request.problem.as_str()),
+        Refusal::NoSolver => explain_unsolved(alloc, page, problem),
         Refusal::TooManyJobs => {
+            push_name(&mut page.text, problem)?;
             writeln!(
                 page.text,
-                "{problem} gives each job a cost of its own: at most {MOST_COSTED_JOBS} jobs."
+                " gives each job a cost of its own: at most {MOST_COSTED_JOBS} jobs."
             )
         }
-        Refusal::MachinesMissing => say_no_machines(page, problem),
+        Refusal::MachinesMissing => page.say_of(problem, NO_MACHINES),
         Refusal::MachinesDisagree => say_machines(alloc, page, request, source),
         Refusal::MachineCount(m) => say_count(alloc, page, request, m),
         Refusal::WrongTimes(job) => say_times(page, request, source, job),
         Refusal::MissingField(job, field) => say_field(page, request, source, job, field),
         Refusal::ZeroTime(job) => {
             quote_job(page, request, source, job)?;
-            page.say("A time is at least 1, except that of an operation of a shop.")?;
-            page.say("Leave the job out, or count it as 1.")
+            page.say(ZERO_TIME)
         }
         Refusal::TotalTooLarge => {
             writeln!(
                 page.text,
-                "All times together, or times by weights, are above {LIMIT}."
-            )?;
-            page.say("Take a coarser unit of time or of weight.")
+                "All times together, or times by weights, are above {LIMIT}.\n\
+                 Take a coarser unit of time or of weight."
+            )
         }
         Refusal::OutOfMemory => Ok(()),
     }
 }
 
-fn say_no_machines(page: &mut Page, problem: &str) -> Result<(), AllocError> {
-    writeln!(
-        page.text,
-        "{problem} needs a number of machines, and no place gives one."
-    )?;
-    page.say(
-        "Write it in the notation, as in P3 or F2, as --machines 3, or as a line \"machines 3\".",
-    )
-}
+const NO_MACHINES: &str = " needs a number of machines, and no place gives one.
+Write it in the notation, as in P3 or F2, as --machines 3, or as a line \"machines 3\".";
+
+const ZERO_TIME: &str = "\
+A time is at least 1, except that of an operation of a shop.
+Leave the job out, or count it as 1.";
 
 /// What is known of a shop of one machine without a solver.
 const ONE_MACHINE: &str =
@@ -137,25 +133,33 @@ fn say_machines(
     source: &Source<'_>,
 ) -> Result<(), AllocError> {
     page.say("The number of machines is given in two places, and they disagree:")?;
-    if let Ok(problem) = read(request.problem.as_str().as_bytes())
-        && let Some(m) = problem.count
-    {
-        writeln!(page.text, "    {m} in the notation")?;
-    }
-    if let Some(m) = request.machines {
-        writeln!(page.text, "    {m} by --machines")?;
-    }
-    let title = source.title(alloc)?;
-    let title = title.as_str();
-    let instance = instance_in(alloc, &request.form, source);
-    let in_file = instance.and_then(|instance| instance.machines());
+    say_asked_machines(page, request)?;
+    let in_file = machines_in(alloc, request, source);
     if let Some(m) = in_file {
-        writeln!(page.text, "    {m} in {title}")?;
+        write!(page.text, "    {m} in ")?;
+        page.say_of_source(source, "")?;
     }
     match (&request.form, in_file) {
         (Form::Flow { .. }, Some(m)) => say_flow_machines(page, request, m),
         _ => page.say("Leave out all but one."),
     }
+}
+
+fn say_asked_machines(page: &mut Page, request: &Request) -> Result<(), AllocError> {
+    if let Ok(problem) = read(request.problem.as_str().as_bytes())
+        && let Some(m) = problem.count
+    {
+        writeln!(page.text, "    {m} in the notation")?;
+    }
+    match request.machines {
+        Some(m) => writeln!(page.text, "    {m} by --machines"),
+        None => Ok(()),
+    }
+}
+
+// The number of machines that the file gives.
+fn machines_in(alloc: Global, request: &Request, source: &Source<'_>) -> Option<u32> {
+    instance_in(alloc, &request.form, source)?.machines()
 }
 
 // What to do about a flow shop file of this number of machines.
@@ -188,26 +192,20 @@ fn say_times(
     job: JobId,
 ) -> Result<(), AllocError> {
     quote_job(page, request, source, job)?;
-    let problem = escape(page.alloc, request.problem.as_str())?;
-    let problem = problem.as_str();
-    if is_shop(request) {
-        writeln!(
-            page.text,
-            "{problem} is a shop: a job has two times, as in p=3,4."
-        )
+    let sentence = if is_shop(request) {
+        " is a shop: a job has two times, as in p=3,4."
+    } else if matches!(request.form, Form::Table) {
+        TWO_TIMES
     } else {
-        writeln!(
-            page.text,
-            "{problem} is no shop: a job has one time, as in p=3."
-        )?;
-        match request.form {
-            Form::Table => page.say(
-                "p=3,5 is two times of a shop, and not three and a half: all numbers are whole.",
-            ),
-            _ => Ok(()),
-        }
-    }
+        ONE_TIME
+    };
+    page.say_of(request.problem.as_str(), sentence)
 }
+
+const ONE_TIME: &str = " is no shop: a job has one time, as in p=3.";
+
+const TWO_TIMES: &str = " is no shop: a job has one time, as in p=3.
+p=3,5 is two times of a shop, and not three and a half: all numbers are whole.";
 
 /// The letter of a field, and its name.
 fn letter_of(field: Field) -> (&'static str, &'static str) {
@@ -236,13 +234,9 @@ fn say_field(
     field: Field,
 ) -> Result<(), AllocError> {
     quote_job(page, request, source, job)?;
-    let problem = escape(page.alloc, request.problem.as_str())?;
-    let problem = problem.as_str();
+    push_name(&mut page.text, request.problem.as_str())?;
     let (letter, name) = letter_of(field);
-    writeln!(
-        page.text,
-        "{problem} needs {letter} (the {name}) of each job."
-    )?;
+    writeln!(page.text, " needs {letter} (the {name}) of each job.")?;
     match instance_in(page.alloc, &request.form, source) {
         Some(instance) => say_lacking(page, &request.form, &instance, field),
         None => Ok(()),

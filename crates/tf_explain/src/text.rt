@@ -40,29 +40,35 @@ fn say_whole(
     form: &Form,
     fault: &ReadFault,
 ) -> Result<bool, AllocError> {
-    let title = source.title(page.alloc)?;
-    let title = title.as_str();
     if source.text.trim_ascii().is_empty() {
-        writeln!(
-            page.text,
-            "{title} is empty: has it been written, and is the name right?"
+        page.say_of_source(
+            source,
+            " is empty: has it been written, and is the name right?",
         )?;
         return Ok(true);
     }
     match fault {
-        ReadFault::TooLong => writeln!(page.text, "{title} has more than {MOST_BYTES} bytes.")?,
-        ReadFault::NoJobs => writeln!(page.text, "{title} has no job.")?,
-        ReadFault::TooManyJobs => writeln!(page.text, "{title} has more than {MOST_JOBS} jobs.")?,
-        ReadFault::TooManyArcs => writeln!(
-            page.text,
-            "{title} has more than {MOST_ARCS} precedence constraints."
-        )?,
+        ReadFault::TooLong => say_more(page, source, MOST_BYTES, "bytes")?,
+        ReadFault::NoJobs => {
+            page.say_of_source(source, " has no job.")?;
+            say_jobs(page, form)?;
+        }
+        ReadFault::TooManyJobs => say_more(page, source, MOST_JOBS, "jobs")?,
+        ReadFault::TooManyArcs => say_more(page, source, MOST_ARCS, "precedence constraints")?,
         _ => return Ok(false),
     }
-    if matches!(fault, ReadFault::NoJobs) {
-        say_jobs(page, form)?;
-    }
     Ok(true)
+}
+
+// Says that a source has more than so many of these.
+pub(crate) fn say_more(
+    page: &mut Page,
+    source: &Source<'_>,
+    most: usize,
+    what: &str,
+) -> Result<(), AllocError> {
+    source.push_title(&mut page.text)?;
+    writeln!(page.text, " has more than {most} {what}.")
 }
 
 // How a text of this form has jobs.

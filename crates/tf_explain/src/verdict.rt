@@ -3,7 +3,7 @@ use crate::answer::explain_pieces;
 use crate::instance::instance_in;
 use crate::refusal::class_in;
 use std::alloc::{AllocError, Global};
-use tf_advice::page::{Page, escape};
+use tf_advice::page::{Page, push_name};
 use tf_advice::piece_lines::{Pieces, quote_pieces, steps_of};
 use tf_advice::source::Source;
 use tf_check::answer::Answer;
@@ -13,6 +13,7 @@ use tf_check::verdict::Reason;
 use tf_engine::request::{Form, Request};
 use tf_engine::run_check::{Checked, is_for};
 use tf_model::prepare::prepare;
+use tf_model::problem::Problem;
 use tf_model::task::Task;
 use tf_notation::reading::read;
 use tf_notation::writing::notation_text;
@@ -63,6 +64,36 @@ impl Case<'_> {
         })
     }
 
+    // The numbers of jobs and of machines of the task.
+    fn sizes(&self) -> Option<(usize, u32)> {
+        let task = self.task()?;
+        Some((task.len(), task.machines()))
+    }
+
+    // The problem and the numbers of jobs and of machines that the answer is for.
+    fn answered(&self) -> Option<(Problem, u32, u32)> {
+        let sheet = self.sheet()?;
+        Some((sheet.problem, sheet.jobs, sheet.machines))
+    }
+
+    // The value that the answer claims, with what its pieces cost.
+    fn cost(&self) -> Option<(i64, i128)> {
+        let judged = self.judged()?;
+        match judged.judgement.fit {
+            Fit::Fits(cost) => Some((judged.value, cost)),
+            _ => None,
+        }
+    }
+
+    // The value that the answer claims, with what its certificate bounds.
+    fn bound(&self) -> Option<(i64, i128)> {
+        let judged = self.judged()?;
+        match judged.judgement.bound {
+            Ok(bound) => Some((judged.value, bound)),
+            Err(_) => None,
+        }
+    }
+
     // What the answer says.
     fn sheet(&self) -> Option<Sheet> {
         read_answer(self.alloc, self.answer.text).ok()
@@ -81,6 +112,16 @@ impl Case<'_> {
             return Ok(());
         }
         match self.instance.job_line(self.alloc, job)? {
+            Some(line) => page.quote(&self.instance, &line, None),
+            None => Ok(()),
+        }
+    }
+
+    fn quote_arc(&self, page: &mut Page, before: u32, after: u32) -> Result<(), AllocError> {
+        let first = before.to_string(self.alloc)?;
+        let second = after.to_string(self.alloc)?;
+        let front = [b"prec".as_slice(), first.as_bytes(), second.as_bytes()];
+        match self.instance.line_beginning(&front) {
             Some(line) => page.quote(&self.instance, &line, None),
             None => Ok(()),
         }
@@ -142,28 +183,33 @@ pub(crate) fn explain_unfit(page: &mut Page, case: &Case<'_>) -> Result<(), Allo
 }
 
 fn say_other_task(page: &mut Page, case: &Case<'_>) -> Result<(), AllocError> {
-    let Some(sheet) = case.sheet() else {
+    let Some((problem, jobs, machines)) = case.answered() else {
         return Ok(());
     };
-    let (jobs, machines) = (sheet.jobs, sheet.machines);
-    if let Ok(problem) = notation_text(case.alloc, &sheet.problem) {
-        let problem = problem.as_str();
-        writeln!(
-            page.text,
-            "The answer is for {problem}; jobs: {jobs}, machines: {machines}."
-        )?;
-    }
-    if let Some(task) = case.task() {
+    say_answered(page, &problem, jobs, machines)?;
+    if let Some((jobs, machines)) = case.sizes() {
         let request = case.request;
-        let problem = escape(case.alloc, request.problem.as_str())?;
-        let problem = problem.as_str();
-        let (jobs, machines) = (task.len(), task.machines());
-        writeln!(
-            page.text,
-            "Asked was for {problem}; jobs: {jobs}, machines: {machines}."
-        )?;
+        page.text.push_str("Asked was for ")?;
+        push_name(&mut page.text, request.problem.as_str())?;
+        writeln!(page.text, "; jobs: {jobs}, machines: {machines}.")?;
     }
     page.say("Check it against the instance and the problem that it was made for.")
+}
+
+fn say_answered(
+    page: &mut Page,
+    problem: &Problem,
+    jobs: u32,
+    machines: u32,
+) -> Result<(), AllocError> {
+    let Ok(problem) = notation_text(page.alloc, problem) else {
+        return Ok(());
+    };
+    let problem = problem.as_str();
+    writeln!(
+        page.text,
+        "The answer is for {problem}; jobs: {jobs}, machines: {machines}."
+    )
 }
 
 fn say_misfit(page: &mut Page, case: &Case<'_>, misfit: &Misfit) -> Result<(), AllocError> {
@@ -201,10 +247,9 @@ fn say_misfit(page: &mut Page, case: &Case<'_>, misfit: &Misfit) -> Result<(), A
 
 // Which jobs and machines there are.
 fn say_sizes(page: &mut Page, case: &Case<'_>) -> Result<(), AllocError> {
-    let Some(task) = case.task() else {
+    let Some((jobs, machines)) = case.sizes() else {
         return Ok(());
     };
-    let (jobs, machines) = (task.len(), task.machines());
     writeln!(
         page.text,
         "Jobs count from 1 to {jobs}, and machines from 1 to {machines}."
@@ -230,12 +275,7 @@ fn say_order(page: &mut Page, case: &Case<'_>, before: u32, after: u32) -> Resul
         )?;
         return case.quote_pieces_of(page, before);
     }
-    let first = before.to_string(case.alloc)?;
-    let second = after.to_string(case.alloc)?;
-    let front = [b"prec".as_slice(), first.as_bytes(), second.as_bytes()];
-    if let Some(line) = case.instance.line_beginning(&front) {
-        page.quote(&case.instance, &line, None)?;
-    }
+    case.quote_arc(page, before, after)?;
     if before == after {
         return page.say(
             "This precedence constraint makes a job wait for itself, so no schedule fits: delete it.",
@@ -256,15 +296,7 @@ fn is_flow(case: &Case<'_>) -> bool {
 }
 
 fn say_value(page: &mut Page, case: &Case<'_>) -> Result<(), AllocError> {
-    if let Some(
-        Judged {
-            value,
-            judgement,
-            ..
-        },
-    ) = case.judged()
-        && let Fit::Fits(cost) = judgement.fit
-    {
+    if let Some((value, cost)) = case.cost() {
         writeln!(
             page.text,
             "The line \"value\" says {value}, and the pieces cost {cost}."
@@ -275,28 +307,20 @@ fn say_value(page: &mut Page, case: &Case<'_>) -> Result<(), AllocError> {
 
 fn say_gap(page: &mut Page, case: &Case<'_>) -> Result<(), AllocError> {
     case.quote_certificate(page)?;
-    if let Some(
-        Judged {
-            value,
-            judgement,
-            ..
-        },
-    ) = case.judged()
-        && let Ok(bound) = judgement.bound
-    {
+    if let Some((value, bound)) = case.bound() {
         let gap = i128::from(value).saturating_sub(bound);
         writeln!(
             page.text,
-            "The schedule fits and costs {value}. The certificate shows that none"
-        )?;
-        writeln!(
-            page.text,
-            "costs less than {bound}, so a gap of {gap} is left."
+            "The schedule fits and costs {value}. The certificate shows that none\n\
+             costs less than {bound}, so a gap of {gap} is left."
         )?;
     }
-    page.say("Either a better schedule exists, or another certificate proves this one optimal:")?;
-    page.say("the lines \"value\" and \"cert\" of \"threefield solve\" tell which.")
+    page.say(GAP)
 }
+
+const GAP: &str = "\
+Either a better schedule exists, or another certificate proves this one optimal:
+the lines \"value\" and \"cert\" of \"threefield solve\" tell which.";
 
 fn say_bound_fault(page: &mut Page, fault: &BoundFault) -> Result<(), AllocError> {
     match *fault {
