@@ -8,6 +8,10 @@ use Rattle.tf_words.specs.Words.{is_white, words, lines}
 use Rattle.tf_words.proofs.Stream.{IsWordBytes, words_white, word_alone, word_before}
 use Rattle.tf_read.specs.PresentLine.{AreOfLine, IsInLine}
 
+-- before the first byte
+pub no_byte : IsInLine [] [] []
+no_byte = record { one_word = refl; goes_on = λ more. refl }
+
 word_with : (word : List ℕ) (b : ℕ) → IsWordBytes word → is_white b ≡ false
     → IsWordBytes (word ++ b ∷ [])
 word_with word b one black = list_all-append (λ c. not (is_white c)) word (b ∷ [])

@@ -10,7 +10,7 @@ ghost use Rattle.tf_read.specs.FlowShop.{IsOfPairs, sized, from_sizes, from_head
 ghost use Rattle.tf_read.specs.FlowStage.{line_of, WantsHeading, WantsSizes, HasTakenShop};
 
 use crate::fault::ReadFault;
-use crate::heading::HeadingLine;
+use crate::heading::{HeadingLine, HeadingWord};
 use crate::instance_numbers::InstanceNumbers;
 use crate::pairs::Pairs;
 use crate::sizes::{SizesLine, judged_sizes};
@@ -40,9 +40,9 @@ fn below_heading<A: Allocator>(line: u32, shown: HeadingLine, name: &[u8]) -> St
         HasTakenShop name.now pair result (fed ++ 10 ∷ []) }
 {
     if shown.is_heading(name) {
-        Stage::Sizes(line + 1, SizesLine::new())
+        Stage::Sizes(line + 1, SizesLine::Blank)
     } else {
-        Stage::Heading(line + 1, HeadingLine::new())
+        Stage::Heading(line + 1, HeadingLine::Spelled(HeadingWord::Instance, 0))
     }
 }
 
@@ -59,7 +59,7 @@ fn below_sizes<A: Allocator + Copy>(
         HasTakenShop name pair result (fed ++ 10 ∷ []) }
 {
     let Some(sizes) = shown.sizes() else {
-        return Stage::Sizes(line + 1, SizesLine::new());
+        return Stage::Sizes(line + 1, SizesLine::Blank);
     };
     match judged_sizes(pair, line, sizes) {
         Err(fault) => Stage::Ended(fault),
@@ -113,7 +113,7 @@ impl<A: Allocator + Copy> Stage<A> {
         ensures taken { (name : List ℕ) (pair : Option (ℕ × ℕ)) → HasTakenShop name pair result [] }
         ensures line { line_of result ≡ 1 }
     {
-        Stage::Heading(1, HeadingLine::new())
+        Stage::Heading(1, HeadingLine::Spelled(HeadingWord::Instance, 0))
     }
 
     /// With one byte more.

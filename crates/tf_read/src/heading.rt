@@ -68,13 +68,6 @@ fn ended(word: HeadingWord, matched: usize, len: usize) -> HeadingLine
 }
 
 impl HeadingLine {
-    /// The front of a line.
-    pub(crate) fn new() -> HeadingLine
-        ensures { (name : List ℕ) → HeadingShown name [] result }
-    {
-        HeadingLine::Spelled(HeadingWord::Instance, 0)
-    }
-
     /// With one byte more of the line.
     pub(crate) fn push(self, name: &[u8], byte: u8) -> HeadingLine
         ensures { (bytes : List ℕ) → HeadingShown name.now bytes self →

@@ -3,13 +3,11 @@ ghost use Rattle.std.specs.Prelude.{◌≡◌, ◌≤◌, None, IfOk, MatchOptio
 ghost use Rattle.std.specs.List.{before_first};
 ghost use Rattle.tf_words.specs.Words.{words};
 ghost use Rattle.tf_words.specs.Lines.{word_line_of, word_lines_of};
-ghost use Rattle.tf_words.specs.Number.{number};
 ghost use Rattle.tf_model.specs.InstanceData.{count_fault};
 ghost use Rattle.tf_read.specs.Faults.{Gives, each_from};
 ghost use Rattle.tf_read.specs.NextJob.{HasNoJob, BeginsWithJob, BeginsWithFault};
-ghost use Rattle.tf_read.specs.JobTable.{machines_at, job_line, is_arc};
-ghost use Rattle.tf_read.specs.JobTable.{since_first, body_of, below_heading, is_table_heading};
-ghost use Rattle.tf_read.specs.JobTable.{job_table};
+ghost use Rattle.tf_read.specs.JobTable.{machines_at, job_line, is_arc, since_first, body_of};
+ghost use Rattle.tf_read.specs.JobTable.{below_heading, is_table_heading, job_table};
 
 use crate::arc::{arcs_of, is_arc};
 use crate::fault::ReadFault;
@@ -102,11 +100,16 @@ fn jobs_of<'a, A: Allocator + Copy>(
     let room = MOST_JOBS.min((lines.bytes_left().len() + 1) / SHORTEST_LINE);
     let mut jobs = Vec::with_capacity(alloc, room)?;
     let mut rest = *lines;
-    while let Some((job, after)) = next_job(alloc, jobs.len() as u32 + 1, &rest)? {
-        jobs.push(job)?;
-        rest = after;
+    loop {
+        match next_job(alloc, jobs.len() as u32 + 1, &rest) {
+            Err(fault) => return Err(fault),
+            Ok(None) => return Ok((jobs, rest)),
+            Ok(Some((job, after))) => {
+                jobs.push(job)?;
+                rest = after;
+            }
+        }
     }
-    Ok((jobs, rest))
 }
 
 fn is_heading(line: &Line<'_>) -> bool

@@ -1,7 +1,6 @@
 //! The numbers of one instance among those of a text.
-ghost use Rattle.std.specs.Prelude.{◌≡◌, ℕ, ◌+◌, ◌-◌, ◌*◌, ◌%◌, ◌^◌, ◌<◌, ◌≤◌, List, [], ◌∷◌, ◌++◌};
-ghost use Rattle.std.specs.Prelude.{length, Some, false, is_some, ◌||◌, nat_le, IfOk, vec_capacity};
-ghost use Rattle.std.specs.Prelude.{vec_len, if◌then◌else◌};
+ghost use Rattle.std.specs.Prelude.{◌≡◌, ◌+◌, ◌-◌, ◌*◌, ◌^◌, ◌<◌, ◌≤◌, List, [], is_some, ◌||◌};
+ghost use Rattle.std.specs.Prelude.{nat_le, IfOk, vec_capacity, vec_len};
 ghost use Rattle.tf_words.specs.Words.{Word};
 ghost use Rattle.tf_model.specs.Limit.{most_jobs};
 ghost use Rattle.tf_read.specs.Said.{Says};

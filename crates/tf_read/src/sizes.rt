@@ -38,13 +38,6 @@ fn size_with(size: u64, digit: u8) -> u64
 }
 
 impl SizesLine {
-    /// The front of a line.
-    pub(crate) fn new() -> SizesLine
-        ensures { SizesShown [] result }
-    {
-        SizesLine::Blank
-    }
-
     /// With a white byte more.
     fn gap(self) -> SizesLine
         ensures { (bytes : List ℕ) (byte : ℕ) → is_white byte ≡ true → SizesShown bytes self →

@@ -1,13 +1,15 @@
 use Rattle.std.proofs.Common.{Ok, Err, ◌+◌, sym, ◌∙◌, []}
 use Rattle.tf_words.specs.Words.{lines, words_from}
 use Rattle.tf_read.specs.FlowShop.{pairs_of}
+use Rattle.tf_read.specs.declared.sizes.SizesLine.TheVariants.{Blank}
+use Rattle.tf_read.proofs.PresentLine.{no_byte}
 use Rattle.tf_read.proofs.FlowReading.{sizes_read, sizes_missed, ends_by, sized_by, sizes_fault}
 use Rattle.tf_read.proofs.flow_stage.below_sizes.Goals as goal
 
 pub returns-in_default-clause-taken : goal.returns-in_default-clause-taken
 returns-in_default-clause-taken g c =
-    λ name fed h. sizes_missed name c.args.pair c.args.line c.args.shown _ fed
-    (λ bytes at. sym (c.sizes.ensures bytes at) ∙ c.in_default.is) c.new.ensures h
+    λ name fed h. sizes_missed name c.args.pair c.args.line c.args.shown Blank fed
+    (λ bytes at. sym (c.sizes.ensures bytes at) ∙ c.in_default.is) no_byte h
 
 pub returns-in-Err-clause-taken : goal.returns-in-Err-clause-taken
 returns-in-Err-clause-taken g c = λ name fed h more.
