@@ -1,8 +1,7 @@
 //! Answer texts, written.
 ghost use Rattle.tf_model.specs.Limit.{most_bytes};
-ghost use Rattle.std.specs.Prelude.{◌≡◌, ℕ, List, [], ◌∷◌, ◌++◌, ◌≤◌, ◌<◌, map, codes, IfSome};
-ghost use Rattle.std.specs.Prelude.{MatchOption, length, true, false, Ok, OnOk, IfOk, IsErr};
-ghost use Rattle.std.specs.Prelude.{IsErrOf};
+ghost use Rattle.std.specs.Prelude.{◌≡◌, [], ◌∷◌, ◌++◌, ◌≤◌, ◌<◌, map, codes, IfSome, MatchOption};
+ghost use Rattle.std.specs.Prelude.{length, true, false, Ok, OnOk, IfOk, IsErr, IsErrOf};
 ghost use Rattle.std.specs.List.{flat_map, join_with_byte};
 ghost use Rattle.std.specs.Fmt.{decimal, signed_decimal};
 ghost use Rattle.std.specs.Io.KnownBytes.{Appends};
