@@ -85,7 +85,7 @@ pub record IsTop (ready : List Urgency) (x : Urgency) : Type 0 where
 module _ (k : SchedulingTask) (coming : List ℕ) (ready : List Urgency) (rest : List ℕ)
     (ps : List Piece) (now : ℕ) (w : IsUnderway k coming ready rest ps now) where
   -- what is left of a job is no more than all that is left
-  job-le-left : (j : ℕ) → IsJob k j → of_job rest j ≤ sum rest
+  pub job-le-left : (j : ℕ) → IsJob k j → of_job rest j ≤ sum rest
   job-le-left j job = get_or-le-sum_by (λ x. x) rest (j - 1) 0 (omega (arith, w.len, job.0, job.1))
 
   module _ (x : Urgency) (top : IsTop ready x) where

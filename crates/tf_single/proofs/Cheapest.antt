@@ -21,6 +21,19 @@ module _ (k : SchedulingTask) (js : List ℕ) (end : ℕ) where
     pub ties : (i : ℕ) → i < n → price k (slice_index js i) end ≡ least
         → slice_index js i ≤ slice_index js place
 
+  pub cheapest_first : (least : ℤ) → 0 < length js → least ≡ price k (slice_index js 0) end
+      → IsCheapest 1 0 least
+  cheapest_first least some is = record {
+    within = some;
+    cost = is;
+    below = λ i h.
+        let here : i ≡ 0 = omega (arith, h) in
+        subst (λ m. least ≤ℤ price k (slice_index js m) end) (sym here) (omega (arith, ints, is));
+    ties = λ i h same.
+        let here : i ≡ 0 = omega (arith, h) in
+        subst (λ m. slice_index js m ≤ slice_index js 0) (sym here) (omega arith);
+  }
+
   pub cheapest_kept : (n place : ℕ) (least cost : ℤ) → IsCheapest n place least
       → cost ≡ price k (slice_index js n) end → least ≤ℤ cost
       → (cost ≡ least → slice_index js n ≤ slice_index js place) → IsCheapest (n + 1) place least

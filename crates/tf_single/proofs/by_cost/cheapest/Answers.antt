@@ -1,4 +1,4 @@
-use Rattle.std.proofs.Common.{◌≡◌, ℕ, ◌<◌, List, length, get_or, set, refl, sym, ap, subst, ◌∙◌, arith, rules}
+use Rattle.std.proofs.Common.{◌≡◌, ℕ, ◌<◌, List, length, get_or, set, slice_index, refl, sym, ap, subst, ◌∙◌, arith, rules}
 use Rattle.std.proofs.lemmas.Int.{ints, to_z-of_z}
 use Rattle.std.proofs.lemmas.List.{length-map}
 use Rattle.std.proofs.lemmas.List.Elements.{All-set}
@@ -6,10 +6,31 @@ use mir.Syntax.{w64}
 use mir.Val.{SFits, to_z, of_z}
 use Rattle.tf_model.specs.Cost.{price}
 use Rattle.tf_model.specs.SchedulingTask.{IsJob}
+use Rattle.tf_single.specs.declared.costed_job.CostedJob.{CostedJob}
 use Rattle.tf_single.specs.CostedJob.{HasLevel, jobs_of}
-use Rattle.tf_single.proofs.Cheapest.{cheapest_kept, cheapest_taken, job_at, job_read, jobs_kept, number_less, number_no_less}
+use Rattle.tf_single.proofs.Cheapest.{cheapest_first, cheapest_kept, cheapest_taken, job_at, job_read, jobs_kept, number_less, number_no_less}
 use Rattle.tf_single.proofs.by_cost.cheapest.Goals.{then-cost-least-2, then-cost-least-2-via-then-cost-least-2, then-cost-least-2-via-else-cost-least-2+then-lt, else-cost-least-2+else-lt}
 use Rattle.tf_single.proofs.by_cost.cheapest.Goals as goal
+
+pub loop-k-init : goal.loop-k-init
+loop-k-init g c =
+    let all = c.args.free.now in
+    let task = c.args.task.now in
+    let new = c.cost_at-least.new.self in
+    let same : jobs_of (set all 0 new) ≡ jobs_of all =
+    jobs_kept all (jobs_of all) 0 new c.index-free-0-2.result refl c.cost_at-least.ensures.job in
+    let at : (d : CostedJob) → (get_or all 0 d).job ≡ slice_index (jobs_of (set all 0 new)) 0 = λ d.
+    job_read all (jobs_of all) 0 d refl c.requires.some ∙ ap (λ xs. slice_index xs 0) (sym same) in
+    record {
+      jobs = refl;
+      levels = All-set (HasLevel task c.args.end) all 0 new c.cost_at-least.ensures.level
+          c.requires.levels;
+      last = at c.index-free-0.result;
+      cheapest = cheapest_first task _ c.args.end _
+          (omega (arith, c.requires.some, length-map all (λ x. x.job), ap length same))
+          (to_z-of_z w64 c.cost_at-least.result (search rules) ∙ c.cost_at-least.ensures.value
+          ∙ ap (λ j. price task j c.args.end) (at c.index-free-0-2.result));
+    }
 
 pub cost_at-cost-requires-clause-job : goal.cost_at-cost-requires-clause-job
 cost_at-cost-requires-clause-job g c =

@@ -1,11 +1,12 @@
-use Rattle.std.proofs.Common.{◌≡◌, ◌-◌, ◌<◌, ◌≤◌, ℕ, List, [], ◌∷◌, ◌++◌, Option, None, Some, length, get_or, set, drop, sym, ap, ◌∙◌, subst, arith, Contains}
+use Rattle.std.proofs.Common.{◌≡◌, ◌-◌, ◌<◌, ◌≤◌, ℕ, List, [], ◌∷◌, ◌++◌, cond, Option, None, Some, length, get_or, set, drop, sym, ap, ◌∙◌, subst, arith, Contains}
 use Rattle.std.proofs.lemmas.List.{get_or_default, length-set, length-drop, take_all}
 use Rattle.tf_model.specs.SchedulingTask.{SchedulingTask, IsJob}
 use Rattle.tf_model.specs.Cycle.{IsForbiddingCycle}
 use Rattle.tf_model.proofs.Cycles.{forbids}
 use Rattle.tf_single.specs.FirstCycle.{IsWalkedCycle}
 use Rattle.tf_single.specs.Successors.{IsListed}
-use Rattle.tf_single.proofs.Walk.{AreMet, ArePlaced, steps_push, steps_close, met_push, walk_push, walk_close, placed_push, placed_once}
+use Rattle.std.proofs.lemmas.List.Sums.{sum_by-set}
+use Rattle.tf_single.proofs.Walk.{is_unmet, AreMet, ArePlaced, steps_push, steps_close, met_push, walk_push, walk_close, placed_push, placed_once}
 use Rattle.tf_single.proofs.cycle.walk.Goals as goal
 
 -- what is read for a job
@@ -22,6 +23,24 @@ place_read : (places : List (Option ℕ)) (j n : ℕ) (found : Option ℕ) (star
     → get_or places (j - 1) None ≡ Some start
 place_read places j n found start same lt read is =
     place_is places j n found (Some start) same lt read is
+
+pub walk-smaller : goal.walk-smaller
+walk-smaller g c =
+    let places : List (Option ℕ) = c.walk.places.items in
+    let place : ℕ = c.place-place.result in
+    let job = c.walk.invariant.job in
+    let inside : place < length places =
+    omega (arith, c.walk.invariant.len, c.place-place.ensures.value, job.0, job.1) in
+    let before : get_or places place None ≡ None =
+    sym (get_or_default places place c.index.result.now None inside) ∙ sym c.index.ensures
+    ∙ c.in_default.is in
+    let one : ◌≡◌ {A = ℕ} (cond (is_unmet (get_or places place None)) 1 0) 1 =
+    ap (λ o. cond (is_unmet o) 1 0) before in
+    omega (
+      arith,
+      one,
+      sum_by-set (λ o. cond (is_unmet o) 1 0) places place (Some c.len-in-walk.result) None inside,
+    )
 
 pub offset_bounds-as_slice-start : goal.offset_bounds-as_slice-start
 offset_bounds-as_slice-start g c =
