@@ -1,4 +1,4 @@
-use Rattle.std.proofs.Common.{◌-◌, get_or, ap, rules}
+use Rattle.std.proofs.Common.{get_or, ap, rules}
 use Rattle.std.proofs.lemmas.Int.{to_z-of_z}
 use mir.Syntax.{w64}
 use Rattle.tf_single.proofs.Solved.{end_limit, end_reached, solved_window, solved_value}

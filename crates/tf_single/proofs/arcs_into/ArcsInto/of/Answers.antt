@@ -1,8 +1,32 @@
-use Rattle.std.proofs.Common.{◌≡◌, length, ap, subst, arith}
-use Rattle.tf_model.specs.SchedulingTask.{SchedulingTask}
+use Rattle.std.proofs.Common.{◌≡◌, ◌∙◌, length, get_or, replicate, refl, sym, ap, subst, arith}
+use Rattle.std.proofs.lemmas.List.{get_or-replicate, length-replicate}
+use Rattle.tf_model.specs.SchedulingTask.{SchedulingTask, IsJob}
 use Rattle.tf_check.proofs.Followed.{arc_in_task}
 use Rattle.tf_single.proofs.ArcsInto.{ArePlaced, next_place, found_all}
 use Rattle.tf_single.proofs.arcs_into.ArcsInto.of.Goals as goal
+
+pub loop-from-init : goal.loop-from-init
+loop-from-init g c =
+    let k : SchedulingTask = c.args.task.now in
+    let jobs : c.in_ok-froms.froms.items ≡ replicate (length c.arcs.result.now) c.at.result =
+    c.in_ok-froms.ensures.items_if_clones_equal (λ y e. e) in
+    record {
+      jobs = c.begins-ends.ensures.len;
+      count = ap length jobs ∙ length-replicate (length c.arcs.result.now) c.at.result
+          ∙ ap length c.arcs.ensures.value;
+      known = λ i d lt. subst (IsJob k)
+          (sym (ap (λ xs. get_or xs i d) jobs
+          ∙ get_or-replicate (length c.arcs.result.now) i c.at.result d
+          (omega (
+            arith,
+            lt,
+            ap length jobs,
+            length-replicate (length c.arcs.result.now) c.at.result,
+          ))))
+          (omega (arith, c.at.ensures), omega (arith, c.at.ensures, c.arcs.ensures.sound.some_job));
+      at = λ j job. c.begins-ends.ensures.each j job ∙ omega arith;
+      each = λ j i job. refl;
+    }
 
 pub index-place-requires : goal.index-place-requires
 index-place-requires g c =
