@@ -22,29 +22,23 @@ pub(crate) struct Step {
     pub(crate) value: i64,
 }
 
-/// Jobs in the order in which they are taken, the last first, and the first of the dearest steps.
-#[derive(Drop)]
-pub(crate) struct LastFirst<A: Allocator> {
-    pub(crate) jobs: Vec<JobId, A>,
-    pub(crate) dearest: Step,
-}
-
-// All jobs: of those without a successor that is left, each is the cheapest when the work of those
-// that are left is over, the greatest number among equals. Where each that is left has a successor
-// that is left, a cycle. None is taken and none is free before.
+// All jobs, the last first, and the first of the dearest steps: of those without a successor that is
+// left, each is the cheapest when the work of those that are left is over, the greatest number among
+// equals. Where each that is left has a successor that is left, a cycle. None is taken and none is
+// free before.
 pub(crate) fn last_first<A: Allocator + Copy, B: Allocator, F: FreeJobs + Drop>(
     alloc: A,
     task: &Task<B>,
     taken: Vec<JobId, A>,
     free: F,
-) -> Result<LastFirst<A>, LawlerFault<A>>
+) -> Result<(Vec<JobId, A>, Step), LawlerFault<A>>
     requires taken { taken.items ≡ [] }
     requires none { F.jobs_of free ≡ [] }
     requires kept { (work : ℕ) → work ≤ limit → F.IsKept free task.now work }
     ensures { MatchResult result
-        (λ order. IsSound task.now × AreChosen task.now order.jobs.items
-        × (rest_of task.now order.jobs.items ≡ [])
-        × IsDearest task.now order.jobs.items order.dearest)
+        (λ order. IsSound task.now × AreChosen task.now order.0.items
+        × (rest_of task.now order.0.items ≡ [])
+        × IsDearest task.now order.0.items order.1)
         (IsNotSolved task.now) }
 {
     let (successors, predecessors) = arc_counts(alloc, task)?;
@@ -58,10 +52,7 @@ pub(crate) fn last_first<A: Allocator + Copy, B: Allocator, F: FreeJobs + Drop>(
         let value = open.take(task, &arcs)?.cost;
         dearest = Some(dearer(dearest, Step { place, value }));
     }
-    Ok(LastFirst {
-        jobs: open.taken,
-        dearest: dearest.unwrap(),
-    })
+    Ok((open.taken, dearest.unwrap()))
 }
 
 // The dearer of a step, where there is one, and a later step; of equals the first.

@@ -13,7 +13,7 @@ ghost use Rattle.tf_single.specs.Costs.{AreCosts};
 ghost use Rattle.tf_single.specs.FromTheBack.{IsFromTheBack};
 ghost use Rattle.tf_single.specs.NotSolved.{IsNotSolved};
 
-use crate::backward::{LastFirst, last_first};
+use crate::backward::{Step, last_first};
 use crate::by_cost::ByCost;
 use crate::by_due::{ByNearDue, near_due};
 use crate::free_jobs::FreeJobs;
@@ -111,18 +111,18 @@ fn from_the_back<A: Allocator + Copy, B: Allocator, F: FreeJobs + Drop>(
 fn answer_of<A: Allocator + Copy, B: Allocator>(
     alloc: A,
     task: &Task<B>,
-    order: LastFirst<A>,
+    order: (Vec<JobId, A>, Step),
 ) -> Result<Answer<A>, OutOfMemory>
     requires class { IsTrue (takes_last_of task.now.class) }
     requires sound { IsSound task.now }
-    requires chosen { AreChosen task.now order.jobs.items }
-    requires all { rest_of task.now order.jobs.items ≡ [] }
-    requires dearest { IsDearest task.now order.jobs.items order.dearest }
+    requires chosen { AreChosen task.now order.0.items }
+    requires all { rest_of task.now order.0.items ≡ [] }
+    requires dearest { IsDearest task.now order.0.items order.1 }
     ensures schedule { IfOk result (λ a. IsSchedule a.pieces) }
     ensures accepted { IfOk result (IsAccepted task.now) }
     ensures rule { IfOk result (λ a. IsFromTheBack task.now a.pieces a.certificate) }
 {
-    let LastFirst { jobs, dearest } = order;
+    let (jobs, dearest) = order;
     let left = left_jobs(alloc, task, &jobs[..dearest.place])?;
     let sequence = reversed(jobs);
     let pieces = in_sequence(alloc, task, &sequence)?;
