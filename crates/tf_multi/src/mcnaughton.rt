@@ -1,11 +1,8 @@
 //! Parallel machines with preemption.
-ghost use Rattle.std.specs.Prelude.{◌≡◌, ℕ, pos, ◌+◌, ◌-◌, ◌*◌, ◌^◌, ◌<◌, ◌≤◌, ◌≤ℤ◌, List, ◌∷◌};
-ghost use Rattle.std.specs.Prelude.{◌++◌, length, IfOk};
-ghost use Rattle.std.specs.List.{range_with_len, sum_by};
-ghost use Rattle.tf_model.specs.Bounds.{load_value};
+ghost use Rattle.std.specs.Prelude.{◌≡◌, ℕ, ◌-◌, ◌*◌, ◌<◌, ◌≤◌, List, ◌∷◌, ◌++◌, length, IfOk};
+ghost use Rattle.std.specs.List.{sum_by};
 ghost use Rattle.tf_model.specs.Cost.{IsBest};
 ghost use Rattle.tf_model.specs.SchedulingTask.{IsJob, all_jobs, time_of};
-ghost use Rattle.tf_model.specs.Sound.{IsSound};
 ghost use Rattle.tf_model.specs.declared.class.Class.TheVariants.{ParallelPrmp};
 ghost use Rattle.tf_model.specs.declared.limit.TheConstants.{MOST_MACHINES};
 ghost use Rattle.tf_model.specs.Limit.{limit};
