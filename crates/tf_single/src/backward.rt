@@ -22,10 +22,10 @@ pub(crate) struct Step {
     pub(crate) value: i64,
 }
 
-// All jobs, the last first, and the first of the dearest steps: of those without a successor that is
-// left, each is the cheapest when the work of those that are left is over, the greatest number among
-// equals. Where each that is left has a successor that is left, a cycle. None is taken and none is
-// free before.
+// All jobs, the last first, and the first of the dearest steps: of those without a successor that
+// is left, each is the cheapest when the work of those that are left is over, the greatest number
+// among equals. Where each that is left has a successor that is left, a cycle. None is taken and
+// none is free before.
 pub(crate) fn last_first<A: Allocator + Copy, B: Allocator, F: FreeJobs + Drop>(
     alloc: A,
     task: &Task<B>,
