@@ -15,9 +15,8 @@ pub fn explain_unused(
     instance: &Instance,
 ) -> Result<(), AllocError> {
     for field in &[Field::Weight, Field::Due, Field::Release, Field::Cost] {
-        let (letter, is_used) = letter_of(*field, class);
-        if !is_used {
-            note(page, notation, letter, count(instance.jobs(), *field))?;
+        if !is_used(*field, class) {
+            note(page, notation, *field, count(instance.jobs(), *field))?;
         }
     }
     let arcs = instance.arcs().len();
@@ -36,13 +35,22 @@ pub fn explain_unused(
     )
 }
 
-// The letter of a field, and whether the class uses it.
-fn letter_of(field: Field, class: Class) -> (&'static str, bool) {
+fn is_used(field: Field, class: Class) -> bool {
     match field {
-        Field::Weight => ("w=", class.is_weighted()),
-        Field::Due => ("d=", class.is_due()),
-        Field::Release => ("r=", class.is_released()),
-        Field::Cost => ("h=", class.is_costed()),
+        Field::Weight => class.is_weighted(),
+        Field::Due => class.is_due(),
+        Field::Release => class.is_released(),
+        Field::Cost => class.is_costed(),
+    }
+}
+
+/// The letter of a field, and its name.
+pub fn letter_of(field: Field) -> (&'static str, &'static str) {
+    match field {
+        Field::Weight => ("w=", "weight"),
+        Field::Due => ("d=", "due date"),
+        Field::Release => ("r=", "release date"),
+        Field::Cost => ("h=", "cost function"),
     }
 }
 
@@ -55,7 +63,8 @@ fn has(job: &Job, field: Field) -> bool {
     }
 }
 
-fn count(jobs: &[Job], field: Field) -> usize {
+/// How many jobs have a field.
+pub fn count(jobs: &[Job], field: Field) -> usize {
     let mut count: usize = 0;
     for job in jobs {
         if has(job, field) {
@@ -65,12 +74,13 @@ fn count(jobs: &[Job], field: Field) -> usize {
     count
 }
 
-fn note(page: &mut Page, notation: &str, field: &str, jobs: usize) -> Result<(), AllocError> {
+fn note(page: &mut Page, notation: &str, field: Field, jobs: usize) -> Result<(), AllocError> {
     if jobs == 0 {
         return Ok(());
     }
+    let (letter, _) = letter_of(field);
     writeln!(
         page.text,
-        "{notation} ignores {field} (jobs that have it: {jobs})."
+        "{notation} ignores {letter} (jobs that have it: {jobs})."
     )
 }

@@ -4,11 +4,11 @@ use std::alloc::{AllocError, Global};
 use tf_advice::notation::explain_unsolved;
 use tf_advice::page::{Page, push_name};
 use tf_advice::source::Source;
+use tf_advice::unused::{count, letter_of};
 use tf_engine::request::{Form, Request};
 use tf_model::class::{Class, class_of};
 use tf_model::ids::JobId;
 use tf_model::instance::Instance;
-use tf_model::job::Job;
 use tf_model::limit::{LIMIT, MOST_COSTED_JOBS};
 use tf_model::prepare::{Field, Refusal};
 use tf_model::problem::Problem;
@@ -207,25 +207,6 @@ const ONE_TIME: &str = " is no shop: a job has one time, as in p=3.";
 const TWO_TIMES: &str = " is no shop: a job has one time, as in p=3.
 p=3,5 is two times of a shop, and not three and a half: all numbers are whole.";
 
-/// The letter of a field, and its name.
-fn letter_of(field: Field) -> (&'static str, &'static str) {
-    match field {
-        Field::Weight => ("w=", "weight"),
-        Field::Due => ("d=", "due date"),
-        Field::Release => ("r=", "release date"),
-        Field::Cost => ("h=", "cost function"),
-    }
-}
-
-fn lacks(job: &Job, field: Field) -> bool {
-    match field {
-        Field::Weight => job.weight.is_none(),
-        Field::Due => job.due.is_none(),
-        Field::Release => job.release.is_none(),
-        Field::Cost => job.cost.is_none(),
-    }
-}
-
 fn say_field(
     page: &mut Page,
     request: &Request,
@@ -251,11 +232,7 @@ fn say_lacking(
     field: Field,
 ) -> Result<(), AllocError> {
     let jobs = instance.len();
-    let lacking = instance
-        .jobs()
-        .iter()
-        .filter(|job| lacks(job, field))
-        .count();
+    let lacking = jobs.saturating_sub(count(instance.jobs(), field));
     let (letter, _) = letter_of(field);
     writeln!(page.text, "Jobs without {letter}: {lacking} of {jobs}.")?;
     if lacking < jobs {
