@@ -38,13 +38,6 @@ pub struct Word<'a> {
 }
 
 impl<'a> Source<'a> {
-    /// What the source is called in a sentence.
-    pub fn title(&self, alloc: Global) -> Result<String, AllocError> {
-        let mut title = String::new(alloc);
-        self.push_title(&mut title)?;
-        Ok(title)
-    }
-
     /// Adds what the source is called in a sentence.
     pub fn push_title(&self, text: &mut String) -> Result<(), AllocError> {
         if self.name == "-" {

@@ -188,6 +188,18 @@ impl<A: Allocator + Copy> Stage<A> {
         }
     }
 
+    /// Behind a line that was read.
+    fn after(read: Result<Self, AnswerFault>) -> Self
+        ensures { (more : List KeptLine) (total : Result SheetData AnswerFault) →
+            MatchResult read (λ s. Leads s more total) (λ e. Fails e total) →
+            Leads result more total }
+    {
+        match read {
+            Ok(stage) => stage,
+            Err(fault) => Stage::Failed(fault),
+        }
+    }
+
     /// Reads a line of this number.
     pub(crate) fn read_line(&mut self, alloc: A, number: u32, bytes: &[u8])
         ensures { (more : List (List ℕ)) (total : Result SheetData AnswerFault) →
@@ -196,10 +208,7 @@ impl<A: Allocator + Copy> Stage<A> {
     {
         if is_kept(bytes) {
             let line = Line { number, bytes };
-            match mem::replace(self, Stage::Heading).behind(alloc, &line) {
-                Ok(stage) => *self = stage,
-                Err(fault) => *self = Stage::Failed(fault),
-            }
+            *self = Stage::after(mem::replace(self, Stage::Heading).behind(alloc, &line));
         }
     }
 
