@@ -1,4 +1,4 @@
-//! Refusals that come before any growth is asked for, and calls that ask for none.
+//! Refusals that come before want of memory, and calls that ask for no growth.
 use refusing::Refusing;
 use std::alloc::{Allocator, Global};
 use std::test::Fail;
@@ -116,7 +116,7 @@ fn a_problem_is_refused_before_any_read_and_any_growth(rt: HostRuntime) -> Resul
 }
 
 #[test]
-fn a_task_is_refused_before_any_growth(rt: HostRuntime) -> Result<(), Fail> {
+fn a_task_is_refused_before_want_of_memory(rt: HostRuntime) -> Result<(), Fail> {
     let first = JobId::at(0);
     let no_weight = Refusal::MissingField(first, Field::Weight);
     let refused: &[(&str, &[u8], Refusal)] = &[
@@ -136,23 +136,27 @@ fn a_task_is_refused_before_any_growth(rt: HostRuntime) -> Result<(), Fail> {
     ];
     for (problem, table, refusal) in refused {
         let problem = read(problem.as_bytes())?;
-        let is_so = is_refused_at_once(rt.alloc(), &problem, table, *refusal)?;
-        ensure(is_so, "another refusal, or a growth")?;
+        let is_so = is_refused(rt.alloc(), &problem, table, *refusal)?;
+        ensure(is_so, "another refusal, or want of memory")?;
     }
     Ok(())
 }
 
-/// The task of this table is refused so, and asks for no growth.
-fn is_refused_at_once(
+/// The task of this table is refused so, however few growths are granted.
+fn is_refused(
     alloc: Global,
     problem: &Problem,
     table: &[u8],
     refusal: Refusal,
 ) -> Result<bool, ReadFault> {
     let instance = read_table(alloc, table)?;
-    let heap = Refusing::new(alloc, 0);
-    let is_so = prepare(&heap, &instance, problem, None).err() == Some(refusal);
-    Ok(is_so && !heap.has_refused())
+    for granted in 0..4 {
+        let heap = Refusing::new(alloc, granted);
+        if prepare(&heap, &instance, problem, None).err() != Some(refusal) {
+            return Ok(false);
+        }
+    }
+    Ok(true)
 }
 
 /// A reader of a flow shop is made without memory.
