@@ -10,6 +10,7 @@ use tf_engine::request::Request;
 use tf_engine::run_check::{Checked, run_check};
 use tf_engine::run_solve::run_solve;
 use tf_model::ids::JobId;
+use tf_model::instance::Instance;
 use tf_model::prepare::{Field, Refusal, prepare};
 use tf_model::problem::Problem;
 use tf_notation::reading::read;
@@ -150,13 +151,22 @@ fn is_refused(
     refusal: Refusal,
 ) -> Result<bool, ReadFault> {
     let instance = read_table(alloc, table)?;
-    for granted in 0..4 {
-        let heap = Refusing::new(alloc, granted);
-        if prepare(&heap, &instance, problem, None).err() != Some(refusal) {
-            return Ok(false);
-        }
-    }
-    Ok(true)
+    Ok(
+        is_refused_with(alloc, 0, &instance, problem, refusal)
+            && is_refused_with(alloc, 1, &instance, problem, refusal)
+            && is_refused_with(alloc, 2, &instance, problem, refusal),
+    )
+}
+
+fn is_refused_with(
+    alloc: Global,
+    granted: u64,
+    instance: &Instance,
+    problem: &Problem,
+    refusal: Refusal,
+) -> bool {
+    let heap = Refusing::new(alloc, granted);
+    prepare(&heap, instance, problem, None).err() == Some(refusal)
 }
 
 /// A reader of a flow shop is made without memory.
