@@ -18,12 +18,12 @@ use tf_read::weighted_tardiness::WtReader;
 use tf_text::counted::Counted;
 use tf_text::input::{drain, read_all};
 
-// Space for the rows of the most jobs. It is reserved before the text is read and freed after it,
-// so that the rows lie before the text in memory, and what is made of the rows takes the text's
-// pages.
-fn place_for_rows<A: Allocator>(alloc: A, problem: &Problem) -> Option<Vec<u64, A>> {
-    let numbers = if problem.release { 3 } else { 2 };
-    Vec::with_capacity(alloc, numbers * MOST_JOBS).ok()
+// Space for the columns of the most jobs, and a little for what the heap keeps beside each. It is
+// reserved before the text is read and freed after it, so that the columns lie before the text in
+// memory, and what is made of them takes the text's pages.
+fn place_for_columns<A: Allocator>(alloc: A, problem: &Problem) -> Option<Vec<u64, A>> {
+    let columns = if problem.release { 3 } else { 2 };
+    Vec::with_capacity(alloc, columns * (MOST_JOBS + 8)).ok()
 }
 
 /// The task of a problem and of the job table that the reader's text holds. Where nothing is
@@ -37,7 +37,7 @@ pub(crate) fn table_task_read<A: Allocator + Copy, R: Read>(
     ensures { ReadsTo (task_said InTable problem.now machines) R.remaining reader.old reader.new
         result }
 {
-    let place = place_for_rows(alloc, problem);
+    let place = place_for_columns(alloc, problem);
     let text = read_all(alloc, reader)?;
     drop(place);
     if let Some(task) = table_task(alloc, problem, machines, text.as_slice()) {
