@@ -17,12 +17,11 @@ use Rattle.tf_model.specs.declared.problem.Env.TheVariants.{Single, Parallel, Un
 use Rattle.tf_model.specs.declared.problem.Goal.{Goal}
 use Rattle.tf_model.specs.declared.problem.Goal.TheVariants.{Cmax, Lmax, Hmax, SumC, SumWC, SumT, SumWT, SumU, SumWU}
 use Rattle.tf_model.specs.declared.problem.Problem.{Problem}
-use Rattle.tf_notation.specs.declared.spelling.Conditions.{Conditions}
-use Rattle.tf_notation.specs.Spelling.{meaning, goals, environment, count_of}
+use Rattle.tf_notation.specs.Spelling.{meaning, goals, environment, count_of, no_conditions}
 use Rattle.tf_notation.specs.Tokens.{Token, tokens_from, is_word_byte, lengthen}
 use Rattle.tf_model.specs.Outcome.{◌>>=◌}
 use Rattle.tf_notation.specs.Reading.{notation, expect, bar, conditions_at, ended, problem_of}
-use Rattle.tf_notation.specs.Canonical.{environment_word, count_text, goal_word, conditions_of, listed_text, all_conditions, canonical}
+use Rattle.tf_notation.specs.Canonical.{environment_word, count_text, goal_word, listed_text, all_conditions, canonical}
 use Rattle.tf_notation.proofs.Runs.{lengthened, other, word_byte_no_gap}
 use Rattle.tf_notation.proofs.Again.EachList.{conditions_read}
 
@@ -163,7 +162,7 @@ body end ts = do
   (goal, rest) ← expect (meaning goals) end rest
   ended (problem_of env named goal) rest
 
-parts : (end s : ℕ) (env : Env × Option ℕ) (named : Conditions) (goal : Goal)
+parts : (end s : ℕ) (env : Env × Option ℕ) (named : Problem) (goal : Goal)
     (ts us vs : List Token)
     → expect environment end ts ≡ Ok (env, record { start = s; bytes = 124 ∷ [] } ∷ us)
     → conditions_at end us ≡ Ok (named, vs) → expect (meaning goals) end vs ≡ Ok (goal, [])
@@ -182,12 +181,21 @@ pub again : (p : Problem) → IsCounted p.env p.count → notation (canonical p)
 unfolding notation canonical
 again p h =
     let ac : List ℕ = environment_word p.env ++ count_text p.env p.count in
-    let list : List ℕ = listed_text (conditions_of p) all_conditions in
+    let list : List ℕ = listed_text p all_conditions in
     let end : ℕ = length (canonical p) in
     let grouped = regroup ac list (goal_word p.goal) in
     let e = environment_read p.env p.count h end 0 (list ++ (124 ∷ goal_word p.goal)) in
     let c = conditions_read p.release p.prec p.prmp p.prmu p.nwt p.block p.rcrc end (e.0 + 1)
     (goal_word p.goal) in
     let g = goal_read p.goal end c.0 in
+    let named : Problem = record no_conditions {
+      release = p.release;
+      prec = p.prec;
+      prmp = p.prmp;
+      prmu = p.prmu;
+      nwt = p.nwt;
+      block = p.block;
+      rcrc = p.rcrc;
+    } in
     ap (λ (text : List ℕ). body end (tokens_from 0 text)) grouped
-    ∙ parts end e.0 (p.env, p.count) (conditions_of p) p.goal _ _ _ e.1 c.1 g
+    ∙ parts end e.0 (p.env, p.count) named p.goal _ _ _ e.1 c.1 g

@@ -6,7 +6,7 @@ use Rattle.std.proofs.lemmas.List.{map-append, append-nil, take_more}
 use Rattle.std.proofs.lemmas.List.Elements.{filter-append}
 use Rattle.tf_notation.specs.declared.spelling.Condition.{Condition}
 use Rattle.tf_notation.specs.declared.spelling.Condition.TheVariants.{Release, Prec, Prmp, Prmu, Nwt, Block, Rcrc}
-use Rattle.tf_notation.specs.declared.spelling.Conditions.{Conditions}
+use Rattle.tf_model.specs.declared.problem.Problem.{Problem}
 use Rattle.tf_notation.specs.Spelling.{has}
 use Rattle.tf_notation.specs.Canonical.{condition_word, listed_text, one_more}
 
@@ -41,7 +41,7 @@ joined_push (c ∷ cs) w =
     ne_eqb _ _ (λ e. omega (arith, e, joined_some c cs)) in
     joined_more c cs w ∙ rw some refl
 
-pub listed_yes : (named : Conditions) (cs : List Condition) (c : Condition) → has named c ≡ true
+pub listed_yes : (named : Problem) (cs : List Condition) (c : Condition) → has named c ≡ true
     → listed_text named (cs ++ c ∷ []) ≡ one_more (listed_text named cs) (condition_word c)
 listed_yes named cs c h =
     let kept : filter (has named) (cs ++ c ∷ []) ≡ filter (has named) cs ++ c ∷ [] =
@@ -50,14 +50,14 @@ listed_yes named cs c h =
     ∙ ap (join_with_byte 44) (map-append condition_word (filter (has named) cs) (c ∷ []))
     ∙ joined_push (filter (has named) cs) (condition_word c)
 
-pub listed_no : (named : Conditions) (cs : List Condition) (c : Condition) → has named c ≡ false
+pub listed_no : (named : Problem) (cs : List Condition) (c : Condition) → has named c ≡ false
     → listed_text named (cs ++ c ∷ []) ≡ listed_text named cs
 listed_no named cs c h =
     let kept : filter (has named) (cs ++ c ∷ []) ≡ filter (has named) cs =
     filter-append (has named) cs (c ∷ []) ∙ rw h (append-nil (filter (has named) cs)) in
     ap joined kept
 
-pub step_yes : (named : Conditions) (all : List Condition) (i : ℕ) (d : Condition)
+pub step_yes : (named : Problem) (all : List Condition) (i : ℕ) (d : Condition)
     (old word new : List ℕ)
     → i < length all → has named (get_or all i d) ≡ true → old ≡ listed_text named (take i all)
     → word ≡ condition_word (get_or all i d) → new ≡ one_more old word
@@ -68,7 +68,7 @@ step_yes named all i d old word new lt h old-is word-is new-is =
     ∙ sym (ap (listed_text named) (take_more all i d lt)
     ∙ listed_yes named (take i all) (get_or all i d) h)
 
-pub step_no : (named : Conditions) (all : List Condition) (i : ℕ) (d : Condition) (old : List ℕ)
+pub step_no : (named : Problem) (all : List Condition) (i : ℕ) (d : Condition) (old : List ℕ)
     → i < length all → has named (get_or all i d) ≡ false → old ≡ listed_text named (take i all)
     → old ≡ listed_text named (take (i + 1) all)
 step_no named all i d old lt h old-is = old-is

@@ -8,7 +8,6 @@ use Rattle.tf_model.specs.declared.problem.Goal.{Goal}
 use Rattle.tf_model.specs.declared.problem.Goal.TheVariants.{Cmax, Lmax, Hmax, SumC, SumWC, SumT, SumWT, SumU, SumWU}
 use Rattle.tf_notation.specs.declared.spelling.Condition.{Condition}
 use Rattle.tf_notation.specs.declared.spelling.Condition.TheVariants.{Release, Prec, Prmp, Prmu, Nwt, Block, Rcrc}
-use Rattle.tf_notation.specs.declared.spelling.Conditions.{Conditions}
 use Rattle.tf_model.specs.declared.problem.Problem.{Problem}
 use Rattle.tf_notation.specs.Spelling.{has}
 
@@ -50,25 +49,12 @@ goal_word SumWT = codes "sumwT"
 goal_word SumU = codes "sumU"
 goal_word SumWU = codes "sumwU"
 
--- the conditions that a problem names
-abbrev pub conditions_of : Problem → Conditions
-conditions_of p =
-    record {
-      release = p.release;
-      prec = p.prec;
-      prmp = p.prmp;
-      prmu = p.prmu;
-      nwt = p.nwt;
-      block = p.block;
-      rcrc = p.rcrc;
-    }
-
 -- all conditions, in the order in which they are written
 abbrev pub all_conditions : List Condition
 all_conditions = Release ∷ Prec ∷ Prmp ∷ Prmu ∷ Nwt ∷ Block ∷ Rcrc ∷ []
 
 -- the words of those that are named, with a ',' between each two
-abbrev pub listed_text : Conditions → List Condition → List ℕ
+abbrev pub listed_text : Problem → List Condition → List ℕ
 listed_text named conditions =
     join_with_byte 44 (map condition_word (filter (has named) conditions))
 
@@ -81,4 +67,4 @@ one_more list word = if length list == 0 then word else list ++ 44 ∷ word
 unfoldable pub canonical : Problem → List ℕ
 canonical p =
     environment_word p.env ++ count_text p.env p.count ++ codes "|"
-    ++ listed_text (conditions_of p) all_conditions ++ codes "|" ++ goal_word p.goal
+    ++ listed_text p all_conditions ++ codes "|" ++ goal_word p.goal

@@ -7,7 +7,6 @@ use Rattle.tf_model.specs.Outcome
 use Rattle.tf_model.specs.Outcome.{◌>>=◌}
 use Rattle.tf_model.specs.declared.problem.Env.{Env}
 use Rattle.tf_model.specs.declared.problem.Goal.{Goal}
-use Rattle.tf_notation.specs.declared.spelling.Conditions.{Conditions}
 use Rattle.tf_model.specs.declared.problem.Problem.{Problem}
 use Rattle.tf_notation.specs.declared.reading.NotationFault.{NotationFault}
 use Rattle.tf_notation.specs.Spelling.{meaning, environment, goals, dividers, no_conditions, adds}
@@ -25,13 +24,13 @@ expect means end (t ∷ ts) = option_map_or (λ x. Ok (x, ts)) (means t.bytes) (
 
 unfoldable mutual
   -- a condition that was not named before, and what stands behind it
-  pub listed : ℕ → Conditions → List Token → Result (Conditions × List Token) ℕ
+  pub listed : ℕ → Problem → List Token → Result (Problem × List Token) ℕ
   listed end named [] = Err end
   listed end named (t ∷ ts) =
       option_map_or (λ more. behind_condition end more ts) (adds named t.bytes) (Err t.start)
 
   -- a ',' and more conditions, or the '|' that ends them
-  pub behind_condition : ℕ → Conditions → List Token → Result (Conditions × List Token) ℕ
+  pub behind_condition : ℕ → Problem → List Token → Result (Problem × List Token) ℕ
   behind_condition end named [] = Err end
   behind_condition end named (t ∷ ts) =
       option_map_or (λ another. if another then listed end named ts else Ok (named, ts))
@@ -43,27 +42,15 @@ ended x [] = Ok x
 ended x (t ∷ ts) = Err t.start
 
 -- a '|', or conditions up to their '|'
-unfoldable pub conditions_at : ℕ → List Token → Result (Conditions × List Token) ℕ
+unfoldable pub conditions_at : ℕ → List Token → Result (Problem × List Token) ℕ
 conditions_at end [] = Err end
 conditions_at end (t ∷ ts) =
     if bytes_eq t.bytes (codes "|") then Ok (no_conditions, ts)
     else listed end no_conditions (t ∷ ts)
 
--- a problem by its three fields
-abbrev pub problem_of : Env × Option ℕ → Conditions → Goal → Problem
-problem_of env named goal =
-    record {
-      env = env.0;
-      count = env.1;
-      release = named.release;
-      prec = named.prec;
-      prmp = named.prmp;
-      prmu = named.prmu;
-      nwt = named.nwt;
-      block = named.block;
-      rcrc = named.rcrc;
-      goal = goal;
-    }
+-- a problem by its three fields, of which the second is that of `named`
+abbrev pub problem_of : Env × Option ℕ → Problem → Goal → Problem
+problem_of env named goal = record named { env = env.0; count = env.1; goal = goal }
 
 -- the divider of fields
 abbrev pub bar : List (List ℕ × Unit {0})

@@ -12,7 +12,8 @@ use Rattle.tf_model.specs.declared.problem.Goal.{Goal}
 use Rattle.tf_model.specs.declared.problem.Goal.TheVariants.{Cmax, Lmax, Hmax, SumC, SumWC, SumT, SumWT, SumU, SumWU}
 use Rattle.tf_notation.specs.declared.spelling.Condition.{Condition}
 use Rattle.tf_notation.specs.declared.spelling.Condition.TheVariants.{Release, Prec, Prmp, Prmu, Nwt, Block, Rcrc}
-use Rattle.tf_notation.specs.declared.spelling.Conditions.{Conditions}
+use Rattle.tf_model.specs.declared.problem.Problem.{Problem}
+use Rattle.tf_model.specs.ClassTable.{plain_problem}
 
 -- what a word means by a table
 abbrev pub meaning : {A : Type 0} → List (List ℕ × A) → List ℕ → Option A
@@ -62,21 +63,12 @@ environment word =
     else option_and_then (λ env. option_map (λ count. (env, count)) (count_of (drop 1 word)))
     (meaning environments (take 1 word))
 
--- no condition is named
-abbrev pub no_conditions : Conditions
-no_conditions =
-    record {
-      release = false;
-      prec = false;
-      prmp = false;
-      prmu = false;
-      nwt = false;
-      block = false;
-      rcrc = false;
-    }
+-- A problem that names no condition. What it is otherwise plays no part while conditions are read.
+abbrev pub no_conditions : Problem
+no_conditions = plain_problem Single Cmax
 
--- whether a condition is named
-abbrev pub has : Conditions → Condition → Bool
+-- whether a problem names a condition
+abbrev pub has : Problem → Condition → Bool
 has named Release = named.release
 has named Prec = named.prec
 has named Prmp = named.prmp
@@ -85,8 +77,8 @@ has named Nwt = named.nwt
 has named Block = named.block
 has named Rcrc = named.rcrc
 
--- the named conditions and one more
-abbrev pub with_condition : Conditions → Condition → Conditions
+-- a problem with one condition more
+abbrev pub with_condition : Problem → Condition → Problem
 with_condition named Release = record named { release = true }
 with_condition named Prec = record named { prec = true }
 with_condition named Prmp = record named { prmp = true }
@@ -95,8 +87,8 @@ with_condition named Nwt = record named { nwt = true }
 with_condition named Block = record named { block = true }
 with_condition named Rcrc = record named { rcrc = true }
 
--- the conditions with the one that the word names, if it names one that is not among them
-abbrev pub adds : Conditions → List ℕ → Option Conditions
+-- the problem with the condition that the word names, if that is one which it does not name yet
+abbrev pub adds : Problem → List ℕ → Option Problem
 adds named word =
     option_and_then
     (λ condition. if has named condition then None else Some (with_condition named condition))

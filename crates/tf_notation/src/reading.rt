@@ -5,7 +5,7 @@ ghost use Rattle.tf_notation.specs.Spelling.{no_conditions, meaning, environment
 ghost use Rattle.tf_notation.specs.Spelling.{adds};
 ghost use Rattle.tf_notation.specs.Reading.{Gives, expect, bar, conditions_at, listed, notation};
 
-use crate::spelling::{Conditions, divider_of, environment_of, goal_of};
+use crate::spelling::{add, divider_of, environment_of, goal_of};
 use crate::token::next_token;
 use tf_model::problem::{Env, Goal, Problem};
 use tf_words::word::is;
@@ -77,13 +77,13 @@ fn read_goal(text: &[u8], offset: usize) -> Result<(Goal, usize), NotationFault>
     }
 }
 
-/// The named conditions and one more, which wasn't named before, and the offset behind it.
+/// The problem with one condition more, which it did not name before, and the offset behind it.
 #[tactic(auto, unfolding(crate::specs::Reading::expect))]
 fn read_condition(
     text: &[u8],
     offset: usize,
-    named: Conditions,
-) -> Result<(Conditions, usize), NotationFault>
+    named: Problem,
+) -> Result<(Problem, usize), NotationFault>
     requires { offset ≤ length text.now }
     ensures read { Gives (λ x. (x.0, tokens_after text.now x.1)) result
         (expect (adds named) (length text.now) (tokens_after text.now offset)) }
@@ -91,7 +91,7 @@ fn read_condition(
 {
     match next_token(text, offset) {
         None => Err(NotationFault { byte: text.len() }),
-        Some(token) => match named.add(token.word) {
+        Some(token) => match add(named, token.word) {
             None => Err(NotationFault { byte: token.start }),
             Some(more) => Ok((more, token.end)),
         },
@@ -115,14 +115,14 @@ fn read_divider(text: &[u8], offset: usize) -> Result<(bool, usize), NotationFau
     }
 }
 
-/// Conditions, of which there is at least one, and the offset behind the bar after the last.
-fn read_listed(text: &[u8], offset: usize) -> Result<(Conditions, usize), NotationFault>
+/// Problem, of which there is at least one, and the offset behind the bar after the last.
+fn read_listed(text: &[u8], offset: usize) -> Result<(Problem, usize), NotationFault>
     requires { offset ≤ length text.now }
     ensures read { Gives (λ x. (x.0, tokens_after text.now x.1)) result
         (listed (length text.now) no_conditions (tokens_after text.now offset)) }
     ensures inside { IfOk result (λ x. (offset < x.1) × (x.1 ≤ length text.now)) }
 {
-    let mut named = Conditions::none();
+    let mut named = Problem::plain(Env::Single, Goal::Cmax);
     let mut at = offset;
     loop {
         let (more, after) = read_condition(text, at, named)?;
@@ -135,9 +135,10 @@ fn read_listed(text: &[u8], offset: usize) -> Result<(Conditions, usize), Notati
     }
 }
 
-/// The second field, which may be empty, and the offset behind the bar after it.
+/// A problem with the conditions of the second field, which may be empty, and the offset behind the
+/// bar after it.
 #[tactic(auto, unfolding(crate::specs::Reading::conditions_at))]
-fn read_conditions(text: &[u8], offset: usize) -> Result<(Conditions, usize), NotationFault>
+fn read_conditions(text: &[u8], offset: usize) -> Result<(Problem, usize), NotationFault>
     requires { offset ≤ length text.now }
     ensures read { Gives (λ x. (x.0, tokens_after text.now x.1)) result
         (conditions_at (length text.now) (tokens_after text.now offset)) }
@@ -147,7 +148,7 @@ fn read_conditions(text: &[u8], offset: usize) -> Result<(Conditions, usize), No
         None => Err(NotationFault { byte: text.len() }),
         Some(token) => {
             if is(token.word, b"|") {
-                Ok((Conditions::none(), token.end))
+                Ok((Problem::plain(Env::Single, Goal::Cmax), token.end))
             } else {
                 read_listed(text, offset)
             }
@@ -178,14 +179,8 @@ pub fn read(text: &[u8]) -> Result<Problem, NotationFault>
         None => Ok(Problem {
             env,
             count,
-            release: named.release,
-            prec: named.prec,
-            prmp: named.prmp,
-            prmu: named.prmu,
-            nwt: named.nwt,
-            block: named.block,
-            rcrc: named.rcrc,
             goal,
+            ..named
         }),
     }
 }

@@ -2,10 +2,9 @@
 ghost use Rattle.std.specs.Prelude.{◌≡◌};
 ghost use Rattle.tf_notation.specs.Spelling.{goals, meaning, conditions, dividers, environments};
 ghost use Rattle.tf_notation.specs.Spelling.{count_of, environment, adds, with_condition, has};
-ghost use Rattle.tf_notation.specs.Spelling.{no_conditions};
 
 use tf_model::limit::MOST_MACHINES;
-use tf_model::problem::{Env, Goal};
+use tf_model::problem::{Env, Goal, Problem};
 use tf_words::number::plain_of;
 use tf_words::word::is;
 
@@ -27,18 +26,6 @@ pub enum Condition {
     Block,
     /// `rcrc`: recirculation, a job may visit a machine more than once.
     Rcrc,
-}
-
-/// The set of conditions that a second field names.
-#[derive(Clone, Copy, Debug, PartialEq, Eq)]
-pub struct Conditions {
-    pub release: bool,
-    pub prec: bool,
-    pub prmp: bool,
-    pub prmu: bool,
-    pub nwt: bool,
-    pub block: bool,
-    pub rcrc: bool,
 }
 
 /// The objective that a word names, if it names one.
@@ -143,67 +130,45 @@ pub(crate) fn environment_of(word: &[u8]) -> Option<(Env, Option<u32>)>
     Some((env, count))
 }
 
-impl Conditions {
-    /// No condition.
-    pub(crate) fn none() -> Conditions
-        ensures { result ≡ no_conditions }
-    {
-        Conditions {
-            release: false,
-            prec: false,
-            prmp: false,
-            prmu: false,
-            nwt: false,
-            block: false,
-            rcrc: false,
-        }
+/// Whether the problem names the condition.
+pub fn has(problem: &Problem, condition: Condition) -> bool
+    ensures { result ≡ has problem.now condition }
+{
+    match condition {
+        Condition::Release => problem.release,
+        Condition::Prec => problem.prec,
+        Condition::Prmp => problem.prmp,
+        Condition::Prmu => problem.prmu,
+        Condition::Nwt => problem.nwt,
+        Condition::Block => problem.block,
+        Condition::Rcrc => problem.rcrc,
     }
+}
 
-    /// Whether a condition is among these.
-    pub fn has(&self, condition: Condition) -> bool
-        ensures { result ≡ has self.now condition }
-    {
-        match condition {
-            Condition::Release => self.release,
-            Condition::Prec => self.prec,
-            Condition::Prmp => self.prmp,
-            Condition::Prmu => self.prmu,
-            Condition::Nwt => self.nwt,
-            Condition::Block => self.block,
-            Condition::Rcrc => self.rcrc,
-        }
+/// The problem with one condition more.
+fn with_condition(mut problem: Problem, condition: Condition) -> Problem
+    ensures { result ≡ with_condition problem condition }
+{
+    match condition {
+        Condition::Release => problem.release = true,
+        Condition::Prec => problem.prec = true,
+        Condition::Prmp => problem.prmp = true,
+        Condition::Prmu => problem.prmu = true,
+        Condition::Nwt => problem.nwt = true,
+        Condition::Block => problem.block = true,
+        Condition::Rcrc => problem.rcrc = true,
     }
+    problem
+}
 
-    /// These and one more.
-    fn with(self, condition: Condition) -> Conditions
-        ensures { result ≡ with_condition self condition }
-    {
-        match condition {
-            Condition::Release => Conditions {
-                release: true,
-                ..self
-            },
-            Condition::Prec => Conditions { prec: true, ..self },
-            Condition::Prmp => Conditions { prmp: true, ..self },
-            Condition::Prmu => Conditions { prmu: true, ..self },
-            Condition::Nwt => Conditions { nwt: true, ..self },
-            Condition::Block => Conditions {
-                block: true,
-                ..self
-            },
-            Condition::Rcrc => Conditions { rcrc: true, ..self },
-        }
-    }
-
-    /// These and the condition that the word names, if it names one that is not among these.
-    pub(crate) fn add(self, word: &[u8]) -> Option<Conditions>
-        ensures { result ≡ adds self word.now }
-    {
-        let condition = condition_of(word)?;
-        if self.has(condition) {
-            None
-        } else {
-            Some(self.with(condition))
-        }
+/// The problem with the condition that the word names, if that is one which it does not name yet.
+pub(crate) fn add(problem: Problem, word: &[u8]) -> Option<Problem>
+    ensures { result ≡ adds problem word.now }
+{
+    let condition = condition_of(word)?;
+    if has(&problem, condition) {
+        None
+    } else {
+        Some(with_condition(problem, condition))
     }
 }

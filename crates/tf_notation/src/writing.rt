@@ -2,10 +2,10 @@
 ghost use Rattle.std.specs.Prelude.{◌≡◌, OnOk, IfOk, Ok, string_bytes};
 ghost use Rattle.tf_notation.specs.Reading.{notation, IsRead};
 ghost use Rattle.tf_notation.specs.Canonical.{environment_word, count_text, condition_word};
-ghost use Rattle.tf_notation.specs.Canonical.{goal_word, conditions_of, one_more, listed_text};
+ghost use Rattle.tf_notation.specs.Canonical.{goal_word, one_more, listed_text};
 ghost use Rattle.tf_notation.specs.Canonical.{all_conditions, canonical};
 
-use crate::spelling::{Condition, Conditions};
+use crate::spelling::{Condition, has};
 use std::alloc::Allocator;
 use tf_model::memory::OutOfMemory;
 use tf_model::problem::{Env, Goal, Problem};
@@ -94,12 +94,12 @@ fn add_word<A: Allocator + Copy>(list: &mut String<A>, word: &str) -> Result<(),
 }
 
 /// The second field.
-fn listed_text<A: Allocator + Copy>(alloc: A, named: &Conditions) -> Result<String<A>, OutOfMemory>
-    ensures { IfOk result (λ s. string_bytes s ≡ listed_text named.now all_conditions) }
+fn listed_text<A: Allocator + Copy>(alloc: A, problem: &Problem) -> Result<String<A>, OutOfMemory>
+    ensures { IfOk result (λ s. string_bytes s ≡ listed_text problem.now all_conditions) }
 {
     let mut list = String::new(alloc);
     for condition in CONDITIONS {
-        if named.has(condition) {
+        if has(problem, condition) {
             add_word(&mut list, condition_word(condition))?;
         }
     }
@@ -111,17 +111,8 @@ fn listed_text<A: Allocator + Copy>(alloc: A, named: &Conditions) -> Result<Stri
 fn canonical<A: Allocator + Copy>(alloc: A, problem: &Problem) -> Result<String<A>, OutOfMemory>
     ensures { IfOk result (λ s. string_bytes s ≡ canonical problem.now) }
 {
-    let named = Conditions {
-        release: problem.release,
-        prec: problem.prec,
-        prmp: problem.prmp,
-        prmu: problem.prmu,
-        nwt: problem.nwt,
-        block: problem.block,
-        rcrc: problem.rcrc,
-    };
     let count = count_text(alloc, problem.env, problem.count)?;
-    let list = listed_text(alloc, &named)?;
+    let list = listed_text(alloc, problem)?;
     let environment = environment_word(problem.env);
     let goal = goal_word(problem.goal);
     Ok(format!(in alloc; "{environment}{count}|{list}|{goal}")?)

@@ -6,7 +6,6 @@ use Rattle.std.proofs.lemmas.Bool.{cases_Bool}
 use Rattle.std.specs.Str.{bytes_eq}
 use Rattle.tf_model.specs.declared.problem.Env.{Env}
 use Rattle.tf_model.specs.declared.problem.Problem.{Problem}
-use Rattle.tf_notation.specs.declared.spelling.Conditions.{Conditions}
 use Rattle.tf_notation.specs.Spelling.{meaning, environment, goals, dividers, no_conditions, adds}
 use Rattle.tf_notation.specs.Tokens.{Token, tokens_from, is_gap, is_word_byte, begins_word, lengthen}
 use Rattle.tf_model.proofs.Outcomes.{bind_ok}
@@ -74,16 +73,16 @@ expect_agrees means m n (t ∷ ts) (u ∷ us) rest x same h =
     expect_one (means u.bytes) ts us rest t.start u.start x tails
     (sym (ap (λ b. found (means b) ts t.start) bytes) ∙ h)
 
-listed_named : (o : Option Conditions) (ts us rest : List Token) (m n s e : ℕ) (x : Conditions)
-    → ((more : Conditions) → behind_condition m more ts ≡ Ok (x, rest)
+listed_named : (o : Option Problem) (ts us rest : List Token) (m n s e : ℕ) (x : Problem)
+    → ((more : Problem) → behind_condition m more ts ≡ Ok (x, rest)
     → Agrees x rest (behind_condition n more us))
     → option_map_or (λ more. behind_condition m more ts) o (Err s) ≡ Ok (x, rest)
     → Agrees x rest (option_map_or (λ more. behind_condition n more us) o (Err e))
 listed_named None ts us rest m n s e x step h = absurd cc
 listed_named (Some more) ts us rest m n s e x step h = step more h
 
-listed_divided : (o : Option Bool) (named : Conditions) (ts us rest : List Token) (m n s e : ℕ)
-    (x : Conditions)
+listed_divided : (o : Option Bool) (named : Problem) (ts us rest : List Token) (m n s e : ℕ)
+    (x : Problem)
     → Same ts us → (listed m named ts ≡ Ok (x, rest) → Agrees x rest (listed n named us))
     → option_map_or (λ another. cond another (listed m named ts) (Ok (named, ts))) o (Err s)
     ≡ Ok (x, rest)
@@ -97,7 +96,7 @@ listed_divided (Some false) named ts us rest m n s e x same step h =
 mutual
   unfolding listed
 
-  listed_agrees : (m n : ℕ) (named : Conditions) (ts us rest : List Token) (x : Conditions)
+  listed_agrees : (m n : ℕ) (named : Problem) (ts us rest : List Token) (x : Problem)
       → Same ts us → listed m named ts ≡ Ok (x, rest) → Agrees x rest (listed n named us)
   listed_agrees m n named [] us rest x same h = absurd cc
   listed_agrees m n named (t ∷ ts) [] rest x same h = absurd cc
@@ -109,7 +108,7 @@ mutual
       (sym (ap (λ b. option_map_or (λ more. behind_condition m more ts) (adds named b)
       (Err t.start)) bytes) ∙ h)
 
-  behind_agrees : (m n : ℕ) (named : Conditions) (ts us rest : List Token) (x : Conditions)
+  behind_agrees : (m n : ℕ) (named : Problem) (ts us rest : List Token) (x : Problem)
       → Same ts us → behind_condition m named ts ≡ Ok (x, rest)
       → Agrees x rest (behind_condition n named us)
   behind_agrees m n named [] us rest x same h = absurd cc
@@ -122,7 +121,7 @@ mutual
       (sym (ap (λ b. option_map_or (λ another. cond another (listed m named ts) (Ok (named, ts)))
       (meaning dividers b) (Err t.start)) bytes) ∙ h)
 
-conditions_agree : (m n : ℕ) (ts us rest : List Token) (x : Conditions) → Same ts us
+conditions_agree : (m n : ℕ) (ts us rest : List Token) (x : Problem) → Same ts us
     → conditions_at m ts ≡ Ok (x, rest) → Agrees x rest (conditions_at n us)
 unfolding conditions_at
 conditions_agree m n [] us rest x same h = absurd cc
@@ -136,7 +135,7 @@ conditions_agree m n (t ∷ ts) (u ∷ us) rest x same h =
     (listed m no_conditions (t ∷ ts))) bytes) ∙ h in
     conditions_by (bytes_eq u.bytes (codes "|")) t u ts us rest m n x same tails here
   where
-    conditions_by : (b : Bool) (t u : Token) (ts us rest : List Token) (m n : ℕ) (x : Conditions)
+    conditions_by : (b : Bool) (t u : Token) (ts us rest : List Token) (m n : ℕ) (x : Problem)
         → Same (t ∷ ts) (u ∷ us) → Same ts us
         → cond b (Ok (no_conditions, ts)) (listed m no_conditions (t ∷ ts)) ≡ Ok (x, rest)
         → Agrees x rest (cond b (Ok (no_conditions, us)) (listed n no_conditions (u ∷ us)))

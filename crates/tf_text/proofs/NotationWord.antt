@@ -12,7 +12,7 @@ use Rattle.tf_model.specs.declared.problem.Problem.{Problem}
 use Rattle.tf_notation.specs.declared.spelling.Condition.{Condition}
 use Rattle.tf_notation.specs.declared.spelling.Condition.TheVariants.{Release, Prec, Prmp, Prmu, Nwt, Block, Rcrc}
 use Rattle.tf_notation.specs.Spelling.{has}
-use Rattle.tf_notation.specs.Canonical.{environment_word, count_text, condition_word, goal_word, conditions_of, listed_text, all_conditions, canonical}
+use Rattle.tf_notation.specs.Canonical.{environment_word, count_text, condition_word, goal_word, listed_text, all_conditions, canonical}
 use Rattle.tf_notation.proofs.Again.{IsCounted}
 use Rattle.tf_words.specs.LineParts.{after_word, without_return}
 use Rattle.tf_text.proofs.WordLines.{IsWord, append_all}
@@ -85,14 +85,14 @@ pub word-canonical : (p : Problem) → IsCounted p.env p.count → IsWord (canon
 unfolding canonical
 word-canonical p is =
     let machines : List ℕ = environment_word p.env ++ count_text p.env p.count in
-    let list : List ℕ = listed_text (conditions_of p) all_conditions in
+    let list : List ℕ = listed_text p all_conditions in
     let first : IsDark machines =
     dark-append (environment_word p.env) (count_text p.env p.count) (dark_environment p.env)
     (dark_count p.env p.count is) in
     let barred : IsDark (machines ++ codes "|") = dark-append machines (codes "|") first refl in
     let listed : IsDark (machines ++ codes "|" ++ list) =
     dark-append (machines ++ codes "|") list barred
-    (dark_listed (filter (has (conditions_of p)) all_conditions)) in
+    (dark_listed (filter (has p) all_conditions)) in
     let closed : IsDark (machines ++ codes "|" ++ list ++ codes "|") =
     dark-append (machines ++ codes "|" ++ list) (codes "|") listed refl in
     let long : 0 < length (canonical p) = simp length-append (omega arith) in

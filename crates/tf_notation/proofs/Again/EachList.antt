@@ -2,17 +2,18 @@
 use Rattle.std.proofs.Common.{◌≡◌, ℕ, Bool, true, false, List, ◌∷◌, ◌++◌, Ok, refl}
 use Rattle.tf_notation.specs.Tokens.{tokens_from}
 use Rattle.tf_notation.specs.Reading.{conditions_at, listed}
+use Rattle.tf_notation.specs.Spelling.{no_conditions}
 use Rattle.tf_notation.specs.Canonical.{listed_text, all_conditions}
-use Rattle.tf_notation.specs.declared.spelling.Conditions.{Conditions}
+use Rattle.tf_model.specs.declared.problem.Problem.{Problem}
 
-abbrev pub ConditionsRead : Conditions → Type 0
+abbrev pub ConditionsRead : Problem → Type 0
 ConditionsRead named = (end o : ℕ) (tail : List ℕ) → (s : ℕ)
     × (conditions_at end (tokens_from o (listed_text named all_conditions ++ (124 ∷ tail)))
     ≡ Ok (named, tokens_from s tail))
 
 pub conditions_read : (release prec prmp prmu nwt block rcrc : Bool)
     → ConditionsRead
-    (record {
+    (record no_conditions {
       release = release;
       prec = prec;
       prmp = prmp;

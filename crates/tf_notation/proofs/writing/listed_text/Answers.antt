@@ -9,11 +9,11 @@ loop-condition-preserved g c = record {
   items = refl;
   same = elim c.if-has.branch [
     | then-has+in_ok-add_word w ↦ ap string_bytes w.list-is
-        ∙ step_yes c.args.named.now all_conditions c.loop-condition.condition-index _ _ _ _
+        ∙ step_yes c.args.problem.now all_conditions c.loop-condition.condition-index _ _ _ _
         c.loop-condition-test.true (sym c.has.ensures ∙ w.if-has.true)
         c.loop-condition.invariant.same w.condition_word.ensures w.in_ok-add_word.ensures
     | else-has w ↦ ap string_bytes w.list-is
-        ∙ step_no c.args.named.now all_conditions c.loop-condition.condition-index _ _
+        ∙ step_no c.args.problem.now all_conditions c.loop-condition.condition-index _ _
         c.loop-condition-test.true (sym c.has.ensures ∙ w.if-has.false)
         c.loop-condition.invariant.same
   ];

@@ -5,5 +5,5 @@ use Rattle.tf_notation.proofs.writing.listed_text.Given as goal
 abbrev pub invariant-loop-condition : goal.invariant-loop-condition
 invariant-loop-condition g l = record {
   items : l.condition-items ≡ all_conditions;
-  same : string_bytes l.list ≡ listed_text l.named (take l.condition-index l.condition-items);
+  same : string_bytes l.list ≡ listed_text l.problem (take l.condition-index l.condition-items);
 }
