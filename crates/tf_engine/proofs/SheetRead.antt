@@ -11,7 +11,7 @@ use Rattle.tf_text.specs.AnswerReading.{Fails, sheet_of, answer_in}
 use Rattle.tf_text.specs.declared.answer.fault.AnswerFault.{AnswerFault}
 use Rattle.tf_text.specs.declared.answer.fault.AnswerFault.TheVariants as answers
 use Rattle.tf_engine.specs.declared.fault.RunFault.TheVariants.{Device, OutOfMemory}
-use Rattle.tf_engine.specs.Faults.{end_of, ends_past_answer}
+use Rattle.tf_engine.specs.Faults.{end_of, is_past_answer, answers_or}
 use Rattle.tf_engine.specs.Parts.{ReadsSheet}
 use Rattle.tf_engine.specs.Passed.{of_answer}
 use Rattle.tf_text.proofs.Stages.{in_reach, too_long}
@@ -70,7 +70,7 @@ module _ (A T : Type 0) (remaining : T → Option (List ℕ)) (old new : Counted
 
     -- a fault of a text that is all that is known
     faulty : (e : AnswerFault) (text : List ℕ) → IsTextOf first text → answer_in text ≡ Err e
-        → (ends_past_answer (end_of {X = SheetData} {A = A} (Err (of_answer e))) ≡ true → IsAtEnd last)
+        → (answers_or is_past_answer (end_of {X = SheetData} {A = A} (Err (of_answer e))) ≡ true → IsAtEnd last)
         → ConsumesAtMost (most_bytes + 1) first last
         → ReadsSheet {A = A} remaining old new (Err (of_answer e))
     faulty answers.OutOfMemory text is h end pulled = sheet_wanting pulled

@@ -5,14 +5,14 @@ use Rattle.tf_model.specs.Limit.{most_bytes}
 use Rattle.tf_text.specs.declared.counted.Counted.{Counted}
 use Rattle.tf_text.specs.Counted.{inner_of, pulled_of, has_failed, ConsumesAtMost}
 use Rattle.tf_model.specs.declared.problem.Problem.{Problem}
-use Rattle.tf_engine.specs.Faults.{Refused, Stop, Refuses, Wants, is_failure, ends_failing, ends_past_answer, ends_answering, ends_past_text, ends_on_answer, ends_on_instance}
+use Rattle.tf_engine.specs.Faults.{Refused, Stop, Refuses, Wants, is_failure, is_refusal, is_past_answer, is_past_text, is_on_answer, is_on_instance, ends_by, answers_or}
 
 -- A reader of an answer text that comes first. Nothing that is answered later hides that it failed,
 -- and a refusal that needs the whole text comes at its end.
 pub record LeavesReader {T : Type 0} (remaining : T → Option (List ℕ)) (old new : Counted T)
     (end : Option Stop) : Type 0 where
-  pub unfailed : ends_failing end ≡ false → has_failed new ≡ false
-  pub ended : ends_past_answer end ≡ true → IsAtEnd (remaining (inner_of new))
+  pub unfailed : ends_by is_failure end ≡ false → has_failed new ≡ false
+  pub ended : answers_or is_past_answer end ≡ true → IsAtEnd (remaining (inner_of new))
   pub pulled : ConsumesAtMost (most_bytes + 1) (remaining (inner_of old))
       (remaining (inner_of new))
   pub counted : pulled_of new ≤ pulled_of old + (most_bytes + 1)
@@ -22,10 +22,10 @@ pub record LeavesReader {T : Type 0} (remaining : T → Option (List ℕ)) (old 
 pub record LeavesInstance {T : Type 0} (asked : Result Problem Refused)
     (remaining : T → Option (List ℕ)) (old new : Counted T) (end : Option Stop) : Type 0 where
   pub unread : IfErr asked (λ refused. (end ≡ Some (Refuses refused)) × (new ≡ old))
-  pub unfailed : IsOk asked → ends_answering end ≡ true → has_failed new ≡ false
+  pub unfailed : IsOk asked → answers_or is_refusal end ≡ true → has_failed new ≡ false
   -- memory was wanting before the reader was called, or the reader did not fail
   pub wanting : end ≡ Some Wants → (new ≡ old) ⊎ (has_failed new ≡ false)
-  pub ended : IsOk asked → ends_past_text end ≡ true → IsAtEnd (remaining (inner_of new))
+  pub ended : IsOk asked → answers_or is_past_text end ≡ true → IsAtEnd (remaining (inner_of new))
   pub pulled : ConsumesAtMost (most_bytes + 1) (remaining (inner_of old))
       (remaining (inner_of new))
   pub counted : pulled_of new ≤ pulled_of old + (most_bytes + 1)
@@ -35,8 +35,8 @@ pub record LeavesInstance {T : Type 0} (asked : Result Problem Refused)
 abbrev pub LeavesAnswer : {T : Type 0} → (T → Option (List ℕ)) → Counted T → Counted T → Option Stop
     → Type 0
 LeavesAnswer remaining old new end =
-    ((new ≡ old) × (ends_on_answer end ≡ false))
-    ⊎ ((ends_on_instance end ≡ false) × LeavesReader remaining old new end)
+    ((new ≡ old) × (answers_or is_on_answer end ≡ false))
+    ⊎ ((ends_by is_on_instance end ≡ false) × LeavesReader remaining old new end)
 
 -- the readers of an instance and of an answer
 pub record LeavesBoth {T U : Type 0} (asked : Result Problem Refused)

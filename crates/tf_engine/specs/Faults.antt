@@ -1,5 +1,6 @@
 -- Why a run gives no answer, as definitions see it.
-use Rattle.std.specs.Prelude.{ℕ, List, Bool, true, false, not, ◌&&◌, Option, None, Some, Result, Ok, Err}
+use Rattle.std.specs.Prelude.{ℕ, List, Bool, true, false, not, ◌&&◌, ◌||◌, Option, None, Some, Result, Ok, Err}
+use Rattle.std.specs.Option.{option_map_or}
 use Rattle.tf_model.specs.declared.prepare.Refusal.{Refusal}
 use Rattle.tf_read.specs.declared.fault.ReadFault.{ReadFault}
 use Rattle.tf_read.specs.declared.fault.ReadFault.TheVariants as reads
@@ -42,46 +43,11 @@ abbrev pub is_refusal : Stop → Bool
 is_refusal (Refuses refused) = true
 is_refusal _ = false
 
--- a refusal for the sake of the answer text
-abbrev pub is_of_answer : Stop → Bool
-is_of_answer (Refuses (ByAnswer fault)) = true
-is_of_answer _ = false
-
--- a refusal that comes after the whole answer text was read: a fault of the text but that it is too
--- long, one of its pieces, or a cycle
-abbrev pub is_past_answer : Stop → Bool
-is_past_answer (Refuses (ByAnswer answers.TooLong)) = false
-is_past_answer (Refuses (ByAnswer fault)) = true
-is_past_answer (Refuses (ByPieces fault)) = true
-is_past_answer (Refuses (ByCycle jobs)) = true
-is_past_answer _ = false
-
--- what is said only after the whole answer text was read
-abbrev pub is_of_whole_answer : {X A : Type 0} → Result X (RunFault A) → Bool
-is_of_whole_answer (Ok x) = true
-is_of_whole_answer (Err e) = is_past_answer (stop_of e)
-
--- a refusal that comes after the whole instance text was read: each but that of a text that is too
--- long
-abbrev pub is_past_text : Stop → Bool
-is_past_text s = is_refusal s && not (is_too_long s)
-  where
-    is_too_long : Stop → Bool
-    is_too_long (Refuses (ByText reads.TooLong)) = true
-    is_too_long _ = false
-
--- what is said only after the whole instance text was read: a value, and each refusal but that of a
--- text that is too long
-abbrev pub is_of_whole : {X A : Type 0} → Result X (RunFault A) → Bool
-is_of_whole (Ok x) = true
-is_of_whole (Err e) = is_past_text (stop_of e)
-
--- a refusal for the sake of the problem line or of the instance
-abbrev pub is_on_instance : Stop → Bool
-is_on_instance (Refuses (ByNotation byte)) = true
-is_on_instance (Refuses (ByText fault)) = true
-is_on_instance (Refuses (ByTask refusal)) = true
-is_on_instance _ = false
+-- a text that is too long, of which the end is not read
+abbrev pub is_too_long : Stop → Bool
+is_too_long (Refuses (ByText reads.TooLong)) = true
+is_too_long (Refuses (ByAnswer answers.TooLong)) = true
+is_too_long _ = false
 
 -- a refusal for the sake of the answer text or of its pieces, or one that comes after it was read: a
 -- cycle
@@ -91,37 +57,31 @@ is_on_answer (Refuses (ByPieces fault)) = true
 is_on_answer (Refuses (ByCycle jobs)) = true
 is_on_answer _ = false
 
+-- a refusal for the sake of the problem line or of the instance
+abbrev pub is_on_instance : Stop → Bool
+is_on_instance s = is_refusal s && not (is_on_answer s)
+
+-- a refusal that comes after the whole answer text was read
+abbrev pub is_past_answer : Stop → Bool
+is_past_answer s = is_on_answer s && not (is_too_long s)
+
+-- a refusal that comes after the whole instance text was read
+abbrev pub is_past_text : Stop → Bool
+is_past_text s = is_refusal s && (is_on_answer s || not (is_too_long s))
+
 -- how a run ends: by a stop, or with a value
 abbrev pub end_of : {X A : Type 0} → Result X (RunFault A) → Option Stop
 end_of (Ok x) = None
 end_of (Err e) = Some (stop_of e)
 
--- it ends by a device's failure
-abbrev pub ends_failing : Option Stop → Bool
-ends_failing None = false
-ends_failing (Some s) = is_failure s
+-- it ends by such a stop
+abbrev pub ends_by : (Stop → Bool) → Option Stop → Bool
+ends_by is_such end = option_map_or is_such end false
 
--- it ends after the whole answer text was read
-abbrev pub ends_past_answer : Option Stop → Bool
-ends_past_answer None = true
-ends_past_answer (Some s) = is_past_answer s
+-- it ends with a value, or by such a stop
+abbrev pub answers_or : (Stop → Bool) → Option Stop → Bool
+answers_or is_such end = option_map_or is_such end true
 
--- it ends with a value or a refusal
-abbrev pub ends_answering : Option Stop → Bool
-ends_answering None = true
-ends_answering (Some s) = is_refusal s
-
--- it ends after the whole instance text was read
-abbrev pub ends_past_text : Option Stop → Bool
-ends_past_text None = true
-ends_past_text (Some s) = is_past_text s
-
--- it ends with a value, for the answer's sake, or with a cycle
-abbrev pub ends_on_answer : Option Stop → Bool
-ends_on_answer None = true
-ends_on_answer (Some s) = is_on_answer s
-
--- it ends for the sake of the problem line or of the instance
-abbrev pub ends_on_instance : Option Stop → Bool
-ends_on_instance None = false
-ends_on_instance (Some s) = is_on_instance s
+-- what is said only after the whole instance text was read
+abbrev pub is_of_whole : {X A : Type 0} → Result X (RunFault A) → Bool
+is_of_whole result = answers_or is_past_text (end_of result)
