@@ -13,7 +13,8 @@ use Rattle.tf_prepare.specs.Preparing.{is_bounded, prepared_in}
 use Rattle.tf_prepare.specs.TimedData.{TimedData}
 use Rattle.tf_engine.specs.declared.fault.RunFault.{RunFault}
 use Rattle.tf_engine.specs.Faults.{Refused, ByNotation, ByTask, Stop, Refuses, Fails, Wants, is_on_answer, is_on_instance, stop_of}
-use Rattle.tf_engine.specs.Parts.{ReadsSheet, StopsReading, IsOfAnswer}
+use Rattle.tf_engine.specs.Parts.{ReadsSheet, StopsReading}
+use Rattle.tf_engine.specs.Checking.{IsOfAnswer}
 use Rattle.tf_engine.specs.Refusal.{refused_by}
 use Rattle.tf_engine.specs.RequestData.{RequestData}
 use Rattle.tf_engine.proofs.Devices.{instance_later}

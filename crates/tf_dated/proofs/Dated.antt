@@ -17,7 +17,8 @@ use Rattle.tf_engine.specs.declared.fault.RunFault.TheVariants.{Device}
 use Rattle.tf_engine.specs.Drawing.{IsOfPieces}
 use Rattle.tf_engine.specs.Faults.{stop_of}
 use Rattle.tf_engine.specs.FormData.{FormData}
-use Rattle.tf_engine.specs.Parts.{ReadsSheet, ReadsTo, IsOfAnswer, StopsBy, instance_said}
+use Rattle.tf_engine.specs.Parts.{ReadsSheet, ReadsTo, StopsBy, instance_said}
+use Rattle.tf_engine.specs.Checking.{IsOfAnswer}
 use Rattle.tf_engine.proofs.Unread.{part_stops, reading_stops}
 use Rattle.tf_dated.specs.Dates.{dates_in}
 use Rattle.tf_dated.specs.Dated.{IsDated, IsDatedOver, IsDatedRunOf, IsDrawnSheet, IsForJobs, IsRefusedDated}

@@ -13,7 +13,8 @@ use Rattle.tf_engine.specs.Devices.{LeavesReader, LeavesInstance, LeavesBoth, Le
 use Rattle.tf_engine.specs.Drawing.{IsOfPieces}
 use Rattle.tf_engine.specs.Faults.{Refused, ByText, Stop, Refuses, Fails, Wants, is_on_answer, is_on_instance, stop_of, end_of}
 use Rattle.tf_engine.specs.FormData.{FormData}
-use Rattle.tf_engine.specs.Parts.{ReadsSheet, ReadsTo, IsOfAnswer, StopsBy, StopsReading, instance_said}
+use Rattle.tf_engine.specs.Parts.{ReadsSheet, ReadsTo, StopsBy, StopsReading, instance_said}
+use Rattle.tf_engine.specs.Checking.{IsOfAnswer}
 use Rattle.tf_engine.specs.Refusal.{refused_by, instance_in}
 use Rattle.tf_engine.proofs.CaseRead.{instance_left}
 use Rattle.tf_engine.proofs.Devices.{reader_sound, reader_later, instance_sound, instance_later, stopped, cut, wrote}

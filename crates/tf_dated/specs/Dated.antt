@@ -12,7 +12,8 @@ use Rattle.tf_engine.specs.declared.fault.RunFault.{RunFault}
 use Rattle.tf_engine.specs.Drawing.{IsOfPieces}
 use Rattle.tf_engine.specs.Faults.{Refused, stop_of}
 use Rattle.tf_engine.specs.FormData.{FormData}
-use Rattle.tf_engine.specs.Parts.{IsOfAnswer, StopsReading, instance_said}
+use Rattle.tf_engine.specs.Parts.{StopsReading, instance_said}
+use Rattle.tf_engine.specs.Checking.{IsOfAnswer}
 use Rattle.tf_engine.specs.Runs.{Leaves}
 use Rattle.tf_dated.specs.Dates.{dates_in}
 use Rattle.tf_picture.specs.Picture.{IsDatedPicture}

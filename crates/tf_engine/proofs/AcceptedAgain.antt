@@ -14,7 +14,7 @@ use Rattle.tf_model.specs.SchedulingTask.{SchedulingTask}
 use Rattle.tf_model.proofs.Outcomes.{bind_ok}
 use Rattle.tf_read.specs.declared.fault.ReadFault.{ReadFault}
 use Rattle.tf_text.specs.AnswerText.{SheetData, answer_text}
-use Rattle.tf_text.proofs.AnswerAgain.{text_again}
+use Rattle.tf_text.proofs.AnswerAgain.{read_again}
 use Rattle.tf_engine.specs.RequestData.{RequestData}
 use Rattle.tf_engine.specs.Faults.{ByText, ByTask}
 use Rattle.tf_engine.specs.Refusal.{refused_by, problem_for, instance_in, task_in, task_for}
@@ -83,7 +83,7 @@ answers_of request text sheet solved =
         task = solved.task;
         meant = solved.meant;
         sheet = sheet;
-        said = text_again request.layout sheet answer.readable fits;
+        said = read_again _ sheet answer.readable fits;
         verdict = (
           record {
             class =

@@ -18,10 +18,10 @@ use Rattle.tf_engine.specs.declared.case.Asked.{Asked}
 use Rattle.tf_engine.specs.declared.case.Case.{Case}
 use Rattle.tf_engine.specs.declared.fault.RunFault.{RunFault}
 use Rattle.tf_engine.specs.CaseParts.{IsAsked, ReadsAsked, ReadsCase}
-use Rattle.tf_engine.specs.Checking.{IsRefusedCheck, HasReaderFailed}
+use Rattle.tf_engine.specs.Checking.{IsRefusedCheck, HasReaderFailed, IsOfAnswer}
 use Rattle.tf_engine.specs.Devices.{LeavesInstance}
 use Rattle.tf_engine.specs.Faults.{Refused, ByNotation, ByText, ByTask, Stop, Refuses, Fails, Wants, is_on_answer, is_on_instance, stop_of, end_of}
-use Rattle.tf_engine.specs.Parts.{ReadsTo, ReadsSheet, StopsReading, IsOfAnswer}
+use Rattle.tf_engine.specs.Parts.{ReadsTo, ReadsSheet, StopsReading}
 use Rattle.tf_engine.specs.Refusal.{refused_by, with_class, problem_for, instance_in, task_in, task_for}
 use Rattle.tf_engine.specs.RequestData.{RequestData}
 use Rattle.tf_engine.proofs.AcceptedAgain.{meant_by}
@@ -214,11 +214,7 @@ module _ (A T U : Type 0) (request : RequestData) (remaining : T → Option (Lis
       given = stops_as (IsOfAnswer said.text) (IsRefusedCheck request had.text said.text)
           (has_failed after ≡ true)
           (HasReaderFailed request had.text (use_of remaining old new) (use_of giving before after))
-          (λ refused h. inr (
-            h.0,
-            h.1,
-            record { task = asked.task; meant = had.given.meant; said = h.2 },
-          ))
+          (λ refused h. inr (rw had.given.meant refl, h))
           (λ failed. inr (rw had.given.meant refl, failed)) (stop_of e) said.given;
       readers = record {
         instance = instance_later had.reader (Some (stop_of e));

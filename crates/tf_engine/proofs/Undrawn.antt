@@ -16,7 +16,8 @@ use Rattle.tf_text.proofs.ChartOrder.{chart_permutation}
 use Rattle.tf_engine.specs.declared.fault.RunFault.{RunFault}
 use Rattle.tf_engine.specs.declared.fault.RunFault.TheVariants.{Device}
 use Rattle.tf_engine.specs.Faults.{stop_of}
-use Rattle.tf_engine.specs.Parts.{ReadsSheet, IsOfAnswer, StopsBy}
+use Rattle.tf_engine.specs.Parts.{ReadsSheet, StopsBy}
+use Rattle.tf_engine.specs.Checking.{IsOfAnswer}
 use Rattle.tf_engine.specs.Drawing.{IsShown, IsChart, IsOfPieces, IsRefusedDrawing, IsDrawingOf}
 use Rattle.tf_engine.proofs.Unread.{part_stops, reading_stops}
 

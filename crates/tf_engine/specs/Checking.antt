@@ -41,12 +41,10 @@ pub record IsChecked (request : RequestData) (instance answer : List ℕ) (check
     pub said : answer_in answer ≡ Ok sheet
     pub verdict : IsVerdict task sheet checked
 
--- the request and the instance text mean a task, and the answer text has this fault
-pub record IsMisread (request : RequestData) (instance answer : List ℕ) (fault : AnswerFault) : Type
-    0 where
-  pub task : SchedulingTask
-  pub meant : task_for request instance ≡ Ok task
-  pub said : answer_in answer ≡ Err fault
+-- the refusal is the fault of the answer text
+abbrev pub IsOfAnswer : List ℕ → Refused → Type 0
+IsOfAnswer text refused = (fault : AnswerFault) × (refused ≡ ByAnswer fault)
+    × (answer_in text ≡ Err fault)
 
 -- a line that says the verdict
 abbrev pub SaysVerdict : RequestData → List ℕ → List ℕ → List ℕ → Type 0
@@ -57,7 +55,7 @@ SaysVerdict request instance answer out =
 abbrev pub IsRefusedCheck : RequestData → List ℕ → List ℕ → Refused → Type 0
 IsRefusedCheck request instance answer refused =
     (task_for request instance ≡ Err refused)
-    ⊎ ((fault : AnswerFault) × (refused ≡ ByAnswer fault) × IsMisread request instance answer fault)
+    ⊎ (IsOk (task_for request instance) × IsOfAnswer answer refused)
 
 -- the instance's reader failed, or there is a task and the answer's reader failed
 abbrev pub HasReaderFailed : RequestData → List ℕ → DeviceUse → DeviceUse → Type 0
@@ -67,15 +65,6 @@ HasReaderFailed request text instance answer =
 -- A check says its verdict in one line, or gives the one refusal. Where memory was wanting it gives
 -- neither. Nothing was written then, nor after a refusal or where a reader failed; where the writer
 -- failed a prefix of the line was.
-abbrev pub CheckOutcome : {A : Type 0} → RequestData → List ℕ → List ℕ → DeviceUse → DeviceUse
-    → DeviceUse → Result Checked (RunFault A) → Type 0
-CheckOutcome request text answer_text instance answer writer (Ok checked) =
-    IsChecked request text answer_text checked
-    × Appends writer.before writer.after (verdict_line checked)
-CheckOutcome request text answer_text instance answer writer (Err e) =
-    Leaves (SaysVerdict request text answer_text) (IsRefusedCheck request text answer_text)
-    (HasReaderFailed request text instance answer) writer (stop_of e)
-
 -- The outcome is that of two texts, which are all bytes of the readers up to their ends where they
 -- are known.
 pub record IsCheckOf {A : Type 0} (request : RequestData) (instance answer writer : DeviceUse)
@@ -84,7 +73,11 @@ pub record IsCheckOf {A : Type 0} (request : RequestData) (instance answer write
   pub is_all : IsTextOf instance.before text
   pub answer_text : List ℕ
   pub is_whole_answer : IsTextOf answer.before answer_text
-  pub outcome : CheckOutcome request text answer_text instance answer writer result
+  pub outcome : MatchResult result
+      (λ checked. IsChecked request text answer_text checked
+      × Appends writer.before writer.after (verdict_line checked))
+      (λ e. Leaves (SaysVerdict request text answer_text) (IsRefusedCheck request text answer_text)
+      (HasReaderFailed request text instance answer) writer (stop_of e))
 
 -- the verdict is that the answer is best, or the run stopped for a device's or memory's sake
 abbrev pub AcceptsUnlessStopped : {A : Type 0} → Result Checked (RunFault A) → Type 0

@@ -1,5 +1,5 @@
 -- What a run leaves behind.
-use Rattle.std.specs.Prelude.{◌≡◌, ℕ, ◌≤◌, ◌⊎◌, true, List, Result, Ok, Err, length}
+use Rattle.std.specs.Prelude.{◌≡◌, ℕ, ◌≤◌, ◌⊎◌, true, List, Result, Ok, Err, MatchResult, length}
 use Rattle.std.specs.Io.KnownBytes.{Appends}
 use Rattle.tf_model.specs.SchedulingTask.{SchedulingTask}
 use Rattle.tf_text.specs.Counted.{DeviceUse}
@@ -9,7 +9,8 @@ use Rattle.tf_engine.specs.declared.fault.RunFault.{RunFault}
 use Rattle.tf_engine.specs.Faults.{Refused, ByCycle, stop_of}
 use Rattle.tf_engine.specs.RequestData.{RequestData}
 use Rattle.tf_check.specs.Accepted.{IsAccepted, IsBestAnswer}
-use Rattle.tf_text.specs.Readable.{IsReadable}
+use Rattle.tf_words.specs.Words.{lines, kept_lines}
+use Rattle.tf_text.specs.AnswerReading.{sheet_of}
 use Rattle.tf_model.specs.Limit.{most_bytes}
 use Rattle.tf_engine.specs.declared.run_check.Checked.TheVariants.{Accepted}
 use Rattle.tf_engine.specs.Checking.{IsChecked}
@@ -28,8 +29,8 @@ pub record IsSheetFor (request : RequestData) (k : SchedulingTask) (sheet : Shee
     pub accepted : IsAccepted k sheet.answer
     pub best : IsBestAnswer k sheet.answer
     pub rule : IsByRule k sheet.answer
-    -- its numbers are in the ranges of an answer text
-    pub readable : IsReadable request.layout sheet
+    -- the lines of its text say it again
+    pub readable : sheet_of (kept_lines 1 (lines (answer_text request.layout sheet))) ≡ Ok sheet
 
 -- the request and the text mean a task, and the sheet answers it
 pub record IsSolved (request : RequestData) (text : List ℕ) (sheet : SheetData) : Type 0 where
@@ -60,19 +61,13 @@ IsRefusedRun request text refused =
 
 -- A run answers in full, or gives the one refusal. Where memory was wanting it gives neither.
 -- Nothing was written then, nor after a refusal or where the reader failed; where the writer failed a
--- prefix of an answer was.
-abbrev pub Outcome : {A : Type 0} → RequestData → List ℕ → DeviceUse → DeviceUse
-    → Result (Unit {0}) (RunFault A) → Type 0
-Outcome request text reader writer (Ok _) =
-    (out : List ℕ) × Answers request text out × Appends writer.before writer.after out
-Outcome request text reader writer (Err e) =
-    Leaves (Answers request text) (IsRefusedRun request text) (reader.failed ≡ true) writer
-    (stop_of e)
-
--- The outcome is that of a text, which is all bytes of the reader up to its end where they are
--- known.
+-- prefix of an answer was. The outcome is that of a text, which is all bytes of the reader up to its
+-- end where they are known.
 pub record IsRunOf {A : Type 0} (request : RequestData) (reader writer : DeviceUse)
     (result : Result (Unit {0}) (RunFault A)) : Type 0 where
   pub text : List ℕ
   pub is_all : IsTextOf reader.before text
-  pub outcome : Outcome request text reader writer result
+  pub outcome : MatchResult result
+      (λ _. (out : List ℕ) × Answers request text out × Appends writer.before writer.after out)
+      (λ e. Leaves (Answers request text) (IsRefusedRun request text) (reader.failed ≡ true) writer
+      (stop_of e))

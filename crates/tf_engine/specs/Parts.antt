@@ -12,13 +12,13 @@ use Rattle.tf_text.specs.Counted.{inner_of, pulled_of, has_failed, ConsumesAtMos
 use Rattle.tf_text.specs.Input.{IsTextOf}
 use Rattle.tf_text.specs.AnswerText.{SheetData}
 use Rattle.tf_text.specs.AnswerReading.{answer_in}
-use Rattle.tf_text.specs.declared.answer.fault.AnswerFault.{AnswerFault}
 use Rattle.tf_engine.specs.declared.fault.RunFault.{RunFault}
 use Rattle.tf_engine.specs.Faults.{Refused, ByText, ByTask, ByAnswer, Stop, Refuses, Fails, Wants, is_refusal, is_of_whole, stop_of, end_of}
 use Rattle.tf_engine.specs.Devices.{LeavesReader}
 use Rattle.tf_engine.specs.FormData.{FormData}
 use Rattle.tf_engine.specs.Refusal.{refused_by, instance_in}
 use Rattle.tf_engine.specs.RequestData.{RequestData}
+use Rattle.tf_engine.specs.Checking.{IsOfAnswer}
 use Rattle.tf_engine.specs.Headline.{IsSolved, IsRefusedRun}
 
 -- why a part stops that reads and writes nothing
@@ -76,11 +76,6 @@ abbrev pub GivesSheet : {A : Type 0} → RequestData → List ℕ → Result She
 GivesSheet request text result =
     MatchResult result (IsSolved request text)
     (λ e. StopsBy (IsRefusedRun request text) (stop_of e))
-
--- the refusal is the fault of the answer text
-abbrev pub IsOfAnswer : List ℕ → Refused → Type 0
-IsOfAnswer text refused = (fault : AnswerFault) × (refused ≡ ByAnswer fault)
-    × (answer_in text ≡ Err fault)
 
 -- A part that reads an answer text gives the sheet that it says, or the fault of the text, which is
 -- all bytes of the reader up to its end where they are known.

@@ -1,13 +1,13 @@
 -- The value of `h`: a base, and then any number of steps `,time:value`.
 use Rattle.std.specs.Prelude.{ℕ, Bool, false, not, List, [], ◌∷◌, Option, Some, None, Result, Ok, Err, ℤ, is_some, if◌then◌else◌}
 use Rattle.std.specs.List.{list_all}
+use Rattle.std.specs.Option.{option_map}
 use Rattle.tf_words.specs.Number.{number}
 use Rattle.tf_model.specs.Steps.{Steps}
 use Rattle.tf_model.specs.StepFaults.{steps_fault}
-use Rattle.tf_model.specs.declared.cost.CostFault.{CostFault}
 use Rattle.tf_read.specs.declared.fault.ReadFault.{ReadFault}
 use Rattle.tf_read.specs.declared.fault.ReadFault.TheVariants.{BadLine, BadCost}
-use Rattle.tf_model.specs.Outcome.{◌>>=◌}
+use Rattle.tf_model.specs.Outcome.{◌>>=◌, unless}
 use Rattle.tf_read.specs.Faults.{each_from, natural, integer}
 use Rattle.tf_words.specs.WordParts.{divided, parts}
 
@@ -33,12 +33,8 @@ abbrev pub steps_at : ℕ → List (List ℕ) → Result (List (ℤ × ℤ)) Rea
 steps_at line steps = each_from (λ k. step_at line) 1 steps
 
 -- the cost, unless its times do not rise or its values fall
-abbrev pub unless_fault : ℕ → Steps → Option CostFault → Result Steps ReadFault
-unless_fault line steps None = Ok steps
-unless_fault line steps (Some fault) = Err (BadCost line)
-
 abbrev pub rising : ℕ → Steps → Result Steps ReadFault
-rising line steps = unless_fault line steps (steps_fault steps)
+rising line steps = unless (option_map (λ fault. BadCost line) (steps_fault steps)) (Ok steps)
 
 -- the form of all steps, then the numbers from left to right, then whether the cost rises
 abbrev pub cost_of : ℕ → List (List ℕ) → Result Steps ReadFault

@@ -28,9 +28,8 @@ machine_at machines i = i / 2 % machines
 -- the machine that is wanted
 abbrev pub machine_is : ℕ → ℕ → Number → Result ℤ ReadFault
 machine_is wanted line NotANumber = Err (BadNumber line)
-machine_is wanted line TooLarge = Err (NotAFlowShop line)
-machine_is wanted line (Value (negsuc i)) = Err (NotAFlowShop line)
 machine_is wanted line (Value (pos i)) = if i == wanted then Ok (pos i) else Err (NotAFlowShop line)
+machine_is wanted line _ = Err (NotAFlowShop line)
 
 abbrev pub shop_number_read : ℕ → ℕ → ℕ → Number → Result ℤ ReadFault
 shop_number_read machines i line read =
@@ -106,10 +105,9 @@ are_machines machines (Some pair) =
 
 -- a size of digits alone; of those above the limit each is as good as another
 abbrev pub size : Number → ℕ
-size NotANumber = 0
-size TooLarge = limit + 1
 size (Value (pos n)) = n
-size (Value (negsuc n)) = 0
+size TooLarge = limit + 1
+size _ = 0
 
 -- the sizes stand on this line, and the words behind it
 unfoldable pub sized : Option (ℕ × ℕ) → ℕ → ℕ → ℕ → List Word → Result InstanceData ReadFault
@@ -122,11 +120,9 @@ sized pair line jobs machines words =
 
 -- two words of digits alone
 abbrev pub sizes_in : List (List ℕ) → Option (ℕ × ℕ)
-sizes_in [] = None
-sizes_in (a ∷ []) = None
 sizes_in (a ∷ b ∷ []) =
     if is_numeral a && is_numeral b then Some (size (number a), size (number b)) else None
-sizes_in (a ∷ b ∷ c ∷ more) = None
+sizes_in _ = None
 
 -- The first line in whose words something is found: its number, where the first of all lines has
 -- number `n`, what is found, and the lines below; or the fault, where there is no such line.

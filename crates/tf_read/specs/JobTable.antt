@@ -19,15 +19,13 @@ use Rattle.tf_read.specs.JobLine.{fields_at, no_fields}
 -- `machines m`, with m from 1 to the most machines
 abbrev pub machines_named : ℕ → Number → Result ℕ ReadFault
 machines_named line NotANumber = Err (BadNumber line)
-machines_named line TooLarge = Err (BadLine line)
-machines_named line (Value (negsuc m)) = Err (BadLine line)
 machines_named line (Value (pos m)) =
     if nat_le 1 m && nat_le m most_machines then Ok m else Err (BadLine line)
+machines_named line _ = Err (BadLine line)
 
 unfoldable pub machines_at : ℕ → List (List ℕ) → Result ℕ ReadFault
-machines_at line [] = Err (BadLine line)
 machines_at line (word ∷ []) = machines_named line (number word)
-machines_at line (word ∷ other ∷ more) = Err (BadLine line)
+machines_at line _ = Err (BadLine line)
 
 abbrev pub is_job_number : ℕ → Option ℕ → Bool
 is_job_number k None = false
@@ -54,18 +52,15 @@ is_arc line = first_is (codes "prec") line.words
 -- a job of an arc, from 1 to the number of jobs
 abbrev pub arc_job : ℕ → ℕ → Number → Result ℕ ReadFault
 arc_job jobs line NotANumber = Err (BadNumber line)
-arc_job jobs line TooLarge = Err (BadArc line)
-arc_job jobs line (Value (negsuc j)) = Err (BadArc line)
 arc_job jobs line (Value (pos j)) = if is_no_job jobs j then Err (BadArc line) else Ok j
+arc_job jobs line _ = Err (BadArc line)
 
 -- two words, judged one after the other
 unfoldable pub arc_of : ℕ → ℕ → List (List ℕ) → Result (ℕ × ℕ) ReadFault
-arc_of jobs line [] = Err (BadLine line)
-arc_of jobs line (a ∷ []) = Err (BadLine line)
 arc_of jobs line (a ∷ b ∷ []) =
     arc_job jobs line (number a) >>= λ first. arc_job jobs line (number b)
     >>= λ second. Ok (first, second)
-arc_of jobs line (a ∷ b ∷ c ∷ more) = Err (BadLine line)
+arc_of jobs line _ = Err (BadLine line)
 
 -- the line of arc k
 unfoldable pub arc_line : ℕ → ℕ → Line → Result (ℕ × ℕ) ReadFault

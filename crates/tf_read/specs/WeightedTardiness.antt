@@ -45,8 +45,7 @@ tardiness_of n k numbers =
     else Ok (record {
       jobs = tardiness_jobs n (drop (3 * n * (k - 1)) numbers);
       arcs = [];
-      machines =
-          None;
+      machines = None;
     })
 
 -- the words up to the last one of instance k are read, as far as there are some

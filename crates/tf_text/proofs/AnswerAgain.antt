@@ -400,17 +400,21 @@ sheet_again layout s is counted read =
     answer_again layout 5 s.answer is.value is.pieces is.certificate in
     rw (heading, problem, jobs, machines, answer) refl
 
--- the text of a sheet whose numbers are in their ranges is read as that sheet, if it is not too
--- long
-pub text_again : (layout : Layout) (s : SheetData) → IsReadable layout s
-    → length (answer_text layout s) ≤ most_bytes → answer_in (answer_text layout s) ≡ Ok s
-unfolding answer_text answer_in
-text_again layout s is short =
+-- the text of a sheet whose numbers are in their ranges says that sheet, line by line
+pub lines_again : (layout : Layout) (s : SheetData) → IsReadable layout s
+    → sheet_of (kept_lines 1 (lines (answer_text layout s))) ≡ Ok s
+unfolding answer_text
+lines_again layout s is =
     let read = is.problem in
     let counted = is_counted read.0 s.problem read.1 in
     let kept : kept_lines 1 (lines (flat_map line_text (answer_lines layout s)))
     ≡ numbered 1 (answer_lines layout s) =
     kept-text (answer_lines layout s) (sheet_are_lines layout s is counted) in
-    let fits : ltb most_bytes (length (flat_map line_text (answer_lines layout s))) ≡ false =
-    le-ltb _ _ short in
-    rw (fits, kept) (sheet_again layout s is counted (again s.problem counted))
+    rw kept (sheet_again layout s is counted (again s.problem counted))
+
+-- a text whose lines say a sheet is read as that sheet, if it is not too long
+pub read_again : (text : List ℕ) (s : SheetData) → sheet_of (kept_lines 1 (lines text)) ≡ Ok s
+    → length text ≤ most_bytes → answer_in text ≡ Ok s
+unfolding answer_in
+read_again text s says short =
+    let fits : ltb most_bytes (length text) ≡ false = le-ltb _ _ short in rw fits says

@@ -43,10 +43,9 @@ Gives = Outcome.Gives fault_in
 
 -- a number that counts from 1: below 1 the line is none of its kind
 abbrev pub counted : ℕ → Ranged → Result ℕ AnswerFault
-counted line NotANumber = Err (BadLine line)
-counted line Below = Err (BadLine line)
-counted line Above = Err (NumberTooLarge line)
 counted line (Within z) = Ok (as_time z)
+counted line Above = Err (NumberTooLarge line)
+counted line _ = Err (BadLine line)
 
 -- a word as a number from 1 to `most`
 abbrev pub count_in : ℕ → ℕ → List ℕ → Result ℕ AnswerFault
@@ -54,10 +53,9 @@ count_in line most word = counted line (number_in (pos 1) (pos most) word)
 
 -- a number that may be negative
 abbrev pub signed_within : ℕ → Ranged → Result ℤ AnswerFault
-signed_within line NotANumber = Err (BadLine line)
-signed_within line Below = Err (NumberTooLarge line)
-signed_within line Above = Err (NumberTooLarge line)
 signed_within line (Within z) = Ok z
+signed_within line NotANumber = Err (BadLine line)
+signed_within line _ = Err (NumberTooLarge line)
 
 -- a word as a time or a delta
 abbrev pub time_in : ℕ → List ℕ → Result ℤ AnswerFault
@@ -183,9 +181,8 @@ problem_in line =
 
 -- exactly one word
 abbrev pub only : ℕ → List (List ℕ) → Result (List ℕ) AnswerFault
-only line [] = Err (BadLine line)
 only line (word ∷ []) = Ok word
-only line (word ∷ other ∷ more) = Err (BadLine line)
+only line _ = Err (BadLine line)
 
 -- the one word behind a key
 unfoldable pub word_behind : List ℕ → KeptLine → Result (List ℕ) AnswerFault
@@ -270,11 +267,10 @@ split_of layout line first delta jobs =
 
 -- which machine has to wait, for how long, and the jobs of the side
 unfoldable pub split_in : Layout → ℕ → List (List ℕ) → Result Claim AnswerFault
-split_in layout line [] = Err (BadLine line)
-split_in layout line (side ∷ []) = Err (BadLine line)
 split_in layout line (side ∷ delta ∷ jobs) =
     option_map_or (λ first. split_of layout line first delta jobs) (side_of side)
     (Err (BadLine line))
+split_in layout line _ = Err (BadLine line)
 
 -- a kind, and the words behind it; a ranking has no ranges
 unfoldable pub claim_in : Layout → ℕ → List ℕ → List (List ℕ) → Result Claim AnswerFault

@@ -1,4 +1,5 @@
 use Rattle.std.proofs.Common.{rules}
+use Rattle.tf_text.proofs.AnswerAgain.{lines_again}
 use Rattle.tf_engine.proofs.Readable.{sheet_readable}
 use Rattle.tf_engine.proofs.run_solve.sheet_for.Goals as goal
 
@@ -13,8 +14,9 @@ returns g c = λ text said. record {
     accepted = c.in_ok-answer.ensures.accepted;
     best = c.in_ok-answer.ensures.best;
     rule = c.in_ok-answer.ensures.rule;
-    readable = sheet_readable c.args.request.now c.args.asked.now.task _
-        c.args.request.now.layout c.len.ensures.sound said.problem c.len.ensures.value
-        c.machines.ensures.value c.in_ok-answer.ensures.accepted (search rules);
+    readable = lines_again c.args.request.now.layout _
+        (sheet_readable c.args.request.now c.args.asked.now.task _ c.args.request.now.layout
+        c.len.ensures.sound said.problem c.len.ensures.value c.machines.ensures.value
+        c.in_ok-answer.ensures.accepted (search rules));
   };
 }

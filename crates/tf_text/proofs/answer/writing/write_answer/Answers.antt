@@ -1,7 +1,7 @@
 use Rattle.std.proofs.Common.{subst, rules}
 use Rattle.std.specs.Io.KnownBytes.{Appends}
 use Rattle.tf_text.specs.Counted.{inner_of, AppendsPrefix}
-use Rattle.tf_text.proofs.AnswerAgain.{text_again}
+use Rattle.tf_text.proofs.AnswerAgain.{lines_again, read_again}
 use Rattle.tf_text.proofs.Written.{parts_joined}
 use Rattle.tf_text.proofs.answer.writing.write_answer.Goals as goal
 
@@ -23,4 +23,4 @@ returns-clause-written g c =
 
 pub returns-clause-round_trip : goal.returns-clause-round_trip
 returns-clause-round_trip g c readable short =
-    text_again c.args.layout c.args.sheet.now readable short
+    read_again _ _ (lines_again c.args.layout c.args.sheet.now readable) short
