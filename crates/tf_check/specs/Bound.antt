@@ -45,16 +45,13 @@ empty_fault (j ∷ jobs) = None
 
 -- the time of all jobs, shared out among the machines
 abbrev pub load_bound : SchedulingTask → Result ℤ BoundFault
-load_bound k =
-    unless (other_kind (takes_load k.class))
-    (Ok (pos (load_value k)))
+load_bound k = unless (other_kind (takes_load k.class)) (Ok (pos (load_value k)))
 
 -- the time of the job
 abbrev pub one_job_bound : SchedulingTask → ℕ → Result ℤ BoundFault
 one_job_bound k j =
     unless (other_kind (takes_one_job k.class))
-    (unless (job_fault k j)
-    (Ok (pos (time_of k j))))
+    (unless (job_fault k j) (Ok (pos (time_of k j))))
 
 abbrev pub machine_fault : ℕ → Option BoundFault
 machine_fault machine =
@@ -69,9 +66,7 @@ machine_bound k machine =
 
 -- each job's own time, and of each pair the cheaper wait, by weight
 abbrev pub pairs_bound : SchedulingTask → Result ℤ BoundFault
-pairs_bound k =
-    unless (other_kind (takes_pairs k.class))
-    (Ok (pos (pairs_value k)))
+pairs_bound k = unless (other_kind (takes_pairs k.class)) (Ok (pos (pairs_value k)))
 
 -- ---- the last job of a set
 

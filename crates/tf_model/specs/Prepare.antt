@@ -27,9 +27,6 @@ work_of jobs = sum_by (λ job. job.first + job.second) jobs
 
 -- ---- the class, the number of jobs, and the number of machines
 
-abbrev pub classified : Problem → Result Class Refusal
-classified problem = ok_or (class_of problem) NoSolver
-
 -- where each job has a cost function of its own, there are fewer jobs at most
 abbrev pub is_too_many : Class → ℕ → Bool
 is_too_many class jobs = is_costed class && nat_lt most_costed_jobs jobs
@@ -152,7 +149,7 @@ jobs_refusal class jobs =
 
 abbrev pub prepared : InstanceData → Problem → Option ℕ → Result SchedulingTask Refusal
 prepared i problem argument = do
-  class ← classified problem
+  class ← ok_or (class_of problem) NoSolver
   machines ← unless (then_some (is_too_many class (length i.jobs)) TooManyJobs)
       (machines_for class problem.count argument i.machines)
   unless (jobs_refusal class i.jobs) (Ok (task_of class machines i))
