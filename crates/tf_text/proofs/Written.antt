@@ -8,8 +8,10 @@ use Rattle.std.specs.Fmt.{decimal, signed_decimal}
 use Rattle.tf_schedule.specs.declared.piece.Piece.{Piece}
 use Rattle.tf_check.specs.Claim.{BySplit}
 use Rattle.tf_text.specs.declared.answer.layout.Layout.{Layout}
+use Rattle.tf_text.specs.declared.answer.layout.Layout.TheVariants.{One, Two}
+use Rattle.tf_notation.specs.Canonical.{canonical}
 use Rattle.tf_text.specs.JobWords.{job_words}
-use Rattle.tf_text.specs.AnswerText.{SheetData, piece_words, side_word, claim_words, back_lines, front_lines, line_text, pieces_text, answer_text}
+use Rattle.tf_text.specs.AnswerText.{SheetData, piece_words, side_word, claim_words, version, back_lines, front_lines, size_lines, line_text, pieces_text, answer_text}
 
 -- xs is written, and then ys
 pub then : (before between after xs ys : List ℕ) → between ≡ before ++ xs → after ≡ between ++ ys
@@ -33,6 +35,26 @@ pub line_from_end : (s0 s1 s2 s3 s4 s5 key a b c d rest : List ℕ) → s0 ≡ 1
     → s5 ≡ key ++ s4 → s5 ≡ line_text (key ∷ a ∷ b ∷ c ∷ d ∷ []) ++ rest
 line_from_end s0 s1 s2 s3 s4 s5 key a b c d rest e0 e1 e2 e3 e4 e5 =
     rw (e5, e4, e3, e2, e1, e0) (simp append_assoc)
+
+-- a notation up to the end of its line, and three lines
+pub front_pushed : (t0 t1 t2 t3 t4 t5 notation a b d : List ℕ) → t1 ≡ t0 ++ notation
+    → t2 ≡ t1 ++ 10 ∷ [] → t3 ≡ t2 ++ a → t4 ≡ t3 ++ b → t5 ≡ t4 ++ d
+    → t5 ≡ t0 ++ (notation ++ 10 ∷ (a ++ (b ++ (d ++ []))))
+front_pushed t0 t1 t2 t3 t4 t5 notation a b d e1 e2 e3 e4 e5 =
+    rw (e5, e4, e3, e2, e1, append-nil d) (simp append_assoc)
+
+-- the lines before the pieces, behind the first line and the first word of the second
+pub front_written : (layout : Layout) (s : SheetData) (heading notation text new : List ℕ)
+    → heading ≡ codes "answer " ++ version layout ++ 10 ∷ codes "problem "
+    → notation ≡ canonical s.problem → text ≡ heading
+    → new ≡ text ++ (notation ++ 10 ∷ flat_map line_text (size_lines s))
+    → new ≡ flat_map line_text (front_lines layout s)
+front_written One s heading notation text new e1 e2 e3 e4 = rw (e4, e3, e2, e1)
+    (ap (λ t. (codes "answer " ++ version One ++ 10 ∷ codes "problem ") ++ t)
+    (sym (append_assoc (canonical s.problem) (10 ∷ []) (flat_map line_text (size_lines s)))))
+front_written Two s heading notation text new e1 e2 e3 e4 = rw (e4, e3, e2, e1)
+    (ap (λ t. (codes "answer " ++ version Two ++ 10 ∷ codes "problem ") ++ t)
+    (sym (append_assoc (canonical s.problem) (10 ∷ []) (flat_map line_text (size_lines s)))))
 
 -- the kind of a certificate and its jobs
 pub jobs_written : (layout : Layout) (t0 t1 t2 kind jobs same : List ℕ) → same ≡ jobs

@@ -290,6 +290,18 @@ claim_in layout line kind words =
     then (jobs_in One line words >>= λ jobs. Ok (ByRanks jobs))
     else Err (BadLine line)
 
+-- the kinds of these from `load` on
+unfoldable pub later_claim_in : ℕ → List ℕ → List (List ℕ) → Result Claim AnswerFault
+later_claim_in line kind words =
+    if bytes_eq kind (codes "load") then bare line ByLoad words
+    else if bytes_eq kind (codes "machine")
+    then (only line words >>= count_in line most_machines >>= λ machine. Ok (ByMachine machine))
+    else if bytes_eq kind (codes "job")
+    then (only line words >>= count_in line most_jobs >>= λ job. Ok (ByOneJob job))
+    else if bytes_eq kind (codes "ranks")
+    then (jobs_in One line words >>= λ jobs. Ok (ByRanks jobs))
+    else Err (BadLine line)
+
 -- the words behind `cert`
 abbrev pub kind_in : Layout → ℕ → List (List ℕ) → Result Claim AnswerFault
 kind_in layout line [] = Err (BadLine line)

@@ -67,6 +67,12 @@ answer_lines layout s =
 abbrev pub front_lines : Layout → SheetData → List (List (List ℕ))
 front_lines layout s = take 5 (answer_lines layout s)
 
+-- those of them behind the problem
+abbrev pub size_lines : SheetData → List (List (List ℕ))
+size_lines s =
+    (codes "jobs" ∷ decimal s.jobs ∷ []) ∷ (codes "machines" ∷ decimal s.machines ∷ [])
+    ∷ (codes "value" ∷ signed_decimal s.answer.value ∷ []) ∷ []
+
 -- a line: its words with a blank between each two, and a line feed
 abbrev pub line_text : List (List ℕ) → List ℕ
 line_text words = join_with_byte 32 words ++ 10 ∷ []

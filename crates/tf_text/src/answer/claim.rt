@@ -3,7 +3,7 @@ ghost use Rattle.std.specs.Prelude.{◌≡◌};
 ghost use Rattle.tf_words.specs.Words.{words};
 ghost use Rattle.tf_check.specs.Certificate.{claim_of};
 ghost use Rattle.tf_text.specs.AnswerReading.{Gives, bare, side_of, split_in, claim_in};
-ghost use Rattle.tf_text.specs.AnswerReading.{certificate_in};
+ghost use Rattle.tf_text.specs.AnswerReading.{later_claim_in, certificate_in};
 
 use crate::answer::fault::AnswerFault;
 use crate::answer::field::{job_in, machine_in, only, time_in};
@@ -77,8 +77,34 @@ fn split_in<A: Allocator + Copy>(
     Ok(Certificate::Split(Split { side, delta, first }))
 }
 
+/// Reads the certificate of a kind from `load` on.
+#[tactic(auto, unfolding(crate::specs::AnswerReading::later_claim_in))]
+fn later_claim_in<A: Allocator + Copy>(
+    alloc: A,
+    line: u32,
+    kind: &[u8],
+    text: &[u8],
+) -> Result<Certificate<A>, AnswerFault>
+    ensures { Gives claim_of result (later_claim_in line kind.now (words text.now)) }
+{
+    if is(kind, b"load") {
+        bare(line, Certificate::Load(Load), text)
+    } else if is(kind, b"machine") {
+        let machine = machine_in(line, only(line, text)?)?;
+        Ok(Certificate::Machine(MachineLoad { machine }))
+    } else if is(kind, b"job") {
+        let job = job_in(line, only(line, text)?)?;
+        Ok(Certificate::OneJob(OneJob { job }))
+    } else if is(kind, b"ranks") {
+        let jobs = jobs_in(alloc, Layout::One, line, text)?;
+        Ok(Certificate::Ranks(Ranks { jobs }))
+    } else {
+        Err(AnswerFault::BadLine(line))
+    }
+}
+
 /// Reads the certificate of a kind from the words that follow it.
-#[tactic(auto, unfolding(crate::specs::AnswerReading::claim_in))]
+#[tactic(auto, unfolding(crate::specs::AnswerReading::claim_in, crate::specs::AnswerReading::later_claim_in))]
 fn claim_in<A: Allocator + Copy>(
     alloc: A,
     layout: Layout,
@@ -98,19 +124,8 @@ fn claim_in<A: Allocator + Copy>(
         Ok(Certificate::Window(Window { jobs }))
     } else if is(kind, b"split") {
         split_in(alloc, layout, line, text)
-    } else if is(kind, b"load") {
-        bare(line, Certificate::Load(Load), text)
-    } else if is(kind, b"machine") {
-        let machine = machine_in(line, only(line, text)?)?;
-        Ok(Certificate::Machine(MachineLoad { machine }))
-    } else if is(kind, b"job") {
-        let job = job_in(line, only(line, text)?)?;
-        Ok(Certificate::OneJob(OneJob { job }))
-    } else if is(kind, b"ranks") {
-        let jobs = jobs_in(alloc, Layout::One, line, text)?;
-        Ok(Certificate::Ranks(Ranks { jobs }))
     } else {
-        Err(AnswerFault::BadLine(line))
+        later_claim_in(alloc, line, kind, text)
     }
 }
 

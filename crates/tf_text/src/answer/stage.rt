@@ -6,7 +6,7 @@ ghost use Rattle.tf_words.specs.Lines.{line_of};
 ghost use Rattle.tf_text.specs.AnswerText.{SheetData};
 ghost use Rattle.tf_text.specs.AnswerReading.{Gives, Fails, version_in, heading_in, is_exactly};
 ghost use Rattle.tf_text.specs.AnswerReading.{problem_in, word_behind, count_line, value_line};
-ghost use Rattle.tf_text.specs.AnswerStage.{Leads};
+ghost use Rattle.tf_text.specs.AnswerStage.{head_of, from_end, Leads};
 ghost use Rattle.tf_text.specs.declared.answer.fault.AnswerFault.{AnswerFault};
 
 use crate::answer::claim::certificate_in;
@@ -150,41 +150,58 @@ impl<A: Allocator + Copy> Stage<A> {
         Ok(Stage::End(head, answer))
     }
 
-    /// Behind the wanted line.
-    fn behind(self, alloc: A, line: &Line<'_>) -> Result<Self, AnswerFault>
+    /// Behind a line that is wanted as the last.
+    fn behind_answer(head: Head, answer: Answer<A>, line: &Line<'_>) -> Self
         ensures { (more : List KeptLine) (total : Result SheetData AnswerFault) →
-            Leads self (line_of line.now ∷ more) total →
-            MatchResult result (λ s. Leads s more total) (λ e. Fails e total) }
+            from_end (head_of head) answer (line_of line.now ∷ more) ≡ total →
+            Leads result more total }
+    {
+        if is_end(line.bytes) {
+            Stage::Over(head, answer)
+        } else {
+            Stage::Failed(AnswerFault::BadLine(line.number))
+        }
+    }
+
+    /// Behind the wanted line.
+    fn behind(self, alloc: A, line: &Line<'_>) -> Self
+        ensures { (more : List KeptLine) (total : Result SheetData AnswerFault) →
+            Leads self (line_of line.now ∷ more) total → Leads result more total }
     {
         match self {
-            Stage::Heading => Ok(Stage::Problem(heading_in(line)?)),
-            Stage::Problem(layout) => Ok(Stage::Jobs(layout, problem_in(line)?)),
-            Stage::Jobs(layout, problem) => {
-                let jobs = count_line(line, b"jobs", MOST_JOB)?;
-                Ok(Stage::Machines(layout, problem, jobs))
-            }
+            Stage::Heading => match heading_in(line) {
+                Ok(layout) => Stage::Problem(layout),
+                Err(fault) => Stage::Failed(fault),
+            },
+            Stage::Problem(layout) => match problem_in(line) {
+                Ok(problem) => Stage::Jobs(layout, problem),
+                Err(fault) => Stage::Failed(fault),
+            },
+            Stage::Jobs(layout, problem) => match count_line(line, b"jobs", MOST_JOB) {
+                Ok(jobs) => Stage::Machines(layout, problem, jobs),
+                Err(fault) => Stage::Failed(fault),
+            },
             Stage::Machines(layout, problem, jobs) => {
-                let machines = count_line(line, b"machines", MOST_MACHINES)?;
-                Ok(Stage::Value(Head {
-                    layout,
-                    problem,
-                    jobs,
-                    machines,
-                }))
-            }
-            Stage::Value(head) => Ok(Stage::Pieces(head, value_line(line)?, Vec::new(alloc))),
-            Stage::Pieces(head, value, pieces) => {
-                Stage::behind_piece(alloc, head, value, pieces, line)
-            }
-            Stage::End(head, answer) => {
-                if is_end(line.bytes) {
-                    Ok(Stage::Over(head, answer))
-                } else {
-                    Err(AnswerFault::BadLine(line.number))
+                match count_line(line, b"machines", MOST_MACHINES) {
+                    Ok(machines) => Stage::Value(Head {
+                        layout,
+                        problem,
+                        jobs,
+                        machines,
+                    }),
+                    Err(fault) => Stage::Failed(fault),
                 }
             }
-            Stage::Over(..) => Err(AnswerFault::BadLine(line.number)),
-            Stage::Failed(fault) => Err(fault),
+            Stage::Value(head) => match value_line(line) {
+                Ok(value) => Stage::Pieces(head, value, Vec::new(alloc)),
+                Err(fault) => Stage::Failed(fault),
+            },
+            Stage::Pieces(head, value, pieces) => {
+                Stage::after(Stage::behind_piece(alloc, head, value, pieces, line))
+            }
+            Stage::End(head, answer) => Stage::behind_answer(head, answer, line),
+            Stage::Over(..) => Stage::Failed(AnswerFault::BadLine(line.number)),
+            Stage::Failed(fault) => Stage::Failed(fault),
         }
     }
 
@@ -208,7 +225,7 @@ impl<A: Allocator + Copy> Stage<A> {
     {
         if is_kept(bytes) {
             let line = Line { number, bytes };
-            *self = Stage::after(mem::replace(self, Stage::Heading).behind(alloc, &line));
+            *self = mem::replace(self, Stage::Heading).behind(alloc, &line);
         }
     }
 

@@ -22,9 +22,12 @@ pub(crate) fn usual_line(text: &[u8]) -> Option<(Piece, &[u8])>
     if job > MOST_JOBS as u64 || machine > u64::from(MOST_MACHINES) {
         return None;
     }
+    let (Some(job), Some(machine)) = (JobId::new(job as u32), MachineId::new(machine as u32)) else {
+        return None;
+    };
     let piece = Piece {
-        job: JobId::new(job as u32)?,
-        machine: MachineId::new(machine as u32)?,
+        job,
+        machine,
         start: start as i64,
         stop: stop as i64,
     };

@@ -9,7 +9,7 @@ ghost use Rattle.tf_check.specs.Certificate.{claim_of};
 ghost use Rattle.tf_check.specs.Claim.{BySplit};
 ghost use Rattle.tf_text.specs.Counted.{inner_of, has_failed, AppendsPrefix};
 ghost use Rattle.tf_text.specs.JobWords.{runs, run_words, job_words};
-ghost use Rattle.tf_text.specs.AnswerText.{version, side_word, claim_words, front_lines};
+ghost use Rattle.tf_text.specs.AnswerText.{version, side_word, claim_words, front_lines, size_lines};
 ghost use Rattle.tf_text.specs.AnswerText.{back_lines, line_text, answer_text};
 ghost use Rattle.tf_text.specs.AnswerReading.{answer_in};
 ghost use Rattle.tf_text.specs.Readable.{IsReadable};
@@ -173,8 +173,7 @@ fn push_listed<A: Allocator>(
         ≡ text.old.items ++ join_with_byte 32 (word.now ∷ job_words layout jobs.now)) }
 {
     text.extend_from_slice(word)?;
-    push_jobs(text, layout, jobs)?;
-    Ok(())
+    push_jobs(text, layout, jobs)
 }
 
 // Adds a word, and a number behind it.
@@ -202,8 +201,7 @@ fn push_split<A: Allocator, M: Allocator>(
     text.extend_from_slice(b"split ")?;
     text.extend_from_slice(if split.first { b"first" } else { b"second" })?;
     push_number(text, split.delta)?;
-    push_jobs(text, layout, split.side.as_slice())?;
-    Ok(())
+    push_jobs(text, layout, split.side.as_slice())
 }
 
 fn push_claim<A: Allocator, M: Allocator>(
@@ -241,6 +239,22 @@ fn heading(layout: Layout) -> &'static [u8]
     }
 }
 
+// Adds a notation up to the end of its line, and the lines from there up to the pieces.
+fn push_front<A: Allocator, M: Allocator>(
+    text: &mut Vec<u8, A>,
+    notation: &[u8],
+    sheet: &Sheet<M>,
+) -> Result<(), OutOfMemory>
+    ensures { OnOk result (text.new.items
+        ≡ text.old.items ++ (notation.now ++ 10 ∷ flat_map line_text (size_lines sheet.now))) }
+{
+    text.extend_from_slice(notation)?;
+    text.push(b'\n')?;
+    push_number_line(text, b"jobs", sheet.jobs)?;
+    push_number_line(text, b"machines", sheet.machines)?;
+    push_number_line(text, b"value", sheet.answer.value)
+}
+
 // The lines before the pieces.
 fn front_text<A: Allocator + Copy, M: Allocator>(
     alloc: A,
@@ -252,11 +266,7 @@ fn front_text<A: Allocator + Copy, M: Allocator>(
 {
     let notation = notation_text(alloc, &sheet.problem)?;
     let mut text = Vec::from_slice(alloc, heading(layout))?;
-    text.extend_from_slice(notation.as_bytes())?;
-    text.push(b'\n')?;
-    push_number_line(&mut text, b"jobs", sheet.jobs)?;
-    push_number_line(&mut text, b"machines", sheet.machines)?;
-    push_number_line(&mut text, b"value", sheet.answer.value)?;
+    push_front(&mut text, notation.as_bytes(), sheet)?;
     Ok(text)
 }
 

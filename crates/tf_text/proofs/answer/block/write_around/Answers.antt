@@ -1,3 +1,4 @@
+use Rattle.std.proofs.KnownBytes.{Appends-trans}
 use Rattle.tf_text.proofs.Prefix.{prefix_first, prefix_then, prefix_last, on_err}
 use Rattle.tf_text.proofs.answer.block.write_around.Goals as goal
 
@@ -15,3 +16,9 @@ returns-in_err-push_all-2-clause-prefix g c =
     on_err _ (prefix_last _ _ _ _ c.args.front.now _ c.args.back.now
     c.in_ok-push_all.ensures.written c.in_ok-write_pieces.ensures.written
     c.in_err-push_all-2.ensures.prefix)
+
+pub returns-clause-written : goal.returns-clause-written
+returns-clause-written g c =
+    Appends-trans _ _ _ _ _ c.in_ok-push_all.ensures.written
+    (Appends-trans _ _ _ _ _ c.in_ok-write_pieces.ensures.written
+    c.in_ok-push_all-2.ensures.written)

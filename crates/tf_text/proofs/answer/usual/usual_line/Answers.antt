@@ -1,4 +1,4 @@
-use Rattle.std.proofs.Common.{◌≡◌, ◌≤◌, ℕ, codes, take, refl, sym, subst, arith}
+use Rattle.std.proofs.Common.{◌≡◌, ◌≤◌, ℕ, codes, take, refl, sym, subst, arith, rules}
 use Rattle.tf_words.specs.FirstLine.{IsNumeralOf}
 use Rattle.tf_words.proofs.FirstLine.{key_front}
 use Rattle.tf_text.proofs.UsualPiece.{usual_text}
@@ -11,10 +11,10 @@ returns c =
     let b = c.in_ok-machine.ensures.word in
     let s = c.in_ok-start.ensures.word in
     let t = c.in_ok-stop.ensures.word in
-    let job : c.in_ok-new.field-0 ≡ c.in_ok-job.job = c.in_ok-new.ensures.value in
-    let machine : c.in_ok-new-2.field-0 ≡ c.in_ok-machine.machine = c.in_ok-new-2.ensures.value in
-    let some_job : 1 ≤ c.in_ok-job.job = c.in_ok-new.ensures.valid.0 refl in
-    let some_machine : 1 ≤ c.in_ok-machine.machine = c.in_ok-new-2.ensures.valid.0 refl in
+    let job : c.in-Some-Some.job ≡ c.in_ok-job.job = search rules in
+    let machine : c.in-Some-Some.machine ≡ c.in_ok-machine.machine = search rules in
+    let some_job : 1 ≤ c.in_ok-job.job = search rules in
+    let some_machine : 1 ≤ c.in_ok-machine.machine = search rules in
     usual_text _ _ _ _ _ _ _ a.0 b.0 s.0 t.0 _ _ _ _
     (key_front _ (take 5 c.args.text.now) _ (codes "piece") 5 refl key.1 key.0) a.3 b.3 s.3 t.3
     c.in_ok-rest.ensures.bytes a.2 b.2 s.2 t.2
