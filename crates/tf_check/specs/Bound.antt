@@ -117,8 +117,7 @@ abbrev pub window_bound : SchedulingTask → List ℕ → Result ℤ BoundFault
 window_bound k jobs =
     unless (other_kind (takes_window k.class))
     (unless (list_fault k [] jobs)
-    (unless (empty_fault jobs)
-    (Ok (window_span k jobs))))
+    (unless (empty_fault jobs) (Ok (window_span k jobs))))
 
 -- ---- jobs by rank
 
@@ -138,8 +137,7 @@ ranks_bound k jobs =
     unless (other_kind (takes_ranks k.class))
     (unless (list_fault k [] jobs)
     (unless (empty_fault jobs)
-    (unless (ranks_fault k jobs)
-    (Ok (pos (ranks_value k jobs))))))
+    (unless (ranks_fault k jobs) (Ok (pos (ranks_value k jobs))))))
 
 -- ---- a split of a flow shop's jobs
 
@@ -177,8 +175,7 @@ split_bound k side delta first =
     unless (other_kind (takes_split k.class))
     (unless (list_fault k [] side)
     (unless (side_fault k side delta first)
-    (unless (delta_fault k side delta first)
-    (Ok (pos (split_value k side (unsigned_abs delta)))))))
+    (unless (delta_fault k side delta first) (Ok (pos (split_value k side (unsigned_abs delta)))))))
 
 -- ---- any kind
 

@@ -21,7 +21,7 @@ use Rattle.tf_text.specs.AnswerText.{SheetData, version, piece_words, side_word,
 use Rattle.tf_words.specs.LineParts.{after_word, without_return}
 use Rattle.tf_words.specs.Ranged.{is_number}
 use Rattle.tf_text.specs.Readable.{IsCount, IsReadablePiece, AreFew, AreListed, IsReadableClaim, IsReadable}
-use Rattle.tf_text.specs.AnswerReading.{count_in, time_in, value_in, side_of, is_item, few, jobs_listed, jobs_in, exactly, heading_at, problem_in, problem_at, word_behind, count_at, value_at, piece_in, pieces_at, split_in, claim_in, kind_in, certificate_in, certificate_at, answer_at, sheet_of, answer_in}
+use Rattle.tf_text.specs.AnswerReading.{count_in, time_in, value_in, side_of, is_item, few, jobs_listed, jobs_in, exactly, heading_at, problem_in, problem_at, word_behind, count_at, value_at, piece_in, pieces_at, split_in, claim_in, later_claim_in, kind_in, certificate_in, certificate_at, answer_at, sheet_of, answer_in}
 use Rattle.tf_notation.proofs.Again.{IsCounted, again}
 use Rattle.tf_notation.proofs.Counted.{is_counted}
 use Rattle.tf_model.specs.Limit.{most_bytes, most_jobs, most_machines}
@@ -122,7 +122,7 @@ split_again layout line side delta first are within =
 
 certificate_again : (layout : Layout) (line : ℕ) (claim : Claim) → IsReadableClaim layout claim
     → kind_in layout line (claim_words layout claim) ≡ Ok claim
-unfolding claim_in
+unfolding claim_in later_claim_in
 certificate_again layout line ByPairs is = refl
 certificate_again layout line (ByLastOf jobs) is =
     let read : jobs_in layout line (job_words layout jobs) ≡ Ok jobs =

@@ -15,7 +15,7 @@ use Rattle.tf_text.specs.AnswerText.{SheetData, line_text, claim_words, answer_t
 use Rattle.tf_text.specs.declared.answer.layout.Layout.TheVariants.{One, Two}
 use Rattle.tf_text.specs.JobWords.{runs, job_words}
 use Rattle.tf_words.specs.Digits.{numeral}
-use Rattle.tf_text.specs.AnswerReading.{value_in, range_ends, run_in, jobs_from, jobs_listed, jobs_in, heading_at, exactly, problem_in, problem_at, word_behind, count_at, value_at, piece_in, pieces_at, split_in, claim_in, certificate_in, certificate_at, answer_at, sheet_of, answer_in}
+use Rattle.tf_text.specs.AnswerReading.{value_in, range_ends, run_in, jobs_from, jobs_listed, jobs_in, heading_at, exactly, problem_in, problem_at, word_behind, count_at, value_at, piece_in, pieces_at, split_in, claim_in, later_claim_in, certificate_in, certificate_at, answer_at, sheet_of, answer_in}
 use Rattle.tf_text.specs.declared.answer.fault.AnswerFault.TheVariants.{BadLine, NumberTooLarge, BadNotation, EndsEarly}
 
 -- three jobs of time 4 on two parallel machines
@@ -94,21 +94,21 @@ with_lines more = text_of (before_pieces (codes "problem P2|prmp|Cmax") ++ more)
 read_back : answer_in (text_of two_parallel_lines) ≡ Ok two_parallel
 unfolding text_of two_parallel two_parallel_lines answer_in sheet_of answer_at heading_at exactly
     problem_at problem_in word_behind count_at value_at pieces_at piece_in certificate_at
-    certificate_in claim_in numeral kept_lines lines words notation expect conditions_at listed
+    certificate_in claim_in later_claim_in numeral kept_lines lines words notation expect conditions_at listed
     tokens_from plain
 read_back = refl
 
 cut_after_value : answer_in (with_lines []) ≡ Err EndsEarly
 unfolding with_lines before_pieces text_of answer_in sheet_of answer_at heading_at exactly
     problem_at problem_in word_behind count_at value_at pieces_at piece_in certificate_at
-    certificate_in claim_in numeral kept_lines lines words notation expect conditions_at listed
+    certificate_in claim_in later_claim_in numeral kept_lines lines words notation expect conditions_at listed
     tokens_from plain
 cut_after_value = refl
 
 short_piece : answer_in (with_lines (codes "piece 1 1 0" ∷ [])) ≡ Err (BadLine 6)
 unfolding with_lines before_pieces text_of answer_in sheet_of answer_at heading_at exactly
     problem_at problem_in word_behind count_at value_at pieces_at piece_in certificate_at
-    certificate_in claim_in numeral kept_lines lines words notation expect conditions_at listed
+    certificate_in claim_in later_claim_in numeral kept_lines lines words notation expect conditions_at listed
     tokens_from plain
 short_piece = refl
 
@@ -116,14 +116,14 @@ late_stop : answer_in (with_lines (codes "piece 1 1 0 4000000000000000001" ∷ [
     ≡ Err (NumberTooLarge 6)
 unfolding with_lines before_pieces text_of answer_in sheet_of answer_at heading_at exactly
     problem_at problem_in word_behind count_at value_at pieces_at piece_in certificate_at
-    certificate_in claim_in numeral kept_lines lines words notation expect conditions_at listed
+    certificate_in claim_in later_claim_in numeral kept_lines lines words notation expect conditions_at listed
     tokens_from plain
 late_stop = refl
 
 form_before_numbers : answer_in (with_lines (codes "piece 100001 1 0 x" ∷ [])) ≡ Err (BadLine 6)
 unfolding with_lines before_pieces text_of answer_in sheet_of answer_at heading_at exactly
     problem_at problem_in word_behind count_at value_at pieces_at piece_in certificate_at
-    certificate_in claim_in numeral kept_lines lines words notation expect conditions_at listed
+    certificate_in claim_in later_claim_in numeral kept_lines lines words notation expect conditions_at listed
     tokens_from plain
 form_before_numbers = refl
 
@@ -132,14 +132,14 @@ small_job : answer_in
     ≡ Err (BadLine 6)
 unfolding with_lines before_pieces text_of answer_in sheet_of answer_at heading_at exactly
     problem_at problem_in word_behind count_at value_at pieces_at piece_in certificate_at
-    certificate_in claim_in numeral kept_lines lines words notation expect conditions_at listed
+    certificate_in claim_in later_claim_in numeral kept_lines lines words notation expect conditions_at listed
     tokens_from plain
 small_job = refl
 
 no_delta : answer_in (with_lines (codes "cert split first 1-3" ∷ [])) ≡ Err (BadLine 6)
 unfolding with_lines before_pieces text_of answer_in sheet_of answer_at heading_at exactly
     problem_at problem_in word_behind count_at value_at pieces_at piece_in certificate_at
-    certificate_in claim_in split_in numeral kept_lines lines words notation expect conditions_at
+    certificate_in claim_in later_claim_in split_in numeral kept_lines lines words notation expect conditions_at
     listed tokens_from plain
 no_delta = refl
 
@@ -148,20 +148,20 @@ after_end : answer_in
     ≡ Err (BadLine 10)
 unfolding with_lines before_pieces text_of answer_in sheet_of answer_at heading_at exactly
     problem_at problem_in word_behind count_at value_at pieces_at piece_in certificate_at
-    certificate_in claim_in jobs_in jobs_listed jobs_from run_in range_ends numeral kept_lines lines
+    certificate_in claim_in later_claim_in jobs_in jobs_listed jobs_from run_in range_ends numeral kept_lines lines
     words notation expect conditions_at listed tokens_from plain
 after_end = refl
 
 unknown_goal : answer_in (text_of (before_pieces (codes "problem 1||sumX"))) ≡ Err BadNotation
 unfolding before_pieces text_of answer_in sheet_of answer_at heading_at exactly problem_at
     problem_in word_behind count_at value_at pieces_at piece_in certificate_at certificate_in
-    claim_in numeral kept_lines lines words notation expect conditions_at listed tokens_from plain
+    claim_in later_claim_in numeral kept_lines lines words notation expect conditions_at listed tokens_from plain
 unknown_goal = refl
 
 no_notation : answer_in (text_of (before_pieces (codes "problem"))) ≡ Err BadNotation
 unfolding before_pieces text_of answer_in sheet_of answer_at heading_at exactly problem_at
     problem_in word_behind count_at value_at pieces_at piece_in certificate_at certificate_in
-    claim_in numeral kept_lines lines words notation expect conditions_at listed tokens_from plain
+    claim_in later_claim_in numeral kept_lines lines words notation expect conditions_at listed tokens_from plain
 no_notation = refl
 
 one_return : problem_in (record { number = 2; bytes = codes " problem F2 || Cmax" ++ 13 ∷ [] })

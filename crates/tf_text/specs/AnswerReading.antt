@@ -272,25 +272,7 @@ split_in layout line (side ∷ delta ∷ jobs) =
     (Err (BadLine line))
 split_in layout line _ = Err (BadLine line)
 
--- a kind, and the words behind it; a ranking has no ranges
-unfoldable pub claim_in : Layout → ℕ → List ℕ → List (List ℕ) → Result Claim AnswerFault
-claim_in layout line kind words =
-    if bytes_eq kind (codes "pairs") then bare line ByPairs words
-    else if bytes_eq kind (codes "last")
-    then (jobs_in layout line words >>= λ jobs. Ok (ByLastOf jobs))
-    else if bytes_eq kind (codes "window")
-    then (jobs_in layout line words >>= λ jobs. Ok (ByWindow jobs))
-    else if bytes_eq kind (codes "split") then split_in layout line words
-    else if bytes_eq kind (codes "load") then bare line ByLoad words
-    else if bytes_eq kind (codes "machine")
-    then (only line words >>= count_in line most_machines >>= λ machine. Ok (ByMachine machine))
-    else if bytes_eq kind (codes "job")
-    then (only line words >>= count_in line most_jobs >>= λ job. Ok (ByOneJob job))
-    else if bytes_eq kind (codes "ranks")
-    then (jobs_in One line words >>= λ jobs. Ok (ByRanks jobs))
-    else Err (BadLine line)
-
--- the kinds of these from `load` on
+-- the kinds from `load` on; a ranking has no ranges
 unfoldable pub later_claim_in : ℕ → List ℕ → List (List ℕ) → Result Claim AnswerFault
 later_claim_in line kind words =
     if bytes_eq kind (codes "load") then bare line ByLoad words
@@ -301,6 +283,17 @@ later_claim_in line kind words =
     else if bytes_eq kind (codes "ranks")
     then (jobs_in One line words >>= λ jobs. Ok (ByRanks jobs))
     else Err (BadLine line)
+
+-- a kind, and the words behind it
+unfoldable pub claim_in : Layout → ℕ → List ℕ → List (List ℕ) → Result Claim AnswerFault
+claim_in layout line kind words =
+    if bytes_eq kind (codes "pairs") then bare line ByPairs words
+    else if bytes_eq kind (codes "last")
+    then (jobs_in layout line words >>= λ jobs. Ok (ByLastOf jobs))
+    else if bytes_eq kind (codes "window")
+    then (jobs_in layout line words >>= λ jobs. Ok (ByWindow jobs))
+    else if bytes_eq kind (codes "split") then split_in layout line words
+    else later_claim_in line kind words
 
 -- the words behind `cert`
 abbrev pub kind_in : Layout → ℕ → List (List ℕ) → Result Claim AnswerFault

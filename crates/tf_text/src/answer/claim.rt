@@ -104,7 +104,7 @@ fn later_claim_in<A: Allocator + Copy>(
 }
 
 /// Reads the certificate of a kind from the words that follow it.
-#[tactic(auto, unfolding(crate::specs::AnswerReading::claim_in, crate::specs::AnswerReading::later_claim_in))]
+#[tactic(auto, unfolding(crate::specs::AnswerReading::claim_in))]
 fn claim_in<A: Allocator + Copy>(
     alloc: A,
     layout: Layout,
