@@ -1,9 +1,17 @@
 use Rattle.std.proofs.Common.{◌<◌, ◌∷◌, [], ◌++◌, ap, sym, ◌∙◌, arith, IsOk, vec_len, vec_capacity, ◌+◌, map}
 use Rattle.std.specs.List.{range_with_len}
+use Rattle.std.proofs.lemmas.List.{nil_from_length}
 use Rattle.std.proofs.lemmas.List.FromFn.{map-range_with_len_more}
 use Rattle.tf_read.specs.InstanceNumbers.{job_of}
 use Rattle.tf_read.proofs.RoomKept.{when_ok}
 use Rattle.tf_read.proofs.instance_numbers.Columns.jobs.Goals as goal
+
+pub loop-j-init : goal.loop-j-init
+loop-j-init g c = record {
+  made = nil_from_length _ (omega (arith, c.args.room.ok.0, c.requires.empty));
+  length = c.requires.empty;
+  room = c.requires.room;
+}
 
 pub loop-j-preserved : goal.loop-j-preserved
 loop-j-preserved g c =
