@@ -1,7 +1,7 @@
 -- The successors that are found, arc by arc.
-use Rattle.std.proofs.Common.{◌≡◌, ◌≢◌, ◌⊎◌, inl, inr, ℕ, ◌+◌, ◌-◌, ◌<◌, ◌≤◌, Option, None, Some, List, length, get_or, set, refl, sym, ap, ◌∙◌, subst, arith, ⊎_elim, Contains}
+use Rattle.std.proofs.Common.{◌≡◌, ◌≢◌, ◌⊎◌, inl, inr, ℕ, ◌+◌, ◌-◌, ◌<◌, ◌≤◌, Option, None, Some, List, length, get_or, set, replicate, refl, sym, ap, ◌∙◌, subst, arith, ⊎_elim, Contains}
 use Rattle.std.proofs.lemmas.Bool.{cases_eq, cases_lt}
-use Rattle.std.proofs.lemmas.List.{length-set, get_or-set_same, get_or-set_other, get_or_default}
+use Rattle.std.proofs.lemmas.List.{length-set, length-replicate, get_or-replicate, get_or-set_same, get_or-set_other, get_or_default}
 use Rattle.std.proofs.lemmas.List.Elements.{Contains-get_or}
 use Rattle.tf_model.specs.SchedulingTask.{SchedulingTask, IsJob}
 use Rattle.tf_model.specs.Sound.{IsSound}
@@ -40,6 +40,24 @@ pub record IsFoundBy (k : SchedulingTask) (counts : List ℕ) (arcs : List (ℕ 
   pub least : (j x : ℕ) → IsJob k j → get_or next (j - 1) None ≡ Some x → (n : ℕ) (d : ℕ × ℕ)
       → n < i → n < length arcs → (get_or arcs n d).0 ≡ j → 0 < of_job counts (get_or arcs n d).1
       → x ≤ (get_or arcs n d).1
+
+-- no arc yet, and nothing is found
+pub found_none : (k : SchedulingTask) (counts : List ℕ) (arcs : List (ℕ × ℕ))
+    (next : List (Option ℕ)) (n : ℕ) → n ≡ length k.jobs → next ≡ replicate n None
+    → IsFoundBy k counts arcs 0 next
+found_none k counts arcs next n size is =
+    let empty : (j : ℕ) → IsJob k j → get_or next (j - 1) None ≡ None = λ j job.
+    ap (λ xs. get_or xs (j - 1) None) is
+    ∙ get_or-replicate n (j - 1) None None (omega (arith, size, job.0, job.1)) in
+    record {
+      len = ap length is ∙ length-replicate n None ∙ size;
+      found = λ j x job some. absurd (none_some x (sym (empty j job) ∙ some));
+      none = λ j job e m d less in' from left. omega (arith, less);
+      least = λ j x job some m d less in' from left. absurd (omega (arith, less));
+    }
+  where
+    none_some : (x : ℕ) → ◌≡◌ {A = Option ℕ} None (Some x) → ⊥
+    none_some x e = cc
 
 module _ (k : SchedulingTask) (counts : List ℕ) (arcs : List (ℕ × ℕ)) (i : ℕ)
     (next : List (Option ℕ)) (lt : i < length arcs) (arc : ℕ × ℕ) (at : get_or arcs i arc ≡ arc)

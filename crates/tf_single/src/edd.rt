@@ -185,7 +185,6 @@ fn is_within<B: Allocator>(task: &Task<B>, job: JobId, start: u64, over: u64, en
 }
 
 // The jobs that are released at `start` or later and over by `end`.
-#[tactic(auto, using(crate::proofs::Ranges::filter_range_keeps, crate::proofs::Ranges::filter_range_skips))]
 fn jobs_within<A: Allocator, B: Allocator>(
     alloc: A,
     task: &Task<B>,

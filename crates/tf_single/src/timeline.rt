@@ -7,7 +7,7 @@ ghost use Rattle.tf_model.specs.SchedulingTask.{all_jobs, job_data, time_of};
 ghost use Rattle.tf_model.specs.Sound.{IsSound};
 ghost use Rattle.tf_model.specs.declared.class.Class.TheVariants.{ReleaseLmax};
 ghost use Rattle.tf_single.specs.Progress.{IsTimeline};
-ghost use Rattle.tf_single.specs.Agenda.{AreByRelease, IsUnderway, IsLonger};
+ghost use Rattle.tf_single.specs.Agenda.{AreByRelease, IsUnderway, IsLonger, unfinished};
 
 use std::alloc::Allocator;
 use std::cmp::Reverse;
@@ -36,6 +36,25 @@ pub(crate) fn timeline<A: Allocator + Copy, B: Allocator>(
         ready: BinaryHeap::with_capacity(alloc, task.len())?,
         pieces: Vec::with_capacity(alloc, 2 * task.len())?,
     };
+    run_all(&mut machine, task, &order)?;
+    Ok(machine.pieces)
+}
+
+// Runs the jobs, of which each is ready from its release date on, and which come in that order.
+fn run_all<A: Allocator, B: Allocator>(
+    machine: &mut Machine<A>,
+    task: &Task<B>,
+    order: &[JobId],
+) -> Result<(), OutOfMemory>
+    requires sound { IsSound task.now }
+    requires class { task.now.class ≡ ReleaseLmax }
+    requires underway { IsUnderway task.now order.now (heap_items machine.old.ready)
+        machine.old.rest.items machine.old.pieces.items machine.old.now }
+    ensures timeline { IfOk result (λ _. IsTimeline task.now machine.new.pieces.items) }
+    ensures few { IfOk result (λ _. length machine.new.pieces.items
+        ≤ length machine.old.pieces.items + unfinished machine.old.rest.items
+        + length order.now) }
+{
     for k in 0..order.len() {
         machine.run(task, &order[k..])?;
         let job = order[k];
@@ -46,7 +65,7 @@ pub(crate) fn timeline<A: Allocator + Copy, B: Allocator>(
         })?;
     }
     machine.run(task, &[])?;
-    Ok(machine.pieces)
+    Ok(())
 }
 
 // The jobs in order of their release dates, and by number among equals.

@@ -1,5 +1,6 @@
 use Rattle.std.proofs.Common.{ℕ, List, arith}
 use Rattle.tf_model.specs.SchedulingTask.{SchedulingTask}
+use Rattle.tf_check.proofs.Followed.{arc_in_task}
 use Rattle.tf_single.proofs.ArcCounts.{next_from, next_to, none_counted, all_counted}
 use Rattle.tf_single.proofs.arcs_into.arc_counts.Goals as goal
 
@@ -12,6 +13,34 @@ loop-before-init g c = record {
       c.in_ok-predecessors.predecessors.items
       (c.in_ok-predecessors.ensures.items_if_clones_equal (λ y e. e));
 }
+
+pub index_mut-requires : goal.index_mut-requires
+index_mut-requires g c =
+    let its = arc_in_task c.args.task.now c.len.ensures.sound c.arcs-before-items.result.now
+    c.arcs-before-items.ensures.value c.loop-before.before-index c.loop-before-item.result
+    c.loop-before-test.true c.loop-before-item.is in
+    omega (
+      arith,
+      its.0.0,
+      its.0.1,
+      c.place.ensures.value,
+      c.loop-before.invariant.successors.len,
+      c.loop-before.successors.ok.0,
+    )
+
+pub index_mut-requires-in-loop-before : goal.index_mut-requires-in-loop-before
+index_mut-requires-in-loop-before g c =
+    let its = arc_in_task c.args.task.now c.len.ensures.sound c.arcs-before-items.result.now
+    c.arcs-before-items.ensures.value c.loop-before.before-index c.loop-before-item.result
+    c.loop-before-test.true c.loop-before-item.is in
+    omega (
+      arith,
+      its.1.0,
+      its.1.1,
+      c.place-in-loop-before.ensures.value,
+      c.loop-before.invariant.predecessors.len,
+      c.loop-before.predecessors.ok.0,
+    )
 
 pub overflow_add-index_mut : goal.overflow_add-index_mut
 overflow_add-index_mut g c =

@@ -12,6 +12,22 @@ use Rattle.tf_single.proofs.Cheapest.{cheapest_first, cheapest_kept, cheapest_ta
 use Rattle.tf_single.proofs.by_cost.cheapest.Goals.{then-cost-least-2, then-cost-least-2-via-then-cost-least-2, then-cost-least-2-via-else-cost-least-2+then-lt, else-cost-least-2+else-lt}
 use Rattle.tf_single.proofs.by_cost.cheapest.Goals as goal
 
+pub cost_at-least-requires-clause-job : goal.cost_at-least-requires-clause-job
+cost_at-least-requires-clause-job g c =
+    let all = c.args.free.now in
+    subst (IsJob c.args.task.now)
+    (sym (job_read all (jobs_of all) 0 c.index-free-0-2.result refl c.requires.some))
+    (c.requires.known 0 0 (omega (arith, c.requires.some, length-map all (λ x. x.job))))
+
+pub cost_at-least-requires-clause-level : goal.cost_at-least-requires-clause-level
+cost_at-least-requires-clause-level g c =
+    c.requires.levels 0 c.index-free-0-2.result c.requires.some
+
+pub cost_at-cost-requires-clause-level : goal.cost_at-cost-requires-clause-level
+cost_at-cost-requires-clause-level g c =
+    c.loop-k.invariant.levels c.loop-k.k c.index-free-k.result
+    (omega (arith, c.loop-k-test.true, c.loop-k.auto.free))
+
 pub loop-k-init : goal.loop-k-init
 loop-k-init g c =
     let all = c.args.free.now in
@@ -126,3 +142,34 @@ loop-k-preserved g c =
         | else-cost-least-2+else-lt w ↦ rw (w.place-is, w.last-is) c.loop-k.invariant.last
       ];
     }
+
+pub returns-clause-within : goal.returns-clause-within
+returns-clause-within g c =
+    omega (
+      arith,
+      c.loop-k.invariant.cheapest.within,
+      ap length c.loop-k.invariant.jobs,
+      length-map c.loop-k.free (λ x. x.job),
+    )
+
+pub returns-clause-cost : goal.returns-clause-cost
+returns-clause-cost g c = rw c.loop-k.invariant.jobs c.loop-k.invariant.cheapest.cost
+
+pub returns-clause-cheapest : goal.returns-clause-cheapest
+returns-clause-cheapest g c = λ i lt.
+    rw c.loop-k.invariant.jobs
+    (c.loop-k.invariant.cheapest.below i (omega (arith, lt, c.loop-k-test.false, c.loop-k.auto.free)))
+
+pub returns-clause-ties : goal.returns-clause-ties
+returns-clause-ties g c = λ i lt.
+    rw c.loop-k.invariant.jobs
+    (c.loop-k.invariant.cheapest.ties i (omega (arith, lt, c.loop-k-test.false, c.loop-k.auto.free)))
+
+pub returns-clause-jobs : goal.returns-clause-jobs
+returns-clause-jobs g c =
+    c.loop-k.invariant.jobs
+    ∙ jobs_kept c.args.free.now _ 0 c.cost_at-least.new.self c.index-free-0-2.result refl
+    c.cost_at-least.ensures.job
+
+pub returns-clause-levels : goal.returns-clause-levels
+returns-clause-levels g c = c.loop-k.invariant.levels

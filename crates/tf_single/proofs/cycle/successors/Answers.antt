@@ -1,12 +1,18 @@
-use Rattle.std.proofs.Common.{◌≡◌, ◌-◌, ℕ, None, List, Option, get_or, sym, ap, ◌∙◌, arith}
+use Rattle.std.proofs.Common.{◌≡◌, ◌-◌, ℕ, None, List, Option, get_or, sym, ap, ◌∙◌, arith, rules}
 use Rattle.std.proofs.lemmas.List.{get_or_default}
 use Rattle.tf_model.specs.SchedulingTask.{SchedulingTask}
 use Rattle.tf_single.specs.Progress.{of_job}
 use Rattle.tf_single.specs.Successors.{smaller_of}
 use Rattle.tf_check.proofs.Followed.{arc_in_task}
-use Rattle.tf_single.proofs.Found.{found_same, found_more, found_some, found_all, found_smallest}
+use Rattle.tf_single.proofs.Found.{found_none, found_same, found_more, found_some, found_all, found_smallest}
 use Rattle.tf_single.proofs.cycle.successors.Goals as goal
 use Rattle.tf_single.proofs.cycle.successors.Goals.{then-counts-place-gt0, else-counts-place-gt0}
+
+pub loop-before-init : goal.loop-before-init
+loop-before-init g c =
+    found_none c.args.task.now c.args.counts.now c.arcs-before-items.result.now
+    c.in_ok-next.next.items c.len.result c.len.ensures.value
+    (c.in_ok-next.ensures.items_if_clones_equal (λ y e. search rules))
 
 pub bounds-counts-place : goal.bounds-counts-place
 bounds-counts-place g c =
