@@ -1,12 +1,14 @@
 -- What a job adds to a sum, as its weight so many times.
-use Rattle.std.proofs.Common.{◌≡◌, Bool, ℕ, ◌+◌, ◌*◌, ℤ, List, refl, ap, ◌∙◌, arith, IsTrue}
-use Rattle.std.proofs.lemmas.Bool.{false≢true}
+use Rattle.std.proofs.Common.{◌≡◌, Bool, false, ℕ, ◌+◌, ◌*◌, ◌^◌, ◌≤◌, ℤ, ◌||◌, nat_le, nat_lt, List, refl, sym, ap, ◌∙◌, arith, IsTrue}
+use Rattle.std.proofs.lemmas.Bool.{false≢true, le-ltb}
+use Rattle.tf_model.specs.Limit.{limit}
 use Rattle.tf_model.specs.declared.problem.Goal.{Goal}
 use Rattle.tf_model.specs.declared.problem.Goal.TheVariants as goals
 use Rattle.tf_problem.specs.ProblemData.{ProblemData, problem_job, problem_time, problem_weight, problem_due, weight_by, due_by}
 use Rattle.tf_problem.specs.ProblemCost.{penalty}
 use Rattle.tf_problem.specs.ProblemBounds.{is_sum_goal, price_of_rows, start_price}
 use Rattle.tf_bound.specs.RowSums.{late_steps}
+use Rattle.tf_bound.specs.Faulted.{is_dear, last_start}
 use Rattle.tf_bound.specs.Prices.{is_by_unit}
 
 one_time : (x : ℕ) → x ≡ 1 * x
@@ -50,3 +52,29 @@ start_is k q prices j sums time by_unit slope due lasts unit slopes dues s =
     ≡ q * w * late_steps (is_by_unit k.problem.goal) (problem_due k j) (s + p) =
     ap (λ x. x * late_steps by_unit due (s + time)) slopes ∙ ap (λ x. q * w * x) steps in
     omega (arith, pays, same, ap (λ t. price_of_rows prices s t) lasts)
+
+-- whether a job is dear, by its numbers, where it completes within the limit from its last start
+pub dear_is : (k : ProblemData) (q : ℕ) (prices : List ℕ) (j : ℕ)
+    → IsTrue (is_sum_goal k.problem.goal) → (time last weight : ℕ) (by_unit : Bool) (due : ℤ)
+    → time ≡ problem_time k j → last ≡ last_start k prices j → weight ≡ problem_weight k j
+    → by_unit ≡ is_by_unit k.problem.goal → due ≡ problem_due k j → last + time ≤ limit
+    → (nat_le (2 ^ 64) (q * weight)
+    || nat_lt limit (q * weight * late_steps by_unit due (last + time)))
+    ≡ is_dear k q prices j
+dear_is k q prices j sums time last weight by_unit due lasts at weighs unit dues within =
+    let w : ℕ = problem_weight k j in
+    let end : ℕ = last_start k prices j + problem_time k j in
+    let pay : ℕ = q * penalty k.problem.goal k j end in
+    let dear : Bool = nat_le (2 ^ 64) (q * w) || nat_lt limit pay in
+    let late : late_steps by_unit due (last + time)
+    ≡ late_steps (is_by_unit k.problem.goal) (problem_due k j) end = cc in
+    let pays : pay
+    ≡ q * (w * late_steps (is_by_unit k.problem.goal) (problem_due k j) end) =
+    ap (λ x. q * x) (penalty_is k.problem.goal sums k j end) in
+    let steps : q * w * late_steps by_unit due (last + time) ≡ pay =
+    ap (λ x. q * w * x) late ∙ omega (arith, pays) in
+    let over : nat_lt limit end ≡ false = le-ltb limit end (omega (arith, within, lasts, at)) in
+    ap (λ x. nat_le (2 ^ 64) (q * x)
+    || nat_lt limit (q * x * late_steps by_unit due (last + time))) weighs
+    ∙ ap (λ n. nat_le (2 ^ 64) (q * w) || nat_lt limit n) steps
+    ∙ ap (λ t. t || dear) (sym over)

@@ -1,8 +1,8 @@
 -- Sums of prices between two rows, and what rises with the completion.
-use Rattle.std.proofs.Common.{◌≡◌, Bool, true, false, ℕ, ◌+◌, ◌≤◌, ◌<◌, List, length, sum, min, slice_index, take, drop, sym, ap, ◌∙◌, ⊎_elim, arith, ℤ}
+use Rattle.std.proofs.Common.{◌≡◌, Bool, true, false, ℕ, ◌+◌, ◌≤◌, ◌<◌, List, length, sum, min, slice_index, set, take, drop, sym, ap, ◌∙◌, ⊎_elim, arith, ℤ}
 use Rattle.std.proofs.Math.Seq.{take-add}
 use Rattle.std.proofs.lemmas.Bool.{cases_lt}
-use Rattle.std.proofs.lemmas.List.{take_all}
+use Rattle.std.proofs.lemmas.List.{take_all, get_or-set_same, get_or-set_other}
 use Rattle.std.proofs.lemmas.List.Sums.{sum_by-append, sum_by-take-le}
 use Rattle.tf_model.specs.Limit.{limit}
 use Rattle.tf_problem.specs.ProblemBounds.{price_of_rows}
@@ -44,6 +44,22 @@ of_rows prices sums are s n a b first last =
       omega (arith, from, to, between prices s n),
       omega (arith, to, sum_by-take-le (λ x. x) prices (s + n), are.small),
     )
+
+-- with one sum more
+pub sums_more : (prices sums : List ℕ) (row total : ℕ) → row < length prices
+    → length sums ≡ length prices + 1 → total ≡ sum (take (row + 1) prices)
+    → ((t : ℕ) → t ≤ row → slice_index sums t ≡ sum (take t prices))
+    → (t : ℕ) → t ≤ row + 1 → slice_index (set sums (row + 1) total) t ≡ sum (take t prices)
+sums_more prices sums row total lt len is before t le =
+    ⊎_elim
+    (λ early. get_or-set_other sums (row + 1) t total 0 (λ e. omega (arith, e, early))
+    ∙ before t (omega arith))
+    (λ last.
+    let same : t ≡ row + 1 = omega (arith, le, last) in
+    ap (slice_index (set sums (row + 1) total)) same
+    ∙ get_or-set_same sums (row + 1) total 0 (omega (arith, len, lt)) ∙ is
+    ∙ sym (ap (λ n. sum (take n prices)) same))
+    (cases_lt t (row + 1))
 
 -- with one start more
 pub one_more : (P : ℕ → ℕ) (low start old best here : ℕ)

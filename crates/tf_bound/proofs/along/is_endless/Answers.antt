@@ -1,8 +1,26 @@
-use Rattle.std.proofs.Common.{◌≡◌, Bool, false, true, ℕ, ◌+◌, ◌-◌, List, Contains, get_or, set, refl, sym, ap, subst, ◌∙◌, arith}
+use Rattle.std.proofs.Common.{◌≡◌, Bool, false, true, ℕ, ◌+◌, ◌-◌, List, Contains, length, replicate, get_or, set, refl, sym, ap, subst, ◌∙◌, ⊎_elim, arith}
+use Rattle.std.proofs.lemmas.Bool.{cases_lt, false≢true}
+use Rattle.std.proofs.lemmas.List.{get_or_past, get_or-replicate, length-replicate}
 use Rattle.tf_bound.proofs.Dates.{marks_more}
 use Rattle.tf_bound.proofs.RaisedDates.{HasWaiting}
 use Rattle.tf_bound.proofs.along.is_endless.Goals as goal
 use Rattle.tf_bound.proofs.along.is_endless.Goals.{then-is_waiting, else-is_waiting}
+
+-- no mark is set at first
+none_marked : (marks : List Bool) (n : ℕ) → marks ≡ replicate n false → (i : ℕ)
+    → get_or marks i false ≡ true → ⊥
+none_marked marks n is i mark =
+    ⊎_elim
+    (λ within. false≢true (sym (ap (λ xs. get_or xs i false) is
+    ∙ get_or-replicate n i false false within) ∙ mark))
+    (λ past. false≢true (sym (get_or_past marks i false
+    (omega (arith, past, ap length is, length-replicate n false))) ∙ mark))
+    (cases_lt i n)
+
+pub loop-before-init : goal.loop-before-init
+loop-before-init g c = λ i mark.
+    absurd (none_marked c.in_ok-marks.marks.items (length c.args.waits.now)
+    (c.in_ok-marks.ensures.items_if_clones_equal (λ y e. e)) i mark)
 
 pub loop-before-preserved : goal.loop-before-preserved
 loop-before-preserved g c =

@@ -1,9 +1,10 @@
-use Rattle.std.proofs.Common.{◌≡◌, ℕ, ◌+◌, ◌-◌, ◌<◌, ap, inr, sym, ◌∙◌, subst, get_or, set, take, length, true, false, List, Bool, arith}
+use Rattle.std.proofs.Common.{◌≡◌, ℕ, ◌+◌, ◌-◌, ◌<◌, ap, inr, sym, ◌∙◌, subst, get_or, set, take, length, replicate, [], true, false, List, Bool, refl, arith}
 use Rattle.tf_model.specs.Distinct.{IsDistinct}
-use Rattle.tf_problem.specs.ProblemData.{IsProblemJob}
+use Rattle.tf_problem.specs.ProblemData.{ProblemData, IsProblemJob}
 use Rattle.tf_bound.proofs.Faults.{judged_bad, judged_twice, judged_more, judged_whole}
-use Rattle.tf_bound.proofs.Marks.{AreMarks, marks_more, distinct}
-use Rattle.std.proofs.lemmas.List.{take_all, get_or_default}
+use Rattle.tf_bound.proofs.Marks.{AreMarks, as_one, marks_more, distinct}
+use Rattle.tf_bound.proofs.Steps.{all_whole}
+use Rattle.std.proofs.lemmas.List.{take_all, get_or_default, get_or-replicate, length-replicate}
 use Rattle.tf_bound.proofs.jobs.judge_list.Goals as goal
 
 pub returns-then-place-len-clause-fault : goal.returns-then-place-len-clause-fault
@@ -74,3 +75,25 @@ returns-clause-distinct g c =
     subst IsDistinct (take_all c.loop-job.job-index jobs c.loop-job-test.false)
     (distinct c.args.task.now c.loop-job.seen.items (take c.loop-job.job-index jobs)
     c.loop-job.invariant.marks)
+
+pub returns-clause-known : goal.returns-clause-known
+returns-clause-known g c =
+    all_whole (IsProblemJob c.args.task.now) c.args.jobs.now c.loop-job.job-index
+    c.loop-job-test.false c.loop-job.invariant.marks.known
+
+-- no job is marked at first
+none_marked : (k : ProblemData) (seen : List Bool) (n : ℕ) → n ≡ length k.jobs
+    → seen ≡ replicate n false → AreMarks k seen []
+none_marked k seen n size is = record {
+  len = ap length is ∙ length-replicate n false ∙ size;
+  known = λ i d lt. absurd (omega (arith, lt));
+  marked = λ j job. sym (ap (λ xs. as_one (get_or xs (j - 1) false)) is
+      ∙ ap as_one (get_or-replicate n (j - 1) false false (omega (arith, size, job.0, job.1))));
+}
+
+pub loop-job-init : goal.loop-job-init
+loop-job-init g c = record {
+  judged = refl;
+  marks = none_marked c.args.task.now c.in-Ok.seen.items c.len.result c.len.ensures.value
+      (c.in-Ok.ensures.items_if_clones_equal (λ y e. e));
+}

@@ -1,4 +1,5 @@
-use Rattle.std.proofs.Common.{◌≡◌, ℕ, ◌+◌, ◌-◌, ◌*◌, ◌≤◌, Bool, ℤ, List, length, max, slice_index, w64, of_z, to_z, SFits, ap, sym, subst, ◌∙◌, arith, rules, mul-le-mul_left}
+use Rattle.std.proofs.Common.{◌≡◌, ℕ, ◌+◌, ◌-◌, ◌*◌, ◌≤◌, Bool, ℤ, List, length, max, slice_index, w64, of_z, to_z, SFits, ap, sym, subst, ◌∙◌, ⊎_elim, arith, rules, mul-le-mul_left}
+use Rattle.std.proofs.lemmas.Bool.{cases_lt}
 use Rattle.std.proofs.lemmas.Int.{to_z-of_z}
 use Rattle.tf_problem.specs.ProblemBounds.{price_of_rows}
 use Rattle.tf_problem.proofs.Prices.{no_price}
@@ -7,6 +8,63 @@ use Rattle.tf_bound.specs.RowSums.{late_steps, IsReached}
 use Rattle.tf_bound.proofs.RowSums.{of_rows, one_more, late_steps-rises}
 use Rattle.tf_bound.proofs.row_sums.cheapest_start.Goals as goal
 use Rattle.tf_bound.proofs.row_sums.cheapest_start.Goals.{then-price-best, else-price-best}
+
+pub bounds-sums-min : goal.bounds-sums-min
+bounds-sums-min c = omega (arith, c.requires.sums.len, c.min.ensures)
+
+pub bounds-sums-min-in-loop-start : goal.bounds-sums-min-in-loop-start
+bounds-sums-min-in-loop-start c = omega (arith, c.requires.sums.len, c.min-in-loop-start.ensures)
+
+pub overflow_mul-best : goal.overflow_mul-best
+overflow_mul-best c =
+    let unit = c.args.job.by_unit in
+    let due : to_z w64 (of_z w64 c.args.job.due) ≡ c.args.job.due =
+    let fits : SFits w64 c.args.job.due = search rules in to_z-of_z w64 c.args.job.due fits in
+    let late : c.late_steps.result
+    ≡ late_steps unit c.args.job.due
+    (max c.args.job.release (length c.args.prices.now) + c.args.job.time) =
+    c.late_steps.ensures
+    ∙ ap (λ d. late_steps unit d (c.max-last.result + c.args.job.time)) due
+    ∙ ap (λ n. late_steps unit c.args.job.due (n + c.args.job.time)) c.max-last.ensures in
+    omega (arith, c.requires.small, ap (λ x. c.args.job.slope * x) late)
+
+pub overflow_mul-price : goal.overflow_mul-price
+overflow_mul-price c =
+    let unit = c.args.job.by_unit in
+    let end : ℕ = c.loop-start.start + c.args.job.time in
+    let last : ℕ = max c.args.job.release (length c.args.prices.now) + c.args.job.time in
+    let due : to_z w64 (of_z w64 c.args.job.due) ≡ c.args.job.due =
+    let fits : SFits w64 c.args.job.due = search rules in to_z-of_z w64 c.args.job.due fits in
+    let late : c.late_steps-in-loop-start.result ≡ late_steps unit c.args.job.due end =
+    c.late_steps-in-loop-start.ensures ∙ ap (λ d. late_steps unit d end) due in
+    let rises : c.args.job.slope * late_steps unit c.args.job.due end
+    ≤ c.args.job.slope * late_steps unit c.args.job.due last =
+    mul-le-mul_left c.args.job.slope
+    (late_steps-rises unit c.args.job.due end last
+    (omega (arith, c.loop-start-test.true, c.max-last.ensures))) in
+    omega (arith, c.requires.small, rises, ap (λ x. c.args.job.slope * x) late)
+
+-- the last start is among those that were seen, or it is the last one
+pub returns-clause-cheapest : goal.returns-clause-cheapest
+returns-clause-cheapest c = λ s low high.
+    let job = c.args.job in
+    ⊎_elim
+    (λ before. c.loop-start.invariant.so_far s low
+    (omega (arith, before, c.loop-start-test.false)))
+    (λ past.
+    let same : c.max-last.result ≡ s = omega (arith, past, high, c.max-last.ensures) in
+    omega (
+      arith,
+      c.loop-start.invariant.last,
+      ap (λ x. job.slope * late_steps job.by_unit job.due (x + job.time)) same,
+    ))
+    (cases_lt s c.max-last.result)
+
+pub returns-clause-reached : goal.returns-clause-reached
+returns-clause-reached c = c.loop-start.invariant.reached
+
+pub returns-clause-small : goal.returns-clause-small
+returns-clause-small c = c.loop-start.invariant.small
 
 pub overflow_sub-of_rows : goal.overflow_sub-of_rows
 overflow_sub-of_rows c =

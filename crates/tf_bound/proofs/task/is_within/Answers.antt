@@ -1,4 +1,5 @@
-use Rattle.std.proofs.Common.{◌+◌, ◌≤◌, refl, ap, arith}
+use Rattle.std.proofs.Common.{◌+◌, ◌≤◌, refl, sym, ap, subst, arith}
+use Rattle.std.proofs.lemmas.Bool.{false≢true}
 use Rattle.tf_model.specs.Limit.{limit}
 use Rattle.tf_problem.specs.ProblemData.{ProblemJobData}
 use Rattle.tf_bound.proofs.Steps.{all_next, all_whole}
@@ -20,3 +21,15 @@ returns g c = (
 
 pub overflow_sub-last : goal.overflow_sub-last
 overflow_sub-last g c = omega (arith, c.requires)
+
+pub returns-then-job-last : goal.returns-then-job-last
+returns-then-job-last g c = (
+  λ is. absurd (false≢true is),
+  λ all. absurd (omega (
+    arith,
+    subst (λ (x : ProblemJobData). x.release + c.args.all ≤ limit) (sym c.job-item.is)
+        (all c.loop-job.job-index c.job-item.result c.loop-job-test.true),
+    ap (λ (x : ProblemJobData). x.release) c.job.view_is,
+    c.if-job-last.true,
+  )),
+)
