@@ -78,11 +78,7 @@ fn window_on<A: Allocator + Copy, B: Allocator>(
     requires env { IsTrue (is_by_machine task.now.problem.env) }
     ensures { IfOk result (λ best. IfSome best (λ found. IsLowerBound task.now found.value)) }
 {
-    let kept = jobs_on(alloc, task, machine)?;
-    let Some(small) = task_on(alloc, task, machine, &kept)? else {
-        return Ok(None);
-    };
-    let jobs = latest_window(alloc, &small, &kept)?;
+    let jobs = late_jobs(alloc, task, machine)?;
     if jobs.is_empty() {
         return Ok(None);
     }
@@ -92,6 +88,22 @@ fn window_on<A: Allocator + Copy, B: Allocator>(
         jobs,
         value,
     }))
+}
+
+// The jobs of the window of the machine, and no job where there is none.
+fn late_jobs<A: Allocator + Copy, B: Allocator>(
+    alloc: A,
+    task: &ProblemTask<B>,
+    machine: usize,
+) -> Result<Vec<JobId, A>, OutOfMemory>
+    requires machine { machine < task.now.machines }
+    requires env { IsTrue (is_by_machine task.now.problem.env) }
+{
+    let kept = jobs_on(alloc, task, machine)?;
+    match task_on(alloc, task, machine, &kept)? {
+        Some(small) => latest_window(alloc, &small, &kept),
+        None => Ok(Vec::new(alloc)),
+    }
 }
 
 // The jobs that have time on the machine.
@@ -153,17 +165,27 @@ fn latest_window<A: Allocator + Copy, B: Allocator>(
     small: &Task<B>,
     kept: &[JobId],
 ) -> Result<Vec<JobId, A>, OutOfMemory> {
-    let mut jobs = Vec::new(alloc);
     let Class::ReleaseLmax = small.class() else {
-        return Ok(jobs);
+        return Ok(Vec::new(alloc));
     };
     let answer = edd(alloc, small)?;
-    if let Certificate::Window(window) = &answer.certificate {
-        for job in window.jobs.as_slice() {
-            let place = job.place();
-            if place < kept.len() {
-                jobs.push(kept[place])?;
-            }
+    match &answer.certificate {
+        Certificate::Window(window) => jobs_at(alloc, window.jobs.as_slice(), kept),
+        _ => Ok(Vec::new(alloc)),
+    }
+}
+
+// The jobs that stand at the places of some.
+fn jobs_at<A: Allocator>(
+    alloc: A,
+    some: &[JobId],
+    kept: &[JobId],
+) -> Result<Vec<JobId, A>, OutOfMemory> {
+    let mut jobs = Vec::new(alloc);
+    for job in some {
+        let place = job.place();
+        if place < kept.len() {
+            jobs.push(kept[place])?;
         }
     }
     Ok(jobs)

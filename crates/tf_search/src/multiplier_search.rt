@@ -39,8 +39,7 @@ pub fn multiplier_bound<A: Allocator + Copy, B: Allocator>(
     if !is_single(task) {
         return Err(BoundFault::OtherKind);
     }
-    let (order, target) = best_order(alloc, task)?;
-    let multipliers = along(alloc, task, &order)?;
+    let (multipliers, target) = best_multipliers(alloc, task)?;
     let value = multipliers_bound(alloc, task, 0, &multipliers, DENOMINATOR)?;
     Ok(MultiplierBound {
         q: DENOMINATOR,
@@ -48,6 +47,17 @@ pub fn multiplier_bound<A: Allocator + Copy, B: Allocator>(
         value,
         target,
     })
+}
+
+// The multipliers along the best sequence, and what that costs.
+fn best_multipliers<A: Allocator + Copy, B: Allocator>(
+    alloc: A,
+    task: &ProblemTask<B>,
+) -> Result<(Vec<u64, A>, u64), BoundFault>
+    requires { IsFalse (is_shop_env task.now.problem.env) }
+{
+    let (order, target) = best_order(alloc, task)?;
+    Ok((along(alloc, task, &order)?, target))
 }
 
 fn is_single<B: Allocator>(task: &ProblemTask<B>) -> bool
@@ -73,16 +83,29 @@ fn along<A: Allocator + Copy, B: Allocator>(
     requires one_time { IsFalse (is_shop_env task.now.problem.env) }
     requires jobs { All (IsProblemJob task.now) order.now }
 {
-    let places = places_of(alloc, task, order)?;
-    let Ok(mut heights) = vec![in alloc; 0_u64; places.len()] else {
-        return Err(BoundFault::OutOfMemory);
-    };
-    share_heights(&places, &mut heights);
+    let heights = heights_along(alloc, task, order)?;
     let Ok(mut multipliers) = vec![in alloc; 0_u64; task.len()] else {
         return Err(BoundFault::OutOfMemory);
     };
     give(task, order, &heights, &mut multipliers);
     Ok(multipliers)
+}
+
+// The height that goes to each place.
+fn heights_along<A: Allocator + Copy, B: Allocator>(
+    alloc: A,
+    task: &ProblemTask<B>,
+    order: &[JobId],
+) -> Result<Vec<u64, A>, BoundFault>
+    requires one_time { IsFalse (is_shop_env task.now.problem.env) }
+    requires jobs { All (IsProblemJob task.now) order.now }
+{
+    let places = places_of(alloc, task, order)?;
+    let Ok(mut heights) = vec![in alloc; 0_u64; places.len()] else {
+        return Err(BoundFault::OutOfMemory);
+    };
+    share_heights(&places, &mut heights);
+    Ok(heights)
 }
 
 // Place by place of the sequence.

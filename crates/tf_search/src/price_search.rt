@@ -106,15 +106,27 @@ pub fn price_bound<A: Allocator + Copy, B: Allocator>(
     if !takes_prices(task) {
         return Err(BoundFault::OtherKind);
     }
-    let (order, target) = best_order(alloc, task)?;
-    let mut effort: Effort<Nobody> = Effort::untold(Some(steps));
-    let prices = search_prices(alloc, task, &order, target, &mut effort)?;
+    let (prices, target) = prices_along(alloc, task, steps)?;
     let value = prices_bound(alloc, task, prices.q, &prices.rows)?;
     Ok(PriceBound {
         prices,
         value,
         target,
     })
+}
+
+// The prices that so many steps find along the best sequence, and what that costs.
+fn prices_along<A: Allocator + Copy, B: Allocator>(
+    alloc: A,
+    task: &ProblemTask<B>,
+    steps: u32,
+) -> Result<(Prices<A>, u64), BoundFault>
+    requires { IsFalse (is_shop_env task.now.problem.env) }
+{
+    let (order, target) = best_order(alloc, task)?;
+    let mut effort: Effort<Nobody> = Effort::untold(Some(steps));
+    let prices = search_prices(alloc, task, &order, target, &mut effort)?;
+    Ok((prices, target))
 }
 
 /// The prices of the most that the steps of an effort find, none where it says no number. `order` is
@@ -131,28 +143,32 @@ pub fn search_prices<A: Allocator + Copy, B: Allocator, P: Progress>(
     if !takes_prices(task) {
         return Err(BoundFault::OtherKind);
     }
-    let placed = place_all(alloc, task, order)?;
-    let Some(horizon) = horizon_of(&placed) else {
-        return Err(BoundFault::TooLarge);
-    };
-    let mut tables = tables_for(alloc, task, &placed, horizon)?;
+    let mut tables = tables_along(alloc, task, order)?;
     improve(task.machines(), target, &mut tables, effort);
     effort.is_over();
-    let Tables {
-        jobs: _,
-        rows: _,
-        sums: _,
-        counts: _,
-        direction: _,
-        best,
-    } = tables;
     Ok(Prices {
         q: DENOMINATOR,
-        rows: best,
+        rows: tables.best,
     })
 }
 
-// The tables at the beginning of a search.
+// The tables at the beginning of a search, from a sequence.
+fn tables_along<A: Allocator + Copy, B: Allocator>(
+    alloc: A,
+    task: &ProblemTask<B>,
+    order: &[JobId],
+) -> Result<Tables<A>, BoundFault>
+    requires jobs { All (IsProblemJob task.now) order.now }
+    requires one_time { IsFalse (is_shop_env task.now.problem.env) }
+{
+    let placed = place_all(alloc, task, order)?;
+    match horizon_of(&placed) {
+        Some(horizon) => tables_for(alloc, task, &placed, horizon),
+        None => Err(BoundFault::TooLarge),
+    }
+}
+
+// The same from where and when each job runs, and from when all are over.
 fn tables_for<A: Allocator + Copy, B: Allocator>(
     alloc: A,
     task: &ProblemTask<B>,
@@ -243,32 +259,50 @@ fn suggest<A: Allocator + Copy, B: Allocator>(
 ) -> Result<(), BoundFault>
     requires { All (λ p. IsProblemJob task.now p.job) placed.now }
 {
-    let machines = u64::from(task.machines());
-    // Of each machine, the first row that has its price, and that price.
-    let Ok(mut from) = vec![in alloc; rows.len(); task.machines() as usize] else {
+    let machines = task.machines() as usize;
+    let Ok(mut from) = vec![in alloc; rows.len(); machines] else {
         return Err(BoundFault::OutOfMemory);
     };
-    let mut level = zeros(alloc, task.machines() as usize)?;
+    let mut level = zeros(alloc, machines)?;
+    share_out(task, placed, &mut from, &mut level, rows);
+    Ok(())
+}
+
+// `from` has of each machine the first row that has its price, and `level` that price.
+fn share_out<B: Allocator>(
+    task: &ProblemTask<B>,
+    placed: &[Placed],
+    from: &mut [usize],
+    level: &mut [u64],
+    rows: &mut [u64],
+)
+    requires { All (λ p. IsProblemJob task.now p.job) placed.now }
+{
     for job in placed.iter().rev() {
-        let late = i128::from(job.end) > i128::from(task.due(job.job));
-        let rise = if late {
-            task.weight(job.job).saturating_mul(DENOMINATOR)
-        } else {
-            0
-        };
+        let rise = rise_of(task, job);
         if job.machine < level.len() && job.machine < from.len() {
             let share = Share {
                 level: level[job.machine],
                 rise,
                 to: from[job.machine],
-                machines,
+                machines: u64::from(task.machines()),
             };
             share.fill(rows, job);
             level[job.machine] = level[job.machine].saturating_add(rise);
             from[job.machine] = job.start as usize;
         }
     }
-    Ok(())
+}
+
+// By how much the prices fall along a job.
+fn rise_of<B: Allocator>(task: &ProblemTask<B>, job: &Placed) -> u64
+    requires { IsProblemJob task.now job.now.job }
+{
+    if i128::from(job.end) > i128::from(task.due(job.job)) {
+        task.weight(job.job).saturating_mul(DENOMINATOR)
+    } else {
+        0
+    }
 }
 
 // What one machine adds to the prices from the start of a job on, up to row `to`: `level` where the
@@ -366,12 +400,13 @@ impl<A: Allocator> Tables<A> {
 // Returns the sum of all, and None where it is beyond the limit.
 fn sum_up(rows: &[u64], sums: &mut [u64]) -> Option<u64> {
     let mut total: u64 = 0;
-    for (sum, price) in sums.iter_mut().zip(rows) {
-        *sum = total;
-        total = total.saturating_add(*price);
+    let last = rows.len().min(sums.len());
+    for row in 0..last {
+        sums[row] = total;
+        total = total.saturating_add(rows[row]);
     }
-    for sum in sums.iter_mut().skip(rows.len()) {
-        *sum = total;
+    for row in last..sums.len() {
+        sums[row] = total;
     }
     if total > LIMIT as u64 {
         return None;

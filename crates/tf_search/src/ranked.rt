@@ -1,6 +1,9 @@
 //! Jobs in orders of which some front makes a strong window or crowd.
 //!
 //! Nothing is promised of the orders and the fronts: the judges compute what they bound.
+ghost use Rattle.std.specs.Prelude.{IfOk};
+ghost use Rattle.std.specs.List.{All};
+ghost use Rattle.tf_check.specs.RatioRank.{IsOfJob};
 ghost use Rattle.tf_problem.specs.ProblemData.{IsProblemJob};
 
 use std::alloc::Allocator;
@@ -62,6 +65,24 @@ fn jobs_of<A: Allocator, B: Allocator>(
     Ok(jobs)
 }
 
+// The places of the jobs of a rank, with their numbers.
+fn ranks_of<A: Allocator, B: Allocator>(
+    alloc: A,
+    task: &ProblemTask<B>,
+    rank: Rank,
+) -> Result<Vec<u128, A>, OutOfMemory>
+    ensures { IfOk result (λ ranks. All IsOfJob ranks.items) }
+{
+    let mut ranks = Vec::with_capacity(alloc, task.len())?;
+    for k in 0..task.len() {
+        let job = JobId::at(k);
+        if let Some(place) = place_of(task, rank, job) {
+            ranks.push(rank_at(place, job))?;
+        }
+    }
+    Ok(ranks)
+}
+
 /// The jobs in the order of the rank, and of their numbers where it is the same.
 pub(crate) fn jobs_by_rank<A: Allocator + Copy, B: Allocator>(
     alloc: A,
@@ -71,13 +92,7 @@ pub(crate) fn jobs_by_rank<A: Allocator + Copy, B: Allocator>(
     if are_in_order(task, rank) {
         return jobs_of(alloc, task, rank);
     }
-    let mut ranks = Vec::with_capacity(alloc, task.len())?;
-    for k in 0..task.len() {
-        let job = JobId::at(k);
-        if let Some(place) = place_of(task, rank, job) {
-            ranks.push(rank_at(place, job))?;
-        }
-    }
+    let mut ranks = ranks_of(alloc, task, rank)?;
     ranks.sort_unstable();
     let mut jobs = Vec::with_capacity(alloc, ranks.len())?;
     push_jobs(&mut jobs, &ranks)?;

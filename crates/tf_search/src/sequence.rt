@@ -129,17 +129,28 @@ pub fn best_order<A: Allocator + Copy, B: Allocator>(
     requires { IsFalse (is_shop_env task.now.problem.env) }
     ensures { IfOk result (λ best. All (IsProblemJob task.now) best.0.items) }
 {
-    let mut best = urgency_order(alloc, task, 5)?;
-    let mut cost = cost_of(task, &place_all(alloc, task, &best)?);
+    let mut best = costed_order(alloc, task, 5)?;
     for look in 1..6_u64 {
-        let next = urgency_order(alloc, task, 5 + 7 * look)?;
-        let its = cost_of(task, &place_all(alloc, task, &next)?);
-        if its < cost {
-            cost = its;
+        let next = costed_order(alloc, task, 5 + 7 * look)?;
+        if next.1 < best.1 {
             best = next;
         }
     }
-    Ok((best, cost))
+    Ok(best)
+}
+
+// The order by apparent urgency, and what it costs.
+fn costed_order<A: Allocator + Copy, B: Allocator>(
+    alloc: A,
+    task: &ProblemTask<B>,
+    look: u64,
+) -> Result<(Vec<JobId, A>, u64), BoundFault>
+    requires { IsFalse (is_shop_env task.now.problem.env) }
+    ensures { IfOk result (λ costed. All (IsProblemJob task.now) costed.0.items) }
+{
+    let order = urgency_order(alloc, task, look)?;
+    let cost = cost_of(task, &place_all(alloc, task, &order)?);
+    Ok((order, cost))
 }
 
 // So many tenths of the mean time, at least 1.

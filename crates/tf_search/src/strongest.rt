@@ -1,6 +1,7 @@
 //! The strongest of the lower bounds that judges and searches give of a task.
 ghost use Rattle.std.specs.Prelude.{◌≡◌, ◌⊎◌, IfOk, IfSome, IsFalse};
 ghost use Rattle.tf_model.specs.ClassTable.{is_shop_env};
+ghost use Rattle.tf_problem.specs.ProblemData.{ProblemData};
 ghost use Rattle.tf_search.specs.Strongest.{IsFound, IsFoundOn};
 
 use crate::effort::{Effort, Progress};
@@ -98,6 +99,18 @@ fn better<A: Allocator>(one: Option<Found<A>>, other: Option<Found<A>>) -> Optio
     }
 }
 
+// The one of the greater value, where there was memory for the other.
+fn improved<A: Allocator>(
+    best: Option<Found<A>>,
+    found: Result<Option<Found<A>>, OutOfMemory>,
+) -> Result<Option<Found<A>>, OutOfMemory>
+    ensures { (k : ProblemData) → IfSome best (IsFoundOn k)
+        → IfOk found (λ other. IfSome other (IsFoundOn k))
+        → IfOk result (λ both. IfSome both (IsFoundOn k)) }
+{
+    Ok(better(best, found?))
+}
+
 // What a search found, and none where it was refused.
 fn searched<T: Drop>(outcome: Result<T, BoundFault>) -> Result<Option<T>, OutOfMemory> {
     match outcome {
@@ -116,17 +129,13 @@ fn of_maximum<A: Allocator + Copy, B: Allocator>(
     ensures { IfOk result (λ best. IfSome best (IsFoundOn task.now)) }
 {
     let job = longest_job(task);
-    let mut best = judged(alloc, task, BoundCertificate::OneJob { job })?;
-    if matches!(task.problem().env, Env::Parallel) {
-        let found = by_windows(alloc, task)?;
-        best = better(best, found);
-        let found = by_crowd(alloc, task, value_of(&best))?;
-        best = better(best, found);
-    } else {
-        let found = by_machine(alloc, task)?;
-        best = better(best, found);
+    let alone = judged(alloc, task, BoundCertificate::OneJob { job })?;
+    if !matches!(task.problem().env, Env::Parallel) {
+        return improved(alone, by_machine(alloc, task));
     }
-    Ok(best)
+    let best = improved(alone, by_windows(alloc, task))?;
+    let value = value_of(&best);
+    improved(best, by_crowd(alloc, task, value))
 }
 
 // The job that completes latest after its due date, if it runs alone.
@@ -231,14 +240,12 @@ fn of_sum<A: Allocator + Copy, B: Allocator, P: Progress>(
 ) -> Result<Option<Found<A>>, OutOfMemory>
     ensures { IfOk result (λ best. IfSome best (IsFoundOn task.now)) }
 {
-    let mut best = by_weights(alloc, task)?;
-    if !task.problem().env.is_shop() && task.len() <= MOST_SEQUENCED {
-        let found = by_multipliers(alloc, task)?;
-        best = better(best, found);
-        let found = by_prices(alloc, task, effort)?;
-        best = better(best, found);
+    let weighed = by_weights(alloc, task)?;
+    if task.problem().env.is_shop() || task.len() > MOST_SEQUENCED {
+        return Ok(weighed);
     }
-    Ok(best)
+    let best = improved(weighed, by_multipliers(alloc, task))?;
+    improved(best, by_prices(alloc, task, effort))
 }
 
 // The weights themselves as multipliers, on the best machine.
@@ -258,8 +265,7 @@ fn by_weights<A: Allocator + Copy, B: Allocator>(
             q: 1,
             numerators: weights(alloc, task)?,
         };
-        let found = judged(alloc, task, certificate)?;
-        best = better(best, found);
+        best = improved(best, judged(alloc, task, certificate))?;
     }
     Ok(best)
 }

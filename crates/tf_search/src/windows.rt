@@ -108,12 +108,23 @@ pub(crate) fn strongest_window<A: Allocator + Copy, B: Allocator>(
     alloc: A,
     task: &ProblemTask<B>,
 ) -> Result<Option<Window>, OutOfMemory> {
-    let machines = i128::from(task.machines());
     let places = places_in(alloc, &jobs_by_rank(alloc, task, Rank::LastReleased)?)?;
     let mut halves = Halves::new(alloc, task.len())?;
+    let order = jobs_by_rank(alloc, task, Rank::FirstDue)?;
+    Ok(window_along(task, &order, &places, &mut halves))
+}
+
+// The strongest of the windows of the first jobs of the order.
+fn window_along<A: Allocator, B: Allocator>(
+    task: &ProblemTask<B>,
+    order: &[JobId],
+    places: &[usize],
+    halves: &mut Halves<A>,
+) -> Option<Window> {
+    let machines = i128::from(task.machines());
     let mut most = i128::MIN;
     let mut best = None;
-    for job in &jobs_by_rank(alloc, task, Rank::FirstDue)? {
+    for job in order {
         let place = job.place();
         if place >= task.len() || place >= places.len() {
             continue;
@@ -135,7 +146,7 @@ pub(crate) fn strongest_window<A: Allocator + Copy, B: Allocator>(
             });
         }
     }
-    Ok(best)
+    best
 }
 
 /// The jobs of a window, by number.

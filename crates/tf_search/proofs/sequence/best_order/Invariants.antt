@@ -3,4 +3,4 @@ use Rattle.tf_problem.specs.ProblemData.{IsProblemJob}
 use Rattle.tf_search.proofs.sequence.best_order.Given as goal
 
 abbrev pub invariant-loop-look : goal.invariant-loop-look
-invariant-loop-look g l = All (IsProblemJob l.task) l.best.items
+invariant-loop-look g l = All (IsProblemJob l.task) l.best.0.items
