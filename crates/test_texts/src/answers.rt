@@ -1,6 +1,7 @@
 //! Answer texts.
 use crate::refused::{holds, is_refused_answer};
 use std::alloc::Global;
+use std::process::Abort;
 use tf_check::certificate::Certificate;
 use tf_schedule::piece::Piece;
 use tf_text::answer::fault::AnswerFault;
@@ -19,17 +20,23 @@ const LINES: [&str; 7] = [
 ];
 
 /// Reads the answer with this heading, in which another line stands for the one of this number.
-fn read_with(alloc: Global, heading: &str, number: u32, line: &str) -> Result<Sheet, AnswerFault> {
+fn read_with(
+    alloc: Global,
+    heading: &str,
+    number: usize,
+    line: &str,
+) -> Result<Sheet, AnswerFault> {
     let mut text = String::from_str(alloc, if number == 1 { line } else { heading })?;
-    for (place, usual) in (2u32..).zip(LINES) {
+    for place in 0..LINES.len() {
+        let is_other = place + 2 == number;
         text.push_str("\n")?;
-        text.push_str(if number == place { line } else { usual })?;
+        text.push_str(if is_other { line } else { LINES[place] })?;
     }
     read_answer(alloc, text.as_bytes())
 }
 
 /// Another line in an answer of version 1.
-const FAULTS: &[(u32, &str, AnswerFault)] = &[
+const FAULTS: &[(usize, &str, AnswerFault)] = &[
     (1, "answer", AnswerFault::BadLine(1)),
     (1, "answer 0", AnswerFault::BadLine(1)),
     (1, "answer 01", AnswerFault::BadLine(1)),
@@ -166,53 +173,60 @@ const FAULTS: &[(u32, &str, AnswerFault)] = &[
 ];
 
 /// Another line in an answer of version 2.
-const FAULTS_OF_RANGES: &[(&str, AnswerFault)] = &[
-    ("cert last 7-3", AnswerFault::BadLine(7)),
-    ("cert last 3-3", AnswerFault::BadLine(7)),
-    ("cert last 3-", AnswerFault::BadLine(7)),
-    ("cert last -3", AnswerFault::BadLine(7)),
-    ("cert last -", AnswerFault::BadLine(7)),
-    ("cert last 1-2-3", AnswerFault::BadLine(7)),
-    ("cert last 1--3", AnswerFault::BadLine(7)),
-    ("cert last 1 - 3", AnswerFault::BadLine(7)),
-    ("cert last +1-3", AnswerFault::BadLine(7)),
-    ("cert last 0-2", AnswerFault::BadLine(7)),
-    ("cert last 1-0", AnswerFault::BadLine(7)),
-    ("cert last 1-100001", AnswerFault::NumberTooLarge(7)),
-    ("cert last 100001-0", AnswerFault::NumberTooLarge(7)),
-    ("cert last 0-100001", AnswerFault::BadLine(7)),
-    ("cert last 3-1 100001", AnswerFault::BadLine(7)),
-    ("cert last 100001 3-1", AnswerFault::NumberTooLarge(7)),
-    ("cert last 3-1 x", AnswerFault::BadLine(7)),
-    ("cert last 1-100000 1", AnswerFault::BadLine(7)),
-    ("cert last 1-50000 1-50001", AnswerFault::BadLine(7)),
+const FAULTS_OF_RANGES: &[(usize, &str, AnswerFault)] = &[
+    (7, "cert last 7-3", AnswerFault::BadLine(7)),
+    (7, "cert last 3-3", AnswerFault::BadLine(7)),
+    (7, "cert last 3-", AnswerFault::BadLine(7)),
+    (7, "cert last -3", AnswerFault::BadLine(7)),
+    (7, "cert last -", AnswerFault::BadLine(7)),
+    (7, "cert last 1-2-3", AnswerFault::BadLine(7)),
+    (7, "cert last 1--3", AnswerFault::BadLine(7)),
+    (7, "cert last 1 - 3", AnswerFault::BadLine(7)),
+    (7, "cert last +1-3", AnswerFault::BadLine(7)),
+    (7, "cert last 0-2", AnswerFault::BadLine(7)),
+    (7, "cert last 1-0", AnswerFault::BadLine(7)),
+    (7, "cert last 1-100001", AnswerFault::NumberTooLarge(7)),
+    (7, "cert last 100001-0", AnswerFault::NumberTooLarge(7)),
+    (7, "cert last 0-100001", AnswerFault::BadLine(7)),
+    (7, "cert last 3-1 100001", AnswerFault::BadLine(7)),
+    (7, "cert last 100001 3-1", AnswerFault::NumberTooLarge(7)),
+    (7, "cert last 3-1 x", AnswerFault::BadLine(7)),
+    (7, "cert last 1-100000 1", AnswerFault::BadLine(7)),
+    (7, "cert last 1-50000 1-50001", AnswerFault::BadLine(7)),
     (
+        7,
         "cert last 1-50000 1-50001 100001",
         AnswerFault::NumberTooLarge(7),
     ),
-    ("cert window 1-100000 1", AnswerFault::BadLine(7)),
-    ("cert split first 0 1-100000 1", AnswerFault::BadLine(7)),
-    ("cert split first 1-3", AnswerFault::BadLine(7)),
-    ("cert split first 1-3 1", AnswerFault::BadLine(7)),
-    ("cert ranks 1-3", AnswerFault::BadLine(7)),
-    ("cert job 1-3", AnswerFault::BadLine(7)),
-    ("cert machine 1-2", AnswerFault::BadLine(7)),
+    (7, "cert window 1-100000 1", AnswerFault::BadLine(7)),
+    (7, "cert split first 0 1-100000 1", AnswerFault::BadLine(7)),
+    (7, "cert split first 1-3", AnswerFault::BadLine(7)),
+    (7, "cert split first 1-3 1", AnswerFault::BadLine(7)),
+    (7, "cert ranks 1-3", AnswerFault::BadLine(7)),
+    (7, "cert job 1-3", AnswerFault::BadLine(7)),
+    (7, "cert machine 1-2", AnswerFault::BadLine(7)),
 ];
 
-#[test]
-fn an_answer_has_its_first_fault(rt: HostRuntime) {
-    for (number, line, fault) in FAULTS {
-        let read = read_with(rt.alloc(), "answer 1", *number, line);
-        holds(&rt, is_refused_answer(read, *fault), line);
-    }
-    for (line, fault) in FAULTS_OF_RANGES {
-        let read = read_with(rt.alloc(), "answer 2", 7, line);
-        holds(&rt, is_refused_answer(read, *fault), line);
+/// Each of these lines, in an answer with this heading, has its fault.
+fn are_refused(
+    rt: &(impl Abort + AllocGlobal),
+    heading: &str,
+    lines: &[(usize, &str, AnswerFault)],
+) {
+    for (number, line, fault) in lines {
+        let read = read_with(rt.alloc(), heading, *number, line);
+        holds(rt, is_refused_answer(read, *fault), line);
     }
 }
 
+#[test]
+fn an_answer_has_its_first_fault(rt: HostRuntime) {
+    are_refused(&rt, "answer 1", FAULTS);
+    are_refused(&rt, "answer 2", FAULTS_OF_RANGES);
+}
+
 /// Other lines with which an answer of either version is read.
-const READ: &[(u32, &str)] = &[
+const READ: &[(usize, &str)] = &[
     (1, "# first\n\nanswer 1"),
     (2, "problem 1||sumC\r"),
     (2, "problem\t1 | | sumCj"),

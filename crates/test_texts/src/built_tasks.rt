@@ -24,24 +24,3 @@ fn a_task_has_its_jobs_and_the_arcs_that_count(rt: HostRuntime) {
     assert!(rt; is_built(rt.alloc(), &ordered, &[(JobId::at(0), JobId::at(1))]));
     assert!(rt; is_built(rt.alloc(), &plain, &[]));
 }
-
-#[test]
-fn a_table_that_is_refused_gives_no_task(rt: HostRuntime) {
-    let single = Problem::plain(Env::Single, Goal::SumWC);
-    let parallel = Problem::plain(Env::Parallel, Goal::SumC);
-    let late = Problem::plain(Env::Single, Goal::SumWT);
-    let most = b"table 1\njob 1 p=4000000000000000000 w=1\njob 2 p=1 w=1\n";
-    let rows: &[(Problem, Option<u32>, &[u8])] = &[
-        (single, None, b"table 2\njob 1 p=1 w=1\n"),
-        (single, None, b"table 1\njob 2 p=1 w=1\n"),
-        (single, None, b"table 1\njob 1 p=1\n"),
-        (single, None, b"table 1\njob 1 p=0 w=1\n"),
-        (single, None, b"table 1\njob 1 p=1,1 w=1\n"),
-        (single, None, most),
-        (parallel, Some(2), b"table 1\nmachines 3\njob 1 p=1\n"),
-        (late, None, b"table 1\njob 1 p=1 w=1 d=1\n"),
-    ];
-    for (problem, machines, text) in rows {
-        assert!(rt; table_task(rt.alloc(), problem, *machines, text).is_none());
-    }
-}

@@ -1,7 +1,7 @@
 //! Flow shop files.
 use crate::refused::{holds, is_refused};
 use tf_model::instance::Instance;
-use tf_model::job::Times;
+use tf_model::job::{Job, Times};
 use tf_read::fault::ReadFault;
 use tf_read::flow_shop::read_flowshop;
 
@@ -110,17 +110,28 @@ fn a_flow_shop_file_has_its_first_fault(rt: HostRuntime) {
 }
 
 fn is_read(read: Result<Instance, ReadFault>, machines: u32, times: &[Times]) -> bool {
-    read.is_ok_and(|instance| {
-        instance.machines() == Some(machines)
-            && instance.len() == times.len()
-            && instance.jobs().iter().zip(times).all(|(job, times)| {
-                job.times == *times
-                    && job.weight.is_none()
-                    && job.due.is_none()
-                    && job.release.is_none()
-                    && job.cost.is_none()
-            })
-    })
+    match read {
+        Ok(instance) => instance.machines() == Some(machines) && have_times(instance.jobs(), times),
+        Err(_) => false,
+    }
+}
+
+/// The jobs have these times, and nothing else.
+fn have_times(jobs: &[Job], times: &[Times]) -> bool {
+    for (job, times) in jobs.iter().zip(times) {
+        if !has_times(job, times) {
+            return false;
+        }
+    }
+    jobs.len() == times.len()
+}
+
+fn has_times(job: &Job, times: &Times) -> bool {
+    job.times == *times
+        && job.weight.is_none()
+        && job.due.is_none()
+        && job.release.is_none()
+        && job.cost.is_none()
 }
 
 /// Files with an instance `demo` that is read: its machines and times.

@@ -1,6 +1,7 @@
 //! Job tables.
 use crate::refused::{holds, is_refused, table_of};
 use std::alloc::{AllocError, Global};
+use std::process::Abort;
 use std::test::Fail;
 use tf_model::ids::JobId;
 use tf_model::instance::Instance;
@@ -64,26 +65,27 @@ const TABLES: &[(&str, ReadFault)] = &[
     ),
 ];
 
-/// Tables with bytes that are no text.
-const BYTES: &[(&[u8], ReadFault)] = &[
-    (b"\xff", ReadFault::BadLine(1)),
-    (b"\0table 1\njob 1 p=1", ReadFault::BadLine(1)),
-    (b"table 1\njob 1 p=\0", ReadFault::BadNumber(2)),
-    (b"table 1\njob 1 p=1\xff", ReadFault::BadNumber(2)),
-    (b"table 1\njob 1 p=x\n\xff", ReadFault::BadNumber(2)),
+/// Tables with bytes that are no text, and fronts of tables with so many digits behind them.
+const BYTES: &[(&[u8], usize, ReadFault)] = &[
+    (b"\xff", 0, ReadFault::BadLine(1)),
+    (b"\0table 1\njob 1 p=1", 0, ReadFault::BadLine(1)),
+    (b"table 1\njob 1 p=\0", 0, ReadFault::BadNumber(2)),
+    (b"table 1\njob 1 p=1\xff", 0, ReadFault::BadNumber(2)),
+    (b"table 1\njob 1 p=x\n\xff", 0, ReadFault::BadNumber(2)),
+    (b"table 1\njob 1 p=", 10_000, ReadFault::NumberTooLarge(2)),
+    (b"table 1\njob 1 p=-", 10_000, ReadFault::NumberTooLarge(2)),
+    (b"table 1\nmachines ", 10_000, ReadFault::BadLine(2)),
 ];
 
-/// The front of a table whose next word has 10,000 digits.
-const LONG: &[(&[u8], ReadFault)] = &[
-    (b"table 1\njob 1 p=", ReadFault::NumberTooLarge(2)),
-    (b"table 1\njob 1 p=-", ReadFault::NumberTooLarge(2)),
-    (b"table 1\nmachines ", ReadFault::BadLine(2)),
-];
-
-/// A text, and 10,000 times a digit behind it.
-fn with_digits(alloc: Global, front: &[u8], digit: u8) -> Result<Vec<u8>, AllocError> {
+/// A text, and so many times a digit behind it.
+fn with_digits(
+    alloc: Global,
+    front: &[u8],
+    digit: u8,
+    count: usize,
+) -> Result<Vec<u8>, AllocError> {
     let mut text = Vec::from_slice(alloc, front)?;
-    for _ in 0..10_000 {
+    for _ in 0..count {
         text.push(digit)?;
     }
     Ok(text)
@@ -174,43 +176,50 @@ const JOBS: &[(&str, ReadFault)] = &[
     ("job 1 h=5,3:4", ReadFault::BadCost(2)),
 ];
 
-/// A table whose last word has 10,000 digits has this fault.
-fn is_refused_long(alloc: Global, front: &[u8], fault: ReadFault) -> Result<bool, AllocError> {
-    let text = with_digits(alloc, front, b'9')?;
+/// The text with so many digits behind it has this fault.
+fn is_refused_with(
+    alloc: Global,
+    front: &[u8],
+    digits: usize,
+    fault: ReadFault,
+) -> Result<bool, AllocError> {
+    let text = with_digits(alloc, front, b'9', digits)?;
     Ok(is_refused(read_table(alloc, &text), fault))
+}
+
+/// Each of the texts has its fault where it stands between these two.
+fn are_refused(
+    rt: &(impl Abort + AllocGlobal),
+    before: &str,
+    texts: &[(&str, ReadFault)],
+    behind: &str,
+) {
+    for (text, fault) in texts {
+        let read = table_of(rt.alloc(), &[before, text, behind]);
+        holds(rt, is_refused(read, *fault), text);
+    }
 }
 
 #[test]
 fn a_table_has_its_first_fault(rt: HostRuntime) -> Result<(), Fail> {
-    let alloc = rt.alloc();
-    for (text, fault) in TABLES {
-        holds(
-            &rt,
-            is_refused(read_table(alloc, text.as_bytes()), *fault),
-            text,
-        );
-    }
-    for (text, fault) in BYTES {
-        assert!(rt; is_refused(read_table(alloc, text), *fault));
-    }
-    for (front, fault) in LONG {
-        assert!(rt; is_refused_long(alloc, front, *fault)?);
-    }
-    for (line, fault) in JOBS {
-        let read = table_of(alloc, &["table 1\n", line, "\njob 2 p=x"]);
-        holds(&rt, is_refused(read, *fault), line);
+    are_refused(&rt, "", TABLES, "");
+    are_refused(&rt, "table 1\n", JOBS, "\njob 2 p=x");
+    for (front, digits, fault) in BYTES {
+        assert!(rt; is_refused_with(rt.alloc(), front, *digits, *fault)?);
     }
     Ok(())
 }
 
 fn is_read(read: Result<Instance, ReadFault>, machines: Option<u32>, times: Times) -> bool {
-    read.is_ok_and(|instance| {
-        instance.machines() == machines
-            && instance
-                .jobs()
-                .first()
-                .is_some_and(|job| job.times == times)
-    })
+    match read {
+        Ok(instance) => instance.machines() == machines && has_first(instance.jobs(), times),
+        Err(_) => false,
+    }
+}
+
+/// The first job has these times.
+fn has_first(jobs: &[Job], times: Times) -> bool {
+    jobs.first().is_some_and(|job| job.times == times)
 }
 
 /// Tables that are read: the number of machines and the times of job 1.
@@ -253,7 +262,7 @@ const READ: &[(&str, Option<u32>, Times)] = &[
 
 /// Leading zeros are allowed without end.
 fn is_read_long(alloc: Global) -> Result<bool, AllocError> {
-    let mut text = with_digits(alloc, b"table 1\njob 1 p=", b'0')?;
+    let mut text = with_digits(alloc, b"table 1\njob 1 p=", b'0', 10_000)?;
     text.push(b'4')?;
     Ok(is_read(read_table(alloc, &text), None, Times::One(4)))
 }
@@ -271,9 +280,14 @@ fn a_table_is_read(rt: HostRuntime) -> Result<(), Fail> {
 #[test]
 fn each_field_is_read(rt: HostRuntime) {
     let text = b"table 1\njob 1 h=-1,2:-1,3:4 r=03 d=-5 w=6 p=7,8\njob 2 p=1\nprec 2 1\nprec 2 1";
-    let is_so = read_table(rt.alloc(), text).is_ok_and(|instance| has_fields(instance.jobs())
-        && has_arcs(instance.arcs()));
-    assert!(rt; is_so);
+    assert!(rt; has_all(read_table(rt.alloc(), text)));
+}
+
+fn has_all(read: Result<Instance, ReadFault>) -> bool {
+    match read {
+        Ok(instance) => has_fields(instance.jobs()) && has_arcs(instance.arcs()),
+        Err(_) => false,
+    }
 }
 
 /// Of two jobs the first has all fields and the second none but its time.

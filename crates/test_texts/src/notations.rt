@@ -104,7 +104,10 @@ fn is_read(text: &str, wanted: &Problem) -> bool {
 
 /// The notation with these conditions is read.
 fn has_conditions(alloc: Global, words: &str, named: Named) -> bool {
-    joined(alloc, &["1|", words, "|Cmax"]).is_ok_and(|text| is_read(&text, &with_conditions(named)))
+    match joined(alloc, &["1|", words, "|Cmax"]) {
+        Ok(text) => is_read(&text, &with_conditions(named)),
+        Err(_) => false,
+    }
 }
 
 #[test]
@@ -139,12 +142,18 @@ const CANONICAL: &[(&str, &str)] = &[
 
 /// The text of this problem is written so.
 fn is_written(alloc: Global, problem: &Problem, wanted: &str) -> bool {
-    notation_text(alloc, problem).is_ok_and(|text| text.as_str() == wanted)
+    match notation_text(alloc, problem) {
+        Ok(text) => text.as_str() == wanted,
+        Err(_) => false,
+    }
 }
 
 /// What this text means is written so.
 fn is_canonical(alloc: Global, text: &str, wanted: &str) -> bool {
-    read(text.as_bytes()).is_ok_and(|problem| is_written(alloc, &problem, wanted))
+    match read(text.as_bytes()) {
+        Ok(problem) => is_written(alloc, &problem, wanted),
+        Err(_) => false,
+    }
 }
 
 #[test]

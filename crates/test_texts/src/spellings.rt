@@ -1,10 +1,11 @@
 //! The same line in many spellings: with one blank between its words, digits and a line feed, as
 //! lines mostly are, and otherwise.
-use crate::refused::{answer_of, holds, is_refused, table_of};
+use crate::refused::{answer_of, holds, is_refused, is_refused_answer, table_of};
+use std::alloc::Global;
 use tf_model::cost::Cost;
 use tf_model::ids::{JobId, MachineId};
 use tf_model::instance::Instance;
-use tf_model::job::Times;
+use tf_model::job::{Job, Times};
 use tf_read::fault::ReadFault;
 use tf_schedule::piece::Piece;
 use tf_text::answer::fault::AnswerFault;
@@ -41,20 +42,33 @@ const WANTED: Fields = (Times::Two(5, 0), Some(3), Some(7), Some(2));
 
 /// A table whose first job has these fields was read.
 fn has_job(read: Result<Instance, ReadFault>, fields: Fields) -> bool {
-    read.is_ok_and(|table| {
-        table.jobs().first().is_some_and(|job| {
-            (job.times, job.weight, job.due, job.release) == fields
-        })
-    })
+    match read {
+        Ok(table) => has_first(table.jobs(), fields),
+        Err(_) => false,
+    }
 }
 
+fn has_first(jobs: &[Job], fields: Fields) -> bool {
+    match jobs.first() {
+        Some(job) => (job.times, job.weight, job.due, job.release) == fields,
+        None => false,
+    }
+}
+
+/// A table of two jobs was read.
 fn has_two_jobs(read: Result<Instance, ReadFault>) -> bool {
-    read.is_ok_and(|table| table.jobs().len() == 2)
+    match read {
+        Ok(table) => table.jobs().len() == 2,
+        Err(_) => false,
+    }
 }
 
 /// A table whose one arc is from job 2 to job 1 was read.
 fn has_arc(read: Result<Instance, ReadFault>) -> bool {
-    read.is_ok_and(|table| table.arcs() == [(JobId::at(1), JobId::at(0))].as_slice())
+    match read {
+        Ok(table) => table.arcs() == [(JobId::at(1), JobId::at(0))].as_slice(),
+        Err(_) => false,
+    }
 }
 
 /// Spellings of the cost 4 before 3, 5 from there on and 70 from 10 on.
@@ -99,25 +113,33 @@ const ARCS: &[&str] = &[
     "prec 000000000000000002 0000000000000000001\n",
 ];
 
+/// The line of job 1 is read alone, and before one of job 2.
+fn is_job(alloc: Global, line: &str) -> bool {
+    has_job(table_of(alloc, &["table 1\n", line]), WANTED)
+        && has_two_jobs(table_of(alloc, &["table 1\n", line, "\njob 2 p=1"]))
+}
+
+fn is_cost_of(alloc: Global, cost: &str) -> bool {
+    match table_of(alloc, &["table 1\njob 1 p=1 h=", cost, " w=6\n"]) {
+        Ok(table) => is_cost(&table),
+        Err(_) => false,
+    }
+}
+
+fn is_arc(alloc: Global, line: &str) -> bool {
+    has_arc(table_of(alloc, &["table 1\njob 1 p=1\njob 2 p=1\n", line]))
+}
+
 #[test]
 fn a_line_of_a_table_is_the_same_in_each_spelling(rt: HostRuntime) {
-    let alloc = rt.alloc();
     for line in JOBS {
-        holds(
-            &rt,
-            has_job(table_of(alloc, &["table 1\n", line]), WANTED),
-            line,
-        );
-        let two = table_of(alloc, &["table 1\n", line, "\njob 2 p=1"]);
-        holds(&rt, has_two_jobs(two), line);
+        holds(&rt, is_job(rt.alloc(), line), line);
     }
     for cost in COSTS {
-        let read = table_of(alloc, &["table 1\njob 1 p=1 h=", cost, " w=6\n"]);
-        holds(&rt, read.is_ok_and(|table| is_cost(&table)), cost);
+        holds(&rt, is_cost_of(rt.alloc(), cost), cost);
     }
     for line in ARCS {
-        let read = table_of(alloc, &["table 1\njob 1 p=1\njob 2 p=1\n", line]);
-        holds(&rt, has_arc(read), line);
+        holds(&rt, is_arc(rt.alloc(), line), line);
     }
 }
 
@@ -142,12 +164,22 @@ const PIECES: &[&str] = &[
     "piece 0000000000000000002 7 0 4",
 ];
 
-/// An answer of this one piece was read.
-fn has_piece(read: Result<Sheet, AnswerFault>, piece: &Piece) -> bool {
-    read.is_ok_and(|sheet| {
-        let pieces = sheet.answer.pieces.as_slice();
-        pieces.len() == 1 && pieces.first() == Some(piece)
-    })
+/// The piece of an answer that was read, where it has one.
+fn only_piece(read: Result<Sheet, AnswerFault>) -> Option<Piece> {
+    match read {
+        Ok(sheet) => match sheet.answer.pieces.as_slice() {
+            [piece] => Some(*piece),
+            _ => None,
+        },
+        Err(_) => None,
+    }
+}
+
+fn is_piece(read: Result<Sheet, AnswerFault>, wanted: &Piece) -> bool {
+    match only_piece(read) {
+        Some(piece) => piece == *wanted,
+        None => false,
+    }
 }
 
 #[test]
@@ -160,7 +192,7 @@ fn a_piece_is_the_same_in_each_spelling(rt: HostRuntime) {
     };
     for line in PIECES {
         let read = answer_of(rt.alloc(), &[BEFORE, line, BEHIND]);
-        holds(&rt, has_piece(read, &piece), line);
+        holds(&rt, is_piece(read, &piece), line);
     }
 }
 
@@ -184,15 +216,11 @@ fn has_time(read: Result<Instance, ReadFault>, time: Option<i64>) -> bool {
     }
 }
 
-/// The first piece stops at this time, or it is too large.
+/// The piece stops at this time, or it is too large.
 fn stops_at(read: Result<Sheet, AnswerFault>, stop: Option<i64>) -> bool {
-    match (read, stop) {
-        (Err(fault), None) => fault == AnswerFault::NumberTooLarge(6),
-        (Ok(sheet), Some(stop)) => {
-            let first = sheet.answer.pieces.as_slice().first();
-            first.is_some_and(|piece| piece.stop == stop)
-        }
-        _ => false,
+    match stop {
+        None => is_refused_answer(read, AnswerFault::NumberTooLarge(6)),
+        Some(stop) => only_piece(read).is_some_and(|piece| piece.stop == stop),
     }
 }
 

@@ -1,7 +1,7 @@
 //! Weighted tardiness files.
 use crate::refused::{holds, is_refused};
 use tf_model::instance::Instance;
-use tf_model::job::Times;
+use tf_model::job::{Job, Times};
 use tf_read::fault::ReadFault;
 use tf_read::weighted_tardiness::read_wt;
 
@@ -106,30 +106,39 @@ const READ: &[(&str, u32, u32, FirstJob)] = &[
 ];
 
 fn is_read(read: Result<Instance, ReadFault>, jobs: u32, wanted: FirstJob) -> bool {
-    let (time, weight, due) = wanted;
-    read.is_ok_and(|instance| {
-        instance.len() == jobs as usize
-            && instance.machines().is_none()
-            && instance.arcs().is_empty()
-            && instance.jobs().first().is_some_and(|job| {
-                job.times == Times::One(time)
-                    && job.weight == Some(weight)
-                    && job.due == Some(due)
-                    && job.release.is_none()
-                    && job.cost.is_none()
-            })
-    })
+    match read {
+        Ok(instance) => {
+            instance.len() == jobs as usize
+                && instance.machines().is_none()
+                && instance.arcs().is_empty()
+                && instance
+                    .jobs()
+                    .first()
+                    .is_some_and(|job| is_job(job, wanted))
+        }
+        Err(_) => false,
+    }
 }
 
-/// An instance of these jobs was read, each with its processing time, weight and due date.
-fn has_jobs(read: Result<Instance, ReadFault>, wanted: &[FirstJob]) -> bool {
-    read.is_ok_and(|instance| {
-        instance.len() == wanted.len()
-            && instance.jobs().iter().zip(wanted).all(|(job, fields)| {
-                (job.times, job.weight, job.due)
-                    == (Times::One(fields.0), Some(fields.1), Some(fields.2))
-            })
-    })
+fn is_job(job: &Job, wanted: FirstJob) -> bool {
+    job.times == Times::One(wanted.0)
+        && job.weight == Some(wanted.1)
+        && job.due == Some(wanted.2)
+        && job.release.is_none()
+        && job.cost.is_none()
+}
+
+/// An instance of these three jobs was read, each with its processing time, weight and due date.
+fn has_jobs(read: Result<Instance, ReadFault>, wanted: [FirstJob; 3]) -> bool {
+    match read {
+        Ok(instance) => match instance.jobs() {
+            [one, two, three] => {
+                is_job(one, wanted[0]) && is_job(two, wanted[1]) && is_job(three, wanted[2])
+            }
+            _ => false,
+        },
+        Err(_) => false,
+    }
 }
 
 #[test]
@@ -139,7 +148,7 @@ fn a_file_is_read(rt: HostRuntime) {
         holds(&rt, is_read(read, *jobs, *wanted), text);
     }
     let first = read_wt(rt.alloc(), TWO_INSTANCES.as_bytes(), 3, 1);
-    assert!(rt; has_jobs(first, &[(2, 1, 5), (3, 2, -2), (1, 4, 9)]));
+    assert!(rt; has_jobs(first, [(2, 1, 5), (3, 2, -2), (1, 4, 9)]));
     let second = read_wt(rt.alloc(), TWO_INSTANCES.as_bytes(), 3, 2);
-    assert!(rt; has_jobs(second, &[(4, 2, 6), (1, 2, 7), (3, 3, 8)]));
+    assert!(rt; has_jobs(second, [(4, 2, 6), (1, 2, 7), (3, 3, 8)]));
 }
