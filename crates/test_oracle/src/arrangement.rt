@@ -10,10 +10,8 @@ fn end_without_rise(cells: &[Cell]) -> usize
     ensures { result ≤ length cells.now }
 {
     let mut start = 0;
-    for (place, pair) in (1..).zip(cells.windows(2)) {
-        if let [left, right] = pair
-            && left < right
-        {
+    for place in 1..cells.len() {
+        if cells[place - 1] < cells[place] {
             start = place;
         }
     }
@@ -29,10 +27,11 @@ pub fn advance(cells: &mut [Cell]) -> bool {
         end.reverse();
         return false;
     };
-    if let Some(place) = end.iter().rposition(|cell| *cell > *pivot)
-        && let Some(above) = end.get_mut(place)
-    {
-        mem::swap(pivot, above);
+    for cell in end.iter_mut().rev() {
+        if *cell > *pivot {
+            mem::swap(pivot, cell);
+            break;
+        }
     }
     end.reverse();
     true

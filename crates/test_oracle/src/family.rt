@@ -118,22 +118,39 @@ impl Family {
         }
     }
 
+    fn jobs(&self, alloc: Global, choices: &mut Choices) -> Result<Vec<SmallJob>, AllocError> {
+        let mut jobs = Vec::new(alloc);
+        for number in 1..=self.jobs {
+            if let Some(id) = JobId::new(number) {
+                jobs.push(self.job(id, choices))?;
+            }
+        }
+        Ok(jobs)
+    }
+
+    fn arcs(
+        &self,
+        alloc: Global,
+        jobs: &[SmallJob],
+        choices: &mut Choices,
+    ) -> Result<Vec<(JobId, JobId)>, AllocError> {
+        let mut arcs = Vec::new(alloc);
+        for before in jobs {
+            for after in jobs {
+                if self.may_have(before.id, after.id) && choices.pick(&[false, true], false) {
+                    arcs.push((before.id, after.id))?;
+                }
+            }
+        }
+        Ok(arcs)
+    }
+
     /// The task of a number, or none where its jobs take too long. The numbers of all tasks are
     /// below the answer of [`Family::count`].
     pub fn task(&self, alloc: Global, number: u64) -> Result<Option<SmallTask>, AllocError> {
         let mut choices = Choices { rest: number };
-        let mut jobs = Vec::new(alloc);
-        for id in (1..=self.jobs).filter_map(JobId::new) {
-            jobs.push(self.job(id, &mut choices))?;
-        }
-        let mut arcs = Vec::new(alloc);
-        for before in (1..=self.jobs).filter_map(JobId::new) {
-            for after in (1..=self.jobs).filter_map(JobId::new) {
-                if self.may_have(before, after) && choices.pick(&[false, true], false) {
-                    arcs.push((before, after))?;
-                }
-            }
-        }
+        let jobs = self.jobs(alloc, &mut choices)?;
+        let arcs = self.arcs(alloc, &jobs, &mut choices)?;
         let task = SmallTask {
             kind: self.kind,
             jobs,
@@ -152,19 +169,17 @@ impl Family {
             self.release.len(),
             self.cost.len(),
         ];
-        let mut count: u64 = 1;
-        for _ in 0..self.jobs {
-            for values in choices {
-                count = count.saturating_mul((values as u64).max(1));
-            }
+        let mut of_a_job: u64 = 1;
+        for values in &choices {
+            of_a_job = of_a_job.saturating_mul((*values as u64).max(1));
         }
-        for before in (1..=self.jobs).filter_map(JobId::new) {
-            for after in (1..=self.jobs).filter_map(JobId::new) {
-                if self.may_have(before, after) {
-                    count = count.saturating_mul(2);
-                }
-            }
-        }
-        count
+        let jobs = u64::from(self.jobs);
+        let arcs = match self.arcs {
+            Arcs::Absent => 0,
+            Arcs::Between => jobs.saturating_mul(jobs.saturating_sub(1)),
+            Arcs::All => jobs.saturating_mul(jobs),
+        };
+        let of_arcs = u32::try_from(arcs).map_or(u64::MAX, |arcs| 2u64.saturating_pow(arcs));
+        of_a_job.saturating_pow(self.jobs).saturating_mul(of_arcs)
     }
 }

@@ -1,6 +1,6 @@
 //! Small tasks and timetables in the program's own types.
 use crate::small_task::{Cost, Kind, Machines, Objective, SmallJob, SmallTask};
-use crate::timetable::Timetable;
+use crate::timetable::{Cell, Timetable};
 use std::alloc::{AllocError, Global};
 use std::test::Fail;
 use tf_model::cost::StepCost;
@@ -72,20 +72,33 @@ pub fn task_of(alloc: Global, task: &SmallTask) -> Result<Task, Fail> {
 /// A piece for each cell with a job.
 pub fn pieces_of(alloc: Global, timetable: &Timetable) -> Result<PieceList, AllocError> {
     let mut pieces = Vec::new(alloc);
-    for (number, line) in (1u32..).zip(timetable.lines()) {
-        let Some(machine) = MachineId::new(number) else {
-            continue;
-        };
-        for ((start, stop), cell) in (0i64..).zip(1i64..).zip(line) {
-            if let Some(job) = *cell {
-                pieces.push(Piece {
-                    job,
-                    machine,
-                    start,
-                    stop,
-                })?;
-            }
+    let mut number: u32 = 0;
+    for line in timetable.lines() {
+        number = number.saturating_add(1);
+        if let Some(machine) = MachineId::new(number) {
+            push_pieces(&mut pieces, machine, line)?;
         }
     }
     Ok(PieceList::new(pieces))
+}
+
+fn push_pieces(
+    pieces: &mut Vec<Piece>,
+    machine: MachineId,
+    line: &[Cell],
+) -> Result<(), AllocError> {
+    let mut start: i64 = 0;
+    for cell in line {
+        let stop = start.saturating_add(1);
+        if let Some(job) = *cell {
+            pieces.push(Piece {
+                job,
+                machine,
+                start,
+                stop,
+            })?;
+        }
+        start = stop;
+    }
+    Ok(())
 }

@@ -33,39 +33,63 @@ pub fn lists(alloc: Global, jobs: u32) -> Result<Vec<Vec<JobId>>, AllocError> {
     Ok(lists)
 }
 
+/// The certificates over a list.
 fn push_for_list(
     alloc: Global,
     certificates: &mut Vec<Certificate>,
     list: &[JobId],
 ) -> Result<(), AllocError> {
-    let jobs = JobList::new(Vec::from_slice(alloc, list)?);
+    let jobs = list_of(alloc, list)?;
     certificates.push(Certificate::LastOf(LastOf { jobs }))?;
-    let jobs = JobList::new(Vec::from_slice(alloc, list)?);
+    let jobs = list_of(alloc, list)?;
     certificates.push(Certificate::Window(Window { jobs }))?;
-    let jobs = JobList::new(Vec::from_slice(alloc, list)?);
+    let jobs = list_of(alloc, list)?;
     certificates.push(Certificate::Ranks(Ranks { jobs }))?;
-    for delta in DELTAS {
-        for first in [false, true] {
-            let side = JobList::new(Vec::from_slice(alloc, list)?);
-            certificates.push(Certificate::Split(Split { side, delta, first }))?;
-        }
+    for delta in &DELTAS {
+        push_splits(alloc, certificates, list, *delta)?;
     }
     Ok(())
+}
+
+fn push_splits(
+    alloc: Global,
+    certificates: &mut Vec<Certificate>,
+    list: &[JobId],
+    delta: i64,
+) -> Result<(), AllocError> {
+    for first in &[false, true] {
+        let (side, first) = (list_of(alloc, list)?, *first);
+        certificates.push(Certificate::Split(Split { side, delta, first }))?;
+    }
+    Ok(())
+}
+
+fn list_of(alloc: Global, list: &[JobId]) -> Result<JobList, AllocError> {
+    Ok(JobList::new(Vec::from_slice(alloc, list)?))
 }
 
 /// All certificates whose lists are of at most three jobs.
 pub fn certificates(alloc: Global, jobs: u32) -> Result<Vec<Certificate>, AllocError> {
     let mut certificates = Vec::new(alloc);
-    certificates.push(Certificate::Pairs(Pairs))?;
-    certificates.push(Certificate::Load(Load))?;
-    for machine in (1..4).filter_map(MachineId::new) {
-        certificates.push(Certificate::Machine(MachineLoad { machine }))?;
-    }
-    for job in (1..=jobs.saturating_add(1)).filter_map(JobId::new) {
-        certificates.push(Certificate::OneJob(OneJob { job }))?;
-    }
+    push_without_lists(&mut certificates, jobs)?;
     for list in lists(alloc, jobs)?.iter() {
         push_for_list(alloc, &mut certificates, list)?;
     }
     Ok(certificates)
+}
+
+/// The certificates without a list: of machines 1 to 3, of each job, and of all of them.
+fn push_without_lists(certificates: &mut Vec<Certificate>, jobs: u32) -> Result<(), AllocError> {
+    certificates.push(Certificate::Pairs(Pairs))?;
+    certificates.push(Certificate::Load(Load))?;
+    for place in 0..3 {
+        let machine = MachineId::at(place);
+        certificates.push(Certificate::Machine(MachineLoad { machine }))?;
+    }
+    for number in 1..=jobs.saturating_add(1) {
+        if let Some(job) = JobId::new(number) {
+            certificates.push(Certificate::OneJob(OneJob { job }))?;
+        }
+    }
+    Ok(())
 }

@@ -1,7 +1,8 @@
 //! The classes of one machine.
-use super::trial::{counts, examine_both, examine_own};
+use super::trial::{Row, counts, examine_both, examine_own, examine_row};
 use crate::family::{Arcs, Family};
 use crate::small_task::{Cost, Kind, Objective};
+use std::process::Abort;
 use std::test::Fail;
 
 const COMPLETIONS: Family = Family {
@@ -73,87 +74,69 @@ const ORDERED_COST: Family = Family {
     ..COST
 };
 
+/// The classes with and without preemption.
+const ROWS: &[Row] = &[
+    Row {
+        family: COMPLETIONS,
+        own: [29, 4_623, 468, 29],
+        any: [9, 946, 42, 9],
+        broken: [4_623, 109],
+    },
+    Row {
+        family: WEIGHTED_COMPLETIONS,
+        own: [549, 118_125, 11_520, 549],
+        any: [63, 8_346, 342, 63],
+        broken: [118_125, 927],
+    },
+    Row {
+        family: LATENESS,
+        own: [584, 88_916, 12_688, 17_688],
+        any: [72, 6_960, 400, 792],
+        broken: [88_916, 980],
+    },
+    Row {
+        family: ORDERED_LATENESS,
+        own: [3_652, 381_898, 10_952, 93_756],
+        any: [68, 6_936, 200, 684],
+        broken: [26_778, 378],
+    },
+    Row {
+        family: COST,
+        own: [258, 37_653, 5_412, 7_578],
+        any: [42, 3_924, 228, 450],
+        broken: [37_653, 555],
+    },
+    Row {
+        family: ORDERED_COST,
+        own: [3_652, 381_898, 10_952, 93_756],
+        any: [68, 6_936, 200, 684],
+        broken: [26_778, 378],
+    },
+];
+
 #[test]
-fn total_completion_time_is_least(rt: HostRuntime) -> Result<(), Fail> {
-    let (own, any) = (counts(29, 4_623, 468, 29), counts(9, 946, 42, 9));
-    examine_both(&rt, &COMPLETIONS, own, any)?;
-    let (own, any) = (counts(29, 4_623, 4_623, 29), counts(9, 946, 109, 9));
-    examine_both(&rt, &COMPLETIONS.with_breaks(), own, any)?;
-    let (own, any) = (
-        counts(549, 118_125, 11_520, 549),
-        counts(63, 8_346, 342, 63),
-    );
-    examine_both(&rt, &WEIGHTED_COMPLETIONS, own, any)?;
-    let (own, any) = (
-        counts(549, 118_125, 118_125, 549),
-        counts(63, 8_346, 927, 63),
-    );
-    examine_both(&rt, &WEIGHTED_COMPLETIONS.with_breaks(), own, any)
+fn each_objective_is_least(rt: HostRuntime) -> Result<(), Fail> {
+    for row in ROWS {
+        examine_row(&rt, row)?;
+    }
+    Ok(())
 }
 
 #[test]
-fn greatest_lateness_is_least(rt: HostRuntime) -> Result<(), Fail> {
-    let (own, any) = (
-        counts(584, 88_916, 12_688, 17_688),
-        counts(72, 6_960, 400, 792),
-    );
-    examine_both(&rt, &LATENESS, own, any)?;
-    let (own, any) = (
-        counts(584, 88_916, 88_916, 17_688),
-        counts(72, 6_960, 980, 792),
-    );
-    examine_both(&rt, &LATENESS.with_breaks(), own, any)?;
-    let (own, any) = (
-        counts(3_652, 381_898, 10_952, 93_756),
-        counts(68, 6_936, 200, 684),
-    );
-    examine_both(&rt, &ORDERED_LATENESS, own, any)?;
-    let (own, any) = (
-        counts(3_652, 381_898, 26_778, 93_756),
-        counts(68, 6_936, 378, 684),
-    );
-    examine_both(&rt, &ORDERED_LATENESS.with_breaks(), own, any)?;
+fn greatest_lateness_of_released_jobs_is_least(rt: HostRuntime) -> Result<(), Fail> {
     let own = counts(1_020, 465_644, 169_630, 30_276);
     let any = counts(156, 250_824, 5_086, 1_764);
     examine_both(&rt, &RELEASED_LATENESS, own, any)
 }
 
-#[test]
-fn greatest_cost_is_least(rt: HostRuntime) -> Result<(), Fail> {
-    let (own, any) = (
-        counts(258, 37_653, 5_412, 7_578),
-        counts(42, 3_924, 228, 450),
-    );
-    examine_both(&rt, &COST, own, any)?;
-    let (own, any) = (
-        counts(258, 37_653, 37_653, 7_578),
-        counts(42, 3_924, 555, 450),
-    );
-    examine_both(&rt, &COST.with_breaks(), own, any)?;
-    let (own, any) = (
-        counts(3_652, 381_898, 10_952, 93_756),
-        counts(68, 6_936, 200, 684),
-    );
-    examine_both(&rt, &ORDERED_COST, own, any)?;
-    let (own, any) = (
-        counts(3_652, 381_898, 26_778, 93_756),
-        counts(68, 6_936, 378, 684),
-    );
-    examine_both(&rt, &ORDERED_COST.with_breaks(), own, any)
-}
-
 /// Two jobs, with arcs from a job to itself among the arcs.
 #[test]
 fn arcs_from_a_job_to_itself_are_cycles(rt: HostRuntime) -> Result<(), Fail> {
-    let lateness = ORDERED_LATENESS.with_arcs(Arcs::All);
-    examine_own(&rt, 2, &lateness, counts(264, 3_860, 200, 1_452))?;
-    examine_own(
-        &rt,
-        2,
-        &lateness.with_breaks(),
-        counts(264, 3_860, 378, 1_452),
-    )?;
-    let cost = ORDERED_COST.with_arcs(Arcs::All);
-    examine_own(&rt, 2, &cost, counts(264, 3_860, 200, 1_452))?;
-    examine_own(&rt, 2, &cost.with_breaks(), counts(264, 3_860, 378, 1_452))
+    examine_cycles(&rt, &ORDERED_LATENESS.with_arcs(Arcs::All))?;
+    examine_cycles(&rt, &ORDERED_COST.with_arcs(Arcs::All))
+}
+
+fn examine_cycles(rt: &(impl Abort + AllocGlobal), family: &Family) -> Result<(), Fail> {
+    examine_own(rt, 2, family, counts(264, 3_860, 200, 1_452))?;
+    examine_own(rt, 2, &family.with_breaks(), counts(264, 3_860, 378, 1_452))
 }

@@ -1,7 +1,8 @@
 //! The classes of parallel machines.
-use super::trial::{counts, examine_both, examine_own};
+use super::trial::{Tally, counts, examine_both, examine_own};
 use crate::family::Family;
 use crate::small_task::{Kind, Machines, Objective};
+use std::process::Abort;
 use std::test::Fail;
 
 const MAKESPAN: Family = Family {
@@ -26,21 +27,32 @@ const COMPLETIONS: Family = Family {
 
 #[test]
 fn makespan_is_least(rt: HostRuntime) -> Result<(), Fail> {
-    examine_own(&rt, 3, &MAKESPAN, counts(29, 707, 707, 101))?;
-    let (own, any) = (
-        counts(29, 480_900, 328_874, 101),
-        counts(9, 21_306, 754, 24),
-    );
-    examine_both(&rt, &MAKESPAN.on(2), own, any)?;
-    let own = counts(21, 536_400, 356_163, 70);
-    examine_own(&rt, 3, &MAKESPAN.on(3).within(5), own)
+    let on_one = counts(29, 707, 707, 101);
+    let on_two = counts(29, 480_900, 328_874, 101);
+    let on_three = counts(21, 536_400, 356_163, 70);
+    let any = counts(9, 21_306, 754, 24);
+    examine_on(&rt, &MAKESPAN, [on_one, on_two, on_three], any)
 }
 
 #[test]
 fn total_completion_time_is_least(rt: HostRuntime) -> Result<(), Fail> {
-    examine_own(&rt, 3, &COMPLETIONS, counts(29, 707, 123, 486))?;
-    let (own, any) = (counts(29, 480_900, 4_968, 486), counts(9, 21_306, 112, 69));
-    examine_both(&rt, &COMPLETIONS.on(2), own, any)?;
-    let own = counts(21, 536_400, 10_707, 327);
-    examine_own(&rt, 3, &COMPLETIONS.on(3).within(5), own)
+    let on_one = counts(29, 707, 123, 486);
+    let on_two = counts(29, 480_900, 4_968, 486);
+    let on_three = counts(21, 536_400, 10_707, 327);
+    let any = counts(9, 21_306, 112, 69);
+    examine_on(&rt, &COMPLETIONS, [on_one, on_two, on_three], any)
+}
+
+/// Holds the answers on one, two and three machines against the timetables in which each job has
+/// its time, and those to small tasks on two machines against all.
+fn examine_on(
+    rt: &(impl Abort + AllocGlobal),
+    family: &Family,
+    own: [Tally; 3],
+    any: Tally,
+) -> Result<(), Fail> {
+    let [on_one, on_two, on_three] = own;
+    examine_own(rt, 3, family, on_one)?;
+    examine_both(rt, &family.on(2), on_two, any)?;
+    examine_own(rt, 3, &family.on(3).within(5), on_three)
 }

@@ -1,5 +1,5 @@
 //! The classes of shops of two machines.
-use super::trial::{counts, examine_both};
+use super::trial::{Row, examine_row};
 use crate::family::Family;
 use crate::small_task::{Kind, Machines, Objective};
 use std::test::Fail;
@@ -24,30 +24,25 @@ const OPEN_SHOP: Family = Family {
     ..FLOW_SHOP
 };
 
-#[test]
-fn makespan_of_a_flow_shop_is_least(rt: HostRuntime) -> Result<(), Fail> {
-    let (own, any) = (
-        counts(520, 557_943, 23_423, 30_345),
-        counts(59, 137_622, 226, 1_384),
-    );
-    examine_both(&rt, &FLOW_SHOP, own, any)?;
-    let (own, any) = (
-        counts(520, 557_943, 85_635, 30_345),
-        counts(59, 137_622, 360, 1_384),
-    );
-    examine_both(&rt, &FLOW_SHOP.with_breaks(), own, any)
-}
+const ROWS: &[Row] = &[
+    Row {
+        family: FLOW_SHOP,
+        own: [520, 557_943, 23_423, 30_345],
+        any: [59, 137_622, 226, 1_384],
+        broken: [85_635, 360],
+    },
+    Row {
+        family: OPEN_SHOP,
+        own: [520, 557_943, 82_555, 2_506],
+        any: [59, 137_622, 428, 227],
+        broken: [327_711, 716],
+    },
+];
 
 #[test]
-fn makespan_of_an_open_shop_is_least(rt: HostRuntime) -> Result<(), Fail> {
-    let (own, any) = (
-        counts(520, 557_943, 82_555, 2_506),
-        counts(59, 137_622, 428, 227),
-    );
-    examine_both(&rt, &OPEN_SHOP, own, any)?;
-    let (own, any) = (
-        counts(520, 557_943, 327_711, 2_506),
-        counts(59, 137_622, 716, 227),
-    );
-    examine_both(&rt, &OPEN_SHOP.with_breaks(), own, any)
+fn makespan_is_least(rt: HostRuntime) -> Result<(), Fail> {
+    for row in ROWS {
+        examine_row(&rt, row)?;
+    }
+    Ok(())
 }

@@ -17,6 +17,7 @@ use tf_engine::solve::{SolveFault, solve};
 use tf_model::ids::JobId;
 use tf_model::job_list::JobList;
 use tf_model::task::Task;
+use tf_schedule::piece_list::PieceList;
 
 /// How much was looked at. The numbers that the tests want were counted by a program in another
 /// language.
@@ -42,23 +43,33 @@ pub fn counts(tasks: u64, timetables: u64, fitting: u64, bounds: u64) -> Tally {
 
 // Each job precedes the next by an arc, and the last precedes the first.
 fn is_cycle(task: &SmallTask, jobs: &[JobId]) -> bool {
-    let next = jobs.iter().skip(1).chain(jobs.iter().take(1));
-    !jobs.is_empty()
-        && jobs
-            .iter()
-            .zip(next)
-            .all(|arc| task.arcs.contains(&(*arc.0, *arc.1)))
+    let Some(last) = jobs.last() else {
+        return false;
+    };
+    let mut before = *last;
+    for job in jobs {
+        if !task.arcs.contains(&(before, *job)) {
+            return false;
+        }
+        before = *job;
+    }
+    true
 }
 
 /// Some pieces, and a certificate that names job 1.
-fn any_answer(rt: &(impl Abort + AllocGlobal), small: &SmallTask) -> Result<Answer, AllocError> {
-    let jobs = JobList::new(vec![in rt.alloc(); JobId::at(0)]?);
-    let timetable = Timetable::first_of(rt.alloc(), small, 1)?;
+fn any_answer(alloc: Global, small: &SmallTask) -> Result<Answer, AllocError> {
+    let pieces = first_pieces(alloc, small)?;
+    let jobs = JobList::new(vec![in alloc; JobId::at(0)]?);
     Ok(Answer {
-        pieces: pieces_of(rt.alloc(), &timetable)?,
+        pieces,
         value: 0,
         certificate: Certificate::LastOf(LastOf { jobs }),
     })
+}
+
+fn first_pieces(alloc: Global, small: &SmallTask) -> Result<PieceList, AllocError> {
+    let timetable = Timetable::first_of(alloc, small, 1)?;
+    pieces_of(alloc, &timetable)
 }
 
 /// Which timetables are looked at.
@@ -116,10 +127,24 @@ impl Trial<'_> {
             Err(SolveFault::Cycle(jobs)) => {
                 let is_so = self.least.is_none() && is_cycle(self.small, jobs.as_slice());
                 self.holds(rt, is_so);
-                Ok(any_answer(rt, self.small)?)
+                Ok(any_answer(rt.alloc(), self.small)?)
             }
             Err(SolveFault::OutOfMemory) => Err(Fail::new("want of memory")),
         }
+    }
+
+    /// The program's answer is accepted where a timetable fits, and its certificate shows that no
+    /// other is better.
+    fn answer_holds(
+        &self,
+        rt: &(impl Abort + AllocGlobal),
+        timetables: Timetables,
+        tally: &mut Tally,
+    ) -> Result<(), Fail> {
+        let mut answer = self.answer(rt)?;
+        let is_accepted = self.is_accepted(rt, &answer)?;
+        self.holds(rt, is_accepted == self.least.is_some());
+        self.timetables_are_judged(rt, timetables, &mut answer, tally)
     }
 
     /// The checker accepts the answer's certificate with those timetables alone that fit and cost
@@ -189,17 +214,31 @@ fn examine(
     certificates: &[Certificate],
     tally: &mut Tally,
 ) -> Result<(), Fail> {
+    let least = least_cost(rt.alloc(), small)?;
     let trial = Trial {
         small,
         task: task_of(rt.alloc(), small)?,
-        least: least_cost(rt.alloc(), small)?,
+        least,
         number: tally.tasks,
     };
-    let mut answer = trial.answer(rt)?;
-    trial.holds(rt, trial.is_accepted(rt, &answer)? == trial.least.is_some());
-    trial.timetables_are_judged(rt, timetables, &mut answer, tally)?;
-    trial.bounds_hold(rt, certificates, tally);
     tally.tasks = tally.tasks.saturating_add(1);
+    trial.bounds_hold(rt, certificates, tally);
+    trial.answer_holds(rt, timetables, tally)
+}
+
+/// Examines all tasks of a family.
+fn examine_family(
+    rt: &(impl Abort + AllocGlobal),
+    timetables: Timetables,
+    family: &Family,
+    tally: &mut Tally,
+) -> Result<(), Fail> {
+    let certificates = certificates(rt.alloc(), family.jobs)?;
+    for number in 0..family.count() {
+        if let Some(task) = family.task(rt.alloc(), number)? {
+            examine(rt, timetables, &task, &certificates, tally)?;
+        }
+    }
     Ok(())
 }
 
@@ -213,13 +252,7 @@ fn examine_all(
 ) -> Result<(), Fail> {
     let mut tally = Tally::default();
     for jobs in 1..=most_jobs {
-        let family = family.of(jobs);
-        let certificates = certificates(rt.alloc(), jobs)?;
-        for number in 0..family.count() {
-            if let Some(task) = family.task(rt.alloc(), number)? {
-                examine(rt, timetables, &task, &certificates, &mut tally)?;
-            }
-        }
+        examine_family(rt, timetables, &family.of(jobs), &mut tally)?;
     }
     assert!(rt; tally == wanted, "{tally:?}");
     Ok(())
@@ -256,4 +289,37 @@ pub fn examine_both(
 ) -> Result<(), Fail> {
     examine_own(rt, 3, family, own)?;
     examine_any(rt, family, any)
+}
+
+/// A family, and how much is looked at of it: tasks, timetables, those that fit, and certificates
+/// that give a bound.
+pub struct Row {
+    pub family: Family,
+    /// With the timetables in which each job has its time.
+    pub own: [u64; 4],
+    /// Of small tasks with all timetables.
+    pub any: [u64; 4],
+    /// How many of either fit where jobs may be preempted. All else is the same then.
+    pub broken: [u64; 2],
+}
+
+fn tally_of(row: [u64; 4]) -> Tally {
+    let [tasks, timetables, fitting, bounds] = row;
+    counts(tasks, timetables, fitting, bounds)
+}
+
+/// Holds the answers to the family's tasks against timetables, without preemption and with it.
+pub fn examine_row(rt: &(impl Abort + AllocGlobal), row: &Row) -> Result<(), Fail> {
+    let (own, any) = (tally_of(row.own), tally_of(row.any));
+    examine_both(rt, &row.family, own, any)?;
+    let [fitting_own, fitting_any] = row.broken;
+    let own = Tally {
+        fitting: fitting_own,
+        ..own
+    };
+    let any = Tally {
+        fitting: fitting_any,
+        ..any
+    };
+    examine_both(rt, &row.family.with_breaks(), own, any)
 }
