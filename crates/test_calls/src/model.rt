@@ -42,13 +42,18 @@ pub fn timed(times: Times) -> Job {
     }
 }
 
-/// What refuses one job with these arcs and machines.
+/// What refuses one job of this weight and due date with these arcs and machines.
 fn refused_with(
     alloc: Global,
-    job: Job,
+    (weight, due): (Option<i64>, Option<i64>),
     arcs: &[(JobId, JobId)],
     machines: Option<u32>,
 ) -> Result<Option<InstanceFault>, AllocError> {
+    let job = Job {
+        weight,
+        due,
+        ..timed(Times::One(1))
+    };
     let jobs = vec![in alloc; job]?;
     let arcs = Vec::from_slice(alloc, arcs)?;
     Ok(Instance::new(jobs, arcs, machines).err())
@@ -56,31 +61,39 @@ fn refused_with(
 
 fn is_refused_with(
     alloc: Global,
-    job: Job,
+    fields: (Option<i64>, Option<i64>),
     arcs: &[(JobId, JobId)],
     machines: Option<u32>,
     fault: InstanceFault,
 ) -> bool {
-    refused_with(alloc, job, arcs, machines) == Ok(Some(fault))
+    refused_with(alloc, fields, arcs, machines) == Ok(Some(fault))
+}
+
+fn is_refused_without_jobs(alloc: Global) -> bool {
+    let refused = Instance::new(Vec::new(alloc), Vec::new(alloc), None).err();
+    refused == Some(InstanceFault::NoJobs)
 }
 
 #[test]
 fn an_instance_has_its_first_fault(rt: HostRuntime) {
-    let alloc = rt.alloc();
-    let first = JobId::at(0);
-    let fault = Instance::new(Vec::new(alloc), Vec::new(alloc), None).err();
-    assert!(rt; fault == Some(InstanceFault::NoJobs));
-    let one = timed(Times::One(1));
-    assert!(rt; is_refused_with(alloc, one, &[], Some(0), InstanceFault::TooManyMachines));
-    let one = timed(Times::One(1));
+    let (alloc, first) = (rt.alloc(), JobId::at(0));
+    assert!(rt; is_refused_without_jobs(alloc));
+    let plain = (None, None);
+    assert!(rt; is_refused_with(alloc, plain, &[], Some(0), InstanceFault::TooManyMachines));
     let arcs = [(first, JobId::at(1))];
-    assert!(rt; is_refused_with(alloc, one, &arcs, None, InstanceFault::BadArc(1)));
-    let mut job = timed(Times::One(1));
-    job.weight = Some(-1);
-    assert!(rt; is_refused_with(alloc, job, &[], None, InstanceFault::NegativeNumber(first)));
-    let mut job = timed(Times::One(1));
-    job.due = Some(-4_000_000_000_000_000_001);
-    assert!(rt; is_refused_with(alloc, job, &[], None, InstanceFault::OutOfRange(first)));
+    assert!(rt; is_refused_with(alloc, plain, &arcs, None, InstanceFault::BadArc(1)));
+    let negative = (Some(-1), None);
+    assert!(rt;
+        is_refused_with(
+            alloc,
+            negative,
+            &[],
+            None,
+            InstanceFault::NegativeNumber(first)
+        )
+    );
+    let beyond = (None, Some(-4_000_000_000_000_000_001));
+    assert!(rt; is_refused_with(alloc, beyond, &[], None, InstanceFault::OutOfRange(first)));
 }
 
 /// Whether 0 parallel machines are refused.

@@ -37,23 +37,30 @@ pub fn pieces(alloc: Global, rows: &[Row]) -> Result<Vec<Piece>, AllocError> {
 }
 
 /// Job 3 on machine 2 is the last piece, and the jobs of machine 2 are these from time -1 on.
-fn has_cells(schedule: &Schedule, jobs: [u32; 8]) -> bool {
-    let machine = MachineId::at(1);
-    schedule.length() == 6
-        && schedule.pieces().last() == piece(&(3, 2, 2, 6)).as_ref()
-        && (-1i64..7).zip(jobs).all(|(t, job)| schedule.cell(machine, t).map_or(0, JobId::get)
-            == job)
+fn has_cells(schedule: &Schedule, jobs: &[u32]) -> bool {
+    let mut time: i64 = -1;
+    for job in jobs {
+        if schedule.cell(MachineId::at(1), time).map_or(0, JobId::get) != *job {
+            return false;
+        }
+        time = time.saturating_add(1);
+    }
+    schedule.length() == 6 && schedule.pieces().last() == piece(&(3, 2, 2, 6)).as_ref()
+}
+
+fn is_schedule(pieces: Vec<Piece>, jobs: &[u32]) -> bool {
+    match Schedule::new(pieces) {
+        Ok(schedule) => has_cells(&schedule, jobs),
+        Err(_) => false,
+    }
 }
 
 #[test]
-fn pieces_may_touch(rt: HostRuntime) {
+fn pieces_may_touch(rt: HostRuntime) -> Result<(), Fail> {
     let rows = [(3, 2, 2, 6), (2, 1, 4, 6), (1, 1, 0, 4), (2, 2, 0, 2)];
-    let pieces = pieces(rt.alloc(), &rows).expect(&rt, "room");
-    let is_so = Schedule::new(pieces).is_ok_and(|schedule| has_cells(
-        &schedule,
-        [0, 2, 2, 3, 3, 3, 3, 0],
-    ));
-    assert!(rt; is_so);
+    let pieces = pieces(rt.alloc(), &rows)?;
+    assert!(rt; is_schedule(pieces, &[0, 2, 2, 3, 3, 3, 3, 0]));
+    Ok(())
 }
 
 fn fours(alloc: Global) -> Result<Vec<Job>, AllocError> {
