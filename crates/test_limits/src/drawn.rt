@@ -36,9 +36,10 @@ pub enum Machines {
     Shop,
 }
 
-/// The numbers of a job in the order in which they are drawn.
+/// A job, counted from 1, and its numbers in the order in which they are drawn.
 #[derive(Clone, Copy)]
 struct Numbers {
+    job: u32,
     time: u32,
     // In a shop, the time on machine 2.
     second: Option<u32>,
@@ -52,7 +53,7 @@ struct Numbers {
 }
 
 impl Numbers {
-    fn draw(draws: &mut Draws, machines: Machines) -> Numbers {
+    fn draw(draws: &mut Draws, machines: Machines, job: u32) -> Numbers {
         let (time, second) = if machines == Machines::Shop {
             (draws.below(50), Some(draws.below(50)))
         } else {
@@ -64,6 +65,7 @@ impl Numbers {
         let base = draws.below(100);
         let step = draws.below(1_000);
         Numbers {
+            job,
             time,
             second,
             weight,
@@ -81,7 +83,7 @@ impl Numbers {
 pub struct Drawn {
     machines: Machines,
     jobs: Vec<Numbers>,
-    before: Vec<u32>,
+    arcs: Vec<(u32, u32)>,
 }
 
 impl Drawn {
@@ -89,93 +91,69 @@ impl Drawn {
     pub fn new(alloc: Global, machines: Machines, count: u32) -> Result<Drawn, AllocError> {
         let mut draws = Draws::new();
         let mut jobs = Vec::new(alloc);
-        for _ in 0..count {
-            jobs.push(Numbers::draw(&mut draws, machines))?;
+        for before in 0..count {
+            jobs.push(Numbers::draw(&mut draws, machines, before + 1))?;
         }
-        let mut before = Vec::new(alloc);
+        let mut arcs = Vec::new(alloc);
         for earlier in 1..count {
-            before.push(1 + draws.below(earlier))?;
+            arcs.push((1 + draws.below(earlier), earlier + 1))?;
         }
         Ok(Drawn {
             machines,
             jobs,
-            before,
+            arcs,
         })
     }
 
     /// A job table of all fields and arcs.
-    pub fn table(&self, alloc: Global) -> Result<Vec<u8>, AllocError> {
-        let mut text = Vec::from_slice(alloc, b"table 1\n")?;
+    pub fn table(&self, alloc: Global) -> Result<String, AllocError> {
+        let mut text = String::from_str(alloc, "table 1\n")?;
         if self.machines == Machines::Seven {
-            text.extend_from_slice(b"machines 7\n")?;
+            text.push_str("machines 7\n")?;
         }
-        for (number, job) in (1u32..).zip(self.jobs.iter()) {
-            push_job(alloc, &mut text, number, job)?;
+        for numbers in &self.jobs {
+            push_job(&mut text, numbers)?;
         }
-        for (number, before) in (2u32..).zip(self.before.iter()) {
-            let line = format!(in alloc; "prec {before} {number}\n")?;
-            text.extend_from_slice(line.as_bytes())?;
+        for (before, after) in &self.arcs {
+            writeln!(text, "prec {before} {after}")?;
         }
         Ok(text)
     }
 
     /// The only instance of a weighted tardiness file.
-    pub fn tardiness(&self, alloc: Global) -> Result<Vec<u8>, AllocError> {
-        let mut text = Vec::new(alloc);
-        for job in self.jobs.iter() {
-            push_word(alloc, &mut text, job.time)?;
+    pub fn tardiness(&self, alloc: Global) -> Result<String, AllocError> {
+        let mut text = String::new(alloc);
+        for job in &self.jobs {
+            writeln!(text, "{}", job.time)?;
         }
-        for job in self.jobs.iter() {
-            push_word(alloc, &mut text, job.weight)?;
+        for job in &self.jobs {
+            writeln!(text, "{}", job.weight)?;
         }
-        for job in self.jobs.iter() {
-            push_word(alloc, &mut text, job.due)?;
+        for job in &self.jobs {
+            writeln!(text, "{}", job.due)?;
         }
         Ok(text)
     }
 
     /// A flow shop file of one instance, by the name `drawn`.
-    pub fn flow_shop(&self, alloc: Global) -> Result<Vec<u8>, AllocError> {
-        let head = format!(in alloc; "instance drawn\n{} 2\n", self.jobs.len())?;
-        let mut text = Vec::from_slice(alloc, head.as_bytes())?;
-        for job in self.jobs.iter() {
-            let second = job.second.unwrap_or(0);
-            let line = format!(in alloc; "0 {} 1 {second}\n", job.time)?;
-            text.extend_from_slice(line.as_bytes())?;
+    pub fn flow_shop(&self, alloc: Global) -> Result<String, AllocError> {
+        let mut text = String::from_str(alloc, "instance drawn\n")?;
+        writeln!(text, "{} 2", self.jobs.len())?;
+        for job in &self.jobs {
+            writeln!(text, "0 {} 1 {}", job.time, job.second.unwrap_or(0))?;
         }
         Ok(text)
     }
 }
 
-fn push_word(alloc: Global, text: &mut Vec<u8>, number: u32) -> Result<(), AllocError> {
-    let word = format!(in alloc; "{number}\n")?;
-    text.extend_from_slice(word.as_bytes())
-}
-
-fn push_job(
-    alloc: Global,
-    text: &mut Vec<u8>,
-    number: u32,
-    job: &Numbers,
-) -> Result<(), AllocError> {
-    let Numbers {
-        time,
-        weight,
-        due,
-        release,
-        base,
-        step,
-        later,
-        ..
-    } = *job;
-    let times = match job.second {
-        None => format!(in alloc; "{time}")?,
-        Some(second) => format!(in alloc; "{time},{second}")?,
-    };
-    let line = format!(in alloc;
-        "job {number} p={times} w={weight} d={due} r={release} h={base},{step}:{later}\n"
-    )?;
-    text.extend_from_slice(line.as_bytes())
+fn push_job(text: &mut String, numbers: &Numbers) -> Result<(), AllocError> {
+    write!(text, "job {} p={}", numbers.job, numbers.time)?;
+    if let Some(second) = numbers.second {
+        write!(text, ",{second}")?;
+    }
+    write!(text, " w={} d={}", numbers.weight, numbers.due)?;
+    write!(text, " r={} h={}", numbers.release, numbers.base)?;
+    writeln!(text, ",{}:{}", numbers.step, numbers.later)
 }
 
 #[cfg(test)]

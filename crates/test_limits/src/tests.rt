@@ -57,7 +57,7 @@ fn is_answered(
     Ok(answers(rt.alloc(), &request, table, &mut answer))
 }
 
-fn table_of(alloc: Global, machines: Machines, jobs: u32) -> Result<Vec<u8>, AllocError> {
+fn table_of(alloc: Global, machines: Machines, jobs: u32) -> Result<String, AllocError> {
     Drawn::new(alloc, machines, jobs)?.table(alloc)
 }
 
@@ -71,7 +71,7 @@ fn are_answered(
     let table = table_of(rt.alloc(), machines, jobs)?;
     for problem in problems {
         for layout in LAYOUTS {
-            ensure(is_answered(rt, problem, layout, &table)?, problem)?;
+            ensure(is_answered(rt, problem, layout, table.as_bytes())?, problem)?;
         }
     }
     Ok(())
@@ -101,11 +101,12 @@ fn answer_of(
     rt: &HostRuntime,
     problem: &'static str,
     given: Given,
-    text: &[u8],
+    text: &str,
 ) -> Result<Vec<u8>, Fail> {
     let request = request(rt, problem, given, Layout::Two)?;
     let mut answer = Vec::new(rt.alloc());
-    ensure(answers(rt.alloc(), &request, text, &mut answer), problem)?;
+    let is_answered = answers(rt.alloc(), &request, text.as_bytes(), &mut answer);
+    ensure(is_answered, problem)?;
     Ok(answer)
 }
 
@@ -113,9 +114,9 @@ fn answer_of(
 fn are_answered_alike(
     rt: &HostRuntime,
     problem: &'static str,
-    table: &[u8],
+    table: &str,
     given: Given,
-    file: &[u8],
+    file: &str,
 ) -> Result<bool, Fail> {
     let answer = answer_of(rt, problem, Given::Table, table)?;
     Ok(answer_of(rt, problem, given, file)? == answer)

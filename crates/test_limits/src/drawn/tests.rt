@@ -17,7 +17,7 @@ fn is_table(
     wanted: &[u8],
 ) -> Result<bool, AllocError> {
     let drawn = Drawn::new(alloc, machines, jobs)?;
-    Ok(drawn.table(alloc)?.as_slice() == wanted)
+    Ok(drawn.table(alloc)?.as_bytes() == wanted)
 }
 
 #[test]
