@@ -11,10 +11,8 @@ fn end_without_rise(turns: &[Turn]) -> usize
     ensures { result ≤ length turns.now }
 {
     let mut start = 0;
-    for (place, pair) in (1..).zip(turns.windows(2)) {
-        if let [left, right] = pair
-            && left < right
-        {
+    for place in 1..turns.len() {
+        if turns[place - 1] < turns[place] {
             start = place;
         }
     }
