@@ -191,6 +191,7 @@ impl Lent {
         refuse_each_growth(rt, bounds)
     }
 
+    /// Growths are asked for to prepare the example's task and to solve it.
     fn prepares_and_solves(&self, rt: &HostRuntime) -> Result<bool, Fail> {
         let prepared = self.growths_of_preparing(rt)?;
         let solved = self.growths_of_solving(rt)?;
@@ -207,6 +208,8 @@ impl Lent {
         Ok(kept.checked_sub(owned) == Some(copies) && judged > 0)
     }
 
+    /// The bounds of `load`, `machine` and `job` take no memory. Those of the other kinds do, and
+    /// are out of memory where their first growth is refused.
     fn bounds_by_its_kind(&self, rt: &HostRuntime) -> Result<bool, Fail> {
         let is_small = self.has_small_certificate();
         let growths = self.growths_of_bounding(rt)?;
@@ -215,45 +218,16 @@ impl Lent {
     }
 }
 
-/// Growths are asked for to prepare the example's task and to solve it.
-fn is_prepared_and_solved(rt: &HostRuntime, example: &'static Example) -> Result<bool, Fail> {
+/// Each call on what the example lends answers.
+fn all_answer(rt: &HostRuntime, example: &'static Example) -> Result<bool, Fail> {
     let lent = lend(rt, example)?;
-    lent.prepares_and_solves(rt)
+    Ok(lent.prepares_and_solves(rt)? && lent.saves_a_copy(rt)? && lent.bounds_by_its_kind(rt)?)
 }
 
 #[test]
-fn preparing_and_solving_answer_whatever_growth_is_refused(rt: HostRuntime) -> Result<(), Fail> {
+fn calls_answer_whatever_growth_is_refused(rt: HostRuntime) -> Result<(), Fail> {
     for example in worked() {
-        ensure(is_prepared_and_solved(&rt, example)?, example.name)?;
-    }
-    Ok(())
-}
-
-/// The example's answer is judged without a growth for a copy of its pieces where it is given up.
-fn is_judged(rt: &HostRuntime, example: &'static Example) -> Result<bool, Fail> {
-    let lent = lend(rt, example)?;
-    lent.saves_a_copy(rt)
-}
-
-#[test]
-fn judging_answers_whatever_growth_is_refused(rt: HostRuntime) -> Result<(), Fail> {
-    for example in worked() {
-        ensure(is_judged(&rt, example)?, example.name)?;
-    }
-    Ok(())
-}
-
-/// The bounds of `load`, `machine` and `job` take no memory. Those of the other kinds do, and are
-/// out of memory where their first growth is refused.
-fn is_bounded(rt: &HostRuntime, example: &'static Example) -> Result<bool, Fail> {
-    let lent = lend(rt, example)?;
-    lent.bounds_by_its_kind(rt)
-}
-
-#[test]
-fn certificates_bound_whatever_growth_is_refused(rt: HostRuntime) -> Result<(), Fail> {
-    for example in worked() {
-        ensure(is_bounded(&rt, example)?, example.name)?;
+        ensure(all_answer(&rt, example)?, example.name)?;
     }
     Ok(())
 }

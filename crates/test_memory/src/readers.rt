@@ -18,22 +18,29 @@ fn has_fields(job: &Job<&Heap>, fields: &Fields) -> bool {
     (job.times, job.weight, job.due) == *fields && job.release.is_none() && job.cost.is_none()
 }
 
+fn have_fields(jobs: &[Job<&Heap>], fields: &[Fields]) -> bool {
+    for (job, fields) in jobs.iter().zip(fields) {
+        if !has_fields(job, fields) {
+            return false;
+        }
+    }
+    jobs.len() == fields.len()
+}
+
 /// The instance has these jobs, this number of machines, and no arcs.
 fn is_instance(
     read: Result<Instance<&Heap>, ReadFault>,
     machines: Option<u32>,
     jobs: &[Fields],
 ) -> bool {
-    read.is_ok_and(|instance| {
-        instance.len() == jobs.len()
-            && instance.machines() == machines
-            && instance.arcs().is_empty()
-            && instance
-                .jobs()
-                .iter()
-                .zip(jobs)
-                .all(|(job, fields)| has_fields(job, fields))
-    })
+    match read {
+        Ok(instance) => {
+            instance.machines() == machines
+                && instance.arcs().is_empty()
+                && have_fields(instance.jobs(), jobs)
+        }
+        Err(_) => false,
+    }
 }
 
 /// The second of the instances of three jobs.
