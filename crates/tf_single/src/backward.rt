@@ -3,10 +3,8 @@ ghost use Rattle.std.specs.Prelude.{◌≡◌, ◌⊎◌, ℕ, ◌≤◌, ◌≤
 ghost use Rattle.std.specs.Prelude.{IfSome, MatchResult, Some};
 ghost use Rattle.tf_model.specs.Limit.{limit};
 ghost use Rattle.tf_model.specs.Sound.{IsSound};
-ghost use Rattle.tf_single.specs.ArcsInto.{AreFound};
 ghost use Rattle.tf_single.specs.Backward.{AreChosen, IsDearest, rest_of};
 ghost use Rattle.tf_single.specs.NotSolved.{IsNotSolved};
-ghost use Rattle.tf_single.specs.Open.{AreTaken};
 
 use crate::arcs_into::{ArcsInto, arc_counts};
 use crate::cycle::cycle;
@@ -26,13 +24,15 @@ pub(crate) struct Step {
 
 // All jobs, the last first, and the first of the dearest steps: of those without a successor that
 // is left, each is the cheapest when the work of those that are left is over, the greatest number
-// among equals. Where each that is left has a successor that is left, a cycle. None is free
-// before.
+// among equals. Where each that is left has a successor that is left, a cycle. None is taken and
+// none is free before.
 pub(crate) fn last_first<A: Allocator + Copy, B: Allocator, F: FreeJobs + Drop>(
     alloc: A,
     task: &Task<B>,
+    taken: Vec<JobId, A>,
     free: F,
 ) -> Result<(Vec<JobId, A>, Step), LawlerFault<A>>
+    requires taken { taken.items ≡ [] }
     requires none { F.jobs_of free ≡ [] }
     requires kept { (work : ℕ) → work ≤ limit → F.IsKept free task.now work }
     ensures { MatchResult result
@@ -43,39 +43,13 @@ pub(crate) fn last_first<A: Allocator + Copy, B: Allocator, F: FreeJobs + Drop>(
 {
     let (successors, predecessors) = arc_counts(alloc, task)?;
     let arcs = ArcsInto::of(alloc, task, predecessors)?;
-    take_all(
-        alloc,
-        task,
-        &arcs,
-        Open::new(alloc, task, successors, free)?,
-    )
-}
-
-// The same from the start on, where no job is taken.
-fn take_all<A: Allocator + Copy, B: Allocator, F: FreeJobs + Drop>(
-    alloc: A,
-    task: &Task<B>,
-    arcs: &ArcsInto<A>,
-    start: Open<F, A>,
-) -> Result<(Vec<JobId, A>, Step), LawlerFault<A>>
-    requires arcs { AreFound task.now arcs.now.ends.items arcs.now.froms.items }
-    requires taken { start.taken.items ≡ [] }
-    requires now { AreTaken task.now start.taken.items start.counts.items (F.jobs_of start.free)
-        start.work }
-    requires kept { F.IsKept start.free task.now start.work }
-    ensures { MatchResult result
-        (λ order. IsSound task.now × AreChosen task.now order.0.items
-        × (rest_of task.now order.0.items ≡ [])
-        × IsDearest task.now order.0.items order.1)
-        (IsNotSolved task.now) }
-{
-    let mut open = start;
+    let mut open = Open::new(task, taken, successors, free)?;
     let mut dearest = None;
     for place in 0..task.len() {
         if open.free.is_empty() {
             return Err(LawlerFault::Cycle(cycle(alloc, task, &open.counts)?));
         }
-        let value = open.take(task, arcs)?.cost;
+        let value = open.take(task, &arcs)?.cost;
         dearest = Some(dearer(dearest, Step { place, value }));
     }
     Ok((open.taken, dearest.unwrap()))
@@ -117,11 +91,12 @@ impl<F: FreeJobs + Drop, A: Allocator + Copy> Open<F, A> {
     // No job is taken, and those that no arc leads from are free. The counts are those of the arcs
     // from each job.
     fn new<B: Allocator>(
-        alloc: A,
         task: &Task<B>,
+        taken: Vec<JobId, A>,
         counts: Vec<u32, A>,
         free: F,
     ) -> Result<Self, OutOfMemory>
+        requires taken { taken.items ≡ [] }
         requires counts { AreArcsFrom task.now counts.items }
         requires none { F.jobs_of free ≡ [] }
         requires kept { (work : ℕ) → work ≤ limit → F.IsKept free task.now work }
@@ -137,7 +112,7 @@ impl<F: FreeJobs + Drop, A: Allocator + Copy> Open<F, A> {
             }
         }
         Ok(Open {
-            taken: Vec::with_capacity(alloc, task.len())?,
+            taken,
             counts,
             free,
             work: task.total_time(),

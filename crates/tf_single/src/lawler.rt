@@ -55,7 +55,8 @@ pub fn lawler<A: Allocator + Copy, B: Allocator, C: Cost>(
     ensures rule { IfOk result (λ a. IsFromTheBack task.now a.pieces a.certificate) }
     ensures cycle { IfErr result (IsNotSolved task.now) }
 {
-    from_the_back(alloc, task, ByCost::new(alloc, task, costs)?)
+    let taken = Vec::with_capacity(alloc, task.len())?;
+    from_the_back(alloc, task, taken, ByCost::new(alloc, task, costs)?)
 }
 
 /// A timetable on one machine whose latest job is least late, where arcs are kept (Lawler 1973); or
@@ -75,22 +76,25 @@ pub fn lawler_by_due<A: Allocator + Copy, B: Allocator>(
     ensures rule { IfOk result (λ a. IsFromTheBack task.now a.pieces a.certificate) }
     ensures cycle { IfErr result (IsNotSolved task.now) }
 {
+    let taken = Vec::with_capacity(alloc, task.len())?;
     match near_due(task) {
-        Some(least) => from_the_back(alloc, task, ByNearDue::new(alloc, task, least)?),
+        Some(least) => from_the_back(alloc, task, taken, ByNearDue::new(alloc, task, least)?),
         None => {
             let free: GreatestFirst<KeyedJob, A> = GreatestFirst::new(alloc, task.len())?;
-            from_the_back(alloc, task, free)
+            from_the_back(alloc, task, taken, free)
         }
     }
 }
 
-// The answer by free jobs of this kind, of which none is free before.
+// The answer by free jobs of this kind, of which none is free or taken before.
 fn from_the_back<A: Allocator + Copy, B: Allocator, F: FreeJobs + Drop>(
     alloc: A,
     task: &Task<B>,
+    taken: Vec<JobId, A>,
     free: F,
 ) -> Result<Answer<A>, LawlerFault<A>>
     requires class { IsTrue (takes_last_of task.now.class) }
+    requires taken { taken.items ≡ [] }
     requires none { F.jobs_of free ≡ [] }
     requires kept { (work : ℕ) → work ≤ limit → F.IsKept free task.now work }
     ensures schedule { IfOk result (λ a. IsSchedule a.pieces) }
@@ -98,7 +102,7 @@ fn from_the_back<A: Allocator + Copy, B: Allocator, F: FreeJobs + Drop>(
     ensures rule { IfOk result (λ a. IsFromTheBack task.now a.pieces a.certificate) }
     ensures cycle { IfErr result (IsNotSolved task.now) }
 {
-    let order = last_first(alloc, task, free)?;
+    let order = last_first(alloc, task, taken, free)?;
     Ok(answer_of(alloc, task, order)?)
 }
 

@@ -75,7 +75,7 @@ returns-clause-now g c =
     (open_start k counts c.requires.counts)
     (subst (λ n. IsPermutation (filter (λ j. of_job counts j == 0) (range_with_len 1 n)) free) all
     c.loop-k.invariant.jobs) in
-    rw c.in_ok-with_capacity.ensures.items
+    rw c.requires.taken
     (record {
       chosen = none_chosen k;
       now = start;

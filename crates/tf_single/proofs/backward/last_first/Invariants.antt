@@ -1,7 +1,7 @@
 use Rattle.std.proofs.Common.{◌≡◌, length}
 use Rattle.tf_single.specs.Open.{AreTaken}
 use Rattle.tf_single.proofs.DearestStep.{HasDearest}
-use Rattle.tf_single.proofs.backward.take_all.Given as goal
+use Rattle.tf_single.proofs.backward.last_first.Given as goal
 
 abbrev pub invariant-loop-place : goal.invariant-loop-place
 invariant-loop-place g l = record {

@@ -9,7 +9,7 @@ use Rattle.tf_single.specs.Successors.{IsLeft}
 use Rattle.tf_single.proofs.DearestStep.{dearest_more, dearest_found}
 use Rattle.tf_single.proofs.Endless.{first_endless}
 use Rattle.tf_single.proofs.Taking.{none_left, stuck, stuck_some}
-use Rattle.tf_single.proofs.backward.take_all.Goals as goal
+use Rattle.tf_single.proofs.backward.last_first.Goals as goal
 
 pub cycle-requires-clause-stuck : goal.cycle-requires-clause-stuck
 cycle-requires-clause-stuck g c =
