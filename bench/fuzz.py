@@ -89,7 +89,8 @@ def seeds():
                 place, _, text = line.partition("< ")
                 texts[name][int(place) - 1] = text
             elif line.startswith("$ threefield"):
-                made = {key: ("\n".join(value) + "\n").encode() for key, value in texts.items()}
+                # A "\" at the end of a line stands for no line feed.
+                made = {key: ("\n".join(value) + "\n").replace("\\\n", "").encode() for key, value in texts.items()}
                 cases.append(Case(words_of(line[len("$ threefield"):]), made))
     return cases
 

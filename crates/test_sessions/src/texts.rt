@@ -14,9 +14,7 @@ pub struct NamedText<'a> {
 impl NamedText<'_> {
     /// Adds a line.
     pub fn add(&mut self, line: &str) -> Result<(), AllocError> {
-        self.text.push_str(line)?;
-        self.text.push('\n')?;
-        Ok(())
+        push(&mut self.text, line)
     }
 
     /// Puts a line in place of one, counted from 1, and tells whether there is one.
@@ -28,14 +26,24 @@ impl NamedText<'_> {
             lines = lines.saturating_add(1);
             if lines == place {
                 is_found = true;
-                changed.push_str(line)?;
-                changed.push('\n')?;
+                push(&mut changed, line)?;
             } else {
                 changed.push_str(own)?;
             }
         }
         self.text = changed;
         Ok(is_found)
+    }
+}
+
+/// Puts a line behind a text, and a line feed unless it ends with a backslash, which stands for none.
+fn push(text: &mut String, line: &str) -> Result<(), AllocError> {
+    match line.strip_suffix("\\") {
+        Some(line) => text.push_str(line),
+        None => {
+            text.push_str(line)?;
+            text.push('\n')
+        }
     }
 }
 
