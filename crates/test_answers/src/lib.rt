@@ -1,4 +1,5 @@
-//! Tests over the runs that take an answer: it is judged, drawn, pictured and evaluated.
+//! Tests over the runs that take an answer: it is judged, drawn, pictured and evaluated. And what is
+//! said of faults that no session comes to.
 #![tactic(auto)]
 
 #[cfg(test)]
@@ -11,3 +12,5 @@ mod drawn;
 mod evaluated;
 #[cfg(test)]
 mod pictured;
+#[cfg(test)]
+mod said;
