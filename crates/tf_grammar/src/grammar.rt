@@ -5,7 +5,7 @@ ghost use Rattle.tf_grammar.specs.Commands.{name_of, command_names};
 
 use crate::help;
 use crate::page::Page;
-use crate::row::{Row, flag, number, numbers, perhaps, place, text, with_rows};
+use crate::row::{Row, flag, number, numbers, perhaps, place, text, with_groups, with_rows};
 use clap::Command;
 use std::alloc::{AllocError, Global};
 
@@ -275,11 +275,14 @@ fn gantt_command<'a>(alloc: Global) -> Result<Command<'a>, AllocError>
         after: ABOUT_GANTT,
         long: None,
     };
-    let command = with_rows(alloc, page.command(alloc), &drawn())?;
-    let command = with_rows(alloc, command, &view_options())?;
-    let command = with_rows(alloc, command, &dated())?;
-    let command = with_rows(alloc, command, &form_options())?;
-    with_rows(alloc, command, &[explain(), answer().or("-")])
+    let groups: [&[Row]; 5] = [
+        &drawn(),
+        &view_options(),
+        &dated(),
+        &form_options(),
+        &[explain(), answer().or("-")],
+    ];
+    with_groups(alloc, page.command(alloc), &groups)
 }
 
 // How a schedule is drawn.
@@ -373,11 +376,14 @@ fn problems_command<'a>(alloc: Global) -> Result<Command<'a>, AllocError>
 fn with_options<'a>(alloc: Global, page: Page, rows: &[Row]) -> Result<Command<'a>, AllocError>
     ensures { IfOk result (λ c. name_of c ≡ page.name.now) }
 {
-    let command = with_rows(alloc, page.command(alloc), &[problem(), format()])?;
-    let command = with_rows(alloc, command, &form_options())?;
     let input = place("INPUT", "The instance: a file, or - for standard input").required();
-    let command = with_rows(alloc, command, &[machines(), explain(), input])?;
-    with_rows(alloc, command, rows)
+    let groups: [&[Row]; 4] = [
+        &[problem(), format()],
+        &form_options(),
+        &[machines(), explain(), input],
+        rows,
+    ];
+    with_groups(alloc, page.command(alloc), &groups)
 }
 
 // The options of the forms.

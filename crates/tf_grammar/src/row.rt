@@ -207,3 +207,17 @@ pub(crate) fn with_rows<'a>(
     }
     Ok(command)
 }
+
+/// The same of several groups of rows.
+pub(crate) fn with_groups<'a>(
+    alloc: Global,
+    mut command: Command<'a>,
+    groups: &[&[Row]],
+) -> Result<Command<'a>, AllocError>
+    ensures { IfOk result (λ c. name_of c ≡ name_of command.entry) }
+{
+    for rows in groups {
+        command = with_rows(alloc, command, rows)?;
+    }
+    Ok(command)
+}
