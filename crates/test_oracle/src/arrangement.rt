@@ -1,37 +1,36 @@
-//! All arrangements and all fillings of cells in a row, one after the other.
+//! All arrangements of a row, and all fillings of cells, one after the other.
 ghost use Rattle.std.specs.Prelude.{◌≤◌, length};
 
 use crate::timetable::Cell;
 use std::mem;
 use tf_model::ids::JobId;
 
-// Where the longest end begins in which no cell is below the next.
-fn end_without_rise(cells: &[Cell]) -> usize
-    ensures { result ≤ length cells.now }
+// Where the longest end begins in which no part is below the next.
+fn end_without_rise<T: Ord>(row: &[T]) -> usize
+    ensures { result ≤ length row.now }
 {
     let mut start = 0;
-    for place in 1..cells.len() {
-        if cells[place - 1] < cells[place] {
+    for place in 1..row.len() {
+        if row[place - 1] < row[place] {
             start = place;
         }
     }
-    start.min(cells.len())
+    start.min(row.len())
 }
 
-/// Turns the cells into their next arrangement in lexicographic order. The last arrangement turns
-/// into the first, and then the answer is `false`.
-pub fn advance(cells: &mut [Cell]) -> bool {
-    let start = end_without_rise(cells);
-    let (front, end) = cells.split_at_mut(start);
+/// Turns the row into its next arrangement in lexicographic order. The last arrangement turns into
+/// the first, and then the answer is `false`.
+pub fn advance<T: Ord>(row: &mut [T]) -> bool {
+    let start = end_without_rise(row);
+    let (front, end) = row.split_at_mut(start);
     let Some(pivot) = front.last_mut() else {
         end.reverse();
         return false;
     };
-    for cell in end.iter_mut().rev() {
-        if *cell > *pivot {
-            mem::swap(pivot, cell);
-            break;
-        }
+    if let Some(place) = end.iter().rposition(|part| *part > *pivot)
+        && let Some(above) = end.get_mut(place)
+    {
+        mem::swap(pivot, above);
     }
     end.reverse();
     true

@@ -1,7 +1,7 @@
 //! The strongest bounds of a family's tasks, each held against all schedules.
 use super::asking::bound_of;
-use crate::family::Family;
-use crate::least_cost::survey_of;
+use super::family::Family;
+use super::least_cost::survey_of;
 use std::process::Abort;
 use std::test::Fail;
 

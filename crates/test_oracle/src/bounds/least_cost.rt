@@ -1,7 +1,7 @@
 //! The least cost of a small task.
+use super::clock::{assignment_count, cost_of, first_order};
+use super::small_task::SmallTask;
 use crate::arrangement::advance;
-use crate::clock::{assignment_count, cost_of, first_order};
-use crate::small_task::SmallTask;
 use std::alloc::{AllocError, Global};
 
 /// What was seen of a task's schedules.

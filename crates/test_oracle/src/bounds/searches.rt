@@ -1,5 +1,5 @@
 //! What the searches find on tasks whose optima are known.
-use crate::tasks::{Sample, task_of};
+use super::tasks::{Sample, task_of};
 use std::test::Fail;
 use tf_search::machine_search::search_machines;
 use tf_search::multiplier_search::multiplier_bound;

@@ -1,8 +1,10 @@
 //! Semi-active schedules: each operation starts as soon as its job and its machine are free.
-use crate::arrangement::Turn;
-use crate::small_task::{MOST_JOBS, MOST_MACHINES, SmallJob, SmallTask};
+use super::small_task::{MOST_JOBS, MOST_MACHINES, SmallJob, SmallTask};
 use std::alloc::{AllocError, Global};
 use tf_model::problem::{Env, Goal, Problem};
+
+/// A job and a machine, counted from 0. What it means is said at [`Clock`].
+pub type Turn = (usize, usize);
 
 /// A task's schedule as far as it has gone.
 ///

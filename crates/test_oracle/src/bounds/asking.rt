@@ -1,5 +1,5 @@
-//! Small tasks in the program's own types.
-use crate::small_task::{SmallJob, SmallTask};
+//! Small tasks in the program's own types, and their strongest bounds.
+use super::small_task::{SmallJob, SmallTask};
 use std::alloc::Global;
 use std::test::Fail;
 use tf_bound::job_times::JobTimes;

@@ -1,6 +1,6 @@
 //! The problems without a solver that are looked at, and what is wanted of each.
+use super::family::{Family, PLAIN, Size};
 use super::trial::{Tally, examine};
-use crate::family::{Family, PLAIN, Size};
 use std::process::Abort;
 use std::test::Fail;
 use tf_model::problem::{Env, Goal, Problem};

@@ -1,5 +1,5 @@
 //! What certificates bound, worked by hand.
-use crate::tasks::{Sample, numbers, task_of};
+use super::tasks::{Sample, numbers, task_of};
 use std::alloc::Global;
 use std::test::Fail;
 use tf_bound::certificate::BoundCertificate;

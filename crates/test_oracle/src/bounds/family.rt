@@ -1,5 +1,5 @@
 //! Families of small tasks, drawn by a generator.
-use crate::small_task::{MOST_MACHINES, SmallJob, SmallTask};
+use super::small_task::{MOST_MACHINES, SmallJob, SmallTask};
 use std::alloc::{AllocError, Global};
 use tf_model::problem::{Env, Goal, Problem};
 
