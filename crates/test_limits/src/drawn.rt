@@ -82,6 +82,7 @@ impl Numbers {
 #[derive(Drop)]
 pub struct Drawn {
     machines: Machines,
+    count: u32,
     jobs: Vec<Numbers>,
     arcs: Vec<(u32, u32)>,
 }
@@ -100,6 +101,7 @@ impl Drawn {
         }
         Ok(Drawn {
             machines,
+            count,
             jobs,
             arcs,
         })
@@ -107,53 +109,87 @@ impl Drawn {
 
     /// A job table of all fields and arcs.
     pub fn table(&self, alloc: Global) -> Result<String, AllocError> {
-        let mut text = String::from_str(alloc, "table 1\n")?;
-        if self.machines == Machines::Seven {
-            text.push_str("machines 7\n")?;
-        }
+        let mut text = String::from_str(alloc, self.head())?;
         for numbers in &self.jobs {
             push_job(&mut text, numbers)?;
         }
         for (before, after) in &self.arcs {
-            writeln!(text, "prec {before} {after}")?;
+            push_pair(&mut text, "\nprec ", *before, *after)?;
         }
+        text.push_str("\n")?;
         Ok(text)
+    }
+
+    fn head(&self) -> &'static str {
+        match self.machines {
+            Machines::Seven => "table 1\nmachines 7",
+            Machines::One | Machines::Shop => "table 1",
+        }
     }
 
     /// The only instance of a weighted tardiness file.
     pub fn tardiness(&self, alloc: Global) -> Result<String, AllocError> {
         let mut text = String::new(alloc);
-        for job in &self.jobs {
-            writeln!(text, "{}", job.time)?;
-        }
-        for job in &self.jobs {
-            writeln!(text, "{}", job.weight)?;
-        }
-        for job in &self.jobs {
-            writeln!(text, "{}", job.due)?;
+        for place in 0..3 {
+            push_column(&mut text, &self.jobs, place)?;
         }
         Ok(text)
     }
 
     /// A flow shop file of one instance, by the name `drawn`.
     pub fn flow_shop(&self, alloc: Global) -> Result<String, AllocError> {
-        let mut text = String::from_str(alloc, "instance drawn\n")?;
-        writeln!(text, "{} 2", self.jobs.len())?;
-        for job in &self.jobs {
-            writeln!(text, "0 {} 1 {}", job.time, job.second.unwrap_or(0))?;
-        }
+        let mut text = String::from_str(alloc, "instance drawn")?;
+        push_pair(&mut text, "\n", self.count, 2)?;
+        push_operations(&mut text, &self.jobs)?;
         Ok(text)
     }
 }
 
-fn push_job(text: &mut String, numbers: &Numbers) -> Result<(), AllocError> {
-    write!(text, "job {} p={}", numbers.job, numbers.time)?;
-    if let Some(second) = numbers.second {
-        write!(text, ",{second}")?;
+/// A word before a number. Each `write!` takes the prover as long as some calls of this.
+pub fn push_part(text: &mut String, word: &str, number: u32) -> Result<(), AllocError> {
+    write!(text, "{word}{number}")
+}
+
+/// A word before two numbers.
+pub fn push_pair(text: &mut String, word: &str, first: u32, second: u32) -> Result<(), AllocError> {
+    push_part(text, word, first)?;
+    push_part(text, " ", second)
+}
+
+/// The times of the jobs, their weights, or their due dates.
+fn push_column(text: &mut String, jobs: &[Numbers], place: u32) -> Result<(), AllocError> {
+    for job in jobs {
+        let number = match place {
+            0 => job.time,
+            1 => job.weight,
+            _ => job.due,
+        };
+        push_part(text, "\n", number)?;
     }
-    write!(text, " w={} d={}", numbers.weight, numbers.due)?;
-    write!(text, " r={} h={}", numbers.release, numbers.base)?;
-    writeln!(text, ",{}:{}", numbers.step, numbers.later)
+    Ok(())
+}
+
+/// The times of the jobs on both machines.
+fn push_operations(text: &mut String, jobs: &[Numbers]) -> Result<(), AllocError> {
+    for job in jobs {
+        push_part(text, "\n0 ", job.time)?;
+        push_part(text, " 1 ", job.second.unwrap_or(0))?;
+    }
+    Ok(())
+}
+
+fn push_job(text: &mut String, numbers: &Numbers) -> Result<(), AllocError> {
+    push_part(text, "\njob ", numbers.job)?;
+    push_part(text, " p=", numbers.time)?;
+    if let Some(second) = numbers.second {
+        push_part(text, ",", second)?;
+    }
+    push_part(text, " w=", numbers.weight)?;
+    push_part(text, " d=", numbers.due)?;
+    push_part(text, " r=", numbers.release)?;
+    push_part(text, " h=", numbers.base)?;
+    push_part(text, ",", numbers.step)?;
+    push_part(text, ":", numbers.later)
 }
 
 #[cfg(test)]

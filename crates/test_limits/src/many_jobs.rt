@@ -1,6 +1,7 @@
 //! As many jobs and arcs as are allowed, and one more.
 ghost use Rattle.std.specs.Prelude.{◌≤◌};
 
+use crate::drawn::{push_pair, push_part};
 use std::alloc::{AllocError, Global};
 use std::test::Fail;
 use test_runs::examples::Given;
@@ -14,17 +15,24 @@ use tf_text::answer::layout::Layout;
 fn table_of(alloc: Global, jobs: u32) -> Result<String, AllocError> {
     let mut text = String::from_str(alloc, "table 1\n")?;
     for before in 0..jobs {
-        writeln!(text, "job {} p=1 d=0 h=0", before + 1)?;
+        push_part(&mut text, "job ", before + 1)?;
+        text.push_str(" p=1 d=0 h=0\n")?;
     }
     Ok(text)
+}
+
+/// A piece of a job on machine 1.
+fn push_piece(text: &mut String, job: u32, start: u32, stop: u32) -> Result<(), AllocError> {
+    push_part(text, "piece ", job)?;
+    push_pair(text, " 1 ", start, stop)?;
+    text.push_str("\n")
 }
 
 /// The pieces of so many jobs of time 1 on one machine, in their order, between these lines.
 fn in_order(alloc: Global, head: &str, jobs: u32, tail: &str) -> Result<String, AllocError> {
     let mut text = String::from_str(alloc, head)?;
     for before in 0..jobs {
-        let job = before + 1;
-        writeln!(text, "piece {job} 1 {before} {job}")?;
+        push_piece(&mut text, before + 1, before, before + 1)?;
     }
     text.push_str(tail)?;
     Ok(text)
@@ -130,7 +138,7 @@ fn has_too_many(
 fn last_of_all(alloc: Global, jobs: u32) -> Result<String, AllocError> {
     let mut lines = String::from_str(alloc, "cert last")?;
     for before in 0..jobs {
-        write!(lines, " {}", before + 1)?;
+        push_part(&mut lines, " ", before + 1)?;
     }
     lines.push_str("\nend\n")?;
     Ok(lines)
@@ -155,12 +163,12 @@ fn each_of_100_000_latest_jobs_is_named_in_version_1(rt: HostRuntime) -> Result<
 fn with_arcs(alloc: Global, jobs: u32) -> Result<String, AllocError> {
     let mut text = table_of(alloc, jobs)?;
     for before in 1..jobs {
-        writeln!(text, "prec {before} {}", before + 1)?;
+        push_pair(&mut text, "\nprec ", before, before + 1)?;
     }
     for behind in 2..jobs {
-        writeln!(text, "prec {} {}", behind - 1, behind + 1)?;
+        push_pair(&mut text, "\nprec ", behind - 1, behind + 1)?;
     }
-    text.push_str("prec 1 2\nprec 1 2\nprec 1 2\n")?;
+    text.push_str("\nprec 1 2\nprec 1 2\nprec 1 2\n")?;
     Ok(text)
 }
 
@@ -183,10 +191,11 @@ fn at_most_200_000_arcs_are_in_a_table(rt: HostRuntime) -> Result<(), Fail> {
 
 /// A table of so many jobs of time 1, each released when the one before is over, and due then.
 fn released_in_turn(alloc: Global, jobs: u32) -> Result<String, AllocError> {
-    let mut text = String::from_str(alloc, "table 1\n")?;
+    let mut text = String::from_str(alloc, "table 1")?;
     for release in 0..jobs {
-        let job = release + 1;
-        writeln!(text, "job {job} p=1 r={release} d={job}")?;
+        push_part(&mut text, "\njob ", release + 1)?;
+        push_part(&mut text, " p=1 r=", release)?;
+        push_part(&mut text, " d=", release + 1)?;
     }
     Ok(text)
 }
@@ -214,7 +223,7 @@ fn many_instances(alloc: Global) -> Result<String, AllocError> {
 
 fn push_hundred(text: &mut String, number: u32) -> Result<(), AllocError> {
     for _ in 0..100u64 {
-        write!(text, "{number} ")?;
+        push_part(text, " ", number)?;
     }
     Ok(())
 }
@@ -224,8 +233,7 @@ fn hundred_late_jobs(alloc: Global) -> Result<String, AllocError> {
     let head = "answer 2\nproblem 1||Lmax\njobs 100\nmachines 1\nvalue 12500\n";
     let mut text = String::from_str(alloc, head)?;
     for before in 0..100u32 {
-        let (job, start) = (before + 1, 125 * before);
-        writeln!(text, "piece {job} 1 {start} {}", start + 125)?;
+        push_piece(&mut text, before + 1, 125 * before, 125 * before + 125)?;
     }
     text.push_str("cert last 1-100\nend\n")?;
     Ok(text)
