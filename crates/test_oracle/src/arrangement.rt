@@ -2,7 +2,6 @@
 ghost use Rattle.std.specs.Prelude.{◌≤◌, length};
 
 use crate::timetable::Cell;
-use std::mem;
 use tf_model::ids::JobId;
 
 // Where the longest end begins in which no part is below the next.
@@ -18,21 +17,33 @@ fn end_without_rise<T: Ord>(row: &[T]) -> usize
     start.min(row.len())
 }
 
+// The last place whose part is above the one at this place, or this place where there is none.
+fn last_above<T: Ord>(row: &[T], pivot: usize) -> usize {
+    let mut place = pivot;
+    for at in pivot..row.len() {
+        if row[at] > row[pivot] {
+            place = at;
+        }
+    }
+    place
+}
+
 /// Turns the row into its next arrangement in lexicographic order. The last arrangement turns into
 /// the first, and then the answer is `false`.
 pub fn advance<T: Ord>(row: &mut [T]) -> bool {
     let start = end_without_rise(row);
-    let (front, end) = row.split_at_mut(start);
-    let Some(pivot) = front.last_mut() else {
-        end.reverse();
+    if start == 0 {
+        row.reverse();
         return false;
-    };
-    if let Some(place) = end.iter().rposition(|part| *part > *pivot)
-        && let Some(above) = end.get_mut(place)
-    {
-        mem::swap(pivot, above);
     }
-    end.reverse();
+    let pivot = start - 1;
+    let place = last_above(row, pivot);
+    if pivot < row.len() && place < row.len() {
+        row.swap(pivot, place);
+    }
+    if let Some(end) = row.get_mut(start..) {
+        end.reverse();
+    }
     true
 }
 

@@ -29,6 +29,16 @@ pub enum Objective {
     WeightedCompletions,
 }
 
+impl Objective {
+    /// Whether it adds up what the jobs contribute; else it is the greatest of that.
+    pub fn is_sum(self) -> bool {
+        matches!(
+            self,
+            Objective::Completions | Objective::WeightedCompletions
+        )
+    }
+}
+
 /// A machine environment, conditions and an objective.
 #[derive(Clone, Copy, PartialEq, Eq)]
 pub struct Kind {
@@ -166,7 +176,10 @@ impl SmallTask {
     /// last release date can be left out, which makes no completion later. One machine gets a row
     /// more, so that it can idle.
     pub fn horizon(&self) -> usize {
-        let last = self.jobs.iter().map(|job| job.release).max().unwrap_or(0);
+        let mut last: usize = 0;
+        for job in self.jobs.iter() {
+            last = last.max(job.release);
+        }
         let length = last.saturating_add(self.work());
         if self.kind.machines == Machines::Single {
             length.saturating_add(1)

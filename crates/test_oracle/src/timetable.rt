@@ -3,7 +3,7 @@ ghost use Rattle.std.specs.Prelude.{◌<◌};
 ghost use Rattle.std.specs.Slice.Iter.{chunks_size};
 
 use crate::arrangement::{advance, fill_next};
-use crate::small_task::{Machines, Objective, SmallJob, SmallTask};
+use crate::small_task::{Machines, SmallJob, SmallTask};
 use std::alloc::{AllocError, Global};
 use std::slice::Chunks;
 use tf_model::ids::JobId;
@@ -20,26 +20,38 @@ pub struct Timetable {
     ghost long: { 0 < length },
 }
 
-// The time of the job's first cell.
-fn first(line: &[Cell], job: JobId) -> Option<usize> {
-    line.iter().position(|cell| *cell == Some(job))
+// The cells of a job in a line.
+#[derive(Clone, Copy)]
+struct Span {
+    // The time of its first cell, or 0 where it has none.
+    start: usize,
+    // The end of its last cell, or 0 where it has none.
+    end: usize,
+    // How many there are.
+    units: usize,
 }
 
-// The time of the job's last cell.
-fn last(line: &[Cell], job: JobId) -> Option<usize> {
-    line.iter().rposition(|cell| *cell == Some(job))
-}
-
-fn units(line: &[Cell], job: JobId) -> usize {
-    line.iter().filter(|cell| **cell == Some(job)).count()
-}
-
-// Whether the job's cells are consecutive.
-fn is_run(line: &[Cell], job: JobId) -> bool {
-    match (first(line, job), last(line, job)) {
-        (Some(first), Some(last)) => last.abs_diff(first) < units(line, job),
-        _ => true,
+fn span_of(line: &[Cell], job: JobId) -> Span {
+    let mut span = Span {
+        start: 0,
+        end: 0,
+        units: 0,
+    };
+    for (time, cell) in line.iter().enumerate() {
+        if *cell == Some(job) {
+            if span.units == 0 {
+                span.start = time;
+            }
+            span.end = time.saturating_add(1);
+            span.units = span.units.saturating_add(1);
+        }
     }
+    span
+}
+
+// Whether the cells are consecutive.
+fn is_run(span: Span) -> bool {
+    span.end.saturating_sub(span.start) == span.units
 }
 
 impl Timetable {
@@ -98,93 +110,127 @@ impl Timetable {
         self.cells.chunks(self.length)
     }
 
+    // What machine 1 does, and what machine 2 does, where there are two.
+    fn of_two(&self) -> (&[Cell], &[Cell]) {
+        self.cells.split_at(self.length.min(self.cells.len()))
+    }
+
     /// The end of the job's last time step, or 0 where it has none.
     pub fn completion(&self, job: JobId) -> usize {
         let mut completion: usize = 0;
         for line in self.lines() {
-            if let Some(last) = last(line, job) {
-                completion = completion.max(last.saturating_add(1));
-            }
+            completion = completion.max(span_of(line, job).end);
         }
         completion
     }
 
-    // The time of the job's first cell on any machine.
-    fn start(&self, job: JobId) -> Option<usize> {
-        self.lines().filter_map(|line| first(line, job)).min()
+    // Whether no cell of the job on any machine comes before this time.
+    fn starts_from(&self, job: JobId, time: usize) -> bool {
+        for line in self.lines() {
+            let span = span_of(line, job);
+            if span.units > 0 && span.start < time {
+                return false;
+            }
+        }
+        true
     }
 
     /// Whether it fits the task.
     pub fn fits(&self, task: &SmallTask) -> bool {
+        for job in task.jobs.iter() {
+            if !self.fits_job(task, job) {
+                return false;
+            }
+        }
+        !task.kind.is_ordered || self.keeps_arcs(task)
+    }
+
+    fn fits_job(&self, task: &SmallTask, job: &SmallJob) -> bool {
         let kind = task.kind;
-        task.jobs.iter().all(|job| {
-            self.is_in_one_place(job.id)
-                && self.has_its_time(task, job)
-                && (kind.may_break || self.is_unbroken(task, job.id))
-                && (!kind.is_released || self.start(job.id).is_none_or(|t| job.release <= t))
-                && (kind.machines != Machines::FlowShop || self.is_in_order(job.id))
-        }) && (!kind.is_ordered || self.keeps_arcs(task))
+        self.is_in_one_place(job.id)
+            && self.has_its_time(task, job)
+            && (kind.may_break || self.is_unbroken(task, job.id))
+            && (!kind.is_released || self.starts_from(job.id, job.release))
+            && (kind.machines != Machines::FlowShop || self.is_in_order(job.id))
     }
 
     // No time step has the job on two machines.
     fn is_in_one_place(&self, job: JobId) -> bool {
-        (0..self.length).all(|time| self.places_at(job, time) < 2)
+        for time in 0..self.length {
+            if self.places_at(job, time) > 1 {
+                return false;
+            }
+        }
+        true
     }
 
     // How many machines work on the job in a time step.
     fn places_at(&self, job: JobId, time: usize) -> usize {
-        let wanted = Some(job);
-        self.lines()
-            .filter(|line| line.get(time) == Some(&wanted))
-            .count()
+        let mut count: usize = 0;
+        for line in self.lines() {
+            if line.get(time) == Some(&Some(job)) {
+                count = count.saturating_add(1);
+            }
+        }
+        count
     }
 
     fn has_its_time(&self, task: &SmallTask, job: &SmallJob) -> bool {
         if !task.is_shop() {
-            return units(&self.cells, job.id) == job.first;
+            return span_of(&self.cells, job.id).units == job.first;
         }
-        let mut lines = self.lines();
-        lines.next().map_or(0, |line| units(line, job.id)) == job.first
-            && lines.next().map_or(0, |line| units(line, job.id)) == job.second
+        let (first, second) = self.of_two();
+        span_of(first, job.id).units == job.first && span_of(second, job.id).units == job.second
     }
 
     // On each machine the job's time steps are consecutive, and outside shops it has one machine.
     fn is_unbroken(&self, task: &SmallTask, job: JobId) -> bool {
-        let places = self.lines().filter(|line| units(line, job) > 0).count();
-        self.lines().all(|line| is_run(line, job)) && (task.is_shop() || places < 2)
+        let mut places: usize = 0;
+        for line in self.lines() {
+            let span = span_of(line, job);
+            if !is_run(span) {
+                return false;
+            }
+            places = places.saturating_add(usize::from(span.units > 0));
+        }
+        task.is_shop() || places < 2
     }
 
     // All of the job on machine 1 comes before all of it on machine 2.
     fn is_in_order(&self, job: JobId) -> bool {
-        let mut lines = self.lines();
-        let end = lines.next().and_then(|line| last(line, job));
-        let start = lines.next().and_then(|line| first(line, job));
-        match (end, start) {
-            (Some(end), Some(start)) => end < start,
-            _ => true,
-        }
+        let (first, second) = self.of_two();
+        let second = span_of(second, job);
+        second.units == 0 || span_of(first, job).end <= second.start
     }
 
     fn keeps_arcs(&self, task: &SmallTask) -> bool {
-        task.arcs.iter().all(|(before, after)| {
-            self.start(*after)
-                .is_none_or(|start| self.completion(*before) <= start)
-        })
+        for (before, after) in task.arcs.iter() {
+            if !self.starts_from(*after, self.completion(*before)) {
+                return false;
+            }
+        }
+        true
+    }
+
+    // What the job's completion contributes to the objective.
+    fn price(&self, task: &SmallTask, job: &SmallJob) -> i64 {
+        let completion = i64::try_from(self.completion(job.id)).unwrap_or(i64::MAX);
+        job.price(task.kind.objective, completion)
     }
 
     /// What it costs the task.
     pub fn cost(&self, task: &SmallTask) -> i64 {
-        let objective = task.kind.objective;
-        let prices = task.jobs.iter().map(|job| {
-            let completion = i64::try_from(self.completion(job.id)).unwrap_or(i64::MAX);
-            job.price(objective, completion)
-        });
-        match objective {
-            Objective::Completions | Objective::WeightedCompletions => {
-                prices.fold(0, |sum: i64, price| sum.saturating_add(price))
-            }
-            _ => prices.max().unwrap_or(0),
+        let is_sum = task.kind.objective.is_sum();
+        let mut cost: Option<i64> = None;
+        for job in task.jobs.iter() {
+            let price = self.price(task, job);
+            cost = Some(match cost {
+                None => price,
+                Some(cost) if is_sum => cost.saturating_add(price),
+                Some(cost) => cost.max(price),
+            });
         }
+        cost.unwrap_or(0)
     }
 }
 

@@ -1,7 +1,7 @@
 //! The problems without a solver that are looked at, and what is wanted of each.
 use super::family::{Family, PLAIN, Size};
 use super::trial::{Tally, examine};
-use std::process::Abort;
+use std::alloc::Global;
 use std::test::Fail;
 use tf_model::problem::{Env, Goal, Problem};
 
@@ -171,7 +171,7 @@ const SHOPS: &[Case] = &[
     (OPEN_MAKESPAN, FEW_ON_THREE, 3_628_800, 10),
 ];
 
-fn examine_all(rt: &(impl Abort + AllocGlobal), cases: &[Case]) -> Result<(), Fail> {
+fn examine_all(alloc: Global, cases: &[Case]) -> Result<(), Fail> {
     for (problem, size, orders, met) in cases {
         let family = Family {
             problem: *problem,
@@ -181,22 +181,22 @@ fn examine_all(rt: &(impl Abort + AllocGlobal), cases: &[Case]) -> Result<(), Fa
             orders: *orders,
             met: *met,
         };
-        examine(rt, &family, wanted)?;
+        examine(alloc, &family, wanted)?;
     }
     Ok(())
 }
 
 #[test]
 fn no_bound_is_above_the_least_cost_on_one_machine(rt: HostRuntime) -> Result<(), Fail> {
-    examine_all(&rt, ONE_MACHINE)
+    examine_all(rt.alloc(), ONE_MACHINE)
 }
 
 #[test]
 fn no_bound_is_above_the_least_cost_on_parallel_machines(rt: HostRuntime) -> Result<(), Fail> {
-    examine_all(&rt, PARALLEL_MACHINES)
+    examine_all(rt.alloc(), PARALLEL_MACHINES)
 }
 
 #[test]
 fn no_bound_is_above_the_least_cost_in_a_shop(rt: HostRuntime) -> Result<(), Fail> {
-    examine_all(&rt, SHOPS)
+    examine_all(rt.alloc(), SHOPS)
 }

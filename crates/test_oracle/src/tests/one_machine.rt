@@ -2,7 +2,7 @@
 use super::trial::{Row, counts, examine_both, examine_own, examine_row};
 use crate::family::{Arcs, Family};
 use crate::small_task::{Cost, Kind, Objective};
-use std::process::Abort;
+use std::alloc::Global;
 use std::test::Fail;
 
 const COMPLETIONS: Family = Family {
@@ -117,7 +117,7 @@ const ROWS: &[Row] = &[
 #[test]
 fn each_objective_is_least(rt: HostRuntime) -> Result<(), Fail> {
     for row in ROWS {
-        examine_row(&rt, row)?;
+        examine_row(rt.alloc(), row)?;
     }
     Ok(())
 }
@@ -126,17 +126,22 @@ fn each_objective_is_least(rt: HostRuntime) -> Result<(), Fail> {
 fn greatest_lateness_of_released_jobs_is_least(rt: HostRuntime) -> Result<(), Fail> {
     let own = counts(1_020, 465_644, 169_630, 30_276);
     let any = counts(156, 250_824, 5_086, 1_764);
-    examine_both(&rt, &RELEASED_LATENESS, own, any)
+    examine_both(rt.alloc(), &RELEASED_LATENESS, own, any)
 }
 
 /// Two jobs, with arcs from a job to itself among the arcs.
 #[test]
 fn arcs_from_a_job_to_itself_are_cycles(rt: HostRuntime) -> Result<(), Fail> {
-    examine_cycles(&rt, &ORDERED_LATENESS.with_arcs(Arcs::All))?;
-    examine_cycles(&rt, &ORDERED_COST.with_arcs(Arcs::All))
+    examine_cycles(rt.alloc(), &ORDERED_LATENESS.with_arcs(Arcs::All))?;
+    examine_cycles(rt.alloc(), &ORDERED_COST.with_arcs(Arcs::All))
 }
 
-fn examine_cycles(rt: &(impl Abort + AllocGlobal), family: &Family) -> Result<(), Fail> {
-    examine_own(rt, 2, family, counts(264, 3_860, 200, 1_452))?;
-    examine_own(rt, 2, &family.with_breaks(), counts(264, 3_860, 378, 1_452))
+fn examine_cycles(alloc: Global, family: &Family) -> Result<(), Fail> {
+    examine_own(alloc, 2, family, counts(264, 3_860, 200, 1_452))?;
+    examine_own(
+        alloc,
+        2,
+        &family.with_breaks(),
+        counts(264, 3_860, 378, 1_452),
+    )
 }

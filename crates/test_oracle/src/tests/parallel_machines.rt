@@ -2,7 +2,7 @@
 use super::trial::{Tally, counts, examine_both, examine_own};
 use crate::family::Family;
 use crate::small_task::{Kind, Machines, Objective};
-use std::process::Abort;
+use std::alloc::Global;
 use std::test::Fail;
 
 const MAKESPAN: Family = Family {
@@ -31,7 +31,7 @@ fn makespan_is_least(rt: HostRuntime) -> Result<(), Fail> {
     let on_two = counts(29, 480_900, 328_874, 101);
     let on_three = counts(21, 536_400, 356_163, 70);
     let any = counts(9, 21_306, 754, 24);
-    examine_on(&rt, &MAKESPAN, [on_one, on_two, on_three], any)
+    examine_on(rt.alloc(), &MAKESPAN, [on_one, on_two, on_three], any)
 }
 
 #[test]
@@ -40,19 +40,14 @@ fn total_completion_time_is_least(rt: HostRuntime) -> Result<(), Fail> {
     let on_two = counts(29, 480_900, 4_968, 486);
     let on_three = counts(21, 536_400, 10_707, 327);
     let any = counts(9, 21_306, 112, 69);
-    examine_on(&rt, &COMPLETIONS, [on_one, on_two, on_three], any)
+    examine_on(rt.alloc(), &COMPLETIONS, [on_one, on_two, on_three], any)
 }
 
 /// Holds the answers on one, two and three machines against the timetables in which each job has
 /// its time, and those to small tasks on two machines against all.
-fn examine_on(
-    rt: &(impl Abort + AllocGlobal),
-    family: &Family,
-    own: [Tally; 3],
-    any: Tally,
-) -> Result<(), Fail> {
+fn examine_on(alloc: Global, family: &Family, own: [Tally; 3], any: Tally) -> Result<(), Fail> {
     let [on_one, on_two, on_three] = own;
-    examine_own(rt, 3, family, on_one)?;
-    examine_both(rt, &family.on(2), on_two, any)?;
-    examine_own(rt, 3, &family.on(3).within(5), on_three)
+    examine_own(alloc, 3, family, on_one)?;
+    examine_both(alloc, &family.on(2), on_two, any)?;
+    examine_own(alloc, 3, &family.on(3).within(5), on_three)
 }

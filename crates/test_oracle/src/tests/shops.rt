@@ -42,7 +42,7 @@ const ROWS: &[Row] = &[
 #[test]
 fn makespan_is_least(rt: HostRuntime) -> Result<(), Fail> {
     for row in ROWS {
-        examine_row(&rt, row)?;
+        examine_row(rt.alloc(), row)?;
     }
     Ok(())
 }

@@ -5,7 +5,6 @@ use crate::family::Family;
 use crate::small_task::SmallTask;
 use crate::timetable::{Timetable, least_cost};
 use std::alloc::{AllocError, Global};
-use std::process::Abort;
 use std::test::Fail;
 use tf_check::answer::Answer;
 use tf_check::certificate::Certificate;
@@ -103,33 +102,39 @@ struct Trial<'a> {
     small: &'a SmallTask,
     task: Task,
     least: Option<i64>,
-    /// Which task of its family it is, counted from 0.
-    number: u64,
 }
 
 impl Trial<'_> {
-    /// Ends the test where this is not so, and names the task.
-    fn holds(&self, rt: &impl Abort, is_so: bool) {
-        assert!(rt; is_so, "task {}", self.number);
+    fn is_accepted(&self, alloc: Global, answer: &Answer) -> Result<bool, Fail> {
+        match check(alloc, &self.task, answer) {
+            Ok(Verdict::Accepted) => Ok(true),
+            Ok(Verdict::Rejected(_)) => Ok(false),
+            Err(_) => Err(Fail::new("want of memory")),
+        }
     }
 
-    fn is_accepted(&self, rt: &(impl Abort + AllocGlobal), answer: &Answer) -> Result<bool, Fail> {
-        Ok(check(rt.alloc(), &self.task, answer)? == Verdict::Accepted)
+    /// Each of these jobs precedes the next by an arc, and the last precedes the first; and no
+    /// timetable fits.
+    fn is_a_reason(&self, jobs: &[JobId]) -> bool {
+        self.least.is_none() && is_cycle(self.small, jobs)
     }
 
-    /// The program's answer to the task; some pieces and a certificate where arcs form a cycle.
-    fn answer(&self, rt: &(impl Abort + AllocGlobal)) -> Result<Answer, Fail> {
-        match solve(rt.alloc(), &self.task) {
+    /// The program's answer to the task, or some pieces and a certificate where arcs form a cycle;
+    /// none where it is wrong.
+    fn answer(&self, alloc: Global) -> Result<Option<Answer>, AllocError> {
+        match solve(alloc, &self.task) {
             Ok(answer) => {
-                self.holds(rt, Some(answer.value) == self.least);
-                Ok(answer)
+                let is_least = Some(answer.value) == self.least;
+                Ok(if is_least { Some(answer) } else { None })
             }
             Err(SolveFault::Cycle(jobs)) => {
-                let is_so = self.least.is_none() && is_cycle(self.small, jobs.as_slice());
-                self.holds(rt, is_so);
-                Ok(any_answer(rt.alloc(), self.small)?)
+                if self.is_a_reason(jobs.as_slice()) {
+                    any_answer(alloc, self.small).map(Some)
+                } else {
+                    Ok(None)
+                }
             }
-            Err(SolveFault::OutOfMemory) => Err(Fail::new("want of memory")),
+            Err(SolveFault::OutOfMemory) => Err(AllocError),
         }
     }
 
@@ -137,158 +142,167 @@ impl Trial<'_> {
     /// other is better.
     fn answer_holds(
         &self,
-        rt: &(impl Abort + AllocGlobal),
+        alloc: Global,
         timetables: Timetables,
         tally: &mut Tally,
-    ) -> Result<(), Fail> {
-        let mut answer = self.answer(rt)?;
-        let is_accepted = self.is_accepted(rt, &answer)?;
-        self.holds(rt, is_accepted == self.least.is_some());
-        self.timetables_are_judged(rt, timetables, &mut answer, tally)
+    ) -> Result<bool, Fail> {
+        match self.answer(alloc)? {
+            Some(answer) => {
+                let is_accepted = self.is_accepted(alloc, &answer)?;
+                let are_judged = self.timetables_are_judged(alloc, timetables, answer, tally)?;
+                Ok(is_accepted == self.least.is_some() && are_judged)
+            }
+            None => Ok(false),
+        }
     }
 
     /// The checker accepts the answer's certificate with those timetables alone that fit and cost
     /// least, and at no lesser value.
     fn timetables_are_judged(
         &self,
-        rt: &(impl Abort + AllocGlobal),
+        alloc: Global,
         timetables: Timetables,
-        answer: &mut Answer,
+        mut answer: Answer,
         tally: &mut Tally,
-    ) -> Result<(), Fail> {
-        let mut timetable = timetables.first_of(rt.alloc(), self.small)?;
+    ) -> Result<bool, Fail> {
+        let mut timetable = timetables.first_of(alloc, self.small)?;
         for _ in 0..u64::MAX {
-            let cost = timetable.cost(self.small);
-            let fits = timetable.fits(self.small);
-            answer.pieces = pieces_of(rt.alloc(), &timetable)?;
-            self.is_judged(rt, answer, cost, fits)?;
-            tally.timetables = tally.timetables.saturating_add(1);
-            tally.fitting = tally.fitting.saturating_add(u64::from(fits));
+            if !self.is_counted(alloc, &timetable, &mut answer, tally)? {
+                return Ok(false);
+            }
             if !timetables.advance(&mut timetable, self.small) {
                 break;
             }
         }
-        Ok(())
+        Ok(true)
+    }
+
+    /// Counts a timetable, and holds the answer's certificate against it.
+    fn is_counted(
+        &self,
+        alloc: Global,
+        timetable: &Timetable,
+        answer: &mut Answer,
+        tally: &mut Tally,
+    ) -> Result<bool, Fail> {
+        let fits = timetable.fits(self.small);
+        tally.timetables = tally.timetables.saturating_add(1);
+        tally.fitting = tally.fitting.saturating_add(u64::from(fits));
+        answer.pieces = pieces_of(alloc, timetable)?;
+        self.is_judged(alloc, answer, timetable.cost(self.small), fits)
     }
 
     /// The answer is accepted at this cost where it fits and no timetable costs less, and then not
     /// at a lesser value.
     fn is_judged(
         &self,
-        rt: &(impl Abort + AllocGlobal),
+        alloc: Global,
         answer: &mut Answer,
         cost: i64,
         fits: bool,
-    ) -> Result<(), Fail> {
+    ) -> Result<bool, Fail> {
         let is_best = fits && self.least == Some(cost);
         answer.value = cost;
-        self.holds(rt, self.is_accepted(rt, answer)? == is_best);
-        if is_best {
-            answer.value = cost.saturating_sub(1);
-            self.holds(rt, !self.is_accepted(rt, answer)?);
+        if self.is_accepted(alloc, answer)? != is_best {
+            return Ok(false);
         }
-        Ok(())
+        answer.value = cost.saturating_sub(1);
+        Ok(!is_best || !self.is_accepted(alloc, answer)?)
     }
 
     /// No certificate gives a bound that a timetable beats.
-    fn bounds_hold(
-        &self,
-        rt: &(impl Abort + AllocGlobal),
-        certificates: &[Certificate],
-        tally: &mut Tally,
-    ) {
+    fn bounds_hold(&self, alloc: Global, certificates: &[Certificate], tally: &mut Tally) -> bool {
         for certificate in certificates {
-            if let Ok(bound) = certificate.bound(rt.alloc(), &self.task) {
-                let is_below = self.least.is_none_or(|least| bound <= i128::from(least));
-                self.holds(rt, is_below);
+            if let Ok(bound) = certificate.bound(alloc, &self.task) {
+                if self.least.is_some_and(|least| bound > i128::from(least)) {
+                    return false;
+                }
                 tally.bounds = tally.bounds.saturating_add(1);
             }
         }
+        true
     }
 }
 
+/// Whether all holds that is held against the timetables of this task.
 fn examine(
-    rt: &(impl Abort + AllocGlobal),
+    alloc: Global,
     timetables: Timetables,
     small: &SmallTask,
     certificates: &[Certificate],
     tally: &mut Tally,
-) -> Result<(), Fail> {
-    let least = least_cost(rt.alloc(), small)?;
+) -> Result<bool, Fail> {
     let trial = Trial {
         small,
-        task: task_of(rt.alloc(), small)?,
-        least,
-        number: tally.tasks,
+        task: task_of(alloc, small)?,
+        least: least_cost(alloc, small)?,
     };
     tally.tasks = tally.tasks.saturating_add(1);
-    trial.bounds_hold(rt, certificates, tally);
-    trial.answer_holds(rt, timetables, tally)
+    let bounds_hold = trial.bounds_hold(alloc, certificates, tally);
+    Ok(bounds_hold && trial.answer_holds(alloc, timetables, tally)?)
 }
 
-/// Examines all tasks of a family.
+/// Examines all tasks of a family, up to the first for which something does not hold.
 fn examine_family(
-    rt: &(impl Abort + AllocGlobal),
+    alloc: Global,
     timetables: Timetables,
     family: &Family,
     tally: &mut Tally,
-) -> Result<(), Fail> {
-    let certificates = certificates(rt.alloc(), family.jobs)?;
+) -> Result<bool, Fail> {
+    let certificates = certificates(alloc, family.jobs)?;
     for number in 0..family.count() {
-        if let Some(task) = family.task(rt.alloc(), number)? {
-            examine(rt, timetables, &task, &certificates, tally)?;
+        if let Some(task) = family.task(alloc, number)?
+            && !examine(alloc, timetables, &task, &certificates, tally)?
+        {
+            return Ok(false);
         }
     }
-    Ok(())
+    Ok(true)
+}
+
+/// Ends a test where this is not so, and tells how much was looked at until then.
+fn told(is_so: bool, tally: Tally) -> Result<(), Tally> {
+    if is_so { Ok(()) } else { Err(tally) }
 }
 
 /// Examines all tasks of a family with up to so many jobs. There are as many as is said.
 fn examine_all(
-    rt: &(impl Abort + AllocGlobal),
+    alloc: Global,
     timetables: Timetables,
     most_jobs: u32,
     family: &Family,
     wanted: Tally,
 ) -> Result<(), Fail> {
     let mut tally = Tally::default();
+    let mut holds = true;
     for jobs in 1..=most_jobs {
-        examine_family(rt, timetables, &family.of(jobs), &mut tally)?;
+        holds = holds && examine_family(alloc, timetables, &family.of(jobs), &mut tally)?;
     }
-    assert!(rt; tally == wanted, "{tally:?}");
-    Ok(())
+    Ok(told(holds && tally == wanted, tally)?)
 }
 
 /// Holds the answers to all tasks of up to so many jobs against the timetables in which each job
 /// has its time.
 pub fn examine_own(
-    rt: &(impl Abort + AllocGlobal),
+    alloc: Global,
     most_jobs: u32,
     family: &Family,
     wanted: Tally,
 ) -> Result<(), Fail> {
-    examine_all(rt, Timetables::OfTheTask, most_jobs, family, wanted)
+    examine_all(alloc, Timetables::OfTheTask, most_jobs, family, wanted)
 }
 
 /// Holds the answers to all tasks of one and two jobs and at most four time steps against all
 /// timetables.
-fn examine_any(
-    rt: &(impl Abort + AllocGlobal),
-    family: &Family,
-    wanted: Tally,
-) -> Result<(), Fail> {
-    examine_all(rt, Timetables::All, 2, &family.within(4), wanted)
+fn examine_any(alloc: Global, family: &Family, wanted: Tally) -> Result<(), Fail> {
+    examine_all(alloc, Timetables::All, 2, &family.within(4), wanted)
 }
 
 /// Holds the answers to all tasks of up to three jobs against the timetables in which each job has
 /// its time, and those to small ones against all timetables.
-pub fn examine_both(
-    rt: &(impl Abort + AllocGlobal),
-    family: &Family,
-    own: Tally,
-    any: Tally,
-) -> Result<(), Fail> {
-    examine_own(rt, 3, family, own)?;
-    examine_any(rt, family, any)
+pub fn examine_both(alloc: Global, family: &Family, own: Tally, any: Tally) -> Result<(), Fail> {
+    examine_own(alloc, 3, family, own)?;
+    examine_any(alloc, family, any)
 }
 
 /// A family, and how much is looked at of it: tasks, timetables, those that fit, and certificates
@@ -309,9 +323,9 @@ fn tally_of(row: [u64; 4]) -> Tally {
 }
 
 /// Holds the answers to the family's tasks against timetables, without preemption and with it.
-pub fn examine_row(rt: &(impl Abort + AllocGlobal), row: &Row) -> Result<(), Fail> {
+pub fn examine_row(alloc: Global, row: &Row) -> Result<(), Fail> {
     let (own, any) = (tally_of(row.own), tally_of(row.any));
-    examine_both(rt, &row.family, own, any)?;
+    examine_both(alloc, &row.family, own, any)?;
     let [fitting_own, fitting_any] = row.broken;
     let own = Tally {
         fitting: fitting_own,
@@ -321,5 +335,5 @@ pub fn examine_row(rt: &(impl Abort + AllocGlobal), row: &Row) -> Result<(), Fai
         fitting: fitting_any,
         ..any
     };
-    examine_both(rt, &row.family.with_breaks(), own, any)
+    examine_both(alloc, &row.family.with_breaks(), own, any)
 }
