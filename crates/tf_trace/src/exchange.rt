@@ -79,24 +79,26 @@ fn costs_exchanged(
     pieces: &[Piece],
     place: usize,
 ) -> Result<Option<i128>, OutOfMemory> {
-    let mut exchanged = Vec::with_capacity(alloc, pieces.len())?;
-    for (k, piece) in pieces.iter().enumerate() {
-        if k == place || (k > 0 && k - 1 == place) {
-            continue;
-        }
-        exchanged.push(*piece)?;
+    let mut exchanged = pieces.to_vec(alloc)?;
+    exchange(&mut exchanged, place);
+    match Schedule::new(exchanged) {
+        Ok(schedule) => Ok(judge(alloc, task, &schedule)?.fit.ok()),
+        Err(_) => Ok(None),
     }
-    if let (Some(piece), Some(next)) = (pieces.get(place), pieces.get(place.saturating_add(1))) {
-        let turn = piece
-            .start
-            .saturating_add(next.stop.saturating_sub(next.start));
-        exchanged.push(moved(next, piece.start, turn))?;
-        exchanged.push(moved(piece, turn, next.stop))?;
-    }
-    let Ok(schedule) = Schedule::new(exchanged) else {
-        return Ok(None);
+}
+
+// Exchanges the piece at a place with the next one, if both are there.
+fn exchange(pieces: &mut [Piece], place: usize) {
+    let behind = place.saturating_add(1);
+    let (Some(piece), Some(next)) = (pieces.get(place), pieces.get(behind)) else {
+        return;
     };
-    Ok(judge(alloc, task, &schedule)?.fit.ok())
+    let (piece, next) = (*piece, *next);
+    let turn = piece
+        .start
+        .saturating_add(next.stop.saturating_sub(next.start));
+    pieces[place] = moved(&next, piece.start, turn);
+    pieces[behind] = moved(&piece, turn, next.stop);
 }
 
 fn moved(piece: &Piece, start: i64, stop: i64) -> Piece {
