@@ -2,7 +2,7 @@
 use refusing::Refusing;
 use std::alloc::{AllocError, Allocator, Global};
 use std::test::Fail;
-use test_runs::devices::{Failure, Sink, Source, Way};
+use test_runs::devices::{Failure, Sink, Source};
 use test_runs::examples::latest::{COSTS, DUE_ARC, EQUAL_DUE, PREEMPTED, TWO_ARCS};
 use test_runs::examples::parallel::{DEALT, FOURS, ONE_LONG, ONES};
 use test_runs::examples::shops::{FLOW, FLOW_ZEROS, OPEN};
@@ -234,14 +234,9 @@ fn evaluate_on(
 
 /// Where this call of the writer fails, the run fails, and there is no further call.
 fn stops_at(rt: &HostRuntime, request: &Request, call: u64) -> bool {
-    let failure = Failure {
-        call,
-        way: Way::Error,
-        heals: true,
-    };
     let mut instance = Source::new(FOURS.instance);
     let mut answer = Source::new(FOURS.answer);
-    let mut sink = Sink::new(rt.alloc()).by(1).failing(failure);
+    let mut sink = Sink::new(rt.alloc()).by(1).failing(Failure::once(call));
     let result = evaluate_on(rt, request, &mut instance, &mut answer, &mut sink);
     result == Err(Ending::Device) && sink.calls() == call
 }

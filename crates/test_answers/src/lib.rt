@@ -1,7 +1,10 @@
-//! Tests over the runs that take an answer: it is judged, drawn, pictured and evaluated. And what is
-//! said of faults that no session comes to.
+//! Tests over the runs that take an answer: it is judged, drawn, pictured, evaluated, and assessed by
+//! a bound; and over the runs that print a bound or rate orders. And what is said of faults that no
+//! session comes to.
 #![tactic(auto)]
 
+#[cfg(test)]
+mod bounds;
 #[cfg(test)]
 mod checked;
 #[cfg(test)]
@@ -10,6 +13,10 @@ mod dated;
 mod drawn;
 #[cfg(test)]
 mod evaluated;
+#[cfg(test)]
+mod offers;
+#[cfg(test)]
+mod orders;
 #[cfg(test)]
 mod pictured;
 #[cfg(test)]

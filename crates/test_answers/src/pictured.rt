@@ -2,7 +2,7 @@
 use refusing::Refusing;
 use std::alloc::{Allocator, Global};
 use std::test::Fail;
-use test_runs::devices::{Failure, Sink, Way};
+use test_runs::devices::{Failure, Sink};
 use test_runs::examples::{Example, answer_in, worked};
 use test_runs::growths::{Ended, refuse_each_growth};
 use test_runs::runs::{Ending, LAYOUTS, ending_of, ensure};
@@ -120,12 +120,7 @@ fn a_writer_that_fails_has_a_prefix(rt: HostRuntime) -> Result<(), Fail> {
 
 /// Where this call of the writer fails, 17 bytes were taken in each call before it.
 fn has_prefix(rt: &HostRuntime, call: u64) -> bool {
-    let failure = Failure {
-        call,
-        way: Way::Error,
-        heals: true,
-    };
-    let mut sink = Sink::new(rt.alloc()).by(17).failing(failure);
+    let mut sink = Sink::new(rt.alloc()).by(17).failing(Failure::once(call));
     let outcome = picture_on(rt, &mut sink);
     let taken = sink.taken();
     outcome == Ending::Device

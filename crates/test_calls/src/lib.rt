@@ -1,5 +1,5 @@
 //! Tests over single public calls, of what no command line shows: the model, schedules, a
-//! certificate, and texts of bytes or lengths that no session has.
+//! certificate, and texts of bytes or lengths that no session has. And runs over the greatest sizes.
 //!
 //! The wanted values are worked out by hand from the formats of the texts.
 #![tactic(auto)]
@@ -10,6 +10,8 @@ mod answer_texts;
 mod certificates;
 #[cfg(test)]
 mod instance_texts;
+#[cfg(test)]
+mod limits;
 #[cfg(test)]
 mod model;
 #[cfg(test)]

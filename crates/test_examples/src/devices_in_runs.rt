@@ -6,50 +6,11 @@ use test_runs::devices::{Failure, Sink, Source, Way};
 use test_runs::examples::files::{SECOND_OF_TWO, SHOP, TARDINESS, TWO_OF_THREE};
 use test_runs::examples::parallel::FOURS;
 use test_runs::examples::{Example, Given, answer_in, worked};
-use test_runs::runs::{Ending, LAYOUTS, ending_of, ensure, request, request_for};
+use test_runs::growths::ample;
+use test_runs::runs::{Ending, LAYOUTS, check_on, draw_on, ensure, request, request_for, solve_on};
 use tf_engine::request::Request;
-use tf_engine::run_check::{Checked, run_check};
-use tf_engine::run_gantt::run_gantt;
-use tf_engine::run_solve::run_solve;
 use tf_read::fault::ReadFault;
 use tf_text::answer::layout::Layout;
-use tf_text::counted::Counted;
-
-fn solve(alloc: Global, request: &Request, source: &mut Source<'_>, sink: &mut Sink) -> Ending {
-    let mut reader = Counted::new(source);
-    let mut writer = Counted::new(sink);
-    match run_solve(alloc, request, &mut reader, &mut writer) {
-        Ok(()) => Ending::Answered,
-        Err(fault) => ending_of(&fault),
-    }
-}
-
-/// A check that does not accept has another ending.
-fn check(
-    alloc: Global,
-    request: &Request,
-    source: &mut Source<'_>,
-    other: &mut Source<'_>,
-    sink: &mut Sink,
-) -> Ending {
-    let mut instance = Counted::new(source);
-    let mut answer = Counted::new(other);
-    let mut writer = Counted::new(sink);
-    match run_check(alloc, request, &mut instance, &mut answer, &mut writer) {
-        Ok(Checked::Accepted) => Ending::Answered,
-        Ok(_) => Ending::Other,
-        Err(fault) => ending_of(&fault),
-    }
-}
-
-fn draw(alloc: Global, source: &mut Source<'_>, sink: &mut Sink) -> Ending {
-    let mut reader = Counted::new(source);
-    let mut writer = Counted::new(sink);
-    match run_gantt(alloc, &mut reader, &mut writer, 72) {
-        Ok(()) => Ending::Answered,
-        Err(fault) => ending_of(&fault),
-    }
-}
 
 #[derive(Clone, Copy)]
 enum Run {
@@ -65,9 +26,10 @@ enum Failing {
     Answer,
 }
 
-/// A run, and the texts that it may read.
+/// A run on a heap, and the texts that it may read.
 #[derive(Clone, Copy)]
 struct Asked<'a> {
+    heap: &'a Refusing<Global>,
     run: Run,
     request: &'a Request,
     instance: &'a [u8],
@@ -75,17 +37,11 @@ struct Asked<'a> {
 }
 
 impl Asked<'_> {
-    fn ends(
-        &self,
-        alloc: Global,
-        source: &mut Source<'_>,
-        other: &mut Source<'_>,
-        sink: &mut Sink,
-    ) -> Ending {
+    fn ends(&self, source: &mut Source<'_>, other: &mut Source<'_>, sink: &mut Sink) -> Ending {
         match self.run {
-            Run::Solve => solve(alloc, self.request, source, sink),
-            Run::Check => check(alloc, self.request, source, other, sink),
-            Run::Draw => draw(alloc, other, sink),
+            Run::Solve => solve_on(self.heap, self.request, source, sink),
+            Run::Check => check_on(self.heap, self.request, source, other, sink),
+            Run::Draw => draw_on(self.heap, other, sink),
         }
     }
 
@@ -94,7 +50,7 @@ impl Asked<'_> {
         let mut source = Source::new(self.instance).by(1);
         let mut other = Source::new(self.answer).by(1);
         let mut sink = Sink::new(alloc).by(1);
-        let ending = self.ends(alloc, &mut source, &mut other, &mut sink);
+        let ending = self.ends(&mut source, &mut other, &mut sink);
         ending == Ending::Answered && sink.taken() == wanted
     }
 
@@ -104,7 +60,7 @@ impl Asked<'_> {
         let mut source = Source::new(self.instance).by(5).failing(failure);
         let mut other = Source::new(self.answer);
         let mut sink = Sink::new(alloc);
-        self.ends(alloc, &mut source, &mut other, &mut sink) == Ending::Device
+        self.ends(&mut source, &mut other, &mut sink) == Ending::Device
             && source.calls() == failure.call
             && other.calls() == 0
             && sink.calls() == 0
@@ -116,7 +72,7 @@ impl Asked<'_> {
         let mut source = Source::new(self.instance);
         let mut other = Source::new(self.answer).by(5).failing(failure);
         let mut sink = Sink::new(alloc);
-        self.ends(alloc, &mut source, &mut other, &mut sink) == Ending::Device
+        self.ends(&mut source, &mut other, &mut sink) == Ending::Device
             && other.calls() == failure.call
             && sink.calls() == 0
     }
@@ -145,7 +101,7 @@ impl Asked<'_> {
         let mut source = Source::new(self.instance);
         let mut other = Source::new(self.answer);
         let mut sink = Sink::new(alloc).by(1).failing(failure);
-        let ending = self.ends(alloc, &mut source, &mut other, &mut sink);
+        let ending = self.ends(&mut source, &mut other, &mut sink);
         let taken = sink.taken();
         ending == Ending::Device
             && sink.calls() == failure.call
@@ -164,9 +120,15 @@ impl Asked<'_> {
     }
 }
 
-/// The runs of an example, with what each of them writes.
-fn runs<'a>(request: &'a Request, example: &'a Example, answer: &'a [u8]) -> [Asked<'a>; 3] {
+/// The runs of an example: solving it, checking this answer and drawing it.
+fn runs<'a>(
+    heap: &'a Refusing<Global>,
+    request: &'a Request,
+    example: &'a Example,
+    answer: &'a [u8],
+) -> [Asked<'a>; 3] {
     let solving = Asked {
+        heap,
         run: Run::Solve,
         request,
         instance: example.instance,
@@ -191,7 +153,8 @@ fn is_answered_by_bytes(
 ) -> Result<bool, AllocError> {
     let request = request_for(rt, example, layout)?;
     let answer = answer_in(rt, example, layout)?;
-    let [solving, checking, drawing] = runs(&request, example, &answer);
+    let heap = ample(rt.alloc());
+    let [solving, checking, drawing] = runs(&heap, &request, example, &answer);
     Ok(
         solving.writes_by_bytes(rt.alloc(), &answer)
             && checking.writes_by_bytes(rt.alloc(), b"accepted\n")
@@ -235,7 +198,8 @@ fn reader_failures(text: &[u8]) -> u64 {
 /// An example is solved, and each call of its reader fails in turn.
 fn is_solving_cut_off(rt: &HostRuntime, example: &Example) -> Result<bool, AllocError> {
     let request = request_for(rt, example, Layout::Two)?;
-    let [solving, ..] = runs(&request, example, example.answer);
+    let heap = ample(rt.alloc());
+    let [solving, ..] = runs(&heap, &request, example, example.answer);
     Ok(solving.is_cut_off_by_each(rt.alloc(), Failing::Instance))
 }
 
@@ -243,7 +207,8 @@ fn is_solving_cut_off(rt: &HostRuntime, example: &Example) -> Result<bool, Alloc
 fn is_reading_cut_off(rt: &HostRuntime, layout: Layout) -> Result<bool, AllocError> {
     let request = request_for(rt, &FOURS, Layout::One)?;
     let answer = answer_in(rt, &FOURS, layout)?;
-    let [_, checking, drawing] = runs(&request, &FOURS, &answer);
+    let heap = ample(rt.alloc());
+    let [_, checking, drawing] = runs(&heap, &request, &FOURS, &answer);
     Ok(
         checking.is_cut_off_by_each(rt.alloc(), Failing::Instance)
             && checking.is_cut_off_by_each(rt.alloc(), Failing::Answer)
@@ -287,7 +252,8 @@ fn writer_failures(text: &[u8]) -> u64 {
 fn is_solving_cut_short(rt: &HostRuntime, layout: Layout) -> Result<bool, AllocError> {
     let request = request_for(rt, &FOURS, layout)?;
     let answer = answer_in(rt, &FOURS, layout)?;
-    let [solving, ..] = runs(&request, &FOURS, &answer);
+    let heap = ample(rt.alloc());
+    let [solving, ..] = runs(&heap, &request, &FOURS, &answer);
     Ok(solving.is_cut_short_by_each(rt.alloc(), &answer))
 }
 
@@ -295,7 +261,8 @@ fn is_solving_cut_short(rt: &HostRuntime, layout: Layout) -> Result<bool, AllocE
 fn is_judging_cut_short(rt: &HostRuntime, layout: Layout) -> Result<bool, AllocError> {
     let request = request_for(rt, &FOURS, Layout::One)?;
     let answer = answer_in(rt, &FOURS, layout)?;
-    let [_, checking, drawing] = runs(&request, &FOURS, &answer);
+    let heap = ample(rt.alloc());
+    let [_, checking, drawing] = runs(&heap, &request, &FOURS, &answer);
     Ok(
         checking.is_cut_short_by_each(rt.alloc(), b"accepted\n")
             && drawing.is_cut_short_by_each(rt.alloc(), FOURS.chart),
@@ -318,15 +285,16 @@ const BEHIND: Failure = Failure {
     heals: true,
 };
 
-/// Solving ends so, after so many calls of the reader, and writes nothing.
+/// Solving on this heap ends so, after so many calls of the reader, and writes nothing.
 fn ends_after(
+    heap: &Refusing<Global>,
     alloc: Global,
     request: &Request,
     mut source: Source<'_>,
     end: (Ending, u64),
 ) -> bool {
     let mut sink = Sink::new(alloc);
-    let ending = solve(alloc, request, &mut source, &mut sink);
+    let ending = solve_on(heap, request, &mut source, &mut sink);
     (ending, source.calls()) == end && sink.calls() == 0
 }
 
@@ -334,28 +302,23 @@ fn ends_after(
 fn a_failing_reader_comes_before_a_fault_of_the_text(rt: HostRuntime) -> Result<(), Fail> {
     let first = Given::Tardiness { jobs: 3, index: 1 };
     let request = request(&rt, "1||Lmax", first, Layout::Two)?;
-    let source = Source::new(b"x 3 1\n").by(1);
-    let end = (Ending::Text(ReadFault::BadNumber(1)), 7);
-    let is_read = ends_after(rt.alloc(), &request, source, end);
-    let source = Source::new(b"x 3 1\n").by(1).failing(BEHIND);
-    let end = (Ending::Device, BEHIND.call);
-    let is_cut_off = ends_after(rt.alloc(), &request, source, end);
+    let is_read = ends_in_bad_number(rt.alloc(), &request);
+    let is_cut_off = ends_in_device(rt.alloc(), &request);
     ensure(is_read && is_cut_off, "another outcome")
 }
 
-/// How solving ends on this heap.
-fn solve_on(
-    heap: &Refusing<Global>,
-    request: &Request,
-    source: &mut Source<'_>,
-    sink: &mut Sink,
-) -> Ending {
-    let mut reader = Counted::new(source);
-    let mut writer = Counted::new(sink);
-    match run_solve(heap, request, &mut reader, &mut writer) {
-        Ok(()) => Ending::Answered,
-        Err(fault) => ending_of(&fault),
-    }
+/// The text `x 3 1`, byte by byte: its seven calls are made, and the first number is at fault.
+fn ends_in_bad_number(alloc: Global, request: &Request) -> bool {
+    let source = Source::new(b"x 3 1\n").by(1);
+    let end = (Ending::Text(ReadFault::BadNumber(1)), 7);
+    ends_after(&ample(alloc), alloc, request, source, end)
+}
+
+/// The same where a call fails behind the fault.
+fn ends_in_device(alloc: Global, request: &Request) -> bool {
+    let source = Source::new(b"x 3 1\n").by(1).failing(BEHIND);
+    let end = (Ending::Device, BEHIND.call);
+    ends_after(&ample(alloc), alloc, request, source, end)
 }
 
 /// Solving without memory ends so, after so many calls of the reader, and writes nothing. A growth
@@ -363,13 +326,11 @@ fn solve_on(
 fn ends_without_memory(
     alloc: Global,
     request: &Request,
-    mut source: Source<'_>,
+    source: Source<'_>,
     end: (Ending, u64),
 ) -> bool {
-    let mut sink = Sink::new(alloc);
     let heap = Refusing::new(alloc, 0);
-    let ending = solve_on(&heap, request, &mut source, &mut sink);
-    (ending, source.calls()) == end && sink.calls() == 0 && heap.has_refused()
+    ends_after(&heap, alloc, request, source, end) && heap.has_refused()
 }
 
 /// The sizes of the shop stand in its third part of 30 bytes.

@@ -3,7 +3,7 @@ use refusing::Refusing;
 use std::alloc::{Allocator, Global};
 use std::test::Fail;
 use test_runs::examples::{Example, Given, worked};
-use test_runs::growths::{Ended, refuse_each_growth};
+use test_runs::growths::{Ended, ample, refuse_each_growth};
 use test_runs::runs::ensure;
 use tf_check::answer::Answer;
 use tf_check::certificate::Certificate;
@@ -98,14 +98,18 @@ impl Lent {
         Fail::new(self.example.name)
     }
 
+    /// The answer to the task is that of the example.
+    fn is_answered<A: Allocator>(&self, rt: &HostRuntime, task: &Task<A>) -> Result<Ended, Fail> {
+        match solve(&ample(rt.alloc()), task) {
+            Ok(answer) => self.is_answer(rt, task, answer),
+            Err(_) => Err(self.fails()),
+        }
+    }
+
     /// The task is one whose answer is that of the example.
     fn prepares(&self, rt: &HostRuntime, heap: &Refusing<Global>) -> Result<Ended, Fail> {
         match prepare(heap, &self.instance, &self.problem, None) {
-            Ok(task) => {
-                let ample = Refusing::new(rt.alloc(), u64::MAX);
-                let answer = solve(&ample, &task).ok().ok_or("no answer")?;
-                self.is_answer(rt, &task, answer)
-            }
+            Ok(task) => self.is_answered(rt, &task),
             Err(Refusal::OutOfMemory) => Ok(Ended::OutOfMemory),
             Err(_) => Err(self.fails()),
         }
@@ -179,9 +183,16 @@ impl Lent {
         refuse_each_growth(rt, checks)
     }
 
-    fn growths_of_judging(&self, rt: &HostRuntime) -> Result<u64, Fail> {
+    fn schedule(&self, rt: &HostRuntime) -> Result<Schedule, Fail> {
         let pieces = self.answer.pieces.as_slice().to_vec(rt.alloc())?;
-        let schedule = Schedule::new(pieces).ok().ok_or("no schedule")?;
+        match Schedule::new(pieces) {
+            Ok(schedule) => Ok(schedule),
+            Err(_) => Err(self.fails()),
+        }
+    }
+
+    fn growths_of_judging(&self, rt: &HostRuntime) -> Result<u64, Fail> {
+        let schedule = self.schedule(rt)?;
         let judges = |heap: &Refusing<Global>| self.judges(heap, &schedule);
         refuse_each_growth(rt, judges)
     }

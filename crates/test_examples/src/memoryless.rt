@@ -1,14 +1,11 @@
 //! Refusals that come before want of memory, and calls that ask for no growth.
 use refusing::Refusing;
-use std::alloc::{Allocator, Global};
+use std::alloc::Global;
 use std::test::Fail;
 use test_runs::devices::{Sink, Source};
 use test_runs::examples::parallel::FOURS;
-use test_runs::runs::{ensure, request_table};
-use tf_engine::fault::RunFault;
+use test_runs::runs::{Ending, check_on, ensure, request_table, solve_on};
 use tf_engine::request::Request;
-use tf_engine::run_check::{Checked, run_check};
-use tf_engine::run_solve::run_solve;
 use tf_model::ids::JobId;
 use tf_model::instance::Instance;
 use tf_model::prepare::{Field, Refusal, prepare};
@@ -17,7 +14,6 @@ use tf_notation::reading::read;
 use tf_read::fault::ReadFault;
 use tf_read::flow_shop::FlowReader;
 use tf_read::job_table::read_table;
-use tf_text::counted::Counted;
 use tf_words::feed::Feed;
 
 /// Problems that are refused, with the byte of the fault where it is one of the notation.
@@ -35,53 +31,26 @@ const REFUSED: &[(&str, Option<usize>)] = &[
     ("1|rj|Lmax", None),
 ];
 
+/// The run ends with a fault of the notation at this byte, or without a solver where none is given.
+fn end_of(byte: Option<usize>) -> Ending {
+    match byte {
+        Some(byte) => Ending::Notation(byte),
+        None => Ending::Task(Refusal::NoSolver),
+    }
+}
+
 /// How many growths are granted: none, and more than any call asks for.
 const GRANTED: &[u64] = &[0, 1_000_000_000];
 
 type Heap = Refusing<Global>;
 
-/// The fault is of the notation at this byte, or there is no solver where none is given.
-fn is_told(fault: &RunFault<&Heap>, byte: Option<usize>) -> bool {
-    match (fault, byte) {
-        (RunFault::Notation(fault), Some(byte)) => fault.byte == byte,
-        (RunFault::Task(Refusal::NoSolver), None) => true,
-        _ => false,
-    }
-}
-
-fn solved<'a>(
-    heap: &'a Heap,
-    request: &Request,
-    instance: &mut Source,
-    sink: &mut Sink,
-) -> Result<(), RunFault<&'a Heap>> {
-    let mut reader = Counted::new(instance);
-    let mut writer = Counted::new(sink);
-    run_solve(heap, request, &mut reader, &mut writer)
-}
-
-fn checked<'a>(
-    heap: &'a Heap,
-    request: &Request,
-    instance: &mut Source,
-    answer: &mut Source,
-    sink: &mut Sink,
-) -> Result<Checked, RunFault<&'a Heap>> {
-    let mut reader = Counted::new(instance);
-    let mut other = Counted::new(answer);
-    let mut writer = Counted::new(sink);
-    run_check(heap, request, &mut reader, &mut other, &mut writer)
-}
-
 /// Solving refuses the problem, reads nothing and writes nothing.
 fn solving_refuses(alloc: Global, heap: &Heap, request: &Request, byte: Option<usize>) -> bool {
     let mut instance = Source::new(FOURS.instance);
     let mut sink = Sink::new(alloc);
-    let is_told = match solved(heap, request, &mut instance, &mut sink) {
-        Ok(_) => false,
-        Err(fault) => is_told(&fault, byte),
-    };
-    is_told && instance.calls() == 0 && sink.calls() == 0
+    solve_on(heap, request, &mut instance, &mut sink) == end_of(byte)
+        && instance.calls() == 0
+        && sink.calls() == 0
 }
 
 /// Checking refuses the problem, reads nothing and writes nothing.
@@ -89,11 +58,10 @@ fn checking_refuses(alloc: Global, heap: &Heap, request: &Request, byte: Option<
     let mut instance = Source::new(FOURS.instance);
     let mut answer = Source::new(FOURS.answer);
     let mut sink = Sink::new(alloc);
-    let is_told = match checked(heap, request, &mut instance, &mut answer, &mut sink) {
-        Ok(_) => false,
-        Err(fault) => is_told(&fault, byte),
-    };
-    is_told && instance.calls() == 0 && answer.calls() == 0 && sink.calls() == 0
+    check_on(heap, request, &mut instance, &mut answer, &mut sink) == end_of(byte)
+        && instance.calls() == 0
+        && answer.calls() == 0
+        && sink.calls() == 0
 }
 
 /// Both runs refuse the problem, read nothing, write nothing, and ask for no growth.

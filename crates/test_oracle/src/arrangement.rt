@@ -51,11 +51,15 @@ pub fn advance<T: Ord>(row: &mut [T]) -> bool {
 /// filling turns into the first, which is idle throughout, and then the answer is `false`.
 pub fn fill_next(cells: &mut [Cell], most: usize) -> bool {
     for cell in cells.iter_mut() {
-        let number = cell.map_or(0, |job| job.get());
-        *cell = JobId::new(number.saturating_add(1)).filter(|job| job.get() as usize <= most);
-        if cell.is_some() {
+        let number = match *cell {
+            None => 0,
+            Some(job) => job.get(),
+        };
+        if (number as usize) < most {
+            *cell = JobId::new(number.saturating_add(1));
             return true;
         }
+        *cell = None;
     }
     false
 }

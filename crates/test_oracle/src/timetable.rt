@@ -263,7 +263,10 @@ pub fn least_cost(alloc: Global, task: &SmallTask) -> Result<Option<i64>, AllocE
     for _ in 0..u64::MAX {
         if timetable.fits(task) {
             let cost = timetable.cost(task);
-            least = Some(least.map_or(cost, |least| least.min(cost)));
+            least = Some(match least {
+                None => cost,
+                Some(least) => least.min(cost),
+            });
         }
         if !timetable.next_of(task) {
             break;

@@ -23,6 +23,17 @@ pub struct Failure {
     pub heals: bool,
 }
 
+impl Failure {
+    /// This call is an error, and those after it work.
+    pub fn once(call: u64) -> Failure {
+        Failure {
+            call,
+            way: Way::Error,
+            heals: true,
+        }
+    }
+}
+
 /// The calls of a device, one of which fails.
 #[derive(Clone, Copy)]
 struct Calls {

@@ -20,6 +20,11 @@ const MANY: u64 = 400;
 /// More growths than any call asks for, and few enough that none counts as refused.
 const AMPLE: u64 = 1_000_000_000;
 
+/// A heap that grants each growth.
+pub fn ample(alloc: Global) -> Refusing<Global> {
+    Refusing::new(alloc, AMPLE)
+}
+
 /// Makes the call with growth n refused, for n = 0, 1, .. until it meets no refusal; and after each
 /// of them once more with ample memory, with which it answers. How many growths it asks for.
 pub fn refuse_each_growth<F: Fn(&Refusing<Global>) -> Result<Ended, Fail>>(
@@ -35,8 +40,7 @@ pub fn refuse_each_growth<F: Fn(&Refusing<Global>) -> Result<Ended, Fail>>(
             ensure(ended == Ended::Answered, "want of memory without a refusal")?;
             return Ok(growths);
         }
-        let ample = Refusing::new(rt.alloc(), AMPLE);
-        let again = call(&ample)?;
+        let again = call(&ample(rt.alloc()))?;
         ensure(again == Ended::Answered, "want of memory for ever")?;
     }
     Err(Fail::new("each call meets a refusal"))

@@ -2,8 +2,10 @@
 ghost use Rattle.std.specs.Prelude.{◌≤◌};
 ghost use Rattle.tf_text.specs.Chart.{most_columns};
 
+use crate::devices::{Sink, Source};
 use crate::examples::{Example, Given};
-use std::alloc::{AllocError, Allocator};
+use refusing::Refusing;
+use std::alloc::{AllocError, Allocator, Global};
 use std::test::Fail;
 use tf_engine::fault::RunFault;
 use tf_engine::request::{Form, Request};
@@ -32,6 +34,8 @@ pub fn ensure(is_so: bool, otherwise: &'static str) -> Result<(), Fail> {
 pub enum Ending {
     Answered,
     Device,
+    /// With a fault of the problem line at this byte, from 0.
+    Notation(usize),
     Text(ReadFault),
     Task(Refusal),
     Answer(AnswerFault),
@@ -43,6 +47,7 @@ pub enum Ending {
 pub fn ending_of<A: Allocator>(fault: &RunFault<A>) -> Ending {
     match fault {
         RunFault::Device => Ending::Device,
+        RunFault::Notation(fault) => Ending::Notation(fault.byte),
         RunFault::Text(fault) => Ending::Text(*fault),
         RunFault::Task(refusal) => Ending::Task(*refusal),
         RunFault::Answer(fault) => Ending::Answer(*fault),
@@ -130,4 +135,47 @@ pub fn draw_into<A: Allocator + Copy>(
     let mut answer = Counted::new(answer);
     let mut writer = Counted::new(out);
     run_gantt(alloc, &mut answer, &mut writer, columns)
+}
+
+/// How solving over devices ends.
+pub fn solve_on(
+    heap: &Refusing<Global>,
+    request: &Request,
+    source: &mut Source<'_>,
+    sink: &mut Sink,
+) -> Ending {
+    let mut reader = Counted::new(source);
+    let mut writer = Counted::new(sink);
+    match run_solve(heap, request, &mut reader, &mut writer) {
+        Ok(()) => Ending::Answered,
+        Err(fault) => ending_of(&fault),
+    }
+}
+
+/// How a check over devices ends. One that does not accept has another ending.
+pub fn check_on(
+    heap: &Refusing<Global>,
+    request: &Request,
+    source: &mut Source<'_>,
+    other: &mut Source<'_>,
+    sink: &mut Sink,
+) -> Ending {
+    let mut instance = Counted::new(source);
+    let mut answer = Counted::new(other);
+    let mut writer = Counted::new(sink);
+    match run_check(heap, request, &mut instance, &mut answer, &mut writer) {
+        Ok(Checked::Accepted) => Ending::Answered,
+        Ok(_) => Ending::Other,
+        Err(fault) => ending_of(&fault),
+    }
+}
+
+/// How drawing in 72 columns over devices ends.
+pub fn draw_on(heap: &Refusing<Global>, source: &mut Source<'_>, sink: &mut Sink) -> Ending {
+    let mut reader = Counted::new(source);
+    let mut writer = Counted::new(sink);
+    match run_gantt(heap, &mut reader, &mut writer, 72) {
+        Ok(()) => Ending::Answered,
+        Err(fault) => ending_of(&fault),
+    }
 }

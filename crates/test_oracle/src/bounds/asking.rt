@@ -1,6 +1,6 @@
 //! Small tasks in the program's own types, and their strongest bounds.
 use super::small_task::{SmallJob, SmallTask};
-use std::alloc::Global;
+use std::alloc::{AllocError, Global};
 use std::test::Fail;
 use tf_bound::job_times::JobTimes;
 use tf_bound::task::{ProblemJob, ProblemTask};
@@ -8,7 +8,7 @@ use tf_model::ids::JobId;
 use tf_search::effort::{Effort, Nobody};
 use tf_search::strongest::strongest;
 
-fn problem_job(alloc: Global, task: &SmallTask, job: &SmallJob) -> Result<ProblemJob, Fail> {
+fn problem_job(alloc: Global, task: &SmallTask, job: &SmallJob) -> Result<ProblemJob, AllocError> {
     let count = if task.problem.env.is_shop() {
         task.machines
     } else {
@@ -31,17 +31,27 @@ fn job_id(place: usize) -> Option<JobId> {
     JobId::new(u32::try_from(place).ok()?.checked_add(1)?)
 }
 
-fn problem_task(alloc: Global, task: &SmallTask) -> Result<ProblemTask, Fail> {
+fn problem_jobs(alloc: Global, task: &SmallTask) -> Result<Vec<ProblemJob>, AllocError> {
     let mut jobs = Vec::new(alloc);
     for job in task.jobs.iter() {
         jobs.push(problem_job(alloc, task, job)?)?;
     }
+    Ok(jobs)
+}
+
+fn arcs_of(alloc: Global, task: &SmallTask) -> Result<Vec<(JobId, JobId)>, AllocError> {
     let mut arcs = Vec::new(alloc);
     for (before, after) in task.arcs.iter() {
         if let (Some(before), Some(after)) = (job_id(*before), job_id(*after)) {
             arcs.push((before, after))?;
         }
     }
+    Ok(arcs)
+}
+
+fn problem_task(alloc: Global, task: &SmallTask) -> Result<ProblemTask, Fail> {
+    let jobs = problem_jobs(alloc, task)?;
+    let arcs = arcs_of(alloc, task)?;
     let machines = u32::try_from(task.machines).unwrap_or(0);
     Ok(ProblemTask::new(task.problem, machines, jobs, arcs)?)
 }
@@ -51,5 +61,8 @@ pub fn bound_of(alloc: Global, task: &SmallTask) -> Result<Option<i128>, Fail> {
     let task = problem_task(alloc, task)?;
     let effort: Effort<Nobody> = Effort::untold(None);
     let found = strongest(alloc, &task, effort)?;
-    Ok(found.map(|found| found.value))
+    match found {
+        Some(found) => Ok(Some(found.value)),
+        None => Ok(None),
+    }
 }

@@ -54,7 +54,12 @@ impl Clock<'_> {
 
     // Whether all jobs that precede this one had their turns.
     fn may_take(&self, job: usize) -> bool {
-        self.task.arcs.iter().all(|(before, after)| *after != job || self.visits_of(*before) > 0)
+        for (before, after) in self.task.arcs.iter() {
+            if *after == job && self.visits_of(*before) == 0 {
+                return false;
+            }
+        }
+        true
     }
 
     fn take(&mut self, turn: Turn) {
@@ -79,17 +84,22 @@ impl Clock<'_> {
 
     fn cost(&self) -> i64 {
         let goal = self.task.problem.goal;
-        let prices = self
-            .task
-            .jobs
-            .iter()
-            .zip(self.jobs.iter())
-            .map(|(job, end)| job.price(goal, *end));
-        match goal {
-            Goal::Cmax | Goal::Lmax | Goal::Hmax => prices.max().unwrap_or(0),
-            _ => prices.fold(0, |sum: i64, price| sum.saturating_add(price)),
+        let mut cost: Option<i64> = None;
+        for (job, end) in self.task.jobs.iter().zip(self.jobs.iter()) {
+            let price = job.price(goal, *end);
+            cost = Some(match cost {
+                None => price,
+                Some(cost) if is_greatest(goal) => cost.max(price),
+                Some(cost) => cost.saturating_add(price),
+            });
         }
+        cost.unwrap_or(0)
     }
+}
+
+// Whether the objective is the greatest of what the jobs contribute; else it is the sum.
+fn is_greatest(goal: Goal) -> bool {
+    matches!(goal, Goal::Cmax | Goal::Lmax | Goal::Hmax)
 }
 
 // How long a job is on a machine in one turn.
@@ -113,13 +123,19 @@ fn turn_count(task: &SmallTask, job: &SmallJob) -> usize {
     }
 }
 
+// So many times the number by itself.
+fn power(number: usize, exponent: usize) -> usize {
+    let mut power: usize = 1;
+    for _ in 0..exponent {
+        power = power.saturating_mul(number);
+    }
+    power
+}
+
 /// How many ways there are to assign the jobs to machines before they are ordered.
 pub fn assignment_count(task: &SmallTask) -> usize {
     match task.problem.env {
-        Env::Parallel => task
-            .jobs
-            .iter()
-            .fold(1, |count: usize, _| count.saturating_mul(task.machines)),
+        Env::Parallel => power(task.machines, task.jobs.len()),
         _ => 1,
     }
 }

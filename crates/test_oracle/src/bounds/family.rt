@@ -60,24 +60,39 @@ impl Draws {
             due: self.pick(&[-1, 1, 2, 3, 4, 5, 6, 8]),
         }
     }
+
+    fn jobs(&mut self, alloc: Global, count: usize) -> Result<Vec<SmallJob>, AllocError> {
+        let mut jobs = Vec::new(alloc);
+        for _ in 0..count {
+            jobs.push(self.job())?;
+        }
+        Ok(jobs)
+    }
+
+    // Arcs between so many jobs, which lead from jobs to jobs after them.
+    fn arcs(&mut self, alloc: Global, count: usize) -> Result<Vec<(usize, usize)>, AllocError> {
+        let mut arcs = Vec::new(alloc);
+        for after in 0..count {
+            for before in 0..after {
+                if self.pick(&[0, 0, 1]) > 0 {
+                    arcs.push((before, after))?;
+                }
+            }
+        }
+        Ok(arcs)
+    }
 }
 
 impl Family {
     /// The task of a number. Arcs lead from jobs to jobs after them.
     pub fn task(&self, alloc: Global, number: u64) -> Result<SmallTask, AllocError> {
         let mut draws = Draws { state: number };
-        let mut jobs = Vec::new(alloc);
-        for _ in 0..self.size.jobs {
-            jobs.push(draws.job())?;
-        }
-        let mut arcs = Vec::new(alloc);
-        for after in 0..self.size.jobs {
-            for before in 0..after {
-                if self.problem.prec && draws.pick(&[0, 0, 1]) > 0 {
-                    arcs.push((before, after))?;
-                }
-            }
-        }
+        let jobs = draws.jobs(alloc, self.size.jobs)?;
+        let arcs = if self.problem.prec {
+            draws.arcs(alloc, self.size.jobs)?
+        } else {
+            Vec::new(alloc)
+        };
         Ok(SmallTask {
             problem: self.problem,
             machines: self.size.machines,

@@ -1,6 +1,6 @@
 //! What certificates bound, worked by hand.
 use super::tasks::{Sample, numbers, task_of};
-use std::alloc::Global;
+use std::alloc::{AllocError, Global};
 use std::test::Fail;
 use tf_bound::certificate::BoundCertificate;
 use tf_model::ids::JobId;
@@ -39,7 +39,7 @@ const CASES: &[Case] = &[
 ];
 
 // The jobs of these numbers.
-fn jobs_of(alloc: Global, values: &[u64]) -> Result<Vec<JobId>, Fail> {
+fn jobs_of(alloc: Global, values: &[u64]) -> Result<Vec<JobId>, AllocError> {
     let mut jobs = Vec::new(alloc);
     for value in values {
         jobs.push(JobId::at((value.saturating_sub(1) % 10) as usize))?;
@@ -47,7 +47,7 @@ fn jobs_of(alloc: Global, values: &[u64]) -> Result<Vec<JobId>, Fail> {
     Ok(jobs)
 }
 
-fn certificate(alloc: Global, kind: Kind, values: &[u64]) -> Result<BoundCertificate, Fail> {
+fn certificate(alloc: Global, kind: Kind, values: &[u64]) -> Result<BoundCertificate, AllocError> {
     let jobs = jobs_of(alloc, values)?;
     let given = numbers(alloc, values)?;
     Ok(match kind {
@@ -64,14 +64,21 @@ fn certificate(alloc: Global, kind: Kind, values: &[u64]) -> Result<BoundCertifi
     })
 }
 
+fn bound_of(
+    alloc: Global,
+    sample: Sample,
+    kind: Kind,
+    values: &[u64],
+) -> Result<Option<i128>, Fail> {
+    let task = task_of(alloc, sample)?;
+    let certificate = certificate(alloc, kind, values)?;
+    Ok(certificate.bound(alloc, &task).ok())
+}
+
 #[test]
 fn each_kind_bounds_what_was_worked_by_hand(rt: HostRuntime) -> Result<(), Fail> {
     for (sample, kind, values, bound) in CASES {
-        let task = task_of(rt.alloc(), *sample)?;
-        let found = certificate(rt.alloc(), *kind, values)?
-            .bound(rt.alloc(), &task)
-            .ok();
-        assert!(rt; found == *bound);
+        assert!(rt; bound_of(rt.alloc(), *sample, *kind, values)? == *bound);
     }
     Ok(())
 }

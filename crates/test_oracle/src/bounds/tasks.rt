@@ -1,5 +1,5 @@
 //! Small tasks whose optima are known.
-use std::alloc::Global;
+use std::alloc::{AllocError, Global};
 use std::test::Fail;
 use tf_bound::job_times::JobTimes;
 use tf_bound::task::{ProblemJob, ProblemTask};
@@ -65,12 +65,26 @@ fn rows_of(sample: Sample) -> &'static [Row] {
 }
 
 /// A copy of the numbers.
-pub fn numbers(alloc: Global, values: &[u64]) -> Result<Vec<u64>, Fail> {
-    let mut all = Vec::new(alloc);
-    for value in values {
-        all.push(*value)?;
+pub fn numbers(alloc: Global, values: &[u64]) -> Result<Vec<u64>, AllocError> {
+    Vec::from_slice(alloc, values)
+}
+
+fn job_of(alloc: Global, row: &Row) -> Result<ProblemJob, AllocError> {
+    let (times, weight, release, due) = *row;
+    Ok(ProblemJob {
+        times: JobTimes::Each(numbers(alloc, times)?),
+        weight,
+        release,
+        due,
+    })
+}
+
+fn jobs_of(alloc: Global, rows: &[Row]) -> Result<Vec<ProblemJob>, AllocError> {
+    let mut jobs = Vec::new(alloc);
+    for row in rows {
+        jobs.push(job_of(alloc, row)?)?;
     }
-    Ok(all)
+    Ok(jobs)
 }
 
 /// The task.
@@ -81,14 +95,6 @@ pub fn task_of(alloc: Global, sample: Sample) -> Result<ProblemTask, Fail> {
         prmu: sample == Sample::Flow,
         ..Problem::plain(env, goal)
     };
-    let mut jobs = Vec::new(alloc);
-    for (times, weight, release, due) in rows_of(sample) {
-        jobs.push(ProblemJob {
-            times: JobTimes::Each(numbers(alloc, times)?),
-            weight: *weight,
-            release: *release,
-            due: *due,
-        })?;
-    }
+    let jobs = jobs_of(alloc, rows_of(sample))?;
     Ok(ProblemTask::new(problem, machines, jobs, Vec::new(alloc))?)
 }

@@ -57,12 +57,17 @@ fn problem(kind: Kind) -> Problem {
     problem
 }
 
-/// The program's task. Each job has all fields, whatever the class uses.
-pub fn task_of(alloc: Global, task: &SmallTask) -> Result<Task, Fail> {
+fn instance_jobs(alloc: Global, task: &SmallTask) -> Result<Vec<Job>, Fail> {
     let mut jobs = Vec::new(alloc);
     for job in task.jobs.iter() {
         jobs.push(instance_job(alloc, task, job)?)?;
     }
+    Ok(jobs)
+}
+
+/// The program's task. Each job has all fields, whatever the class uses.
+pub fn task_of(alloc: Global, task: &SmallTask) -> Result<Task, Fail> {
+    let jobs = instance_jobs(alloc, task)?;
     let arcs = Vec::from_slice(alloc, &task.arcs)?;
     let instance = Instance::new(jobs, arcs, None)?;
     let machines = u32::try_from(task.machine_count()).ok();

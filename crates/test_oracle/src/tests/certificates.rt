@@ -15,20 +15,25 @@ use tf_model::job_list::JobList;
 /// The deltas of splits: below 0, each time that an operation of the small tasks takes, and more.
 const DELTAS: [i64; 6] = [-1, 0, 1, 2, 3, 4];
 
-/// All lists of at most three of the jobs from 1 to this number and one more, which is not there.
-pub fn lists(alloc: Global, jobs: u32) -> Result<Vec<Vec<JobId>>, AllocError> {
-    let numbers = u64::from(jobs).saturating_add(2);
-    let mut lists = Vec::new(alloc);
-    for code in 0..numbers.saturating_pow(3) {
-        let mut list = Vec::new(alloc);
-        let mut rest = code;
-        for _ in 0..3 {
-            if let Some(job) = u32::try_from(rest % numbers).ok().and_then(JobId::new) {
-                list.push(job)?;
-            }
-            rest /= numbers;
+/// The jobs whose numbers are the last three digits of a code. The digit 0 is none.
+fn list_of_code(alloc: Global, code: u32, digits: u32) -> Result<Vec<JobId>, AllocError> {
+    let mut list = Vec::new(alloc);
+    let mut rest = code;
+    for _ in 0..3 {
+        if let Some(job) = JobId::new(rest % digits.max(1)) {
+            list.push(job)?;
         }
-        lists.push(list)?;
+        rest /= digits.max(1);
+    }
+    Ok(list)
+}
+
+/// All lists of at most three of the jobs from 1 to this number and one more, which is not there.
+fn lists(alloc: Global, jobs: u32) -> Result<Vec<Vec<JobId>>, AllocError> {
+    let digits = jobs.saturating_add(2);
+    let mut lists = Vec::new(alloc);
+    for code in 0..digits.saturating_pow(3) {
+        lists.push(list_of_code(alloc, code, digits)?)?;
     }
     Ok(lists)
 }

@@ -1,14 +1,13 @@
 //! Orders and pieces that are rated, where memory is refused or a device fails.
 use refusing::Refusing;
-use std::alloc::{AllocError, Allocator, Global};
+use std::alloc::{AllocError, Global};
 use std::test::Fail;
-use test_runs::devices::{Failure, Sink, Source, Way};
+use test_runs::devices::{Failure, Sink, Source};
 use test_runs::examples::Given;
-use test_runs::growths::{Ended, refuse_each_growth};
-use test_runs::runs::{ensure, request};
-use tf_engine::fault::RunFault;
+use test_runs::growths::{Ended, ample, refuse_each_growth};
+use test_runs::runs::{Ending, ending_of, ensure, request};
 use tf_engine::request::Request;
-use tf_orders::run_orders::{OrderForm, OrdersRated, OrdersRequest, run_orders};
+use tf_orders::run_orders::{OrderForm, OrdersRequest, run_orders};
 use tf_text::answer::layout::Layout;
 use tf_text::counted::Counted;
 
@@ -65,83 +64,80 @@ fn request_of(rt: &HostRuntime, case: &Case) -> Result<Request, AllocError> {
     request(rt, case.problem, Given::Table, Layout::Two)
 }
 
-/// Rates the text of a case.
-fn rate<A: Allocator + Copy>(
-    alloc: A,
+/// How rating the text of a case ends, over an instance that never fails.
+fn rate(
+    heap: &Refusing<Global>,
     request: &Request,
     form: OrderForm,
     orders: &mut Source<'_>,
     sink: &mut Sink,
-) -> Result<OrdersRated, RunFault<A>> {
-    let mut source = Source::new(INSTANCE);
-    let mut reader = Counted::new(&mut source);
+) -> Ending {
+    let mut reader = Counted::new(INSTANCE);
     let mut other = Counted::new(orders);
     let mut writer = Counted::new(sink);
     let asked = OrdersRequest { request, form };
-    run_orders(alloc, asked, &mut reader, &mut other, &mut writer)
+    match run_orders(heap, asked, &mut reader, &mut other, &mut writer) {
+        Ok(_) => Ending::Answered,
+        Err(fault) => ending_of(&fault),
+    }
 }
 
 /// All of it is written, or nothing is.
 fn rated_on(
     heap: &Refusing<Global>,
-    global: Global,
+    alloc: Global,
     request: &Request,
     case: &Case,
 ) -> Result<Ended, Fail> {
     let mut orders = Source::new(case.text);
-    let mut sink = Sink::new(global);
+    let mut sink = Sink::new(alloc);
     match rate(heap, request, case.form, &mut orders, &mut sink) {
-        Ok(_) => {
-            ensure(sink.taken() == case.written, "another text")?;
-            Ok(Ended::Answered)
-        }
-        Err(RunFault::OutOfMemory) => {
-            ensure(sink.calls() == 0, "something was written")?;
-            Ok(Ended::OutOfMemory)
-        }
-        Err(_) => Err(Fail::new("another fault")),
+        Ending::Answered if sink.taken() == case.written => Ok(Ended::Answered),
+        Ending::OutOfMemory if sink.calls() == 0 => Ok(Ended::OutOfMemory),
+        _ => Err(Fail::new("another outcome")),
     }
+}
+
+fn is_rated(rt: &HostRuntime, case: &Case) -> Result<bool, Fail> {
+    let alloc = rt.alloc();
+    let request = request_of(rt, case)?;
+    let growths = refuse_each_growth(rt, |heap| rated_on(heap, alloc, &request, case))?;
+    Ok(growths > 0)
 }
 
 #[test]
 fn orders_are_rated_or_memory_was_refused(rt: HostRuntime) -> Result<(), Fail> {
-    let global = rt.alloc();
     for case in CASES.iter() {
-        let request = request_of(&rt, case)?;
-        let growths = refuse_each_growth(&rt, |heap| rated_on(heap, global, &request, case))?;
-        ensure(growths > 0, "no growth")?;
+        ensure(is_rated(&rt, case)?, "no growth")?;
     }
     Ok(())
 }
 
 /// The reader of the orders fails at this call.
-fn orders_are_cut_off(
-    rt: &HostRuntime,
-    request: &Request,
-    case: &Case,
-    call: u64,
-) -> Result<(), Fail> {
-    let failure = Failure {
-        call,
-        way: Way::Error,
-        heals: true,
-    };
-    let mut orders = Source::new(case.text).by(5).failing(failure);
-    let mut sink = Sink::new(rt.alloc());
-    let ended = rate(rt.alloc(), request, case.form, &mut orders, &mut sink);
-    ensure(ended == Err(RunFault::Device), "another outcome")?;
-    ensure(orders.calls() == call, "another number of reads")?;
-    ensure(sink.calls() == 0, "something was written")
+fn are_cut_off_at(alloc: Global, request: &Request, case: &Case, call: u64) -> bool {
+    let mut orders = Source::new(case.text).by(5).failing(Failure::once(call));
+    let mut sink = Sink::new(alloc);
+    rate(&ample(alloc), request, case.form, &mut orders, &mut sink) == Ending::Device
+        && orders.calls() == call
+        && sink.calls() == 0
+}
+
+/// Each call of the reader of the orders fails in turn.
+fn are_cut_off(rt: &HostRuntime, case: &Case) -> Result<bool, AllocError> {
+    let request = request_of(rt, case)?;
+    let calls = (case.text.len() as u64).div_ceil(5) + 1;
+    for call in 1..calls.saturating_add(1) {
+        if !are_cut_off_at(rt.alloc(), &request, case, call) {
+            return Ok(false);
+        }
+    }
+    Ok(true)
 }
 
 #[test]
 fn nothing_is_written_where_orders_cannot_be_read(rt: HostRuntime) -> Result<(), Fail> {
     for case in CASES.iter() {
-        let request = request_of(&rt, case)?;
-        let calls = (case.text.len() as u64).div_ceil(5) + 1;
-        for call in 1..calls.saturating_add(1) {
-            orders_are_cut_off(&rt, &request, case, call)?;
-        }
+        ensure(are_cut_off(&rt, case)?, "another outcome or call")?;
     }
     Ok(())
 }

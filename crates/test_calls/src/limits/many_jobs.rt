@@ -1,7 +1,7 @@
 //! As many jobs and arcs as are allowed, and one more.
 ghost use Rattle.std.specs.Prelude.{◌≤◌};
 
-use crate::drawn::{push_pair, push_part};
+use crate::limits::drawn::{push_pair, push_part};
 use std::alloc::{AllocError, Global};
 use std::test::Fail;
 use test_runs::examples::Given;

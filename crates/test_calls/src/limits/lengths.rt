@@ -4,15 +4,12 @@ use std::test::Fail;
 use test_runs::devices::{Sink, Source};
 use test_runs::examples::Given;
 use test_runs::examples::parallel::FOURS;
-use test_runs::runs::{Ending, ending_of, request, request_for};
+use test_runs::growths::ample;
+use test_runs::runs::{Ending, check_on, draw_on, request, request_for, solve_on};
 use tf_engine::request::Request;
-use tf_engine::run_check::run_check;
-use tf_engine::run_gantt::run_gantt;
-use tf_engine::run_solve::run_solve;
 use tf_read::fault::ReadFault;
 use tf_text::answer::fault::AnswerFault;
 use tf_text::answer::layout::Layout;
-use tf_text::counted::Counted;
 
 /// The greatest number of bytes of a text.
 const MOST: usize = 67_108_864;
@@ -22,16 +19,6 @@ const BLANKS: [u8; 4096] = [b' '; 4096];
 /// How many bytes are read of so many.
 fn asked_of(bytes: usize) -> u64 {
     bytes.min(MOST + 1) as u64
-}
-
-/// How solving ends.
-fn solves(alloc: Global, request: &Request, source: &mut Source<'_>, sink: &mut Sink) -> Ending {
-    let mut reader = Counted::new(source);
-    let mut writer = Counted::new(sink);
-    match run_solve(alloc, request, &mut reader, &mut writer) {
-        Ok(()) => Ending::Answered,
-        Err(fault) => ending_of(&fault),
-    }
 }
 
 /// Solving so many bytes, this text over and over, is refused after so many of them were read, and
@@ -45,7 +32,7 @@ fn is_not_solved(
 ) -> bool {
     let mut source = Source::repeating(text, bytes);
     let mut sink = Sink::new(alloc);
-    solves(alloc, request, &mut source, &mut sink) == Ending::Text(fault)
+    solve_on(&ample(alloc), request, &mut source, &mut sink) == Ending::Text(fault)
         && source.given() == asked_of(bytes)
         && sink.calls() == 0
 }
@@ -88,32 +75,13 @@ fn an_instance_has_at_most_67_108_864_bytes(rt: HostRuntime) -> Result<(), Fail>
     Ok(())
 }
 
-/// How a check ends.
-fn checks(alloc: Global, request: &Request, source: &mut Source<'_>, sink: &mut Sink) -> Ending {
-    let mut instance = Counted::new(FOURS.instance);
-    let mut reader = Counted::new(source);
-    let mut writer = Counted::new(sink);
-    match run_check(alloc, request, &mut instance, &mut reader, &mut writer) {
-        Ok(_) => Ending::Answered,
-        Err(fault) => ending_of(&fault),
-    }
-}
-
-/// How a drawing ends.
-fn draws(alloc: Global, source: &mut Source<'_>, sink: &mut Sink) -> Ending {
-    let mut reader = Counted::new(source);
-    let mut writer = Counted::new(sink);
-    match run_gantt(alloc, &mut reader, &mut writer, 72) {
-        Ok(_) => Ending::Answered,
-        Err(fault) => ending_of(&fault),
-    }
-}
-
 /// An answer of so many blanks is refused by a check.
 fn is_not_checked(alloc: Global, request: &Request, bytes: usize, fault: AnswerFault) -> bool {
+    let mut instance = Source::new(FOURS.instance);
     let mut source = Source::repeating(&BLANKS, bytes);
     let mut sink = Sink::new(alloc);
-    checks(alloc, request, &mut source, &mut sink) == Ending::Answer(fault)
+    let heap = ample(alloc);
+    check_on(&heap, request, &mut instance, &mut source, &mut sink) == Ending::Answer(fault)
         && source.given() == asked_of(bytes)
         && sink.calls() == 0
 }
@@ -122,7 +90,7 @@ fn is_not_checked(alloc: Global, request: &Request, bytes: usize, fault: AnswerF
 fn is_not_drawn(alloc: Global, bytes: usize, fault: AnswerFault) -> bool {
     let mut source = Source::repeating(&BLANKS, bytes);
     let mut sink = Sink::new(alloc);
-    draws(alloc, &mut source, &mut sink) == Ending::Answer(fault)
+    draw_on(&ample(alloc), &mut source, &mut sink) == Ending::Answer(fault)
         && source.given() == asked_of(bytes)
         && sink.calls() == 0
 }

@@ -1,13 +1,13 @@
 //! Problems without a solver, and the runs over them.
-use std::alloc::{AllocError, Allocator};
+use refusing::Refusing;
+use std::alloc::{AllocError, Global};
 use test_runs::devices::{Sink, Source};
 use test_runs::examples::Given;
-use test_runs::runs::request;
+use test_runs::runs::{Ending, ending_of, request};
 use tf_assess::assessment::Assessed;
 use tf_assess::offered::Aids;
 use tf_assess::run_assess::{AssessmentRequest, run_assess};
 use tf_bounding::run_bound::run_bound;
-use tf_engine::fault::RunFault;
 use tf_engine::request::Request;
 use tf_search::effort::{Effort, Nobody};
 use tf_text::answer::layout::Layout;
@@ -83,35 +83,47 @@ pub fn request_of(rt: &HostRuntime, case: &Case) -> Result<Request, AllocError> 
     request(rt, case.problem, case.given, Layout::One)
 }
 
-/// Prints the bound of an instance.
-pub fn bound<A: Allocator + Copy>(
-    alloc: A,
-    request: &Request,
-    instance: &mut Source<'_>,
-    sink: &mut Sink,
-) -> Result<(), RunFault<A>> {
-    let mut reader = Counted::new(instance);
-    let mut writer = Counted::new(sink);
-    let effort: Effort<Nobody> = Effort::untold(STEPS);
-    run_bound(alloc, request, effort, &mut reader, &mut writer)
+/// A case that is run on a heap.
+#[derive(Clone, Copy)]
+pub struct Run<'a> {
+    pub heap: &'a Refusing<Global>,
+    pub request: &'a Request,
+    pub case: &'a Case,
 }
 
-/// Assesses an answer to an instance.
-pub fn assess<A: Allocator + Copy>(
-    alloc: A,
-    request: &Request,
-    instance: &mut Source<'_>,
-    answer: &mut Source<'_>,
-    sink: &mut Sink,
-) -> Result<Assessed, RunFault<A>> {
-    let mut reader = Counted::new(instance);
-    let mut other = Counted::new(answer);
-    let mut writer = Counted::new(sink);
-    let effort: Effort<Nobody> = Effort::untold(STEPS);
-    let aids = Aids {
-        effort,
-        offered: None,
-    };
-    let asked = AssessmentRequest { request, aids };
-    run_assess(alloc, asked, &mut reader, &mut other, &mut writer)
+impl Run<'_> {
+    /// How printing the bound ends.
+    pub fn bound(&self, instance: &mut Source<'_>, sink: &mut Sink) -> Ending {
+        let mut reader = Counted::new(instance);
+        let mut writer = Counted::new(sink);
+        let effort: Effort<Nobody> = Effort::untold(STEPS);
+        match run_bound(self.heap, self.request, effort, &mut reader, &mut writer) {
+            Ok(()) => Ending::Answered,
+            Err(fault) => ending_of(&fault),
+        }
+    }
+
+    /// What the answer is assessed as, or how else assessing it ends.
+    pub fn assess(
+        &self,
+        instance: &mut Source<'_>,
+        answer: &mut Source<'_>,
+        sink: &mut Sink,
+    ) -> Result<Assessed, Ending> {
+        let mut reader = Counted::new(instance);
+        let mut other = Counted::new(answer);
+        let mut writer = Counted::new(sink);
+        let effort: Effort<Nobody> = Effort::untold(STEPS);
+        let asked = AssessmentRequest {
+            request: self.request,
+            aids: Aids {
+                effort,
+                offered: None,
+            },
+        };
+        match run_assess(self.heap, asked, &mut reader, &mut other, &mut writer) {
+            Ok(assessed) => Ok(assessed),
+            Err(fault) => Err(ending_of(&fault)),
+        }
+    }
 }

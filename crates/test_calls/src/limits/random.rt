@@ -1,5 +1,5 @@
 //! Random jobs of each class, and files beside tables of the same jobs.
-use crate::drawn::{Drawn, Machines};
+use crate::limits::drawn::{Drawn, Machines};
 use std::alloc::{AllocError, Global};
 use std::test::Fail;
 use test_runs::examples::Given;

@@ -1,0 +1,4 @@
+//! Lower bounds, and answers that are assessed by them.
+mod cases;
+mod devices;
+mod growths;
