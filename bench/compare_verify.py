@@ -148,8 +148,8 @@ def main(program, seed, count):
                 if given != wanted:
                     differ += 1
                     print(f"{asked}, machines {machines}: verify.py says {line!r}, the program {wanted}\n{own}{text}")
-    print(f"{seen.total()} answers judged, {differ} differences")
     print(", ".join(f"{reason}: {times}" for reason, times in sorted(seen.items())))
+    print(f"{seen.total() - differ} passed, {differ} failed")
     return differ > 0
 
 

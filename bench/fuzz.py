@@ -17,7 +17,6 @@ alone, so it can be run again. What is looked for:
 - a picture that is no well-formed XML.
 """
 import collections
-import glob
 import json
 import multiprocessing
 import os
@@ -27,8 +26,8 @@ import sys
 import tempfile
 import xml.etree.ElementTree as ElementTree
 
-HERE = os.path.dirname(os.path.abspath(__file__))
-SESSIONS = os.path.join(HERE, "..", "crates", "test_sessions", "data", "*.txt")
+import sessions
+
 LIMIT = 60
 
 STATUSES = {
@@ -64,35 +63,13 @@ Case = collections.namedtuple("Case", "words texts")
 Outcome = collections.namedtuple("Outcome", "status written said")
 
 
-def words_of(line):
-    """The words of a command line: between blanks, or between double quotes."""
-    words = []
-    for place, part in enumerate(line.split('"')):
-        words += [part] if place % 2 else part.split()
-    return [word.encode() for word in words]
-
-
 def seeds():
     """The command lines of all sessions, each with the texts that there are when it is run."""
-    cases = []
-    for path in sorted(glob.glob(SESSIONS)):
-        texts, name = {}, None
-        with open(path, encoding="utf-8", newline="") as session:
-            lines = session.read().split("\n")
-        for line in lines:
-            if line.startswith("file "):
-                name, _, other = line[5:].partition(" from ")
-                texts[name] = list(texts.get(other, []))
-            elif line == "<" or line.startswith("< "):
-                texts[name].append(line[2:])
-            elif line.split("< ")[0].isdigit() and "< " in line:
-                place, _, text = line.partition("< ")
-                texts[name][int(place) - 1] = text
-            elif line.startswith("$ threefield"):
-                # A "\" at the end of a line stands for no line feed.
-                made = {key: ("\n".join(value) + "\n").replace("\\\n", "").encode() for key, value in texts.items()}
-                cases.append(Case(words_of(line[len("$ threefield"):]), made))
-    return cases
+    return [
+        Case([word.encode() for word in command.words()], {name: text.encode() for name, text in command.texts.items()})
+        for path in sessions.files()
+        for command in sessions.commands(path)
+    ]
 
 
 def damaged(rng, text):
@@ -240,12 +217,12 @@ def main(program, seed, count, processes="4"):
         for runs, seen, found in pool.imap_unordered(runs_of, parts):
             made += runs
             statuses += seen
-            for number, fault, case in found:
-                failed += 1
-                if failed <= 20:
-                    print(f"case {number} of seed {seed}: {fault}\n  words {case.words}\n  texts {case.texts}", flush=True)
+            failed += len({number for number, _, _ in found})
+            for number, fault, case in found[:20]:
+                print(f"case {number} of seed {seed}: {fault}\n  words {case.words}\n  texts {case.texts}", flush=True)
     shares = ", ".join(f"{status}: {seen}" for status, seen in sorted(statuses.items(), key=str))
-    print(f"{made} runs over {cases} cases of seed {seed}; statuses {shares}; faults: {failed}")
+    print(f"{made} runs over {cases} cases of seed {seed}; statuses {shares}")
+    print(f"{cases - failed} passed, {failed} failed")
     return failed > 0
 
 

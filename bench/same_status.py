@@ -9,8 +9,9 @@ Some runs wait for the second half of their input while signals come. A read is 
 handler, and the program has none: a library that is loaded before it, built with cc, sets one.
 
 Others have little address space, from the least with which the command ends as it should without --explain. What is kept to
-be explained takes each text's length once more. With less than that a run with --explain may end with status 3, nothing
-printed; it never ends otherwise, and with as much or more it ends as the run without does.
+be explained takes each text's length once more, and the program reserves a block when it starts, if it is granted, of which
+more or less may be left. With less than all of these a run may end with status 3, nothing printed; it never ends otherwise,
+and with as much or more it ends as it should.
 """
 import os
 import resource
@@ -27,6 +28,8 @@ LATENESS = ["-p", "1||Lmax"]
 PAGE = 4096
 MOST_SPACE = 1 << 28
 MARGIN = 16 * PAGE
+RESERVED = 12 << 20
+OUT_OF_MEMORY = (3, b"")
 COMMENTS = b"# a comment of 32 bytes in a line\n" * 125_000
 HANDLER = b"""
 #include <signal.h>
@@ -72,12 +75,11 @@ def with_explain(words):
     return [words[0], "--explain", *words[1:]]
 
 
-def differs(name, plain, told, wanted):
-    """Tells where both runs don't end alike, or not with the status that they have to end with."""
+def difference(name, plain, told, wanted):
+    """What is wrong where both runs don't end alike, or not with the status that they have to end with."""
     if plain == told and plain[0] == wanted:
-        return False
-    print(f"{name}: status {plain[0]}, with --explain {told[0]}, wanted {wanted}")
-    return True
+        return None
+    return f"{name}: status {plain[0]}, with --explain {told[0]}, wanted {wanted}"
 
 
 def cases(folder, table, bad, answer):
@@ -89,6 +91,9 @@ def cases(folder, table, bad, answer):
         ("an instance at fault, and a directory as the answer", ["check", *LATENESS, bad, folder], None, 2),
         ("an instance, and a directory as the answer", ["check", *LATENESS, table, folder], None, 4),
         ("an instance at fault, and standard input closed", ["check", *LATENESS, bad, "-"], closed_input, 2),
+        ("an instance, and standard input closed", ["check", *LATENESS, table, "-"], closed_input, 4),
+        ("orders from standard input, which is closed", ["evaluate", *LATENESS, "--orders", "-", table], closed_input, 4),
+        ("standard input closed, and a file as the answer", ["check", *LATENESS, "-", answer], closed_input, 4),
         ("four files open at most", ["check", *LATENESS, table, answer], limited(resource.RLIMIT_NOFILE, 4), 4),
         ("five files open at most", ["check", *LATENESS, table, answer], limited(resource.RLIMIT_NOFILE, 5), 0),
         ("a stack of 128 KB", ["check", *LATENESS, table, answer], limited(resource.RLIMIT_STACK, 131_072), 0),
@@ -97,12 +102,10 @@ def cases(folder, table, bad, answer):
 
 
 def compare_cases(program, folder, paths):
-    wrong = 0
     for name, words, before, wanted in cases(folder, *paths):
         plain = run([program, *words], before)
         told = run([program, *with_explain(words)], before)
-        wrong += differs(name, plain, told, wanted)
-    return wrong
+        yield difference(name, plain, told, wanted)
 
 
 def library_in(folder):
@@ -116,7 +119,6 @@ def library_in(folder):
 
 def compare_disturbed(program, folder, table, answer):
     """An instance or an answer that comes in two halves, with signals in between."""
-    wrong = 0
     harmless = [signal.SIGSTOP, signal.SIGCONT, signal.SIGWINCH, signal.SIGCHLD, signal.SIGURG]
     library = library_in(folder)
     kinds = [("stopped, and continued", harmless, None, 0)]
@@ -132,8 +134,7 @@ def compare_disturbed(program, folder, table, answer):
                 run_disturbed([program, *each], text, signals, loaded)
                 for each in (words, with_explain(words))
             )
-            wrong += differs(f"{words[0]}, {name}", plain, told, wanted)
-    return wrong
+            yield difference(f"{words[0]}, {name}", plain, told, wanted)
 
 
 def least_space(words, wanted):
@@ -148,9 +149,22 @@ def least_space(words, wanted):
     return enough * PAGE
 
 
+def narrow_runs(program, words, wanted):
+    """Runs a command in address spaces that rise from the least by which it can end as it should."""
+    usual = run([program, *words])
+    least = least_space([program, *words], wanted)
+    texts = sum(os.path.getsize(word) for word in words if os.path.exists(word))
+    enough = least + texts + RESERVED + MARGIN
+    for space in range(least, enough + len(COMMENTS), 128 * PAGE):
+        before = limited(resource.RLIMIT_AS, space)
+        outcomes = [run([program, *each], before) for each in (words, with_explain(words))]
+        if space < enough:
+            outcomes = [usual if outcome == OUT_OF_MEMORY else outcome for outcome in outcomes]
+        yield difference(f"{' '.join(words)}, {space} bytes of space", *outcomes, wanted)
+
+
 def compare_narrow(program, folder, table, answer):
-    """Texts of 4 MB, read in address spaces that rise from the least by which they can be read."""
-    wrong = 0
+    """Texts of 4 MB in little address space."""
     long_table, long_bad = (os.path.join(folder, name) for name in ("long", "long_bad"))
     for path, text in (long_table, TABLE + COMMENTS), (long_bad, TABLE + COMMENTS + b"job\n"):
         with open(path, "wb") as file:
@@ -162,16 +176,7 @@ def compare_narrow(program, folder, table, answer):
         (["check", *LATENESS, long_table, answer], 0),
         (["check", *LATENESS, long_table, long_table], 2),
     ]:
-        least = least_space([program, *words], wanted)
-        enough = least + sum(os.path.getsize(word) for word in words if os.path.exists(word)) + MARGIN
-        for space in range(least, enough + len(COMMENTS), 128 * PAGE):
-            before = limited(resource.RLIMIT_AS, space)
-            plain = run([program, *words], before)
-            told = run([program, *with_explain(words)], before)
-            if space < enough and told == (3, b""):
-                told = plain
-            wrong += differs(f"{' '.join(words)}, {space} bytes of space", plain, told, wanted)
-    return wrong
+        yield from narrow_runs(program, words, wanted)
 
 
 def main(program):
@@ -182,11 +187,15 @@ def main(program):
                 file.write(text)
         with open(answer, "wb") as file:
             file.write(run([program, "solve", *LATENESS, table])[1])
-        wrong = compare_cases(program, folder, paths)
-        wrong += compare_disturbed(program, folder, table, answer)
-        wrong += compare_narrow(program, folder, table, answer)
-    print(f"{wrong} wrong")
-    return wrong > 0
+        differences = [
+            *compare_cases(program, folder, paths),
+            *compare_disturbed(program, folder, table, answer),
+            *compare_narrow(program, folder, table, answer),
+        ]
+    wrong = [each for each in differences if each]
+    print(*wrong, sep="\n")
+    print(f"{len(differences) - len(wrong)} passed, {len(wrong)} failed")
+    return len(wrong) > 0
 
 
 if __name__ == "__main__":

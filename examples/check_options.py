@@ -41,9 +41,10 @@ def named_in(path):
 def main(program):
     commands = commands_of(program)
     wanted = options_of(program).union(*(options_of(program, name) for name in commands - {"help"}))
-    wrong = 0
+    compared = wrong = 0
     for path in ("docs/threefield.1", "completions/threefield.bash", "completions/_threefield", "completions/threefield.fish"):
         text, named = read(path), named_in(path)
+        compared += len(wanted | named) + len(commands)
         for what, names in (("missing", wanted - named), ("unknown", named - wanted)):
             for name in sorted(names):
                 wrong += 1
@@ -52,7 +53,7 @@ def main(program):
             if not re.search(rf"\b{name}\b", text):
                 wrong += 1
                 print(f"{path}: missing: the command {name}")
-    print(f"{wrong} wrong")
+    print(f"{compared - wrong} passed, {wrong} failed")
     return wrong > 0
 
 

@@ -1,8 +1,10 @@
 //! Texts in place of files.
 use std::alloc::{AllocError, Global};
 use std::io;
-use std::io::ErrorKind;
 use tf_command::source::Sources;
+
+/// The system's error for a file that is not there.
+const NO_SUCH_FILE: i32 = 2;
 
 /// A text and its name.
 #[derive(Drop)]
@@ -69,10 +71,12 @@ impl<'a> Texts<'a> {
 impl<'a> Sources for Texts<'a> {
     type Source = &'a [u8];
 
+    /// The text of that name. Standard input is empty where no text stands for it.
     fn open(&self, name: &str) -> io::Result<&'a [u8]> {
         match self.find(name) {
             Some(text) => Ok(text.as_bytes()),
-            None => Err(io::Error::from(ErrorKind::NotFound)),
+            None if name == "-" => Ok(b""),
+            None => Err(io::Error::from_raw_os_error(NO_SUCH_FILE)),
         }
     }
 

@@ -1,0 +1,84 @@
+#!/usr/bin/env python3
+"""Runs what the proofs do not say: the checks that need the program itself, its pages or a browser.
+
+    python3 .ci/checks.py PROGRAM [LINE]
+
+PROGRAM is the proved program that `rt ci` has built, and LINE the last line of that run, whose counts are added to the
+counts of the checks. Each check prints `N passed, M failed` as its last line, or counts as one by its exit status. A check
+that cannot run here, since a browser or node is missing and cannot be installed, is skipped and named.
+"""
+import os
+import re
+import shutil
+import subprocess
+import sys
+
+TOP = os.path.join(os.path.dirname(os.path.abspath(__file__)), "..")
+COUNTS = re.compile(r"^(\d+) passed, (\d+) failed", re.MULTILINE)
+INSTALL_SECONDS = 900
+
+
+def has(tool, package):
+    """Whether there is a tool, which is installed where Debian's packages can be."""
+    if shutil.which(tool) is None and os.geteuid() == 0 and shutil.which("apt-get"):
+        for words in ["update", "-qq"], ["install", "-y", "-qq", "--no-install-recommends", package]:
+            try:
+                subprocess.run(["apt-get", *words], capture_output=True, timeout=INSTALL_SECONDS)
+            except subprocess.TimeoutExpired:
+                break
+    return shutil.which(tool) is not None
+
+
+def checks(program):
+    """The name of each check, its words, and the tool and Debian's package that it needs, if any."""
+    python = sys.executable
+    return [
+        ("the commands of the pages", [python, "examples/check_pages.py"], None),
+        ("man page and completions", [python, "examples/check_options.py", program], None),
+        ("the page and its sources", [python, "web/build.py", "--check"], None),
+        ("sessions over files", [python, "bench/play_sessions.py", program], None),
+        ("words without a session", [python, "bench/unseen_words.py"], None),
+        ("damaged command lines and texts", [python, "bench/fuzz.py", program, "1", "12000"], None),
+        ("an independent checker", [python, "bench/compare_verify.py", program, "1", "1500"], None),
+        ("the same status with --explain", [python, "bench/same_status.py", program], None),
+        ("the page in a browser", [python, "web/test.py", f"--program={program}"], ("chromium", "chromium")),
+    ]
+
+
+def counts_of(done):
+    """How many cases passed and failed: by the last line that counts them, or else by the status."""
+    found = COUNTS.findall(done.stdout)
+    passed, failed = map(int, found[-1]) if found else (0, 0)
+    if done.returncode and not failed:
+        failed = 1
+    return (passed, failed) if found or failed else (1, 0)
+
+
+def run(program, name, words):
+    """Runs a check with the program on the path, and shows what it prints if something is wrong."""
+    path = os.path.dirname(program) + os.pathsep + os.environ["PATH"]
+    environment = {**os.environ, "PATH": path}
+    done = subprocess.run(words, cwd=TOP, env=environment, stdout=subprocess.PIPE, stderr=subprocess.STDOUT, text=True)
+    passed, failed = counts_of(done)
+    if failed:
+        print(done.stdout, end="")
+    print(f"{name}: {passed} passed, {failed} failed", flush=True)
+    return passed, failed
+
+
+def main(program, line=""):
+    passed, failed = map(int, COUNTS.findall(line)[-1]) if line else (0, 0)
+    skipped = 0
+    for name, words, needs in checks(program):
+        if needs and not has(*needs):
+            print(f"{name}: skipped, since there is no {needs[0]}", flush=True)
+            skipped += 1
+            continue
+        one, other = run(program, name, words)
+        passed, failed = passed + one, failed + other
+    print(f"{passed} passed, {failed} failed, {skipped} skipped")
+    return failed > 0
+
+
+if __name__ == "__main__":
+    sys.exit(main(os.path.abspath(sys.argv[1]), *sys.argv[2:]))
