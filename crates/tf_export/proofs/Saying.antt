@@ -3,11 +3,11 @@ use Rattle.std.proofs.Common.{◌≡◌, ℕ, true, false, eqb, List, [], ◌∷
 use Rattle.std.specs.List.{flat_map}
 use Rattle.std.specs.Str.{bytes_eq}
 use Rattle.std.proofs.lemmas.Bool.{true≢false}
-use Rattle.std.proofs.lemmas.List.{map-append}
 use Rattle.std.proofs.lemmas.Grind.{flat_map-append}
 use Rattle.tf_words.specs.Words.{words, lines, first_is}
 use Rattle.tf_words.proofs.Lines.{line_none}
-use Rattle.tf_export.specs.Csv.{csv_line}
+use Rattle.tf_export.specs.Csv.{csv_line, column_names, row_key}
+use Rattle.tf_export.specs.declared.csv.Table.{Table}
 use Rattle.tf_export.specs.Json.{scalar, member, object}
 use Rattle.tf_export.specs.Members.{phrase, fields, rest_members, row_in, rows, verdict_members}
 use Rattle.tf_export.specs.Documents.{step_in}
@@ -49,14 +49,12 @@ pub rows_none : (key names text : List ℕ) → length text ≡ 0 → rows key n
 rows_none key names text is =
     ap (flat_map (λ l. row_in key (length (words names)) (words l))) (line_none text is)
 
-pub records_next : (record_of : List (List ℕ) → List ℕ) (key names text line rest : List ℕ)
-    → lines text ≡ line ∷ lines rest
-    → map record_of (rows key names text)
-    ≡ map record_of (row_in key (length (words names)) (words line))
-    ++ map record_of (rows key names rest)
-records_next record_of key names text line rest is =
-    ap (map record_of) (rows_next key names text line rest is)
-    ∙ map-append record_of (row_in key (length (words names)) (words line)) (rows key names rest)
+-- a row by the names and the key of a table
+pub same_row : (table : Table) (key names : List ℕ) → key ≡ row_key table → (count : ℕ)
+    → names ≡ column_names table → count ≡ length (words names) → (line : List (List ℕ))
+    → row_in (row_key table) (length (words (column_names table))) line ≡ row_in key count line
+same_row table key names key-is count names-is count-is line =
+    rw (key-is, count-is, names-is) refl
 
 pub csv_next : (key names text line rest : List ℕ) (count : ℕ) → count ≡ length (words names)
     → lines text ≡ line ∷ lines rest

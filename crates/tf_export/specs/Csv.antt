@@ -3,7 +3,6 @@ use Rattle.std.specs.Prelude.{ℕ, List, [], ◌∷◌, ◌++◌, codes}
 use Rattle.std.specs.List.{flat_map, join_with_byte}
 use Rattle.tf_words.specs.Words.{words}
 use Rattle.tf_export.specs.Members.{rows}
-use Rattle.tf_export.specs.Documents.{piece_names, outcome_names}
 use Rattle.tf_export.specs.declared.csv.Table.{Table}
 use Rattle.tf_export.specs.declared.csv.Table.TheVariants.{Pieces, Outcomes}
 
@@ -13,8 +12,8 @@ csv_line row = join_with_byte 44 row ++ 10 ∷ []
 
 -- the names of the columns, by which table it is, and the key of its lines
 abbrev pub column_names : Table → List ℕ
-column_names Pieces = piece_names
-column_names Outcomes = outcome_names
+column_names Pieces = codes "job machine start stop"
+column_names Outcomes = codes "job start completion cost"
 
 abbrev pub row_key : Table → List ℕ
 row_key Pieces = codes "piece"

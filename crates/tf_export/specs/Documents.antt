@@ -1,30 +1,20 @@
 -- What the commands print, as JSON.
-use Rattle.std.specs.Prelude.{ℕ, List, [], ◌∷◌, ◌++◌, codes, drop, take, map, if◌then◌else◌}
+use Rattle.std.specs.Prelude.{ℕ, List, [], ◌∷◌, ◌++◌, codes, drop, take, length, map, if◌then◌else◌}
 use Rattle.std.specs.List.{flat_map}
 use Rattle.tf_words.specs.Words.{words, lines, first_is}
 use Rattle.tf_export.specs.Json.{array, member, object}
-use Rattle.tf_export.specs.Members.{phrase, record_of, rows, members_in}
+use Rattle.tf_export.specs.Members.{phrase, record_of, row_in, line_members}
+use Rattle.tf_export.specs.Csv.{column_names, row_key}
+use Rattle.tf_export.specs.declared.csv.Table.TheVariants.{Pieces, Outcomes}
+use Rattle.tf_export.specs.declared.documents.Part.{Part}
+use Rattle.tf_export.specs.declared.documents.Part.TheVariants.{Members, Step, Problem, Row}
 use Rattle.tf_export.specs.declared.documents.Document.{Document}
 use Rattle.tf_export.specs.declared.documents.Document.TheVariants.{Answer, Bound, Evaluation, Verdict, Problems}
 
--- the names of what stands in a line of a piece, and of a job
-abbrev pub piece_names : List ℕ
-piece_names = codes "job machine start stop"
-
-abbrev pub outcome_names : List ℕ
-outcome_names = codes "job start completion cost"
-
--- the rows of a key, as an array of objects
-abbrev pub records : List ℕ → List ℕ → List ℕ → List ℕ → List ℕ
-records name key names text = member name (array (map (record_of names) (rows key names text)))
-
--- the steps of a certificate's arithmetic, each as a string
+-- a step of a certificate's arithmetic, as a string
 abbrev pub step_in : List (List ℕ) → List (List ℕ)
 step_in [] = []
 step_in (key ∷ row) = if first_is (codes "step") (key ∷ row) then phrase row ∷ [] else []
-
-abbrev pub steps : List ℕ → List ℕ
-steps text = member (codes "steps") (array (flat_map (λ line. step_in (words line)) (lines text)))
 
 -- A problem that is solved: its notation, the fields that it needs and what is minimized where. The
 -- columns have 17 and 13 bytes.
@@ -34,32 +24,45 @@ problem_in line = object (
     ∷ member (codes "needs") (phrase (words (take 13 (drop 17 line))))
     ∷ member (codes "objective") (phrase (words (drop 13 (drop 17 line)))) ∷ [])
 
+-- what is taken of a line: members, a step, a problem, or a row of a table as an object
+abbrev pub part_in : Part → List ℕ → List (List ℕ)
+part_in Members line = line_members (words line)
+part_in Step line = step_in (words line)
+part_in Problem line = problem_in line ∷ []
+part_in (Row table) line = map (record_of (column_names table))
+    (row_in (row_key table) (length (words (column_names table))) (words line))
+
+-- and of all lines
+abbrev pub parts : Part → List (List ℕ) → List (List ℕ)
+parts part lines = flat_map (part_in part) lines
+
+abbrev pub parts_array : List ℕ → Part → List (List ℕ) → List ℕ
+parts_array name part lines = member name (array (parts part lines))
+
 -- what stands behind the heading of a text, line by line
 abbrev pub members_behind : List ℕ → List (List ℕ)
-members_behind text = members_in (drop 1 (lines text))
+members_behind text = parts Members (drop 1 (lines text))
 
 -- an answer: its lines, and its pieces
 abbrev pub answer_members : List ℕ → List (List ℕ)
 answer_members text =
-    members_behind text ++ records (codes "pieces") (codes "piece") piece_names text ∷ []
+    members_behind text ++ parts_array (codes "pieces") (Row Pieces) (lines text) ∷ []
 
 -- an evaluation: its lines, the steps of the arithmetic, and the jobs
 abbrev pub evaluation_members : List ℕ → List (List ℕ)
 evaluation_members text =
     members_behind text
-    ++ (steps text ∷ records (codes "outcomes") (codes "job") outcome_names text ∷ [])
-
--- the list of problems
-abbrev pub problems : List ℕ → List ℕ
-problems text = member (codes "problems") (array (map problem_in (drop 1 (lines text))))
+    ++ (parts_array (codes "steps") Step (lines text)
+    ∷ parts_array (codes "outcomes") (Row Outcomes) (lines text) ∷ [])
 
 -- the members of each document, of which all but a verdict have a heading
 unfoldable pub document_members : Document → List ℕ → List (List ℕ)
 document_members Answer text = answer_members text
 document_members Bound text = members_behind text
 document_members Evaluation text = evaluation_members text
-document_members Verdict text = members_in (lines text)
-document_members Problems text = problems text ∷ []
+document_members Verdict text = parts Members (lines text)
+document_members Problems text =
+    parts_array (codes "problems") Problem (drop 1 (lines text)) ∷ []
 
 -- one object, on a line of its own
 unfoldable pub json_of : Document → List ℕ → List ℕ

@@ -111,7 +111,3 @@ keyed_members key row =
 unfoldable pub line_members : List (List ℕ) → List (List ℕ)
 line_members [] = []
 line_members (key ∷ row) = keyed_members key row
-
--- what all lines say
-abbrev pub members_in : List (List ℕ) → List (List ℕ)
-members_in lines = flat_map (λ line. line_members (words line)) lines

@@ -22,7 +22,7 @@ pub enum Table {
 
 impl Table {
     /// The names of the columns.
-    fn column_names(self) -> &'static [u8]
+    pub(crate) fn column_names(self) -> &'static [u8]
         ensures { result.now ≡ column_names self }
     {
         match self {
@@ -32,7 +32,7 @@ impl Table {
     }
 
     /// The first word of the lines that are its rows.
-    fn row_key(self) -> &'static [u8]
+    pub(crate) fn row_key(self) -> &'static [u8]
         ensures { result.now ≡ row_key self }
     {
         match self {

@@ -2,11 +2,13 @@
 ghost use Rattle.std.specs.Prelude.{◌≡◌, ◌∷◌, ◌++◌, [], codes, drop, take, length, map, IfOk, OnOk};
 ghost use Rattle.std.specs.List.{flat_map};
 ghost use Rattle.tf_words.specs.Words.{words, lines};
-ghost use Rattle.tf_export.specs.Members.{record_of, rows, row_in};
-ghost use Rattle.tf_export.specs.Documents.{document_members, json_of, piece_names, outcome_names};
-ghost use Rattle.tf_export.specs.Documents.{records, step_in, steps, problem_in, problems};
+ghost use Rattle.tf_export.specs.Members.{record_of, row_in};
+ghost use Rattle.tf_export.specs.Csv.{column_names, row_key};
+ghost use Rattle.tf_export.specs.Documents.{document_members, json_of, part_in, parts, parts_array};
+ghost use Rattle.tf_export.specs.Documents.{step_in, problem_in};
 ghost use Rattle.tf_export.specs.Documents.{members_behind, answer_members, evaluation_members};
 
+use crate::csv::Table;
 use crate::json::Json;
 use crate::line::{count_words, next_line, row_in};
 use std::alloc::Global;
@@ -26,6 +28,19 @@ pub enum Document {
     Verdict,
     /// The list of the problems that are solved.
     Problems,
+}
+
+/// What is taken of each line of a text.
+#[derive(Clone, Copy, Debug, PartialEq, Eq)]
+pub(crate) enum Part {
+    /// What it says, as members.
+    Members,
+    /// A step of a certificate's arithmetic.
+    Step,
+    /// A problem of the list.
+    Problem,
+    /// A row of a table, as an object.
+    Row(Table),
 }
 
 /// The names of what stands in a line of a piece.
@@ -60,47 +75,16 @@ fn cut(line: &[u8], width: usize) -> (&[u8], &[u8])
 impl Json {
     ghost use Rattle.tf_export.specs.Adds.{Adds};
 
-    /// Adds a line of a key as an object, if it has a word for each name.
-    fn record_in(&mut self, key: &[u8], names: &[u8], line: &[u8]) -> Result<(), OutOfMemory>
-        ensures { OnOk result (Adds self.old self.new
-            (map (record_of names.now) (row_in key.now (length (words names.now)) (words line.now)))) }
+    /// Adds a row of a table as an object, if the line is one.
+    fn row_in(&mut self, table: Table, line: &[u8]) -> Result<(), OutOfMemory>
+        ensures { OnOk result (Adds self.old self.new (map (record_of (column_names table))
+            (row_in (row_key table) (length (words (column_names table))) (words line.now)))) }
     {
-        match row_in(line, key, count_words(names)) {
+        let names = table.column_names();
+        match row_in(line, table.row_key(), count_words(names)) {
             None => Ok(()),
             Some(row) => self.record(names, row),
         }
-    }
-
-    /// Adds the lines of a key as objects.
-    fn record_items(&mut self, key: &[u8], names: &[u8], text: &[u8]) -> Result<(), OutOfMemory>
-        ensures { OnOk result
-            (Adds self.old self.new (map (record_of names.now) (rows key.now names.now text.now))) }
-    {
-        let mut rest = text;
-        while !rest.is_empty() {
-            let (line, more) = next_line(rest);
-            self.record_in(key, names, line)?;
-            rest = more;
-        }
-        Ok(())
-    }
-
-    /// Adds a member with the lines of a key as an array of objects.
-    fn records(
-        &mut self,
-        name: &[u8],
-        key: &[u8],
-        names: &[u8],
-        text: &[u8],
-    ) -> Result<(), OutOfMemory>
-        ensures { OnOk result
-            (Adds self.old self.new (records name.now key.now names.now text.now ∷ [])) }
-    {
-        self.name(name)?;
-        self.enter(b'[')?;
-        self.record_items(key, names, text)?;
-        self.leave(b']')?;
-        Ok(())
     }
 
     fn step_in(&mut self, alloc: Global, line: &[u8]) -> Result<(), OutOfMemory>
@@ -110,30 +94,6 @@ impl Json {
             None => Ok(()),
             Some(row) => self.phrase(alloc, row),
         }
-    }
-
-    fn step_items(&mut self, alloc: Global, text: &[u8]) -> Result<(), OutOfMemory>
-        ensures { OnOk result
-            (Adds self.old self.new (flat_map (λ line. step_in (words line)) (lines text.now))) }
-    {
-        let mut rest = text;
-        while !rest.is_empty() {
-            let (line, more) = next_line(rest);
-            self.step_in(alloc, line)?;
-            rest = more;
-        }
-        Ok(())
-    }
-
-    /// Adds the steps of a certificate's arithmetic.
-    fn steps(&mut self, alloc: Global, text: &[u8]) -> Result<(), OutOfMemory>
-        ensures { OnOk result (Adds self.old self.new (steps text.now ∷ [])) }
-    {
-        self.name(b"steps")?;
-        self.enter(b'[')?;
-        self.step_items(alloc, text)?;
-        self.leave(b']')?;
-        Ok(())
     }
 
     /// Adds a line of the list of problems as an object.
@@ -151,25 +111,45 @@ impl Json {
         Ok(())
     }
 
-    fn problem_items(&mut self, alloc: Global, text: &[u8]) -> Result<(), OutOfMemory>
-        ensures { OnOk result (Adds self.old self.new (map problem_in (lines text.now))) }
+    /// Adds what is taken of a line.
+    fn part(&mut self, alloc: Global, part: Part, line: &[u8]) -> Result<(), OutOfMemory>
+        ensures { OnOk result (Adds self.old self.new (part_in part line.now)) }
+    {
+        match part {
+            Part::Members => self.line_members(alloc, line),
+            Part::Step => self.step_in(alloc, line),
+            Part::Problem => self.problem_in(alloc, line),
+            Part::Row(table) => self.row_in(table, line),
+        }
+    }
+
+    /// Adds what is taken of each line.
+    fn parts(&mut self, alloc: Global, part: Part, text: &[u8]) -> Result<(), OutOfMemory>
+        ensures { OnOk result (Adds self.old self.new (parts part (lines text.now))) }
     {
         let mut rest = text;
         while !rest.is_empty() {
             let (line, more) = next_line(rest);
-            self.problem_in(alloc, line)?;
+            self.part(alloc, part, line)?;
             rest = more;
         }
         Ok(())
     }
 
-    /// Adds the lines behind the heading of a list of problems.
-    fn problems(&mut self, alloc: Global, text: &[u8]) -> Result<(), OutOfMemory>
-        ensures { OnOk result (Adds self.old self.new (problems text.now ∷ [])) }
+    /// Adds a member with what is taken of each line as an array.
+    fn parts_array(
+        &mut self,
+        alloc: Global,
+        name: &[u8],
+        part: Part,
+        text: &[u8],
+    ) -> Result<(), OutOfMemory>
+        ensures { OnOk result
+            (Adds self.old self.new (parts_array name.now part (lines text.now) ∷ [])) }
     {
-        self.name(b"problems")?;
+        self.name(name)?;
         self.enter(b'[')?;
-        self.problem_items(alloc, behind_heading(text))?;
+        self.parts(alloc, part, text)?;
         self.leave(b']')?;
         Ok(())
     }
@@ -178,8 +158,7 @@ impl Json {
     fn members_behind(&mut self, alloc: Global, text: &[u8]) -> Result<(), OutOfMemory>
         ensures { OnOk result (Adds self.old self.new (members_behind text.now)) }
     {
-        self.members_in(alloc, behind_heading(text))?;
-        Ok(())
+        self.parts(alloc, Part::Members, behind_heading(text))
     }
 
     /// Adds an answer.
@@ -187,7 +166,7 @@ impl Json {
         ensures { OnOk result (Adds self.old self.new (answer_members text.now)) }
     {
         self.members_behind(alloc, text)?;
-        self.records(b"pieces", b"piece", PIECE_NAMES, text)?;
+        self.parts_array(alloc, b"pieces", Part::Row(Table::Pieces), text)?;
         Ok(())
     }
 
@@ -196,8 +175,8 @@ impl Json {
         ensures { OnOk result (Adds self.old self.new (evaluation_members text.now)) }
     {
         self.members_behind(alloc, text)?;
-        self.steps(alloc, text)?;
-        self.records(b"outcomes", b"job", OUTCOME_NAMES, text)?;
+        self.parts_array(alloc, b"steps", Part::Step, text)?;
+        self.parts_array(alloc, b"outcomes", Part::Row(Table::Outcomes), text)?;
         Ok(())
     }
 
@@ -214,8 +193,10 @@ impl Json {
             Document::Answer => self.answer_members(alloc, text),
             Document::Bound => self.members_behind(alloc, text),
             Document::Evaluation => self.evaluation_members(alloc, text),
-            Document::Verdict => self.members_in(alloc, text),
-            Document::Problems => self.problems(alloc, text),
+            Document::Verdict => self.parts(alloc, Part::Members, text),
+            Document::Problems => {
+                self.parts_array(alloc, b"problems", Part::Problem, behind_heading(text))
+            }
         }
     }
 }

@@ -1,12 +1,12 @@
 //! What a line of words says, as members of a JSON object.
 ghost use Rattle.std.specs.Prelude.{◌≡◌, ◌∷◌, [], codes, length, OnOk};
-ghost use Rattle.tf_words.specs.Words.{words, lines};
+ghost use Rattle.tf_words.specs.Words.{words};
 ghost use Rattle.tf_export.specs.Members.{certificate_names, answer_list, bound_list, certificate};
 ghost use Rattle.tf_export.specs.Members.{answer_certificate, is_bound_kind, is_plain_key, verdict};
-ghost use Rattle.tf_export.specs.Members.{verdict_members, keyed_members, line_members, members_in};
+ghost use Rattle.tf_export.specs.Members.{verdict_members, keyed_members, line_members};
 
 use crate::json::Json;
-use crate::line::{count_words, next_line};
+use crate::line::count_words;
 use std::alloc::Global;
 use tf_model::memory::OutOfMemory;
 use tf_words::word::{first_word, is};
@@ -161,25 +161,13 @@ impl Json {
         self.verdict_members(key, row)
     }
 
-    fn line_members(&mut self, alloc: Global, line: &[u8]) -> Result<(), OutOfMemory>
+    /// Adds what a line says.
+    pub(crate) fn line_members(&mut self, alloc: Global, line: &[u8]) -> Result<(), OutOfMemory>
         ensures { OnOk result (Adds self.old self.new (line_members (words line.now))) }
     {
         match first_word(line) {
             None => Ok(()),
             Some((key, row)) => self.keyed_members(alloc, key, row),
         }
-    }
-
-    /// Adds what all lines of a text say.
-    pub(crate) fn members_in(&mut self, alloc: Global, text: &[u8]) -> Result<(), OutOfMemory>
-        ensures { OnOk result (Adds self.old self.new (members_in (lines text.now))) }
-    {
-        let mut rest = text;
-        while !rest.is_empty() {
-            let (line, more) = next_line(rest);
-            self.line_members(alloc, line)?;
-            rest = more;
-        }
-        Ok(())
     }
 }

@@ -1,6 +1,7 @@
-use Rattle.std.proofs.Common.{OnOk, sym, subst}
+use Rattle.std.proofs.Common.{OnOk, [], ◌∷◌, codes, sym, subst}
 use Rattle.tf_export.specs.Adds.{Adds}
-use Rattle.tf_export.specs.Documents.{document_members}
+use Rattle.tf_export.specs.Documents.{document_members, parts_array}
+use Rattle.tf_export.specs.declared.documents.Part.TheVariants.{Problem}
 use Rattle.tf_export.proofs.json.Json.document_members.Goals as goal
 
 pub returns-in-Answer : goal.returns-in-Answer
@@ -27,13 +28,16 @@ returns-in-Evaluation c =
 pub returns-in-Verdict : goal.returns-in-Verdict
 unfolding document_members
 returns-in-Verdict c =
-    subst (λ document. OnOk c.members_in.result
-    (Adds c.args.self.now c.members_in.new.self (document_members document c.args.text.now)))
-    (sym c.in-Verdict.is) c.members_in.ensures
+    subst (λ document. OnOk c.parts.result
+    (Adds c.args.self.now c.parts.new.self (document_members document c.args.text.now)))
+    (sym c.in-Verdict.is) c.parts.ensures
 
 pub returns-in-Problems : goal.returns-in-Problems
 unfolding document_members
 returns-in-Problems c =
-    subst (λ document. OnOk c.problems.result
-    (Adds c.args.self.now c.problems.new.self (document_members document c.args.text.now)))
-    (sym c.in-Problems.is) c.problems.ensures
+    subst (λ document. OnOk c.parts_array.result
+    (Adds c.args.self.now c.parts_array.new.self (document_members document c.args.text.now)))
+    (sym c.in-Problems.is)
+    (subst (λ all. OnOk c.parts_array.result (Adds c.args.self.now c.parts_array.new.self
+    (parts_array (codes "problems") Problem all ∷ []))) c.behind_heading.ensures
+    c.parts_array.ensures)
