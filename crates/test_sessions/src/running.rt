@@ -2,13 +2,9 @@
 use crate::texts::Texts;
 use std::alloc::{AllocError, Global};
 use tf_command::console::Console;
-use tf_command::misuse::say_misuse;
-use tf_command::report::{say_memory, say_usage};
 use tf_grammar::grammar::command;
-use tf_held::measured::perform_measured;
-use tf_held::series::perform_series;
-use tf_held::shops::{counted_formatted, perform_counted};
-use tf_options::options::{Asked, understand};
+use tf_held::program::perform_asked;
+use tf_options::options::understand;
 use tf_text::counted::Counted;
 
 /// What a command line gives: its status, and the bytes on standard output and standard error.
@@ -18,9 +14,6 @@ pub struct Ended {
     pub written: Vec<u8>,
     pub said: Vec<u8>,
 }
-
-/// A console whose devices are kept in memory.
-type Kept<'a> = Console<&'a mut Vec<u8>, &'a mut Vec<u8>>;
 
 /// Runs the command line of these words behind the program's name, as the program does.
 pub fn run(alloc: Global, line: &str, texts: Texts<'_>) -> Result<Ended, AllocError> {
@@ -33,31 +26,15 @@ pub fn run(alloc: Global, line: &str, texts: Texts<'_>) -> Result<Ended, AllocEr
         errors: Counted::new(&mut said),
         is_terminal: true,
     };
-    let status = perform(&mut console, words.as_slice(), texts);
+    let words = words.as_slice();
+    let asked = understand(command(alloc)?, words, false);
+    let status = perform_asked(&mut console, &texts, asked, words);
     drop(console);
     Ok(Ended {
-        status: status?,
+        status,
         written,
         said,
     })
-}
-
-/// Runs the command line, and gives its status.
-fn perform(console: &mut Kept<'_>, words: &[String], texts: Texts<'_>) -> Result<u8, AllocError> {
-    match understand(command(console.alloc)?, words, false) {
-        Asked::Work(work) => Ok(perform_counted(console, &texts, work)),
-        Asked::Formatted(work, format) => Ok(counted_formatted(console, &texts, work, format)),
-        Asked::Series(series) => Ok(perform_series(console, &texts, &series)),
-        Asked::Measured(evaluating) => Ok(perform_measured(console, &texts, evaluating)),
-        Asked::Help(text) => {
-            let text = text.to_string(console.alloc)?;
-            let _ = console.writer.push_all(text.as_bytes());
-            Ok(0)
-        }
-        Asked::Misused(_) => Ok(say_misuse(console.alloc, words, &mut console.errors)),
-        Asked::Unfit(text) => Ok(say_usage(&mut console.errors, text)),
-        Asked::NoMemory => Ok(say_memory(&mut console.errors)),
-    }
 }
 
 /// The program's name and the words of a line: parted by blanks, or between double quotes.

@@ -5,6 +5,7 @@ pub mod Series
 pub mod Measures
 pub mod Measured
 pub mod Shops
+pub mod Program
 -- within the crate
 pub mod Cuts
 pub mod Instances

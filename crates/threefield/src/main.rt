@@ -9,13 +9,10 @@ use std::io;
 use std::io::{IsTerminal, Stdout, Write};
 use std::process::ExitCode;
 use tf_command::console::Console;
-use tf_command::misuse::say_misuse;
-use tf_command::report::{say_device, say_memory, say_usage};
+use tf_command::report::{say_memory, say_usage};
 use tf_grammar::grammar::command;
-use tf_held::measured::perform_measured;
-use tf_held::series::perform_series;
-use tf_held::shops::{counted_formatted, perform_counted};
-use tf_options::options::{Asked, understand};
+use tf_held::program::perform_asked;
+use tf_options::options::understand;
 use tf_text::counted::Counted;
 
 /// The largest freed block, in bytes, that the allocator keeps. A table of 100,000 jobs is seldom
@@ -50,23 +47,9 @@ fn program(rt: &HostRuntime) -> u8 {
     let Ok(command) = command(rt.alloc()) else {
         return say_memory(&mut errors);
     };
-    match understand(command, words.as_slice(), rt.stderr().is_terminal()) {
-        Asked::Work(work) => perform_counted(&mut console(rt, errors), &Files { rt }, work),
-        Asked::Formatted(work, format) => {
-            counted_formatted(&mut console(rt, errors), &Files { rt }, work, format)
-        }
-        Asked::Series(series) => perform_series(&mut console(rt, errors), &Files { rt }, &series),
-        Asked::Measured(evaluating) => {
-            perform_measured(&mut console(rt, errors), &Files { rt }, evaluating)
-        }
-        Asked::Help(text) => match text.print(rt) {
-            Ok(()) => 0,
-            Err(_) => say_device(&mut errors),
-        },
-        Asked::Misused(_) => say_misuse(rt.alloc(), words.as_slice(), &mut errors),
-        Asked::Unfit(text) => say_usage(&mut errors, text),
-        Asked::NoMemory => say_memory(&mut errors),
-    }
+    let words = words.as_slice();
+    let asked = understand(command, words, rt.stderr().is_terminal());
+    perform_asked(&mut console(rt, errors), &Files { rt }, asked, words)
 }
 
 /// Standard output, standard error and the memory of the process.
