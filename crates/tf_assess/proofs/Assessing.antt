@@ -1,11 +1,11 @@
 -- How an answer stands to the task of a problem.
-use Rattle.std.proofs.Common.{◌≡◌, ◌<◌, Bool, true, false, cond, ℤ, ◌≤ℤ◌, List, Option, None, Some, IfSome, refl, sym, subst, ◌∙◌, arith}
+use Rattle.std.proofs.Common.{◌≡◌, ◌<◌, Bool, true, false, cond, ℤ, ◌≤ℤ◌, List, [], length, map, Option, None, Some, IfSome, refl, sym, subst, ◌∙◌, arith}
 use Rattle.std.specs.List.{All}
 use Rattle.std.specs.List.Sorted.{IsPermutation}
 use Rattle.std.proofs.lemmas.Bool.Decides.{Decides-int_eq}
 use Rattle.std.specs.Ordering.{int_eq}
 use Rattle.std.proofs.lemmas.List.Sorted.{All-permutation, IsPermutation-sym}
-use Rattle.tf_problem.specs.ProblemData.{ProblemData}
+use Rattle.tf_problem.specs.ProblemData.{ProblemData, problem_jobs}
 use Rattle.tf_problem.specs.ProblemCost.{problem_cost, IsLowerBound}
 use Rattle.tf_schedule.specs.declared.piece.Piece.{Piece}
 use Rattle.tf_schedule.specs.Piece.{machine_of}
@@ -13,14 +13,17 @@ use Rattle.tf_schedule.specs.Schedule.{IsPiece, IsSchedule, NoneTwice}
 use Rattle.tf_schedule.specs.Drawing.{drawing, IsOnMachine}
 use Rattle.tf_schedule.proofs.Permuted.{drawing_permutation, draws_drawing}
 use Rattle.tf_schedule.proofs.Scan.{claims_permutation}
+use Rattle.tf_schedule.specs.Lanes.{LanesData, HasLanes}
 use Rattle.tf_fit.specs.CostBy.{IsCostOrBeyond}
+use Rattle.tf_evaluate.specs.Outcomes.{outcome_on}
+use Rattle.tf_evaluate.proofs.PermutedOutcomes.{sorted_outcomes}
 use Rattle.tf_fit.specs.ProblemJudged.{FitsBy}
 use Rattle.tf_search.specs.declared.strongest.Found.{Found}
 use Rattle.tf_search.specs.Strongest.{IsFound}
 use Rattle.tf_text.specs.AnswerText.{SheetData}
 use Rattle.tf_assess.specs.declared.assessment.ProblemFit.{ProblemFit}
 use Rattle.tf_assess.specs.declared.assessment.ProblemFit.TheVariants.{Fits, NoSchedule, Misfit}
-use Rattle.tf_assess.specs.Assessing.{bound_in, standing_by, assessed_of, DrawsProblem, IsProblemJudged, HasProblemFit, HasAssessed}
+use Rattle.tf_assess.specs.Assessing.{bound_in, standing_by, assessed_of, counted_by, problem_outcomes, DrawsProblem, IsProblemJudged, HasProblemFit, HasProblemTable, HasAssessed}
 
 -- from the schedule to the pieces that it sorts
 draws_problem : (k : ProblemData) (ps qs : List Piece) → IsPermutation ps qs → IsSchedule qs
@@ -47,6 +50,32 @@ pub fits_judged : (k : ProblemData) (ps qs : List Piece) → IsPermutation ps qs
     → IsProblemJudged k ps (Fits value)
 fits_judged k ps qs kept schedule fits value costs =
     (drawing k.machines qs, draws_problem k ps qs kept schedule fits, costs)
+
+-- ---- what happens to the jobs
+
+pub table_outcomes : (k : ProblemData) (ps : List Piece) (fit : ProblemFit) (l : LanesData)
+    → HasProblemTable k ps fit (Some l)
+    → map (outcome_on (counted_by k) l) (problem_jobs k) ≡ problem_outcomes k ps (Some fit)
+table_outcomes k ps (Fits value) l (qs, kept, schedule, l', is, has) =
+    sorted_outcomes (counted_by k) false (length k.jobs) ps qs kept schedule l
+    (subst (HasLanes false (length k.jobs) qs) (same l l' is) has)
+  where
+    same : (l l' : LanesData) → Some l ≡ Some l' → l' ≡ l
+    same l l' e = cc
+table_outcomes k ps (NoSchedule fault) l is = absurd (cc)
+table_outcomes k ps (Misfit misfit) l (qs, kept, schedule, l', is, has) =
+    sorted_outcomes (counted_by k) false (length k.jobs) ps qs kept schedule l
+    (subst (HasLanes false (length k.jobs) qs) (same l l' is) has)
+  where
+    same : (l l' : LanesData) → Some l ≡ Some l' → l' ≡ l
+    same l l' e = cc
+
+-- without a table there is no schedule
+pub no_outcomes : (k : ProblemData) (ps : List Piece) (fit : ProblemFit)
+    → HasProblemTable k ps fit None → [] ≡ problem_outcomes k ps (Some fit)
+no_outcomes k ps (Fits value) (qs, kept, schedule, l, is, has) = absurd (cc)
+no_outcomes k ps (NoSchedule fault) is = refl
+no_outcomes k ps (Misfit misfit) (qs, kept, schedule, l, is, has) = absurd (cc)
 
 -- ---- what a schedule comes to
 

@@ -1,5 +1,5 @@
 -- What is written piece by piece, as lines of words.
-use Rattle.std.proofs.Common.{◌≡◌, ℕ, List, [], ◌∷◌, ◌++◌, codes, refl, sym, ap, ◌∙◌}
+use Rattle.std.proofs.Common.{◌≡◌, ℕ, List, [], ◌∷◌, ◌++◌, map, codes, refl, sym, ap, ◌∙◌}
 use Rattle.std.proofs.lemmas.Grind.{flat_map-append}
 use Rattle.std.specs.List.{flat_map}
 use Rattle.std.specs.Fmt.{decimal}
@@ -8,7 +8,7 @@ use Rattle.tf_text.specs.AnswerText.{line_text}
 use Rattle.tf_text.proofs.Written.{then}
 use Rattle.tf_problem.specs.ProblemData.{ProblemData}
 use Rattle.tf_assess.specs.declared.assessment.Assessment.{Assessment}
-use Rattle.tf_evaluate.specs.EvaluationText.{claimed_lines}
+use Rattle.tf_evaluate.specs.EvaluationText.{claimed_lines, outcome_words}
 use Rattle.tf_assess.specs.Assessing.{value_in, bound_in, best_in}
 use Rattle.tf_assess.specs.AssessmentText.{fit_words, number_lines, gap_lines, offered_lines, bound_lines, judged_lines, assessment_text}
 
@@ -51,31 +51,36 @@ module _ (A : Type 0) (a : Assessment A) where
     text_joined : codes "evaluation 1\nproblem " ++ (canonical k.problem ++ 10 ∷ [])
         ++ flat_map line_text
         ((codes "jobs" ∷ decimal jobs ∷ []) ∷ (codes "machines" ∷ decimal k.machines ∷ [])
-        ∷ (judged_lines a ++ (codes "end" ∷ []) ∷ [])) ≡ assessment_text k jobs a
+        ∷ (judged_lines a ++ (map outcome_words a.outcomes.items ++ (codes "end" ∷ []) ∷ [])))
+        ≡ assessment_text k jobs a
     unfolding assessment_text
     text_joined = refl
 
     -- all lines
-    pub assessment_written : (t0 t1 t2 t3 t4 t5 t6 : List ℕ) → t0 ≡ codes "evaluation 1\nproblem "
+    pub assessment_written : (t0 t1 t2 t3 t4 t5 t6 t7 : List ℕ) → t0 ≡ codes "evaluation 1\nproblem "
         → t1 ≡ t0 ++ canonical k.problem → t2 ≡ t1 ++ 10 ∷ []
         → t3 ≡ t2 ++ line_text (codes "jobs" ∷ decimal jobs ∷ [])
         → t4 ≡ t3 ++ line_text (codes "machines" ∷ decimal k.machines ∷ [])
         → t5 ≡ t4 ++ flat_map line_text (judged_lines a)
-        → t6 ≡ t5 ++ flat_map line_text ((codes "end" ∷ []) ∷ []) → t6 ≡ assessment_text k jobs a
-    assessment_written t0 t1 t2 t3 t4 t5 t6 e0 e1 e2 e3 e4 e5 e6 =
-        let from4 = lines_then t4 t5 t6 (judged_lines a) ((codes "end" ∷ []) ∷ []) e5 e6 in
-        let from3 : t6 ≡ t3
+        → t6 ≡ t5 ++ flat_map line_text (map outcome_words a.outcomes.items)
+        → t7 ≡ t6 ++ flat_map line_text ((codes "end" ∷ []) ∷ []) → t7 ≡ assessment_text k jobs a
+    assessment_written t0 t1 t2 t3 t4 t5 t6 t7 e0 e1 e2 e3 e4 e5 e6 e7 =
+        let outcomes = map outcome_words a.outcomes.items in
+        let last : List (List (List ℕ)) = (codes "end" ∷ []) ∷ [] in
+        let from5 = lines_then t5 t6 t7 outcomes last e6 e7 in
+        let from4 = lines_then t4 t5 t7 (judged_lines a) (outcomes ++ last) e5 from5 in
+        let from3 : t7 ≡ t3
         ++ flat_map line_text
-        ((codes "machines" ∷ decimal k.machines ∷ []) ∷ (judged_lines a ++ (codes "end" ∷ []) ∷ [])) =
-        then t3 t4 t6 _ _ e4 from4 in
-        let from2 : t6 ≡ t2
+        ((codes "machines" ∷ decimal k.machines ∷ []) ∷ (judged_lines a ++ (outcomes ++ last))) =
+        then t3 t4 t7 _ _ e4 from4 in
+        let from2 : t7 ≡ t2
         ++ flat_map line_text
         ((codes "jobs" ∷ decimal jobs ∷ []) ∷ (codes "machines" ∷ decimal k.machines ∷ [])
-        ∷ (judged_lines a ++ (codes "end" ∷ []) ∷ [])) = then t2 t3 t6 _ _ e3 from3 in
+        ∷ (judged_lines a ++ (outcomes ++ last))) = then t2 t3 t7 _ _ e3 from3 in
         let heading : t2 ≡ codes "evaluation 1\nproblem " ++ (canonical k.problem ++ 10 ∷ []) =
         then t0 t1 t2 _ _ e1 e2 ∙ ap (λ text. text ++ (canonical k.problem ++ 10 ∷ [])) e0 in
         from2 ∙ ap (λ text. text
         ++ flat_map line_text
         ((codes "jobs" ∷ decimal jobs ∷ []) ∷ (codes "machines" ∷ decimal k.machines ∷ [])
-        ∷ (judged_lines a ++ (codes "end" ∷ []) ∷ []))) heading
+        ∷ (judged_lines a ++ (outcomes ++ last)))) heading
         ∙ text_joined

@@ -1,21 +1,26 @@
 -- How an answer stands to the task of a problem.
-use Rattle.std.specs.Prelude.{◌≡◌, ℕ, ℤ, ◌≤ℤ◌, ◌⊎◌, List, length, Option, None, Some, IfSome, if◌then◌else◌}
+use Rattle.std.specs.Prelude.{◌≡◌, ℕ, ℤ, ◌≤ℤ◌, ◌⊎◌, List, [], false, length, map, Option, None, Some, IfSome, if◌then◌else◌}
 use Rattle.std.specs.List.{All}
 use Rattle.std.specs.List.Sorted.{IsPermutation}
 use Rattle.std.specs.Ordering.{int_eq}
 use Rattle.tf_model.specs.declared.problem.Problem.{Problem}
 use Rattle.tf_model.specs.Timetable.{Timetable}
-use Rattle.tf_problem.specs.ProblemData.{ProblemData}
+use Rattle.tf_problem.specs.ProblemData.{ProblemData, problem_jobs}
 use Rattle.tf_problem.specs.FitsProblem.{FitsProblem}
 use Rattle.tf_problem.specs.ProblemCost.{problem_cost, IsProblemBest}
 use Rattle.tf_schedule.specs.declared.piece.Piece.{Piece}
 use Rattle.tf_schedule.specs.Schedule.{IsPiece, IsSchedule, HasFirstFault}
 use Rattle.tf_schedule.specs.Drawing.{Draws}
-use Rattle.tf_fit.specs.CostBy.{IsCostOrBeyond}
+use Rattle.tf_schedule.specs.Lanes.{LanesData, HasLanes}
+use Rattle.tf_fit.specs.CostBy.{IsCostOrBeyond, counted_at}
+use Rattle.tf_fit.specs.declared.misfit.ProblemMisfit.{ProblemMisfit}
+use Rattle.tf_fit.specs.ProblemJudged.{IsJudgedBy}
 use Rattle.tf_fit.specs.ProblemMisfit.{HasFirstMisfit}
 use Rattle.tf_search.specs.declared.strongest.Found.{Found}
 use Rattle.tf_search.specs.Strongest.{IsFound}
 use Rattle.tf_text.specs.AnswerText.{SheetData}
+use Rattle.tf_evaluate.specs.declared.evaluation.JobOutcome.{JobOutcome}
+use Rattle.tf_evaluate.specs.Outcomes.{outcome_by}
 use Rattle.tf_problem.specs.ProblemCost.{IsLowerBound}
 use Rattle.tf_bound.specs.declared.certificate.BoundCertificate.{BoundCertificate}
 use Rattle.tf_bound.specs.Judged.{IsJudgedTask}
@@ -69,6 +74,30 @@ IsProblemJudged k ps (Fits value) =
 IsProblemJudged k ps (NoSchedule fault) = HasFirstFault ps fault
 IsProblemJudged k ps (Misfit misfit) =
     (qs : List Piece) × IsPermutation ps qs × IsSchedule qs × HasFirstMisfit k qs misfit
+
+-- where the pieces make a schedule, the table has the extents of the jobs by these pieces
+abbrev pub HasProblemTable : ProblemData → List Piece → ProblemFit → Option LanesData → Type 0
+HasProblemTable k ps (NoSchedule fault) lanes = lanes ≡ None
+HasProblemTable k ps _ lanes = (qs : List Piece) × IsPermutation ps qs × IsSchedule qs
+    × (l : LanesData) × (lanes ≡ Some l) × HasLanes false (length k.jobs) qs l
+
+-- the pieces, sorted, are a schedule with this table, which fits or has this first misfit
+pub record IsSorting (k : ProblemData) (ps qs : List Piece) (jobs : LanesData)
+    (misfit : Option ProblemMisfit) : Type 0 where
+  pub kept : IsPermutation ps qs
+  pub schedule : IsSchedule qs
+  pub judged : IsJudgedBy k qs misfit
+  pub table : HasLanes false (length k.jobs) qs jobs
+
+-- what the task's objective counts of a job that completes at c
+abbrev pub counted_by : ProblemData → ℕ → ℕ → ℤ
+counted_by k = counted_at k.problem.goal k
+
+-- what happens to each job, where the pieces make a schedule
+abbrev pub problem_outcomes : ProblemData → List Piece → Option ProblemFit → List JobOutcome
+problem_outcomes k ps None = []
+problem_outcomes k ps (Some (NoSchedule fault)) = []
+problem_outcomes k ps _ = map (outcome_by (counted_by k) ps) (problem_jobs k)
 
 -- two problems ask the same of each job
 pub record HasSameJobs (p q : Problem) : Type 0 where
@@ -177,3 +206,4 @@ pub record IsAssessment {A : Type 0} (k : ProblemData) (offer : Option BoundShee
   pub bound : IfSome a.bound (IsFound k)
   pub counts : Counts a.offered a.bound
   pub standing : HasAssessed k sheet (assessed_of a.fit (bound_in a.bound))
+  pub outcomes : a.outcomes.items ≡ problem_outcomes k sheet.answer.pieces a.fit

@@ -1,5 +1,5 @@
 -- The text of an assessment.
-use Rattle.std.specs.Prelude.{ℕ, ◌+◌, ℤ, ◌-ℤ◌, unsigned_abs, List, [], ◌∷◌, ◌++◌, codes, Option, None, Some}
+use Rattle.std.specs.Prelude.{ℕ, ◌+◌, ℤ, ◌-ℤ◌, unsigned_abs, List, [], ◌∷◌, ◌++◌, map, codes, Option, None, Some}
 use Rattle.std.specs.List.{flat_map}
 use Rattle.std.specs.Fmt.{decimal, signed_decimal}
 use Rattle.tf_notation.specs.Canonical.{canonical}
@@ -11,7 +11,7 @@ use Rattle.tf_fit.specs.declared.misfit.ProblemMisfit.TheVariants.{Plain, OffRou
 use Rattle.tf_bound.specs.declared.fault.BoundFault.{BoundFault}
 use Rattle.tf_bound.specs.declared.fault.BoundFault.TheVariants as faults
 use Rattle.tf_search.specs.declared.strongest.Found.{Found}
-use Rattle.tf_evaluate.specs.EvaluationText.{claimed_lines}
+use Rattle.tf_evaluate.specs.EvaluationText.{claimed_lines, outcome_words}
 use Rattle.tf_bounding.specs.BoundText.{certificate_words}
 use Rattle.tf_assess.specs.declared.assessment.ProblemFit.{ProblemFit}
 use Rattle.tf_assess.specs.declared.assessment.ProblemFit.TheVariants.{Fits, NoSchedule, Misfit}
@@ -87,7 +87,7 @@ judged_lines a =
     ++ (gap_lines (value_in a.fit) (bound_in a.bound)
     ++ (offered_lines a.offered ++ bound_lines a.bound)))))
 
--- all lines
+-- all lines: a heading, what is asked, the judgement, and the jobs
 abbrev pub assessment_lines : {A : Type 0} → ProblemData → ℕ → Assessment A
     → List (List (List ℕ))
 assessment_lines k jobs a =
@@ -95,7 +95,7 @@ assessment_lines k jobs a =
     ∷ (codes "problem" ∷ canonical k.problem ∷ [])
     ∷ (codes "jobs" ∷ decimal jobs ∷ [])
     ∷ (codes "machines" ∷ decimal k.machines ∷ [])
-    ∷ (judged_lines a ++ (codes "end" ∷ []) ∷ [])
+    ∷ (judged_lines a ++ (map outcome_words a.outcomes.items ++ (codes "end" ∷ []) ∷ []))
 
 -- the text of an assessment of an answer to a task
 unfoldable pub assessment_text : {A : Type 0} → ProblemData → ℕ → Assessment A → List ℕ

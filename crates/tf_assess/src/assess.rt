@@ -1,18 +1,24 @@
 //! An answer to a problem, assessed.
-ghost use Rattle.std.specs.Prelude.{◌≡◌, ◌↔◌, IfOk, IsTrue};
+ghost use Rattle.std.specs.Prelude.{◌≡◌, ◌↔◌, List, Some, IfOk, IsTrue};
 ghost use Rattle.tf_text.specs.AnswerText.{SheetData};
 ghost use Rattle.tf_assess.specs.Assessing.{HasSameJobs, HasSameShop, IsSameProblem, IsAssessment};
 ghost use Rattle.tf_assess.specs.Assessing.{IsForProblem, IsOfTask, IsProblemJudged, HasProblemFit};
+ghost use Rattle.tf_assess.specs.Assessing.{HasProblemTable, IsSorting, problem_outcomes};
+ghost use Rattle.tf_schedule.specs.declared.piece.Piece.{Piece as PieceData};
 
 use crate::assessment::{Assessment, ProblemFit};
 use crate::offered::{Aids, Weighed, weigh};
+use crate::outcomes::outcomes;
 use std::alloc::Allocator;
 use tf_bound::task::ProblemTask;
 use tf_check::answer::Answer;
+use tf_evaluate::evaluation::JobOutcome;
 use tf_fit::cost::cost_by;
 use tf_fit::judge::{ProblemJudged, judge_problem};
+use tf_fit::misfit::ProblemMisfit;
 use tf_model::memory::OutOfMemory;
 use tf_model::problem::Problem;
+use tf_schedule::lanes::Lanes;
 use tf_schedule::piece::Piece;
 use tf_schedule::schedule::Schedule;
 use tf_search::effort::Progress;
@@ -39,12 +45,13 @@ pub fn assess<A: Allocator + Copy, B: Allocator, C: Allocator, P: Progress + Dro
         value: claimed,
         ..
     } = sheet.into_answer();
-    let fit = fit_of(alloc, task, is_its, pieces.into_vec())?;
+    let JudgedSheet { fit, outcomes } = judge_sheet(alloc, task, is_its, pieces.into_vec())?;
     Ok(Assessment {
         fit,
         claimed: Some(claimed),
         offered,
         bound,
+        outcomes,
     })
 }
 
@@ -90,22 +97,64 @@ fn has_same_shop(one: &Problem, other: &Problem) -> bool
     one.block == other.block && one.rcrc == other.rcrc
 }
 
+// How an answer stands to a task, and what happens to the jobs.
+#[derive(Drop)]
+struct JudgedSheet<A: Allocator> {
+    fit: Option<ProblemFit>,
+    outcomes: Vec<JobOutcome, A>,
+}
+
 // How the pieces of an answer, which is for the task or for another one, stand to it.
-fn fit_of<A: Allocator + Copy, B: Allocator, C: Allocator>(
+fn judge_sheet<A: Allocator + Copy, B: Allocator, C: Allocator>(
     alloc: A,
     task: &ProblemTask<B>,
     is_its: bool,
     pieces: Vec<Piece, C>,
-) -> Result<Option<ProblemFit>, OutOfMemory>
-    ensures { (sheet : SheetData) → sheet.answer.pieces ≡ pieces.items →
+) -> Result<JudgedSheet<A>, OutOfMemory>
+    ensures fit { (sheet : SheetData) → sheet.answer.pieces ≡ pieces.items →
         (IsTrue is_its ↔ IsForProblem task.now sheet) →
-        IfOk result (HasProblemFit task.now sheet) }
+        IfOk result (λ judged. HasProblemFit task.now sheet judged.fit) }
+    ensures outcomes { IfOk result (λ judged.
+        judged.outcomes.items ≡ problem_outcomes task.now pieces.items judged.fit) }
 {
     if !is_its {
-        return Ok(None);
+        return Ok(JudgedSheet {
+            fit: None,
+            outcomes: Vec::new(alloc),
+        });
     }
-    let fit = judged(alloc, task, pieces)?;
-    Ok(Some(fit))
+    let judged = judge_problem_pieces(alloc, task, pieces)?;
+    Ok(JudgedSheet {
+        fit: Some(judged.fit),
+        outcomes: judged.outcomes,
+    })
+}
+
+/// How pieces stand to the task of a problem, and what happens to the jobs.
+#[derive(Drop)]
+pub struct JudgedPieces<A: Allocator> {
+    pub fit: ProblemFit,
+    /// The jobs from 1 on, where the pieces make a schedule.
+    pub outcomes: Vec<JobOutcome, A>,
+}
+
+/// How pieces stand to the task, and what happens to the jobs. The pieces are given up, so that
+/// they are sorted where they stand. Only want of memory is an error.
+pub fn judge_problem_pieces<A: Allocator + Copy, B: Allocator, C: Allocator>(
+    alloc: A,
+    task: &ProblemTask<B>,
+    pieces: Vec<Piece, C>,
+) -> Result<JudgedPieces<A>, OutOfMemory>
+    ensures fit { IfOk result (λ judged. IsProblemJudged task.now pieces.items judged.fit) }
+    ensures outcomes { IfOk result (λ judged.
+        judged.outcomes.items ≡ problem_outcomes task.now pieces.items (Some judged.fit)) }
+{
+    let Placed { fit, lanes } = placed(alloc, task, pieces)?;
+    let outcomes = match &lanes {
+        Some(lanes) => outcomes(alloc, task, lanes)?,
+        None => Vec::new(alloc),
+    };
+    Ok(JudgedPieces { fit, outcomes })
 }
 
 /// How pieces stand to the task. They are given up, so that they are sorted where they stand. Only
@@ -117,13 +166,54 @@ pub fn judged<A: Allocator + Copy, B: Allocator, C: Allocator>(
 ) -> Result<ProblemFit, OutOfMemory>
     ensures { IfOk result (IsProblemJudged task.now pieces.items) }
 {
+    let placed = placed(alloc, task, pieces)?;
+    Ok(placed.fit)
+}
+
+// How pieces stand to the task, and when the jobs work, where they make a schedule.
+#[derive(Drop)]
+struct Placed<A: Allocator> {
+    fit: ProblemFit,
+    lanes: Option<Lanes<A>>,
+}
+
+fn placed<A: Allocator + Copy, B: Allocator, C: Allocator>(
+    alloc: A,
+    task: &ProblemTask<B>,
+    pieces: Vec<Piece, C>,
+) -> Result<Placed<A>, OutOfMemory>
+    ensures fit { IfOk result (λ placed. IsProblemJudged task.now pieces.items placed.fit) }
+    ensures lanes { IfOk result (λ placed.
+        HasProblemTable task.now pieces.items placed.fit placed.lanes) }
+{
     let schedule = match Schedule::new(pieces) {
         Ok(schedule) => schedule,
-        Err(fault) => return Ok(ProblemFit::NoSchedule(fault)),
+        Err(fault) => {
+            return Ok(Placed {
+                fit: ProblemFit::NoSchedule(fault),
+                lanes: None,
+            });
+        }
     };
     let ProblemJudged { misfit, jobs } = judge_problem(alloc, task, &schedule)?;
+    Ok(Placed {
+        fit: fit_by(task, &jobs, misfit),
+        lanes: Some(jobs),
+    })
+}
+
+// How a schedule stands to the task that has this first misfit, or none, and this table.
+fn fit_by<A: Allocator, B: Allocator>(
+    task: &ProblemTask<A>,
+    jobs: &Lanes<B>,
+    misfit: Option<ProblemMisfit>,
+) -> ProblemFit
+    ensures { (ps qs : List PieceData) → IsSorting task.now ps qs jobs.now misfit.entry →
+        IsProblemJudged task.now ps result
+        × HasProblemTable task.now ps result (Some jobs.now) }
+{
     match misfit {
-        Some(misfit) => Ok(ProblemFit::Misfit(misfit)),
-        None => Ok(ProblemFit::Fits(cost_by(task.problem().goal, task, &jobs))),
+        Some(misfit) => ProblemFit::Misfit(misfit),
+        None => ProblemFit::Fits(cost_by(task.problem().goal, task, jobs)),
     }
 }

@@ -4,6 +4,7 @@ ghost use Rattle.tf_assess.specs.Assessing.{bound_in};
 
 use std::alloc::{Allocator, Global};
 use tf_bound::fault::BoundFault;
+use tf_evaluate::evaluation::JobOutcome;
 use tf_fit::misfit::ProblemMisfit;
 use tf_schedule::schedule::PieceFault;
 use tf_search::strongest::Found;
@@ -66,6 +67,8 @@ pub struct Assessment<A: Allocator = Global> {
     /// The strongest lower bound that was found or offered. None where each certificate that was
     /// tried has a number beyond the limit.
     pub bound: Option<Found<A>>,
+    /// The jobs from 1 on, where the pieces make a schedule and the answer is for the task.
+    pub outcomes: Vec<JobOutcome, A>,
 }
 
 impl<A: Allocator> Assessment<A> {

@@ -6,6 +6,7 @@ pub mod assessment;
 pub mod bound_read;
 mod case_read;
 pub mod offered;
+mod outcomes;
 pub mod run_assess;
 pub mod run_rate;
 pub mod writing;

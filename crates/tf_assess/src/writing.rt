@@ -14,7 +14,7 @@ use tf_bound::fault::BoundFault;
 use tf_bound::task::ProblemTask;
 use tf_bounding::writing::push_certificate;
 use tf_engine::verdict_line::{push_misfit, push_piece_fault};
-use tf_evaluate::writing::push_claimed;
+use tf_evaluate::writing::{push_claimed, push_outcomes};
 use tf_fit::misfit::ProblemMisfit;
 use tf_model::ids::JobId;
 use tf_model::memory::OutOfMemory;
@@ -38,6 +38,7 @@ pub fn assessment_bytes<A: Allocator + Copy, B: Allocator, M: Allocator>(
     push_number_line(&mut text, b"jobs", task.len() as u64)?;
     push_number_line(&mut text, b"machines", task.machines())?;
     push_judged(&mut text, assessment)?;
+    push_outcomes(&mut text, assessment.outcomes.as_slice())?;
     text.extend_from_slice(b"end\n")?;
     Ok(text)
 }

@@ -1,5 +1,5 @@
 -- What happens to the jobs does not depend on the order of the pieces.
-use Rattle.std.proofs.Common.{◌≡◌, ℕ, ◌<◌, ◌≤◌, min, Bool, true, false, cond, eqb, List, [], ◌∷◌, map, subst, ap, ◌∙◌, arith, inl, inr, refl, length, zero, suc, ◌+◌, Option, Some, None}
+use Rattle.std.proofs.Common.{◌≡◌, ℕ, ◌<◌, ◌≤◌, min, Bool, true, false, cond, eqb, List, [], ◌∷◌, map, subst, ap, ◌∙◌, ℤ, arith, inl, inr, refl, length, zero, suc, ◌+◌, Option, Some, None}
 use Rattle.std.specs.List.{range_with_len}
 use Rattle.std.specs.List.Sorted.{IsPermutation}
 use Rattle.std.proofs.lemmas.Bool.{cases_lt}
@@ -21,7 +21,7 @@ use Rattle.tf_check.specs.declared.judgement.Fit.{Fit}
 use Rattle.tf_check.specs.declared.judgement.Fit.TheVariants.{Fits, NoSchedule, Misfit}
 use Rattle.tf_evaluate.specs.declared.evaluation.JobOutcome.{JobOutcome}
 use Rattle.tf_evaluate.specs.Evaluating.{outcomes_for}
-use Rattle.tf_evaluate.specs.Outcomes.{first_start, outcome_of, outcome_in}
+use Rattle.tf_evaluate.specs.Outcomes.{first_start, outcome_by, outcome_on, outcome_of, outcome_in}
 
 -- a job's greatest is reached, and the other list has it too
 greatest_at_most : (f : Piece → ℕ) (ps qs : List Piece) (j : ℕ) → IsPermutation ps qs
@@ -61,9 +61,9 @@ least_at_least f ps qs j same = elim (cases_lt (least_by f qs j) limit) [
   | inr none ↦ omega (arith, none, least_within f ps j)
 ]
 
-outcome_same : (k : SchedulingTask) (ps qs : List Piece) → IsPermutation ps qs → (j : ℕ)
-    → outcome_of k qs j ≡ outcome_of k ps j
-outcome_same k ps qs same j =
+outcome_same : (counted : ℕ → ℕ → ℤ) (ps qs : List Piece) → IsPermutation ps qs → (j : ℕ)
+    → outcome_by counted qs j ≡ outcome_by counted ps j
+outcome_same counted ps qs same j =
     let back = IsPermutation-sym ps qs same in
     let stops : last_stop qs j ≡ last_stop ps j = omega (
       arith,
@@ -82,17 +82,8 @@ outcome_same k ps qs same j =
       job = j;
       start = first_start start stop;
       completion = stop;
-      price = price k j stop;
+      price = counted j stop;
     }
-
-pub outcomes_same : (k : SchedulingTask) (ps qs : List Piece) → IsPermutation ps qs → (fit : Option Fit)
-    → outcomes_for k qs fit ≡ outcomes_for k ps fit
-outcomes_same k ps qs same (Some (Fits value)) =
-    map_same (outcome_of k qs) (outcome_of k ps) (outcome_same k ps qs same) (all_jobs k)
-outcomes_same k ps qs same None = refl
-outcomes_same k ps qs same (Some (NoSchedule fault)) = refl
-outcomes_same k ps qs same (Some (Misfit misfit)) =
-    map_same (outcome_of k qs) (outcome_of k ps) (outcome_same k ps qs same) (all_jobs k)
 
 -- ---- by the table
 
@@ -104,20 +95,18 @@ map_range {X} f g a (suc n) same =
     ∙ ap (λ (xs : List X). g a ∷ xs)
     (map_range f g (a + 1) n (λ j low high. same j (omega arith) (omega arith)))
 
-module _ (k : SchedulingTask) (qs : List Piece) (schedule : IsSchedule qs) (l : LanesData)
-    (has : HasLanes (is_shop k.class) (length k.jobs) qs l) where
-  stops : (j : ℕ) → IsJob k j → stop_in l j ≤ limit
-  stops j job = omega (
-    arith,
-    stop_is (is_shop k.class) (length k.jobs) qs l has j job.0 job.1,
-    stop_within qs schedule.sound j,
-  )
+module _ (counted : ℕ → ℕ → ℤ) (is_shop : Bool) (n : ℕ) (qs : List Piece) (schedule : IsSchedule qs)
+    (l : LanesData) (has : HasLanes is_shop n qs l) where
+  pub stops_within : (j : ℕ) → 1 ≤ j → j ≤ n → stop_in l j ≤ limit
+  stops_within j low high =
+      omega (arith, stop_is is_shop n qs l has j low high, stop_within qs schedule.sound j)
 
-  in_table : map (outcome_in k l) (all_jobs k) ≡ map (outcome_of k qs) (all_jobs k)
-  in_table = map_range (outcome_in k l) (outcome_of k qs) 1 (length k.jobs) (λ j low high.
-      let at_most : j ≤ length k.jobs = omega (arith, high) in
-      let starts = start_is (is_shop k.class) (length k.jobs) qs l has j low at_most in
-      let ends = stop_is (is_shop k.class) (length k.jobs) qs l has j low at_most in
+  in_table : map (outcome_on counted l) (range_with_len 1 n)
+      ≡ map (outcome_by counted qs) (range_with_len 1 n)
+  in_table = map_range (outcome_on counted l) (outcome_by counted qs) 1 n (λ j low high.
+      let at_most : j ≤ n = omega (arith, high) in
+      let starts = start_is is_shop n qs l has j low at_most in
+      let ends = stop_is is_shop n qs l has j low at_most in
       ap (with_stop j (start_in l j)) ends ∙ ap (λ s. with_stop j s (last_stop qs j)) starts)
     where
       with_stop : ℕ → ℕ → ℕ → JobOutcome
@@ -125,19 +114,30 @@ module _ (k : SchedulingTask) (qs : List Piece) (schedule : IsSchedule qs) (l : 
         job = j;
         start = first_start start stop;
         completion = stop;
-        price = price k j stop;
+        price = counted j stop;
       }
+
+-- by the table of a schedule, and by the pieces that it sorts
+pub sorted_outcomes : (counted : ℕ → ℕ → ℤ) (is_shop : Bool) (n : ℕ) (ps qs : List Piece)
+    → IsPermutation ps qs → IsSchedule qs → (l : LanesData) → HasLanes is_shop n qs l
+    → map (outcome_on counted l) (range_with_len 1 n) ≡ map (outcome_by counted ps) (range_with_len 1 n)
+sorted_outcomes counted is_shop n ps qs kept schedule l has =
+    in_table counted is_shop n qs schedule l has
+    ∙ map_same (outcome_by counted qs) (outcome_by counted ps) (outcome_same counted ps qs kept)
+    (range_with_len 1 n)
 
 pub table_stops : (k : SchedulingTask) (ps : List Piece) (fit : Fit) (l : LanesData)
     → HasTable k ps fit (Some l) → (j : ℕ) → IsJob k j → stop_in l j ≤ limit
 table_stops k ps (Fits value) l (qs, kept, schedule, l', is, has) =
-    stops k qs schedule l (subst (HasLanes (is_shop k.class) (length k.jobs) qs) (same l l' is) has)
+    λ j job. stops_within (price k) (is_shop k.class) (length k.jobs) qs schedule l
+    (subst (HasLanes (is_shop k.class) (length k.jobs) qs) (same l l' is) has) j job.0 job.1
   where
     same : (l l' : LanesData) → Some l ≡ Some l' → l' ≡ l
     same l l' e = cc
 table_stops k ps (NoSchedule fault) l is = absurd (cc)
 table_stops k ps (Misfit misfit) l (qs, kept, schedule, l', is, has) =
-    stops k qs schedule l (subst (HasLanes (is_shop k.class) (length k.jobs) qs) (same l l' is) has)
+    λ j job. stops_within (price k) (is_shop k.class) (length k.jobs) qs schedule l
+    (subst (HasLanes (is_shop k.class) (length k.jobs) qs) (same l l' is) has) j job.0 job.1
   where
     same : (l l' : LanesData) → Some l ≡ Some l' → l' ≡ l
     same l l' e = cc
@@ -146,15 +146,15 @@ pub table_outcomes : (k : SchedulingTask) (ps : List Piece) (fit : Fit) (l : Lan
     → HasTable k ps fit (Some l)
     → map (outcome_in k l) (all_jobs k) ≡ outcomes_for k ps (Some fit)
 table_outcomes k ps (Fits value) l (qs, kept, schedule, l', is, has) =
-    in_table k qs schedule l (subst (HasLanes (is_shop k.class) (length k.jobs) qs) (same l l' is) has)
-    ∙ outcomes_same k ps qs kept (Some (Fits value))
+    sorted_outcomes (price k) (is_shop k.class) (length k.jobs) ps qs kept schedule l
+    (subst (HasLanes (is_shop k.class) (length k.jobs) qs) (same l l' is) has)
   where
     same : (l l' : LanesData) → Some l ≡ Some l' → l' ≡ l
     same l l' e = cc
 table_outcomes k ps (NoSchedule fault) l is = absurd (cc)
 table_outcomes k ps (Misfit misfit) l (qs, kept, schedule, l', is, has) =
-    in_table k qs schedule l (subst (HasLanes (is_shop k.class) (length k.jobs) qs) (same l l' is) has)
-    ∙ outcomes_same k ps qs kept (Some (Misfit misfit))
+    sorted_outcomes (price k) (is_shop k.class) (length k.jobs) ps qs kept schedule l
+    (subst (HasLanes (is_shop k.class) (length k.jobs) qs) (same l l' is) has)
   where
     same : (l l' : LanesData) → Some l ≡ Some l' → l' ≡ l
     same l l' e = cc

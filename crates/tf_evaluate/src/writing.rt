@@ -287,7 +287,8 @@ fn push_phrase<A: Allocator>(text: &mut Vec<u8, A>, words: &[u8]) -> Result<(), 
     Ok(())
 }
 
-fn push_outcomes<A: Allocator>(
+/// Adds a line for each job: its number, its first start, its completion and what it counts.
+pub fn push_outcomes<A: Allocator>(
     text: &mut Vec<u8, A>,
     outcomes: &[JobOutcome],
 ) -> Result<(), OutOfMemory>

@@ -12,6 +12,13 @@ abbrev pub price_at : Goal → ProblemData → ℕ → ℕ → ℤ
 price_at goals.Lmax k j c = lateness k j c
 price_at _ k j c = pos c
 
+-- what an objective counts of a job that completes at c: the completion, the lateness, or what the
+-- job adds to the sum
+abbrev pub counted_at : Goal → ProblemData → ℕ → ℕ → ℤ
+counted_at goals.Cmax k j c = pos c
+counted_at goals.Lmax k j c = lateness k j c
+counted_at goal k j c = pos (penalty goal k j c)
+
 -- the sum over the jobs 1 to n, of which job j completes at `at j`
 abbrev pub sum_at : Goal → ProblemData → (ℕ → ℕ) → ℕ → ℕ
 sum_at goal k at n = sum_by (λ j. penalty goal k j (at j)) (range_with_len 1 n)

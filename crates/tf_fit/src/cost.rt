@@ -1,5 +1,5 @@
 //! What a schedule costs by any objective.
-ghost use Rattle.std.specs.Prelude.{◌≡◌, ◌*◌, ◌^◌, ◌≤◌, false, length, pos, List};
+ghost use Rattle.std.specs.Prelude.{◌≡◌, ◌*◌, ◌^◌, ◌<◌, ◌≤◌, false, length, pos, List};
 ghost use Rattle.std.specs.List.{All};
 ghost use Rattle.tf_model.specs.Cost.{greatest};
 ghost use Rattle.tf_problem.specs.ProblemData.{IsProblemJob, problem_job, problem_jobs};
@@ -9,7 +9,7 @@ ghost use Rattle.tf_schedule.specs.declared.piece.Piece.{Piece};
 ghost use Rattle.tf_schedule.specs.Drawing.{drawing};
 ghost use Rattle.tf_schedule.specs.Lanes.{HasLanes, stop_in};
 ghost use Rattle.tf_schedule.specs.Schedule.{IsSchedule};
-ghost use Rattle.tf_fit.specs.CostBy.{price_at, cost_at, sum_at, IsCostOrBeyond};
+ghost use Rattle.tf_fit.specs.CostBy.{price_at, counted_at, cost_at, sum_at, IsCostOrBeyond};
 ghost use Rattle.tf_fit.specs.ProblemMisfit.{IsKnownTo};
 
 use std::alloc::Allocator;
@@ -33,6 +33,25 @@ pub fn cost_by<A: Allocator, B: Allocator>(
         IsCostOrBeyond result (problem_cost_by goal task.now (drawing task.now.machines ps)) }
 {
     cost_of_stops(goal, task, jobs)
+}
+
+/// What an objective counts of a job that completes at its last stop: the completion, the lateness,
+/// or what the job adds to the sum. The task's weights and due dates count, whatever its own
+/// objective is.
+pub fn counted<A: Allocator, B: Allocator>(
+    goal: Goal,
+    task: &ProblemTask<A>,
+    jobs: &Lanes<B>,
+    job: JobId,
+) -> i128
+    requires { IsProblemJob task.now job }
+    ensures { result ≡ counted_at goal task.now job (stop_in jobs.now job) }
+{
+    if is_max(goal) {
+        price(goal, task, jobs, job)
+    } else {
+        penalty(goal, task, job, jobs.stop(job)) as i128
+    }
 }
 
 // What it costs by its last stops.
@@ -99,7 +118,8 @@ fn tardiness<A: Allocator>(task: &ProblemTask<A>, job: JobId, stop: u64) -> u128
 // What a job adds to a sum if it completes at `stop`.
 fn penalty<A: Allocator>(goal: Goal, task: &ProblemTask<A>, job: JobId, stop: u64) -> u128
     requires { IsProblemJob task.now job }
-    ensures { result ≡ penalty goal task.now job stop }
+    ensures value { result ≡ penalty goal task.now job stop }
+    ensures small { result < 2 ^ 127 }
 {
     let late = tardiness(task, job, stop);
     let unit: u128 = if late > 0 { 1 } else { 0 };
@@ -118,7 +138,8 @@ fn penalty<A: Allocator>(goal: Goal, task: &ProblemTask<A>, job: JobId, stop: u6
 fn weighted<A: Allocator>(task: &ProblemTask<A>, job: JobId, number: u128) -> u128
     requires job { IsProblemJob task.now job }
     requires small { number ≤ 2 ^ 65 }
-    ensures { result ≡ (problem_job task.now job).weight * number }
+    ensures value { result ≡ (problem_job task.now job).weight * number }
+    ensures small { result < 2 ^ 127 }
 {
     u128::from(task.job(job).weight) * number
 }

@@ -1,8 +1,9 @@
 -- What a schedule comes to by each objective that its instance has the fields for.
-use Rattle.std.specs.Prelude.{◌≡◌, ◌⊎◌, ℕ, ◌-◌, ◌<◌, ℤ, pos, int_lt, List, [], ◌∷◌, ◌++◌, length, take, codes, Option, None, Some, Ok, Err, IsErr, if◌then◌else◌}
+use Rattle.std.specs.Prelude.{◌≡◌, ◌≢◌, ◌⊎◌, ℕ, ◌-◌, ◌<◌, ℤ, pos, int_lt, List, [], ◌∷◌, ◌++◌, length, take, codes, Option, None, Some, Ok, Err, IsErr, if◌then◌else◌}
 use Rattle.std.specs.Fmt.{signed_decimal}
 use Rattle.tf_model.specs.ClassTable.{is_shop_env}
 use Rattle.tf_model.specs.declared.prepare.Refusal.{Refusal}
+use Rattle.tf_model.specs.declared.prepare.Refusal.TheVariants.{OutOfMemory}
 use Rattle.tf_model.specs.declared.problem.Problem.{Problem}
 use Rattle.tf_model.specs.declared.problem.Goal.{Goal}
 use Rattle.tf_model.specs.declared.problem.Goal.TheVariants as goals
@@ -58,10 +59,12 @@ pub record HasMeasure (timed : TimedData) (problem : Problem) (machines : Option
   pub meant : prepared_in timed (by_goal problem goal) machines ≡ Ok task
   pub fits : IsProblemJudged task pieces (Fits (Some value))
 
--- the instance makes no task by this objective, or the pieces have no cost on it
+-- the instance makes no task by this objective, for a reason that is not want of memory, or the
+-- pieces have no cost on it
 abbrev pub HasNoMeasure : TimedData → Problem → Option ℕ → List Piece → Goal → Type 0
 HasNoMeasure timed problem machines pieces goal =
-    ((refusal : Refusal) × PreparesIn (Err refusal) (prepared_in timed (by_goal problem goal) machines))
+    ((refusal : Refusal) × PreparesIn (Err refusal) (prepared_in timed (by_goal problem goal) machines)
+    × (refusal ≢ OutOfMemory))
     ⊎ ((task : ProblemData) × (prepared_in timed (by_goal problem goal) machines ≡ Ok task)
     × ((fit : ProblemFit) × IsProblemJudged task pieces fit × (value_in (Some fit) ≡ None)))
 

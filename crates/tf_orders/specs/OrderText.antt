@@ -20,7 +20,7 @@ use Rattle.tf_evaluate.specs.EvaluationText.{fit_words, evaluation_text}
 use Rattle.tf_assess.specs.declared.assessment.Assessment.{Assessment}
 use Rattle.tf_assess.specs.declared.assessment.ProblemFit.{ProblemFit}
 use Rattle.tf_assess.specs.declared.assessment.ProblemFit.TheVariants as fits
-use Rattle.tf_assess.specs.Assessing.{IsProblemJudged, bound_in, assessed_of}
+use Rattle.tf_assess.specs.Assessing.{IsProblemJudged, bound_in, assessed_of, problem_outcomes}
 use Rattle.tf_assess.specs.AssessmentText as assessments
 use Rattle.tf_assess.specs.AssessmentText.{assessment_text}
 use Rattle.tf_assess.specs.RunRating.{standing_as}
@@ -57,12 +57,11 @@ pub record IsScheduleAssessment {A : Type 0} (k : ProblemData) (found : Option (
     (ps : List Piece) (a : Assessment A) : Type 0 where
   pub fit : ProblemFit
   pub judged : IsProblemJudged k ps fit
-  pub is : a ≡ record {
-    fit = Some fit;
-    claimed = None;
-    offered = None;
-    bound = found;
-  }
+  pub is : a.fit ≡ Some fit
+  pub claimed : a.claimed ≡ None
+  pub offered : a.offered ≡ None
+  pub bound : a.bound ≡ found
+  pub outcomes : a.outcomes.items ≡ problem_outcomes k ps (Some fit)
 
 -- the text is the evaluation of the pieces, which come to this
 abbrev pub IsEvaluated : {A : Type 0} → Measure A → List Piece → List ℕ → Standing → Type 0

@@ -14,7 +14,7 @@ use crate::run_orders::{OrderForm, OrdersRated};
 use crate::schedules::scheduled;
 use crate::writing::{push_problem_row, push_row};
 use std::alloc::Allocator;
-use tf_assess::assess::judged;
+use tf_assess::assess::{judge_problem_pieces, judged};
 use tf_assess::assessment::{Assessment, bound_in};
 use tf_assess::run_rate::standing_as;
 use tf_assess::writing::assessment_bytes;
@@ -161,12 +161,13 @@ fn assessment_of<A: Allocator + Copy, B: Allocator>(
 ) -> Result<Assessment<A>, OutOfMemory>
     ensures { IfOk result (IsScheduleAssessment task.now found pieces.items) }
 {
-    let fit = judged(alloc, task, pieces)?;
+    let judged = judge_problem_pieces(alloc, task, pieces)?;
     Ok(Assessment {
-        fit: Some(fit),
+        fit: Some(judged.fit),
         claimed: None,
         offered: None,
         bound: found,
+        outcomes: judged.outcomes,
     })
 }
 

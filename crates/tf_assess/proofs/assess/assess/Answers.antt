@@ -1,8 +1,9 @@
-use Rattle.std.proofs.Common.{rules, ◌≡◌, ◌↔◌, IsTrue, Some, subst, SFits, w64, ap, sym, ◌∙◌}
+use Rattle.std.proofs.Common.{rules, ◌≡◌, ◌↔◌, IsTrue, List, Some, subst, SFits, w64, ap, sym, ◌∙◌}
+use Rattle.tf_schedule.specs.declared.piece.Piece.{Piece}
 use Rattle.std.proofs.lemmas.Int.{to_z-of_z}
 use Rattle.tf_check.specs.Claim.{AnswerData}
 use Rattle.tf_text.specs.AnswerText.{SheetData}
-use Rattle.tf_assess.specs.Assessing.{HasProblemFit, IsForProblem}
+use Rattle.tf_assess.specs.Assessing.{HasProblemFit, IsForProblem, problem_outcomes}
 use Rattle.tf_assess.proofs.Assessing.{standing_is}
 use Rattle.tf_assess.proofs.assess.assess.Goals as goal
 
@@ -15,8 +16,9 @@ returns g c =
     let is_its : IsTrue c.is_for-is_its.result ↔ IsForProblem k c.args.sheet =
     subst (λ (s : SheetData). IsTrue c.is_for-is_its.result ↔ IsForProblem k s) c.sheet.view_is
     c.is_for-is_its.ensures in
-    let fit : HasProblemFit k c.args.sheet c.in_ok-fit.fit =
-    c.in_ok-fit.ensures c.args.sheet pieces is_its in
+    let judged = c.in_ok-fit.field-0.fit in
+    let fit : HasProblemFit k c.args.sheet judged =
+    c.in_ok-fit.ensures.fit c.args.sheet pieces is_its in
     let fits : SFits w64 c.pieces.inside.value = search rules in
     record {
       fit = fit;
@@ -25,6 +27,7 @@ returns g c =
       offered = c.in_ok-offered.ensures.offered;
       bound = c.in_ok-offered.ensures.bound;
       counts = c.in_ok-offered.ensures.counts;
-      standing = standing_is k c.args.sheet c.in_ok-fit.fit _ fit
-          c.in_ok-offered.ensures.bound;
+      standing = standing_is k c.args.sheet judged _ fit c.in_ok-offered.ensures.bound;
+      outcomes = c.in_ok-fit.ensures.outcomes
+          ∙ ap (λ (ps : List Piece). problem_outcomes k ps judged) (sym pieces);
     }
