@@ -21,7 +21,8 @@ import verify  # noqa: E402
 
 PROBLEMS = [name.replace("prmp,rj", "rj,prmp") for name in sorted(verify.SOLVED)]
 OTHERS = ["1||sumX", "1||sumU", "F3||Cmax", "P|prmp|sumC", "1|rj|Lmax", "1 | pmtn , r_j | L_max", "Pm|pmtn|C_max"]
-NUMBERS = ["0", "1", "-1", "2", "3", "7", "007", "100001", "1001", str(4 * 10**18), str(4 * 10**18 + 1), str(-2**63), str(2**63), "x", "1-2"]
+NUMBERS = ["0", "1", "-1", "2", "3", "7", "007", "100001", "1001", str(4 * 10**18), str(4 * 10**18 + 1), str(-2**63), str(2**63), "x", "1-2",
+           "9" * 5000, "0" * 5000 + "3"]
 WORDS = ["piece", "cert", "end", "value", "problem", "last", "window", "ranks", "pairs", "load", "split", "first", "second", "machine",
          "job", "jobs", "machines", "answer", "1-3", "3-1", "1-100000", "#", "1||Lmax", "O2||Cmax"]
 

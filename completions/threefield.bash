@@ -15,7 +15,7 @@ _threefield() {
         if [ "$command" = help ]; then
             COMPREPLY=($(compgen -W "solve bound trace check evaluate gantt random problems" -- "$word"))
         else
-            COMPREPLY=($(compgen -f -- "$word"))
+            mapfile -t COMPREPLY < <(compgen -f -- "$word")
         fi
         return
     fi

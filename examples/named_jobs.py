@@ -6,16 +6,28 @@
 
 The CSV has a heading and the columns name and time, and any of second (the time on a shop's machine 2), weight, due,
 release and after: the names of the jobs that have to be over before, with a semicolon between two. Job 1 is the first row.
+Times, weights and dates are whole numbers. A name that a spreadsheet would take for a formula gets an apostrophe before it.
 """
 import csv
+import re
 import sys
 
+COLUMNS = {"name", "time"}
+NUMBERS = ("time", "second", "weight", "due", "release")
 FIELDS = {"weight": "w", "due": "d", "release": "r"}
 
 
 def rows_of(path):
-    with open(path, newline="", encoding="utf-8") as file:
-        return list(csv.DictReader(file))
+    with open(path, newline="", encoding="utf-8-sig") as file:
+        rows = list(csv.DictReader(file))
+    missing = COLUMNS - set(rows[0] if rows else ())
+    if missing:
+        sys.exit(f"there is no column {' and no column '.join(sorted(missing))} in the heading of {path}, or no row below it")
+    for place, row in enumerate(rows, 2):
+        for column in NUMBERS:
+            if row.get(column) and not re.fullmatch("-?[0-9]+", row[column].strip()):
+                sys.exit(f"{path}, row {place}: {column} is no whole number: {row[column]!r}")
+    return rows
 
 
 def numbers_of(rows):
@@ -30,8 +42,8 @@ def table(rows):
     numbers = numbers_of(rows)
     yield "table 1"
     for number, row in enumerate(rows, 1):
-        times = ",".join(row[column] for column in ("time", "second") if row.get(column))
-        fields = [f"{letter}={row[column]}" for column, letter in FIELDS.items() if row.get(column)]
+        times = ",".join(row[column].strip() for column in ("time", "second") if row.get(column))
+        fields = [f"{letter}={row[column].strip()}" for column, letter in FIELDS.items() if row.get(column)]
         yield " ".join([f"job {number} p={times}", *fields])
     for row in rows:
         for before in filter(None, (row.get("after") or "").split(";")):
@@ -40,23 +52,29 @@ def table(rows):
             yield f'prec {numbers[before]} {numbers[row["name"]]}'
 
 
+def cell(name):
+    """A name as a cell of a CSV file that no spreadsheet takes for a formula."""
+    return "'" + name if name.lstrip()[:1] in tuple("=+-@|%") else name
+
+
 def names(rows, answer):
     """The pieces of an answer by the names of their jobs, in the order in which they start."""
     with open(answer, encoding="ascii") as file:
         pieces = [tuple(map(int, line.split()[1:])) for line in file if line.startswith("piece ")]
-    yield "name,machine,start,stop"
+    if any(not 1 <= job <= len(rows) for job, *_ in pieces):
+        sys.exit(f"{answer} has a job that is no row of the CSV file")
+    yield ["name", "machine", "start", "stop"]
     for job, machine, start, stop in sorted(pieces, key=lambda piece: (piece[2], piece[1])):
-        yield f'{rows[job - 1]["name"]},{machine},{start},{stop}'
+        yield [cell(rows[job - 1]["name"]), machine, start, stop]
 
 
 def main(words):
     if len(words) == 2 and words[0] == "table":
-        lines = table(rows_of(words[1]))
+        print("\n".join(table(rows_of(words[1]))))
     elif len(words) == 3 and words[0] == "names":
-        lines = names(rows_of(words[1]), words[2])
+        csv.writer(sys.stdout, lineterminator="\n").writerows(names(rows_of(words[1]), words[2]))
     else:
         sys.exit(__doc__)
-    print("\n".join(lines))
 
 
 if __name__ == "__main__":

@@ -23,8 +23,10 @@ def demand(holds, why):
 def reject(*words):
     raise Rejected(" ".join(map(str, words)))
 def number(word, least=-LIMIT, most=LIMIT):
-    demand(re.fullmatch(rb"-?[0-9]+", word) and least <= int(word) <= most, f"no number, or out of its range: {word[:30]!r}")
-    return int(word)
+    digits = re.fullmatch(rb"(-?)0*([0-9]{1,19})", word)
+    value = int(digits[1] + digits[2]) if digits else None
+    demand(digits and least <= value <= most, f"no number, or out of its range: {word[:30]!r}")
+    return value
 
 def lines_of(text):
     """The words of each line that has some and is no comment, and the line itself."""
@@ -243,8 +245,14 @@ def judge(problem, table_text, answer_text, machines=None):
         return (f"refused: {why}", 2) if isinstance(why, Refused) else (f"rejected: {why}", 1)
     return "accepted", 0
 
+def main(asked, table_name, answer_name, machines=None):
+    texts = [open(name, "rb").read() for name in (table_name, answer_name)]
+    return judge(asked.encode("utf-8", "surrogateescape"), *texts, machines and int(machines))
+
 if __name__ == "__main__":
-    asked, *names = sys.argv[1:4]
-    line, status = judge(asked.encode(), *(open(name, "rb").read() for name in names), *map(int, sys.argv[4:]))
+    try:
+        line, status = main(*sys.argv[1:])
+    except (OSError, TypeError, ValueError) as fault:
+        line, status = f"refused: {fault}", 2
     print(line, file=sys.stderr if status == 2 else sys.stdout)
     sys.exit(status)
