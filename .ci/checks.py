@@ -38,7 +38,7 @@ def checks(program):
         ("the page and its sources", [python, "web/build.py", "--check"], None),
         ("sessions over files", [python, "bench/play_sessions.py", program], None),
         ("words without a session", [python, "bench/unseen_words.py"], None),
-        ("damaged command lines and texts", [python, "bench/fuzz.py", program, "1", "12000"], None),
+        ("damaged command lines and texts", [python, "bench/fuzz.py", program, "1", "9000"], None),
         ("an independent checker", [python, "bench/compare_verify.py", program, "1", "1500"], None),
         ("the same status with --explain", [python, "bench/same_status.py", program], None),
         ("the page in a browser", [python, "web/test.py", f"--program={program}"], ("chromium", "chromium")),

@@ -14,13 +14,16 @@ alone, so it can be run again. What is looked for:
 - another status or another standard output with --explain than without it;
 - another status with --json than without it, or something else than one JSON object on standard output, where the command line
   takes --json and asks for the same with it;
-- a picture that is no well-formed XML.
+- the same with --csv: another status, or no table of a heading and rows of as many whole numbers;
+- a control byte other than a line feed, or a byte that is not ASCII, on standard output;
+- a picture that is no well-formed XML, and LaTeX whose braces do not match.
 """
 import collections
 import json
 import multiprocessing
 import os
 import random
+import re
 import subprocess
 import sys
 import tempfile
@@ -29,6 +32,7 @@ import xml.etree.ElementTree as ElementTree
 import sessions
 
 LIMIT = 60
+NUMBER = re.compile("-?[0-9]+")
 
 STATUSES = {
     "solve": {0, 2, 3, 4, 5},
@@ -43,6 +47,7 @@ STATUSES = {
 OTHERWISE = {0, 5}  # help, the version, and what is no command
 EXPLAINS = ("solve", "bound", "trace", "check", "evaluate", "gantt")
 FORMATTED = ("solve", "bound", "check", "evaluate", "problems")
+TABLED = ("solve", "evaluate")
 # With these the command line has a format of its own, or none.
 FORMATS = (b"--json", b"--csv", b"--orders", b"--measures", b"--answer", b"--help", b"-h")
 
@@ -137,30 +142,55 @@ def is_object(text):
         return False
 
 
-def faults(words, plain, told, formatted):
-    """What no document allows."""
-    allowed = STATUSES.get(words[0].decode("latin-1"), OTHERWISE) if words else OTHERWISE
-    for name, outcome in (("without --explain", plain), ("with --explain", told), ("with --json", formatted)):
-        if outcome is None:
-            continue
-        if outcome.status is None or outcome.status not in allowed:
-            yield f"{name}: status {outcome.status}"
-        if outcome.status in (2, 3, 5) and outcome.written:
-            yield f"{name}: status {outcome.status} and {len(outcome.written)} bytes on standard output"
-        if any(byte != 10 and not 32 <= byte < 127 for byte in outcome.said):
-            yield f"{name}: a raw byte on standard error: {outcome.said!r}"
-    if told is not None and (told.status, told.written) != (plain.status, plain.written):
-        yield f"status {plain.status} without --explain and {told.status} with it, or another output"
-    if formatted is not None:
-        if formatted.status != plain.status:
-            yield f"status {plain.status} without --json and {formatted.status} with it"
-        if formatted.written and not is_object(formatted.written):
-            yield f"no JSON object: {formatted.written!r}"
-    if plain.status == 0 and plain.written.startswith(b"<"):
+def is_table(text):
+    """Whether a text is a heading, and rows of as many whole numbers."""
+    lines = text.decode("latin-1").split("\n")
+    width = lines[0].count(",")
+    cells = [line.split(",") for line in lines[1:-1]]
+    return lines[-1] == "" and all(len(row) == width + 1 and all(map(NUMBER.fullmatch, row)) for row in cells)
+
+
+def has_raw_byte(text):
+    return any(byte != 10 and not 32 <= byte < 127 for byte in text)
+
+
+def faults_of(name, outcome, allowed):
+    """What is wrong with one run by itself."""
+    if outcome.status is None or outcome.status not in allowed:
+        yield f"{name}: status {outcome.status}"
+    if outcome.status in (2, 3, 5) and outcome.written:
+        yield f"{name}: status {outcome.status} and {len(outcome.written)} bytes on standard output"
+    if has_raw_byte(outcome.said) or has_raw_byte(outcome.written):
+        yield f"{name}: a raw byte: {outcome.said!r} {outcome.written!r}"
+
+
+def faults_of_text(written):
+    """What is wrong with a picture, or with what is for LaTeX."""
+    if written.startswith(b"<"):
         try:
-            ElementTree.fromstring(plain.written)
+            ElementTree.fromstring(written)
         except ElementTree.ParseError as error:
             yield f"no well-formed XML: {error}"
+    if b"\\begin{" in written and written.count(b"{") != written.count(b"}"):
+        yield f"braces do not match: {written!r}"
+
+
+def faults(words, outcomes):
+    """What no document allows: `outcomes` are those of the command line as it is, and with options more."""
+    allowed = STATUSES.get(words[0].decode("latin-1"), OTHERWISE) if words else OTHERWISE
+    plain = outcomes[""]
+    for name, outcome in outcomes.items():
+        yield from faults_of(name or "as it is", outcome, allowed)
+        if outcome.status != plain.status:
+            yield f"status {plain.status} without {name} and {outcome.status} with it"
+    if outcomes.get("--explain", plain).written != plain.written:
+        yield "another output with --explain"
+    for name, is_right in (("--json", is_object), ("--csv", is_table)):
+        written = outcomes[name].written if name in outcomes else b""
+        if written and not is_right(written):
+            yield f"no right output with {name}: {written!r}"
+    if plain.status == 0:
+        yield from faults_of_text(plain.written)
 
 
 def has_format(words):
@@ -181,6 +211,29 @@ def is_counted(words):
     return words[0] == b"evaluate" and any(word in (b"F||Cmax", b"O||Cmax") for word in words)
 
 
+def added_options(words):
+    """The options with which a command line is run once more."""
+    command = words[0].decode("latin-1") if words else ""
+    if command in EXPLAINS and not any(word.startswith(b"--explain") for word in words):
+        yield "--explain"
+    if not words or has_format(words):
+        return
+    if command in FORMATTED:
+        yield "--json"
+    if command in TABLED:
+        yield "--csv"
+
+
+def outcomes_of(program, case, folder):
+    """The outcome of a case as it is, and with each option more."""
+    given = case.texts.get("-", b"")
+    outcomes = {"": run(program, case.words, folder, given)}
+    for option in added_options(case.words):
+        words = [case.words[0], option.encode(), *case.words[1:]]
+        outcomes[option] = run(program, words, folder, given)
+    return outcomes
+
+
 def runs_of(part):
     """Runs the cases of a part; how many runs there were, how often each status, and the faults."""
     program, seed, numbers = part
@@ -191,18 +244,10 @@ def runs_of(part):
             for name, text in case.texts.items():
                 with open(os.path.join(folder, name), "wb") as file:
                     file.write(text)
-            given = case.texts.get("-", b"")
-            plain = run(program, case.words, folder, given)
-            told = None
-            is_told = any(word.startswith(b"--explain") for word in case.words)
-            if case.words and case.words[0].decode("latin-1") in EXPLAINS and not is_told:
-                told = run(program, [case.words[0], b"--explain", *case.words[1:]], folder, given)
-            formatted = None
-            if case.words and case.words[0].decode("latin-1") in FORMATTED and not has_format(case.words):
-                formatted = run(program, [case.words[0], b"--json", *case.words[1:]], folder, given)
-            made += 1 + (told is not None) + (formatted is not None)
-            statuses[plain.status] += 1
-            found += [(number, fault, case) for fault in faults(case.words, plain, told, formatted)]
+            outcomes = outcomes_of(program, case, folder)
+            made += len(outcomes)
+            statuses[outcomes[""].status] += 1
+            found += [(number, fault, case) for fault in faults(case.words, outcomes)]
             for name in case.texts:
                 os.remove(os.path.join(folder, name))
     return made, statuses, found
