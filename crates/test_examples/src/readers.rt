@@ -114,3 +114,21 @@ fn a_growth_refused_behind_the_sizes_is_told_at_the_end(rt: HostRuntime) {
     }
     assert!(rt; is_demo_of_three_growths(rt.alloc()));
 }
+
+/// The demo on its first two machines.
+const FIRST_TWO: &[Fields] = &[
+    (Times::Two(4, 9), None, None),
+    (Times::Two(2, 9), None, None),
+];
+
+fn is_demo_of_all_machines(alloc: Global) -> bool {
+    let heap = Refusing::new(alloc, 3);
+    let mut reader = FlowReader::new(&heap, b"demo", None);
+    reader.feed(SHOP);
+    is_instance(reader.finish(), Some(3), FIRST_TWO)
+}
+
+#[test]
+fn without_a_pair_the_first_two_of_all_machines_are_read(rt: HostRuntime) {
+    assert!(rt; is_demo_of_all_machines(rt.alloc()));
+}
