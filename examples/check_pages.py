@@ -14,7 +14,7 @@ import subprocess
 import sys
 
 PAGES = ["README.md", "docs/usage.md", "docs/answers.md", "docs/evaluating.md", "docs/bounds.md", "docs/pictures.md", "docs/random.md",
-         "examples/README.md", "examples/certificates/README.md", "examples/lecture/README.md"]
+         "examples/README.md", "examples/certificates/README.md", "examples/lecture/README.md", "examples/rules/README.md"]
 LEFT_OUT = re.compile(r"^(export |bash \.ci/run|.*\brt (try|run|ci)\b)")
 
 
