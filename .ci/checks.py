@@ -4,9 +4,10 @@
     python3 .ci/checks.py PROGRAM [LINE]
 
 PROGRAM is the proved program that `rt ci` has built, and LINE the last line of that run, whose counts are added to the
-counts of the checks. Each check prints `N passed, M failed` as its last line, or counts as one by its exit status. A check
+counts of the checks. Each check prints how many cases passed and failed, or counts as one by its exit status. A check
 that cannot run here, since a browser or node is missing and cannot be installed, is skipped and named.
 """
+import glob
 import os
 import re
 import shutil
@@ -15,6 +16,7 @@ import sys
 
 TOP = os.path.join(os.path.dirname(os.path.abspath(__file__)), "..")
 COUNTS = re.compile(r"^(\d+) passed, (\d+) failed", re.MULTILINE)
+NODE_COUNTS = re.compile(r"^\S+ pass (\d+)\n\S+ fail (\d+)$", re.MULTILINE)
 INSTALL_SECONDS = 900
 
 
@@ -41,13 +43,14 @@ def checks(program):
         ("damaged command lines and texts", [python, "bench/fuzz.py", program, "1", "9000"], None),
         ("an independent checker", [python, "bench/compare_verify.py", program, "1", "1500"], None),
         ("the same status with --explain", [python, "bench/same_status.py", program], None),
+        ("the page's modules", ["node", "--test", *sorted(glob.glob("web/*_test.mjs", root_dir=TOP))], ("node", "nodejs")),
         ("the page in a browser", [python, "web/test.py", f"--program={program}"], ("chromium", "chromium")),
     ]
 
 
 def counts_of(done):
     """How many cases passed and failed: by the last line that counts them, or else by the status."""
-    found = COUNTS.findall(done.stdout)
+    found = COUNTS.findall(done.stdout) or NODE_COUNTS.findall(done.stdout)
     passed, failed = map(int, found[-1]) if found else (0, 0)
     if done.returncode and not failed:
         failed = 1

@@ -7,7 +7,7 @@
 
 Each module of the sources becomes a function that returns what it exports, in an order in which each comes after those
 that it imports; solver.js, which node reads too, sets `module.exports` instead. A policy in the page's head allows this
-one script, this one style and a worker, and no network.
+one script, this one style and a worker, no network, and no script or markup made of a text.
 """
 import base64
 import hashlib
@@ -90,6 +90,8 @@ def policy(main, style):
         "img-src blob:",
         "base-uri 'none'",
         "form-action 'none'",
+        "require-trusted-types-for 'script'",
+        "trusted-types threefield",
     ])
 
 

@@ -9,11 +9,13 @@ module in the browser with the native program byte for byte over the examples of
 --firefox tries the ways that need no more than clicks and texts in Debian's firefox-esr.
 """
 import functools
+import http.server
 import json
 import random
 import re
 import subprocess
 import sys
+import threading
 import time
 import xml.etree.ElementTree as ElementTree
 from pathlib import Path
@@ -30,7 +32,8 @@ SHOP = "\ufeffOrder;Time (h);Due;After;Customer\r\n" + "\r\n".join([
 WAYS = []
 IN_FIREFOX = ["empty_page", "spreadsheet", "columns_are_corrected", "cells_without_a_heading", "headings_of_other_languages",
               "examples", "no_release_date", "certificate", "what_if", "problem_in_words", "machines_are_missing", "bound",
-              "judging", "mistakes_in_rows", "mistakes_of_the_calendar", "problems_are_the_modules"]
+              "judging", "mistakes_in_rows", "mistakes_of_the_calendar", "problems_are_the_modules", "unsaved_work",
+              "no_network"]
 
 
 def way(function):
@@ -509,6 +512,97 @@ def hostile_names(page):
     expect(kinds - {"svg", "g", "defs", "pattern", "path", "rect", "text", "title", "style"}, set(), "elements")
 
 
+@way
+def control_characters(page):
+    """A name with control characters does not break the saved picture."""
+    rows = [[1, "A\x01\x1b[31m\ufffeB", "3", "", "", "4"], [1, "C", "2", "", "", "4"]]
+    page.open_text("odd.json", json.dumps({"threefield": 1, "title": "T\x02", "rows": rows}))
+    page.wait("document.querySelector('#headline .proved')")
+    page.run("document.querySelector('[data-save=chart]').click()")
+    picture = ElementTree.fromstring(page.browser.downloaded("t.svg"))
+    titles = [element.text for element in picture.iter() if element.tag.endswith("title")]
+    expect(titles[0], "T\ufffd")
+    expect_in("A\ufffd\ufffd[31m\ufffdB", " ".join(titles))
+
+
+@way
+def unsaved_work(page):
+    """A link that takes the place of work that is not saved: the page says so, and still asks when it is left."""
+    asks = """(() => { const event = new Event("beforeunload", { cancelable: true });
+        window.dispatchEvent(event); return event.defaultPrevented; })()"""
+    page.example(0)
+    expect(page.run(asks), False)
+    page.click("#link")
+    page.wait("location.hash.startsWith('#plan=')")
+    plan = page.run("location.hash")
+    page.fresh()
+    page.import_cells("Name,Time,Due\nA,3,4\n")
+    expect(page.run(asks), True)
+    page.run(f"void (location.hash = {json.dumps(plan)})")
+    page.wait("/What was here before is not saved/.test(document.getElementById('notice').innerText)")
+    expect(page.run(asks), True)
+    page.settle()
+    page.click("#undo")
+    page.settle()
+    expect(page.value(page.cell(1, "name")), "A")
+
+
+@way
+def no_network(page):
+    """Whatever runs on the page reaches no server, and makes no script of a text."""
+    asked = []
+
+    class Listening(http.server.BaseHTTPRequestHandler):
+        def do_GET(self):
+            asked.append(self.path)
+            self.send_response(200)
+            self.end_headers()
+
+        do_POST = do_HEAD = do_OPTIONS = do_GET
+
+        def log_message(self, *_):
+            pass
+
+    with http.server.ThreadingHTTPServer(("127.0.0.1", 0), Listening) as server:
+        threading.Thread(target=server.serve_forever, daemon=True).start()
+        address = f"http://127.0.0.1:{server.server_port}"
+        page.run(f"""(async () => {{
+            const address = {json.dumps(address)};
+            const attempt = async (work) => {{ try {{ await work(); }} catch {{}} }};
+            const add = (tag, attributes) => document.body.append(Object.assign(document.createElement(tag), attributes));
+            await attempt(() => fetch(`${{address}}/fetch`));
+            await attempt(() => fetch(`${{address}}/no-cors`, {{ mode: "no-cors" }}));
+            await attempt(() => navigator.sendBeacon(`${{address}}/beacon`, "x"));
+            await attempt(() => new WebSocket(`ws://${{address.slice(7)}}/socket`));
+            await attempt(() => new EventSource(`${{address}}/events`));
+            await attempt(() => {{ new Image().src = `${{address}}/image`; }});
+            await attempt(() => add("script", {{ src: `${{address}}/script` }}));
+            await attempt(() => add("script", {{ textContent: "window.made = 1" }}));
+            await attempt(() => add("iframe", {{ src: `${{address}}/frame` }}));
+            await attempt(() => add("object", {{ data: `${{address}}/object` }}));
+            await attempt(() => add("video", {{ src: `${{address}}/video` }}));
+            for (const rel of ["stylesheet", "prefetch", "icon", "manifest", "modulepreload"]) {{
+                await attempt(() => add("link", {{ rel, href: `${{address}}/${{rel}}` }}));
+            }}
+            await attempt(() => {{ document.body.style.background = `url(${{address}}/style)`; }});
+            await attempt(() => import(`${{address}}/module`));
+            await attempt(() => {{
+                add("form", {{ action: `${{address}}/form`, id: "out", target: "_blank" }});
+                document.getElementById("out").submit();
+            }});
+            await attempt(() => {{ document.body.insertAdjacentHTML("beforeend", "<img src=x onerror='made = 2'>"); }});
+            await attempt(() => new Worker(URL.createObjectURL(new Blob([`fetch("${{address}}/worker")`]))));
+            await new Promise((resolve) => setTimeout(resolve, 700));
+        }})()""")
+        server.shutdown()
+    expect(asked, [], "requests that arrived")
+    expect(page.run("window.made ?? null"), None, "a script that was made of a text")
+    wanted = [each for each in page.browser.problems if "ontent Security Policy" not in each and "Trusted" not in each]
+    expect(wanted, [], "errors that are not the policy's")
+    page.browser.problems.clear()
+    page.browser.requests.clear()
+
+
 # ---- the frame ----
 
 @way
@@ -651,33 +745,22 @@ def memory(page):
 # ---- the module in the browser and the native program ----
 
 RUNS = """
-    const text = (id) => document.getElementById(id).textContent;
-    const packed = Uint8Array.from(atob(text("module-bytes")), (letter) => letter.charCodeAt(0));
+    const text = document.getElementById("module-bytes").textContent;
+    const packed = Uint8Array.from(atob(text), (letter) => letter.charCodeAt(0));
     const stream = new Blob([packed]).stream().pipeThrough(new DecompressionStream("deflate-raw"));
-    const module = new Uint8Array(await new Response(stream).arrayBuffer());
-    const answering = `onmessage = async ({ data }) => {
-        const { run } = await loadSolver(data.module);
-        const encode = (each) => new TextEncoder().encode(each ?? "");
-        postMessage(data.requests.map((request) => {
-            const found = run({ ...request, instance: encode(request.instance), answer: encode(request.answer) });
-            return [found.status, new TextDecoder().decode(found.output), found.errors];
-        }));
-    };`;
-    const worker = new Worker(URL.createObjectURL(new Blob([SOLVER, answering], { type: "text/javascript" })));
-    const answered = new Promise((resolve, reject) => {
-        worker.onmessage = ({ data }) => resolve(data);
-        worker.onerror = (event) => reject(event.message);
+    const { run } = await loadSolver(new Uint8Array(await new Response(stream).arrayBuffer()));
+    const encode = (each) => new TextEncoder().encode(each ?? "");
+    return REQUESTS.map((request) => {
+        const found = run({ ...request, instance: encode(request.instance), answer: encode(request.answer) });
+        return [found.status, new TextDecoder().decode(found.output), found.errors];
     });
-    worker.postMessage({ module, requests: REQUESTS });
-    return await answered;
 """
 
 
 def in_browser(page, requests):
-    """What the module says in a worker of the browser: status, output and errors of each request."""
-    solver = json.dumps((HERE / "src" / "solver.js").read_text(encoding="utf-8"))
-    script = RUNS.replace("SOLVER", solver, 1).replace("REQUESTS", json.dumps(requests), 1)
-    return page.run(f"(async () => {{ {script} }})()")
+    """What the module says in the browser: status, output and errors of each request."""
+    solver = (HERE / "src" / "solver.js").read_text(encoding="utf-8")
+    return page.run(f"(async () => {{ {solver}\n{RUNS.replace('REQUESTS', json.dumps(requests), 1)} }})()")
 
 
 def in_program(program, request, folder):
@@ -764,7 +847,7 @@ def main(words):
             print(f"FAILED  the page asks a network: {asked}")
     finally:
         browser.close()
-    print(f"{len(tried) - len(failed)} passed, {len(failed)} failed")
+    print(f"{len(tried) - len(set(failed) - {'network'})} passed, {len(failed)} failed")
     return 1 if failed else 0
 
 

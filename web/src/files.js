@@ -1,12 +1,13 @@
 // Opens and saves: files of every kind that the page knows, and links that carry the whole state.
 
-import { isJobTable, namedText, readTable } from "./table.js";
+import { isAnswer, isJobTable, namedText, readTable } from "./table.js";
 import { decodeText } from "./spreadsheet.js";
 import { chartAsFile, planAsCsv, saveFile } from "./saving.js";
 import { LONGEST_LINK, packText, readState, unpackText, writeState } from "./state.js";
 
 const LARGEST_FILE = 67108864;
 const MARK = "#plan=";
+const UNSAVED = "What was here before is not saved: Undo brings it back.";
 
 export class Files {
   /** @param {object} page `store`, `notify`, `importView`, `judgeView`, and what is shown now */
@@ -59,12 +60,12 @@ export class Files {
     const { dialog } = importView;
     if (/^\s*\{/.test(text)) {
       const state = readState(text);
-      if (state) store.replace(state);
-      notify(state ? `${name} was opened.` : `${name} is not a file that this page saved.`);
+      if (state) this.replace(state, `${name} was opened.`);
+      else notify(`${name} is not a file that this page saved.`);
     } else if (isJobTable(text)) {
       dialog.close();
       this.openTable(text, name);
-    } else if (/^\s*(#[^\n]*\n\s*)*answer\s+[12]\s/.test(text)) {
+    } else if (isAnswer(text)) {
       dialog.close();
       judgeView.open(text);
     } else if (dialog.open) importView.setText(text);
@@ -74,11 +75,21 @@ export class Files {
   openTable(text, name) {
     const { rows, machines, faults } = readTable(text);
     const { store } = this.page;
+    const isLost = store.hasUnsavedWork;
     const hasTimes2 = rows.some((row) => row.time2 !== "");
     store.change({ rows, kept: null, ...(machines ? { machines } : {}),
       settings: { ...store.state.settings, step: "plain" } });
     this.page.notify(`${name}: ${rows.length} jobs were read.${hasTimes2 ? " They have two times, "
-      + "so choose a flow shop or an open shop." : ""} ${faults.slice(0, 3).join(" ")}`);
+      + "so choose a flow shop or an open shop." : ""} ${faults.slice(0, 3).join(" ")}`
+      + (isLost ? ` ${UNSAVED}` : ""));
+  }
+
+  /** Takes a whole state, and says so where work that is not saved stood in its place. */
+  replace(state, message = "") {
+    const { store, notify } = this.page;
+    const isLost = store.hasUnsavedWork;
+    store.replace(state);
+    notify([message, isLost ? UNSAVED : ""].filter(Boolean).join(" "));
   }
 
   /** Cells that are pasted outside a field, or several of them into a field of the table. */
@@ -97,9 +108,8 @@ export class Files {
     if (!location.hash.startsWith(MARK)) return false;
     const text = await unpackText(location.hash.slice(MARK.length));
     const state = text === null ? null : readState(text);
-    if (state) this.page.store.replace(state);
-    this.page.notify(state ? "The plan of the link was opened."
-      : "The link is damaged or was cut off, so its plan can't be opened.");
+    if (state) this.replace(state, "The plan of the link was opened.");
+    else this.page.notify("The link is damaged or was cut off, so its plan can't be opened.");
     return state !== null;
   }
 

@@ -57,7 +57,8 @@ class Page {
     const at = (id) => document.getElementById(id);
     EXAMPLE_TITLES.forEach((title, number) => at("example").append(new Option(title, number)));
     at("example").addEventListener("change", () => {
-      if (at("example").value !== "") this.store.replace(exampleState(Number(at("example").value)));
+      const number = at("example").value;
+      if (number !== "") this.files.replace(exampleState(Number(number)));
       at("example").value = "";
     });
     at("paste").addEventListener("click", () => this.importView.open());
@@ -69,7 +70,7 @@ class Page {
       if (!at("save-menu").contains(event.target)) at("save-menu").open = false;
     });
     window.addEventListener("beforeunload", (event) => {
-      if (!this.store.isSaved && this.store.state.rows.length > 0) event.preventDefault();
+      if (this.store.hasUnsavedWork) event.preventDefault();
     });
   }
 

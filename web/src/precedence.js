@@ -2,6 +2,8 @@
 
 const MOST_COMPARED = 3000;
 const MOST_SUGGESTED = 20;
+const LONGEST_COMPARED = 200;
+const LONGEST_SHOWN = 80;
 
 /**
  * Cuts the text of the column "after" into names: between semicolons, or between commas where the
@@ -36,6 +38,11 @@ function unquoted(text) {
 /** A name as it is written in the column "after": in quotes where it holds a mark. */
 export function quoteName(name) {
   return /[;,"]/.test(name) ? `"${name.replace(/"/g, '""')}"` : name;
+}
+
+/** A text cut to the length at which a sentence can quote it. */
+export function shortened(text) {
+  return text.length > LONGEST_SHOWN ? `${text.slice(0, LONGEST_SHOWN)}…` : text;
 }
 
 /** The jobs by their names; a name that several jobs have stands with all of them. */
@@ -74,22 +81,26 @@ export class NameIndex {
     if (numbered && !this.has(name)) {
       this.byRow ??= new Map(this.jobs.map((job, place) => [job.row + 1, place]));
       const place = this.byRow.get(Number(numbered[1]));
-      return place === undefined ? { fault: `There is no job in row ${numbered[1]}.` } : { place };
+      return place === undefined ? { fault: `There is no job in row ${shortened(numbered[1])}.` }
+        : { place };
     }
     const places = this.places(name);
     if (places.length === 1) return { place: places[0] };
     if (places.length > 1) {
       const rows = places.slice(0, 4).map((place) => this.jobs[place].row + 1);
-      return { fault: `“${name}” is the name of several jobs, in rows ${rows.join(", ")}. `
+      return { fault: `“${shortened(name)}” is the name of several jobs, in rows `
+        + `${rows.join(", ")}. `
         + `Write #${rows[0]} to mean the one in row ${rows[0]}.` };
     }
     const near = this.nearest(name);
-    return { fault: `There is no job called “${name}”.${near ? ` Is “${near}” meant?` : ""}` };
+    return { fault: `There is no job called “${shortened(name)}”.`
+      + (near ? ` Is “${near}” meant?` : "") };
   }
 
   /** The name of a job that is spelled much like this; not for many names or many jobs. */
   nearest(name) {
-    if (this.jobs.length > MOST_COMPARED || this.suggested++ > MOST_SUGGESTED) return null;
+    if (name.length > LONGEST_COMPARED || this.jobs.length > MOST_COMPARED) return null;
+    if (this.suggested++ > MOST_SUGGESTED) return null;
     const wanted = name.toLowerCase();
     let best = null;
     let least = Math.max(1, Math.floor(name.length / 3)) + 1;

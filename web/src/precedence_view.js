@@ -5,6 +5,7 @@ import { readNotation, writeNotation } from "./problems.js";
 import { html } from "./svg.js";
 
 const MOST_OFFERED = 2000;
+const LONGEST_OFFERED = 200;
 
 export class PrecedenceView {
   /**
@@ -21,7 +22,8 @@ export class PrecedenceView {
 
   open() {
     const table = this.tableOfNow();
-    const names = table ? [...table.index.byName.keys()].slice(0, MOST_OFFERED) : [];
+    const names = [...table?.index.byName.keys() ?? []]
+      .filter((name) => name.length <= LONGEST_OFFERED).slice(0, MOST_OFFERED);
     this.at("job-names").replaceChildren(...names.map((name) => html("option", { value: name })));
     this.say("", "");
     this.at("precedence").showModal();

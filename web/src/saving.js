@@ -4,6 +4,9 @@ import { lengthText, momentField } from "./calendar.js";
 import { lateness } from "./plan.js";
 import { csvLine } from "./spreadsheet.js";
 
+// A name may hold control characters, which no XML has.
+const NOT_IN_XML = /[\0-\x08\x0b\x0c\x0e-\x1f\ufffe\uffff]/g;
+
 /** Offers a text or bytes to be saved as a file. */
 export function saveFile(name, content, type) {
   const address = URL.createObjectURL(new Blob([content].flat(), { type }));
@@ -64,5 +67,5 @@ export function chartAsFile(chart, style, title) {
   const words = make("title");
   words.textContent = title;
   copy.prepend(words, rules, ground);
-  return new XMLSerializer().serializeToString(copy);
+  return new XMLSerializer().serializeToString(copy).replace(NOT_IN_XML, "\ufffd");
 }

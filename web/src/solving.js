@@ -1,5 +1,8 @@
 // Asks the worker that holds the module: one request at a time, and of each kind only the latest.
 
+// The page's policy lets nothing but this make the address of a script.
+const TRUSTED = globalThis.trustedTypes?.createPolicy("threefield",
+  { createScriptURL: (address) => address });
 const LONG = 1500;
 const LARGE = 500000;
 
@@ -11,7 +14,8 @@ export class Solving {
    * @param {(state: {loaded: boolean, message?: string}) => void} onLoaded
    */
   constructor(source, module, onLoaded) {
-    this.address = URL.createObjectURL(new Blob([source], { type: "text/javascript" }));
+    const address = URL.createObjectURL(new Blob([source], { type: "text/javascript" }));
+    this.address = TRUSTED?.createScriptURL(address) ?? address;
     this.module = module;
     this.onLoaded = onLoaded;
     this.waiting = new Map();

@@ -2,6 +2,8 @@
 
 import { FIELDS } from "./table.js";
 
+const LONGEST_HEADING = 100;
+
 const HEADINGS = {
   name: "name job task order item activity product title part id nr no number description "
     + "auftrag vorgang bezeichnung artikel produkt aufgabe nummer nom tache ordre commande article "
@@ -148,6 +150,7 @@ function padded(list, width, filler = null) {
 }
 
 function fieldOfHeading(heading) {
+  if (heading.length > LONGEST_HEADING) return null;
   const plain = heading.normalize("NFD").replace(/[\u0300-\u036f]/g, "").toLowerCase();
   const words = plain.replace(/\([^)]*\)|\[[^\]]*\]/g, "").replace(/[^a-z0-9]/g, "");
   return FIELD_OF_HEADING.get(words) ?? null;
@@ -187,7 +190,7 @@ export function csvLine(cells, delimiter) {
 
 function csvCell(text, delimiter) {
   const isNumber = /^-?\d+([.,]\d+)?$/.test(text);
-  const safe = !isNumber && /^[\s]*[=+\-@\t\r|%]/.test(text) ? `'${text}` : text;
+  const safe = !isNumber && /^\s*[=+\-@\t\r|%＝＋－＠]/.test(text) ? `'${text}` : text;
   const needsQuotes = safe.includes(delimiter) || /["\r\n,;]/.test(safe);
   return needsQuotes ? `"${safe.replace(/"/g, '""')}"` : safe;
 }

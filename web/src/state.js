@@ -47,10 +47,14 @@ export function readState(text) {
     state[field] = textOr(data[field], state[field]);
   }
   state.settings = readSettings(data.settings);
-  state.rows = data.rows.filter(Array.isArray).map((row) => newRow(
-    Object.fromEntries(FIELDS.map((field, place) => [field, textOr(row[place + 1], "")])),
-    Number.isSafeInteger(row[0]) && row[0] > 0 ? row[0] : undefined));
-  state.kept = readKept(data.kept);
+  const identities = new Map();
+  state.rows = data.rows.filter(Array.isArray).map(([identity, ...texts]) => {
+    const row = newRow(
+      Object.fromEntries(FIELDS.map((field, place) => [field, textOr(texts[place], "")])));
+    if (!identities.has(identity)) identities.set(identity, row.id);
+    return row;
+  });
+  state.kept = readKept(data.kept, identities);
   return state;
 }
 
@@ -73,13 +77,15 @@ function readSettings(data) {
   return settings;
 }
 
-function readKept(data) {
+/** The kept plan; its rows are known by the identities that they have now, or 0 where they are gone. */
+function readKept(data, identities) {
   if (typeof data !== "object" || data === null) return null;
   const lists = ["ids", "names", "start", "completion"].map((field) => data[field]);
   if (!lists.every((list) => Array.isArray(list) && list.length === lists[0].length)) return null;
   const [ids, names, start, completion] = lists;
   if (![ids, start, completion].flat().every(Number.isFinite)) return null;
-  return { ids, names: names.map((name) => textOr(name, "")), start, completion,
+  return { ids: ids.map((identity) => identities.get(identity) ?? 0),
+    names: names.map((name) => textOr(name, "")), start, completion,
     problem: textOr(data.problem, ""), value: textOr(data.value, "") };
 }
 

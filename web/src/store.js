@@ -34,10 +34,15 @@ export class Store {
     this.become({ ...this.state, ...patch }, key !== null);
   }
 
-  /** Takes a whole state, from a file or an example. */
+  /** Takes a whole state, from a file or an example. Work that was not saved stays so. */
   replace(state) {
+    const isSaved = !this.hasUnsavedWork;
     this.change(state);
-    this.isSaved = true;
+    this.isSaved = isSaved;
+  }
+
+  get hasUnsavedWork() {
+    return !this.isSaved && [this.state, ...this.past].some((state) => state.rows.length > 0);
   }
 
   undo() {

@@ -1,6 +1,7 @@
 // Makes elements of SVG and HTML. Texts only ever become text nodes and attributes, never markup.
 
 const SVG = "http://www.w3.org/2000/svg";
+const LONGEST_MEASURED = 1000;
 
 /** An SVG element with these attributes and children; a string is a text node. */
 export function svg(tag, attributes = {}, ...children) {
@@ -38,11 +39,11 @@ export function setChildren(element, children) {
 
 let canvas = null;
 
-/** The width of a text in pixels, in the font of the chart. */
+/** The width of a text in pixels, in the font of the chart; of a long one, that of its beginning. */
 export function textWidth(text, size, isBold = false) {
   canvas ??= document.createElement("canvas").getContext("2d");
   canvas.font = `${isBold ? "bold " : ""}${size}px system-ui, "DejaVu Sans", sans-serif`;
-  return canvas.measureText(text).width;
+  return canvas.measureText(text.slice(0, LONGEST_MEASURED)).width;
 }
 
 /** A text cut so that it has room, with … where something is left out; "" where nothing has. */

@@ -1,7 +1,7 @@
 // Rows, as people write them, to the job table that the solver reads, and back.
 
 import { lengthText, readDuration, readMoment } from "./calendar.js";
-import { NameIndex, quoteName, splitNames } from "./precedence.js";
+import { NameIndex, quoteName, shortened, splitNames } from "./precedence.js";
 
 /** The columns of a row, all of them text as it was written. */
 export const FIELDS = ["name", "time", "time2", "weight", "due", "release", "cost", "after"];
@@ -24,9 +24,8 @@ const NONE = [];
 let lastId = 0;
 
 /** A row with an identity of its own, by which a kept plan knows it again. */
-export function newRow(values = {}, id = undefined) {
-  const row = { id: id ?? ++lastId };
-  lastId = Math.max(lastId, row.id);
+export function newRow(values = {}) {
+  const row = { id: ++lastId };
   for (const field of FIELDS) row[field] = values[field] ?? "";
   return row;
 }
@@ -134,7 +133,7 @@ function readWeight(_, text) {
 }
 
 function readCost(_, text) {
-  const compact = text.replace(/\s*([,:])\s*/g, "$1");
+  const compact = text.split(/([,:])/).map((part) => part.trim()).join("");
   if (!/^-?\d{1,19}(,\d{1,19}:-?\d{1,19})*$/.test(compact)) {
     return { fault: "A cost function is a base and then steps TIME:VALUE, as in 0,5:10,9:20, which "
       + "is 0 at first, 10 from time 5 on and 20 from time 9 on." };
@@ -200,8 +199,9 @@ function noteSameNames(index, findings) {
   for (const [name, places] of index.byName) {
     if (typeof places === "number") continue;
     const rows = places.map((place) => index.jobs[place].row + 1);
-    const message = `${rows.length} jobs are called “${name}” (rows ${rows.slice(0, 5).join(", ")}`
-      + `${rows.length > 5 ? ", .." : ""}): the plan can't tell them apart by name.`;
+    const message = `${rows.length} jobs are called “${shortened(name)}” (rows `
+      + `${rows.slice(0, 5).join(", ")}${rows.length > 5 ? ", .." : ""}): the plan can't tell them `
+      + "apart by name.";
     findings.notes.push({ row: rows[1] - 1, field: "name", message });
   }
 }
@@ -215,7 +215,7 @@ function readArcs(rows, jobs, index, found) {
     for (const name of splitNames(rows[job.row].after, (text) => index.has(text))) {
       const other = index.find(name);
       if (other.fault) fault(other.fault);
-      else if (other.place === place) fault(`“${name}” can't come after itself.`);
+      else if (other.place === place) fault(`“${shortened(name)}” can't come after itself.`);
       else arcs.push([other.place, place]);
     }
   });
@@ -257,8 +257,22 @@ export function namedText(table) {
   return [heading, ...named, ...lines.slice(table.jobs.length)].join("\n");
 }
 
+/** The first line of a text that is neither empty nor a comment, without space around it. */
+export function firstLine(text) {
+  const lines = /[^\n]+/g;
+  for (let found = lines.exec(text); found; found = lines.exec(text)) {
+    const line = found[0].trim();
+    if (line !== "" && !line.startsWith("#")) return line;
+  }
+  return "";
+}
+
 export function isJobTable(text) {
-  return /^\s*(#[^\n]*\n\s*)*table\s+1\s*(\r?\n|$)/.test(text.replace(/^\uFEFF/, ""));
+  return /^table\s+1$/.test(firstLine(text));
+}
+
+export function isAnswer(text) {
+  return /^answer\s+[12]$/.test(firstLine(text));
 }
 
 /**
