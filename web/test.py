@@ -91,6 +91,10 @@ class Page:
     def plan_value(self):
         return self.text("#headline .value strong")
 
+    def wait_for_value(self, wanted):
+        """Waits until a plan of this value is shown: a file is read some time after it was opened."""
+        self.wait(f"document.querySelector('#headline .value strong')?.innerText === {json.dumps(wanted)}")
+
     def found_at(self, row, field):
         """The sentence that stands at a field, or None."""
         return self.run(f"""(() => {{
@@ -380,12 +384,12 @@ def files(page):
         expect(picture.tag, "{http://www.w3.org/2000/svg}svg")
     page.fresh()
     page.open_text("plan.json", state)
-    page.settle()
-    expect(page.plan_value(), "11 h")
+    page.wait_for_value("11 h")
     page.fresh()
     page.open_text("table.txt", table)
+    page.wait("/12 jobs were read/.test(document.getElementById('notice').innerText)")
     page.notation("1|prec|Lmax")
-    expect(page.plan_value(), "11")
+    page.wait_for_value("11")
     expect(page.value(page.cell(2, "after")), '"Plates, spring catalogue"')
     page.open_text("answer.txt", answer)
     page.wait("/Accepted/.test(document.getElementById('judgement').innerText)")
@@ -422,7 +426,7 @@ def other_files(page):
     page.wait("/not a file that this page saved/.test(document.getElementById('notice').innerText)")
     page.open_text("another.json", '{"threefield": 1, "rows": [[1, "A", 3, {}], 7, ["x", "B", "2"]], '
                    '"settings": {"days": 3}, "kept": {"ids": "x"}, "problem": 9}')
-    page.settle()
+    page.wait("/another.json was opened/.test(document.getElementById('notice').innerText)")
     expect(page.value("#notation"), "1||Lmax")
     expect(page.value(page.cell(2, "name")), "B")
 
