@@ -5,6 +5,7 @@
     web/build.py --check MODULE.wasm     says whether that file is what the sources and the module give
     web/build.py --check                 the same for the sources alone, with the module that the file holds
 
+A module with 64-bit memory, as module.py builds it, is lowered to 32-bit memory first (lower.py, which needs binaryen).
 Each module of the sources becomes a function that returns what it exports, in an order in which each comes after those
 that it imports; solver.js, which node reads too, sets `module.exports` instead. A policy in the page's head allows this
 one script, this one style and a worker, no network, and no script or markup made of a text.
@@ -16,10 +17,12 @@ import sys
 import zlib
 from pathlib import Path
 
+from lower import has_64_bit_memory, lowered, version
+
 HERE = Path(__file__).resolve().parent
 SOURCES = HERE / "src"
 PAGE = HERE / "threefield.html"
-MOST_BYTES = 800_000
+MOST_BYTES = 650_000
 
 IMPORT = re.compile(r'^import (\{[^}]*\}|\* as \w+) from "\./(\w+)\.js";\n', re.MULTILINE)
 EXPORT = re.compile(r"^export (?=(?:async )?(?:function\*?|const|class) (\w+))", re.MULTILINE)
@@ -129,7 +132,7 @@ def module_in(text):
     return found.group(2)
 
 
-def check(module):
+def check(module, is_lowered):
     """Whether the page in the repository is what the sources and the module give.
 
     Versions of zlib pack differently, so the module is compared unpacked, and all the rest byte for byte.
@@ -137,8 +140,11 @@ def check(module):
     there = PAGE.read_text(encoding="utf-8")
     kept = module_in(there)
     inside = unpacked(kept)
+    if has_64_bit_memory(inside):
+        sys.exit(f"build.py: the module of {PAGE.name} has 64-bit memory, which not every browser has")
     if module is not None and inside != module:
-        sys.exit(f"build.py: {PAGE.name} holds another module")
+        by = f"; binaryen {version()} lowers the given one" if is_lowered else ""
+        sys.exit(f"build.py: {PAGE.name} holds another module{by}")
     if page(SOURCES, kept) != there:
         sys.exit(f"build.py: {PAGE.name} is not what the sources give")
     which = "the sources and the module" if module is not None else "the sources; its module was not compared"
@@ -150,16 +156,18 @@ def main(words):
     files = words[1:] if checks else words
     if len(files) > 1 or not (checks or files):
         sys.exit(__doc__)
-    module = Path(files[0]).read_bytes() if files else None
+    given = Path(files[0]).read_bytes() if files else None
+    module = lowered(given) if files else None
     if checks:
-        check(module)
+        check(module, module != given)
         return
     text = page(SOURCES, packed(module))
     size = len(text.encode())
     if size > MOST_BYTES:
         sys.exit(f"build.py: the page has {size} bytes, more than {MOST_BYTES}")
     PAGE.write_text(text, encoding="utf-8")
-    print(f"{PAGE.name}: {size} bytes, its module {len(module)} bytes unpacked")
+    by = f", lowered from 64-bit memory by binaryen {version()}" if module != given else ""
+    print(f"{PAGE.name}: {size} bytes, its module {len(module)} bytes unpacked{by}")
 
 
 if __name__ == "__main__":

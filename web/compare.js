@@ -1,10 +1,12 @@
 "use strict";
-// Compares the module with the native program on random requests, damaged ones among them: exit
-// status, standard output and standard error.
+// Compares the module with the native program, or with another module, on random requests, damaged
+// ones among them: exit status, standard output and standard error.
 //
-//   node --experimental-wasm-memory64 web/compare.js MODULE.wasm PROGRAM [CASES] [SEED]
+//   node web/compare.js MODULE.wasm PROGRAM [CASES] [SEED]
+//   node web/compare.js MODULE.wasm OTHER.wasm [CASES] [SEED]
 //
-// A case is one run of one command. It ends with status 1 where any case differs.
+// A case is one run of one command. It ends with status 1 where any case differs. Modules with
+// 64-bit memory need node's option --experimental-wasm-memory64 before version 24.
 const fs = require("fs"), os = require("os"), path = require("path");
 const { execFile } = require("child_process");
 const { loadSolver } = require("./src/solver.js");
@@ -133,9 +135,20 @@ function native(folder, request, k) {
     resolve({ status: error ? error.code : 0, output, errors: errors.toString() })));
 }
 
+// What a request is compared with: a run of the native program, or of another module.
+async function comparedWith(folder) {
+  if (!program.endsWith(".wasm")) return (request, k) => native(folder, request, k);
+  const other = await loadSolver(fs.readFileSync(program));
+  return async request => {
+    const { output, ...rest } = other.run({ ...request, instance: request.command === "problems" ? undefined : request.instance });
+    return { ...rest, output: Buffer.from(output) };
+  };
+}
+
 async function main() {
   const solver = await loadSolver(fs.readFileSync(modulePath));
   const folder = fs.mkdtempSync(path.join(os.tmpdir(), "threefield-"));
+  const compared = await comparedWith(folder);
   const counts = {};
   let next = 0, differ = 0;
   async function worker(k) {
@@ -143,7 +156,7 @@ async function main() {
       next++;
       const command = pick(["solve", "solve", "check", "evaluate", "gantt", "picture", "bound", once(20) ? "problems" : "solve"]);
       const request = requestOf(solver, command), mine = solver.run({ ...request, instance: command === "problems" ? undefined : request.instance });
-      const theirs = await native(folder, request, k);
+      const theirs = await compared(request, k);
       const count = `${command} ${theirs.status}`;
       counts[count] = (counts[count] || 0) + 1;
       if (mine.status === theirs.status && mine.errors === theirs.errors && Buffer.compare(Buffer.from(mine.output), theirs.output) === 0) continue;

@@ -85,9 +85,9 @@ class Page {
 
   moduleLoaded({ loaded, message }) {
     if (loaded) return;
-    this.cannotRun = "This browser can't run the solver, which needs 64-bit WebAssembly memory: "
-      + "Chrome and Edge have it from version 133, Firefox from version 134. Jobs can be edited, "
-      + `opened and saved here all the same. (${message})`;
+    this.cannotRun = "This browser can't run the solver: Chrome and Edge can from version 103, "
+      + "Firefox from version 113, Safari from version 16.4. Jobs can be edited, opened and saved "
+      + `here all the same. (${message})`;
     this.planView.showMessage(this.cannotRun);
   }
 

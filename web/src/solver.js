@@ -1,7 +1,7 @@
 "use strict";
 // Runs the proved module: the commands of threefield over texts in memory.
 //
-//   const solver = await loadSolver(bytes);   // rejects where there is no 64-bit memory
+//   const solver = await loadSolver(bytes);   // with 64-bit memory, or lowered to 32-bit memory
 //   solver.run(request)                       // { status, output: Uint8Array, errors: string }
 //   solver.module                             // compiled: loadSolver takes it in place of the bytes
 //
@@ -13,6 +13,8 @@ const loadSolver = (() => {
   const PAGE = 65536;
   // The most memory that a run is given for its work, in bytes.
   const MOST_SPACE = 8 * 2 ** 30;
+  // Where more can't be had, half of it is tried, as long as that is more than this and than what was too little.
+  const LEAST_SPACE = 2 ** 20;
   const NO_MEMORY = "threefield: want of memory\n";
   const NONE = new Uint8Array(0);
 
@@ -57,7 +59,7 @@ const loadSolver = (() => {
   function grow(memory, bytes) {
     const pages = Math.ceil(bytes / PAGE);
     try {
-      // Engines from before 2025 take a number here.
+      // 32-bit memory takes a number here.
       try { memory.grow(BigInt(pages)); } catch (error) {
         if (!(error instanceof TypeError)) throw error;
         memory.grow(pages);
@@ -113,12 +115,17 @@ const loadSolver = (() => {
     const total = texts.reduce((sum, text) => sum + text.length, 0);
     let room = PAGE + (request.command === "picture" ? 32 : 8) * total;
     let space = 2 ** 24 + 32 * total;
+    let tooLittle = LEAST_SPACE;
     for (;;) {
       const reply = call(module, request, texts, room, space);
-      if (reply === null) return { status: 3, output: NONE, errors: NO_MEMORY };
-      if (reply.needs) room = reply.needs;
-      else if (reply.status === 3 && space < MOST_SPACE) space *= 4;
-      else return reply;
+      if (reply === null) {
+        if (space <= 2 * tooLittle) return { status: 3, output: NONE, errors: NO_MEMORY };
+        space = Math.floor(space / 2);
+      } else if (reply.needs) room = reply.needs;
+      else if (reply.status === 3 && space < MOST_SPACE) {
+        tooLittle = space;
+        space *= 4;
+      } else return reply;
     }
   }
 
