@@ -13,7 +13,7 @@ const COLUMNS = ["name", "time", "due", "after"];
 async function quickly(work) {
   const begun = performance.now();
   const found = await work();
-  assert.ok(performance.now() - begun < 2000, `${performance.now() - begun} ms`);
+  assert.ok(performance.now() - begun < 10000, `${performance.now() - begun} ms`);
   return found;
 }
 
@@ -34,7 +34,7 @@ test("a short name is still suggested", async () => {
 });
 
 test("a cost function with much space in it is read in a moment", async () => {
-  const rows = [newRow({ time: "1", cost: `0${" ".repeat(99000)}1` }),
+  const rows = [newRow({ time: "1", cost: `0${" ".repeat(300000)}1` }),
     newRow({ time: "1", cost: " 0 , 5 : 10 ,9: 20 " })];
   const table = await quickly(() => tableOf(rows, null, ["name", "time", "cost"]));
   assert.deepEqual(table.faults.map(({ row, field }) => [row, field]), [[0, "cost"]]);

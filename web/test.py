@@ -135,7 +135,10 @@ def spreadsheet(page):
     expect(page.text("#table-text") or page.run("document.getElementById('table-text').textContent"),
            "table 1\njob 1 p=4 d=8\njob 2 p=3 d=16\njob 3 p=14 d=32\njob 4 p=5 d=24\nprec 1 3\nprec 1 4\nprec 2 4\n")
     expect(page.texts("#list tbody th")[1], 'Cards; menu "Anker"')
-    expect_in("the plan starts on 2025-03-04 and counts in steps of 1 hour", page.text("#notice"))
+    expect_in("the plan has a calendar now and counts in steps of 1 hour", page.text("#notice"))
+    expect_in("Not used: Customer.", page.text("#notice"))
+    expect_in("4 is 4 h; 04/03/2025 has the day first; from Tue 4 Mar 08:00.", page.text("#headline .assumed summary"))
+    expect(page.run(f"document.querySelector({json.dumps(page.cell(1, 'time'))}).nextElementSibling.innerText"), "h")
 
 
 @way
@@ -449,7 +452,7 @@ MISTAKES = [
     ("a negative time", "Name,Time,Due\nA,-3,5\n", 1, "time", "A processing time is at least 0; this is -3."),
     ("a decimal point", "Name,Time,Due\nA,2.5,5\n", 1, "time", "A processing time is a whole number here; 2.5 is not."),
     ("a number that is too large", "Name,Time,Due\nA,99999999999999999999,5\n", 1, "time", "is too large"),
-    ("no due date", "Name,Time,Due\nA,3,4\nB,2,\n", 2, "due", "1||Lmax needs a due date for each job; this one"),
+    ("no due date", "Name,Time,Due\nA,3,4\nB,2,\n", 2, "due", "No due date: due at the end of all work, so never late."),
     ("no due date in several rows", "Name,Time,Due\nA,3,\nB,2,\n", 2, "due", "1||Lmax needs a due date for each job"),
     ("after itself", "Name,Time,Due,After\nA,3,4,A\n", 1, "after", "“A” can't come after itself."),
     ("a cycle", "Name,Time,Due,After\nA,3,4,B\nB,3,4,A\n", 1, "after", "These precedence constraints form a cycle: "),

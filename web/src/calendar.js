@@ -1,6 +1,11 @@
 // Working time: dates, times of day and durations to whole time steps, and back.
 // A time step is a fixed number of working minutes; step 0 begins where the plan starts.
 
+import {
+  MONTHS, WEEKDAYS, dayNumber, fromDay, readClock, readDate, readDateTime, weekdayOf,
+} from "./dates.js";
+import { readLength } from "./lengths.js";
+
 /** The lengths of a time step that the page offers. "plain" counts steps without a calendar. */
 export const STEPS = [
   { id: "plain", words: "plain numbers, no dates", minutes: null },
@@ -13,12 +18,19 @@ export const STEPS = [
   { id: "day", words: "1 working day", minutes: null },
 ];
 
-export const WEEKDAYS = ["Sun", "Mon", "Tue", "Wed", "Thu", "Fri", "Sat"];
-const MONTHS = ["January", "February", "March", "April", "May", "June", "July", "August",
-  "September", "October", "November", "December"];
 const FARTHEST = 40000;
 const MOST_STEPS = 1e12;
 const LONGEST = 60;
+const LONGEST_LIST = 20000;
+// Spreadsheets count days from 30 December 1899; a number near to the start may be such a day.
+const FIRST_SERIAL = 25569;
+const FARTHEST_SERIAL = 3660;
+
+/** Today by the clock of the browser, as the number of its day. */
+export function today() {
+  const now = new Date();
+  return dayNumber(now.getFullYear(), now.getMonth() + 1, now.getDate());
+}
 
 /** The calendar of a new plan. */
 export function defaultSettings() {
@@ -37,13 +49,14 @@ export function makeCalendar(settings) {
   if (settings.step === "plain") return { calendar: null, faults: [] };
   const faults = [];
   const fault = (field, message) => faults.push({ field, message });
-  const start = readDate(settings.start, settings.dayFirst);
+  const start = readDate(settings.start, settings.dayFirst, today());
   if (settings.start.trim() === "") {
     fault("start", "Dates need the day on which the plan starts, such as 2025-03-03.");
   } else if (start.fault) fault("start", start.fault);
+  else if (start.isYearAssumed) fault("start", `“${settings.start}” needs its year.`);
   const hours = readHours(settings.hours);
   if (hours.fault) fault("hours", hours.fault);
-  const off = readDaysOff(settings.off, settings.dayFirst);
+  const off = readDaysOff(settings.off, settings.dayFirst, start.day ?? today());
   if (off.fault) fault("off", off.fault);
   if (settings.days.length === 0) {
     fault("days", "No day of the week is a working day. Choose at least one.");
@@ -57,12 +70,14 @@ export function makeCalendar(settings) {
     stepMinutes: known.minutes ?? dayMinutes,
     stepWords: known.words,
     dayMinutes,
+    sizes: { min: 1, h: 60, d: dayMinutes, w: dayMinutes * settings.days.length },
     spans: hours.spans,
-    isWorking: (day) => settings.days.includes((day + 4) % 7) && !off.days.has(day),
+    isWorking: (day) => settings.days.includes(weekdayOf(day)) && !off.days.has(day),
     ahead: [], back: [], aheadTo: start.day, backTo: start.day,
     dayFirst: settings.dayFirst,
     plain: settings.plain,
     year: fromDay(start.day).year,
+    startDay: start.day,
     origin: 0,
   };
   if (!extend(calendar, 0)) {
@@ -74,20 +89,6 @@ export function makeCalendar(settings) {
 }
 
 // ---- days ----
-
-/** The number of a day, counted from 1 January 1970. */
-export function dayNumber(year, month, date) {
-  return Math.round(Date.UTC(year, month - 1, date) / 86400000);
-}
-
-function fromDay(day) {
-  const at = new Date(day * 86400000);
-  return { year: at.getUTCFullYear(), month: at.getUTCMonth() + 1, date: at.getUTCDate() };
-}
-
-function daysOfMonth(year, month) {
-  return new Date(Date.UTC(year, month, 0)).getUTCDate();
-}
 
 /** Grows the list of working days until it has the k-th (from 0), or -k-th before the start. */
 function extend(calendar, k) {
@@ -188,15 +189,12 @@ export function momentText(calendar, step, isEnd) {
 /** A step as a moment for spreadsheets, such as "2025-03-03 08:00". */
 export function momentField(calendar, step, isEnd) {
   const moment = calendar && momentOf(calendar, step, isEnd);
-  if (!moment) return String(step);
-  const { year, month, date } = fromDay(moment.day);
-  const two = (number) => String(number).padStart(2, "0");
-  return `${year}-${two(month)}-${two(date)} ${clockText(moment.clock)}`;
+  return moment ? `${isoDay(moment.day)} ${clockText(moment.clock)}` : String(step);
 }
 
 function dayText(calendar, day) {
   const { year, month, date } = fromDay(day);
-  const words = `${WEEKDAYS[(((day + 4) % 7) + 7) % 7]} ${date} ${MONTHS[month - 1].slice(0, 3)}`;
+  const words = `${WEEKDAYS[weekdayOf(day)]} ${date} ${MONTHS[month - 1].slice(0, 3)}`;
   return year === calendar.year ? words : `${words} ${year}`;
 }
 
@@ -243,57 +241,59 @@ export function lengthText(calendar, steps) {
 
 /**
  * Reads a processing time: a number, or with a calendar also "3 h", "90 min", "1:30", "2 d 4 h".
- * @returns {{steps: number}|{fault: string}}
+ * @returns {{steps: number, isPlain: boolean}|{fault: string}} plain is a number without a unit
  */
 export function readDuration(calendar, text) {
   if (text.length > LONGEST) return { fault: "This is too long to be a length of time." };
   if (!calendar) return readWhole(text, "A processing time");
-  const minutes = durationMinutes(calendar, text);
-  if (minutes === null) {
-    return { fault: `“${text}” is not a length of time. Write it as 3, 2.5 h, 90 min, 1:30 `
-      + "or 2 d." };
-  }
-  const steps = minutes / calendar.stepMinutes;
+  const found = readLength(text, calendar.sizes, calendar.plain);
+  if (found.fault) return found;
+  const steps = found.minutes / calendar.stepMinutes;
   if (steps > MOST_STEPS) return { fault: `“${text}” is too long for this page.` };
-  if (Number.isInteger(steps)) return { steps };
+  if (Number.isInteger(steps)) return { steps, isPlain: found.isPlain };
   const near = lengthText(calendar, Math.ceil(steps));
   return { fault: `“${text}” is not a whole number of time steps of ${calendar.stepWords}. `
     + `Write ${near}, or choose a shorter time step.` };
 }
 
-function durationMinutes(calendar, text) {
-  const clock = /^(\d{1,6}):([0-5]\d)$/.exec(text);
-  if (clock) return Number(clock[1]) * 60 + Number(clock[2]);
-  const units = { d: calendar.dayMinutes, h: 60, m: 1 };
-  const part = /^\s*(\d+(?:[.,]\d+)?)\s*(d|days?|h|hrs?|hours?|min|mins|minutes?|m)?(?=\s|\d|$)/i;
-  let rest = text;
-  let minutes = 0;
-  while (rest.trim() !== "") {
-    const found = part.exec(rest);
-    if (!found) return null;
-    const unit = (found[2] ?? calendar.plain)[0].toLowerCase();
-    minutes += Number(found[1].replace(",", ".")) * units[unit];
-    rest = rest.slice(found[0].length);
-  }
-  return text.trim() === "" ? null : Math.round(minutes * 1e6) / 1e6;
-}
-
 /**
- * Reads a due or release date: with a calendar a date, perhaps with a time of day, or a number of
- * steps after the start. A due date without a time of day is the end of that day, a release date
- * its beginning. A moment within a step goes to the step's start, or for a release to its end.
- * @returns {{steps: number, note: ?string}|{fault: string}}
+ * Reads a due or release date: with a calendar a date, perhaps with a time of day, or a length of
+ * working time after the start. A due date without a time of day is the end of that day, a release
+ * date its beginning. A moment within a step goes to the step's start, or for a release to its end.
+ * @returns {{steps: number, note: ?string, isPlain?: boolean, date?: object}|{fault: string}}
  */
 export function readMoment(calendar, text, isDue) {
   const what = isDue ? "A due date" : "A release date";
   if (text.length > LONGEST) return { fault: "This is too long to be a date." };
-  if (!calendar || /^[-−]?\d+$/.test(text)) return readWhole(text, what, isDue);
-  const found = readDateTime(text, calendar.dayFirst);
-  if (found.fault) return found;
-  const clock = found.clock ?? (isDue ? 1440 : 0);
-  const minutes = minutesUpTo(calendar, found.day, clock);
+  if (!calendar) return readWhole(text, what, isDue);
+  const date = readDateTime(text, calendar.dayFirst, calendar.startDay);
+  if (!date.fault) return momentOfDate(calendar, date, text, isDue);
+  const [, sign, length] = /^([-−+]?)\s*(.*)$/s.exec(text);
+  if (date.isAmbiguous || /^\d{1,2}:\d\d/.test(length)) return date;
+  const after = readLength(length, calendar.sizes, calendar.plain);
+  if (after.fault) return after.isAmbiguous ? after : date;
+  const doubt = after.isPlain && doubtOf(calendar, length);
+  if (doubt) return { fault: doubt };
+  const minutes = /^[-−]/.test(sign) ? -after.minutes : after.minutes;
+  if (minutes < 0 && !isDue) return { fault: `${what} is at least 0; this is ${text}.` };
+  return { ...stepsOf(calendar, minutes, text, isDue), isPlain: after.isPlain };
+}
+
+function momentOfDate(calendar, date, text, isDue) {
+  const isWeek = date.lastDay !== date.day;
+  if (isWeek && date.clock !== null) {
+    return { fault: `“${text}” is a week with a time of day. Write the day.` };
+  }
+  const clock = date.clock ?? (isDue ? 1440 : 0);
+  const minutes = minutesUpTo(calendar, isDue ? date.lastDay : date.day, clock);
   if (minutes === null) return { fault: `“${text}” is too far from the start of the plan.` };
+  return { ...stepsOf(calendar, minutes, text, isDue), date };
+}
+
+/** The step of a moment so many working minutes after the start. */
+function stepsOf(calendar, minutes, text, isDue) {
   const exact = minutes / calendar.stepMinutes;
+  if (Math.abs(exact) > MOST_STEPS) return { fault: `${text} is too large for this page.` };
   if (isDue) {
     const steps = Math.floor(exact);
     const note = minutes > 0 ? null : "Due before the plan starts, so the job is late: it counts "
@@ -303,6 +303,51 @@ export function readMoment(calendar, text, isDue) {
   }
   const note = minutes < 0 ? "Released before the plan starts: it counts as the start." : null;
   return { steps: Math.max(0, Math.ceil(exact)), note };
+}
+
+/** What speaks against a number being a length of time after the start, or null. */
+function doubtOf(calendar, text) {
+  const number = Number(text);
+  const words = `Write the date, or ${text} ${calendar.plain}.`;
+  if (number >= 1900 && number <= 2100) return `“${text}” can be a year. ${words}`;
+  if (/[.,]\d{3}/.test(text)) return `“${text}” is not a date. ${words}`;
+  const day = number - FIRST_SERIAL;
+  return Math.abs(day - calendar.startDay) < FARTHEST_SERIAL
+    ? `“${text}” is ${dayText(calendar, day)} as spreadsheets count days. ${words}` : null;
+}
+
+/**
+ * What is added to a text when it is read: the unit of a number that is written without one, or
+ * the year of a date; "" where nothing is.
+ * @param {?object} calendar
+ * @param {string} field of the row
+ * @param {string} text
+ */
+export function assumedOf(calendar, field, text) {
+  const isLength = field === "time" || field === "time2";
+  const isMoment = field === "due" || field === "release";
+  if (!calendar || text.trim() === "" || !isLength && !isMoment) return "";
+  const found = isLength ? readDuration(calendar, text.trim())
+    : readMoment(calendar, text.trim(), field === "due");
+  if (found.isPlain) return calendar.plain;
+  return found.date?.isYearAssumed ? String(fromDay(found.date.day).year) : "";
+}
+
+/** A text as it is read, with nothing left to assume: "90 min", "2026-12-03 14:00". */
+export function writtenOut(calendar, field, text) {
+  const assumed = assumedOf(calendar, field, text);
+  if (assumed === "") return text;
+  const { date } = field === "due" || field === "release"
+    ? readMoment(calendar, text.trim(), field === "due") : {};
+  if (!date) return `${text.trim()} ${assumed}`;
+  const day = isoDay(field === "due" ? date.lastDay : date.day);
+  return date.clock === null ? day : `${day} ${clockText(date.clock)}`;
+}
+
+/** A day as 2026-12-03. */
+export function isoDay(day) {
+  const { year, month, date } = fromDay(day);
+  return `${year}-${String(month).padStart(2, "0")}-${String(date).padStart(2, "0")}`;
 }
 
 function readWhole(text, what, mayBeNegative = false) {
@@ -317,76 +362,15 @@ function readWhole(text, what, mayBeNegative = false) {
     return { fault: `${what} is a whole number here; ${text} is not. `
       + "Take a smaller unit, such as minutes in place of hours." };
   }
-  if (/\d[./-]\d/.test(text) || /^\d+\s*(h|min|d)/i.test(text) || /:/.test(text)) {
-    return { fault: `“${text}” needs a calendar: choose a time step and a start under `
-      + "“Calendar”." };
-  }
-  return { fault: `${what} is a whole number; “${text}” is not.` };
+  return { fault: needsCalendar(text) ? `“${text}” needs a calendar: choose a time step and a start `
+    + "under “Calendar”." : `${what} is a whole number; “${text}” is not.` };
 }
 
-/** Reads a date and perhaps a time of day. */
-function readDateTime(text, dayFirst) {
-  const split = /^(.*\S)[T,\s]\s*(\d{1,2}[:.h]\d{2}(?::\d{2})?\s*(?:[ap]m)?)$/i.exec(text);
-  const date = readDate(split ? split[1].replace(/,$/, "") : text, dayFirst);
-  if (date.fault || !split) return date;
-  const clock = readClock(split[2]);
-  return clock === null
-    ? { fault: `“${split[2]}” is not a time of day between 0:00 and 24:00.` }
-    : { day: date.day, clock };
-}
-
-function readClock(text) {
-  const found = /^(\d{1,2})(?:[:.h](\d{2}))?(?::\d{2})?\s*([ap]m)?$/i.exec(text.trim());
-  if (!found) return null;
-  const [, hours, rest = "0", half] = found;
-  const hour = half ? Number(hours) % 12 + (half.toLowerCase() === "pm" ? 12 : 0) : Number(hours);
-  const minutes = hour * 60 + Number(rest);
-  return Number(rest) < 60 && minutes <= 1440 ? minutes : null;
-}
-
-/**
- * Reads a date: 2025-03-14, 14.03.2025, 14/03/2025 (or month first), 14 March 2025.
- * @returns {{day: number}|{fault: string}}
- */
-export function readDate(text, dayFirst) {
-  const parts = text.length > LONGEST ? null : dateParts(text.trim(), dayFirst);
-  if (!parts) {
-    return { fault: `“${text.slice(0, LONGEST)}” is not a date. Write it as 2025-03-14 or `
-      + "14.03.2025, and with a time of day as 2025-03-14 12:00." };
-  }
-  const { month, date } = parts;
-  const year = parts.year < 100 ? 2000 + parts.year : parts.year;
-  if (month < 1 || month > 12) {
-    return { fault: `“${text}” has no month ${month}. Is the month first? `
-      + "Choose so under “Calendar”." };
-  }
-  if (year < 1900 || year > 2500) return { fault: `The year of “${text}” is out of range.` };
-  const most = daysOfMonth(year, month);
-  if (month === 2 && date === 29 && most === 28) {
-    return { fault: `${year} is not a leap year, so there is no 29 February ${year}.` };
-  }
-  if (date < 1 || date > most) {
-    const name = `${MONTHS[month - 1]} ${year}`;
-    return { fault: `There is no day ${date} in ${name}: it has ${most} days.` };
-  }
-  return { day: dayNumber(year, month, date) };
-}
-
-function dateParts(text, dayFirst) {
-  let found = /^(\d{4})[-/.](\d{1,2})[-/.](\d{1,2})$/.exec(text);
-  if (found) return { year: +found[1], month: +found[2], date: +found[3] };
-  found = /^(\d{1,2})([-/.])\s?(\d{1,2})\2\s?(\d{4}|\d{2})$/.exec(text);
-  if (found) {
-    const first = dayFirst || found[2] === ".";
-    const [date, month] = first ? [+found[1], +found[3]] : [+found[3], +found[1]];
-    return { year: +found[4], month, date };
-  }
-  found = /^(?:[a-z]{2,9}\.?,? )?(\d{1,2})[ -]([a-z]{3,9})\.?,?[ -](\d{4}|\d{2})$/i.exec(text)
-    ?? /^(?:[a-z]{2,9}\.?,? )?([a-z]{3,9})\.? (\d{1,2}),? (\d{4})$/i.exec(text);
-  if (!found) return null;
-  const [name, date] = /\d/.test(found[1]) ? [found[2], found[1]] : [found[1], found[2]];
-  const month = MONTHS.findIndex((each) => each.toLowerCase().startsWith(name.toLowerCase())) + 1;
-  return month === 0 ? null : { year: +found[3], month, date: +date };
+/** Whether a text is a length with a unit, or looks like a date: plain numbers know neither. */
+export function needsCalendar(text) {
+  if (/^\s*-?\d*\s*$/.test(text)) return false;
+  const length = readLength(text, { min: 1, h: 1, d: 1, w: 1 }, "h");
+  return length.fault ? !readDateTime(text, true, 0).isNone : !length.isPlain;
 }
 
 /** Reads working hours: spans such as "08:00-12:00, 13:00-17:00". */
@@ -414,11 +398,13 @@ function readHours(text) {
 }
 
 /** Reads days off: dates, or spans such as "2025-12-24 to 2026-01-02", with commas between. */
-function readDaysOff(text, dayFirst) {
+function readDaysOff(text, dayFirst, near) {
+  if (text.length > LONGEST_LIST) return { fault: "These are too many days off." };
   const days = new Set();
   for (const part of text.split(/[,;\n]/).map((each) => each.trim()).filter(Boolean)) {
     if (part.length > LONGEST) return { fault: "A day off is too long to be a date." };
-    const ends = part.split(/\s+(?:to|-|–)\s+|\s*\.\.\s*/).map((each) => readDate(each, dayFirst));
+    const ends = part.split(/\s+(?:to|bis|au|al|-|–)\s+|\s*\.\.\s*/)
+      .map((each) => readDate(each, dayFirst, near));
     const wrong = ends.find((end) => end.fault);
     if (wrong || ends.length > 2) return { fault: wrong?.fault ?? `“${part}” is not a day off.` };
     const [first, last = first] = ends;

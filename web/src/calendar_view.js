@@ -1,6 +1,7 @@
 // The form of the calendar's settings.
 
-import { STEPS, WEEKDAYS, lengthText, momentText } from "./calendar.js";
+import { STEPS, isoDay, lengthText, momentText, today } from "./calendar.js";
+import { WEEKDAYS } from "./dates.js";
 import { html } from "./svg.js";
 
 export class CalendarView {
@@ -27,7 +28,7 @@ export class CalendarView {
     }
     settings.days = this.days.filter((check) => check.checked)
       .map((check) => Number(check.value)).sort();
-    if (settings.step !== "plain" && settings.start === "") settings.start = today();
+    if (settings.step !== "plain" && settings.start === "") settings.start = isoDay(today());
     this.store.change({ settings }, field && `setting ${field.dataset.setting}`);
   }
 
@@ -61,11 +62,4 @@ export class CalendarView {
       field.toggleAttribute("aria-invalid", isWrong);
     }
   }
-}
-
-/** Today by the clock of the browser, as 2025-03-03. */
-export function today() {
-  const now = new Date();
-  const two = (number) => String(number).padStart(2, "0");
-  return `${now.getFullYear()}-${two(now.getMonth() + 1)}-${two(now.getDate())}`;
 }

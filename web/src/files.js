@@ -1,7 +1,7 @@
 // Opens and saves: files of every kind that the page knows, and links that carry the whole state.
 
 import { isAnswer, isJobTable, namedText, readTable } from "./table.js";
-import { decodeText } from "./spreadsheet.js";
+import { decodeText, styleOf } from "./spreadsheet.js";
 import { chartAsFile, planAsCsv, saveFile } from "./saving.js";
 import { LONGEST_LINK, packText, readState, unpackText, writeState } from "./state.js";
 
@@ -147,8 +147,9 @@ export class Files {
     } else if (!shown) notify("There is no plan yet, so there is nothing to save.");
     else if (kind === "answer") saveFile(`${name}-answer.txt`, shown.answer, "text/plain");
     else if (kind === "csv") {
-      const delimiter = this.page.importView.delimiter === ";" ? ";" : ",";
-      saveFile(`${name}.csv`, planAsCsv(shown.plan, delimiter), "text/csv");
+      const { cells, delimiter } = this.page.importView;
+      const style = styleOf(cells, delimiter, navigator.language);
+      saveFile(`${name}.csv`, planAsCsv(shown.plan, style), "text/csv");
     } else if (kind === "chart") {
       const { chart } = this.page.planView.chart;
       saveFile(`${name}.svg`, chartAsFile(chart, chartRules(), store.state.title || "Plan"),

@@ -1,5 +1,6 @@
 // The page: keeps state, solver and views together.
 
+import { assumptionsOf } from "./assumptions.js";
 import { makeCalendar } from "./calendar.js";
 import { CalendarView } from "./calendar_view.js";
 import { EXAMPLE_TITLES, exampleState } from "./examples.js";
@@ -128,6 +129,7 @@ class Page {
     const problem = readNotation(state.problem);
     const used = problem ? columnsUsed(problem) : UNKNOWN;
     this.rowsView.setUsed(used);
+    this.rowsView.setCalendar(calendar);
     const table = await makeTable(state.rows, this.readerOf(calendar, used), async () => {
       await new Promise((resolve) => setTimeout(resolve));
       return version === this.version;
@@ -174,7 +176,8 @@ class Page {
     if (reply.status !== 0) return this.refused(version, reply);
     const plan = makePlan(now.table, reply.schedule, reply.evaluation, now.calendar);
     const before = this.drawn;
-    this.shown = { plan, evaluation: reply.evaluation, answer: reply.answer };
+    this.shown = { plan, evaluation: reply.evaluation, answer: reply.answer,
+      assumptions: assumptionsOf(now.table, now.calendar, this.store.state) };
     this.drawn = this.shown;
     this.showPlan();
     if (before) release(before.plan, before.plan.schedule, before);
@@ -194,8 +197,8 @@ class Page {
 
   showPlan() {
     if (!this.shown) return;
-    const { plan, evaluation, answer } = this.shown;
-    this.planView.show(plan, evaluation, this.store.state.kept, answer);
+    const { plan, evaluation, answer, assumptions } = this.shown;
+    this.planView.show(plan, evaluation, this.store.state.kept, answer, assumptions);
     this.showPrintHead();
     this.planView.setBusy(false);
     performance.mark("plan shown");

@@ -61,12 +61,13 @@ export class PlanView {
    * @param {object} evaluation
    * @param {?object} kept
    * @param {Uint8Array} answer
+   * @param {{short: string, long: string}[]} assumptions
    */
-  show(plan, evaluation, kept, answer) {
+  show(plan, evaluation, kept, answer, assumptions) {
     this.plan = plan;
     this.at("plan").classList.remove("is-old");
     this.at("plan-body").hidden = false;
-    this.showHeadline(plan);
+    this.showHeadline(plan, assumptions);
     this.showMeasures(plan);
     this.showCertificate(plan, evaluation);
     const comparison = kept ? comparePlans(kept, plan) : null;
@@ -76,7 +77,7 @@ export class PlanView {
     this.at("answer-text").textContent = startOfText(answer);
   }
 
-  showHeadline(plan) {
+  showHeadline(plan, assumptions) {
     const { objective } = readNotation(plan.problem) ?? { objective: "Cmax" };
     const goal = OBJECTIVES.find((each) => each.id === objective).words.replace(/^the /, "");
     const late = plan.jobs.reduce((count, job, place) =>
@@ -87,8 +88,16 @@ export class PlanView {
         html("span", {}, `${goal[0].toUpperCase()}${goal.slice(1)}: `, html("strong", {}, value))),
       html("p", {}, `No schedule of these ${plan.jobs.length} jobs has a smaller value.`,
         late > 0 ? html("span", { class: "late-words" }, late === 1 ? " One job is late."
-          : ` ${late} jobs are late.`) : null));
+          : ` ${late} jobs are late.`) : null), this.assumed(assumptions));
     this.at("headline").className = "headline good";
+  }
+
+  /** What the plan rests on, in a line that can be opened. */
+  assumed(assumptions) {
+    const shorts = assumptions.map(({ short }) => short).filter(Boolean);
+    return html("details", { class: "assumed" },
+      html("summary", {}, html("strong", {}, "Assumed: "), `${shorts.join("; ")}.`),
+      html("ul", {}, assumptions.map(({ long }) => html("li", {}, long))));
   }
 
   showMeasures(plan) {

@@ -106,19 +106,25 @@ export class ProblemView {
   }
 }
 
-/** What the table has and the problem ignores. */
+/** What the table has and the problem ignores, in a sentence. */
 function unusedWords(problem, table) {
+  const unused = unusedColumns(problem, table);
+  return unused.length === 0 ? ""
+    : `This problem ignores what the table says of ${unused.join(", ")}.`;
+}
+
+/** What the table has and the problem ignores: “weights (3)”. */
+export function unusedColumns(problem, table) {
   const used = problems.columnsUsed(problem);
   const counts = {
+    time2: table.jobs.filter((job) => job.hasTime2).length,
     weight: table.jobs.filter((job) => job.weight !== null).length,
     release: table.jobs.filter((job) => job.hasRelease).length,
     cost: table.jobs.filter((job) => job.hasCost).length,
     after: table.arcs.length,
   };
-  const words = { weight: "weights", release: "release dates", cost: "cost functions",
+  const words = { time2: "times on machine 2", weight: "weights", release: "release dates", cost: "cost functions",
     after: "precedence constraints" };
-  const unused = Object.entries(counts).filter(([field, count]) => count > 0 && !used.has(field))
+  return Object.entries(counts).filter(([field, count]) => count > 0 && !used.has(field))
     .map(([field, count]) => `${words[field] ?? FIELD_WORDS[field]} (${count})`);
-  return unused.length === 0 ? ""
-    : `This problem ignores what the table says of ${unused.join(", ")}.`;
 }

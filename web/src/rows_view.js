@@ -1,5 +1,6 @@
 // The planner's table: rows of inputs, and under each row what is wrong with it.
 
+import { assumedOf } from "./calendar.js";
 import { Pager, PAGE } from "./pager.js";
 import { html } from "./svg.js";
 import { FIELDS, FIELD_WORDS, newRow } from "./table.js";
@@ -25,6 +26,7 @@ export class RowsView {
     this.pager = new Pager(document.getElementById("jobs-pager"), "Jobs", () => this.draw());
     this.used = new Set(FIELDS);
     this.findings = { faults: [], notes: [] };
+    this.calendar = null;
     this.body.addEventListener("input", (event) => this.edit(event.target));
     this.body.addEventListener("keydown", (event) => this.move(event));
     this.allColumns.addEventListener("change", () => this.draw());
@@ -73,16 +75,32 @@ export class RowsView {
 
   line(row, place) {
     const isNew = place === this.store.state.rows.length;
-    const cells = this.shown.map((field) => html("td", {}, html("input", {
-      "aria-label": `${FIELD_WORDS[field]}, row ${place + 1}`, "data-field": field,
-      value: row[field], placeholder: isNew ? HINTS[field] : "", class: `in-${field}`,
-      autocomplete: "off", spellcheck: "false",
-    })));
+    const cells = this.shown.map((field) => this.cell(row, place, field));
     const remove = html("button", { type: "button", class: "remove", title: "Delete this row",
       "aria-label": `Delete row ${place + 1}`, hidden: isNew,
       click: () => this.remove(place) }, "✕");
     return html("tr", { "data-place": place, class: isNew ? "new" : "" },
       html("th", { scope: "row" }, isNew ? "+" : String(place + 1)), cells, html("td", {}, remove));
+  }
+
+  /** A field, and beside it what is added to its text when it is read: a unit or a year. */
+  cell(row, place, field) {
+    const isNew = place === this.store.state.rows.length;
+    const input = html("input", {
+      "aria-label": `${FIELD_WORDS[field]}, row ${place + 1}`, "data-field": field,
+      value: row[field], placeholder: isNew ? HINTS[field] : "", class: `in-${field}`,
+      autocomplete: "off", spellcheck: "false",
+    });
+    return html("td", {}, input, html("span", { class: "assumed-unit" },
+      assumedOf(this.calendar, field, row[field])));
+  }
+
+  /** Reads texts by this calendar, and shows what it adds to them. */
+  setCalendar(calendar) {
+    this.calendar = calendar;
+    for (const input of this.body.querySelectorAll("input")) {
+      input.nextElementSibling.textContent = assumedOf(calendar, input.dataset.field, input.value);
+    }
   }
 
   edit(input) {

@@ -20,11 +20,14 @@ export function saveFile(name, content, type) {
 /**
  * The plan as a file for spreadsheets: one line for each piece, by machine and start. It begins
  * with a byte order mark, by which spreadsheets know UTF-8.
+ * @param {object} plan
+ * @param {{delimiter: string, decimal: string}} style as `styleOf` gives it
  * @returns {string[]} parts of the text
  */
-export function planAsCsv(plan, delimiter) {
+export function planAsCsv(plan, { delimiter, decimal }) {
   const { schedule, calendar, jobs, completion } = plan;
   const line = (...cells) => csvLine(cells, delimiter);
+  const hours = (steps) => lengthField(calendar, steps, decimal);
   const parts = ["\uFEFF" + line("Name", "Machine", "Start", "End", "Working time", "Completion",
     "Due", "Lateness", "Late")];
   for (const piece of plan.order) {
@@ -34,19 +37,20 @@ export function planAsCsv(plan, delimiter) {
       jobs[job].name, schedule.machine[piece],
       momentField(calendar, schedule.start[piece], false),
       momentField(calendar, schedule.stop[piece], true),
-      lengthField(calendar, schedule.stop[piece] - schedule.start[piece]),
+      hours(schedule.stop[piece] - schedule.start[piece]),
       momentField(calendar, completion[job], true),
       late === null ? "" : momentField(calendar, jobs[job].due, true),
-      late === null ? "" : lengthField(calendar, late), late > 0 ? "late" : ""));
+      late === null ? "" : hours(late), late > 0 ? "late" : ""));
   }
   return parts;
 }
 
 /** A length of time as a number of hours, or of steps without a calendar. */
-function lengthField(calendar, steps) {
+function lengthField(calendar, steps, decimal) {
   if (!calendar) return String(steps);
   const hours = steps * calendar.stepMinutes / 60;
-  return Number.isInteger(hours * 100) ? String(hours) : lengthText(calendar, steps);
+  return Number.isInteger(hours * 100) ? String(hours).replace(".", decimal)
+    : lengthText(calendar, steps);
 }
 
 /**

@@ -1,8 +1,11 @@
 // What is pasted from a spreadsheet or opened as its file: cells, and what the columns are.
 
+import { needsCalendar } from "./calendar.js";
+import { plainLetters, unitOfWord } from "./lengths.js";
 import { FIELDS } from "./table.js";
 
 const LONGEST_HEADING = 100;
+const DATED = new Set(["time", "time2", "due", "release"]);
 
 const HEADINGS = {
   name: "name job task order item activity product title part id nr no number description "
@@ -100,27 +103,50 @@ function findDelimiter(text) {
 }
 
 /**
+ * What the columns of cells are.
+ * @typedef {object} Columns
+ * @property {(string|null)[]} fields for each column its field, or null
+ * @property {?string[]} headings
+ * @property {(string|null)[]} units the unit that a heading names: "min", "h" or "d"
+ */
+
+/**
  * Finds out what the columns are, from a heading or, without one, from their places.
  * @param {string[][]} cells
- * @returns {{fields: (string|null)[], headings: ?string[]}} for each column its field, or null
+ * @returns {Columns}
  */
 export function readColumns(cells) {
   const first = cells[0] ?? [];
-  const named = first.map(fieldOfHeading);
   const width = cells.reduce((most, row) => Math.max(most, row.length), 0);
-  if (named.some((field) => field === "time") || named.filter(Boolean).length >= 2) {
-    const seen = new Set();
-    const fields = named.map((field) => {
-      if (field === null || seen.has(field)) return null;
-      seen.add(field);
-      return field;
-    });
-    return { fields: padded(fields, width), headings: padded(first, width, "") };
+  const parts = first.map(partsOfHeading);
+  const named = timesByUnit(parts);
+  if (named.includes("time") || named.filter(Boolean).length >= 2) {
+    return { fields: padded(withoutRepeats(named, cells.slice(1)), width),
+      headings: padded(first, width, ""), units: padded(parts.map(({ unit }) => unit), width) };
   }
   const hasHeading = cells.length > 1 && !/\d/.test(first.join("")) && /\d/.test(cells[1].join(""));
   const body = hasHeading ? cells.slice(1) : cells;
-  return { fields: guessFields(body, width),
-    headings: hasHeading ? padded(first, width, "") : null };
+  return { fields: guessFields(body, width), headings: hasHeading ? padded(first, width, "") : null,
+    units: padded(hasHeading ? parts.map(({ unit }) => unit) : [], width) };
+}
+
+/** The fields by their headings; where none is a time, what has a unit such as “Sawing (h)” is one. */
+function timesByUnit(parts) {
+  const fields = parts.map(({ field }) => field);
+  if (fields.includes("time")) return fields;
+  const isTime = ({ field, unit, words }) => field === null && unit !== null && words !== "";
+  const [first, second, ...more] = parts.flatMap((each, place) => isTime(each) ? [place] : []);
+  if (first === undefined || more.length > 0) return fields;
+  return fields.map((field, place) => place === first ? "time" : place === second ? "time2" : field);
+}
+
+/** Each field once: of several names the first that is no number, of all else the first. */
+function withoutRepeats(named, body) {
+  const isNumber = (place) => body.slice(0, 50).every((row) => /^[\d.,:]*$/.test(row[place] ?? ""));
+  const names = named.flatMap((field, place) => field === "name" ? [place] : []);
+  const name = names.find((place) => !isNumber(place)) ?? names[0];
+  return named.map((field, place) => field === "name" ? place === name ? field : null
+    : named.indexOf(field) === place ? field : null);
 }
 
 /** Guesses the columns by what they hold: a name, a number for the time, a due date, names. */
@@ -149,38 +175,80 @@ function padded(list, width, filler = null) {
   return [...list, ...Array(Math.max(0, width - list.length)).fill(filler)];
 }
 
-function fieldOfHeading(heading) {
-  if (heading.length > LONGEST_HEADING) return null;
-  const plain = heading.normalize("NFD").replace(/[\u0300-\u036f]/g, "").toLowerCase();
-  const words = plain.replace(/\([^)]*\)|\[[^\]]*\]/g, "").replace(/[^a-z0-9]/g, "");
-  return FIELD_OF_HEADING.get(words) ?? null;
+/**
+ * The field of a heading, the unit that it names, and its words without the unit: “Dauer (min)”,
+ * “Time in hours”, “Zeit/Std.”, or “Minuten” alone.
+ * @returns {{field: ?string, unit: ?string, words: string}}
+ */
+export function partsOfHeading(heading) {
+  if (heading.length > LONGEST_HEADING) return { field: null, unit: null, words: "" };
+  const known = (words) => FIELD_OF_HEADING.get(words.replace(/[^a-z0-9]/g, "")) ?? null;
+  const plain = plainLetters(heading);
+  const found = /^(.*?)\s*(?:[([]\s*([a-z]+)\.?\s*[)\]]|(?:[/,]|\s(?:in|en))\s*([a-z]+)\.?)$/.exec(plain);
+  const unit = found ? unitOfWord(found[2] ?? found[3]) : null;
+  if (unit) {
+    return { field: known(found[1]), unit, words: heading.slice(0, found[1].length).trim() };
+  }
+  const whole = plain.length > 2 ? unitOfWord(plain.replace(/\.$/, "")) : null;
+  return { field: known(plain.replace(/\([^)]*\)|\[[^\]]*\]/g, "")), unit: whole,
+    words: heading.trim() };
 }
 
-/** The rows of a table, from cells whose columns are known; the heading's row is left out. */
-export function rowsOfCells(cells, columns) {
+/**
+ * The rows of a table, from cells whose columns are known; the heading's row is left out.
+ * @param {string[][]} cells
+ * @param {Columns} columns
+ * @param {?string} plain the unit of numbers without one; those of a column with another get theirs
+ */
+export function rowsOfCells(cells, columns, plain = null) {
   const body = columns.headings ? cells.slice(1) : cells;
+  const { fields, units } = columns;
   return body.map((row) => {
     const values = Object.fromEntries(FIELDS.map((field) => [field, ""]));
-    columns.fields.forEach((field, place) => {
-      if (field) values[field] = row[place] ?? "";
+    fields.forEach((field, place) => {
+      if (!field) return;
+      const cell = row[place] ?? "";
+      const isOther = DATED.has(field) && units[place] && units[place] !== plain;
+      values[field] = isOther && /^\d[\d.,]*$/.test(cell) ? `${cell} ${units[place]}` : cell;
     });
     return values;
   });
 }
 
+/** The unit of numbers in the time column, as its heading has it, or null. */
+export function unitOfTimes({ fields, units }) {
+  return units[fields.lastIndexOf("time")] ?? null;
+}
+
 /** Whether dates with slashes can only be read with the month first, as in 3/25/2025. */
-export function hasMonthFirst(cells) {
-  const parts = cells.flat().map((cell) => /^(\d{1,2})\/(\d{1,2})\/\d{2,4}/.exec(cell));
-  const found = parts.filter(Boolean);
-  return found.some((part) => Number(part[2]) > 12) && found.every((part) => Number(part[1]) <= 12);
+export function hasMonthFirst(rows) {
+  const parts = rows.flatMap((row) => [row.due, row.release])
+    .map((cell) => /(?:^|\s)(\d{1,2})\/(\d{1,2})(?!\d)/.exec(cell)).filter(Boolean);
+  return parts.some((part) => Number(part[2]) > 12) && parts.every((part) => Number(part[1]) <= 12);
 }
 
 /** Whether rows have dates, or times with a unit, so that a calendar is needed. */
 export function needCalendar(rows) {
-  const isDate = (text) => /\d[-./]\s?\d{1,2}[-./]\s?\d|\d[ -]?[a-z]{3}/i.test(text);
-  const hasUnit = (text) => /\d\s*(d|h|m)|:/i.test(text);
-  return rows.some((row) => isDate(row.due) || isDate(row.release) || hasUnit(row.time)
-    || hasUnit(row.time2));
+  return rows.some((row) => needsCalendar(row.due) || needsCalendar(row.release)
+    || needsCalendar(row.time) || needsCalendar(row.time2));
+}
+
+/**
+ * How a spreadsheet that these cells come from divides cells, and what its numbers have before
+ * decimals; without cells to tell, as is usual in the language.
+ * @param {string[][]} cells
+ * @param {string} delimiter by which they were divided
+ * @param {string} language such as "de-DE"
+ * @returns {{delimiter: string, decimal: string}}
+ */
+export function styleOf(cells, delimiter, language) {
+  const some = cells.slice(0, 200).flat();
+  const hasComma = some.some((cell) => /^\d+,\d+( ?[a-z]+)?$/i.test(cell));
+  const hasPoint = some.some((cell) => /^\d+\.\d+( ?[a-z]+)?$/i.test(cell));
+  const isUsual = new Intl.NumberFormat(language).format(1.5).includes(",");
+  const takesComma = delimiter === ";" && !hasPoint || hasComma && !hasPoint
+    || delimiter !== "," && !hasPoint && isUsual;
+  return takesComma ? { delimiter: ";", decimal: "," } : { delimiter: ",", decimal: "." };
 }
 
 /** One row of a file for spreadsheets. Cells that a spreadsheet would run as formulas get a '. */
@@ -191,6 +259,6 @@ export function csvLine(cells, delimiter) {
 function csvCell(text, delimiter) {
   const isNumber = /^-?\d+([.,]\d+)?$/.test(text);
   const safe = !isNumber && /^\s*[=+\-@\t\r|%＝＋－＠]/.test(text) ? `'${text}` : text;
-  const needsQuotes = safe.includes(delimiter) || /["\r\n,;]/.test(safe);
+  const needsQuotes = safe.includes(delimiter) || !isNumber && /["\r\n,;]/.test(safe);
   return needsQuotes ? `"${safe.replace(/"/g, '""')}"` : safe;
 }

@@ -21,6 +21,9 @@ const LINES_AT_ONCE = 500;
 const MOST_BESIDE = 16;
 const NONE = [];
 
+/** What a reader adds to texts: a unit to a time or to a date, a year, an order of day and month. */
+export const ASSUMED = { unit: 1, start: 2, year: 4, dayFirst: 8, endOfDay: 16 };
+
 let lastId = 0;
 
 /** A row with an identity of its own, by which a kept plan knows it again. */
@@ -45,6 +48,7 @@ export function isEmptyRow(row) {
  * @property {?number} due in time steps
  * @property {number} release in time steps; the start of the plan where the row has none
  * @property {?number} weight
+ * @property {number} assumed bits of ASSUMED
  * @property {{field: string, message: string}[]} faults
  * @property {{field: string, message: string}[]} notes
  */
@@ -92,6 +96,7 @@ function nameOf(row, number) {
 
 function readRow(row, place, number, { calendar, used }) {
   const findings = { faults: NONE, notes: NONE };
+  let assumed = 0;
   const add = (kind, field, message) => {
     findings[kind] = [...findings[kind], { field, message }];
   };
@@ -101,14 +106,22 @@ function readRow(row, place, number, { calendar, used }) {
     const found = reader(calendar, text, ...more);
     if (found.fault) add(used.has(field) ? "faults" : "notes", field, found.fault);
     if (found.note) add("notes", field, found.note);
+    assumed |= assumedIn(field, text, found);
     return found.fault ? null : found.steps;
   };
-  const takeTime = (field) => {
-    if (row[field].trim() === "") add("faults", field, "This job has no processing time.");
-    return take(field, readDuration);
+  const isShop = used.has("time2");
+  const hasTime2 = row.time2.trim() !== "";
+  const takeTime = (field, other) => {
+    if (row[field].trim() !== "") return take(field, readDuration);
+    if (!isShop || row[other].trim() === "") {
+      add("faults", field, "This job has no processing time.");
+      return null;
+    }
+    add("notes", field, `No time on machine ${field === "time" ? 1 : 2}: it counts as 0.`);
+    return 0;
   };
-  const time = takeTime("time");
-  const time2 = used.has("time2") ? takeTime("time2") : null;
+  const time = takeTime("time", "time2");
+  const time2 = isShop ? takeTime("time2", "time") : null;
   const due = take("due", readMoment, true);
   const release = take("release", readMoment, false);
   const start = release ?? (used.has("release") ? 0 : null);
@@ -120,7 +133,17 @@ function readRow(row, place, number, { calendar, used }) {
   }
   return { row: place, number, id: row.id, name: nameOf(row, number), fields: fields.join(" "),
     time: time + time2, due, release: start ?? 0, hasRelease: release !== null,
-    weight, hasCost: cost !== null, ...findings };
+    weight, hasCost: cost !== null, hasTime2, assumed, ...findings };
+}
+
+/** What was added to a text when it was read. */
+function assumedIn(field, text, { fault, isPlain, date }) {
+  if (fault) return 0;
+  const isTime = field === "time" || field === "time2";
+  return (isPlain ? isTime ? ASSUMED.unit : ASSUMED.start : 0)
+    | (date?.isYearAssumed ? ASSUMED.year : 0)
+    | (date?.hasTwoReadings ? ASSUMED.dayFirst : 0)
+    | (date && date.clock === null && field === "due" ? ASSUMED.endOfDay : 0);
 }
 
 function readWeight(_, text) {
@@ -169,14 +192,44 @@ export async function makeTable(rows, reader, pause) {
   const found = reader.used.has("after") ? findings.faults : findings.notes;
   const arcs = readArcs(rows, jobs, index, found);
   judgeTotals(jobs, arcs, reader.calendar, findings);
-  return { jobs, index, arcs, bytes: bytesOf(jobs, arcs), ...findings };
+  const fillers = fillersOf(jobs, reader.used, findings);
+  return { jobs, index, arcs, fillers, bytes: bytesOf(jobs, arcs, fillers), ...findings };
+}
+
+/**
+ * What stands in the table for jobs without a due date or a weight that the problem needs: a due
+ * date so late that it never counts, and the weight 1. Where no job has a due date, nothing does.
+ * @returns {{due: ?number, weight: ?number}}
+ */
+function fillersOf(jobs, used, findings) {
+  const fill = (field, value, words) => {
+    const lacking = used.has(field) ? jobs.filter((job) => job[field] === null
+      && !job.faults.some((fault) => fault.field === field)) : [];
+    if (lacking.length === 0 || value === null) return null;
+    const more = lacking.length - 1;
+    const which = more === 0 ? "" : `, and none in ${more} more ${more === 1 ? "row" : "rows"}`;
+    findings.notes.push({ row: lacking[0].row, field, message: `${words[0]}${which}: ${words[1]}` });
+    return value;
+  };
+  const most = (values) => values.reduce((largest, each) => Math.max(largest, each), 0);
+  const hasDue = jobs.some((job) => job.due !== null);
+  const end = jobs.reduce((sum, job) => sum + job.time, 0) + most(jobs.map((job) => job.release));
+  const latest = hasDue ? end + most(jobs.map((job) => job.due ?? 0)) : null;
+  return {
+    due: fill("due", latest, ["No due date", "due at the end of all work, so never late."]),
+    weight: fill("weight", 1, ["No weight", "it counts as 1."]),
+  };
 }
 
 /** The bytes of a job table, some lines at a time, so that a long one takes little memory. */
-function bytesOf(jobs, arcs) {
+function bytesOf(jobs, arcs, fillers) {
   const heading = "table 1\n";
+  const due = fillers.due === null ? "" : ` d=${fillers.due}`;
+  const weight = fillers.weight === null ? "" : ` w=${fillers.weight}`;
   const most = jobs.reduce((sum, job) => sum + job.fields.length + MOST_BESIDE,
-    heading.length + arcs.length * 2 * MOST_BESIDE);
+    heading.length + arcs.length * 2 * MOST_BESIDE + jobs.length * (due.length + weight.length));
+  const lineOf = (job, place) => `job ${place + 1} ${job.fields}${job.weight === null ? weight : ""}`
+    + `${job.due === null ? due : ""}\n`;
   const bytes = new Uint8Array(most);
   const encoder = new TextEncoder();
   let end = 0;
@@ -190,7 +243,7 @@ function bytesOf(jobs, arcs) {
     }
   };
   write(heading);
-  writeAll(jobs, (job, place) => `job ${place + 1} ${job.fields}\n`);
+  writeAll(jobs, lineOf);
   writeAll(arcs, ([from, to]) => `prec ${from + 1} ${to + 1}\n`);
   return bytes.subarray(0, end);
 }
@@ -259,10 +312,12 @@ export function namedText(table) {
 
 /** The first line of a text that is neither empty nor a comment, without space around it. */
 export function firstLine(text) {
-  const lines = /[^\n]+/g;
-  for (let found = lines.exec(text); found; found = lines.exec(text)) {
-    const line = found[0].trim();
+  for (let at = 0; at < text.length;) {
+    const found = text.indexOf("\n", at);
+    const end = found < 0 ? text.length : found;
+    const line = text[at] === "#" ? "" : text.slice(at, end).trim();
     if (line !== "" && !line.startsWith("#")) return line;
+    at = end + 1;
   }
   return "";
 }
@@ -286,7 +341,8 @@ export function readTable(text) {
   const arcs = [];
   const faults = [];
   let machines = null;
-  text.replace(/^\uFEFF/, "").split(/\r?\n/).forEach((line, place) => {
+  text.replace(/^\uFEFF/, "").split("\n").forEach((line, place) => {
+    if (line[0] === "#" && !line.startsWith("# job ")) return;
     const words = line.trim().split(/\s+/);
     const named = words[0] === "#" && /^\s*# job (\d+): (.*\S)/.exec(line);
     if (named) names.set(Number(named[1]), named[2]);
