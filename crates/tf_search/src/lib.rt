@@ -3,11 +3,13 @@
 //! Nothing is promised of what they find: the judges of `tf_bound` compute what it bounds.
 #![tactic(auto)]
 
+mod due_prices;
 pub mod effort;
 mod job_starts;
 pub mod machine_search;
 pub mod multiplier_search;
 pub mod price_search;
+pub mod price_start;
 mod ranked;
 pub mod sequence;
 pub mod strongest;

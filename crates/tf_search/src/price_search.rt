@@ -1,34 +1,44 @@
 //! A search for good prices of the rows: steps against the rows that the cheapest starts fill
-//! unevenly, from the prices that a sequence of the jobs suggests.
+//! unevenly.
 //!
 //! Nothing is promised of the prices: the judge computes what they bound.
-ghost use Rattle.std.specs.Prelude.{◌≡◌, ◌+◌, ◌<◌, ◌≤◌, length, IfOk, IfSome, IsTrue, IsFalse};
-ghost use Rattle.std.specs.List.{All};
+ghost use Rattle.std.specs.Prelude.{◌≡◌, ◌+◌, ◌<◌, length, IfOk, IsFalse};
 ghost use Rattle.tf_model.specs.ClassTable.{is_shop_env};
-ghost use Rattle.tf_problem.specs.ProblemData.{IsProblemJob};
 ghost use Rattle.tf_problem.specs.ProblemCost.{IsLowerBound};
 
 use crate::effort::{Effort, Nobody, Progress};
 use crate::job_starts::JobStarts;
-use crate::sequence::{Placed, best_order, place_all};
+use crate::price_start::{Prices, sequence_prices, zeros};
+use crate::sequence::best_order;
 use std::alloc::{Allocator, Global};
 use tf_bound::fault::BoundFault;
-use tf_bound::prices::{is_by_unit, prices_bound, takes_prices};
+use tf_bound::prices::{prices_bound, takes_prices};
 use tf_bound::task::ProblemTask;
 use tf_model::ids::JobId;
 use tf_model::limit::LIMIT;
-
-/// The denominator of the prices that are found.
-pub const DENOMINATOR: u64 = 1_000;
-
-/// The most rows that are priced.
-pub const MOST_ROWS: u64 = 10_000_000;
 
 // What a direction of 1 is written as.
 const UNIT: i64 = 1_024;
 
 // What the step's length is over.
 const LENGTH: i64 = 65_536;
+
+// The most steps without a better value before those of a hasty search get shorter.
+const MOST_PATIENCE: u32 = 60;
+
+// How many steps the first round of a search takes at least, and how many rounds there are at most.
+const ROUND: u32 = 1_000;
+
+const MOST_ROUNDS: u32 = 32;
+
+/// Some of the steps of an effort.
+#[derive(Clone, Copy, Debug)]
+pub struct Steps {
+    /// How many steps there are before them, of them, and in all.
+    pub before: u32,
+    pub number: u32,
+    pub all: u32,
+}
 
 // How long the steps are, over LENGTH, how many without a better value shorten them, and how many
 // there were.
@@ -41,13 +51,18 @@ struct Pace {
 
 impl Pace {
     // Full steps at first. A fiftieth of all steps without a better value shortens them, but at
-    // least 3 and at most 60.
-    fn new(steps: u32) -> Pace {
+    // least 3.
+    fn patient(steps: u32) -> Pace {
         Pace {
             length: LENGTH,
-            patience: (steps / 50).clamp(3, 60),
+            patience: (steps / 50).max(3),
             waited: 0,
         }
+    }
+
+    // The same with at most 60 such steps.
+    fn hasty(steps: u32) -> Pace {
+        Pace::patient(steps.min(50 * MOST_PATIENCE))
     }
 
     // The pace after one step more.
@@ -78,13 +93,6 @@ struct Tables<A: Allocator> {
     counts: Vec<i64, A>,
     direction: Vec<i64, A>,
     best: Vec<u64, A>,
-}
-
-/// Prices of the rows from 0 on, over q.
-#[derive(Drop)]
-pub struct Prices<A: Allocator = Global> {
-    pub q: u64,
-    pub rows: Vec<u64, A>,
 }
 
 /// Prices, what they bound, and what the sequence cost from which they were found.
@@ -124,71 +132,118 @@ fn prices_along<A: Allocator + Copy, B: Allocator>(
     requires { IsFalse (is_shop_env task.now.problem.env) }
 {
     let (order, target) = best_order(alloc, task)?;
-    let mut effort: Effort<Nobody> = Effort::untold(Some(steps));
-    let prices = search_prices(alloc, task, &order, target, &mut effort)?;
-    Ok((prices, target))
+    let steps = Steps {
+        before: 0,
+        number: steps,
+        all: steps,
+    };
+    let start = sequence_prices(alloc, task, &order)?;
+    let mut effort: Effort<Nobody> = Effort::untold(None);
+    let found = hasty_search(alloc, task, start, target, steps, &mut effort)?;
+    Ok((found.prices, target))
 }
 
-/// The prices of the most that the steps of an effort find, none where it says no number. `order` is
-/// a sequence of all jobs, and `target` what it costs.
-pub fn search_prices<A: Allocator + Copy, B: Allocator, P: Progress>(
+/// Prices that a search found, how many steps it took, and whether they bound the target.
+#[derive(Drop)]
+pub struct Searched<A: Allocator = Global> {
+    pub prices: Prices<A>,
+    pub steps: u32,
+    pub is_met: bool,
+}
+
+/// The prices of the greatest value that steps find from a start. They get shorter after at most 60
+/// without a better value. `target` is what a schedule costs.
+pub fn hasty_search<A: Allocator + Copy, B: Allocator, P: Progress>(
     alloc: A,
     task: &ProblemTask<B>,
-    order: &[JobId],
+    start: Prices<A>,
     target: u64,
+    steps: Steps,
     effort: &mut Effort<P>,
-) -> Result<Prices<A>, BoundFault>
-    requires { All (IsProblemJob task.now) order.now }
-{
+) -> Result<Searched<A>, BoundFault> {
+    let pace = Pace::hasty(steps.number);
+    search_at(alloc, task, start, target, (steps, pace), effort)
+}
+
+/// The prices of the greatest value that rounds of steps find. Each round begins with the best
+/// prices before it, at full length again, and takes twice as many steps.
+pub fn patient_search<A: Allocator + Copy, B: Allocator, P: Progress>(
+    alloc: A,
+    task: &ProblemTask<B>,
+    start: Prices<A>,
+    target: u64,
+    steps: Steps,
+    effort: &mut Effort<P>,
+) -> Result<Prices<A>, BoundFault> {
+    let mut prices = start;
+    let mut left = steps.number;
+    let mut size = ROUND.max(steps.before.saturating_mul(2));
+    for _ in 0..MOST_ROUNDS {
+        if left == 0 {
+            break;
+        }
+        let round = Steps {
+            before: steps
+                .before
+                .saturating_add(steps.number.saturating_sub(left)),
+            number: size.min(left),
+            all: steps.all,
+        };
+        let pace = Pace::patient(round.number);
+        let found = search_at(alloc, task, prices, target, (round, pace), effort)?;
+        prices = found.prices;
+        if found.is_met {
+            break;
+        }
+        left = left.saturating_sub(found.steps.max(1));
+        size = size.saturating_mul(2);
+    }
+    Ok(prices)
+}
+
+fn search_at<A: Allocator + Copy, B: Allocator, P: Progress>(
+    alloc: A,
+    task: &ProblemTask<B>,
+    start: Prices<A>,
+    target: u64,
+    steps: (Steps, Pace),
+    effort: &mut Effort<P>,
+) -> Result<Searched<A>, BoundFault> {
     if !takes_prices(task) {
         return Err(BoundFault::OtherKind);
     }
-    let mut tables = tables_along(alloc, task, order)?;
-    improve(task.machines(), target, &mut tables, effort);
-    effort.is_over();
-    Ok(Prices {
-        q: DENOMINATOR,
-        rows: tables.best,
+    let target = Target {
+        machines: task.machines(),
+        cost: target,
+        q: start.q,
+    };
+    let mut tables = tables_from(alloc, task, start)?;
+    let (steps, is_met) = improve(target, &mut tables, steps, effort);
+    Ok(Searched {
+        prices: Prices {
+            q: target.q,
+            rows: tables.best,
+        },
+        steps,
+        is_met,
     })
 }
 
-// The tables at the beginning of a search, from a sequence.
-fn tables_along<A: Allocator + Copy, B: Allocator>(
+// The tables at the beginning of a search.
+fn tables_from<A: Allocator + Copy, B: Allocator>(
     alloc: A,
     task: &ProblemTask<B>,
-    order: &[JobId],
+    start: Prices<A>,
 ) -> Result<Tables<A>, BoundFault>
-    requires jobs { All (IsProblemJob task.now) order.now }
-    requires one_time { IsFalse (is_shop_env task.now.problem.env) }
+    requires { IsFalse (is_shop_env task.now.problem.env) }
 {
-    let placed = place_all(alloc, task, order)?;
-    match horizon_of(&placed) {
-        Some(horizon) => tables_for(alloc, task, &placed, horizon),
-        None => Err(BoundFault::TooLarge),
-    }
-}
-
-// The same from where and when each job runs, and from when all are over.
-fn tables_for<A: Allocator + Copy, B: Allocator>(
-    alloc: A,
-    task: &ProblemTask<B>,
-    placed: &[Placed],
-    horizon: usize,
-) -> Result<Tables<A>, BoundFault>
-    requires jobs { All (λ p. IsProblemJob task.now p.job) placed.now }
-    requires one_time { IsFalse (is_shop_env task.now.problem.env) }
-    requires few { horizon ≤ 10000000 }
-{
-    let jobs = starts_of(alloc, task, horizon)?;
+    let horizon = start.rows.len();
+    let jobs = starts_of(alloc, task, horizon, start.q)?;
     let longest = jobs.iter().map(|job| job.time()).max().unwrap_or(0);
-    let mut rows = zeros(alloc, horizon)?;
-    if !is_by_unit(task.problem().goal) {
-        suggest(alloc, task, placed, &mut rows)?;
-    }
     Ok(Tables {
         jobs,
-        rows,
-        sums: zeros(alloc, longest.saturating_add(horizon + 1))?,
+        rows: start.rows,
+        sums: zeros(alloc, longest.saturating_add(horizon).saturating_add(1))?,
         counts: signed_zeros(alloc, horizon + 1)?,
         direction: signed_zeros(alloc, horizon)?,
         best: zeros(alloc, horizon)?,
@@ -200,6 +255,7 @@ fn starts_of<A: Allocator, B: Allocator>(
     alloc: A,
     task: &ProblemTask<B>,
     horizon: usize,
+    q: u64,
 ) -> Result<Vec<JobStarts, A>, BoundFault>
     requires { IsFalse (is_shop_env task.now.problem.env) }
 {
@@ -207,7 +263,7 @@ fn starts_of<A: Allocator, B: Allocator>(
         return Err(BoundFault::OutOfMemory);
     };
     for k in 0..task.len() {
-        let Some(starts) = JobStarts::new(task, JobId::at(k), horizon, DENOMINATOR) else {
+        let Some(starts) = JobStarts::new(task, JobId::at(k), horizon, q) else {
             return Err(BoundFault::TooLarge);
         };
         let Ok(()) = jobs.push(starts) else {
@@ -215,29 +271,6 @@ fn starts_of<A: Allocator, B: Allocator>(
         };
     }
     Ok(jobs)
-}
-
-// When the last job completes, where that is not too late.
-fn horizon_of(placed: &[Placed]) -> Option<usize>
-    ensures { IfSome result (λ rows. rows ≤ 10000000) }
-{
-    let mut horizon: u64 = 0;
-    for job in placed {
-        horizon = horizon.max(job.end);
-    }
-    if horizon > MOST_ROWS {
-        return None;
-    }
-    Some(horizon as usize)
-}
-
-fn zeros<A: Allocator>(alloc: A, len: usize) -> Result<Vec<u64, A>, BoundFault>
-    ensures { IfOk result (λ v. length v.items ≡ len) }
-{
-    let Ok(zeros) = vec![in alloc; 0_u64; len] else {
-        return Err(BoundFault::OutOfMemory);
-    };
-    Ok(zeros)
 }
 
 fn signed_zeros<A: Allocator>(alloc: A, len: usize) -> Result<Vec<i64, A>, BoundFault>
@@ -249,104 +282,29 @@ fn signed_zeros<A: Allocator>(alloc: A, len: usize) -> Result<Vec<i64, A>, Bound
     Ok(zeros)
 }
 
-// The prices that a timetable suggests: on each machine they fall along a late job by its weight,
-// and stay along the others. They are shared out among the machines.
-fn suggest<A: Allocator + Copy, B: Allocator>(
-    alloc: A,
-    task: &ProblemTask<B>,
-    placed: &[Placed],
-    rows: &mut [u64],
-) -> Result<(), BoundFault>
-    requires { All (λ p. IsProblemJob task.now p.job) placed.now }
-{
-    let machines = task.machines() as usize;
-    let Ok(mut from) = vec![in alloc; rows.len(); machines] else {
-        return Err(BoundFault::OutOfMemory);
-    };
-    let mut level = zeros(alloc, machines)?;
-    share_out(task, placed, &mut from, &mut level, rows);
-    Ok(())
-}
-
-// `from` has of each machine the first row that has its price, and `level` that price.
-fn share_out<B: Allocator>(
-    task: &ProblemTask<B>,
-    placed: &[Placed],
-    from: &mut [usize],
-    level: &mut [u64],
-    rows: &mut [u64],
-)
-    requires { All (λ p. IsProblemJob task.now p.job) placed.now }
-{
-    for job in placed.iter().rev() {
-        let rise = rise_of(task, job);
-        if job.machine < level.len() && job.machine < from.len() {
-            let share = Share {
-                level: level[job.machine],
-                rise,
-                to: from[job.machine],
-                machines: u64::from(task.machines()),
-            };
-            share.fill(rows, job);
-            level[job.machine] = level[job.machine].saturating_add(rise);
-            from[job.machine] = job.start as usize;
-        }
-    }
-}
-
-// By how much the prices fall along a job.
-fn rise_of<B: Allocator>(task: &ProblemTask<B>, job: &Placed) -> u64
-    requires { IsProblemJob task.now job.now.job }
-{
-    if i128::from(job.end) > i128::from(task.due(job.job)) {
-        task.weight(job.job).saturating_mul(DENOMINATOR)
-    } else {
-        0
-    }
-}
-
-// What one machine adds to the prices from the start of a job on, up to row `to`: `level` where the
-// job completes, and `rise` more where it starts, divided by the number of machines.
+// What prices over q are to bound on so many machines.
 #[derive(Clone, Copy)]
-struct Share {
-    level: u64,
-    rise: u64,
-    to: usize,
-    machines: u64,
-}
-
-impl Share {
-    fn fill(self, rows: &mut [u64], job: &Placed) {
-        let time = u128::from(job.end.saturating_sub(job.start));
-        if time == 0 || self.machines == 0 {
-            return;
-        }
-        for row in (job.start as usize)..self.to.min(rows.len()) {
-            let left = u128::from(job.end.saturating_sub(row as u64));
-            let part = u128::from(self.rise).saturating_mul((2 * left).saturating_sub(1));
-            let rise = u64::try_from(part / (2 * time)).unwrap_or(u64::MAX);
-            let price = self.level.saturating_add(rise) / self.machines;
-            rows[row] = rows[row].saturating_add(price);
-        }
-    }
-}
-
-// Takes the steps of the effort, and keeps the prices of the greatest value. Ends where that is the
-// target, rounded up as a bound is.
-fn improve<A: Allocator, P: Progress>(
+struct Target {
     machines: u32,
-    target: u64,
+    cost: u64,
+    q: u64,
+}
+
+// Takes the steps, and keeps the prices of the greatest value. Returns how many steps were taken,
+// and whether the value is the target, rounded up as a bound is.
+fn improve<A: Allocator, P: Progress>(
+    target: Target,
     tables: &mut Tables<A>,
+    (steps, pace): (Steps, Pace),
     effort: &mut Effort<P>,
-) {
-    let steps = effort.steps.unwrap_or(0);
-    let goal = i128::from(target) * i128::from(DENOMINATOR);
-    let mut pace = Pace::new(steps);
+) -> (u32, bool) {
+    let goal = i128::from(target.cost) * i128::from(target.q);
+    let mut pace = pace;
     let mut most: i128 = -1;
-    for step in 0..steps {
-        effort.at_step(step, steps);
-        let Some(value) = tables.value(machines) else {
-            return;
+    for step in 0..steps.number {
+        effort.at_step(steps.before.saturating_add(step), steps.all);
+        let Some(value) = tables.value(target.machines) else {
+            return (step, false);
         };
         if value > most {
             tables.keep();
@@ -354,11 +312,14 @@ fn improve<A: Allocator, P: Progress>(
         pace = pace.after(value > most);
         most = most.max(value);
         let gap = goal.saturating_sub(value);
-        let is_reached = gap < i128::from(DENOMINATOR);
-        if is_reached || pace.length == 0 || !tables.advance(machines, gap, pace.length) {
-            return;
+        if gap < i128::from(target.q) {
+            return (step, true);
+        }
+        if pace.length == 0 || !tables.advance(target.machines, gap, pace.length) {
+            return (step, false);
         }
     }
+    (steps.number, false)
 }
 
 impl<A: Allocator> Tables<A> {

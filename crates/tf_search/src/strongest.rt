@@ -4,16 +4,19 @@ ghost use Rattle.tf_model.specs.ClassTable.{is_shop_env};
 ghost use Rattle.tf_problem.specs.ProblemData.{ProblemData};
 ghost use Rattle.tf_search.specs.Strongest.{IsFound, IsFoundOn};
 
+use crate::due_prices::crossed_out_cost;
 use crate::effort::{Effort, Progress};
 use crate::machine_search::search_machines;
 use crate::multiplier_search::multiplier_bound;
-use crate::price_search::search_prices;
+use crate::price_search::{Steps, hasty_search, patient_search};
+use crate::price_start::{Prices, finer_prices, prices_by_due, sequence_prices};
 use crate::ranked::{Rank, crowd_front, crowded_above, jobs_by_rank, window_front};
 use crate::sequence::best_order;
 use crate::windows::{jobs_within, strongest_window};
 use std::alloc::{Allocator, Global};
 use tf_bound::certificate::BoundCertificate;
 use tf_bound::fault::BoundFault;
+use tf_bound::prices::is_by_unit;
 use tf_bound::pushed::pushed_task;
 use tf_bound::task::ProblemTask;
 use tf_model::ids::JobId;
@@ -30,6 +33,11 @@ const MOST_VISITS: u64 = 500_000_000;
 
 // The steps that a search for prices takes at most, where the caller does not say how many.
 const USUAL_STEPS: u64 = 1_000;
+
+// How many steps may follow these, and how many visits they may take.
+const MORE_STEPS: u64 = 2_000;
+
+const MORE_VISITS: u64 = 150_000_000;
 
 /// A certificate of a task, and its value.
 #[derive(Drop)]
@@ -306,19 +314,48 @@ fn by_prices<A: Allocator + Copy, B: Allocator, P: Progress>(
     requires { IsFalse (is_shop_env task.now.problem.env) }
     ensures { IfOk result (λ best. IfSome best (IsFoundOn task.now)) }
 {
-    let steps = steps_for(task, effort.steps);
-    if steps == 0 {
+    let budget = budget_for(task, effort.steps);
+    if budget.first == 0 {
         return Ok(None);
     }
-    effort.steps = Some(steps);
     let (order, target) = match best_order(alloc, task) {
         Ok(best) => best,
         Err(BoundFault::OutOfMemory) => return Err(OutOfMemory),
         Err(_) => return Ok(None),
     };
-    let Some(prices) = searched(search_prices(alloc, task, &order, target, effort))? else {
+    let Some(start) = searched(sequence_prices(alloc, task, &order))? else {
         return Ok(None);
     };
+    let best = from_start(alloc, task, start, target, budget, effort)?;
+    effort.is_over();
+    Ok(best)
+}
+
+// The best prices that are found from those of a sequence, which costs the target.
+fn from_start<A: Allocator + Copy, B: Allocator, P: Progress>(
+    alloc: A,
+    task: &ProblemTask<B>,
+    start: Prices<A>,
+    target: u64,
+    budget: Budget,
+    effort: &mut Effort<P>,
+) -> Result<Option<Found<A>>, OutOfMemory>
+    ensures { IfOk result (λ best. IfSome best (IsFoundOn task.now)) }
+{
+    if is_by_unit(task.problem().goal) {
+        return by_due_dates(alloc, task, start, target, budget, effort);
+    }
+    by_rounds(alloc, task, start, target, budget, effort)
+}
+
+// The value of prices.
+fn judged_prices<A: Allocator + Copy, B: Allocator>(
+    alloc: A,
+    task: &ProblemTask<B>,
+    prices: Prices<A>,
+) -> Result<Option<Found<A>>, OutOfMemory>
+    ensures { IfOk result (λ best. IfSome best (IsFoundOn task.now)) }
+{
     let certificate = BoundCertificate::Prices {
         q: prices.q,
         rows: prices.rows,
@@ -326,13 +363,117 @@ fn by_prices<A: Allocator + Copy, B: Allocator, P: Progress>(
     judged(alloc, task, certificate)
 }
 
-// The steps that a search for prices takes: those that were asked for, or as many as a moderate
+// A hasty search, and a patient one from its prices with the steps that it left.
+fn by_rounds<A: Allocator + Copy, B: Allocator, P: Progress>(
+    alloc: A,
+    task: &ProblemTask<B>,
+    start: Prices<A>,
+    target: u64,
+    budget: Budget,
+    effort: &mut Effort<P>,
+) -> Result<Option<Found<A>>, OutOfMemory>
+    ensures { IfOk result (λ best. IfSome best (IsFoundOn task.now)) }
+{
+    let steps = Steps {
+        before: 0,
+        number: budget.first,
+        all: budget.all,
+    };
+    let Some(first) = searched(hasty_search(alloc, task, start, target, steps, effort))? else {
+        return Ok(None);
+    };
+    let left = Steps {
+        before: first.steps,
+        number: budget.all.saturating_sub(first.steps),
+        all: budget.all,
+    };
+    if first.is_met || left.number == 0 {
+        return judged_prices(alloc, task, first.prices);
+    }
+    let finer = finer_prices(alloc, &first.prices)?;
+    let best = judged_prices(alloc, task, first.prices)?;
+    improved(best, by_patience(alloc, task, finer, target, left, effort))
+}
+
+fn by_patience<A: Allocator + Copy, B: Allocator, P: Progress>(
+    alloc: A,
+    task: &ProblemTask<B>,
+    start: Prices<A>,
+    target: u64,
+    steps: Steps,
+    effort: &mut Effort<P>,
+) -> Result<Option<Found<A>>, OutOfMemory>
+    ensures { IfOk result (λ best. IfSome best (IsFoundOn task.now)) }
+{
+    match searched(patient_search(alloc, task, start, target, steps, effort))? {
+        Some(prices) => judged_prices(alloc, task, prices),
+        None => Ok(None),
+    }
+}
+
+// A patient search from prices that fall at due dates, and a hasty one from none, unless the former
+// bounds the cost of a known schedule.
+fn by_due_dates<A: Allocator + Copy, B: Allocator, P: Progress>(
+    alloc: A,
+    task: &ProblemTask<B>,
+    start: Prices<A>,
+    target: u64,
+    budget: Budget,
+    effort: &mut Effort<P>,
+) -> Result<Option<Found<A>>, OutOfMemory>
+    ensures { IfOk result (λ best. IfSome best (IsFoundOn task.now)) }
+{
+    let least = target.min(known_cost(alloc, task)?);
+    let due = prices_by_due(alloc, task, &start)?;
+    let patient = Steps {
+        before: 0,
+        number: budget.all,
+        all: budget.all.saturating_add(budget.first),
+    };
+    let hasty = Steps {
+        before: budget.all,
+        number: budget.first,
+        ..patient
+    };
+    let best = by_patience(alloc, task, due, least, patient, effort)?;
+    if value_of(&best) >= i128::from(least) {
+        return Ok(best);
+    }
+    let Some(first) = searched(hasty_search(alloc, task, start, target, hasty, effort))? else {
+        return Ok(best);
+    };
+    improved(best, judged_prices(alloc, task, first.prices))
+}
+
+// The cost of a schedule of late jobs that the rule of Moore and Hodgson gives, where it has one.
+fn known_cost<A: Allocator, B: Allocator>(
+    alloc: A,
+    task: &ProblemTask<B>,
+) -> Result<u64, OutOfMemory> {
+    let problem = task.problem();
+    if matches!(problem.env, Env::Single) && !problem.release && !problem.prec {
+        return crossed_out_cost(alloc, task);
+    }
+    Ok(u64::MAX)
+}
+
+// How many steps a hasty search takes, and how many all searches from its prices.
+#[derive(Clone, Copy)]
+struct Budget {
+    first: u32,
+    all: u32,
+}
+
+// The steps that searches for prices take: those that were asked for, or as many as a moderate
 // number of visits allows.
-fn steps_for<B: Allocator>(task: &ProblemTask<B>, steps: Option<u32>) -> u32
+fn budget_for<B: Allocator>(task: &ProblemTask<B>, steps: Option<u32>) -> Budget
     requires { IsFalse (is_shop_env task.now.problem.env) }
 {
     if let Some(steps) = steps {
-        return steps;
+        return Budget {
+            first: steps,
+            all: steps,
+        };
     }
     let mut work: u64 = 0;
     let mut last: u64 = 0;
@@ -342,5 +483,13 @@ fn steps_for<B: Allocator>(task: &ProblemTask<B>, steps: Option<u32>) -> u32
     }
     let rows = last.saturating_add(work / u64::from(task.machines()).max(1));
     let visits = rows.saturating_mul(task.len() as u64).max(1);
-    (MOST_VISITS / visits).min(USUAL_STEPS) as u32
+    let first = (MOST_VISITS / visits).min(USUAL_STEPS) as u32;
+    let more = (MORE_VISITS / visits).min(MORE_STEPS) as u32;
+    // A round that is shorter than the first search hardly ever finds more.
+    let all = if more < first {
+        first
+    } else {
+        first.saturating_add(more)
+    };
+    Budget { first, all }
 }
