@@ -20,7 +20,7 @@ returns-then-more-most g c =
       more,
       le,
       c.loop-k.invariant.value,
-      c.penalty-more.ensures,
+      c.penalty-more.ensures.value,
       c.if-more-most.true,
       c.loop-k.invariant.small,
     )
@@ -31,7 +31,7 @@ loop-k-preserved g c =
     let at : ℕ → ℕ = stop_in c.args.jobs.now in
     record {
       value = ap (λ s. s + c.penalty-more.result) c.loop-k.invariant.value
-          ∙ ap (λ x. sum_at c.args.goal k at c.loop-k.k + x) c.penalty-more.ensures
+          ∙ ap (λ x. sum_at c.args.goal k at c.loop-k.k + x) c.penalty-more.ensures.value
           ∙ sym (sum_at_more c.args.goal k at c.loop-k.k c.at-job.result c.stop.result
           c.at-job.ensures c.stop.ensures);
       small = omega (arith, c.if-more-most.false, c.loop-k.invariant.small);
