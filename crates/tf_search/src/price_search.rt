@@ -298,7 +298,9 @@ fn improve<A: Allocator, P: Progress>(
     (steps, pace): (Steps, Pace),
     effort: &mut Effort<P>,
 ) -> (u32, bool) {
-    let goal = i128::from(target.cost) * i128::from(target.q);
+    let goal = i128::from(target.cost)
+        .checked_mul(i128::from(target.q))
+        .unwrap_or(i128::MAX);
     let mut pace = pace;
     let mut most: i128 = -1;
     for step in 0..steps.number {
