@@ -50,7 +50,7 @@ class Browser:
         if self.session and not method.startswith(("Target.", "Browser.", "SystemInfo.")):
             message["sessionId"] = self.session
         os.write(self.write_to, json.dumps(message).encode() + b"\0")
-        deadline = time.monotonic() + 20
+        deadline = time.monotonic() + 90
         while True:
             answer = self.receive(deadline)
             if answer.get("id") == self.last:

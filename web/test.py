@@ -46,11 +46,21 @@ class Page:
 
     def __init__(self, browser, address):
         self.browser, self.address = browser, address
-        self.run, self.wait, self.click, self.type = browser.run, browser.wait, browser.click, browser.type
+        self.run, self.wait, self.click = browser.run, browser.wait, browser.click
 
     def fresh(self):
         self.browser.open(self.address)
         self.wait("document.querySelector('#jobs-table tbody tr')")
+
+    def type(self, selector, text):
+        if selector in ("#notation", "#machines", "#machine-names"):
+            self.open_problem()
+        self.browser.type(selector, text)
+
+    def open_problem(self):
+        """Unfolds the problem, as a click on its line does."""
+        if not self.run("document.getElementById('problem').open"):
+            self.click("#problem > summary")
 
     def text(self, selector):
         return self.run(f"document.querySelector({json.dumps(selector)})?.innerText.trim() ?? null")
@@ -621,6 +631,111 @@ def widths(page):
         if page.run("document.documentElement.scrollWidth") > width:
             raise AssertionError(f"the page is wider than {width} pixels")
         expect(page.run("document.querySelectorAll('.chart .bar').length") >= 12, True)
+
+
+@way
+def list_keeps_its_columns(page):
+    """No column of the list is cut off at the widths of laptops and tablets, and how late a job is stands beside it."""
+    page.import_cells("Order;Sawing (h);Painting (h);Due\nShelves;2;3;2030-12-10\nDesk “Oslo”;4;1;2030-12-11\n")
+    for number in (None, 0):
+        if number is not None:
+            page.example(number)
+        expect(page.texts("#list thead th")[1:3], ["Job", "Lateness"])
+        for width in (768, 1200, 1280, 1366, 1440, 1500, 1920):
+            page.browser.size(width, 800)
+            page.run("new Promise((resolve) => setTimeout(resolve, 100))")
+            if page.run("(() => { const it = document.getElementById('list-scroll'); return it.scrollWidth > it.clientWidth; })()"):
+                raise AssertionError(f"the list is cut off at {width} pixels")
+    page.browser.size(360, 740)
+    expect(page.run("getComputedStyle(document.querySelector('#list tbody tr')).display"), "grid", "cards on a phone")
+    tops = page.run("['.plan', '.jobs'].map((each) => document.querySelector(each).getBoundingClientRect().top)")
+    if tops[0] > tops[1]:
+        raise AssertionError("the jobs stand before the plan on a phone")
+
+
+@way
+def first_screen(page):
+    """On a laptop's first screen are the value and the whole chart; the problem is a line until it is opened."""
+    for width, height in ((1366, 768), (1280, 800)):
+        page.browser.size(width, height)
+        page.example(0)
+        box = page.run("(({ top, bottom }) => [top, bottom])(document.getElementById('chart-frame').getBoundingClientRect())")
+        if box[0] > height / 2 + 100 or box[1] > height:
+            raise AssertionError(f"the chart stands at {box} of {height}")
+    expect(page.run("document.getElementById('problem').open"), False)
+    expect_in("One machine, some jobs after others: the latest job as little late as possible", page.text("#problem > summary"))
+    page.click("#problem > summary")
+    page.notation("1||Lmax")
+    expect(page.run("document.getElementById('problem').open"), True, "what was opened stays open")
+    page.notation("1||")
+    page.click("#problem > summary")
+    page.notation("1||Cmx")
+    expect(page.run("document.getElementById('problem').open"), True, "a fault is seen")
+
+
+@way
+def beginning(page):
+    """The empty page has one main action."""
+    expect(page.texts("main .main, header .main"), ["Paste your jobs here …"])
+    expect(page.run("document.getElementById('print').disabled"), True)
+    page.click("#begin-paste")
+    page.wait("document.getElementById('import').open")
+    page.type("#import-text", "Name,Time,Due\nA,3,4\n")
+    page.click("#import-replace")
+    page.settle()
+    expect(page.run("document.getElementById('begin').hidden"), True)
+    expect(page.run("document.getElementById('print').disabled"), False)
+
+
+@way
+def machine_names(page):
+    """Machines have their names from the headings, or as they are typed: in the chart, the list and the files."""
+    page.import_cells("Order;Sawing (h);Painting (h);Due\nShelves;2;3;2030-12-10\nDesk;4;1;2030-12-11\n")
+    expect(page.value("#machine-names"), "Sawing; Painting")
+    expect_in("Time, Painting", " ".join(page.texts("#jobs-table thead th")))
+
+    def labels():
+        return page.run("[...document.querySelectorAll('.chart .label')].map((each) => each.textContent)")
+    expect(labels(), ["Sawing", "Painting"])
+    expect_in("Shelves, Painting: ", page.run("document.querySelector('.chart').textContent"))
+    page.browser.choose("#sort", "machine")
+    expect(page.texts("#list thead th"), ["Machine", "Start", "Job", "Lateness", "Takes", "Until", "Due"])
+    expect(page.texts("#list tbody td:first-child"), ["Sawing", "Sawing", "Painting", "Painting"])
+    page.run("document.querySelector('[data-save=csv]').click()")
+    saved = page.browser.downloaded("plan.csv").decode("utf-8-sig").split("\r\n")
+    expect([line.split(";")[:2] for line in saved[1:3]], [["Shelves", "Sawing"], ["Desk", "Sawing"]])
+    page.run("document.querySelector('[data-save=table]').click()")
+    table = page.browser.downloaded("plan-table.txt").decode()
+    expect(table.split("\n")[:3], ["table 1", "# machine 1: Sawing", "# machine 2: Painting"])
+    page.run("document.querySelector('[data-save=state]').click()")
+    state = page.browser.downloaded("plan.json")
+    page.type("#machine-names", "Saw")
+    page.settle()
+    expect(labels(), ["Saw", "Machine 2"])
+    for text in (state, table):
+        page.fresh()
+        page.open_text("plan.txt", text)
+        page.wait("document.getElementById('machine-names').value === 'Sawing; Painting'")
+
+
+@way
+def work_lists(page):
+    """Print has a list for each machine, with a box to tick; on one machine the list by jobs has the boxes."""
+    page.import_cells("Order;Sawing (h);Painting (h);Due\nShelves;2;3;2030-12-10\nDesk;4;1;2030-12-11\n")
+    print_events = "window.dispatchEvent(new Event('beforeprint'))"
+    page.run(print_events)
+    page.browser.call("Emulation.setEmulatedMedia", media="print")
+    expect(page.texts(".work-list h3"), ["Sawing", "Painting"])
+    expect(page.texts(".work-list:last-child th"), ["Start", "Job", "Takes", "Until", "Due", "Done"])
+    rows = [line.split("\t") for line in page.texts(".work-list:last-child tbody tr")]
+    expect([(row[1], row[2]) for row in rows], [("Shelves", "3 h"), ("Desk", "1 h")])
+    page.browser.call("Emulation.setEmulatedMedia", media="")
+    page.run("window.dispatchEvent(new Event('afterprint'))")
+    expect(page.run("document.querySelectorAll('.work-list').length"), 0)
+    page.example(0)
+    page.run(print_events)
+    expect(page.run("document.querySelectorAll('.work-list').length"), 0)
+    expect(page.texts("#list thead th")[-1], "Done")
 
 
 @way

@@ -178,12 +178,17 @@ function momentOf(calendar, step, isEnd) {
   return null;
 }
 
-/** A step as a moment for people, such as "Mon 3 Mar 08:00"; a number without a calendar. */
-export function momentText(calendar, step, isEnd) {
+/**
+ * A step as a moment for people, such as "Mon 3 Mar 08:00"; a number without a calendar. The end of
+ * a working day may go without its time of day.
+ */
+export function momentText(calendar, step, isEnd, isShort = false) {
   if (!calendar) return String(step);
   const moment = momentOf(calendar, step, isEnd);
   if (!moment) return `step ${step}`;
-  return `${dayText(calendar, moment.day)} ${clockText(moment.clock)}`;
+  const day = dayText(calendar, moment.day);
+  const isDayEnd = isEnd && moment.clock === calendar.spans.at(-1)[1];
+  return isShort && isDayEnd ? day : `${day} ${clockText(moment.clock)}`;
 }
 
 /** A step as a moment for spreadsheets, such as "2025-03-03 08:00". */

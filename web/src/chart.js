@@ -1,6 +1,7 @@
 // The Gantt chart of a plan as SVG: a window of time, perhaps folded into several lines.
 
 import { dayStarts, lengthText, momentText } from "./calendar.js";
+import { machineName } from "./machines.js";
 import { lateness } from "./plan.js";
 import { fitted, svg, textWidth } from "./svg.js";
 
@@ -19,6 +20,8 @@ const ROOM_FOR_MARK = 12;
 const ROOM_FOR_IDLE = 30;
 const MOST_LINKS = 300;
 const MOST_LINKED = 20000;
+const MOST_NAMED = 100;
+const MOST_LABEL = 140;
 
 /**
  * What of a plan is drawn, and how.
@@ -75,7 +78,7 @@ function frameOf(plan, view) {
   const share = (view.to - view.from) / Math.max(1, plan.length) / view.lines / plan.machines;
   const hasMarks = view.marks && row >= 18 && plan.jobs.length * share * ROOM_FOR_MARK < view.width
     && plan.jobs.some((job) => job.due !== null || job.hasRelease && plan.usesRelease);
-  const labels = plan.machines.toString().length * 8 + (view.width < 500 ? 16 : 62);
+  const labels = labelWidth(plan, view.width);
   const rowHeight = row + (hasMarks ? LANE : 0) + 4;
   const lineHeight = AXIS + plan.machines * rowHeight + GAP;
   return {
@@ -83,6 +86,14 @@ function frameOf(plan, view) {
     width: view.width, height: lineHeight * view.lines,
     pixels: (view.width - labels - 14) / ((view.to - view.from) / view.lines),
   };
+}
+
+/** The room before a row for the machine's name, or on a narrow page for its number. */
+function labelWidth({ machines, names }, width) {
+  if (width < 500 && !names.some(Boolean)) return machines.toString().length * 8 + 16;
+  const widths = Array.from({ length: Math.min(machines, MOST_NAMED) },
+    (_, k) => textWidth(machineName(names, k + 1), TEXT));
+  return Math.min(Math.max(...widths) + 12, MOST_LABEL, width / 4);
 }
 
 function patterns() {
@@ -161,7 +172,9 @@ function ticks(calendar, from, to, most) {
 
 function drawRow(plan, frame, row) {
   const group = svg("g", { transform: `translate(0 ${row.top})` });
-  const label = frame.isNarrow || frame.row < 18 ? String(row.machine) : `Machine ${row.machine}`;
+  const isShort = !plan.names[row.machine - 1] && (frame.isNarrow || frame.row < 18);
+  const label = isShort ? String(row.machine)
+    : fitted(machineName(plan.names, row.machine), TEXT, frame.left - 10);
   const left = row.x(row.from);
   const right = row.x(Math.min(row.to, Math.max(plan.length, row.from)));
   group.append(
@@ -277,8 +290,9 @@ function barTitle(plan, job, machine, start, stop) {
   const due = late === null ? "" : momentText(calendar, at.due, true);
   const isReleased = at?.hasRelease && plan.usesRelease;
   const words = [
-    `${at?.name ?? `job ${job + 1}`}, machine ${machine}: ${momentText(calendar, start, false)} to `
-      + `${momentText(calendar, stop, true)} (${lengthText(calendar, stop - start)})`,
+    `${at?.name ?? `job ${job + 1}`}, ${machineName(plan.names, machine)}: `
+      + `${momentText(calendar, start, false)} to ${momentText(calendar, stop, true)} `
+      + `(${lengthText(calendar, stop - start)})`,
     isReleased ? `released ${momentText(calendar, at.release, false)}` : null,
     late === null ? null : `due ${due}: ${latenessWords(calendar, late)}`,
   ];

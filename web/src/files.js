@@ -73,11 +73,11 @@ export class Files {
   }
 
   openTable(text, name) {
-    const { rows, machines, faults } = readTable(text);
+    const { rows, machines, machineNames, faults } = readTable(text);
     const { store } = this.page;
     const isLost = store.hasUnsavedWork;
     const hasTimes2 = rows.some((row) => row.time2 !== "");
-    store.change({ rows, kept: null, ...(machines ? { machines } : {}),
+    store.change({ rows, kept: null, machineNames, ...(machines ? { machines } : {}),
       settings: { ...store.state.settings, step: "plain" } });
     this.page.notify(`${name}: ${rows.length} jobs were read.${hasTimes2 ? " They have two times, "
       + "so choose a flow shop or an open shop." : ""} ${faults.slice(0, 3).join(" ")}`
@@ -143,7 +143,7 @@ export class Files {
       store.isSaved = true;
     } else if (kind === "table") {
       if (!now) return notify("There is no job table yet: the jobs have to be corrected first.");
-      saveFile(`${name}-table.txt`, namedText(now.table), "text/plain");
+      saveFile(`${name}-table.txt`, namedText(now.table, shown?.plan.names), "text/plain");
     } else if (!shown) notify("There is no plan yet, so there is nothing to save.");
     else if (kind === "answer") saveFile(`${name}-answer.txt`, shown.answer, "text/plain");
     else if (kind === "csv") {

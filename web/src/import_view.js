@@ -1,7 +1,8 @@
 // The dialog in which cells of a spreadsheet become rows of the table.
 
 import { guess } from "./guesses.js";
-import { readCells, readColumns, rowsOfCells, unitOfTimes } from "./spreadsheet.js";
+import { machineText } from "./machines.js";
+import { machinesOf, readCells, readColumns, rowsOfCells, unitOfTimes } from "./spreadsheet.js";
 import { shortened } from "./precedence.js";
 import { html } from "./svg.js";
 import { FIELDS, FIELD_WORDS, newRow } from "./table.js";
@@ -89,6 +90,8 @@ export class ImportView {
     const rows = rowsOfCells(this.cells, this.columns, unit).map((values) => newRow(values));
     const { patch, hints } = guess(state, rows, unit, replaces);
     Object.assign(patch, { rows: replaces ? rows : [...state.rows, ...rows] });
+    const machines = machineText(machinesOf(this.columns));
+    if (replaces || machines) patch.machineNames = machines;
     if (replaces) Object.assign(patch, { kept: null, title: "" });
     this.dialog.close();
     this.store.change(patch);

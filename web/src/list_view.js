@@ -1,16 +1,14 @@
-// The plan as a list, a line for each job by its name.
+// The plan as a list: a line for each job by its name, or for each machine its work in order.
 
 import { latenessWords } from "./chart.js";
 import { lengthText, momentText } from "./calendar.js";
+import { machineName } from "./machines.js";
 import { release } from "./memory.js";
 import { Pager } from "./pager.js";
 import { lateness } from "./plan.js";
 import { html, setChildren } from "./svg.js";
 
 const MOST_PRINTED = 3000;
-// The columns of a line that are more than words.
-const NAME = 1;
-const LATENESS = 6;
 const alphabet = new Intl.Collator(undefined, { numeric: true });
 
 export class ListView {
@@ -19,15 +17,22 @@ export class ListView {
     this.table = document.getElementById("list");
     this.sort = document.getElementById("sort");
     this.lateOnly = document.getElementById("late-only");
-    this.pager = new Pager(document.getElementById("list-pager"), "Jobs", () => this.draw());
+    this.workLists = document.getElementById("work-lists");
+    this.pager = new Pager(document.getElementById("list-pager"), "Lines", () => this.draw());
     this.onChoose = onChoose;
     this.plan = null;
     this.lines = new Map();
     for (const input of [this.sort, this.lateOnly]) {
       input.addEventListener("change", () => this.arrange());
     }
-    window.addEventListener("beforeprint", () => this.draw(true));
-    window.addEventListener("afterprint", () => this.draw());
+    window.addEventListener("beforeprint", () => {
+      this.draw(true);
+      this.drawWorkLists();
+    });
+    window.addEventListener("afterprint", () => {
+      this.workLists.replaceChildren();
+      this.draw();
+    });
   }
 
   /**
@@ -40,7 +45,16 @@ export class ListView {
     this.arrange();
   }
 
-  /** Sorts the jobs as is chosen. */
+  /** Whether a line is a piece of work on a machine, and not a job. */
+  get isByMachine() {
+    return this.sort.value === "machine";
+  }
+
+  jobOf(item) {
+    return this.isByMachine ? this.plan.schedule.job[item] - 1 : item;
+  }
+
+  /** Sorts the jobs, or the pieces of work, as is chosen. */
   arrange() {
     const { plan } = this;
     if (!plan) return;
@@ -53,80 +67,138 @@ export class ListView {
       row: () => 0,
     }[this.sort.value];
     if (this.order) release({ order: this.order });
-    const all = new Uint32Array(plan.jobs.length);
-    let count = 0;
-    plan.jobs.forEach((_, job) => {
-      if (!this.lateOnly.checked || late(job) > 0) all[count++] = job;
-    });
-    this.order = all.subarray(0, count).sort((a, b) => by(a, b) || a - b);
+    const isShown = (item) => !this.lateOnly.checked || late(this.jobOf(item)) > 0;
+    const all = this.isByMachine ? plan.order.slice() : Uint32Array.from(plan.jobs, (_, job) => job);
+    this.order = all.filter(isShown);
+    release({ all });
+    if (!this.isByMachine) this.order.sort((a, b) => by(a, b) || a - b);
+    if (this.wasByMachine !== this.isByMachine) this.lines = new Map();
+    this.wasByMachine = this.isByMachine;
     this.draw();
   }
 
   draw(isPrint = false) {
     if (!this.plan) return;
-    const hasDue = this.plan.jobs.some((job) => job.due !== null);
-    const hasCounts = this.plan.problem.endsWith("hmax") && this.plan.counts;
+    const columns = this.isByMachine ? this.pieceColumns() : this.jobColumns();
+    if (isPrint && !this.hasWorkLists) columns.push({ head: "Done", wordsOf: () => "" });
     this.pager.show(this.order.length);
     const [first, end] = isPrint ? [0, Math.min(MOST_PRINTED, this.order.length)]
       : [this.pager.first, this.pager.end];
-    const heads = ["#", "Job", "Machine", "Start", "Completion",
-      ...(hasDue ? ["Due", "Lateness"] : []), ...(hasCounts ? ["Cost"] : []),
-      ...(this.comparison ? ["Against the kept plan"] : [])];
+    const heads = columns.map(({ head }) => head);
     if (heads.join() !== this.heads) {
       this.heads = heads.join();
+      this.lines = new Map();
       this.table.tHead.replaceChildren(html("tr", {},
         heads.map((words) => html("th", { scope: "col" }, words))));
     }
     const before = this.lines;
     this.lines = new Map();
-    for (const job of this.order.subarray(first, end)) {
-      const words = this.wordsOf(job, hasDue, hasCounts);
-      const known = before.get(job);
-      const isSame = known && known.words.join("\n") === words.join("\n");
-      this.lines.set(job, isSame ? known : { words, line: this.line(job, words, hasDue) });
+    for (const item of this.order.subarray(first, end)) {
+      const words = columns.map(({ wordsOf }) => wordsOf(item));
+      const known = before.get(item);
+      const job = this.jobOf(item);
+      const isSame = known?.job === job && known.words.join("\n") === words.join("\n");
+      this.lines.set(item, isSame ? known : { job, words, line: this.line(job, words, columns) });
     }
     setChildren(this.table.tBodies[0], [...this.lines.values()].map(({ line }) => line));
   }
 
-  /** What stands in the cells of a job's line. */
-  wordsOf(job, hasDue, hasCounts) {
+  /** The columns of jobs: how late one is stands beside its name, where no width cuts it off. */
+  jobColumns() {
     const { plan } = this;
     const { calendar } = plan;
-    const late = lateness(plan, job);
-    const words = [String(plan.jobs[job].row + 1), plan.jobs[job].name, this.machineWords(job),
-      momentText(calendar, plan.start[job], false),
-      momentText(calendar, plan.completion[job], true)];
-    if (hasDue && late === null) words.push("", "");
-    else if (hasDue) {
-      words.push(momentText(calendar, plan.jobs[job].due, true), latenessWords(calendar, late));
-    }
-    if (hasCounts) words.push(plan.counts[job]);
-    if (this.comparison) words.push(this.movedWords(job));
-    return words;
+    const hasDue = plan.jobs.some((job) => job.due !== null);
+    const hasCounts = plan.problem.endsWith("hmax") && plan.counts;
+    return [
+      { head: "#", wordsOf: (job) => String(plan.jobs[job].row + 1) },
+      { head: "Job", isName: true, wordsOf: (job) => plan.jobs[job].name },
+      hasDue && { head: "Lateness", isLateness: true, wordsOf: (job) => this.lateWords(job) },
+      this.comparison && { head: "Against the kept plan", wordsOf: (job) => this.movedWords(job) },
+      hasCounts && { head: "Cost", wordsOf: (job) => plan.counts[job] },
+      plan.machines > 1 && { head: "Machine", wordsOf: (job) => this.machineWords(job) },
+      { head: "Start", wordsOf: (job) => momentText(calendar, plan.start[job], false) },
+      { head: "Until", wordsOf: (job) => momentText(calendar, plan.completion[job], true) },
+      hasDue && { head: "Due", wordsOf: (job) => this.dueWords(job) },
+    ].filter(Boolean);
   }
 
-  line(job, words, hasDue) {
+  /** The columns of pieces of work, as they are done on each machine. */
+  pieceColumns() {
+    const { plan } = this;
+    const { calendar, schedule } = plan;
+    const hasDue = plan.jobs.some((job) => job.due !== null);
+    const of = (words) => (piece) => words(schedule.job[piece] - 1);
+    return [
+      { head: "Machine", wordsOf: (piece) => machineName(plan.names, schedule.machine[piece]) },
+      { head: "Start", wordsOf: (piece) => momentText(calendar, schedule.start[piece], false) },
+      { head: "Job", isName: true, wordsOf: of((job) => plan.jobs[job].name) },
+      hasDue && { head: "Lateness", isLateness: true, wordsOf: of((job) => this.lateWords(job)) },
+      { head: "Takes", wordsOf: (piece) =>
+        lengthText(calendar, schedule.stop[piece] - schedule.start[piece]) },
+      { head: "Until", wordsOf: (piece) => momentText(calendar, schedule.stop[piece], true) },
+      hasDue && { head: "Due", wordsOf: of((job) => this.dueWords(job)) },
+    ].filter(Boolean);
+  }
+
+  lateWords(job) {
+    const late = lateness(this.plan, job);
+    return late === null ? "" : latenessWords(this.plan.calendar, late);
+  }
+
+  /** A due date; the end of a working day goes without its time of day. */
+  dueWords(job) {
+    const { due } = this.plan.jobs[job];
+    return due === null ? "" : momentText(this.plan.calendar, due, true, true);
+  }
+
+  line(job, words, columns) {
     const isLate = lateness(this.plan, job) > 0;
-    const cells = words.map((each, column) => {
-      if (column === NAME) {
+    const cells = words.map((each, place) => {
+      const { head, isName, isLateness } = columns[place];
+      if (isName) {
         return html("th", { scope: "row" }, html("button", { type: "button", class: "link",
           click: () => this.onChoose(job) }, each));
       }
-      const isMarked = hasDue && column === LATENESS && isLate;
-      return html("td", {}, isMarked ? html("span", { class: "late-words" }, each) : each);
+      return html("td", { "data-head": head },
+        isLateness && isLate ? html("span", { class: "late-words" }, each) : each);
     });
     return html("tr", { class: isLate ? "is-late" : "" }, cells);
   }
 
+  /** Whether print has a list for each machine: on one machine the list by jobs says it all. */
+  get hasWorkLists() {
+    const { machines, isPreempted, order } = this.plan;
+    return (machines > 1 || isPreempted) && order.length <= MOST_PRINTED;
+  }
+
+  /** For print: what is done on each machine, one after another, with a box to tick. */
+  drawWorkLists() {
+    const { plan, workLists } = this;
+    workLists.replaceChildren();
+    if (!plan || !this.hasWorkLists) return;
+    const columns = this.pieceColumns().filter(({ head }) => head !== "Machine" && head !== "Lateness");
+    const heads = [...columns.map(({ head }) => head), "Done"];
+    plan.rows.forEach(([first, end], k) => {
+      if (first === end) return;
+      const lines = [...plan.order.subarray(first, end)].map((piece) => html("tr", {},
+        [...columns.map(({ wordsOf }) => wordsOf(piece)), ""].map((words) => html("td", {}, words))));
+      workLists.append(html("section", { class: "work-list" },
+        html("h3", {}, machineName(plan.names, k + 1)),
+        html("table", {}, html("thead", {}, html("tr", {}, heads.map((words) => html("th",
+          { scope: "col" }, words)))), html("tbody", {}, lines))));
+    });
+  }
+
   /** The machines of a job, and in how many pieces it is where it is preempted. */
   machineWords(job) {
-    const { pieces, machine, schedule, order, isPreempted } = this.plan;
-    if (pieces[job] <= 1) return pieces[job] === 0 ? "" : String(machine[job]);
+    const { pieces, machine, schedule, order, isPreempted, names } = this.plan;
+    const word = (each) => names[each - 1] || String(each);
+    if (pieces[job] <= 1) return pieces[job] === 0 ? "" : word(machine[job]);
     const found = new Set();
     for (const piece of order) {
       if (schedule.job[piece] === job + 1) found.add(schedule.machine[piece]);
     }
-    const machines = [...found].sort((a, b) => a - b).join(", ");
+    const machines = [...found].sort((a, b) => a - b).map(word).join(", ");
     return isPreempted ? `${machines} (${pieces[job]} pieces)` : machines;
   }
 

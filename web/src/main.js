@@ -7,6 +7,7 @@ import { EXAMPLE_TITLES, exampleState } from "./examples.js";
 import { Files } from "./files.js";
 import { ImportView } from "./import_view.js";
 import { JudgeView } from "./judge_view.js";
+import { machineNames } from "./machines.js";
 import { hasShown, release } from "./memory.js";
 import { keepPlan, makePlan } from "./plan.js";
 import { PlanView, startOfText } from "./plan_view.js";
@@ -25,7 +26,7 @@ const REST = 150;
 const PATIENCE = 400;
 const UNKNOWN = new Set(FIELDS.filter((field) => field !== "time2"));
 const WELCOME = "Paste your jobs from a spreadsheet, type them into the table, or choose an "
-  + "example. The plan is made as you type.";
+  + "example: the plan is made as you type.";
 
 class Page {
   constructor() {
@@ -62,7 +63,9 @@ class Page {
       if (number !== "") this.files.replace(exampleState(Number(number)));
       at("example").value = "";
     });
-    at("paste").addEventListener("click", () => this.importView.open());
+    for (const id of ["paste", "begin-paste"]) {
+      at(id).addEventListener("click", () => this.importView.open());
+    }
     at("undo").addEventListener("click", () => this.store.undo());
     at("print").addEventListener("click", () => window.print());
     at("title").addEventListener("input", () =>
@@ -104,7 +107,8 @@ class Page {
   changed(state, before, isTyped) {
     if (state.rows !== before.rows && !this.rowsView.isTyping) this.rowsView.draw();
     const isOther = (...fields) => fields.some((field) => state[field] !== before[field]);
-    if (isOther("problem", "machines")) this.problemView.draw();
+    if (isOther("problem", "machines", "machineNames")) this.problemView.draw();
+    if (isOther("machineNames")) this.rowsView.drawHead();
     if (isOther("settings")) this.calendarView.draw();
     const title = document.getElementById("title");
     if (title.value !== state.title) title.value = state.title;
@@ -115,7 +119,7 @@ class Page {
       this.judgeView.clear();
       clearTimeout(this.timer);
       this.timer = setTimeout(() => this.update(), isTyped ? REST : 0);
-    } else if (isOther("kept")) this.showPlan();
+    } else if (isOther("kept", "machineNames")) this.showPlan();
     this.showPrintHead();
   }
 
@@ -162,9 +166,17 @@ class Page {
   /** Says why there is no plan now. */
   wait(message, isEmpty = false) {
     if (isEmpty) this.planView.clear();
+    this.showBeginning(isEmpty);
     this.shown = null;
     this.planView.setBusy(false);
     this.planView.showMessage(this.cannotRun ?? message);
+  }
+
+  /** An empty page has one main action, and nothing to print, save or send. */
+  showBeginning(isEmpty) {
+    document.getElementById("begin").hidden = !isEmpty;
+    document.querySelector("main").classList.toggle("has-plan", !isEmpty);
+    for (const id of ["print", "link"]) document.getElementById(id).disabled = isEmpty;
   }
 
   async solve(version, now) {
@@ -174,7 +186,8 @@ class Page {
     if (version !== this.version) return undefined;
     if (!reply) return this.wait("Stopped. Any change solves again.");
     if (reply.status !== 0) return this.refused(version, reply);
-    const plan = makePlan(now.table, reply.schedule, reply.evaluation, now.calendar);
+    const plan = makePlan(now.table, reply.schedule, reply.evaluation, now.calendar,
+      machineNames(this.store.state.machineNames));
     const before = this.drawn;
     this.shown = { plan, evaluation: reply.evaluation, answer: reply.answer,
       assumptions: assumptionsOf(now.table, now.calendar, this.store.state) };
@@ -197,7 +210,10 @@ class Page {
 
   showPlan() {
     if (!this.shown) return;
+    this.showBeginning(false);
+    this.problemView.fold();
     const { plan, evaluation, answer, assumptions } = this.shown;
+    plan.names = machineNames(this.store.state.machineNames);
     this.planView.show(plan, evaluation, this.store.state.kept, answer, assumptions);
     this.showPrintHead();
     this.planView.setBusy(false);

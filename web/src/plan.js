@@ -11,8 +11,9 @@ export const COLOURS = 8;
  * @param {import("./answer.js").Schedule} schedule
  * @param {object} evaluation as `readEvaluation` gives it, of the same schedule
  * @param {?object} calendar
+ * @param {string[]} names of the machines
  */
-export function makePlan(table, schedule, evaluation, calendar) {
+export function makePlan(table, schedule, evaluation, calendar, names) {
   const count = table.jobs.length;
   const order = sortedPieces(schedule);
   const pieces = new Uint32Array(count);
@@ -24,7 +25,7 @@ export function makePlan(table, schedule, evaluation, calendar) {
   }
   return {
     jobs: table.jobs, index: table.index, calendar, schedule, order, pieces, machine,
-    machines: schedule.machines,
+    machines: schedule.machines, names,
     rows: machineRows(schedule, order),
     colour: colourJobs(schedule, order, count),
     start: evaluation.start, completion: evaluation.completion, counts: evaluation.counts,

@@ -87,7 +87,7 @@ export class PlanView {
       html("p", { class: "value" }, html("span", { class: "proved" }, "proved optimal"),
         html("span", {}, `${goal[0].toUpperCase()}${goal.slice(1)}: `, html("strong", {}, value))),
       html("p", {}, `No schedule of these ${plan.jobs.length} jobs has a smaller value.`,
-        late > 0 ? html("span", { class: "late-words" }, late === 1 ? " One job is late."
+        late === 0 ? inTimeWords(plan) : null, late > 0 ? html("span", { class: "late-words" }, late === 1 ? " One job is late."
           : ` ${late} jobs are late.`) : null), this.assumed(assumptions));
     this.at("headline").className = "headline good";
   }
@@ -139,6 +139,14 @@ export class PlanView {
     place.replaceChildren(html("p", {}, html("strong", {}, "Against the kept plan: "),
       changeWords(plan, kept, comparison)), html("p", { class: "tools" }, keep, forget));
   }
+}
+
+/** That all jobs are in time, and by how much the tightest of them is. */
+function inTimeWords(plan) {
+  const early = plan.jobs.reduce((least, job, place) => job.due === null ? least
+    : Math.min(least, job.due - plan.completion[place]), Infinity);
+  return early === Infinity ? null
+    : ` All are in time, the tightest ${early === 0 ? "just so" : `by ${lengthText(plan.calendar, early)}`}.`;
 }
 
 /** What changed against a kept plan, in a sentence. */

@@ -13,6 +13,11 @@ export class ProblemView {
     this.at = (id) => document.getElementById(id);
     this.checks = [...document.querySelectorAll("[data-condition]")];
     this.notes = this.at("problem-notes");
+    this.details = this.at("problem");
+    this.isWanted = false;
+    this.details.querySelector("summary").addEventListener("click", () => {
+      this.isWanted = !this.details.open;
+    });
     this.at("environment").append(
       ...problems.ENVIRONMENTS.map(({ id, words }) => new Option(words, id)),
       new Option("Other, in notation", OTHER));
@@ -24,6 +29,13 @@ export class ProblemView {
       this.store.change({ problem: this.at("notation").value }, "notation"));
     this.at("machines").addEventListener("input", () =>
       this.store.change({ machines: this.at("machines").value }, "machines"));
+    this.at("machine-names").addEventListener("input", () =>
+      this.store.change({ machineNames: this.at("machine-names").value }, "machine names"));
+  }
+
+  /** Folds the problem into a line in words, unless somebody has opened it. */
+  fold() {
+    if (!this.isWanted) this.details.open = false;
   }
 
   /** Makes the notation of what was chosen in words. */
@@ -47,13 +59,14 @@ export class ProblemView {
 
   /** Shows the state's problem in all the fields. */
   draw() {
-    const { problem: text, machines } = this.store.state;
+    const { problem: text, machines, machineNames } = this.store.state;
     const problem = problems.readNotation(text);
     const set = (id, value) => {
       if (this.at(id).value !== value) this.at(id).value = value;
     };
     set("notation", text);
     set("machines", machines);
+    set("machine-names", machineNames);
     const isKnown = problems.ENVIRONMENTS.some((each) => each.id === problem?.environment);
     set("environment", isKnown ? problem.environment : OTHER);
     this.drawObjectives(problem);
@@ -80,10 +93,14 @@ export class ProblemView {
    * @param {?object} table
    */
   show(findings, table) {
-    const problem = problems.readNotation(this.store.state.problem);
+    const { problem: text } = this.store.state;
+    const problem = problems.readNotation(text);
     const name = problem && problems.classOf(problem);
     const lines = findings.map(({ isFault, message }) =>
       html("p", { class: isFault ? "fault" : "note" }, message));
+    const isWrong = !problem || findings.some((each) => each.isFault);
+    if (isWrong) this.details.open = true;
+    this.at("problem-words").textContent = problem ? problems.inShort(problem) : text;
     this.at("notation").toggleAttribute("aria-invalid", findings.some((each) => each.isFault));
     if (problem && problems.SOLVED.has(name)) {
       lines.unshift(html("p", {}, html("strong", {}, name), ` is solved exactly: `

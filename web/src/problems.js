@@ -119,6 +119,26 @@ export function columnsUsed(problem) {
     ...parts.flatMap((part) => part.uses)]);
 }
 
+/** A problem in a planner's words: “One machine, A before B: no job later than it has to be”. */
+export function inShort(problem) {
+  const { environment, count, conditions, objective } = problem;
+  const where = { 1: "One machine", P: `${count ?? "Several"} like machines`,
+    F: "One machine, then the other", O: "Two machines in any order", J: "Job shop",
+    Q: "Machines of different speeds", R: "Machines that differ" }[environment];
+  const rules = { prec: "some jobs after others", rj: "jobs that come later",
+    prmp: "jobs may be interrupted" };
+  const kept = conditions.map((id) => rules[id]).filter(Boolean);
+  return `${[where, ...kept].join(", ")}: ${GOALS[objective]}`;
+}
+
+const GOALS = {
+  Lmax: "the latest job as little late as possible", hmax: "the greatest cost as small as possible",
+  Cmax: "all work done as early as possible", sumC: "jobs done as early as possible on average",
+  sumwC: "important jobs done early", sumT: "as little lateness as possible in total",
+  sumwT: "as little lateness of important jobs as possible", sumU: "as few late jobs as possible",
+  sumwU: "as few late important jobs as possible",
+};
+
 /** A problem in a sentence, such as "One machine: minimize the maximum lateness". */
 export function describe(problem) {
   const { environment, count, conditions, objective } = problem;

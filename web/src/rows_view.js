@@ -1,6 +1,7 @@
 // The planner's table: rows of inputs, and under each row what is wrong with it.
 
 import { assumedOf } from "./calendar.js";
+import { machineNames } from "./machines.js";
 import { Pager, PAGE } from "./pager.js";
 import { html } from "./svg.js";
 import { FIELDS, FIELD_WORDS, newRow } from "./table.js";
@@ -65,8 +66,12 @@ export class RowsView {
   drawHead() {
     const unused = (field) => html("span", { class: "unused" },
       field === "due" ? " (shown only)" : " (not used)");
-    const words = (field) => field === "time" && this.used.has("time2") ? "Time on machine 1"
-      : FIELD_WORDS[field];
+    const names = machineNames(this.store.state.machineNames);
+    const words = (field) => {
+      const machine = { time: 1, time2: 2 }[field];
+      if (!machine || !this.used.has("time2")) return FIELD_WORDS[field];
+      return names[machine - 1] ? `Time, ${names[machine - 1]}` : `Time on machine ${machine}`;
+    };
     const heads = (this.shown ?? []).map((field) => html("th", { scope: "col" },
       words(field), this.used.has(field) ? null : unused(field)));
     this.head.replaceChildren(html("tr", {}, html("th", { scope: "col" }, "#"), heads,

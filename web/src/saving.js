@@ -34,7 +34,7 @@ export function planAsCsv(plan, { delimiter, decimal }) {
     const job = schedule.job[piece] - 1;
     const late = lateness(plan, job);
     parts.push(line(
-      jobs[job].name, schedule.machine[piece],
+      jobs[job].name, plan.names[schedule.machine[piece] - 1] || schedule.machine[piece],
       momentField(calendar, schedule.start[piece], false),
       momentField(calendar, schedule.stop[piece], true),
       hours(schedule.stop[piece] - schedule.start[piece]),

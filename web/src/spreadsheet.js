@@ -215,6 +215,14 @@ export function rowsOfCells(cells, columns, plain = null) {
   });
 }
 
+/** The names of two machines, where the headings of their times are no words for a time. */
+export function machinesOf({ fields, headings }) {
+  const places = [fields.lastIndexOf("time"), fields.lastIndexOf("time2")];
+  if (!headings || places.includes(-1)) return [];
+  return places.map((place) => partsOfHeading(headings[place]))
+    .map(({ field, words }) => field === null ? words : "");
+}
+
 /** The unit of numbers in the time column, as its heading has it, or null. */
 export function unitOfTimes({ fields, units }) {
   return units[fields.lastIndexOf("time")] ?? null;

@@ -12,13 +12,14 @@ export const LONGEST_LINK = 16000;
 /**
  * @typedef {object} State
  * @property {string} title @property {string} problem the notation @property {string} machines
+ * @property {string} machineNames as `machineNames` reads them
  * @property {object} settings of the calendar @property {object[]} rows @property {?object} kept
  */
 
 /** @returns {State} */
 export function emptyState() {
-  return { title: "", problem: "1||Lmax", machines: "", settings: defaultSettings(), rows: [],
-    kept: null };
+  return { title: "", problem: "1||Lmax", machines: "", machineNames: "",
+    settings: defaultSettings(), rows: [], kept: null };
 }
 
 /** Writes a state as JSON; rows are lists of texts in the order of FIELDS, after their identity. */
@@ -43,7 +44,7 @@ export function readState(text) {
     return null;
   }
   const state = emptyState();
-  for (const field of ["title", "problem", "machines"]) {
+  for (const field of ["title", "problem", "machines", "machineNames"]) {
     state[field] = textOr(data[field], state[field]);
   }
   state.settings = readSettings(data.settings);
@@ -77,7 +78,7 @@ function readSettings(data) {
   return settings;
 }
 
-/** The kept plan; its rows are known by the identities that they have now, or 0 where they are gone. */
+/** The kept plan; its rows are known by the identities that they have now, 0 where they are gone. */
 function readKept(data, identities) {
   if (typeof data !== "object" || data === null) return null;
   const lists = ["ids", "names", "start", "completion"].map((field) => data[field]);

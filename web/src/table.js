@@ -1,6 +1,7 @@
 // Rows, as people write them, to the job table that the solver reads, and back.
 
 import { lengthText, readDuration, readMoment } from "./calendar.js";
+import { machineText } from "./machines.js";
 import { NameIndex, quoteName, shortened, splitNames } from "./precedence.js";
 
 /** The columns of a row, all of them text as it was written. */
@@ -14,6 +15,7 @@ export const FIELD_WORDS = {
 const LARGEST = 4n * 10n ** 18n;
 const MOST_TOTAL = 9e15;
 const MOST_JOBS = 100000;
+const MOST_MACHINES = 1000;
 const MOST_ARCS = 200000;
 const AT_ONCE = 20;
 const LINES_AT_ONCE = 500;
@@ -299,15 +301,16 @@ export function placeOfLine(table, line) {
   return arc ? { row: table.jobs[arc[1]].row, field: "after" } : { row: null, field: null };
 }
 
-/** The table's text with a comment for the name of each job, as it is saved. */
-export function namedText(table) {
+/** The table's text with a comment for the name of each machine and job, as it is saved. */
+export function namedText(table, machines = []) {
   const lines = new TextDecoder().decode(table.bytes).split("\n");
   const heading = lines.shift();
   const named = table.jobs.flatMap((job, place) => {
     const name = job.name.replace(/[\r\n\t]+/g, " ");
     return [`# job ${place + 1}: ${name}`, lines[place]];
   });
-  return [heading, ...named, ...lines.slice(table.jobs.length)].join("\n");
+  const ofMachines = machines.flatMap((name, k) => name ? [`# machine ${k + 1}: ${name}`] : []);
+  return [heading, ...ofMachines, ...named, ...lines.slice(table.jobs.length)].join("\n");
 }
 
 /** The first line of a text that is neither empty nor a comment, without space around it. */
@@ -331,21 +334,26 @@ export function isAnswer(text) {
 }
 
 /**
- * Reads a job table into rows. Comments "# job 3: name" give names.
+ * Reads a job table into rows. Comments "# job 3: name" and "# machine 1: name" give names.
  * @param {string} text
- * @returns {{rows: object[], machines: ?string, faults: string[]}}
+ * @returns {{rows: object[], machines: ?string, machineNames: string, faults: string[]}}
  */
 export function readTable(text) {
   const values = [];
   const names = new Map();
   const arcs = [];
   const faults = [];
+  const machineNames = [];
   let machines = null;
   text.replace(/^\uFEFF/, "").split("\n").forEach((line, place) => {
-    if (line[0] === "#" && !line.startsWith("# job ")) return;
+    if (line[0] === "#" && !/^# (job|machine) /.test(line)) return;
     const words = line.trim().split(/\s+/);
     const named = words[0] === "#" && /^\s*# job (\d+): (.*\S)/.exec(line);
     if (named) names.set(Number(named[1]), named[2]);
+    const machine = /^# machine (\d{1,4}): (.*\S)/.exec(line);
+    if (machine && machine[1] >= 1 && machine[1] <= MOST_MACHINES) {
+      machineNames[machine[1] - 1] = machine[2];
+    }
     if (words[0] === "" || words[0].startsWith("#") || words[0] === "table") return;
     const problem = words[0] === "job" ? readJobLine(words, values)
       : words[0] === "prec" ? readArcLine(words, arcs)
@@ -365,7 +373,8 @@ export function readTable(text) {
     (values[to - 1].before ??= []).push(quoteName(values[from - 1].name));
   }
   for (const each of values) each.after = (each.before ?? []).join("; ");
-  return { rows: values.map((each) => newRow(each)), machines, faults };
+  return { rows: values.map((each) => newRow(each)), machines, faults,
+    machineNames: machineText(Array.from(machineNames, (name) => name ?? "")) };
 }
 
 function readJobLine(words, values) {
