@@ -149,7 +149,7 @@ pub fn judge_problem_pieces<A: Allocator + Copy, B: Allocator, C: Allocator>(
     ensures outcomes { IfOk result (λ judged.
         judged.outcomes.items ≡ problem_outcomes task.now pieces.items (Some judged.fit)) }
 {
-    let Placed { fit, lanes } = placed(alloc, task, pieces)?;
+    let Placed { fit, lanes } = place_pieces(alloc, task, pieces)?;
     let outcomes = match &lanes {
         Some(lanes) => outcomes(alloc, task, lanes)?,
         None => Vec::new(alloc),
@@ -166,7 +166,7 @@ pub fn judged<A: Allocator + Copy, B: Allocator, C: Allocator>(
 ) -> Result<ProblemFit, OutOfMemory>
     ensures { IfOk result (IsProblemJudged task.now pieces.items) }
 {
-    let placed = placed(alloc, task, pieces)?;
+    let placed = place_pieces(alloc, task, pieces)?;
     Ok(placed.fit)
 }
 
@@ -177,7 +177,7 @@ struct Placed<A: Allocator> {
     lanes: Option<Lanes<A>>,
 }
 
-fn placed<A: Allocator + Copy, B: Allocator, C: Allocator>(
+fn place_pieces<A: Allocator + Copy, B: Allocator, C: Allocator>(
     alloc: A,
     task: &ProblemTask<B>,
     pieces: Vec<Piece, C>,
@@ -208,7 +208,7 @@ fn fit_by<A: Allocator, B: Allocator>(
     jobs: &Lanes<B>,
     misfit: Option<ProblemMisfit>,
 ) -> ProblemFit
-    ensures { (ps qs : List PieceData) → IsSorting task.now ps qs jobs.now misfit.entry →
+    ensures { (ps qs : List PieceData) → IsSorting task.now ps qs jobs.now misfit →
         IsProblemJudged task.now ps result
         × HasProblemTable task.now ps result (Some jobs.now) }
 {
