@@ -1,2 +1,3 @@
 pub mod Flags
 pub mod Told
+mod Understanding

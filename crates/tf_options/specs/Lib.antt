@@ -7,3 +7,4 @@ pub mod FormatAsked
 pub mod Understood
 pub mod SeriesAsked
 pub mod MeasuresAsked
+pub mod Understanding

@@ -1,6 +1,7 @@
 //! The command line.
-ghost use Rattle.std.specs.Prelude.{◌≡◌, ◌≤◌, None, Some, false, codes, option_map, IfOk, IfErr};
-ghost use Rattle.std.specs.Prelude.{MatchOption};
+ghost use Rattle.std.specs.Prelude.{◌≡◌, ◌≤◌, ℕ, Bool, List, None, Some, false, codes, map};
+ghost use Rattle.std.specs.Prelude.{option_map, string_bytes, IfOk, IfErr, MatchOption};
+ghost use Rattle.clap.specs.Words.{App, app_of};
 ghost use Rattle.tf_engine.specs.FormData.{form_of};
 ghost use Rattle.tf_model.specs.Limit.{most_machines};
 ghost use Rattle.tf_options.specs.Asking.{form_asked, requested};
@@ -16,6 +17,7 @@ ghost use Rattle.tf_options.specs.Matched.{machines_fault, most_steps, options_f
 ghost use Rattle.tf_options.specs.Matched.{number_by, steps_fault, wt_fault};
 ghost use Rattle.tf_options.specs.MeasuresAsked.{IsMeasuredBy};
 ghost use Rattle.tf_options.specs.OptionNumber.{numeral_in};
+ghost use Rattle.tf_options.specs.Understanding.{IsFormattedBy, IsUnderstood, IsUnderstoodBy};
 ghost use Rattle.tf_options.specs.Understood.{AreAidsBy, HasNoOrder, IsAskedBy, IsOrderBy, IsWorkBy};
 ghost use Rattle.tf_options.specs.Understood.{aids_fault, fault_by, input_fault, is_incomplete};
 ghost use Rattle.tf_options.specs.Understood.{is_standard_input, lacks_options, lacks_own, own_fault};
@@ -237,7 +239,9 @@ const ONE_INSTANCE: &str = "\
 
 /// What the words ask for. With `--explain=auto`, the default, it is explained on a terminal.
 pub fn understand<'a>(command: Command<'a>, words: &'a [String], on_terminal: bool) -> Asked<'a>
-    ensures { HasColumns result }
+    ensures columns { HasColumns result }
+    ensures understood { IsUnderstood (app_of command.entry) (map string_bytes words.now) on_terminal
+        result }
 {
     let matches = match command.try_get_matches_from(words) {
         Ok(matches) => matches,
@@ -245,13 +249,19 @@ pub fn understand<'a>(command: Command<'a>, words: &'a [String], on_terminal: bo
     };
     match matches.subcommand() {
         None => Asked::NoMemory,
-        Some((name, given)) => match span_for(name, given) {
-            Some(span) if tells_lines(name, given) => {
-                series_asked(name, given, on_terminal, span)
-            }
-            Some(_) => Asked::Unfit(ONE_INSTANCE),
-            None => measured(given, formatted_by(name, given, on_terminal)),
-        },
+        Some((name, given)) => understand_given(name, given, on_terminal),
+    }
+}
+
+// What the command of this name asks for, by what clap found of it.
+fn understand_given<'a>(name: &str, given: &ArgMatches<'a>, on_terminal: bool) -> Asked<'a>
+    ensures columns { HasColumns result }
+    ensures understood { IsUnderstoodBy name.now (given_of given.now) on_terminal result }
+{
+    match span_for(name, given) {
+        Some(span) if tells_lines(name, given) => series_asked(name, given, on_terminal, span),
+        Some(_) => Asked::Unfit(ONE_INSTANCE),
+        None => measured(given, formatted_by(name, given, on_terminal)),
     }
 }
 
@@ -263,7 +273,8 @@ fn tells_lines(name: &str, given: &ArgMatches<'_>) -> bool {
 
 // What is asked for, with its output in a format where one is named.
 fn formatted_by<'a>(name: &str, given: &ArgMatches<'a>, on_terminal: bool) -> Asked<'a>
-    ensures { HasColumns result }
+    ensures columns { HasColumns result }
+    ensures formatted { IsFormattedBy name.now (given_of given.now) on_terminal result }
 {
     in_format(asked_by(name, given, on_terminal), format_in(name, given))
 }
@@ -715,7 +726,9 @@ pub(crate) fn number_within(word: &str, least: u32, most: u32) -> Option<u32>
 }
 
 fn refused<'a>(error: Error) -> Asked<'a>
-    ensures { HasColumns result }
+    ensures columns { HasColumns result }
+    ensures told { (app : App) (words : List (List ℕ)) (on_terminal : Bool) →
+        IsUnderstood app words on_terminal result }
 {
     if error.kind() == ErrorKind::OutOfMemory {
         return Asked::NoMemory;

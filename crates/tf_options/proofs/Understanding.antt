@@ -1,0 +1,18 @@
+-- What the words of a command line ask for.
+use Rattle.std.proofs.Common.{ℕ, Bool, List}
+use Rattle.clap.specs.Words.{App}
+use Rattle.tf_options.specs.Understanding.{IsOfWords, IsUnderstood}
+use Rattle.tf_options.specs.declared.options.Asked.{Asked}
+use Rattle.tf_options.specs.declared.options.Asked.TheVariants as asking
+
+-- what clap's matches ask for is understood, whatever it is
+pub of_words : (app : App) (words : List (List ℕ)) (on_terminal : Bool) (asked : Asked)
+    → IsOfWords app words on_terminal asked → IsUnderstood app words on_terminal asked
+of_words app words on_terminal (asking.Work work) h = h
+of_words app words on_terminal (asking.Formatted work format) h = h
+of_words app words on_terminal (asking.Series series) h = h
+of_words app words on_terminal (asking.Measured evaluating) h = h
+of_words app words on_terminal (asking.Help error) h = tt
+of_words app words on_terminal (asking.Misused error) h = tt
+of_words app words on_terminal (asking.Unfit message) h = h
+of_words app words on_terminal asking.NoMemory h = tt
