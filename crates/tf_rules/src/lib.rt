@@ -1,0 +1,10 @@
+//! Rules that give a first list of jobs or operations.
+//!
+//! Nothing is promised of the lists: a search tries them all and begins with the best.
+#![tactic(auto)]
+
+mod due_dates;
+mod keys;
+mod listing;
+pub mod rule;
+mod urgency;
