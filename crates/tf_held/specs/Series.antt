@@ -182,12 +182,6 @@ abbrev pub HasAnswers : Texts → Told → List ℕ → Type 0
 HasAnswers texts (Answers name steps) answers = IsTextOf (texts name.now) answers
 HasAnswers texts _ answers = answers ≡ []
 
--- the text of the answers, where they are evaluated, cannot be read
-abbrev pub HasUnreadAnswers : Texts → Told → DeviceUse → (List ℕ → Type 0) → ℕ → Type 0
-HasUnreadAnswers texts (Answers name steps) writer says status =
-    IsUnread (texts name.now) writer says status
-HasUnreadAnswers texts _ writer says status = ⊥
-
 -- the lines were written, or a part of them where the device failed, which is said
 pub record EndsTold (texts : Texts) (series : Series) (writer : DeviceUse) (says : List ℕ → Type 0)
     (status : ℕ) : Type 0 where
@@ -215,5 +209,4 @@ pub record EndsStopped (texts : Texts) (series : Series) (writer : DeviceUse)
 abbrev pub EndsSeries : Texts → Series → DeviceUse → (List ℕ → Type 0) → ℕ → Type 0
 EndsSeries texts series writer says status =
     EndsTold texts series writer says status ⊎ EndsStopped texts series writer says status
-    ⊎ IsUnread (texts series.input.now) writer says status
-    ⊎ HasUnreadAnswers texts series.told writer says status
+    ⊎ IsUnread writer says status

@@ -133,4 +133,4 @@ EndsCounted texts work writer says status =
     ((asks_count (evaluated work) ≡ false) × Performs texts work writer says status)
     ⊎ ((options : Options) × (evaluated work ≡ Some options) × (wants_count options ≡ true)
     × (EndsShop texts work options writer says status
-    ⊎ IsUnread (texts options.input.now) writer (says options.telling.explain) status))
+    ⊎ IsUnread writer (says options.telling.explain) status))

@@ -3,8 +3,7 @@ ghost use Rattle.std.specs.Prelude.{◌≡◌, codes, IfOk, IfErr};
 ghost use Rattle.tf_text.specs.Counted.{use_of};
 ghost use Rattle.tf_text.specs.Input.{IsTextOf};
 ghost use Rattle.tf_command.specs.Ending.{SaysLine};
-ghost use Rattle.tf_command.specs.Wrote.{Wrote};
-ghost use Rattle.tf_held.specs.Texts.{IsReportOf, IsUnread};
+ghost use Rattle.tf_held.specs.Texts.{IsUnread};
 
 use std::alloc::Global;
 use std::io;
@@ -16,7 +15,7 @@ use tf_command::source::Sources;
 use tf_engine::fault::RunFault;
 use tf_explain::explain::not_read;
 use tf_text::counted::Counted;
-use tf_text::input::{InputFault, read_all};
+use tf_text::input::read_all;
 
 /// The text of that name. Where it cannot be read, says so, and gives the status. Where it cannot
 /// be opened, says why too if that is to be explained.
@@ -28,27 +27,20 @@ pub(crate) fn text_named<S: Sources, W: Write, E: Write>(
 ) -> Result<Vec<u8>, u8>
     ensures text { IfOk result (λ text. IsTextOf (S.text_of sources.now name.now) text.items) }
     ensures kept { IfOk result (λ _. console.new ≡ console.old) }
-    ensures unread { IfErr result (IsUnread (S.text_of sources.now name.now) (use_of W.contents console.old.writer console.new.writer)
+    ensures unread { IfErr result (IsUnread (use_of W.contents console.old.writer console.new.writer)
         (SaysLine E.contents explain console.old.errors console.new.errors)) }
 {
-    match sources.open(name) {
+    let fault: RunFault = match sources.open(name) {
         Ok(source) => match read_all(console.alloc, &mut Counted::new(source)) {
-            Ok(text) => Ok(text),
-            Err(fault) => Err(say_unread(fault, &mut console.errors)),
+            Ok(text) => return Ok(text),
+            Err(fault) => fault.into(),
         },
         Err(error) => {
             let alloc = console.alloc;
-            Err(say_unopened(alloc, &mut console.errors, name, &error, explain))
+            return Err(say_unopened(alloc, &mut console.errors, name, &error, explain));
         }
-    }
-}
-
-/// Says why a text cannot be read to its end, and gives the status.
-fn say_unread<E: Write>(fault: InputFault, errors: &mut Counted<E>) -> u8
-    ensures { IsReportOf fault (Wrote E.contents errors.old errors.new) result }
-{
-    let fault: RunFault = fault.into();
-    report(&fault, errors)
+    };
+    Err(report(&fault, &mut console.errors))
 }
 
 /// Says that the text of that name cannot be opened, and why if that is to be explained, and gives

@@ -9,7 +9,7 @@ ghost use Rattle.tf_command.specs.Performing.{Performs};
 ghost use Rattle.tf_command.specs.Wrote.{Wrote};
 ghost use Rattle.tf_text.specs.Counted.{inner_of, use_of};
 ghost use Rattle.tf_held.specs.declared.series.Stop.TheVariants.{Memory};
-ghost use Rattle.tf_held.specs.Texts.{held_texts};
+ghost use Rattle.tf_held.specs.Texts.{IsUnread, held_texts};
 ghost use Rattle.tf_held.specs.Series.{AreLines, EndsSeries, HasAnswers, IsStop, IsStopAt};
 ghost use Rattle.tf_held.specs.Series.{IsWorkFor, AreOptionsFor};
 ghost use Rattle.tf_held.specs.Series.{Tells, has_told, instance_line, line_of_stop, no_instance};
@@ -100,8 +100,7 @@ fn answers_named<S: Sources, W: Write, E: Write>(
     ensures text { IfOk result (λ text.
         HasAnswers (S.text_of sources.now) series.now.told text.items) }
     ensures kept { IfOk result (λ _. console.new ≡ console.old) }
-    ensures unread { IfErr result (HasUnreadAnswers (S.text_of sources.now) series.now.told
-        (use_of W.contents console.old.writer console.new.writer)
+    ensures unread { IfErr result (IsUnread (use_of W.contents console.old.writer console.new.writer)
         (SaysLine E.contents false console.old.errors console.new.errors)) }
 {
     match series.told {
