@@ -29,7 +29,8 @@ const BOUND: &[u8] =
     b"bound 1\nproblem F2||sumT\njobs 2\nmachines 2\nvalue 3\nmultipliers 1 1 0 1\nend\n";
 
 const WRITTEN: &[u8] = b"evaluation 1\nproblem F2||sumT\njobs 2\nmachines 2\nfits\nclaimed 3\n\
-    value 3\nbest 3\ngap 0\noffered 3\nbound 3\nmultipliers 1 1 0 1\nend\n";
+    value 3\nbest 3\ngap 0\noffered 3\nbound 3\nmultipliers 1 1 0 1\njob 1 3 5 0\n\
+    job 2 0 4 3\nend\n";
 
 /// Where the text of the bound was not read, or how else the run ended without an assessment.
 #[derive(Clone, Copy, PartialEq, Eq)]

@@ -55,7 +55,7 @@ const WAITING: Case = Case {
     form: OrderForm::Pieces,
     text: b"piece 1 1 0 3\npiece 2 2 0 1\npiece 3 2 2 4\n",
     written: b"evaluation 1\nproblem P2||Cmax\njobs 3\nmachines 2\nfits\nvalue 4\ngap 1\n\
-        bound 3\njob 1\nend\n",
+        bound 3\njob 1\njob 1 0 3 3\njob 2 0 1 1\njob 3 2 4 4\nend\n",
 };
 
 const CASES: [Case; 4] = [ONE_ORDER, PIECES, TWO_ORDERS, WAITING];

@@ -15,6 +15,9 @@ pub struct Ended {
     pub said: Vec<u8>,
 }
 
+/// A console whose devices are kept in memory.
+type Kept<'a> = Console<&'a mut Vec<u8>, &'a mut Vec<u8>>;
+
 /// Runs the command line of these words behind the program's name, as the program does.
 pub fn run(alloc: Global, line: &str, texts: Texts<'_>) -> Result<Ended, AllocError> {
     let words = words_of(alloc, line)?;
@@ -26,15 +29,19 @@ pub fn run(alloc: Global, line: &str, texts: Texts<'_>) -> Result<Ended, AllocEr
         errors: Counted::new(&mut said),
         is_terminal: true,
     };
-    let words = words.as_slice();
-    let asked = understand(command(alloc)?, words, false);
-    let status = perform_asked(&mut console, &texts, asked, words);
+    let status = perform(&mut console, words.as_slice(), texts);
     drop(console);
     Ok(Ended {
-        status,
+        status: status?,
         written,
         said,
     })
+}
+
+/// Runs the command line, and gives its status.
+fn perform(console: &mut Kept<'_>, words: &[String], texts: Texts<'_>) -> Result<u8, AllocError> {
+    let asked = understand(command(console.alloc)?, words, false);
+    Ok(perform_asked(console, &texts, asked, words))
 }
 
 /// The program's name and the words of a line: parted by blanks, or between double quotes.
