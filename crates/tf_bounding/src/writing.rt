@@ -15,7 +15,7 @@ use tf_search::strongest::Found;
 use tf_text::answer::writing::{push_number, push_number_line};
 
 /// The text of a bound of a task, each line ended by a line feed.
-pub(crate) fn bound_bytes<A: Allocator + Copy, B: Allocator, C: Allocator>(
+pub fn bound_bytes<A: Allocator + Copy, B: Allocator, C: Allocator>(
     alloc: A,
     task: &ProblemTask<B>,
     found: &Found<C>,

@@ -12,7 +12,7 @@ use Rattle.tf_text.specs.declared.answer.layout.Layout.TheVariants.{Two}
 use Rattle.tf_orders.specs.declared.run_orders.OrderForm.{OrderForm}
 use Rattle.tf_orders.specs.declared.run_orders.OrderForm.TheVariants.{Single, Lines, Pieces}
 use Rattle.tf_options.specs.declared.options.Work.{Work as Asking}
-use Rattle.tf_options.specs.declared.options.Work.TheVariants.{Solve, Bound, Trace, Check, Evaluate, Assess, Rate, Gantt, Random, Problems, Picture}
+use Rattle.tf_options.specs.declared.options.Work.TheVariants.{Solve, Bound, Plan, Trace, Check, Evaluate, Assess, Rate, Gantt, Random, Problems, Picture}
 use Rattle.tf_options.specs.declared.options.OrderSource.TheVariants.{Given, Named, Drawn}
 use Rattle.tf_options.specs.declared.options.Options.{Options}
 use Rattle.tf_options.specs.Asking.{requested, form_asked}
@@ -27,6 +27,7 @@ use Rattle.tf_command.specs.FaultLine.{fault_line, no_table_line}
 use Rattle.tf_command.specs.Statuses.{status_of, status_of_no_table}
 use Rattle.tf_command.specs.Ending.{EndsSolving, EndsBounding, EndsTracing, EndsChecking, EndsDrawing, EndsEvaluating, EndsRating, EndsPicturing}
 use Rattle.tf_command.specs.Assessing.{EndsAssessing}
+use Rattle.tf_command.specs.Planning.{EndsPlanning}
 
 -- the bytes of the text of each name, where they are known
 abbrev pub Texts : Type 0
@@ -132,6 +133,10 @@ Performs texts (Bound options steps) writer says status =
     let said = says options.telling.explain in
     EndsOver texts options.input.now writer said status
     (λ instance. EndsBounding Global (requested options Two) instance writer said status)
+Performs texts (Plan options layout steps) writer says status =
+    let said = says options.telling.explain in
+    EndsOver texts options.input.now writer said status
+    (λ instance. EndsPlanning Global (requested options layout) instance writer said status)
 Performs texts (Trace options style) writer says status =
     let said = says options.telling.explain in
     EndsOver texts options.input.now writer said status

@@ -3,11 +3,13 @@ ghost use Rattle.std.specs.Prelude.{◌≡◌, false};
 ghost use Rattle.tf_assess.specs.RunAssessing.{IsAssessmentOf};
 ghost use Rattle.tf_assess.specs.RunRating.{IsRatingOf};
 ghost use Rattle.tf_bounding.specs.RunBounding.{IsBoundingOf};
+ghost use Rattle.tf_command.specs.Planning.{IsPlannedRun};
 ghost use Rattle.tf_command.specs.Recorded.{bytes_left};
 ghost use Rattle.tf_text.specs.Counted.{use_of};
 
 use crate::console::Console;
 use crate::gathered::{Gathered, send};
+use crate::planning::plan_any;
 use crate::recorded::Recorded;
 use itoa::Buffer;
 use std::io::{Read, Write};
@@ -20,6 +22,7 @@ use tf_engine::fault::RunFault;
 use tf_engine::request::Request;
 use tf_evaluate::evaluation::Standing;
 use tf_options::options::Evaluating;
+use tf_planning::writing::Planned;
 use tf_search::effort::{Effort, Nobody, Progress};
 use tf_text::counted::Counted;
 
@@ -77,6 +80,29 @@ pub(crate) fn bound_over<R: Read, W: Write, E: Write>(
     } else {
         let effort: Effort<StepLine<'_, E>> = Effort::untold(steps);
         run_bound(alloc, request, effort, instance, &mut console.writer)
+    }
+}
+
+/// Plans a problem, and shows the progress as [`bound_over`] does.
+pub(crate) fn plan_over<R: Read, W: Write, E: Write>(
+    console: &mut Console<W, E>,
+    request: &Request,
+    steps: Option<u32>,
+    is_told: bool,
+    instance: &mut Counted<Recorded<'_, R>>,
+) -> Result<Planned, RunFault>
+    ensures outcome { IsPlannedRun request.now
+        (use_of (bytes_left R.remaining) instance.old instance.new)
+        (use_of W.contents console.old.writer console.new.writer) result }
+    ensures untold { is_told ≡ false → console.new.errors ≡ console.old.errors }
+{
+    let alloc = console.alloc;
+    if is_told && console.is_terminal {
+        let effort = shown_on(&mut console.errors, steps);
+        plan_any(alloc, request, effort, instance, &mut console.writer)
+    } else {
+        let effort: Effort<StepLine<'_, E>> = Effort::untold(steps);
+        plan_any(alloc, request, effort, instance, &mut console.writer)
     }
 }
 

@@ -6,6 +6,7 @@ ghost use Rattle.tf_command.specs.Ending.{EndsSolving, EndsBounding, EndsTracing
 ghost use Rattle.tf_command.specs.Ending.{EndsEvaluating, EndsRating, EndsDrawing, SaysLine};
 ghost use Rattle.tf_command.specs.Ending.{drawn_as};
 ghost use Rattle.tf_command.specs.Assessing.{EndsAssessed, EndsAssessing};
+ghost use Rattle.tf_command.specs.Planning.{EndsPlanning};
 ghost use Rattle.tf_engine.specs.Drawing.{IsDrawingOf};
 ghost use Rattle.std.specs.Prelude.{◌≡◌, ◌⊎◌, None, Some, IfSome, IfOk, IfErr, false, codes};
 ghost use Rattle.tf_command.specs.Performing.{EndsOver, EndsRandom, EndsWriting, Performs};
@@ -13,14 +14,14 @@ ghost use Rattle.tf_command.specs.Performing.{RatesNamed};
 ghost use Rattle.tf_command.specs.Recorded.{bytes_left};
 ghost use Rattle.tf_text.specs.Counted.{inner_of, use_of};
 
-use crate::bounding::{assess_over, bound_over, rate_over};
+use crate::bounding::{assess_over, bound_over, plan_over, rate_over};
 use crate::console::Console;
 use crate::explained::{Ended, Rated, tell, tell_drawn};
 use crate::picturing::picture_named;
 use crate::problems::list_problems;
 use crate::recorded::{MOST_BESIDE, MOST_KEPT, Recorded, room};
 use crate::report::{
-    end_check, end_evaluation, end_rating, end_run, report_bound, say_device, say_memory,
+    end_check, end_evaluation, end_plan, end_rating, end_run, report_bound, say_device, say_memory,
     say_no_table,
 };
 use crate::source::Sources;
@@ -63,6 +64,9 @@ pub fn perform<S: Sources, W: Write, E: Write>(
     match work {
         Work::Solve(options, layout) => solve_named(console, sources, options, *layout),
         Work::Bound(options, steps) => bound_named(console, sources, options, *steps),
+        Work::Plan(options, layout, steps) => {
+            plan_named(console, sources, options, *layout, *steps)
+        }
         Work::Trace(options, style) => trace_named(console, sources, options, *style),
         Work::Check(options, answer) => check_named(console, sources, options, answer),
         Work::Evaluate(evaluating) => evaluate_named(console, sources, evaluating),
@@ -129,6 +133,30 @@ pub fn bound_named<S: Sources, W: Write, E: Write>(
         options.telling.explain,
     ) {
         Ok(mut instance) => bound(console, options, steps, &mut instance),
+        Err(status) => status,
+    }
+}
+
+/// Plans the instance of that name.
+fn plan_named<S: Sources, W: Write, E: Write>(
+    console: &mut Console<W, E>,
+    sources: &S,
+    options: &Options<'_>,
+    layout: Layout,
+    steps: Option<u32>,
+) -> u8
+    ensures { Performs (S.text_of sources.now) (Work.Plan options.now layout steps)
+        (use_of W.contents console.old.writer console.new.writer)
+        (λ explain. SaysLine E.contents explain console.old.errors console.new.errors) result }
+{
+    match open(
+        console,
+        sources,
+        options.input,
+        MOST_KEPT,
+        options.telling.explain,
+    ) {
+        Ok(mut instance) => plan(console, options, layout, steps, &mut instance),
         Err(status) => status,
     }
 }
@@ -447,6 +475,37 @@ fn bound<R: Read, W: Write, E: Write>(
             request: &request,
         };
         ended.tell_solved(&run, instance.inner(), &mut console.errors);
+    }
+    status
+}
+
+/// Prints a schedule and how good it is, and gives the exit status.
+fn plan<R: Read, W: Write, E: Write>(
+    console: &mut Console<W, E>,
+    options: &Options<'_>,
+    layout: Layout,
+    steps: Option<u32>,
+    instance: &mut Counted<Recorded<'_, R>>,
+) -> u8
+    ensures { EndsPlanning Global (requested options.now layout)
+        (use_of (bytes_left R.remaining) instance.old instance.new)
+        (use_of W.contents console.old.writer console.new.writer)
+        (SaysLine E.contents options.now.telling.explain console.old.errors console.new.errors)
+        result }
+{
+    let alloc = console.alloc;
+    let Ok(request) = options.request(alloc, layout) else {
+        return say_memory(&mut console.errors);
+    };
+    let run = plan_over(console, &request, steps, options.telling.explain, instance);
+    let status = end_plan(&run, &mut console.errors);
+    if options.telling.explain {
+        let ended = Ended {
+            alloc,
+            telling: options.telling,
+            request: &request,
+        };
+        ended.tell_planned(&run, instance.inner(), &mut console.errors);
     }
     status
 }

@@ -18,14 +18,25 @@ use tf_model::limit::LIMIT;
 use tf_model::prepare::Refusal;
 use tf_options::options::{Drawing, Idle, Telling};
 use tf_orders::run_orders::{OrderForm, OrdersRated};
+use tf_planning::writing::Planned;
 use tf_text::answer::fault::AnswerFault;
 use tf_text::counted::Counted;
 use tf_words::ranged::{Ranged, number_in};
 
 /// What is said of a problem that has no solver.
 const MAY_BE_BOUNDED: &str = "\
-For many problems without a solver \"threefield bound\" prints a lower bound, and
-\"threefield evaluate\" judges a schedule by it.
+For many problems without a solver \"threefield plan\" prints a schedule, and how
+good it is; \"threefield bound\" prints a lower bound, and \"threefield evaluate\"
+judges a schedule by it.
+";
+
+/// What is said of a plan that no schedule beats.
+const IS_OPTIMAL: &str = "It is proved that no schedule costs less.\n";
+
+/// What is said of a plan that may be beaten.
+const MAY_BE_BEATEN: &str = "\
+Whether a schedule costs less is not known. The lower bound behind the line
+\"end\", if there is one, says by how much at most.
 ";
 
 /// The signs of a chart: the digits and the letters.
@@ -183,6 +194,28 @@ impl Ended<'_> {
             };
             tell_behind(self.telling, explanation, errors);
         }
+    }
+
+    /// Says what is to be said of the options and of a plan, where the instance was kept.
+    pub fn tell_planned<R, E: Write>(
+        &self,
+        run: &Result<Planned, RunFault>,
+        instance: &Recorded<'_, R>,
+        errors: &mut Counted<E>,
+    ) {
+        if let Some(told) = Told::of_instance(instance) {
+            let explanation = match run {
+                Ok(_) => explain::solved(self.alloc, self.request, &told.instance),
+                Err(fault) => told.refused(self.alloc, fault, self.request),
+            };
+            tell_behind(self.telling, explanation, errors);
+        }
+        let standing = match run {
+            Ok(Planned::Optimal) => IS_OPTIMAL,
+            Ok(Planned::Open) => MAY_BE_BEATEN,
+            Err(_) => "",
+        };
+        let _ = errors.push_all(standing.as_bytes());
     }
 
     /// Says what else there is for a problem that has no solver.

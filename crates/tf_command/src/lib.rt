@@ -10,6 +10,7 @@ pub mod formatted;
 pub mod gathered;
 pub mod misuse;
 mod picturing;
+pub mod planning;
 pub mod problems;
 mod recorded;
 pub mod report;

@@ -14,6 +14,7 @@ ghost use Rattle.tf_command.specs.Statuses.{status_of_standing};
 ghost use Rattle.tf_command.specs.Ending.{line_of, status_of_run, status_of_checking};
 ghost use Rattle.tf_command.specs.Ending.{status_of_evaluating, status_of_rating};
 ghost use Rattle.tf_command.specs.Ending.{line_of_picturing, status_of_picturing};
+ghost use Rattle.tf_command.specs.Planning.{status_of_plan};
 
 use crate::gathered::{Gathered, send};
 use itoa::Buffer;
@@ -28,6 +29,7 @@ use tf_evaluate::evaluation::Standing;
 use tf_model::ids::JobId;
 use tf_model::prepare::{Field, Refusal};
 use tf_orders::run_orders::OrdersRated;
+use tf_planning::writing::Planned;
 use tf_random::run_random::RandomFault;
 use tf_read::fault::ReadFault;
 use tf_schedule::schedule::PieceFault;
@@ -122,6 +124,21 @@ pub fn end_check<A: Allocator, W: Write>(
 {
     match run {
         Ok(checked) => status_of_check(checked),
+        Err(fault) => report(fault, writer),
+    }
+}
+
+/// Ends a plan in the same way.
+pub fn end_plan<A: Allocator, W: Write>(
+    run: &Result<Planned, RunFault<A>>,
+    writer: &mut Counted<W>,
+) -> u8
+    ensures status { result ≡ status_of_plan run.now }
+    ensures line { Wrote W.contents writer.old writer.new (line_of run.now) }
+{
+    match run {
+        Ok(Planned::Optimal) => 0,
+        Ok(Planned::Open) => 6,
         Err(fault) => report(fault, writer),
     }
 }

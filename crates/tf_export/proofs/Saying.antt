@@ -9,8 +9,8 @@ use Rattle.tf_words.proofs.Lines.{line_none}
 use Rattle.tf_export.specs.Csv.{csv_line, column_names, row_key}
 use Rattle.tf_export.specs.declared.csv.Table.{Table}
 use Rattle.tf_export.specs.Json.{scalar, member, object}
-use Rattle.tf_export.specs.Members.{phrase, fields, rest_members, row_in, rows, verdict_members}
-use Rattle.tf_export.specs.Documents.{step_in}
+use Rattle.tf_export.specs.Members.{phrase, fields, line_members, rest_members, row_in, rows, verdict_members}
+use Rattle.tf_export.specs.Documents.{step_in, distance_in, bound_members, bounded_in}
 use Rattle.tf_export.specs.Faults.{explanation, fault, first_line, behind_line, fault_members, fault_json}
 
 -- a word by its name, and the others
@@ -75,6 +75,32 @@ pub step_some : (line row : List (List ℕ)) → first_is (codes "step") line �
     → row ≡ drop 1 line → phrase row ∷ [] ≡ step_in line
 step_some [] row is row-is = absurd (true≢false (sym is))
 step_some (key ∷ others) row is row-is = rw (is, row-is) refl
+
+-- how far a plan is from its bound
+pub distance_none : (line : List (List ℕ)) → first_is (codes "##") line ≡ false
+    → distance_in line ≡ []
+distance_none line is = rw is refl
+
+pub distance_some : (line row : List (List ℕ)) → first_is (codes "##") line ≡ true
+    → row ≡ drop 1 line → line_members row ≡ distance_in line
+distance_some line row is same = rw (is, same) refl
+
+-- a line of its bound
+pub bounded_none : (line : List (List ℕ)) → first_is (codes "#") line ≡ false
+    → bounded_in line ≡ []
+bounded_none line is = rw is refl
+
+pub bounded_some : (line row : List (List ℕ)) → first_is (codes "#") line ≡ true
+    → row ≡ drop 1 line → bound_members row ≡ bounded_in line
+bounded_some line row is same = rw (is, same) refl
+
+pub bound_none : (row : List (List ℕ)) → first_is (codes "bound") row ≡ false
+    → line_members row ≡ bound_members row
+bound_none row is = rw is refl
+
+pub bound_some : (row : List (List ℕ)) → first_is (codes "bound") row ≡ true
+    → bound_members row ≡ []
+bound_some row is = rw is refl
 
 pub verdict_none : (key : List ℕ) (row : List (List ℕ)) → bytes_eq key (codes "fits") ≡ false
     → bytes_eq key (codes "misfit") ≡ false → bytes_eq key (codes "accepted") ≡ false

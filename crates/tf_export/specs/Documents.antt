@@ -7,9 +7,9 @@ use Rattle.tf_export.specs.Members.{phrase, record_of, row_in, line_members}
 use Rattle.tf_export.specs.Csv.{column_names, row_key}
 use Rattle.tf_export.specs.declared.csv.Table.TheVariants.{Pieces, Outcomes}
 use Rattle.tf_export.specs.declared.documents.Part.{Part}
-use Rattle.tf_export.specs.declared.documents.Part.TheVariants.{Members, Step, Problem, Row}
+use Rattle.tf_export.specs.declared.documents.Part.TheVariants.{Members, Step, Problem, Row, Distance, Bounded}
 use Rattle.tf_export.specs.declared.documents.Document.{Document}
-use Rattle.tf_export.specs.declared.documents.Document.TheVariants.{Answer, Bound, Evaluation, Verdict, Problems}
+use Rattle.tf_export.specs.declared.documents.Document.TheVariants.{Answer, Bound, Evaluation, Verdict, Problems, Plan}
 
 -- a step of a certificate's arithmetic, as a string
 abbrev pub step_in : List (List ℕ) → List (List ℕ)
@@ -24,13 +24,27 @@ problem_in line = object (
     ∷ member (codes "needs") (phrase (words (take 13 (drop 17 line))))
     ∷ member (codes "objective") (phrase (words (drop 13 (drop 17 line)))) ∷ [])
 
--- what is taken of a line: members, a step, a problem, or a row of a table as an object
+-- how far a plan is from its bound, in a comment of its own
+abbrev pub distance_in : List (List ℕ) → List (List ℕ)
+distance_in line = if first_is (codes "##") line then line_members (drop 1 line) else []
+
+-- the lines of the bound of a plan, each a comment, but for their heading
+abbrev pub bound_members : List (List ℕ) → List (List ℕ)
+bound_members row = if first_is (codes "bound") row then [] else line_members row
+
+abbrev pub bounded_in : List (List ℕ) → List (List ℕ)
+bounded_in line = if first_is (codes "#") line then bound_members (drop 1 line) else []
+
+-- what is taken of a line: members, a step, a problem, a row of a table as an object, or what a
+-- comment of a plan says
 abbrev pub part_in : Part → List ℕ → List (List ℕ)
 part_in Members line = line_members (words line)
 part_in Step line = step_in (words line)
 part_in Problem line = problem_in line ∷ []
 part_in (Row table) line = map (record_of (column_names table))
     (row_in (row_key table) (length (words (column_names table))) (words line))
+part_in Distance line = distance_in (words line)
+part_in Bounded line = bounded_in (words line)
 
 -- and of all lines
 abbrev pub parts : Part → List (List ℕ) → List (List ℕ)
@@ -38,6 +52,9 @@ parts part lines = flat_map (part_in part) lines
 
 abbrev pub parts_array : List ℕ → Part → List (List ℕ) → List ℕ
 parts_array name part lines = member name (array (parts part lines))
+
+abbrev pub parts_object : List ℕ → Part → List (List ℕ) → List ℕ
+parts_object name part lines = member name (object (parts part lines))
 
 -- what stands behind the heading of a text, line by line
 abbrev pub members_behind : List ℕ → List (List ℕ)
@@ -55,6 +72,12 @@ evaluation_members text =
     ++ (parts_array (codes "steps") Step (lines text)
     ∷ parts_array (codes "outcomes") (Row Outcomes) (lines text) ∷ [])
 
+-- a plan: an answer, its gap, and the bound, which is empty where there is none
+abbrev pub plan_members : List ℕ → List (List ℕ)
+plan_members text =
+    answer_members text
+    ++ (parts Distance (lines text) ++ parts_object (codes "bound") Bounded (lines text) ∷ [])
+
 -- the members of each document, of which all but a verdict have a heading
 unfoldable pub document_members : Document → List ℕ → List (List ℕ)
 document_members Answer text = answer_members text
@@ -63,6 +86,7 @@ document_members Evaluation text = evaluation_members text
 document_members Verdict text = parts Members (lines text)
 document_members Problems text =
     parts_array (codes "problems") Problem (drop 1 (lines text)) ∷ []
+document_members Plan text = plan_members text
 
 -- one object, on a line of its own
 unfoldable pub json_of : Document → List ℕ → List ℕ

@@ -7,6 +7,8 @@ ghost use Rattle.tf_export.specs.Csv.{column_names, row_key};
 ghost use Rattle.tf_export.specs.Documents.{document_members, json_of, part_in, parts, parts_array};
 ghost use Rattle.tf_export.specs.Documents.{step_in, problem_in};
 ghost use Rattle.tf_export.specs.Documents.{members_behind, answer_members, evaluation_members};
+ghost use Rattle.tf_export.specs.Documents.{bound_members, bounded_in, distance_in, parts_object};
+ghost use Rattle.tf_export.specs.Documents.{plan_members};
 
 use crate::csv::Table;
 use crate::json::Json;
@@ -28,6 +30,8 @@ pub enum Document {
     Verdict,
     /// The list of the problems that are solved.
     Problems,
+    /// A plan: an answer, and in comments how far it is from a lower bound, and the bound.
+    Plan,
 }
 
 /// What is taken of each line of a text.
@@ -41,6 +45,10 @@ pub(crate) enum Part {
     Problem,
     /// A row of a table, as an object.
     Row(Table),
+    /// How far a plan is from its bound, as members.
+    Distance,
+    /// What the bound of a plan says, as members.
+    Bounded,
 }
 
 /// The names of what stands in a line of a piece.
@@ -111,6 +119,35 @@ impl Json {
         Ok(())
     }
 
+    /// Adds how far a plan is from its bound, if the line says it.
+    fn distance_in(&mut self, alloc: Global, line: &[u8]) -> Result<(), OutOfMemory>
+        ensures { OnOk result (Adds self.old self.new (distance_in (words line.now))) }
+    {
+        match behind_key(line, b"##") {
+            None => Ok(()),
+            Some(row) => self.line_members(alloc, row),
+        }
+    }
+
+    /// Adds what the bound of a plan says, if the line is one of its lines but the heading.
+    fn bounded_in(&mut self, alloc: Global, line: &[u8]) -> Result<(), OutOfMemory>
+        ensures { OnOk result (Adds self.old self.new (bounded_in (words line.now))) }
+    {
+        match behind_key(line, b"#") {
+            None => Ok(()),
+            Some(row) => self.bound_members(alloc, row),
+        }
+    }
+
+    fn bound_members(&mut self, alloc: Global, row: &[u8]) -> Result<(), OutOfMemory>
+        ensures { OnOk result (Adds self.old self.new (bound_members (words row.now))) }
+    {
+        match behind_key(row, b"bound") {
+            None => self.line_members(alloc, row),
+            Some(_) => Ok(()),
+        }
+    }
+
     /// Adds what is taken of a line.
     fn part(&mut self, alloc: Global, part: Part, line: &[u8]) -> Result<(), OutOfMemory>
         ensures { OnOk result (Adds self.old self.new (part_in part line.now)) }
@@ -120,6 +157,8 @@ impl Json {
             Part::Step => self.step_in(alloc, line),
             Part::Problem => self.problem_in(alloc, line),
             Part::Row(table) => self.row_in(table, line),
+            Part::Distance => self.distance_in(alloc, line),
+            Part::Bounded => self.bounded_in(alloc, line),
         }
     }
 
@@ -154,6 +193,24 @@ impl Json {
         Ok(())
     }
 
+    /// Adds a member with what is taken of each line as an object.
+    fn parts_object(
+        &mut self,
+        alloc: Global,
+        name: &[u8],
+        part: Part,
+        text: &[u8],
+    ) -> Result<(), OutOfMemory>
+        ensures { OnOk result
+            (Adds self.old self.new (parts_object name.now part (lines text.now) ∷ [])) }
+    {
+        self.name(name)?;
+        self.enter(b'{')?;
+        self.parts(alloc, part, text)?;
+        self.leave(b'}')?;
+        Ok(())
+    }
+
     /// Adds what the lines behind the heading of a text say.
     fn members_behind(&mut self, alloc: Global, text: &[u8]) -> Result<(), OutOfMemory>
         ensures { OnOk result (Adds self.old self.new (members_behind text.now)) }
@@ -180,6 +237,16 @@ impl Json {
         Ok(())
     }
 
+    /// Adds a plan.
+    fn plan_members(&mut self, alloc: Global, text: &[u8]) -> Result<(), OutOfMemory>
+        ensures { OnOk result (Adds self.old self.new (plan_members text.now)) }
+    {
+        self.answer_members(alloc, text)?;
+        self.parts(alloc, Part::Distance, text)?;
+        self.parts_object(alloc, b"bound", Part::Bounded, text)?;
+        Ok(())
+    }
+
     /// Adds the members of a document.
     fn document_members(
         &mut self,
@@ -197,6 +264,7 @@ impl Json {
             Document::Problems => {
                 self.parts_array(alloc, b"problems", Part::Problem, behind_heading(text))
             }
+            Document::Plan => self.plan_members(alloc, text),
         }
     }
 }

@@ -8,6 +8,6 @@ pub mod documents;
 pub mod entry;
 pub mod faults;
 mod json;
-mod line;
+pub mod line;
 mod members;
 mod value;

@@ -8,7 +8,7 @@ use tf_words::line::line_len;
 use tf_words::word::{behind_key, first_word};
 
 /// The first line of a text, and what follows its line feed.
-pub(crate) fn next_line(text: &[u8]) -> (&[u8], &[u8])
+pub fn next_line(text: &[u8]) -> (&[u8], &[u8])
     requires { 0 < length text.now }
     ensures lines { lines text.now ≡ result.0.now ∷ lines result.1.now }
     ensures first { result.0.now ≡ first_line text.now }

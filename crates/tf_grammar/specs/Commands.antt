@@ -9,5 +9,5 @@ name_of c = (fields_of c).name.now
 -- in the order of the help
 abbrev pub command_names : List (List ℕ)
 command_names =
-    codes "solve" ∷ codes "bound" ∷ codes "trace" ∷ codes "check" ∷ codes "evaluate"
-    ∷ codes "gantt" ∷ codes "random" ∷ codes "problems" ∷ []
+    codes "solve" ∷ codes "plan" ∷ codes "bound" ∷ codes "trace" ∷ codes "check"
+    ∷ codes "evaluate" ∷ codes "gantt" ∷ codes "random" ∷ codes "problems" ∷ []

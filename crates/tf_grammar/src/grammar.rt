@@ -24,6 +24,13 @@ Example: threefield solve -p \"P2|prmp|Cmax\" examples/table.txt
 Exit status: 0 answered, 2 refused, 3 want of memory,
              4 a file or a device failed, 5 the command line is wrong.";
 
+const ABOUT_PLAN: &str = "\
+Example: threefield plan -p \"1|prec|sumwT\" examples/workshop.txt
+
+Exit status: 0 optimal, 2 refused, 3 want of memory,
+             4 a file or a device failed, 5 the command line is wrong,
+             6 planned, and not proved optimal.";
+
 const ABOUT_BOUND: &str = "\
 Example: threefield bound -p \"P2||Cmax\" examples/table.txt
 
@@ -127,7 +134,7 @@ pub fn command<'a>(alloc: Global) -> Result<Command<'a>, AllocError>
 }
 
 // How many commands there are.
-const COMMANDS: u32 = 8;
+const COMMANDS: u32 = 9;
 
 // The command at a place in the help.
 fn command_at<'a>(alloc: Global, place: u32) -> Result<Command<'a>, AllocError>
@@ -136,12 +143,13 @@ fn command_at<'a>(alloc: Global, place: u32) -> Result<Command<'a>, AllocError>
 {
     match place {
         0 => solve_command(alloc),
-        1 => bound_command(alloc),
-        2 => trace_command(alloc),
-        3 => check_command(alloc),
-        4 => evaluate_command(alloc),
-        5 => gantt_command(alloc),
-        6 => random_command(alloc),
+        1 => plan_command(alloc),
+        2 => bound_command(alloc),
+        3 => trace_command(alloc),
+        4 => check_command(alloc),
+        5 => evaluate_command(alloc),
+        6 => gantt_command(alloc),
+        7 => random_command(alloc),
         _ => problems_command(alloc),
     }
 }
@@ -168,6 +176,18 @@ fn solve_command<'a>(alloc: Global) -> Result<Command<'a>, AllocError>
         csv(),
     ];
     with_options(alloc, page, &rows)
+}
+
+fn plan_command<'a>(alloc: Global) -> Result<Command<'a>, AllocError>
+    ensures { IfOk result (λ c. name_of c ≡ codes "plan") }
+{
+    let page = Page {
+        name: "plan",
+        about: "Prints a schedule for an NP-hard problem, and how good it is",
+        after: ABOUT_PLAN,
+        long: Some(help::OF_PLAN),
+    };
+    with_options(alloc, page, &[steps(), json(), csv()])
 }
 
 fn bound_command<'a>(alloc: Global) -> Result<Command<'a>, AllocError>

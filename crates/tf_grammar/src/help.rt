@@ -25,7 +25,7 @@ First steps: threefield solve -p \"1||Lmax\" TABLE > answer.txt
              threefield gantt answer.txt
              threefield check -p \"1||Lmax\" TABLE answer.txt
              threefield trace -p \"1||Lmax\" TABLE
-             threefield bound -p \"1||sumwT\" TABLE
+             threefield plan -p \"1||sumwT\" TABLE
 
 threefield COMMAND --help has more of each command.
 
@@ -52,11 +52,37 @@ Formats: table  a job table (threefield --help)
          wt     the weighted tardiness files of OR-Library
          flow   the flow shop files of OR-Library
 
-A problem without a solver is refused: \"bound\" may print a lower bound for it,
-and \"evaluate\" judges schedules by that.
+A problem without a solver is refused: \"plan\" prints a schedule for many of them,
+and how far it can be from an optimal one.
 
 Exit status: 0 answered, 2 refused, 3 want of memory,
              4 a file or a device failed, 5 the command line is wrong.";
+
+/// Of `plan`.
+pub(crate) const OF_PLAN: &str = "\
+Prints a schedule for a problem without a solver, and how good it is. It takes
+what \"bound\" takes. It is proved that the schedule fits and has the printed
+value, and that no schedule costs less than the lower bound. A problem with a
+solver is solved as \"solve\" does it.
+
+The schedule is an answer, which \"gantt\" draws and \"evaluate\" judges. Behind its
+line \"end\" stand comments: \"## gap G\" says that the value is G above the lower
+bound, so that 0 means optimal, or \"## no bound\" that none is known; then comes
+the text of the bound, each line behind \"# \", for \"evaluate --bound\":
+
+    threefield plan -p \"P2||Cmax\" table.txt > plan.txt
+    sed -n \"s/^# //p\" plan.txt > bound.txt
+
+The schedule is the best of several rules, and of all jobs one after another.
+--steps lets the search for the bound take more time, or less.
+
+Example: threefield plan -p \"1|prec|sumwT\" examples/workshop.txt
+         threefield plan -p \"P3|prec|Cmax\" table.txt | threefield gantt
+         threefield plan -p \"F3||sumT\" -f flow --name t01 shop.txt
+
+Exit status: 0 optimal, 2 refused, 3 want of memory,
+             4 a file or a device failed, 5 the command line is wrong,
+             6 planned, and not proved optimal.";
 
 /// Of `bound`.
 pub(crate) const OF_BOUND: &str = "\

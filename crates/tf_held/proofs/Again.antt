@@ -38,7 +38,7 @@ use Rattle.tf_options.specs.declared.options.Evaluating.{Evaluating}
 use Rattle.tf_options.specs.declared.options.FormOption.TheVariants.{Wt}
 use Rattle.tf_options.specs.declared.options.Options.{Options}
 use Rattle.tf_options.specs.declared.options.Work.{Work as Asking}
-use Rattle.tf_options.specs.declared.options.Work.TheVariants.{Solve, Bound, Trace, Check, Evaluate, Assess, Rate, Gantt, Random, Problems, Picture}
+use Rattle.tf_options.specs.declared.options.Work.TheVariants.{Solve, Bound, Plan, Trace, Check, Evaluate, Assess, Rate, Gantt, Random, Problems, Picture}
 use Rattle.tf_options.specs.declared.series.Series.{Series}
 use Rattle.tf_options.specs.declared.series.Told.{Told}
 use Rattle.tf_options.specs.declared.series.Told.TheVariants as kinds
@@ -385,6 +385,7 @@ work_for series m k (Evaluate evaluating) is =
     evaluated (kinds.Answers answer steps) e is = is
     evaluated kinds.Values e is = absurd is
     evaluated (kinds.Bounds steps) e is = absurd is
+work_for series m k (Plan options layout steps) is = absurd is
 work_for series m k (Trace options style) is = absurd is
 work_for series m k (Check options answer) is = absurd is
 work_for series m k (Assess assessing) is = absurd is
@@ -503,6 +504,7 @@ module _ (series : Series) (m : ℕ) (own answer : List ℕ) (writer : DeviceUse
       Two is.0.form evaluating.detail through.0 through.1 through.4 in
       rating_has options.problem.now options.machines Two series.jobs m own through.0 through.1 writer
       through.2 evaluating.detail run.0 run.1
+  ran_has (Plan options layout steps) is done = absurd is
   ran_has (Trace options style) is done = absurd is
   ran_has (Check options answer) is done = absurd is
   ran_has (Assess assessing) is done = absurd is
@@ -586,6 +588,7 @@ module _ (series : Series) (m : ℕ) (own answer : List ℕ) (writer : DeviceUse
             ap (λ b. Some (cond b own answer)) other ∙ sym (ap (λ b. Some (cond b file answer)) other)
         answer_is kinds.Values e by differ = absurd by
         answer_is (kinds.Bounds steps) e by differ = absurd by
+    ran_again (Plan options layout steps) is done = absurd is
     ran_again (Trace options style) is done = absurd is
     ran_again (Check options answer) is done = absurd is
     ran_again (Assess assessing) is done = absurd is

@@ -1,4 +1,4 @@
--- Evaluations for a shop of as many machines as their file has.
+-- Plans and evaluations for a shop of as many machines as their file has.
 use Rattle.std.specs.Prelude.{◌≡◌, ◌⊎◌, ℕ, Bool, true, false, ◌&&◌, List, Option, None, Some, Result, Ok, Err, IsErr, IsOk, is_none, is_some, if◌then◌else◌}
 use Rattle.std.specs.Str.{bytes_eq}
 use Rattle.tf_model.specs.ClassTable.{class_of, is_shop_env}
@@ -13,7 +13,7 @@ use Rattle.tf_options.specs.declared.options.FormOption.{FormOption}
 use Rattle.tf_options.specs.declared.options.FormOption.TheVariants.{Table, Wt, Flow}
 use Rattle.tf_options.specs.declared.options.Options.{Options}
 use Rattle.tf_options.specs.declared.options.Work.{Work as Asking}
-use Rattle.tf_options.specs.declared.options.Work.TheVariants.{Evaluate, Assess, Rate}
+use Rattle.tf_options.specs.declared.options.Work.TheVariants.{Plan, Evaluate, Assess, Rate}
 use Rattle.tf_command.specs.Performing.{Performs, Texts}
 use Rattle.tf_held.specs.Texts.{IsUnread}
 use Rattle.tf_held.specs.declared.shops.HeldOr.{HeldOr}
@@ -97,16 +97,18 @@ abbrev pub IsCountedBy : Options → List ℕ → Options → Type 0
 IsCountedBy options instance other =
     (line : List ℕ) × IsLineFor options instance line × IsUnder options line other
 
--- ---- evaluations: of an answer, also by bounds alone, of orders, and of pieces
+-- ---- plans, and evaluations: of an answer, also by bounds alone, of orders, and of pieces
 
 abbrev pub evaluated : Asking → Option Options
+evaluated (Plan options layout steps) = Some options
 evaluated (Evaluate evaluating) = Some evaluating.options
 evaluated (Assess assessing) = Some assessing.options
 evaluated (Rate options orders) = Some options
 evaluated _ = None
 
--- the same evaluation with other options
+-- the same plan or evaluation with other options
 abbrev pub with_options : Asking → Options → Asking
+with_options (Plan _ layout steps) options = Plan options layout steps
 with_options (Evaluate evaluating) options = Evaluate (record evaluating { options = options })
 with_options (Assess assessing) options = Assess (record assessing { options = options })
 with_options (Rate _ orders) options = Rate options orders

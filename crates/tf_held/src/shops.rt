@@ -1,4 +1,4 @@
-//! Evaluations for a shop of as many machines as its file has.
+//! Plans and evaluations for a shop of as many machines as its file has.
 ghost use Rattle.std.specs.Prelude.{◌≡◌, Some, true, false, IfOk, IfSome, MatchOption, option_map};
 ghost use Rattle.std.specs.Prelude.{string_bytes};
 ghost use Rattle.tf_command.specs.Ending.{SaysLine};
@@ -94,9 +94,9 @@ impl<'a, S: Sources> Sources for WithInstance<'a, S> {
     }
 }
 
-/// Does what is asked for, as [`perform`] does. In an evaluation a problem that is solved on two
-/// machines and names no number of them, as `F||Cmax`, is that of as many machines as the instance
-/// of a flow shop file has.
+/// Does what is asked for, as [`perform`] does. In a plan or an evaluation a problem that is solved
+/// on two machines and names no number of them, as `F||Cmax`, is that of as many machines as the
+/// instance of a flow shop file has.
 pub fn perform_counted<S: Sources, W: Write, E: Write>(
     console: &mut Console<W, E>,
     sources: &S,
@@ -144,7 +144,7 @@ pub fn counted_formatted<S: Sources, W: Write, E: Write>(
     print_kept(console, format, &kept, status)
 }
 
-/// The options of an evaluation whose number of machines is wanted.
+/// The options of a plan or an evaluation whose number of machines is wanted.
 fn options_to_count<'w, 'a>(work: &'w Work<'a>) -> Option<&'w Options<'a>>
     ensures { MatchOption result (asks_count (evaluated work.now) ≡ false)
         (λ options. (evaluated work.now ≡ Some options.now)
@@ -157,11 +157,12 @@ fn options_to_count<'w, 'a>(work: &'w Work<'a>) -> Option<&'w Options<'a>>
     }
 }
 
-/// The options of an evaluation: of an answer, of orders, or of pieces.
+/// The options of a plan, or of an evaluation: of an answer, of orders, or of pieces.
 fn evaluated<'w, 'a>(work: &'w Work<'a>) -> Option<&'w Options<'a>>
     ensures { option_map (λ options. options.now) result ≡ evaluated work.now }
 {
     match work {
+        Work::Plan(options, _, _) => Some(options),
         Work::Evaluate(evaluating) => Some(&evaluating.options),
         Work::Assess(assessing) => Some(&assessing.options),
         Work::Rate(options, _) => Some(options),
@@ -261,7 +262,7 @@ fn with_count(problem: Problem, count: u32) -> Problem
     counted
 }
 
-/// The same evaluation, with another problem line, and any other work as it is.
+/// The same plan or evaluation, with another problem line, and any other work as it is.
 fn work_under<'a>(work: Work<'a>, line: &'a str) -> Work<'a>
     requires { IsSized work }
     ensures sized { IsSized result }
@@ -269,6 +270,7 @@ fn work_under<'a>(work: Work<'a>, line: &'a str) -> Work<'a>
         × IsUnder options line.now other × (result ≡ with_options work.entry other)) }
 {
     match work {
+        Work::Plan(options, layout, steps) => Work::Plan(under(options, line), layout, steps),
         Work::Evaluate(evaluating) => Work::Evaluate(evaluating_under(evaluating, line)),
         Work::Assess(assessing) => Work::Assess(Assessing {
             options: under(assessing.options, line),

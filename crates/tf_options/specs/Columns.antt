@@ -4,7 +4,7 @@ use Rattle.tf_text.specs.Chart.{most_columns}
 use Rattle.tf_options.specs.declared.options.Drawing.{Drawing}
 use Rattle.tf_options.specs.declared.options.Drawing.TheVariants.{Chart, Picture}
 use Rattle.tf_options.specs.declared.options.Work.{Work as Asking}
-use Rattle.tf_options.specs.declared.options.Work.TheVariants.{Solve, Bound, Trace, Check, Evaluate, Assess, Rate, Gantt, Random, Problems, Picture as Dated}
+use Rattle.tf_options.specs.declared.options.Work.TheVariants.{Solve, Bound, Plan, Trace, Check, Evaluate, Assess, Rate, Gantt, Random, Problems, Picture as Dated}
 use Rattle.tf_options.specs.declared.options.Asked.{Asked}
 use Rattle.tf_options.specs.declared.options.Asked.TheVariants.{Work, Formatted}
 
@@ -17,6 +17,7 @@ HasWidth (Picture view) = Unit {0}
 abbrev pub IsSized : Asking → Type 0
 IsSized (Solve options layout) = Unit {0}
 IsSized (Bound options steps) = Unit {0}
+IsSized (Plan options layout steps) = Unit {0}
 IsSized (Trace options style) = Unit {0}
 IsSized (Check options answer) = Unit {0}
 IsSized (Evaluate evaluating) = Unit {0}

@@ -4,7 +4,7 @@ use Rattle.std.specs.Str.{bytes_eq}
 use Rattle.tf_text.specs.declared.answer.layout.Layout.{Layout}
 use Rattle.tf_text.specs.declared.answer.layout.Layout.TheVariants.{One}
 use Rattle.tf_export.specs.declared.csv.Table.TheVariants.{Pieces, Outcomes}
-use Rattle.tf_export.specs.declared.documents.Document.TheVariants.{Answer, Bound, Evaluation, Verdict, Problems}
+use Rattle.tf_export.specs.declared.documents.Document.TheVariants.{Answer, Bound, Evaluation, Verdict, Problems, Plan}
 use Rattle.tf_options.specs.Matched.{layout_by}
 use Rattle.tf_options.specs.declared.format.Format.{Format}
 use Rattle.tf_options.specs.declared.format.Format.TheVariants.{Json, Csv}
@@ -20,14 +20,15 @@ abbrev pub json_format : List ℕ → Option Format
 json_format name =
     if bytes_eq name (codes "solve") then Some (Json Answer)
     else (if bytes_eq name (codes "bound") then Some (Json Bound)
+    else (if bytes_eq name (codes "plan") then Some (Json Plan)
     else (if bytes_eq name (codes "check") then Some (Json Verdict)
     else (if bytes_eq name (codes "evaluate") then Some (Json Evaluation)
-    else (if bytes_eq name (codes "problems") then Some (Json Problems) else None))))
+    else (if bytes_eq name (codes "problems") then Some (Json Problems) else None)))))
 
 -- and as a table
 abbrev pub csv_format : List ℕ → Option Format
 csv_format name =
-    if bytes_eq name (codes "solve") then Some (Csv Pieces)
+    if bytes_eq name (codes "solve") || bytes_eq name (codes "plan") then Some (Csv Pieces)
     else (if bytes_eq name (codes "evaluate") then Some (Csv Outcomes) else None)
 
 -- a flag is given, or not

@@ -12,7 +12,7 @@ use Rattle.tf_options.specs.declared.options.Asked.TheVariants.{Work, Unfit, NoM
 use Rattle.tf_options.specs.declared.options.OrderSource.{OrderSource}
 use Rattle.tf_options.specs.declared.options.OrderSource.TheVariants.{Given as Written, Named, Drawn}
 use Rattle.tf_options.specs.declared.options.Work.{Work as Asking}
-use Rattle.tf_options.specs.declared.options.Work.TheVariants.{Solve, Bound, Trace, Check, Evaluate, Assess, Rate, Gantt, Random, Problems, Picture}
+use Rattle.tf_options.specs.declared.options.Work.TheVariants.{Solve, Bound, Plan, Trace, Check, Evaluate, Assess, Rate, Gantt, Random, Problems, Picture}
 
 -- the orders that are evaluated: that of `--order`, or those of the text that `--orders` names; or the
 -- pieces of the text that `--schedule` names
@@ -77,6 +77,11 @@ IsWorkBy name given on_terminal (Bound options steps) =
     (name ≡ codes "bound")
     × AreOptionsBy given on_terminal options
     × IsNumberBy 1 most_steps (given.value (codes "steps")) steps
+IsWorkBy name given on_terminal (Plan options layout steps) =
+    (name ≡ codes "plan")
+    × AreOptionsBy given on_terminal options
+    × IsSolvedLayoutBy given.flag (given.value (codes "answer")) layout
+    × IsNumberBy 1 most_steps (given.value (codes "steps")) steps
 IsWorkBy name given on_terminal (Trace options style) =
     (name ≡ codes "trace")
     × AreOptionsBy given on_terminal options
@@ -118,11 +123,14 @@ IsWorkBy name given on_terminal (Problems listed table) =
     × IsFlagBy (given.flag (codes "bounds")) (lists_bounded listed)
     × (option_map (λ file. file.now) table ≡ given.value (codes "FILE"))
 
+-- the commands that search for prices
+abbrev pub has_steps : List ℕ → Bool
+has_steps name = bytes_eq name (codes "bound") || bytes_eq name (codes "plan")
+
 -- the commands that have options and no answer
 abbrev pub has_no_answer : List ℕ → Bool
 has_no_answer name =
-    bytes_eq name (codes "solve")
-    || (bytes_eq name (codes "bound") || bytes_eq name (codes "trace"))
+    bytes_eq name (codes "solve") || (has_steps name || bytes_eq name (codes "trace"))
 
 -- both the instance and the answer are standard input
 abbrev pub answer_fault : Given → Option (List ℕ)
@@ -174,7 +182,7 @@ orders_fault given =
 -- the fault of a command's values that is told first
 abbrev pub own_fault : List ℕ → Given → Option (List ℕ)
 own_fault name given =
-    if bytes_eq name (codes "bound") then steps_fault given
+    if has_steps name then steps_fault given
     else (if has_no_answer name then None
     else (if is_rating name given then orders_fault given
     else first_fault (answer_fault given) (evaluating_fault name given)))

@@ -188,6 +188,9 @@ pub enum Work<'a> {
     Solve(Options<'a>, Layout),
     /// Print a lower bound, after so many steps of the search for prices where they are given.
     Bound(Options<'a>, Option<u32>),
+    /// Print a schedule and how good it is, after so many steps of the search for prices where they
+    /// are given; for a problem that is solved its answer in this version.
+    Plan(Options<'a>, Layout, Option<u32>),
     /// Print how an optimal schedule is found, step by step, in this style.
     Trace(Options<'a>, Style),
     /// Judge the answer of this name.
@@ -332,6 +335,9 @@ fn json_format(name: &str) -> Option<Format>
     if name == "bound" {
         return Some(Format::Json(Document::Bound));
     }
+    if name == "plan" {
+        return Some(Format::Json(Document::Plan));
+    }
     if name == "check" {
         return Some(Format::Json(Document::Verdict));
     }
@@ -348,7 +354,7 @@ fn json_format(name: &str) -> Option<Format>
 fn csv_format(name: &str) -> Option<Format>
     ensures { result ≡ csv_format name.now }
 {
-    if name == "solve" {
+    if name == "solve" || name == "plan" {
         return Some(Format::Csv(Table::Pieces));
     }
     if name == "evaluate" {
@@ -408,6 +414,9 @@ fn work_over<'a>(
     }
     if name == "bound" {
         return Ok(Work::Bound(options, steps_in(given)?));
+    }
+    if name == "plan" {
+        return Ok(Work::Plan(options, solved_layout_in(given), steps_in(given)?));
     }
     if name == "trace" {
         return Ok(Work::Trace(options, style_in(given)));

@@ -5,6 +5,7 @@ use Rattle.tf_text.specs.declared.answer.layout.Layout.TheVariants.{Two}
 use Rattle.tf_picture.specs.Strips.{whole}
 use Rattle.tf_options.specs.declared.options.Drawing.TheVariants.{Chart, Picture}
 use Rattle.tf_command.specs.Ending.{EndsSolving, EndsBounding, EndsChecking, EndsEvaluating, EndsDrawing}
+use Rattle.tf_command.specs.Planning.{EndsPlanning}
 use Rattle.tf_reply.specs.declared.asking.Asking.{Asking}
 use Rattle.tf_reply.specs.Asked.{request_in, instance_part, answer_part, layout_said, detail_said}
 use Rattle.tf_reply.specs.WellFormed.{IsWellFormed, HasAllowedSteps, HasAllowedColumns}
@@ -15,6 +16,11 @@ Solves A asking texts =
     IfWellFormed (IsWellFormed asking texts)
     (IsOver (EndsSolving A (request_in asking texts (layout_said asking.version)))
     (instance_part asking texts))
+
+abbrev pub Plans : Type 0 → Asking → List ℕ → Outcome
+Plans A asking texts =
+    IfWellFormed (IsWellFormed asking texts × HasAllowedSteps asking)
+    (IsOver (EndsPlanning A (request_in asking texts Two)) (instance_part asking texts))
 
 abbrev pub Bounds : Type 0 → Asking → List ℕ → Outcome
 Bounds A asking texts =

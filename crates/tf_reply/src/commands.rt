@@ -5,7 +5,9 @@ ghost use Rattle.tf_options.specs.Asking.{requested};
 ghost use Rattle.tf_options.specs.Columns.{HasWidth};
 ghost use Rattle.tf_command.specs.Ending.{EndsSolving, EndsBounding, EndsChecking, EndsEvaluating};
 ghost use Rattle.tf_command.specs.Ending.{EndsDrawing};
-ghost use Rattle.tf_reply.specs.Commands.{Solves, Bounds, Checks, Evaluates, Draws, Pictures};
+ghost use Rattle.tf_command.specs.Planning.{EndsPlanning};
+ghost use Rattle.tf_reply.specs.Commands.{Solves, Plans, Bounds, Checks, Evaluates, Draws};
+ghost use Rattle.tf_reply.specs.Commands.{Pictures};
 ghost use Rattle.tf_reply.specs.Replies.{printed, said, Replies, IsOver, IsOverBoth, IsListed};
 
 use crate::asking::{Asked, Asking};
@@ -15,8 +17,9 @@ use std::alloc::{AllocError, Allocator};
 use tf_assess::run_rate::{RatingRequest, run_rate};
 use tf_bounding::run_bound::run_bound;
 use tf_command::commands::draw;
+use tf_command::planning::plan_any;
 use tf_command::problems::table_in;
-use tf_command::report::{end_check, end_evaluation, end_run, report, say_device};
+use tf_command::report::{end_check, end_evaluation, end_plan, end_run, report, say_device};
 use tf_engine::run_check::run_check;
 use tf_engine::run_solve::run_solve;
 use tf_evaluate::evaluation::Detail;
@@ -57,6 +60,39 @@ fn solved<A: Allocator + Copy>(
     let mut console = Console::new(alloc);
     let run = run_solve(alloc, &request, &mut instance, &mut console.output);
     let status = end_run(&run, &mut console.errors);
+    console.ended(status)
+}
+
+/// Plans an instance.
+pub fn plan<A: Allocator + Copy>(
+    alloc: A,
+    asking: &Asking,
+    texts: &[u8],
+) -> Result<Reply<A>, AllocError>
+    ensures { IfOk result (Replies (Plans A asking.now texts.now)) }
+{
+    match (asking.read(texts), asking.price_steps()) {
+        (Ok(asked), Ok(steps)) => planned(alloc, &asked.options, steps, asked.instance),
+        (Err(text), _) | (_, Err(text)) => misused(alloc, text),
+    }
+}
+
+#[tactic(auto, using(crate::proofs::Said::whole))]
+fn planned<A: Allocator + Copy>(
+    alloc: A,
+    options: &Options<'_>,
+    steps: Option<u32>,
+    instance: &[u8],
+) -> Result<Reply<A>, AllocError>
+    ensures { IfOk result (Replies (IsOver (EndsPlanning A (requested options.now Layout.Two))
+        instance.now)) }
+{
+    let request = options.request(alloc, Layout::Two)?;
+    let mut instance = Counted::new(instance);
+    let mut console = Console::new(alloc);
+    let effort: Effort<Nobody> = Effort::untold(steps);
+    let run = plan_any(alloc, &request, effort, &mut instance, &mut console.output);
+    let status = end_plan(&run, &mut console.errors);
     console.ended(status)
 }
 

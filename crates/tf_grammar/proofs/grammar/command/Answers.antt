@@ -8,7 +8,7 @@ use Rattle.tf_grammar.specs.Commands.{name_of, command_names}
 use Rattle.tf_grammar.proofs.grammar.command.Goals as goal
 
 -- one command more
-one_more : (old sub new : Command) (i : ℕ) → i < 8 → AddsSubcommand old sub new
+one_more : (old sub new : Command) (i : ℕ) → i < 9 → AddsSubcommand old sub new
     → name_of sub ≡ get_or command_names i (codes "problems")
     → map name_of (subcommands_of old) ≡ take i command_names
     → map name_of (subcommands_of new) ≡ take (i + 1) command_names

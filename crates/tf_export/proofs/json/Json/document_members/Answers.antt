@@ -41,3 +41,10 @@ returns-in-Problems c =
     (subst (λ all. OnOk c.parts_array.result (Adds c.args.self.now c.parts_array.new.self
     (parts_array (codes "problems") Problem all ∷ []))) c.behind_heading.ensures
     c.parts_array.ensures)
+
+pub returns-in-Plan : goal.returns-in-Plan
+unfolding document_members
+returns-in-Plan c =
+    subst (λ document. OnOk c.plan_members.result
+    (Adds c.args.self.now c.plan_members.new.self (document_members document c.args.text.now)))
+    (sym c.in-Plan.is) c.plan_members.ensures

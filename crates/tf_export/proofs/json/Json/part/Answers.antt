@@ -26,3 +26,15 @@ returns-in-Row c =
     subst (λ part. OnOk c.row_in.result
     (Adds c.args.self.now c.row_in.new.self (part_in part c.args.line.now)))
     (sym c.in-Row.is) c.row_in.ensures
+
+pub returns-in-Distance : goal.returns-in-Distance
+returns-in-Distance c =
+    subst (λ part. OnOk c.distance_in.result
+    (Adds c.args.self.now c.distance_in.new.self (part_in part c.args.line.now)))
+    (sym c.in-Distance.is) c.distance_in.ensures
+
+pub returns-in-Bounded : goal.returns-in-Bounded
+returns-in-Bounded c =
+    subst (λ part. OnOk c.bounded_in.result
+    (Adds c.args.self.now c.bounded_in.new.self (part_in part c.args.line.now)))
+    (sym c.in-Bounded.is) c.bounded_in.ensures

@@ -1,0 +1,9 @@
+use Rattle.tf_reply.specs.Commands.{Plans}
+use Rattle.tf_page.specs.Given.{Lent}
+use Rattle.tf_page.proofs.Handed.{handed}
+use Rattle.tf_page.proofs.page_plan.Goals as goal
+
+pub returns-in-Ok : goal.returns-in-Ok
+returns-in-Ok c =
+    handed (Plans Lent c.args.asking.now c.args.texts.now) c.plan.result c.plan.ensures c.args.out.now
+    c.give.new.out c.give.new.lengths c.give.result c.give.ensures

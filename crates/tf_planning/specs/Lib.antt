@@ -1,0 +1,4 @@
+-- what a caller has to believe
+pub mod Planning
+pub mod PlanText
+pub mod RunPlanning

@@ -1,0 +1,69 @@
+-- What a run that plans a problem leaves behind.
+use Rattle.std.specs.Prelude.{◌≡◌, ◌⊎◌, ℕ, ℤ, true, List, length, Option, Result, Ok, Err, IfSome}
+use Rattle.std.specs.Io.KnownBytes.{Appends}
+use Rattle.tf_text.specs.Counted.{DeviceUse}
+use Rattle.tf_text.specs.Input.{IsTextOf}
+use Rattle.tf_problem.specs.ProblemData.{ProblemData}
+use Rattle.tf_problem.specs.ProblemCost.{IsProblemBest}
+use Rattle.tf_schedule.specs.declared.piece.Piece.{Piece}
+use Rattle.tf_schedule.specs.Drawing.{drawing}
+use Rattle.tf_engine.specs.declared.fault.RunFault.{RunFault}
+use Rattle.tf_engine.specs.Faults.{Refused, stop_of}
+use Rattle.tf_engine.specs.RequestData.{RequestData}
+use Rattle.tf_engine.specs.Runs.{Leaves}
+use Rattle.tf_search.specs.declared.strongest.Found.{Found}
+use Rattle.tf_search.specs.Strongest.{IsFound}
+use Rattle.tf_bounding.specs.RunBounding.{problem_task_for}
+use Rattle.tf_plan.specs.Plan.{IsPlan}
+use Rattle.tf_planning.specs.Planning.{IsUnplannable}
+use Rattle.tf_planning.specs.PlanText.{plan_text, standing_of}
+use Rattle.tf_planning.specs.declared.writing.Planned.{Planned}
+use Rattle.tf_planning.specs.declared.writing.Planned.TheVariants.{Optimal}
+
+-- `out` is the text of a schedule that fits the task and costs the value, beside a lower bound of
+-- every timetable that fits, where one was found; where both are equal no timetable costs less
+pub record IsPlanOf (A : Type 0) (k : ProblemData) (planned : Planned) (out : List ℕ) : Type 0 where
+  pub pieces : List Piece
+  pub value : ℤ
+  pub found : Option (Found A)
+  pub plan : IsPlan k pieces value
+  pub bound : IfSome found (IsFound k)
+  pub written : out ≡ plan_text k (length k.jobs) pieces value found
+  pub standing : planned ≡ standing_of value found
+  pub best : planned ≡ Optimal → IsProblemBest k (drawing k.machines pieces) value
+
+-- the same for the task that the request and the text mean
+pub record Plans (A : Type 0) (request : RequestData) (text : List ℕ) (planned : Planned)
+    (out : List ℕ) : Type 0 where
+  pub task : ProblemData
+  pub meant : problem_task_for request text ≡ Ok task
+  pub is : IsPlanOf A task planned out
+
+abbrev pub SaysPlan : Type 0 → RequestData → List ℕ → List ℕ → Type 0
+SaysPlan A request text out = (planned : Planned) × Plans A request text planned out
+
+-- the refusal is the one of the definitions, or nothing else is refused and the task has no plan
+abbrev pub IsRefusedPlan : RequestData → List ℕ → Refused → Type 0
+IsRefusedPlan request text refused =
+    (problem_task_for request text ≡ Err refused)
+    ⊎ ((task : ProblemData) × (problem_task_for request text ≡ Ok task)
+    × IsUnplannable task refused)
+
+-- A plan is written, or the one refusal is given. Where memory was wanting there is neither. Nothing
+-- was written then, nor after a refusal or where the reader failed; where the writer failed a prefix
+-- of the text was.
+abbrev pub PlanningOutcome : {A : Type 0} → RequestData → List ℕ → DeviceUse → DeviceUse
+    → Result Planned (RunFault A) → Type 0
+PlanningOutcome {A = A} request text reader writer (Ok planned) =
+    (out : List ℕ) × Plans A request text planned out × Appends writer.before writer.after out
+PlanningOutcome {A = A} request text reader writer (Err e) =
+    Leaves (SaysPlan A request text) (IsRefusedPlan request text) (reader.failed ≡ true) writer
+    (stop_of e)
+
+-- The outcome is that of a text, which is all bytes of the reader up to its end where they are
+-- known.
+pub record IsPlanningOf {A : Type 0} (request : RequestData) (reader writer : DeviceUse)
+    (result : Result Planned (RunFault A)) : Type 0 where
+  pub text : List ℕ
+  pub is_all : IsTextOf reader.before text
+  pub outcome : PlanningOutcome request text reader writer result

@@ -1,0 +1,108 @@
+//! The schedule that rules find. Nothing is promised of it: whoever takes it judges it.
+use std::alloc::Allocator;
+use tf_bound::task::ProblemTask;
+use tf_decode::lay::lay;
+use tf_decode::table::{JobNumbers, TaskNumbers, TaskTable};
+use tf_model::ids::JobId;
+use tf_model::memory::OutOfMemory;
+use tf_plan::plan::plan_of_pieces;
+use tf_rules::rule::{list_by, rules_for};
+use tf_schedule::piece::Piece;
+
+// How many operations all rules together may place. The first rules are tried in any case.
+const MOST_PLACED: usize = 20_000_000;
+
+const LEAST_RULES: usize = 4;
+
+/// The pieces of the best schedule of all rules. All jobs in this order keep the arcs.
+pub(crate) fn best_pieces<A: Allocator + Copy, B: Allocator>(
+    alloc: A,
+    task: &ProblemTask<B>,
+    order: &[JobId],
+) -> Result<Vec<Piece, A>, OutOfMemory> {
+    let table = table_of(alloc, task, order)?;
+    let list = best_list(alloc, task, &table)?;
+    lay(alloc, &table, &list)
+}
+
+// The numbers of a task as a search reads them.
+fn table_of<A: Allocator + Copy, B: Allocator>(
+    alloc: A,
+    task: &ProblemTask<B>,
+    order: &[JobId],
+) -> Result<TaskTable<A>, OutOfMemory> {
+    let numbers = TaskNumbers {
+        jobs: jobs_of(alloc, task)?,
+        times: times_of(alloc, task)?,
+        machines: task.machines() as usize,
+    };
+    TaskTable::new(alloc, &task.problem(), numbers, task.arcs(), order)
+}
+
+fn jobs_of<A: Allocator, B: Allocator>(
+    alloc: A,
+    task: &ProblemTask<B>,
+) -> Result<Vec<JobNumbers, A>, OutOfMemory> {
+    let mut jobs = Vec::with_capacity(alloc, task.len())?;
+    for k in 0..task.len() {
+        let job = JobId::at(k);
+        jobs.push(JobNumbers {
+            work: task.work(job),
+            weight: task.weight(job),
+            release: task.release(job),
+            due: task.due(job),
+        })?;
+    }
+    Ok(jobs)
+}
+
+fn times_of<A: Allocator, B: Allocator>(
+    alloc: A,
+    task: &ProblemTask<B>,
+) -> Result<Vec<u64, A>, OutOfMemory> {
+    let mut times = Vec::with_capacity(alloc, task.len())?;
+    for k in 0..task.len() {
+        times.extend_from_slice(task.times(JobId::at(k)))?;
+    }
+    Ok(times)
+}
+
+// The list of the rule whose schedule costs least.
+fn best_list<A: Allocator + Copy, B: Allocator>(
+    alloc: A,
+    task: &ProblemTask<B>,
+    table: &TaskTable<A>,
+) -> Result<Vec<u32, A>, OutOfMemory> {
+    let rules = rules_for(alloc, table)?;
+    let mut best = Vec::new(alloc);
+    let mut least = i128::MAX;
+    for rule in rules.as_slice().iter().take(most_rules(table)) {
+        let list = list_by(alloc, table, *rule)?;
+        let cost = cost_of(alloc, task, table, &list)?;
+        if best.is_empty() || cost < least {
+            least = cost;
+            best = list;
+        }
+    }
+    Ok(best)
+}
+
+// How many rules are tried.
+fn most_rules<A: Allocator>(table: &TaskTable<A>) -> usize {
+    let operations = table.times.len().max(1);
+    (MOST_PLACED / operations).max(LEAST_RULES)
+}
+
+// What the schedule of a list costs; more than any other where it does not fit.
+fn cost_of<A: Allocator + Copy, B: Allocator>(
+    alloc: A,
+    task: &ProblemTask<B>,
+    table: &TaskTable<A>,
+    list: &[u32],
+) -> Result<i128, OutOfMemory> {
+    let pieces = lay(alloc, table, list)?;
+    match plan_of_pieces(alloc, task, pieces)? {
+        Some(plan) => Ok(plan.value),
+        None => Ok(i128::MAX),
+    }
+}

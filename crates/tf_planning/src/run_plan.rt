@@ -1,0 +1,68 @@
+//! A plan of a problem and an instance, from bytes to bytes.
+ghost use Rattle.std.specs.Prelude.{MatchResult};
+ghost use Rattle.tf_text.specs.Counted.{inner_of, use_of};
+ghost use Rattle.tf_engine.specs.Devices.{LeavesRun};
+ghost use Rattle.tf_engine.specs.Faults.{end_of, stop_of};
+ghost use Rattle.tf_bounding.specs.RunBounding.{problem_in};
+ghost use Rattle.tf_planning.specs.Planning.{StopsPlanning};
+ghost use Rattle.tf_planning.specs.RunPlanning.{IsPlanOf, IsPlanningOf};
+
+use crate::made::made_for;
+use crate::writing::{Planned, kept_text, remarks_of, sheet_of, standing_of};
+use std::alloc::{Allocator, Global};
+use std::io::{Read, Write};
+use tf_bound::task::ProblemTask;
+use tf_bounding::instance_read::task_read;
+use tf_engine::fault::RunFault;
+use tf_engine::request::Request;
+use tf_search::effort::{Effort, Progress};
+use tf_text::counted::Counted;
+
+/// Reads an instance to its end, searches for a schedule of its task and for the strongest lower
+/// bound, and writes the schedule as an answer text, with the bound behind it in comments.
+///
+/// The refusals come in the order of [`tf_bounding::run_bound::run_bound`], and after them a cycle of
+/// the arcs. After a refusal nothing was written, unless it is [`RunFault::Device`], after which a
+/// prefix of the text may have been.
+pub fn run_plan<A: Allocator + Copy, B: Allocator, P: Progress + Drop, R: Read, W: Write>(
+    alloc: A,
+    request: &Request<B>,
+    effort: Effort<P>,
+    reader: &mut Counted<R>,
+    writer: &mut Counted<W>,
+) -> Result<Planned, RunFault<A>>
+    ensures outcome { IsPlanningOf request.now (use_of R.remaining reader.old reader.new)
+        (use_of W.contents writer.old writer.new) result }
+    ensures devices { LeavesRun (problem_in request.now.problem) R.remaining reader.old reader.new
+        writer.old writer.new (end_of result) }
+{
+    let task = task_read(alloc, request, reader)?;
+    let printed = printed_for(alloc, &task, effort)?;
+    writer.push_all(printed.text.inner().as_slice())?;
+    Ok(printed.planned)
+}
+
+// The text of a plan, and what is known of it.
+#[derive(Drop)]
+struct Printed<A: Allocator = Global> {
+    text: Counted<Vec<u8, A>>,
+    planned: Planned,
+}
+
+// The best plan that is found, as a text.
+fn printed_for<A: Allocator + Copy, B: Allocator, P: Progress + Drop>(
+    alloc: A,
+    task: &ProblemTask<B>,
+    effort: Effort<P>,
+) -> Result<Printed<A>, RunFault<A>>
+    ensures { MatchResult result
+        (λ printed. IsPlanOf A task.now printed.planned (inner_of printed.text).items)
+        (λ e. StopsPlanning task.now (stop_of e)) }
+{
+    let made = made_for(alloc, task, effort)?;
+    let sheet = sheet_of(alloc, task, &made.plan)?;
+    let remarks = remarks_of(alloc, task, made.plan.value, &made.found)?;
+    let text = kept_text(alloc, &sheet, &remarks)?;
+    let planned = standing_of(made.plan.value, &made.found);
+    Ok(Printed { text, planned })
+}
