@@ -73,8 +73,9 @@ the text of the bound, each line behind \"# \", for \"evaluate --bound\":
     threefield plan -p \"P2||Cmax\" table.txt > plan.txt
     sed -n \"s/^# //p\" plan.txt > bound.txt
 
-The schedule is the best of several rules, and of all jobs one after another.
---steps lets the search for the bound take more time, or less.
+The schedule is the best of several rules, improved by a search (simulated
+annealing). --steps lets the searches for schedule and bound take more time, or
+less; about 1000 are usual.
 
 Example: threefield plan -p \"1|prec|sumwT\" examples/workshop.txt
          threefield plan -p \"P3|prec|Cmax\" table.txt | threefield gantt

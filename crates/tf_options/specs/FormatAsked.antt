@@ -1,5 +1,5 @@
 -- The format of the output that a command line names.
-use Rattle.std.specs.Prelude.{◌≡◌, ◌⊎◌, ℕ, List, Option, None, Some, codes, if◌then◌else◌}
+use Rattle.std.specs.Prelude.{◌≡◌, ◌⊎◌, ℕ, ◌||◌, List, Option, None, Some, codes, if◌then◌else◌}
 use Rattle.std.specs.Str.{bytes_eq}
 use Rattle.tf_text.specs.declared.answer.layout.Layout.{Layout}
 use Rattle.tf_text.specs.declared.answer.layout.Layout.TheVariants.{One}

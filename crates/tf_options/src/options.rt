@@ -188,8 +188,8 @@ pub enum Work<'a> {
     Solve(Options<'a>, Layout),
     /// Print a lower bound, after so many steps of the search for prices where they are given.
     Bound(Options<'a>, Option<u32>),
-    /// Print a schedule and how good it is, after so many steps of the search for prices where they
-    /// are given; for a problem that is solved its answer in this version.
+    /// Print a schedule and how good it is, after so many steps of the searches where they are
+    /// given; for a problem that is solved its answer in this version.
     Plan(Options<'a>, Layout, Option<u32>),
     /// Print how an optimal schedule is found, step by step, in this style.
     Trace(Options<'a>, Style),

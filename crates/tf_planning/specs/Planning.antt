@@ -1,5 +1,5 @@
 -- A plan of a task, how good it is, and why there is none.
-use Rattle.std.specs.Prelude.{◌≡◌, ◌⊎◌, ℕ, ℤ, Bool, List, Option, None, Some, IfSome, int_eq, if◌then◌else◌}
+use Rattle.std.specs.Prelude.{◌≡◌, ◌⊎◌, ℕ, List, IfSome}
 use Rattle.tf_model.specs.declared.prepare.Refusal.TheVariants.{TotalTooLarge}
 use Rattle.tf_problem.specs.ProblemData.{ProblemData}
 use Rattle.tf_engine.specs.Faults.{Refused, ByCycle, ByTask, Stop}

@@ -1,8 +1,9 @@
-//! The schedule that rules find. Nothing is promised of it: whoever takes it judges it.
+//! The schedule that rules and a search find. Nothing is promised of it: whoever takes it judges it.
 use std::alloc::Allocator;
 use tf_bound::task::ProblemTask;
 use tf_decode::lay::lay;
 use tf_decode::table::{JobNumbers, TaskNumbers, TaskTable};
+use tf_improve::improve::{SearchEffort, improved};
 use tf_model::ids::JobId;
 use tf_model::memory::OutOfMemory;
 use tf_plan::plan::plan_of_pieces;
@@ -14,14 +15,52 @@ const MOST_PLACED: usize = 20_000_000;
 
 const LEAST_RULES: usize = 4;
 
-/// The pieces of the best schedule of all rules. All jobs in this order keep the arcs.
+// How many steps a search takes where the caller does not say it: so many for each job, within
+// limits.
+const USUAL_STEPS: u64 = 400_000;
+
+const LEAST_STEPS: u64 = 1_000_000;
+
+const MOST_STEPS: u64 = 100_000_000;
+
+// How many steps a search takes for each one that the caller grants.
+const STEPS_GRANTED: u64 = 10_000;
+
+/// What the search for a schedule is given.
+#[derive(Clone, Copy, Debug)]
+pub(crate) struct Given {
+    /// The steps that the caller grants, where it says how many.
+    pub steps: Option<u32>,
+    /// The lower bound that was found: a schedule of this cost is optimal.
+    pub bound: Option<i128>,
+}
+
+impl Given {
+    // The effort of a search over so many jobs.
+    fn effort(self, jobs: usize) -> SearchEffort {
+        let usual = USUAL_STEPS.saturating_mul(jobs as u64);
+        let steps = match self.steps {
+            Some(steps) => STEPS_GRANTED.saturating_mul(u64::from(steps)),
+            None => usual.clamp(LEAST_STEPS, MOST_STEPS),
+        };
+        SearchEffort {
+            steps,
+            target: self.bound,
+        }
+    }
+}
+
+/// The pieces of the best schedule of all rules, improved by a search. All jobs in this order keep
+/// the arcs.
 pub(crate) fn best_pieces<A: Allocator + Copy, B: Allocator>(
     alloc: A,
     task: &ProblemTask<B>,
     order: &[JobId],
+    given: Given,
 ) -> Result<Vec<Piece, A>, OutOfMemory> {
     let table = table_of(alloc, task, order)?;
-    let list = best_list(alloc, task, &table)?;
+    let first = best_list(alloc, task, &table)?;
+    let list = improved(alloc, &table, first, given.effort(task.len()))?;
     lay(alloc, &table, &list)
 }
 

@@ -8,7 +8,7 @@ ghost use Rattle.tf_plan.specs.SerialOrder.{IsSerialOrder};
 ghost use Rattle.tf_problem.specs.ProblemData.{ProblemData};
 ghost use Rattle.tf_planning.specs.Planning.{IsMade, StopsPlanning};
 
-use crate::candidate::best_pieces;
+use crate::candidate::{Given, best_pieces};
 use std::alloc::{Allocator, Global};
 use tf_bound::task::ProblemTask;
 use tf_engine::fault::RunFault;
@@ -38,10 +38,23 @@ pub(crate) fn made_for<A: Allocator + Copy, B: Allocator, P: Progress + Drop>(
     ensures { MatchResult result (IsMade task.now) (λ e. StopsPlanning task.now (stop_of e)) }
 {
     let order = order_for(alloc, task)?;
+    let steps = effort.steps;
     let found = strongest(alloc, task, effort)?;
-    let pieces = best_pieces(alloc, task, &order)?;
+    let given = Given {
+        steps,
+        bound: value_of(&found),
+    };
+    let pieces = best_pieces(alloc, task, &order, given)?;
     let plan = plan_for(alloc, task, &order, pieces)?;
     Ok(Made { plan, found })
+}
+
+// The value of a bound, if one was found.
+fn value_of<A: Allocator>(found: &Option<Found<A>>) -> Option<i128> {
+    match found {
+        Some(found) => Some(found.value),
+        None => None,
+    }
 }
 
 // An order of all jobs that keeps the arcs.

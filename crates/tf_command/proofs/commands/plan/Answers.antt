@@ -1,0 +1,24 @@
+use Rattle.std.proofs.Common.{Err, refl}
+use Rattle.std.proofs.KnownBytes.{Keeps-refl}
+use Rattle.tf_text.specs.Counted.{inner_of}
+use Rattle.tf_engine.specs.declared.fault.RunFault.TheVariants.{OutOfMemory}
+use Rattle.tf_engine.proofs.Unread.{text_for}
+use Rattle.tf_command.specs.Recorded.{bytes_left}
+use Rattle.tf_command.proofs.commands.plan.Goals as goal
+
+pub returns-in_default : goal.returns-in_default
+returns-in_default g c =
+    let (text, is) = text_for (bytes_left g.R.Read.remaining (inner_of c.args.instance.now)) in
+    record {
+      run = Err OutOfMemory;
+      outcome = record {
+        solved = λ _. (
+          Err OutOfMemory,
+          record { text = text; is_all = is; outcome = Keeps-refl _ },
+          refl,
+        );
+        unsolved = λ _. record { text = text; is_all = is; outcome = Keeps-refl _ };
+      };
+      ends = c.say_memory.ensures.status;
+      said = λ _. c.say_memory.ensures.line;
+    }

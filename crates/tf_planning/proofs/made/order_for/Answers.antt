@@ -1,0 +1,4 @@
+use Rattle.tf_planning.proofs.made.order_for.Goals as goal
+
+pub returns-in-Err : goal.returns-in-Err
+returns-in-Err g c = c.unordered.ensures c.args.task.now c.in-Err.ensures
