@@ -332,6 +332,28 @@ def judging(page):
 
 
 @way
+def judging_by_a_bound(page):
+    """Without an exact method a schedule is judged by its lower bound, in the plan's own units."""
+    page.import_cells("Name;Time (h);Due;Weight\nA;2;2030-12-03;1\nB;4;2030-12-03;2\nC;3;2030-12-04;1\n")
+    page.run("document.getElementById('calendar').open = true")
+    page.type('[data-setting="start"]', "2030-12-03")
+    page.notation("1||sumT")
+    page.click("#judge summary")
+    page.type("#order", "C; B; A")
+    page.click("#order-to-answer")
+    page.wait("document.querySelector('#judgement img')")
+    expect_in("it is not known whether it is optimal", page.text("#judgement"))
+    expect_in("Its value is 1 h; no schedule has less than 0 h, so it is at most 1 h above the optimum. proved",
+              page.text("#judgement"))
+    page.type("#order", "A; B; C")
+    page.click("#order-to-answer")
+    page.wait("/it is optimal/.test(document.getElementById('judgement').innerText)")
+    page.notation("J2||Cmax")
+    page.click("#judge-run")
+    page.wait("/neither an exact method/.test(document.getElementById('judgement').innerText)")
+
+
+@way
 def chart(page):
     page.example(0)
     page.browser.choose("#lines", "1")

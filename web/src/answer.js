@@ -115,12 +115,13 @@ export function readAnswer(bytes) {
  * Reads an evaluation.
  * @param {Uint8Array} bytes
  * @param {number} jobs how many jobs there are
- * @returns {object} the lines by their first word; `steps` of the certificate; for each job its
- *   `start`, `completion` and `counts`, what the class counts of it (text, for few jobs)
+ * @returns {object} the lines by their first word; `steps` of the certificate; the `certificate` of
+ *   the bound, where no solver knows the optimum; for each job its `start`, `completion` and
+ *   `counts`, what the class counts of it (text, for few jobs); `isOfJobs`, whether it has jobs
  */
 export function readEvaluation(bytes, jobs) {
   const found = { steps: [], start: new Float64Array(jobs), completion: new Float64Array(jobs),
-    counts: jobs <= 5000 ? new Array(jobs).fill("") : null };
+    counts: jobs <= 5000 ? new Array(jobs).fill("") : null, isOfJobs: false };
   const row = new Float64Array(3);
   for (const walk = new Walk(bytes); !walk.isOver;) {
     if (walk.takes(JOB)) {
@@ -130,14 +131,24 @@ export function readEvaluation(bytes, jobs) {
     const [word, rest] = firstWord(walk.rest());
     if (word === "step") found.steps.push(rest);
     else if (/^(problem|fits|misfit|claimed|value|best|gap|bound)$/.test(word)) found[word] = rest;
+    if (word === "bound") readCertificate(walk, found);
   }
   return found;
 }
 
-/** Reads the line of a job after its first word: job, start and completion, and what counts of it. */
+/** Reads the line after a bound, if it is a certificate: one of the kind `job` has one number. */
+function readCertificate(walk, found) {
+  const begin = walk.at;
+  const line = walk.rest();
+  if (/^(job \d+$|(window|crowd|machine|multipliers|prices) )/.test(line)) found.certificate = line;
+  else walk.at = begin;
+}
+
+/** Reads the line of a job after its first word: job, start, completion, and what counts of it. */
 function readJob(walk, row, found) {
   walk.numbers(row);
   const job = row[0];
+  found.isOfJobs = true;
   if (job < 1 || job > found.start.length) {
     walk.skip();
     return;

@@ -1,9 +1,14 @@
 // Judges anybody's schedule: whether it is allowed, and how far it is from the optimum.
 
+import { momentText } from "./calendar.js";
+import { latenessWords } from "./chart.js";
 import { answerOfOrder, readOrder } from "./order.js";
 import { needsMachines, readNotation } from "./problems.js";
 import { explainReason, explainRefusal } from "./refusals.js";
 import { html } from "./svg.js";
+import { valueText } from "./values.js";
+
+const MOST_OUTCOMES = 300;
 
 export class JudgeView {
   /**
@@ -62,27 +67,24 @@ export class JudgeView {
     const now = this.source.request();
     if (!now) return this.say("fault", "First the jobs and the problem have to be in order.");
     const answer = new TextEncoder().encode(this.at("judge-text").value);
-    const reply = await this.source.ask({ ...now.request, kind: "judge", answer });
+    const reply = await this.source.ask({ ...now.request, kind: "judge", answer,
+      jobs: now.table.jobs.length });
     if (reply) return this.show(reply, now);
     return this.say("fault", "The solver was stopped or can't run, so nothing was judged.");
   }
 
   show(reply, now) {
-    if (reply.errors && !reply.verdict) {
+    if (reply.errors && !reply.verdict && !reply.evaluation) {
       const [refusal] = explainRefusal(reply, now.table, now.problem);
-      this.say("fault", refusal.message);
+      this.say("fault", refusal.code === "NoSolver" ? `${now.problem} has neither an exact method `
+        + "nor a lower bound here, so nothing can be said of its schedules." : refusal.message);
       if (refusal.line) this.select(refusal.line);
       return;
     }
-    const { evaluation } = reply;
-    const lines = [this.verdict(reply, now)];
-    if (evaluation?.value !== undefined) {
-      lines.push(html("p", {}, "Its value is ", html("strong", {}, evaluation.value),
-        ", the optimum is ", html("strong", {}, evaluation.best), ", so the gap is ",
-        html("strong", {}, evaluation.gap), ". ", html("span", { class: "proved" }, "proved")));
-    }
+    const lines = [this.verdict(reply, now), this.value(reply, now)];
     if (reply.picture) lines.push(this.picture(reply.picture));
-    this.at("judgement").replaceChildren(...lines);
+    lines.push(outcomes(reply.evaluation, now));
+    this.at("judgement").replaceChildren(...lines.filter(Boolean));
   }
 
   verdict({ verdict, evaluation, evaluated }, { table, calendar }) {
@@ -98,10 +100,26 @@ export class JudgeView {
       return html("p", { class: "good" }, "The schedule is allowed, and it is optimal.");
     }
     if (evaluated.status === 6) {
-      return html("p", { class: "note" }, "The schedule is allowed, and it is not optimal.");
+      const isKnown = evaluation.best !== undefined;
+      return html("p", { class: "note" }, "The schedule is allowed, ",
+        isKnown ? "and it is not optimal." : "and it is not known whether it is optimal.");
     }
     const reason = verdict.replace(/^rejected: /, "");
     return html("p", { class: "fault" }, explainReason(reason, table, calendar));
+  }
+
+  /** What the schedule costs, and how far that is from the optimum or from the bound. */
+  value({ evaluation }, { problem, calendar }) {
+    if (evaluation?.value === undefined) return null;
+    const strong = (value) => html("strong", {}, valueText(calendar, problem, value));
+    const { value, best, gap, bound } = evaluation;
+    const words = ["Its value is ", strong(value)];
+    if (best !== undefined) words.push(", the optimum is ", strong(best), ", so the gap is ",
+      strong(gap), ". ");
+    else if (bound !== undefined) words.push("; no schedule has less than ", strong(bound),
+      ", so it is at most ", strong(gap), " above the optimum. ");
+    else words.push("; no lower bound was found. ");
+    return html("p", {}, words, html("span", { class: "proved" }, "proved"));
   }
 
   /** The module's own picture of the schedule: an image, so nothing in it can run. */
@@ -120,4 +138,26 @@ export class JudgeView {
     text.focus();
     text.setSelectionRange(start, start + (lines[line - 1]?.length ?? 0));
   }
+}
+
+/** What happens to each job: a table that can be opened, or null where nothing is known. */
+function outcomes(evaluation, { table, calendar }) {
+  if (!evaluation?.isOfJobs) return null;
+  const hasDue = table.jobs.some((job) => job.due !== null);
+  const heads = ["Job", "Start", "Until", ...(hasDue ? ["Lateness"] : [])];
+  const lines = table.jobs.slice(0, MOST_OUTCOMES).map((job, place) => {
+    const { start, completion } = evaluation;
+    const late = job.due === null ? null : completion[place] - job.due;
+    return html("tr", {}, html("th", { scope: "row" }, job.name),
+      html("td", {}, momentText(calendar, start[place], false)),
+      html("td", {}, momentText(calendar, completion[place], true)),
+      hasDue ? html("td", { class: late > 0 ? "late-words" : "" },
+        late === null ? "" : latenessWords(calendar, late)) : null);
+  });
+  const rest = table.jobs.length - lines.length;
+  return html("details", {}, html("summary", {}, "What happens to each job"),
+    html("div", { class: "scroll" }, html("table", { class: "outcomes" },
+      html("thead", {}, html("tr", {}, heads.map((head) => html("th", { scope: "col" }, head)))),
+      html("tbody", {}, lines))),
+    rest > 0 ? html("p", {}, `and ${rest.toLocaleString("en")} more`) : null);
 }

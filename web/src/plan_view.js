@@ -4,8 +4,8 @@ import { lengthText } from "./calendar.js";
 import { ChartView } from "./chart_view.js";
 import { ListView } from "./list_view.js";
 import { comparePlans, measures } from "./plan.js";
-import { OBJECTIVES, readNotation } from "./problems.js";
 import { html } from "./svg.js";
+import { objectiveWords, valueText } from "./values.js";
 
 const MOST_NAMED = 8;
 const LONGEST_TEXT = 40000;
@@ -78,14 +78,12 @@ export class PlanView {
   }
 
   showHeadline(plan, assumptions) {
-    const { objective } = readNotation(plan.problem) ?? { objective: "Cmax" };
-    const goal = OBJECTIVES.find((each) => each.id === objective).words.replace(/^the /, "");
     const late = plan.jobs.reduce((count, job, place) =>
       count + (job.due !== null && plan.completion[place] > job.due ? 1 : 0), 0);
-    const value = valueWords(plan, objective);
+    const value = valueText(plan.calendar, plan.problem, plan.value);
     this.at("headline").replaceChildren(
       html("p", { class: "value" }, html("span", { class: "proved" }, "proved optimal"),
-        html("span", {}, `${goal[0].toUpperCase()}${goal.slice(1)}: `, html("strong", {}, value))),
+        html("span", {}, `${objectiveWords(plan.problem)}: `, html("strong", {}, value))),
       html("p", {}, `No schedule of these ${plan.jobs.length} jobs has a smaller value.`,
         late === 0 ? inTimeWords(plan) : null, late > 0 ? html("span", { class: "late-words" }, late === 1 ? " One job is late."
           : ` ${late} jobs are late.`) : null), this.assumed(assumptions));
@@ -154,8 +152,7 @@ function changeWords(plan, kept, { moved, added, gone }) {
   const parts = [];
   if (kept.problem === plan.problem) {
     const by = BigInt(plan.value) - BigInt(/^-?\d+$/.test(kept.value) ? kept.value : plan.value);
-    const isLength = !/^(sumw|h)/.test(readNotation(plan.problem)?.objective ?? "h");
-    const words = (value) => isLength ? lengthText(plan.calendar, Number(value)) : String(value);
+    const words = (value) => valueText(plan.calendar, plan.problem, String(value));
     parts.push(by === 0n ? "the value is the same"
       : `the value is ${words(by < 0n ? -by : by)} ${by < 0n ? "smaller" : "larger"}`);
   } else parts.push(`it was for ${kept.problem}`);
@@ -178,16 +175,6 @@ function movedWords(plan, moved) {
 function someOf(words) {
   const rest = words.length - MOST_NAMED;
   return words.slice(0, MOST_NAMED).join(", ") + (rest > 0 ? ` and ${rest} more` : "");
-}
-
-/** The value in the units of its objective: working time, or a plain number. */
-export function valueWords(plan, objective) {
-  const value = Number(plan.value);
-  const isLength = !/^(sumw|h|sumU)/.test(objective);
-  if (!isLength || !plan.calendar || !Number.isSafeInteger(value)) {
-    return plan.value.replace("-", "−");
-  }
-  return lengthText(plan.calendar, value);
 }
 
 /** The jobs of a certificate, from 1; ranges such as 3-5 are all their jobs. */

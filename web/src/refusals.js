@@ -169,6 +169,11 @@ const REASONS = {
   OutOfOrder: (one, other, job) => one === other
     ? `${job(one)} starts on machine 2 before it is completed on machine 1.`
     : `${job(other)} starts before ${job(one)} is completed.`,
+  OffRoute: (number, _, job) =>
+    `${job(number)} is on a machine before it is completed on an earlier one.`,
+  NoOneOrder: () => "No order of the jobs is the same on all machines, as the problem wants it.",
+  Waits: (number, _, job) =>
+    `${job(number)} waits between two machines, which the problem does not allow.`,
   WrongValue: () => "The schedule fits, but its value is not what the line “value” claims.",
   BoundBelowValue: () => "The schedule fits and has the value that it claims, but its certificate "
     + "does not show that no schedule is better.",

@@ -1,0 +1,49 @@
+// What the page asks of the module: runs of its commands one after another, and what they print.
+
+import { readAnswer, readBound, readEvaluation } from "./answer.js";
+
+const LARGEST_PICTURE = 5e6;
+
+/**
+ * Solves, and evaluates what was solved for the arithmetic of the certificate.
+ * @param {{run: function(object): object}} solver as `loadSolver` gives it
+ * @param {object} request
+ */
+export function plan(solver, request) {
+  const solved = solver.run({ ...request, command: "solve", answerVersion: 2 });
+  const { status, errors } = solved;
+  if (status !== 0) return { status, errors };
+  const answer = solved.output;
+  const schedule = readAnswer(answer);
+  const evaluated = solver.run({ ...request, command: "evaluate", answer, certificate: true });
+  if (evaluated.status !== 0) return { status: evaluated.status, errors: evaluated.errors };
+  return { status, errors, answer, schedule,
+    evaluation: readEvaluation(evaluated.output, schedule.jobs) };
+}
+
+/** Checks and evaluates anybody's answer to a problem of `request.jobs` jobs, and draws it. */
+export function judge(solver, request) {
+  const checked = solver.run({ ...request, command: "check" });
+  const evaluated = solver.run({ ...request, command: "evaluate", certificate: true });
+  const drawn = solver.run({ ...request, command: "picture" });
+  return {
+    status: checked.status, errors: checked.errors,
+    verdict: new TextDecoder().decode(checked.output).trim(),
+    evaluation: evaluated.output.length > 0
+      ? readEvaluation(evaluated.output, request.jobs) : null,
+    evaluated: { status: evaluated.status, errors: evaluated.errors },
+    picture: drawn.status === 0 && drawn.output.length < LARGEST_PICTURE ? drawn.output : null,
+  };
+}
+
+/** Searches for a lower bound. */
+export function bound(solver, request) {
+  const { status, errors, output } = solver.run({ ...request, command: "bound", steps: null });
+  return status === 0 ? { status, errors, bound: readBound(output) } : { status, errors };
+}
+
+/** Runs one command as it is: `picture` or `problems`. */
+export function plain(solver, request) {
+  const { status, errors, output } = solver.run({ ...request, command: request.kind });
+  return { status, errors, output };
+}

@@ -1,0 +1,31 @@
+// Values of schedules in words: as working time where an objective is a length of time.
+
+import { lengthText } from "./calendar.js";
+import { OBJECTIVES, readNotation } from "./problems.js";
+
+/** Whether the value of a problem is a length of time, perhaps weighted. */
+export function isLength(notation) {
+  const objective = readNotation(notation)?.objective ?? "hmax";
+  return !/^(sumw?U|hmax)$/.test(objective);
+}
+
+/**
+ * A value as it is shown.
+ * @param {?object} calendar
+ * @param {string} notation of the problem
+ * @param {string} value a whole number, as the module prints it
+ */
+export function valueText(calendar, notation, value) {
+  const number = Number(value);
+  if (!calendar || !isLength(notation) || !Number.isSafeInteger(number)) {
+    return value.replace("-", "−");
+  }
+  return lengthText(calendar, number);
+}
+
+/** What a problem minimizes, to begin a sentence with: “Maximum lateness”. */
+export function objectiveWords(notation) {
+  const { objective } = readNotation(notation) ?? { objective: "Cmax" };
+  const words = OBJECTIVES.find((each) => each.id === objective).words.replace(/^the /, "");
+  return words[0].toUpperCase() + words.slice(1);
+}
