@@ -3,8 +3,11 @@ import assert from "node:assert/strict";
 import { test } from "node:test";
 import { load } from "./modules.mjs";
 
-const { readEvaluation } = await load("answer");
-const { judge } = await load("runs");
+const { readAnswer, readEvaluation } = await load("answer");
+const { judge, search } = await load("runs");
+const { makePlan } = await load("plan");
+const { leastWords, valueText } = await load("values");
+const { defaultSettings, makeCalendar } = await load("calendar");
 const bytes = (text) => new TextEncoder().encode(text);
 
 const ASSESSED = `evaluation 1
@@ -60,4 +63,75 @@ test("a schedule of a problem without a solver is judged by its bound", () => {
   assert.equal(found.verdict, "");
   assert.equal(found.evaluation.gap, "0");
   assert.equal(found.evaluation.completion[1], 4);
+});
+
+// ---- plans where no exact method is ----
+
+const BOUND = `bound 1
+problem 1||sumT
+jobs 3
+machines 1
+value 1
+prices 2 0 1 1
+end
+`;
+const PLAN = `answer 2
+problem 1||sumT
+jobs 3
+machines 1
+value 3
+piece 2 1 0 2
+piece 1 1 2 5
+piece 3 1 5 6
+cert load
+end
+${BOUND.replace(/^/gm, "# ").replace(/# $/, "")}`;
+
+/** A module that has these commands, and gives these replies. */
+const moduleOf = (replies) => ({ can: (command) => command in replies,
+  run: ({ command }) => replies[command] });
+
+test("a plan within a gap has its schedule and its bound", () => {
+  const found = search(moduleOf({ plan: { status: 6, output: bytes(PLAN), errors: "" } }), {});
+  assert.deepEqual([found.status, found.isOptimal], [0, false]);
+  assert.equal(found.schedule.value, "3");
+  assert.deepEqual(found.schedule.bound, { value: "1", certificate: "prices 2 0 1 1" });
+  assert.deepEqual([...found.schedule.job], [2, 1, 3]);
+});
+
+test("without an evaluation the pieces say when jobs start and are completed", () => {
+  const table = { jobs: ["A", "B", "C"].map((name) => ({ name, due: null })), index: null };
+  const plan = makePlan(table, readAnswer(bytes(PLAN)), null, null, []);
+  assert.deepEqual([[...plan.start], [...plan.completion]], [[2, 0, 5], [5, 2, 6]]);
+});
+
+test("a plan is optimal by the status, and a bound may be missing", () => {
+  const alone = PLAN.slice(0, PLAN.indexOf("# "));
+  const optimal = search(moduleOf({ plan: { status: 0, output: bytes(PLAN), errors: "" } }), {});
+  const bare = search(moduleOf({ plan: { status: 6, output: bytes(alone), errors: "" } }), {});
+  assert.ok(optimal.isOptimal);
+  assert.deepEqual([bare.isOptimal, bare.schedule.bound], [false, null]);
+});
+
+test("a module without plans, or without one for a problem, gives the bound alone", () => {
+  const bound = { status: 0, output: bytes(BOUND), errors: "" };
+  const none = { status: 2, output: bytes(""), errors: "threefield: refused: NoSolver\n" };
+  for (const replies of [{ bound }, { bound, plan: none }]) {
+    const found = search(moduleOf(replies), {});
+    assert.equal(found.schedule, undefined);
+    assert.deepEqual(found.bound, { value: "1", certificate: "prices 2 0 1 1" });
+  }
+  const full = { status: 3, output: bytes(""), errors: "threefield: want of memory\n" };
+  assert.deepEqual(search(moduleOf({ bound, plan: full }), {}), { status: 3, errors: full.errors });
+});
+
+test("values are lengths of time where the objective is one", () => {
+  const { calendar } = makeCalendar({ ...defaultSettings(), step: "30", start: "2026-11-30" });
+  for (const [notation, value, words] of [["1||sumT", "5", "2 h 30 min"], ["1||sumU", "5", "5"],
+    ["1|rj|Lmax", "-3", "−1 h 30 min"], ["1||sumwT", "6", "3 h"], ["1||sumwU", "6", "6"],
+    ["1||hmax", "-6", "−6"], ["1||sumwC", "9".repeat(18), "9".repeat(18)]]) {
+    assert.equal(valueText(calendar, notation, value), words, notation);
+  }
+  assert.equal(leastWords(calendar, "1||sumT", "22"), "less than 11 h");
+  assert.equal(leastWords(null, "1||sumU", "1"), "fewer than 1 late job");
 });

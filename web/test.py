@@ -304,6 +304,83 @@ def bound(page):
     expect_in("neither an exact method nor a lower bound", page.text("#headline"))
 
 
+STUB = """
+        solver = await loadSolver(await unpack(data.module));
+        const { run } = solver, replies = REPLIES;
+        solver = { ...solver, can: () => true, run: (request) => {
+          const reply = request.command === "plan" ? replies[request.problem] : null;
+          return reply ? { status: reply[0], output: new TextEncoder().encode(reply[1]), errors: reply[2] } : run(request);
+        } };"""
+REFUSED = [2, "", "threefield: refused: NoSolver\n"]
+
+
+def planned(problem, value, pieces, bound=None, status=6):
+    """What `plan` prints for a problem of three jobs on a machine: pieces as job, start and stop."""
+    lines = [f"answer 2\nproblem {problem}\njobs 3\nmachines 1\nvalue {value}",
+             *(f"piece {job} 1 {start} {stop}" for job, start, stop in pieces), "cert load\nend"]
+    if bound:
+        lines += ["# " + line for line in ("bound 1", f"problem {problem}", "jobs 3", "machines 1", *bound, "end")]
+    return [status, "\n".join(lines) + "\n", ""]
+
+
+def open_stubbed(page, replies):
+    """The page with a module whose command `plan` gives these replies, by the problem."""
+    text = Path(page.address.removeprefix("file://")).read_text(encoding="utf-8")
+    whole = "\n    solver = await loadSolver(await unpack(data.module));"
+    loading = "solver = await loadSolver(await unpack(data.module));"
+    expect(text.count(loading), 1, "the loading of the module")
+    path = Path(page.browser.folder.name) / "stubbed.html"
+    path.write_text(text.replace(loading, STUB.replace("REPLIES", json.dumps(replies)).strip()), encoding="utf-8")
+    page.browser.open(f"file://{path}")
+    page.wait("document.querySelector('#jobs-table tbody tr')")
+
+
+@way
+def plan_without_an_exact_method(page):
+    """A good plan, with the gap in the plan's own units; a proof that it is optimal; or no bound at all."""
+    order = [(3, 0, 6), (1, 6, 10), (2, 10, 14)]
+    open_stubbed(page, {
+        "1||sumT": planned("1||sumT", 14, order, ["value 8", "prices 2 0 1 1"]),
+        "1||sumwT": planned("1||sumwT", 14, order, ["value 14", "machine 1 1 2 3"], 0),
+        "1||sumU": planned("1||sumU", 2, order, ["value 1", "prices 1 0 0 1"]),
+        "1||sumwU": planned("1||sumwU", 2, order, ["value 0", "prices 1 0"]),
+        "1|prmp|sumT": planned("1|prmp|sumT", 14, order), "1||Cmax": REFUSED,
+        "1|rj|Lmax": [3, "", "threefield: want of memory\n"]})
+    page.import_cells("Name;Time (h);Due;Weight\n<b>A</b>;2;03.12.2030 10:00;1\nB;2;03.12.2030 11:00;1\nC;3;2030-12-03;1\n")
+    page.run("document.getElementById('calendar').open = true")
+    page.type('[data-setting="start"]', "2030-12-03")
+    page.browser.choose("#step", "30")
+    page.notation("1||sumT")
+    page.wait_for_value("7 h")
+    expect(page.text("#headline .proved"), "at most 3 h above the optimum")
+    expect_in("Total tardiness: 7 h", page.text("#headline"))
+    expect_in("No schedule of these 3 jobs has less than 4 h. 2 jobs are late.", page.text("#headline"))
+    expect(page.run("document.querySelectorAll('.chart .bar').length"), 3)
+    expect(page.texts("#list tbody th"), ["C", "<b>A</b>", "B"])
+    expect(page.text("#certificate summary"), "Why no schedule has less than 4 h")
+    page.run("document.getElementById('certificate').open = true")
+    expect_in("prices 2 0 1 1", page.text("#certificate"))
+    page.open_problem()
+    expect_in("a good plan is searched for", page.text("#problem-notes"))
+    page.notation("1||sumwT")
+    expect(page.text("#headline .proved"), "proved optimal")
+    expect_in("Jobs of the certificate: <b>A</b>, B, C.", page.text("#certificate"))
+    page.notation("1||sumU")
+    expect(page.text("#headline .proved"), "at most 1 above the optimum")
+    expect_in("has fewer than 1 late job.", page.text("#headline"))
+    page.notation("1||sumwU")
+    expect_in("at most 2 above the optimum", page.text("#headline"))
+    expect_in("No lower bound above 0 was found.", page.text("#headline"))
+    page.notation("1|prmp|sumT")
+    expect(page.text("#headline .proved"), None)
+    expect_in("How far this plan is from the optimum is not known.", page.text("#headline"))
+    page.notation("1||Cmax")
+    expect(page.text("#headline .proved"), "proved lower bound")
+    expect_in("at least the value 7 h", page.text("#headline"))
+    page.notation("1|rj|Lmax")
+    expect_in("There is not enough memory", page.text("#headline"))
+
+
 @way
 def judging(page):
     page.example(1)

@@ -73,12 +73,13 @@ function firstWord(line) {
  * @property {string} problem @property {number} jobs @property {number} machines
  * @property {string} value the value as the text has it
  * @property {string} certificate the line without its first word
+ * @property {?{value: string, certificate: string}} bound where one stands behind the answer
  * @property {Float64Array} job from 1 @property {Float64Array} machine from 1
  * @property {Float64Array} start @property {Float64Array} stop
  */
 
 /**
- * Reads an answer text as `solve` writes it.
+ * Reads an answer text as `solve` writes it, or `plan` with a bound in comments behind it.
  * @param {Uint8Array} bytes
  * @returns {Schedule}
  */
@@ -88,11 +89,15 @@ export function readAnswer(bytes) {
   const columns = Array.from({ length: 4 }, () => new Float64Array(most));
   const [job, machine, start, stop] = columns;
   const piece = new Float64Array(4);
+  const behind = [];
   let count = 0;
+  let isOver = false;
   for (const walk = new Walk(bytes); !walk.isOver;) {
     if (!walk.takes(PIECE)) {
       const [word, rest] = firstWord(walk.rest());
       if (Object.hasOwn(words, word)) words[word] = rest;
+      if (isOver && word === "#") behind.push(rest);
+      isOver ||= word === "end";
       continue;
     }
     walk.numbers(piece);
@@ -106,7 +111,7 @@ export function readAnswer(bytes) {
   const [jobOf, machineOf, startOf, stopOf] = columns.map((column) => column.slice(0, count));
   return {
     problem: words.problem, jobs: Number(words.jobs), machines: Number(words.machines),
-    value: words.value, certificate: words.cert,
+    value: words.value, certificate: words.cert, bound: boundOf(behind),
     job: jobOf, machine: machineOf, start: startOf, stop: stopOf,
   };
 }
@@ -162,15 +167,19 @@ function readJob(walk, row, found) {
 /**
  * Reads a bound.
  * @param {Uint8Array} bytes
- * @returns {{value: string, certificate: string}}
+ * @returns {?{value: string, certificate: string}}
  */
 export function readBound(bytes) {
+  return boundOf(decoder.decode(bytes).split("\n").filter(Boolean));
+}
+
+/** The bound of the lines of its text, or null where they are none. */
+function boundOf(lines) {
   const found = { value: "", certificate: "" };
-  for (const walk = new Walk(bytes); !walk.isOver;) {
-    const line = walk.rest();
+  for (const line of lines) {
     const [word, rest] = firstWord(line);
     if (word === "value") found.value = rest;
     else if (!/^(bound|problem|jobs|machines|end)$/.test(word)) found.certificate = line;
   }
-  return found;
+  return /^-?\d+$/.test(found.value) ? found : null;
 }

@@ -20,6 +20,7 @@ import { Solving } from "./solving.js";
 import { emptyState } from "./state.js";
 import { Store } from "./store.js";
 import { html } from "./svg.js";
+import { valueText } from "./values.js";
 import { FIELDS, RowReader, makeTable } from "./table.js";
 
 const REST = 150;
@@ -87,8 +88,11 @@ class Page {
     if (!(await this.files.openLink())) this.update();
   }
 
-  moduleLoaded({ loaded, message }) {
-    if (loaded) return;
+  moduleLoaded({ loaded, makesPlans, message }) {
+    if (loaded) {
+      this.problemView.setMakesPlans(makesPlans);
+      return;
+    }
     this.cannotRun = "This browser can't run the solver: Chrome and Edge can from version 103, "
       + "Firefox from version 113, Safari from version 16.4. Jobs can be edited, opened and saved "
       + `here all the same. (${message})`;
@@ -186,17 +190,24 @@ class Page {
     if (version !== this.version) return undefined;
     if (!reply) return this.wait("Stopped. Any change solves again.");
     if (reply.status !== 0) return this.refused(version, reply);
-    const plan = makePlan(now.table, reply.schedule, reply.evaluation, now.calendar,
-      machineNames(this.store.state.machineNames));
+    return this.showMade(reply, "Solved and evaluated");
+  }
+
+  /** Shows the plan of a reply to the request of now. */
+  showMade(reply, words) {
+    const { table, calendar } = this.now;
+    const { state } = this.store;
+    const plan = makePlan(table, reply.schedule, reply.evaluation, calendar,
+      machineNames(state.machineNames));
+    if (reply.isOptimal === false) plan.isOptimal = false;
     const before = this.drawn;
     this.shown = { plan, evaluation: reply.evaluation, answer: reply.answer,
-      assumptions: assumptionsOf(now.table, now.calendar, this.store.state) };
+      assumptions: assumptionsOf(table, calendar, state) };
     this.drawn = this.shown;
     this.showPlan();
     if (before) release(before.plan, before.plan.schedule, before);
-    document.getElementById("engine").textContent = `Solved and evaluated in `
-      + `${Math.round(reply.milliseconds)} ms.`;
-    return undefined;
+    document.getElementById("engine").textContent
+      = `${words} in ${Math.round(reply.milliseconds)} ms.`;
   }
 
   /** Asks, and where it takes a while says so with a button that stops it. */
@@ -232,42 +243,49 @@ class Page {
       return this.wait("Some rows have to be corrected first.");
     }
     const [first] = refusals;
-    if (first.code === "NoSolver") return this.bound(version);
+    if (first.code === "NoSolver") return this.search(version);
     const isProblem = first.place === "problem" || first.place === "machines";
     if (isProblem) this.problemView.show([{ isFault: true, message: first.message }], table);
     return this.wait(first.message);
   }
 
-  /** A problem without an exact method: a lower bound. */
-  async bound(version) {
-    this.shown = null;
-    this.planView.clear();
-    const known = readNotation(this.now.problem);
-    const reply = await this.patiently("Searching for a lower bound …",
-      { ...this.now.request, kind: "bound" });
+  /** A problem without an exact method: a good plan, or a lower bound alone. */
+  async search(version) {
+    if (!this.solving.makesPlans) this.planView.clear();
+    const reply = await this.patiently(this.solving.makesPlans ? "Searching for a good plan …"
+      : "Searching for a lower bound …", { ...this.now.request, kind: "search" });
     if (version !== this.version) return undefined;
     if (!reply) return this.wait("Stopped. Any change searches again.");
-    if (reply.status !== 0) return this.boundRefused(reply);
-    const { value, certificate } = reply.bound;
+    if (reply.status !== 0) return this.searchRefused(reply);
+    if (reply.schedule) return this.showMade(reply, "Searched");
+    return this.showBound(reply.bound);
+  }
+
+  /** A lower bound, where there is no plan. */
+  showBound({ value, certificate }) {
+    const { problem, calendar } = this.now;
+    const known = readNotation(problem);
+    this.shown = null;
+    this.planView.clear();
     this.planView.setBusy(false);
-    this.planView.showMessage(`${this.now.problem}: no exact method is here, so there is no plan.`,
+    this.planView.showMessage(`${problem}: no exact method is here, so there is no plan.`,
       html("p", { class: "value" }, html("span", { class: "proved" }, "proved lower bound"),
-        "Every schedule has at least the value ", html("strong", {}, value), "."),
+        "Every schedule has at least the value ",
+        html("strong", {}, valueText(calendar, problem, value)), "."),
       html("p", {}, known ? `${describe(known)}. ` : "",
         "If your own schedule has this value, it is optimal."),
       html("details", {}, html("summary", {}, "The certificate of the bound"),
         html("pre", { tabindex: 0 }, certificate.slice(0, 2000))));
-    return undefined;
   }
 
-  boundRefused(reply) {
+  searchRefused(reply) {
     const { table, problem } = this.now;
     const refusals = explainRefusal(reply, table, problem);
     const rows = refusals.filter((each) => each.place === "row");
     if (rows.length > 0) this.rowsView.setFindings({ faults: rows, notes: table.notes });
-    const message = refusals[0].code === "NoSolver"
-      ? `${problem} has neither an exact method nor a lower bound here.` : refusals[0].message;
-    return this.wait(message);
+    this.planView.clear();
+    return this.wait(refusals[0].code !== "NoSolver" ? refusals[0].message
+      : `${problem} has neither an exact method nor a lower bound here.`);
   }
 
   // ---- what is remembered from one change to the next ----

@@ -9,12 +9,14 @@ export const COLOURS = 8;
  * Makes a plan.
  * @param {object} table as `makeTable` gives it
  * @param {import("./answer.js").Schedule} schedule
- * @param {object} evaluation as `readEvaluation` gives it, of the same schedule
+ * @param {?object} evaluation as `readEvaluation` gives it, of the same schedule; without one, the
+ *   pieces say when a job starts and is completed
  * @param {?object} calendar
  * @param {string[]} names of the machines
  */
 export function makePlan(table, schedule, evaluation, calendar, names) {
   const count = table.jobs.length;
+  const { start, completion } = evaluation ?? timesOf(schedule, count);
   const order = sortedPieces(schedule);
   const pieces = new Uint32Array(count);
   const machine = new Uint32Array(count);
@@ -28,14 +30,30 @@ export function makePlan(table, schedule, evaluation, calendar, names) {
     machines: schedule.machines, names,
     rows: machineRows(schedule, order),
     colour: colourJobs(schedule, order, count),
-    start: evaluation.start, completion: evaluation.completion, counts: evaluation.counts,
+    start, completion, counts: evaluation?.counts ?? null,
     usesRelease: /\|.*\br_?j\b.*\|/.test(schedule.problem),
     hasIdle: schedule.stop.reduce((sum, stop, piece) => sum + stop - schedule.start[piece], 0)
       < schedule.machines * schedule.stop.reduce((most, stop) => Math.max(most, stop), 0),
     isPreempted: !/^\s*[FOJ]/.test(schedule.problem) && pieces.some((each) => each > 1),
     length: schedule.stop.reduce((most, stop) => Math.max(most, stop), 0),
-    value: schedule.value, problem: schedule.problem,
+    value: schedule.value, problem: schedule.problem, bound: schedule.bound, isOptimal: true,
   };
+}
+
+/** For each job the first start and the last stop of its pieces; 0 where it has none. */
+function timesOf({ job, start, stop }, count) {
+  const found = { start: new Float64Array(count).fill(Infinity),
+    completion: new Float64Array(count) };
+  for (let piece = 0; piece < job.length; piece++) {
+    const place = job[piece] - 1;
+    if (!(place >= 0 && place < count)) continue;
+    found.start[place] = Math.min(found.start[place], start[piece]);
+    found.completion[place] = Math.max(found.completion[place], stop[piece]);
+  }
+  for (let place = 0; place < count; place++) {
+    if (found.start[place] === Infinity) found.start[place] = 0;
+  }
+  return found;
 }
 
 /** The places of the pieces by machine and start. */

@@ -1,28 +1,15 @@
 // The plan: its value, why no schedule is better, other measures, and what moved.
 
 import { lengthText } from "./calendar.js";
+import { boundReason, optimumReason } from "./certificates.js";
 import { ChartView } from "./chart_view.js";
 import { ListView } from "./list_view.js";
 import { comparePlans, measures } from "./plan.js";
 import { html } from "./svg.js";
-import { objectiveWords, valueText } from "./values.js";
+import { leastWords, objectiveWords, valueText } from "./values.js";
 
 const MOST_NAMED = 8;
 const LONGEST_TEXT = 40000;
-
-const CERTIFICATE_WORDS = {
-  load: "All machines together need this long for all the work.",
-  job: "This one job takes so long by itself.",
-  pairs: "Of any two jobs one waits for the other; the cheaper of the two waits is counted for "
-    + "each pair.",
-  last: "One of these jobs is completed last, when all of them are done. The one that costs least "
-    + "then costs this much.",
-  window: "These jobs can't start before the first of them is released, and all their work comes "
-    + "after that.",
-  split: "What one side needs on machine 1 and the other on machine 2, one after another.",
-  machine: "This machine needs this long for all its work.",
-  ranks: "On each machine the last job counts once, the one before it twice, and so on.",
-};
 
 export class PlanView {
   /**
@@ -58,7 +45,7 @@ export class PlanView {
   /**
    * Shows a plan.
    * @param {object} plan
-   * @param {object} evaluation
+   * @param {?object} evaluation of a plan of an exact method
    * @param {?object} kept
    * @param {Uint8Array} answer
    * @param {{short: string, long: string}[]} assumptions
@@ -78,16 +65,12 @@ export class PlanView {
   }
 
   showHeadline(plan, assumptions) {
-    const late = plan.jobs.reduce((count, job, place) =>
-      count + (job.due !== null && plan.completion[place] > job.due ? 1 : 0), 0);
-    const value = valueText(plan.calendar, plan.problem, plan.value);
     this.at("headline").replaceChildren(
-      html("p", { class: "value" }, html("span", { class: "proved" }, "proved optimal"),
-        html("span", {}, `${objectiveWords(plan.problem)}: `, html("strong", {}, value))),
-      html("p", {}, `No schedule of these ${plan.jobs.length} jobs has a smaller value.`,
-        late === 0 ? inTimeWords(plan) : null, late > 0 ? html("span", { class: "late-words" }, late === 1 ? " One job is late."
-          : ` ${late} jobs are late.`) : null), this.assumed(assumptions));
-    this.at("headline").className = "headline good";
+      html("p", { class: "value" }, badgeOf(plan), html("span", {},
+        `${objectiveWords(plan.problem)}: `,
+        html("strong", {}, valueText(plan.calendar, plan.problem, plan.value)))),
+      html("p", {}, optimumWords(plan), ...lateWords(plan)), this.assumed(assumptions));
+    this.at("headline").className = `headline ${plan.isOptimal ? "good" : "near"}`;
   }
 
   /** What the plan rests on, in a line that can be opened. */
@@ -105,20 +88,15 @@ export class PlanView {
       html("dl", { class: "measures", "aria-label": "Measures of this plan" }, lines));
   }
 
-  /** The certificate's arithmetic, as the module works it out. */
+  /** Why no schedule is better, or than which value none is. */
   showCertificate(plan, evaluation) {
-    const kind = plan.schedule.certificate.split(" ")[0];
-    const jobs = certificateJobs(plan.schedule.certificate, plan.jobs.length);
-    const names = jobs.slice(0, MOST_NAMED).map((job) => plan.jobs[job - 1].name);
-    const rest = jobs.length - names.length;
-    const set = names.length === 0 ? null : html("p", {},
-      `Jobs of the certificate: ${names.join(", ")}${rest > 0 ? ` and ${rest} more` : ""}.`);
-    const target = this.at("certificate").querySelector("div");
-    target.replaceChildren(
-      html("p", {}, CERTIFICATE_WORDS[kind] ?? ""), ...(set ? [set] : []),
-      html("ol", { class: "steps" }, evaluation.steps.map((step) => html("li", {}, step))),
-      html("p", {}, `So every schedule has at least the value ${evaluation.bound}, in the numbers `
-        + "of the job table, and this one has it. ", html("span", { class: "proved" }, "proved")));
+    const place = this.at("certificate");
+    place.hidden = !evaluation && (!plan.bound || isTrivial(plan) && !plan.isOptimal);
+    if (place.hidden) return;
+    place.querySelector("summary").textContent = plan.isOptimal ? "Why no schedule is better"
+      : `Why no schedule has ${leastWords(plan.calendar, plan.problem, plan.bound.value)}`;
+    const reason = evaluation ? optimumReason(plan, evaluation) : boundReason(plan);
+    place.querySelector("div").replaceChildren(...reason.filter(Boolean));
   }
 
   // ---- what moved ----
@@ -139,12 +117,43 @@ export class PlanView {
   }
 }
 
-/** That all jobs are in time, and by how much the tightest of them is. */
-function inTimeWords(plan) {
+/** How near the plan is to the optimum: proved, or nothing where no bound is known. */
+function badgeOf(plan) {
+  if (plan.isOptimal) return html("span", { class: "proved" }, "proved optimal");
+  if (!plan.bound) return null;
+  const gap = BigInt(plan.value) - BigInt(plan.bound.value);
+  const words = valueText(plan.calendar, plan.problem, String(gap));
+  return html("span", { class: "proved" }, `at most ${words} above the optimum`);
+}
+
+/** Whether the bound says only what holds of every sum: that none is below 0. */
+function isTrivial(plan) {
+  return plan.bound.value === "0" && !plan.problem.endsWith("Lmax");
+}
+
+/** What is known of all schedules, in a sentence. */
+function optimumWords(plan) {
+  const jobs = plan.jobs.length === 1 ? "this job" : `these ${plan.jobs.length} jobs`;
+  if (plan.isOptimal) return `No schedule of ${jobs} has a smaller value.`;
+  if (!plan.bound) return "How far this plan is from the optimum is not known.";
+  if (isTrivial(plan)) return "No lower bound above 0 was found.";
+  return `No schedule of ${jobs} has `
+    + `${leastWords(plan.calendar, plan.problem, plan.bound.value)}.`;
+}
+
+/** How many jobs are late, or by how much the tightest of them is in time. */
+function lateWords(plan) {
+  const late = plan.jobs.reduce((count, job, place) =>
+    count + (job.due !== null && plan.completion[place] > job.due ? 1 : 0), 0);
+  if (late > 0) {
+    return [" ", html("span", { class: "late-words" },
+      late === 1 ? "One job is late." : `${late} jobs are late.`)];
+  }
   const early = plan.jobs.reduce((least, job, place) => job.due === null ? least
     : Math.min(least, job.due - plan.completion[place]), Infinity);
-  return early === Infinity ? null
-    : ` All are in time, the tightest ${early === 0 ? "just so" : `by ${lengthText(plan.calendar, early)}`}.`;
+  if (early === Infinity) return [];
+  return [` All are in time, the tightest ${early === 0 ? "just so"
+    : `by ${lengthText(plan.calendar, early)}`}.`];
 }
 
 /** What changed against a kept plan, in a sentence. */
@@ -175,17 +184,6 @@ function movedWords(plan, moved) {
 function someOf(words) {
   const rest = words.length - MOST_NAMED;
   return words.slice(0, MOST_NAMED).join(", ") + (rest > 0 ? ` and ${rest} more` : "");
-}
-
-/** The jobs of a certificate, from 1; ranges such as 3-5 are all their jobs. */
-function certificateJobs(certificate, most) {
-  const [kind, ...words] = certificate.split(" ");
-  if (!["last", "window", "job"].includes(kind)) return [];
-  const jobs = words.flatMap((word) => {
-    const [from, to = from] = word.split("-").map(Number);
-    return Array.from({ length: Math.max(0, to - from + 1) }, (_, k) => from + k);
-  });
-  return jobs.filter((job) => job >= 1 && job <= most);
 }
 
 /** The beginning of a text of bytes, since the browser would be slow to show all of a long one. */

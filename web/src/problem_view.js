@@ -15,6 +15,8 @@ export class ProblemView {
     this.notes = this.at("problem-notes");
     this.details = this.at("problem");
     this.isWanted = false;
+    this.makesPlans = false;
+    this.said = null;
     this.details.querySelector("summary").addEventListener("click", () => {
       this.isWanted = !this.details.open;
     });
@@ -31,6 +33,13 @@ export class ProblemView {
       this.store.change({ machines: this.at("machines").value }, "machines"));
     this.at("machine-names").addEventListener("input", () =>
       this.store.change({ machineNames: this.at("machine-names").value }, "machine names"));
+  }
+
+  /** Says whether there are plans for problems without an exact method. */
+  setMakesPlans(makesPlans) {
+    if (makesPlans === this.makesPlans) return;
+    this.makesPlans = makesPlans;
+    if (this.said) this.show(...this.said);
   }
 
   /** Folds the problem into a line in words, unless somebody has opened it. */
@@ -81,7 +90,7 @@ export class ProblemView {
     const options = problems.OBJECTIVES.map(({ id, words }) => {
       const name = problem && problems.classOf({ ...problem, objective: id });
       const isSolved = !problem || problems.SOLVED.has(name);
-      return new Option(words + (isSolved ? "" : " (lower bound only)"), id);
+      return new Option(words + (isSolved ? "" : " (no exact method)"), id);
     });
     this.at("objective").replaceChildren(...options);
     if (problem) this.at("objective").value = problem.objective;
@@ -93,6 +102,7 @@ export class ProblemView {
    * @param {?object} table
    */
   show(findings, table) {
+    this.said = [findings, table];
     const { problem: text } = this.store.state;
     const problem = problems.readNotation(text);
     const name = problem && problems.classOf(problem);
@@ -119,7 +129,9 @@ export class ProblemView {
     const nearest = buttons.flatMap((button, k) => [k === 0 ? " Solved, and near to it: " : ", ",
       button]);
     return [html("p", { class: "note" }, html("strong", {}, name),
-      " has no exact method here: only a lower bound is computed.", nearest)];
+      " has no exact method here: ", this.makesPlans ? "a good plan is searched for, and a proved "
+        + "bound says how far from the optimum it can be." : "only a lower bound is computed.",
+      nearest)];
   }
 }
 
@@ -140,8 +152,8 @@ export function unusedColumns(problem, table) {
     cost: table.jobs.filter((job) => job.hasCost).length,
     after: table.arcs.length,
   };
-  const words = { time2: "times on machine 2", weight: "weights", release: "release dates", cost: "cost functions",
-    after: "precedence constraints" };
+  const words = { time2: "times on machine 2", weight: "weights", release: "release dates",
+    cost: "cost functions", after: "precedence constraints" };
   return Object.entries(counts).filter(([field, count]) => count > 0 && !used.has(field))
     .map(([field, count]) => `${words[field] ?? FIELD_WORDS[field]} (${count})`);
 }

@@ -3,10 +3,14 @@
 import { readAnswer, readBound, readEvaluation } from "./answer.js";
 
 const LARGEST_PICTURE = 5e6;
+// The statuses of `plan`: the value is equal to the bound, or it is not.
+const OPTIMAL = 0;
+const WITHIN_GAP = 6;
 
 /**
  * Solves, and evaluates what was solved for the arithmetic of the certificate.
- * @param {{run: function(object): object}} solver as `loadSolver` gives it
+ * @param {{run: function(object): object, can: function(string): boolean}} solver as `loadSolver`
+ *   gives it
  * @param {object} request
  */
 export function plan(solver, request) {
@@ -40,6 +44,20 @@ export function judge(solver, request) {
 export function bound(solver, request) {
   const { status, errors, output } = solver.run({ ...request, command: "bound", steps: null });
   return status === 0 ? { status, errors, bound: readBound(output) } : { status, errors };
+}
+
+/**
+ * Searches for a good plan where no exact method is, and for a bound of how far it is from the
+ * optimum. A module that makes no such plans, or none for this problem, gives the bound alone.
+ */
+export function search(solver, request) {
+  if (!solver.can("plan")) return bound(solver, request);
+  const { status, errors, output } = solver.run({ ...request, command: "plan", answerVersion: 2 });
+  if (status !== OPTIMAL && status !== WITHIN_GAP) {
+    return /refused: NoSolver/.test(errors) ? bound(solver, request) : { status, errors };
+  }
+  return { status: 0, errors, answer: output, schedule: readAnswer(output),
+    isOptimal: status === OPTIMAL };
 }
 
 /** Runs one command as it is: `picture` or `problems`. */

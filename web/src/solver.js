@@ -3,17 +3,20 @@
 //
 //   const solver = await loadSolver(bytes);   // with 64-bit memory, or lowered to 32-bit memory
 //   solver.run(request)                       // { status, output: Uint8Array, errors: string }
+//   solver.can("plan")                        // whether the module has the command
 //   solver.module                             // compiled: loadSolver takes it in place of the bytes
 //
 // The module imports nothing. What is trusted of this script, since no proof reads it:
-// - The buffers and the space that an export is called with lie apart from one another and from the
-//   module's own memory, their addresses are multiples of 16, and their lengths are what is said.
+// - The buffers and the space that an export is called with lie apart from one another and from
+//   the module's own memory, their addresses are multiples of 16, and their lengths are what is
+//   said.
 // - The space is used for nothing else afterwards: each run has an instance of its own.
 const loadSolver = (() => {
   const PAGE = 65536;
   // The most memory that a run is given for its work, in bytes.
   const MOST_SPACE = 8 * 2 ** 30;
-  // Where more can't be had, half of it is tried, as long as that is more than this and than what was too little.
+  // Where more can't be had, half of it is tried, as long as that is more than this and than what
+  // was too little.
   const LEAST_SPACE = 2 ** 20;
   const NO_MEMORY = "threefield: want of memory\n";
   const NONE = new Uint8Array(0);
@@ -46,7 +49,8 @@ const loadSolver = (() => {
     const name = request.format && request.format.kind === "flow" ? request.format.name : "";
     const instance = request.instance || NONE, answer = request.answer || NONE;
     switch (request.command) {
-      case "solve": case "bound": return [encode(request.problem), encode(name), instance, NONE];
+      case "solve": case "bound": case "plan":
+        return [encode(request.problem), encode(name), instance, NONE];
       case "check": case "evaluate":
         return [encode(request.problem), encode(name), instance, answer];
       case "gantt": case "picture": return [NONE, NONE, NONE, answer];
@@ -132,7 +136,9 @@ const loadSolver = (() => {
   return async source => {
     const isCompiled = source instanceof WebAssembly.Module;
     const module = isCompiled ? source : await WebAssembly.compile(source);
-    return { module, run: request => run(module, request) };
+    const exported = new Set(WebAssembly.Module.exports(module).map(({ name }) => name));
+    const can = command => exported.has("page_" + command);
+    return { module, can, run: request => run(module, request) };
   };
 })();
 if (typeof module !== "undefined") module.exports = { loadSolver };

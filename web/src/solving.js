@@ -9,9 +9,9 @@ const LARGE = 500000;
 export class Solving {
   /**
    * @param {string} source the worker's script
-   * @param {string|WebAssembly.Module} module the packed module; the compiled one, once there is one,
-   *   so that a new worker goes on with the code that the browser has made faster meanwhile
-   * @param {(state: {loaded: boolean, message?: string}) => void} onLoaded
+   * @param {string|WebAssembly.Module} module the packed module; the compiled one, once there is
+   *   one, so that a new worker goes on with the code that the browser has made faster meanwhile
+   * @param {(state: {loaded: boolean, makesPlans?: boolean, message?: string}) => void} onLoaded
    */
   constructor(source, module, onLoaded) {
     const address = URL.createObjectURL(new Blob([source], { type: "text/javascript" }));
@@ -21,6 +21,7 @@ export class Solving {
     this.waiting = new Map();
     this.running = null;
     this.hasFailed = false;
+    this.makesPlans = false;
     this.start();
   }
 
@@ -59,7 +60,7 @@ export class Solving {
   isObsolete(request) {
     const { kind } = this.running.request;
     const isLong = performance.now() - this.running.begun > LONG;
-    return kind === "bound" && request.kind !== "problems" || kind === request.kind && isLong;
+    return kind === "search" && request.kind === "plan" || kind === request.kind && isLong;
   }
 
   /** Gives up the run under way. */
@@ -96,6 +97,7 @@ export class Solving {
     if (data.loaded !== undefined) {
       this.isLoaded = data.loaded;
       if (data.loaded) this.module = data.module;
+      this.makesPlans = data.makesPlans;
       this.hasFailed = !data.loaded;
       this.onLoaded(data);
       if (this.hasFailed) this.giveUp();

@@ -29,3 +29,11 @@ export function objectiveWords(notation) {
   const words = OBJECTIVES.find((each) => each.id === objective).words.replace(/^the /, "");
   return words[0].toUpperCase() + words.slice(1);
 }
+
+/** A value that no schedule falls below, to end a sentence with: “less than 11 h”. */
+export function leastWords(calendar, notation, value) {
+  if (readNotation(notation)?.objective !== "sumU") {
+    return `less than ${valueText(calendar, notation, value)}`;
+  }
+  return `fewer than ${value} late ${value === "1" ? "job" : "jobs"}`;
+}

@@ -1,7 +1,7 @@
 // Runs the module beside the page, so that the page never waits for it.
 
 import { buffersOf } from "./memory.js";
-import { bound, judge, plain, plan } from "./runs.js";
+import { judge, plain, plan, search } from "./runs.js";
 import { loadSolver } from "./solver.js";
 
 // Some plans of this many jobs, so soon after the start, let the browser compile well what large
@@ -28,13 +28,13 @@ function warm() {
   }
 }
 
-const KINDS = { plan, judge, bound, picture: plain, problems: plain };
+const KINDS = { plan, search, judge, picture: plain, problems: plain };
 
 onmessage = async ({ data }) => {
   if (data.module !== undefined) {
     try {
       solver = await loadSolver(await unpack(data.module));
-      postMessage({ loaded: true, module: solver.module });
+      postMessage({ loaded: true, module: solver.module, makesPlans: solver.can("plan") });
       setTimeout(warm, WARMING.milliseconds);
     } catch (error) {
       postMessage({ loaded: false, message: String(error) });
