@@ -226,6 +226,32 @@ def what_if(page):
 
 
 @way
+def promising(page):
+    """The earliest date of a new order that makes no other late, why not earlier, and the order with that date."""
+    page.example(1)
+    page.put(3, "due", "11")
+    page.put(2, "time", "1")
+    expect(page.plan_value(), "−1")
+    page.click("#promise summary")
+    page.click("#promise-form button")
+    expect(page.text("#promised"), "How long does the new order take?")
+    page.type("#promise-name", "<i>Rush</i>")
+    page.type("#promise-time", "2")
+    page.type("#promise-after", "Cutting")
+    page.click("#promise-form button")
+    page.wait("/can be promised/.test(document.getElementById('promised').innerText)")
+    expect_in("“<i>Rush</i>” can be promised for 7.", page.text("#promised"))
+    expect_in("With that date no order is late.", page.text("#promised"))
+    expect_in("One earlier is not possible: “<i>Rush</i>”", page.text("#promised"))
+    page.click("#promised button")
+    page.settle()
+    expect([page.value(page.cell(5, field)) for field in ("name", "time", "due", "after")], ["<i>Rush</i>", "2", "7", "Cutting"])
+    expect(page.plan_value(), "0")
+    page.notation("1||sumC")
+    expect(page.run("document.getElementById('promise-form').hidden"), True)
+
+
+@way
 def rows_by_keyboard(page):
     """Typing into the empty line adds rows; Enter and the arrows move."""
     page.notation("1||sumC")

@@ -12,6 +12,7 @@ import { hasShown, release } from "./memory.js";
 import { keepPlan, makePlan } from "./plan.js";
 import { PlanView, startOfText } from "./plan_view.js";
 import { PrecedenceView } from "./precedence_view.js";
+import { PromiseView } from "./promise_view.js";
 import { columnsUsed, describe, needsMachines, readNotation } from "./problems.js";
 import { ProblemView } from "./problem_view.js";
 import { explainRefusal } from "./refusals.js";
@@ -21,7 +22,7 @@ import { emptyState } from "./state.js";
 import { Store } from "./store.js";
 import { html } from "./svg.js";
 import { valueText } from "./values.js";
-import { FIELDS, RowReader, makeTable } from "./table.js";
+import { FIELDS, RowReader, isEmptyRow, makeTable, newRow } from "./table.js";
 
 const REST = 150;
 const PATIENCE = 400;
@@ -49,6 +50,9 @@ class Page {
     this.judgeView = new JudgeView({
       request: () => this.now, ownAnswer: () => this.shown?.answer ?? null,
       ask: (request) => this.solving.ask(request),
+    });
+    this.promiseView = new PromiseView({
+      ask: (request) => this.solving.ask(request), add: (values) => this.addRow(values),
     });
     this.askPicture = (then) => this.picture(then);
     this.files = new Files(this);
@@ -210,6 +214,11 @@ class Page {
       = `${words} in ${Math.round(reply.milliseconds)} ms.`;
   }
 
+  addRow(values) {
+    const rows = this.store.state.rows.filter((row) => !isEmptyRow(row));
+    this.store.change({ rows: [...rows, newRow(values)] });
+  }
+
   /** Asks, and where it takes a while says so with a button that stops it. */
   async patiently(words, request) {
     const timer = setTimeout(() => this.planView.showMessage(words, html("button",
@@ -226,6 +235,7 @@ class Page {
     const { plan, evaluation, answer, assumptions } = this.shown;
     plan.names = machineNames(this.store.state.machineNames);
     this.planView.show(plan, evaluation, this.store.state.kept, answer, assumptions);
+    this.promiseView.show(plan);
     this.showPrintHead();
     this.planView.setBusy(false);
     performance.mark("plan shown");

@@ -26,7 +26,7 @@ export function makePlan(table, schedule, evaluation, calendar, names) {
     if (pieces[job]++ === 0) machine[job] = schedule.machine[place];
   }
   return {
-    jobs: table.jobs, index: table.index, calendar, schedule, order, pieces, machine,
+    jobs: table.jobs, index: table.index, arcs: table.arcs, calendar, schedule, order, pieces, machine,
     machines: schedule.machines, names,
     rows: machineRows(schedule, order),
     colour: colourJobs(schedule, order, count),

@@ -65,3 +65,34 @@ export function plain(solver, request) {
   const { status, errors, output } = solver.run({ ...request, command: request.kind });
   return { status, errors, output };
 }
+
+/**
+ * The earliest due date of a new order with which no job is late, by bisection: `request.least` and
+ * `most` are the first date that can be meant and one that is late enough.
+ * @returns {{status: number, errors: string, due?: number, certificate?: ?string, value?: string}}
+ *   the certificate and the value of the date one step earlier; none where that is below `least`
+ */
+export function promise(solver, request) {
+  const { head, tail, least, most } = request;
+  const solve = (due) => {
+    const digits = new TextEncoder().encode(String(due));
+    const instance = new Uint8Array(head.length + digits.length + tail.length);
+    instance.set(head);
+    instance.set(digits, head.length);
+    instance.set(tail, head.length + digits.length);
+    return solver.run({ ...request, command: "solve", answerVersion: 2, instance });
+  };
+  const found = { status: 0, errors: "", due: most, certificate: null, value: "0" };
+  for (let low = least - 1; found.due - low > 1;) {
+    const due = low + Math.floor((found.due - low) / 2);
+    const { status, errors, output } = solve(due);
+    if (status !== 0) return { status, errors };
+    const { value, certificate } = readAnswer(output);
+    if (value.startsWith("-") || value === "0") found.due = due;
+    else {
+      low = due;
+      Object.assign(found, { certificate, value });
+    }
+  }
+  return found;
+}

@@ -5,6 +5,8 @@ const TRUSTED = globalThis.trustedTypes?.createPolicy("threefield",
   { createScriptURL: (address) => address });
 const LONG = 1500;
 const LARGE = 500000;
+// Runs that give way to a new plan.
+const SEARCHES = new Set(["search", "promise"]);
 
 export class Solving {
   /**
@@ -60,7 +62,7 @@ export class Solving {
   isObsolete(request) {
     const { kind } = this.running.request;
     const isLong = performance.now() - this.running.begun > LONG;
-    return kind === "search" && request.kind === "plan" || kind === request.kind && isLong;
+    return SEARCHES.has(kind) && request.kind === "plan" || kind === request.kind && isLong;
   }
 
   /** Gives up the run under way. */

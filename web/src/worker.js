@@ -1,7 +1,7 @@
 // Runs the module beside the page, so that the page never waits for it.
 
 import { buffersOf } from "./memory.js";
-import { judge, plain, plan, search } from "./runs.js";
+import { judge, plain, plan, promise, search } from "./runs.js";
 import { loadSolver } from "./solver.js";
 
 // Some plans of this many jobs, so soon after the start, let the browser compile well what large
@@ -28,7 +28,7 @@ function warm() {
   }
 }
 
-const KINDS = { plan, search, judge, picture: plain, problems: plain };
+const KINDS = { plan, search, promise, judge, picture: plain, problems: plain };
 
 onmessage = async ({ data }) => {
   if (data.module !== undefined) {
