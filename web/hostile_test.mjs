@@ -73,7 +73,7 @@ test("rows get numbers of their own, and a kept plan follows them", () => {
 test("a state is read back as it was written", () => {
   const rows = [newRow({ name: "A", time: "3", due: "9" }), newRow({ name: "B", after: "A" })];
   const kept = { problem: "1||Lmax", value: "0", ids: [rows[1].id], names: ["B"], start: [0],
-    completion: [1] };
+    completion: [1], begin: "2026-11-30 08:00", step: 30 };
   const again = readState(writeState({ ...emptyState(), title: "T", rows, kept }));
   assert.deepEqual(again.rows.map(({ id: _, ...texts }) => texts),
     rows.map(({ id: _, ...texts }) => texts));

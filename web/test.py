@@ -251,6 +251,37 @@ def promising(page):
     expect(page.run("document.getElementById('promise-form').hidden"), True)
 
 
+CLOCK = """Date = class extends Date {
+    constructor(...given) { if (given.length > 0) super(...given); else super(2025, 2, 4, 9, 50); } }; undefined"""
+
+
+@way
+def from_now_on(page):
+    """What is done is left out, what is begun goes on with the rest; a line says where now is, and what moved is told."""
+    page.example(0)
+    page.run(CLOCK)
+    page.browser.size(1300, 900)
+    page.run("new Promise((resolve) => setTimeout(resolve, 200))")
+    expect(page.run("document.querySelectorAll('.chart .now').length"), 1)
+    page.click("#from-now")
+    page.settle()
+    expect_in("these are done: Plates, spring catalogue, Business cards Meyer, Menu “Zum Anker”.", page.text("#notice"))
+    expect_in("Begun: Letterheads.", page.text("#notice"))
+    expect(page.texts("#list tbody th")[0], "Letterheads")
+    expect([page.value(page.cell(row, "left")) for row in (3, 10, 2)], ["done", "2 h", ""])
+    expect_in("from Tue 4 Mar 10:00", page.text("#headline .assumed summary"))
+    expect_in("3 done; 1 begun", page.text("#headline .assumed summary"))
+    expect_in("the value is the same; no job moved; done: Plates, spring catalogue, Business cards Meyer, Menu", page.text("#changes"))
+    page.put(10, "left", "soon")
+    expect_in("“soon” is not a length of time", page.found_at(10, "left"))
+    page.put(10, "left", "done")
+    expect_in("4 done", page.text("#headline .assumed summary"))
+    page.click("#undo")
+    page.click("#undo")
+    page.wait_for_value("11 h")
+    expect(page.value(page.cell(1, "due")), "2025-03-04")
+
+
 @way
 def rows_by_keyboard(page):
     """Typing into the empty line adds rows; Enter and the arrows move."""

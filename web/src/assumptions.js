@@ -6,6 +6,7 @@ import { readNotation } from "./problems.js";
 import { unusedColumns } from "./problem_view.js";
 import { ASSUMED } from "./table.js";
 
+const MOST_NAMED = 10;
 const UNITS = { min: "minutes", h: "hours", d: "working days" };
 
 /**
@@ -19,7 +20,21 @@ export function assumptionsOf(table, calendar, state) {
   const found = calendar ? [...readings(table, calendar, state), startOf(calendar, state)]
     : [{ short: "plain numbers, from 0", long: "All times and dates are plain numbers in one unit, "
       + "counted from the start of the plan." }];
-  return [...found, ...lacking(table), ...ignored(table, state)];
+  return [...found, ...progress(table, calendar), ...lacking(table), ...ignored(table, state)];
+}
+
+/** What is done and left out, and what is begun. */
+function progress({ jobs, done, isFirst }, calendar) {
+  const begun = jobs.filter((job) => job.isBegun);
+  const some = (names) => names.slice(0, MOST_NAMED).join(", ")
+    + (names.length > MOST_NAMED ? ` and ${names.length - MOST_NAMED} more` : "");
+  return [
+    done.length > 0 && { short: `${done.length} done`,
+      long: `Done, and left out: ${some(done.map((job) => job.name))}.` },
+    begun.length > 0 && { short: `${begun.length} begun`, long: "Begun, with what is left: "
+      + `${some(begun.map((job) => `${job.name} (${lengthText(calendar, job.time)})`))}.`
+      + (isFirst ? " It comes first." : " Others may come before the rest of them.") },
+  ].filter(Boolean);
 }
 
 /** How texts are read that leave something open, each kind with its first example. */

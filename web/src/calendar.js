@@ -242,6 +242,34 @@ export function lengthText(calendar, steps) {
   return sign + (parts.join(" ") || "0 h");
 }
 
+// ---- now ----
+
+/** The step of a moment by the clock of the browser, with what of a step has gone by; or null. */
+export function stepNow(calendar, now = new Date()) {
+  const day = dayNumber(now.getFullYear(), now.getMonth() + 1, now.getDate());
+  const minutes = minutesUpTo(calendar, day, now.getHours() * 60 + now.getMinutes());
+  return minutes === null ? null : minutes / calendar.stepMinutes;
+}
+
+/** The moment by the clock of the browser at which a plan can start: the end of this time step. */
+export function momentNow(calendar, now = new Date()) {
+  const day = dayNumber(now.getFullYear(), now.getMonth() + 1, now.getDate());
+  const clock = now.getHours() * 60 + now.getMinutes();
+  if (calendar.stepMinutes > 60) {
+    const isBefore = clock <= calendar.spans[0][0];
+    return { day: isBefore ? day : day + 1, clock: 0 };
+  }
+  const next = Math.ceil(clock / calendar.stepMinutes) * calendar.stepMinutes;
+  return next < 1440 ? { day, clock: next } : { day: day + 1, clock: 0 };
+}
+
+/** The working minutes from a moment such as "2025-03-03 08:00" to the start of a calendar. */
+export function minutesSince(calendar, moment) {
+  const { day, clock, fault } = readDateTime(moment, true, calendar.startDay);
+  const minutes = fault ? null : minutesUpTo(calendar, day, clock ?? 0);
+  return minutes === null ? 0 : -minutes;
+}
+
 // ---- what people write ----
 
 /**

@@ -1,6 +1,6 @@
 // The Gantt chart of a plan as SVG: a window of time, perhaps folded into several lines.
 
-import { dayStarts, lengthText, momentText } from "./calendar.js";
+import { dayStarts, lengthText, momentText, stepNow } from "./calendar.js";
 import { machineName } from "./machines.js";
 import { lateness } from "./plan.js";
 import { fitted, svg, textWidth } from "./svg.js";
@@ -118,7 +118,20 @@ function drawLine(plan, frame, line) {
   if (plan.isPreempted && plan.order.length <= MOST_LINKED) {
     group.append(drawLinks(plan, frame, line, x));
   }
+  drawNow(group, plan, frame, line, x);
   return group;
+}
+
+/** A line at the moment by the clock of the browser, where it lies within the plan. */
+function drawNow(group, plan, frame, line, x) {
+  const now = plan.calendar ? stepNow(plan.calendar) : null;
+  if (now === null || now <= 0 || now > plan.length || now < line.from || now >= line.to) return;
+  const at = round(x(now));
+  const bottom = frame.lineHeight - GAP;
+  group.append(
+    svg("path", { class: "now", d: `M${at} ${AXIS - 4}V${bottom}` }),
+    svg("text", { class: "now-text", x: at, y: bottom + 9, "text-anchor": "middle",
+      "font-size": 10 }, "now"));
 }
 
 // ---- the axis ----

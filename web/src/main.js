@@ -12,6 +12,7 @@ import { hasShown, release } from "./memory.js";
 import { keepPlan, makePlan } from "./plan.js";
 import { PlanView, startOfText } from "./plan_view.js";
 import { PrecedenceView } from "./precedence_view.js";
+import { fromNow } from "./progress.js";
 import { PromiseView } from "./promise_view.js";
 import { columnsUsed, describe, needsMachines, readNotation } from "./problems.js";
 import { ProblemView } from "./problem_view.js";
@@ -71,6 +72,7 @@ class Page {
     for (const id of ["paste", "begin-paste"]) {
       at(id).addEventListener("click", () => this.importView.open());
     }
+    at("from-now").addEventListener("click", () => this.fromNow());
     at("undo").addEventListener("click", () => this.store.undo());
     at("print").addEventListener("click", () => window.print());
     at("title").addEventListener("input", () =>
@@ -142,14 +144,19 @@ class Page {
     const used = problem ? columnsUsed(problem) : UNKNOWN;
     this.rowsView.setUsed(used);
     this.rowsView.setCalendar(calendar);
-    const table = await makeTable(state.rows, this.readerOf(calendar, used), async () => {
+    const goesOn = problem?.environment === "1" && !problem.conditions.includes("prmp");
+    const table = await makeTable(state.rows, this.readerOf(calendar, used, goesOn), async () => {
       await new Promise((resolve) => setTimeout(resolve));
       return version === this.version;
     });
     if (!table || version !== this.version) return undefined;
     const machines = readMachines(state, problem);
     this.showTable(table, machines);
-    if (table.jobs.length === 0) return this.wait(WELCOME, true);
+    if (table.jobs.length === 0 && table.done.length === 0) return this.wait(WELCOME, true);
+    if (table.jobs.length === 0) {
+      this.planView.clear();
+      return this.wait("All jobs are done.");
+    }
     if (table.faults.length > 0) return this.wait("Some rows have to be corrected first.");
     if (machines.fault) return this.wait("The number of machines has to be corrected first.");
     return this.solve(version, { table, calendar, problem: state.problem, request: {
@@ -212,6 +219,22 @@ class Page {
     if (before) release(before.plan, before.plan.schedule, before);
     document.getElementById("engine").textContent
       = `${words} in ${Math.round(reply.milliseconds)} ms.`;
+  }
+
+  /** Makes the plan from now on, and keeps the one that is shown to compare it with. */
+  fromNow() {
+    const { state } = this.store;
+    const { calendar } = this.made;
+    if (!calendar) {
+      this.notify("A plan in plain numbers has no dates: choose a time step under “Calendar”.");
+      return;
+    }
+    const plan = this.shown?.plan ?? null;
+    const { patch, done, begun } = fromNow(state, calendar, plan, new Date());
+    const isKept = plan && state.kept === null;
+    this.store.change({ ...patch, ...(isKept ? { kept: keepPlan(plan) } : {}) });
+    this.rowsView.showColumn("left");
+    this.notify(progressWords(done, begun, isKept));
   }
 
   addRow(values) {
@@ -310,10 +333,11 @@ class Page {
     return this.made.faults.length > 0 ? undefined : this.made.calendar;
   }
 
-  readerOf(calendar, used) {
+  readerOf(calendar, used, goesOn) {
     const known = this.reader;
-    if (!known || known.calendar !== calendar || [...known.used].join() !== [...used].join()) {
-      this.reader = new RowReader(calendar, used);
+    if (!known || known.calendar !== calendar || known.goesOn !== goesOn
+      || [...known.used].join() !== [...used].join()) {
+      this.reader = new RowReader(calendar, used, goesOn);
     }
     return this.reader;
   }
@@ -338,6 +362,18 @@ class Page {
       html("p", {}, `${known ? describe(known) : ""} (${problem}). Printed `
         + `${new Date().toLocaleDateString("en-GB", { dateStyle: "long" })}.`));
   }
+}
+
+/** What was filled in when a plan starts from now, in sentences. */
+function progressWords(done, begun, isKept) {
+  const some = (names) => names.slice(0, 5).join(", ")
+    + (names.length > 5 ? ` and ${names.length - 5} more` : "");
+  return ["The plan starts now.",
+    done.length > 0 ? `By the plan before, these are done: ${some(done)}.` : "",
+    begun.length > 0 ? `Begun: ${some(begun)}.` : "",
+    "Correct it under “Left to do”: nothing for a job that is not begun, what is left of one that "
+      + "is begun, 0 for one that is done.",
+    isKept ? "The plan before is kept, to compare with." : ""].filter(Boolean).join(" ");
 }
 
 /** The number of machines for the module: null where the notation has it. */

@@ -1,5 +1,6 @@
 // A plan: the schedule that the module made, by job and by machine, with what the page adds to it.
 
+import { momentField, minutesSince } from "./calendar.js";
 import { release } from "./memory.js";
 
 /** How many letters of colours the chart has; neighbours on a machine never share one. */
@@ -26,7 +27,8 @@ export function makePlan(table, schedule, evaluation, calendar, names) {
     if (pieces[job]++ === 0) machine[job] = schedule.machine[place];
   }
   return {
-    jobs: table.jobs, index: table.index, arcs: table.arcs, calendar, schedule, order, pieces, machine,
+    jobs: table.jobs, done: table.done, index: table.index, arcs: table.arcs, calendar,
+    schedule, order, pieces, machine,
     machines: schedule.machines, names,
     rows: machineRows(schedule, order),
     colour: colourJobs(schedule, order, count),
@@ -155,22 +157,26 @@ export function measures(plan) {
 
 /** What is remembered of a plan that is kept, to compare later ones with. */
 export function keepPlan(plan) {
+  const { calendar } = plan;
   return {
     problem: plan.problem, value: plan.value,
     ids: plan.jobs.map((job) => job.id), names: plan.jobs.map((job) => job.name),
     start: [...plan.start], completion: [...plan.completion],
+    begin: calendar ? momentField(calendar, 0, false) : "", step: calendar?.stepMinutes ?? 0,
   };
 }
 
 /**
  * Compares a plan with one that was kept.
- * @returns {{moved: Map<number, number>, added: number[], gone: string[]}} by job: by how many
- *   steps it is completed later, jobs that are new, and names of those that are no longer there
+ * @returns {{moved: Map<number, number>, added: number[], done: string[], gone: string[]}} by job:
+ *   by how many steps it is completed later, jobs that are new, and names of those that are done or
+ *   no longer there
  */
 export function comparePlans(kept, plan) {
   const before = new Map(kept.ids.map((id, place) => [id, place]));
   const moved = new Map();
   const added = [];
+  const stepOf = stepsOfKept(kept, plan.calendar);
   plan.jobs.forEach((job, place) => {
     const old = before.get(job.id);
     before.delete(job.id);
@@ -178,8 +184,19 @@ export function comparePlans(kept, plan) {
       added.push(place);
       return;
     }
-    const by = plan.completion[place] - kept.completion[old];
-    if (by !== 0 || kept.start[old] !== plan.start[place]) moved.set(place, by);
+    const by = plan.completion[place] - stepOf(kept.completion[old]);
+    const isOther = stepOf(kept.start[old]) !== plan.start[place] && !job.isBegun;
+    if (by !== 0 || isOther) moved.set(place, by);
   });
-  return { moved, added, gone: [...before.values()].map((place) => kept.names[place]) };
+  const isDone = new Set((plan.done ?? []).map((job) => job.id));
+  const names = (holds) => [...before].filter(([id]) => isDone.has(id) === holds)
+    .map(([, place]) => kept.names[place]);
+  return { moved, added, done: names(true), gone: names(false) };
+}
+
+/** Turns steps of a kept plan into those of a calendar that may start later or step otherwise. */
+function stepsOfKept({ begin, step }, calendar) {
+  if (!calendar || !begin || !step) return (each) => each;
+  const passed = minutesSince(calendar, begin);
+  return (each) => (each * step - passed) / calendar.stepMinutes;
 }

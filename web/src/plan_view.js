@@ -157,7 +157,7 @@ function lateWords(plan) {
 }
 
 /** What changed against a kept plan, in a sentence. */
-function changeWords(plan, kept, { moved, added, gone }) {
+function changeWords(plan, kept, { moved, added, done, gone }) {
   const parts = [];
   if (kept.problem === plan.problem) {
     const by = BigInt(plan.value) - BigInt(/^-?\d+$/.test(kept.value) ? kept.value : plan.value);
@@ -168,6 +168,7 @@ function changeWords(plan, kept, { moved, added, gone }) {
   parts.push(moved.size === 0 ? "no job moved"
     : `${moved.size} ${moved.size === 1 ? "job" : "jobs"} moved (${movedWords(plan, moved)})`);
   if (added.length > 0) parts.push(`new: ${someOf(added.map((job) => plan.jobs[job].name))}`);
+  if (done.length > 0) parts.push(`done: ${someOf(done)}`);
   if (gone.length > 0) parts.push(`gone: ${someOf(gone)}`);
   return `${parts.join("; ")}.`;
 }

@@ -6,8 +6,8 @@ import { Pager, PAGE } from "./pager.js";
 import { html } from "./svg.js";
 import { FIELDS, FIELD_WORDS, newRow } from "./table.js";
 
-const HINTS = { name: "", time: "3", time2: "2", weight: "1", due: "", release: "", cost: "0,5:10",
-  after: "names" };
+const HINTS = { name: "", time: "3", time2: "2", left: "", weight: "1", due: "", release: "",
+  cost: "0,5:10", after: "names" };
 const ALWAYS = ["name", "time"];
 const COLUMNS = Object.keys(FIELD_WORDS);
 const MOST_LISTED = 5;
@@ -26,6 +26,7 @@ export class RowsView {
     this.allColumns = document.getElementById("all-columns");
     this.pager = new Pager(document.getElementById("jobs-pager"), "Jobs", () => this.draw());
     this.used = new Set(FIELDS);
+    this.wanted = new Set();
     this.findings = { faults: [], notes: [] };
     this.calendar = null;
     this.body.addEventListener("input", (event) => this.edit(event.target));
@@ -45,7 +46,14 @@ export class RowsView {
     if (this.allColumns.checked) return COLUMNS;
     const { rows } = this.store.state;
     return COLUMNS.filter((field) => ALWAYS.includes(field) || this.used.has(field)
-      || field === "due" && rows.some((row) => row.due !== ""));
+      || this.wanted.has(field)
+      || ["due", "left"].includes(field) && rows.some((row) => row[field] !== ""));
+  }
+
+  /** Shows a column although the problem doesn't use it. */
+  showColumn(field) {
+    this.wanted.add(field);
+    this.draw();
   }
 
   /** Draws the page of rows anew. */
@@ -66,6 +74,7 @@ export class RowsView {
   drawHead() {
     const unused = (field) => html("span", { class: "unused" },
       field === "due" ? " (shown only)" : " (not used)");
+    const isUsed = (field) => field === "left" || this.used.has(field);
     const names = machineNames(this.store.state.machineNames);
     const words = (field) => {
       const machine = { time: 1, time2: 2 }[field];
@@ -73,7 +82,7 @@ export class RowsView {
       return names[machine - 1] ? `Time, ${names[machine - 1]}` : `Time on machine ${machine}`;
     };
     const heads = (this.shown ?? []).map((field) => html("th", { scope: "col" },
-      words(field), this.used.has(field) ? null : unused(field)));
+      words(field), isUsed(field) ? null : unused(field)));
     this.head.replaceChildren(html("tr", {}, html("th", { scope: "col" }, "#"), heads,
       html("th", {}, html("span", { class: "visually-hidden" }, "Delete"))));
   }

@@ -5,7 +5,7 @@ import { plainLetters, unitOfWord } from "./lengths.js";
 import { FIELDS } from "./table.js";
 
 const LONGEST_HEADING = 100;
-const DATED = new Set(["time", "time2", "due", "release"]);
+const DATED = new Set(["time", "time2", "due", "release", "left"]);
 
 const HEADINGS = {
   name: "name job task order item activity product title part id nr no number description "
@@ -24,6 +24,8 @@ const HEADINGS = {
   release: "release releasedate ready readydate available earliest earlieststart start r rj "
     + "freigabe verfugbar fruhesterstart bereit disponible disponibilite debut inicio "
     + "fechadeinicio disponibile rilascio inizio",
+  left: "left lefttodo remaining remainingtime resttime rest restzeit restdauer verbleibend reste "
+    + "restant tempsrestant restante resto tiemporestante temporesiduo residuo",
   cost: "cost costs costfunction h hj kosten cout coste costo",
   after: "after predecessor predecessors dependson depends needs requires previous follows nach "
     + "vorganger apres predecesseur predecesseurs despuesde tras predecesor predecesores dopo "

@@ -78,7 +78,7 @@ function readSettings(data) {
   return settings;
 }
 
-/** The kept plan; its rows are known by the identities that they have now, 0 where they are gone. */
+/** The kept plan; its rows have the identities that they have now, 0 where they are gone. */
 function readKept(data, identities) {
   if (typeof data !== "object" || data === null) return null;
   const lists = ["ids", "names", "start", "completion"].map((field) => data[field]);
@@ -87,7 +87,8 @@ function readKept(data, identities) {
   if (![ids, start, completion].flat().every(Number.isFinite)) return null;
   return { ids: ids.map((identity) => identities.get(identity) ?? 0),
     names: names.map((name) => textOr(name, "")), start, completion,
-    problem: textOr(data.problem, ""), value: textOr(data.value, "") };
+    problem: textOr(data.problem, ""), value: textOr(data.value, ""),
+    begin: textOr(data.begin, ""), step: Number.isInteger(data.step) ? data.step : 0 };
 }
 
 /** Packs a text into letters that may stand in a link: deflated, base64 with - and _. */

@@ -3,12 +3,14 @@
 import { lengthText, readDuration, readMoment } from "./calendar.js";
 import { machineText } from "./machines.js";
 import { NameIndex, quoteName, shortened, splitNames } from "./precedence.js";
+import { readLeft } from "./progress.js";
 
 /** The columns of a row, all of them text as it was written. */
-export const FIELDS = ["name", "time", "time2", "weight", "due", "release", "cost", "after"];
+export const FIELDS = ["name", "time", "time2", "weight", "due", "release", "cost", "after", "left"];
 
 export const FIELD_WORDS = {
-  name: "Name", time: "Time", time2: "Time on machine 2", due: "Due", release: "Released",
+  name: "Name", time: "Time", time2: "Time on machine 2", left: "Left to do", due: "Due",
+  release: "Released",
   after: "After", weight: "Weight", cost: "Cost function",
 };
 
@@ -19,11 +21,11 @@ const MOST_MACHINES = 1000;
 const MOST_ARCS = 200000;
 const AT_ONCE = 20;
 const LINES_AT_ONCE = 500;
-// The letters of a line of the job table beside a job's fields are no more.
+// The letters of a line of the job table beside a job's fields are no more than this.
 const MOST_BESIDE = 16;
 const NONE = [];
 
-/** What a reader adds to texts: a unit to a time or to a date, a year, an order of day and month. */
+/** What is added to texts: a unit to a time or to a date, a year, an order of day and month. */
 export const ASSUMED = { unit: 1, start: 2, year: 4, dayFirst: 8, endOfDay: 16 };
 
 let lastId = 0;
@@ -51,6 +53,8 @@ export function isEmptyRow(row) {
  * @property {number} release in time steps; the start of the plan where the row has none
  * @property {?number} weight
  * @property {number} assumed bits of ASSUMED
+ * @property {boolean} isBegun whether its times are what is left of it
+ * @property {boolean} isDone whether nothing is left of it
  * @property {{field: string, message: string}[]} faults
  * @property {{field: string, message: string}[]} notes
  */
@@ -60,10 +64,12 @@ export class RowReader {
   /**
    * @param {?object} calendar
    * @param {Set<string>} used the columns that the problem uses; what is wrong in another is a note
+   * @param {boolean} goesOn whether jobs are done one after another without interruption
    */
-  constructor(calendar, used) {
+  constructor(calendar, used, goesOn = false) {
     this.calendar = calendar;
     this.used = used;
+    this.goesOn = goesOn;
     this.known = new WeakMap();
     this.index = null;
   }
@@ -122,20 +128,35 @@ function readRow(row, place, number, { calendar, used }) {
     add("notes", field, `No time on machine ${field === "time" ? 1 : 2}: it counts as 0.`);
     return 0;
   };
-  const time = takeTime("time", "time2");
-  const time2 = isShop ? takeTime("time2", "time") : null;
+  const whole = [takeTime("time", "time2"), ...(isShop ? [takeTime("time2", "time")] : [])];
+  const left = takeLeft(calendar, row.left.trim(), whole, add);
+  if (left?.every((each) => each === 0)) {
+    return { row: place, number, id: row.id, name: nameOf(row, number), isDone: true, faults: NONE,
+      notes: NONE };
+  }
+  const times = left ?? whole;
   const due = take("due", readMoment, true);
   const release = take("release", readMoment, false);
   const start = release ?? (used.has("release") ? 0 : null);
   const weight = take("weight", readWeight);
   const cost = take("cost", readCost);
-  const fields = [`p=${time}${time2 === null ? "" : `,${time2}`}`];
+  const fields = [`p=${times.join()}`];
   for (const [letter, value] of [["w", weight], ["d", due], ["r", start], ["h", cost]]) {
     if (value !== null) fields.push(`${letter}=${value}`);
   }
   return { row: place, number, id: row.id, name: nameOf(row, number), fields: fields.join(" "),
-    time: time + time2, due, release: start ?? 0, hasRelease: release !== null,
-    weight, hasCost: cost !== null, hasTime2, assumed, ...findings };
+    time: times.reduce((sum, each) => sum + each, 0), due, release: start ?? 0,
+    hasRelease: release !== null, weight, hasCost: cost !== null, hasTime2, assumed,
+    isBegun: left !== null, isDone: false, ...findings };
+}
+
+/** The times that are left of a job, or null where it is not begun. */
+function takeLeft(calendar, text, whole, add) {
+  if (text === "") return null;
+  const found = readLeft(calendar, text, whole.map((time) => time ?? 0));
+  if (found.fault) add("faults", "left", found.fault);
+  if (found.note) add("notes", "left", found.note);
+  return found.fault ? null : found.times;
 }
 
 /** What was added to a text when it was read. */
@@ -176,6 +197,7 @@ function readCost(_, text) {
  */
 export async function makeTable(rows, reader, pause) {
   const jobs = [];
+  const done = [];
   const findings = { faults: [], notes: [] };
   let begun = performance.now();
   for (let place = 0; place < rows.length; place++) {
@@ -185,6 +207,10 @@ export async function makeTable(rows, reader, pause) {
     }
     const job = reader.read(rows[place], place, jobs.length + 1);
     if (job === null) continue;
+    if (job.isDone) {
+      done.push(job);
+      continue;
+    }
     for (const each of job.faults) findings.faults.push({ row: place, ...each });
     for (const each of job.notes) findings.notes.push({ row: place, ...each });
     jobs.push(job);
@@ -192,10 +218,36 @@ export async function makeTable(rows, reader, pause) {
   const index = reader.indexOf(jobs);
   noteSameNames(index, findings);
   const found = reader.used.has("after") ? findings.faults : findings.notes;
-  const arcs = readArcs(rows, jobs, index, found);
+  const arcs = readArcs(rows, jobs, done, index, found);
+  const isFirst = goOn(jobs, arcs, reader, findings);
   judgeTotals(jobs, arcs, reader.calendar, findings);
   const fillers = fillersOf(jobs, reader.used, findings);
-  return { jobs, index, arcs, fillers, bytes: bytesOf(jobs, arcs, fillers), ...findings };
+  return { jobs, done, isFirst, index, arcs, fillers, bytes: bytesOf(jobs, arcs, fillers),
+    ...findings };
+}
+
+/**
+ * What is begun goes on: where jobs are done one after another and precedence counts, the one that
+ * is begun comes before all others. Else its row says that it may have to wait.
+ * @returns {boolean} whether a job that is begun comes first
+ */
+function goOn(jobs, arcs, { used, goesOn }, findings) {
+  const begun = jobs.flatMap((job, place) => job.isBegun ? [place] : []);
+  if (begun.length === 1 && goesOn && used.has("after")) {
+    const [first] = begun;
+    const others = arcs.filter(([from, to]) => to !== first && from !== first);
+    arcs.length = 0;
+    for (const arc of others) arcs.push(arc);
+    for (let place = 0; place < jobs.length; place++) if (place !== first) arcs.push([first, place]);
+    return true;
+  }
+  const hint = begun.length === 1 && goesOn
+    ? " Choose “Precedence constraints”, and it comes first." : "";
+  for (const place of begun) {
+    findings.notes.push({ row: jobs[place].row, field: "left",
+      message: `Begun: the plan may put others before what is left of it.${hint}` });
+  }
+  return false;
 }
 
 /**
@@ -261,13 +313,19 @@ function noteSameNames(index, findings) {
   }
 }
 
-/** The precedence constraints: places of two jobs, the first completed before the second starts. */
-function readArcs(rows, jobs, index, found) {
+/**
+ * The precedence constraints: places of two jobs, the first completed before the second starts.
+ * What is done already is completed.
+ */
+function readArcs(rows, jobs, done, index, found) {
   const arcs = [];
+  const completed = new Set(done.flatMap((job) => [job.name, `#${job.row + 1}`]));
+  const isKnown = (text) => index.has(text) || completed.has(text);
   jobs.forEach((job, place) => {
     if (rows[job.row].after === "") return;
     const fault = (message) => found.push({ row: job.row, field: "after", message });
-    for (const name of splitNames(rows[job.row].after, (text) => index.has(text))) {
+    for (const name of splitNames(rows[job.row].after, isKnown)) {
+      if (completed.has(name) && !index.has(name)) continue;
       const other = index.find(name);
       if (other.fault) fault(other.fault);
       else if (other.place === place) fault(`“${shortened(name)}” can't come after itself.`);

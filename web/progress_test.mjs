@@ -1,0 +1,93 @@
+// Orders that are done or begun, and a plan from now on: node --test web/*_test.mjs
+import assert from "node:assert/strict";
+import { test } from "node:test";
+import { load, tableOf } from "./modules.mjs";
+
+const { defaultSettings, makeCalendar, momentField, stepNow } = await load("calendar");
+const { fromNow, readLeft } = await load("progress");
+const { comparePlans, keepPlan, makePlan } = await load("plan");
+const { emptyState } = await load("state");
+const { RowReader, makeTable, newRow } = await load("table");
+
+// Monday 30 November 2026, 08:00-12:00 and 13:00-17:00.
+const SETTINGS = { ...defaultSettings(), step: "30", start: "2026-11-30" };
+const { calendar } = makeCalendar(SETTINGS);
+const COLUMNS = ["name", "time", "due", "after"];
+const textOf = (table) => new TextDecoder().decode(table.bytes);
+
+test("what is left is a length, a share or nothing", () => {
+  for (const [text, times, left] of [["2 h", [8], [4]], ["50 %", [7], [4]], ["0", [8], [0]],
+    ["done", [8], [0]], ["Erledigt", [8], [0]], ["0; 1 h", [4, 4], [0, 2]], ["ok", [4, 4], [0, 0]],
+    ["0 %", [8], [0]], ["100%", [8], [8]]]) {
+    assert.deepEqual(readLeft(calendar, text, times).times, left, text);
+  }
+  assert.match(readLeft(calendar, "6 h", [8]).note, /More is left/);
+  for (const [text, times] of [["soon", [8]], ["120 %", [8]], ["1 h", [4, 4]], ["1 h; 2 h", [8]],
+    ["-1 h", [8]]]) {
+    assert.ok(readLeft(calendar, text, times).fault, text);
+  }
+});
+
+test("what is done is left out, and who waits for it waits no more", async () => {
+  const rows = [{ name: "A", time: "?", left: "done" }, { name: "B", time: "2 h", after: "A; #1" },
+    { name: "C", time: "4 h", left: "1 h", after: "B" }].map((row) => newRow(row));
+  const table = await tableOf(rows, calendar, COLUMNS);
+  assert.deepEqual(table.faults, []);
+  assert.equal(textOf(table), "table 1\njob 1 p=4\njob 2 p=2\nprec 1 2\n");
+  assert.deepEqual(table.done.map((job) => job.name), ["A"]);
+  assert.match(table.notes[0].message, /^Begun: the plan may put others before what is left of it/);
+});
+
+test("the one job that is begun goes on before all others, where precedence counts", async () => {
+  const rows = [{ name: "A", time: "1 h" }, { name: "B", time: "2 h", left: "50 %", after: "A" },
+    { name: "C", time: "1 h", after: "B; A" }].map((row) => newRow(row));
+  const read = (used) => makeTable(rows, new RowReader(calendar, new Set(used), true),
+    async () => true);
+  const table = await read(COLUMNS);
+  assert.ok(table.isFirst);
+  assert.equal(textOf(table),
+    "table 1\njob 1 p=2\njob 2 p=2\njob 3 p=2\nprec 1 3\nprec 2 1\nprec 2 3\n");
+  const other = await read(["name", "time", "due"]);
+  assert.ok(!other.isFirst);
+  assert.match(other.notes.at(-1).message, /Choose “Precedence constraints”/);
+});
+
+/** A plan of jobs one after another, in the order of the rows. */
+async function inTurn(rows, of) {
+  const table = await tableOf(rows, of, COLUMNS);
+  const stops = [];
+  for (const job of table.jobs) stops.push((stops.at(-1) ?? 0) + job.time);
+  const list = (values) => Float64Array.from(values);
+  return makePlan(table, { problem: "1||Lmax", jobs: table.jobs.length, machines: 1, value: "0",
+    certificate: "", bound: null, job: list(table.jobs.map((_, place) => place + 1)),
+    machine: list(table.jobs.map(() => 1)), start: list([0, ...stops.slice(0, -1)]),
+    stop: list(stops) }, null, of, []);
+}
+
+test("from now on: what the plan had done is filled in, and dates stay what they were", async () => {
+  const rows = [{ name: "A", time: "3 h", due: "2026-12-01" }, { name: "B", time: "2 h", due: "16" },
+    { name: "C", time: "4 h", due: "3 d", left: "2 h" }, { name: "D", time: "1 h", due: "" }]
+    .map((row) => newRow(row));
+  const state = { ...emptyState(), settings: SETTINGS, rows };
+  const plan = await inTurn(rows, calendar);
+  const now = new Date(2026, 10, 30, 11, 40);
+  assert.equal(stepNow(calendar, now), 220 / 30);
+  const { patch, done, begun } = fromNow(state, calendar, plan, now);
+  assert.deepEqual([done, begun], [["A"], ["B"]]);
+  assert.deepEqual(patch.rows.map((row) => row.left), ["done", "1 h", "2 h", ""]);
+  assert.deepEqual(patch.rows.map((row) => row.due),
+    ["2026-12-01", "2026-12-01 17:00", "2026-12-02 17:00", ""]);
+  assert.deepEqual([patch.settings.start, patch.settings.startTime], ["2026-11-30", "12:00"]);
+  const later = makeCalendar(patch.settings).calendar;
+  assert.equal(momentField(later, 0, false), "2026-11-30 13:00");
+});
+
+test("a kept plan is compared by dates, and not by steps from another start", async () => {
+  const rows = ["A", "B", "C"].map((name) => newRow({ name, time: "2 h" }));
+  const kept = keepPlan(await inTurn(rows, calendar));
+  assert.equal(kept.begin, "2026-11-30 08:00");
+  const later = makeCalendar({ ...SETTINGS, step: "60", startTime: "10:00" }).calendar;
+  const next = [{ ...rows[0], left: "done" }, rows[1], { ...rows[2], time: "3 h" }];
+  const { moved, done, gone, added } = comparePlans(kept, await inTurn(next, later));
+  assert.deepEqual([[...moved], done, gone, added], [[[1, 1]], ["A"], [], []]);
+});

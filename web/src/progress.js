@@ -1,0 +1,101 @@
+// Orders that are done or begun: what is left of them, and a plan that starts from now.
+
+import {
+  isoDay, lengthText, momentField, momentNow, readDuration, readMoment, stepNow,
+} from "./calendar.js";
+import { plainLetters } from "./lengths.js";
+
+const LONGEST = 120;
+const DONE = new Set(("done x ok yes ja oui si fertig erledigt fini termine hecho terminado fatto "
+  + "finito completed complete finished ✓ ✔").split(" "));
+
+/**
+ * Reads what is left to do of a job: a length of time, a share such as 50 %, or “done”; of a shop
+ * one for each machine, with a semicolon between.
+ * @param {?object} calendar
+ * @param {string} text that is not empty
+ * @param {number[]} times of the whole job in time steps, one or in a shop two
+ * @returns {{times: number[], note: ?string}|{fault: string}} the times that are left; all are 0
+ *   where the job is done
+ */
+export function readLeft(calendar, text, times) {
+  if (text.length > LONGEST) return { fault: "This is too long to be what is left to do." };
+  if (DONE.has(plainLetters(text))) return { times: times.map(() => 0), note: null };
+  const parts = text.split(";").map((part) => part.trim());
+  if (parts.length !== times.length) {
+    return { fault: times.length === 1
+      ? `“${text}” is not what is left to do: write 2 h, 50 % or done.`
+      : "Write what is left on both machines, such as 0; 2 h, or done." };
+  }
+  const found = parts.map((part, place) => partLeft(calendar, part, times[place]));
+  const wrong = found.find(({ fault }) => fault);
+  if (wrong) return wrong;
+  const isMore = found.some(({ steps }, place) => steps > times[place]);
+  return { times: found.map(({ steps }) => steps),
+    note: isMore ? "More is left than the whole processing time: it counts as it is written."
+      : null };
+}
+
+function partLeft(calendar, text, time) {
+  const share = /^(\d{1,3}(?:[.,]\d+)?)\s*%$/.exec(text);
+  if (!share) return readDuration(calendar, text);
+  const percent = Number(share[1].replace(",", "."));
+  return percent > 100 ? { fault: `“${text}” is more than the whole.` }
+    : { steps: Math.ceil(time * percent / 100) };
+}
+
+/**
+ * What becomes of a state when its plan is made from now on: it starts now, dates that were counted
+ * from its start are written out, and what the plan shown had done by now is filled in.
+ * @param {import("./state.js").State} state
+ * @param {object} calendar of the state
+ * @param {?object} plan that is shown
+ * @param {Date} now
+ * @returns {{patch: object, done: string[], begun: string[]}} names of what was filled in
+ */
+export function fromNow(state, calendar, plan, now) {
+  const step = stepNow(calendar, now);
+  const filled = plan && step > 0 ? leftAt(plan, Math.ceil(step)) : new Map();
+  const done = [];
+  const begun = [];
+  const rows = state.rows.map((row) => {
+    const changed = { ...row };
+    for (const field of ["due", "release"]) changed[field] = dateOf(calendar, field, row[field]);
+    const left = filled.get(row.id);
+    if (left && row.left.trim() === "") {
+      changed.left = left;
+      (left === "done" ? done : begun).push(row.name);
+    }
+    return ["due", "release", "left"].some((field) => changed[field] !== row[field]) ? changed
+      : row;
+  });
+  const { day, clock } = momentNow(calendar, now);
+  const two = (number) => String(number).padStart(2, "0");
+  const settings = { ...state.settings, start: isoDay(day),
+    startTime: `${two(Math.floor(clock / 60))}:${two(clock % 60)}` };
+  return { patch: { rows, settings }, done, begun };
+}
+
+/** A date that is counted from the start, written out; every other text as it is. */
+function dateOf(calendar, field, text) {
+  if (text.trim() === "") return text;
+  const { steps, fault, date } = readMoment(calendar, text.trim(), field === "due");
+  return fault || date ? text : momentField(calendar, steps, field === "due");
+}
+
+/** By the identity of a row what is left of its job at a step: “done”, or a length of time. */
+function leftAt(plan, step) {
+  const { jobs, schedule, calendar } = plan;
+  const isShop = /^\s*[FO]/.test(plan.problem);
+  const left = jobs.map(() => isShop ? [0, 0] : [0]);
+  const isTouched = jobs.map(() => false);
+  schedule.job.forEach((number, piece) => {
+    const [start, stop] = [schedule.start[piece], schedule.stop[piece]];
+    if (start < step) isTouched[number - 1] = true;
+    left[number - 1][isShop ? schedule.machine[piece] - 1 : 0]
+      += Math.max(0, stop - Math.max(start, step));
+  });
+  const text = (steps) => lengthText(calendar, steps);
+  return new Map(jobs.flatMap((job, place) => !isTouched[place] ? [] : [[job.id,
+    left[place].every((each) => each === 0) ? "done" : left[place].map(text).join("; ")]]));
+}
