@@ -117,7 +117,7 @@ class Browser:
                 if self.run(f"Boolean({condition})"):
                     return
             except RuntimeError as error:
-                if "ontext" not in str(error):  # the page is just being left
+                if "ontext" not in str(error) and "navigated" not in str(error):  # the page is just being left
                     raise
             time.sleep(0.02)
         raise TimeoutError(f"not true within {seconds} s: {condition}")

@@ -66,8 +66,11 @@ class Firefox:
     # ---- the page ----
 
     def open(self, address):
-        self.call("WebDriver:Navigate", url="about:blank")
-        self.call("WebDriver:Navigate", url=address)
+        """Opens an address; pages of before keep no work for it."""
+        for _ in range(2):
+            self.call("WebDriver:Navigate", url="about:blank")
+            self.call("WebDriver:Navigate", url=address)
+            self.run("localStorage.setItem('threefield', 'off')")
 
     def run(self, script):
         """Runs a script in the page and gives its value; a promise is awaited."""

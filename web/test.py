@@ -703,12 +703,18 @@ def unsaved_work(page):
     """A link that takes the place of work that is not saved: the page says so, and still asks when it is left."""
     asks = """(() => { const event = new Event("beforeunload", { cancelable: true });
         window.dispatchEvent(event); return event.defaultPrevented; })()"""
+
+    def fresh():
+        page.fresh()
+        if page.run("document.getElementById('keep-work').checked"):
+            page.click("#keep-work")
+    fresh()
     page.example(0)
     expect(page.run(asks), False)
     page.click("#link")
     page.wait("location.hash.startsWith('#plan=')")
     plan = page.run("location.hash")
-    page.fresh()
+    fresh()
     page.import_cells("Name,Time,Due\nA,3,4\n")
     expect(page.run(asks), True)
     page.run(f"void (location.hash = {json.dumps(plan)})")
@@ -718,6 +724,77 @@ def unsaved_work(page):
     page.click("#undo")
     page.settle()
     expect(page.value(page.cell(1, "name")), "A")
+
+
+def press_with_control(page, key, shift=False):
+    for kind in ("rawKeyDown", "keyUp"):
+        page.browser.call("Input.dispatchKeyEvent", type=kind, key=key, modifiers=10 if shift else 2,
+                          windowsVirtualKeyCode=ord(key.upper()))
+
+
+@way
+def undo_and_redo(page):
+    """Ctrl+Z and Ctrl+Y go back and forth over everything; the cursor stays where it is."""
+    page.example(1)
+    page.type("#title", "Mine")
+    page.notation("1||Lmax")
+    page.put(2, "time", "7")
+    page.browser.choose("#step", "60")
+    page.settle()
+    for wanted in ("plain", "7", "1||Lmax", "Mine"):
+        expect([page.value("#step"), page.value(page.cell(2, "time")), page.value("#notation"), page.value("#title")],
+               {"plain": ["60", "7", "1||Lmax", "Mine"], "7": ["plain", "7", "1||Lmax", "Mine"],
+                "1||Lmax": ["plain", "2", "1||Lmax", "Mine"], "Mine": ["plain", "2", "1|prec|Lmax", "Mine"]}[wanted])
+        press_with_control(page, "z")
+    expect(page.value("#title"), "Four orders: one machine, plain numbers")
+    press_with_control(page, "y")
+    expect(page.value("#title"), "Mine")
+    page.run(f"document.querySelector({json.dumps(page.cell(2, 'time'))}).focus()")
+    press_with_control(page, "z", shift=True)
+    press_with_control(page, "y")
+    expect(page.value(page.cell(2, "time")), "7")
+    expect(page.run("document.activeElement.dataset.field"), "time", "the cursor")
+    page.settle()
+    page.click("#redo")
+    expect(page.value("#step"), "60")
+    expect(page.run("document.getElementById('redo').disabled"), True)
+    page.click("#undo")
+    page.click('#jobs-table tr[data-place="0"] .remove')
+    expect(page.run("document.getElementById('redo').disabled"), True, "nothing to redo after a change")
+
+
+@way
+def work_is_kept(page):
+    """Work is there again after a reload, and the page does not ask then; a link comes before it; it can be switched off."""
+    asks = """(() => { const event = new Event("beforeunload", { cancelable: true });
+        window.dispatchEvent(event); return event.defaultPrevented; })()"""
+
+    def reload():
+        page.run("window.isOld = true")
+        page.browser.call("Page.reload")
+        page.wait("!window.isOld && document.querySelector('#jobs-table tbody tr')")
+        page.settle()
+    page.example(1)
+    page.put(1, "name", "<i>Cut</i>")
+    expect(page.run(asks), False)
+    reload()
+    expect(page.value(page.cell(1, "name")), "<i>Cut</i>")
+    expect_in("Your work from before is here again", page.text("#notice"))
+    expect_in("kept in this browser, on this device alone", page.text("footer"))
+    page.click("#link")
+    page.wait("location.hash.startsWith('#plan=')")
+    reload()
+    expect(page.run("document.getElementById('notice').hidden"), False)
+    expect(page.value(page.cell(1, "name")), "<i>Cut</i>")
+    page.put(1, "name", "Other")
+    expect(page.run("location.hash"), "", "the address of what it no longer is")
+    reload()
+    expect(page.value(page.cell(1, "name")), "Other")
+    page.click("#keep-work")
+    expect_in("Nothing is kept", page.text("footer"))
+    expect(page.run("localStorage.getItem('threefield')"), "off")
+    expect(page.run(asks), True)
+    expect(page.run("localStorage.length"), 1)
 
 
 @way

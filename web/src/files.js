@@ -3,7 +3,9 @@
 import { isAnswer, isJobTable, namedText, readTable } from "./table.js";
 import { decodeText, styleOf } from "./spreadsheet.js";
 import { chartAsFile, planAsCsv, saveFile } from "./saving.js";
-import { LONGEST_LINK, packText, readState, unpackText, writeState } from "./state.js";
+import {
+  LONGEST_LINK, isSameWork, packText, readState, unpackText, writeState,
+} from "./state.js";
 
 const LARGEST_FILE = 67108864;
 const MARK = "#plan=";
@@ -13,6 +15,7 @@ export class Files {
   /** @param {object} page `store`, `notify`, `importView`, `judgeView`, and what is shown now */
   constructor(page) {
     this.page = page;
+    this.isLinkOpen = false;
     this.input = document.getElementById("file");
     this.input.addEventListener("change", () => this.openChosen());
     document.getElementById("open").addEventListener("click", () => this.choose());
@@ -105,12 +108,31 @@ export class Files {
 
   /** Opens the state that the address carries, if there is one. */
   async openLink() {
-    if (!location.hash.startsWith(MARK)) return false;
+    this.isLinkOpen = false;
+    const isOpened = location.hash.startsWith(MARK) && await this.openPacked();
+    this.isLinkOpen = true;
+    return isOpened;
+  }
+
+  async openPacked() {
     const text = await unpackText(location.hash.slice(MARK.length));
     const state = text === null ? null : readState(text);
+    if (state && isSameWork(state, this.page.store.state)) return this.isOpened();
     if (state) this.replace(state, "The plan of the link was opened.");
     else this.page.notify("The link is damaged or was cut off, so its plan can't be opened.");
     return state !== null;
+  }
+
+  /** The plan of the link is what the page has already. */
+  isOpened() {
+    this.page.update();
+    return true;
+  }
+
+  /** Told of each change: the address of a link that is open no longer stands for the plan. */
+  leaveLink() {
+    if (!this.isLinkOpen || !location.hash.startsWith(MARK)) return;
+    history.replaceState(null, "", location.href.split("#")[0]);
   }
 
   // ---- saving ----

@@ -7,6 +7,7 @@ import { EXAMPLE_TITLES, exampleState } from "./examples.js";
 import { Files } from "./files.js";
 import { ImportView } from "./import_view.js";
 import { JudgeView } from "./judge_view.js";
+import { Keeping } from "./keeping.js";
 import { machineNames } from "./machines.js";
 import { hasShown, release } from "./memory.js";
 import { keepPlan, makePlan } from "./plan.js";
@@ -19,7 +20,7 @@ import { ProblemView } from "./problem_view.js";
 import { explainRefusal } from "./refusals.js";
 import { RowsView } from "./rows_view.js";
 import { Solving } from "./solving.js";
-import { emptyState } from "./state.js";
+import { emptyState, isSameWork } from "./state.js";
 import { Store } from "./store.js";
 import { html } from "./svg.js";
 import { valueText } from "./values.js";
@@ -57,6 +58,8 @@ class Page {
     });
     this.askPicture = (then) => this.picture(then);
     this.files = new Files(this);
+    this.keeping = new Keeping(this.store, (words) => this.showKeeping(words));
+    this.keeping.say();
     this.store.listen((...change) => this.changed(...change));
     this.listen();
   }
@@ -74,6 +77,10 @@ class Page {
     }
     at("from-now").addEventListener("click", () => this.fromNow());
     at("undo").addEventListener("click", () => this.store.undo());
+    at("redo").addEventListener("click", () => this.store.redo());
+    document.addEventListener("keydown", (event) => this.key(event));
+    at("keep-work").addEventListener("change", () =>
+      this.keeping.switchTo(at("keep-work").checked));
     at("print").addEventListener("click", () => window.print());
     at("title").addEventListener("input", () =>
       this.store.change({ title: at("title").value }, "title"));
@@ -81,8 +88,20 @@ class Page {
       if (!at("save-menu").contains(event.target)) at("save-menu").open = false;
     });
     window.addEventListener("beforeunload", (event) => {
-      if (this.store.hasUnsavedWork) event.preventDefault();
+      if (this.store.hasUnsavedWork && !this.keeping.keep()) event.preventDefault();
     });
+  }
+
+  /** Ctrl+Z goes back and Ctrl+Y forth, except in fields that are no part of the plan. */
+  key(event) {
+    const key = event.key.toLowerCase();
+    const isUndo = key === "z" && !event.shiftKey;
+    const isRedo = key === "y" || key === "z" && event.shiftKey;
+    if (!(event.ctrlKey || event.metaKey) || event.altKey || !isUndo && !isRedo) return;
+    if (event.target.closest?.("dialog, #judge, #promise")) return;
+    event.preventDefault();
+    if (isUndo) this.store.undo();
+    else this.store.redo();
   }
 
   /** Loads the module, and opens the link's plan or an empty table. */
@@ -91,7 +110,17 @@ class Page {
     this.solving = new Solving(text("worker-source"), text("module-bytes"),
       (loaded) => this.moduleLoaded(loaded));
     for (const view of [this.problemView, this.calendarView, this.rowsView]) view.draw();
+    this.openKept();
     if (!(await this.files.openLink())) this.update();
+  }
+
+  /** Opens the work that the browser kept, on top of an empty page. */
+  openKept() {
+    const kept = this.keeping.opened();
+    if (!kept || isSameWork(kept, this.store.state)) return;
+    this.store.change(kept);
+    this.notify("Your work from before is here again, as this browser kept it. Undo empties the "
+      + "page; below you can switch keeping off.");
   }
 
   moduleLoaded({ loaded, makesPlans, message }) {
@@ -112,9 +141,15 @@ class Page {
       click: () => this.showNotice("") }, "Close"));
   }
 
+  showKeeping(words) {
+    document.getElementById("keeping-words").textContent = words;
+    document.getElementById("keep-work").checked = this.keeping?.isOn ?? true;
+  }
+
   // ---- a change, and what follows from it ----
 
   changed(state, before, isTyped) {
+    this.files.leaveLink();
     if (state.rows !== before.rows && !this.rowsView.isTyping) this.rowsView.draw();
     const isOther = (...fields) => fields.some((field) => state[field] !== before[field]);
     if (isOther("problem", "machines", "machineNames")) this.problemView.draw();
@@ -123,6 +158,7 @@ class Page {
     const title = document.getElementById("title");
     if (title.value !== state.title) title.value = state.title;
     document.getElementById("undo").disabled = !this.store.canUndo;
+    document.getElementById("redo").disabled = !this.store.canRedo;
     if (isOther("rows", "problem", "machines", "settings")) {
       this.version++;
       this.planView.setBusy(true);

@@ -56,8 +56,10 @@ export class RowsView {
     this.draw();
   }
 
-  /** Draws the page of rows anew. */
+  /** Draws the page of rows anew; the cursor stays in its field. */
   draw() {
+    const focused = this.body.contains(document.activeElement) ? document.activeElement : null;
+    const [place, field] = [focused?.closest("tr")?.dataset.place, focused?.dataset.field];
     const { rows } = this.store.state;
     this.shown = this.columns();
     this.pager.show(rows.length);
@@ -69,6 +71,11 @@ export class RowsView {
     if (this.pager.end === rows.length) lines.push(this.line(newRow(), rows.length));
     this.body.replaceChildren(...lines);
     this.drawFindings();
+    if (field) this.inputAt(place, field)?.focus();
+  }
+
+  inputAt(place, field) {
+    return this.body.querySelector(`tr[data-place="${place}"] input[data-field="${field}"]`);
   }
 
   drawHead() {
@@ -169,8 +176,7 @@ export class RowsView {
       this.allColumns.checked = true;
       this.draw();
     }
-    const input = this.body.querySelector(
-      `tr[data-place="${place}"] input[data-field="${field ?? "name"}"]`);
+    const input = this.inputAt(place, field ?? "name");
     input?.focus();
     input?.select();
   }

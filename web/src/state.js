@@ -28,6 +28,13 @@ export function writeState(state) {
   return JSON.stringify({ threefield: 1, ...state, rows });
 }
 
+/** Whether two states are the same work, whatever the identities of their rows. */
+export function isSameWork(one, other) {
+  const text = (state) => writeState({ ...state, kept: null,
+    rows: state.rows.map((row) => ({ ...row, id: 0 })) });
+  return one.rows.length === other.rows.length && text(one) === text(other);
+}
+
 /**
  * Reads a state that anybody may have written: what is not of its type is left at its default.
  * @param {string} text

@@ -1,4 +1,4 @@
-// Holds the state, tells who listens of each change, and goes back.
+// Holds the state, tells who listens of each change, and goes back and forth.
 
 const MOST_STEPS_BACK = 100;
 const MOST_ROWS_BACK = 1000000;
@@ -8,6 +8,7 @@ export class Store {
   constructor(state) {
     this.state = state;
     this.past = [];
+    this.future = [];
     this.lastKey = null;
     this.listeners = [];
     this.isSaved = true;
@@ -30,6 +31,7 @@ export class Store {
       while (this.past.length > most) this.past.shift();
     }
     this.lastKey = key;
+    this.future = [];
     this.isSaved = false;
     this.become({ ...this.state, ...patch }, key !== null);
   }
@@ -42,17 +44,32 @@ export class Store {
   }
 
   get hasUnsavedWork() {
-    return !this.isSaved && [this.state, ...this.past].some((state) => state.rows.length > 0);
+    return !this.isSaved
+      && [this.state, ...this.past, ...this.future].some((state) => state.rows.length > 0);
   }
 
   undo() {
-    if (this.past.length === 0) return;
+    this.go(this.past, this.future);
+  }
+
+  redo() {
+    this.go(this.future, this.past);
+  }
+
+  /** Goes to the last state of one list; the state of now goes to the other. */
+  go(from, to) {
+    if (from.length === 0) return;
     this.lastKey = null;
-    this.become(this.past.pop());
+    to.push(this.state);
+    this.become(from.pop());
   }
 
   get canUndo() {
     return this.past.length > 0;
+  }
+
+  get canRedo() {
+    return this.future.length > 0;
   }
 
   become(state, isTyped = false) {
