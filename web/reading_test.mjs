@@ -5,7 +5,7 @@ import assert from "node:assert/strict";
 import { test } from "node:test";
 import { load, tableOf } from "./modules.mjs";
 
-const { defaultSettings, isoDay, makeCalendar, momentField, readDuration, readMoment, today,
+const { breaks, defaultSettings, isoDay, makeCalendar, momentField, readDuration, readMoment, today,
   writtenOut } = await load("calendar");
 const { readCells, readColumns, rowsOfCells, styleOf, unitOfTimes } = await load("spreadsheet");
 const { guess } = await load("guesses");
@@ -142,6 +142,48 @@ test("a column that is not used does not move the start", async () => {
   const { state } = await pasted("Name;Dauer;Termin;Bestelldatum\n"
     + `A;3 h;${inDays(9)};15.10.2020\nB;2 h;${inDays(8)};15.10.2020\n`);
   assert.equal(state.settings.start, inDays(0));
+});
+
+test("a table with bars around its cells is read, and its line of dashes is none", async () => {
+  const { state, text } = await pasted("| Order | Time | Due |\n|:------|-----:|-----|\n"
+    + "| A\\|B | 3 | 9 |\r\n|  C   |  2   |     |\n\n");
+  assert.deepEqual(state.rows.map((row) => row.name), ["A|B", "C"]);
+  assert.equal(text, "table 1\njob 1 p=3 d=9\njob 2 p=2 d=14\n");
+  const boxed = await pasted("+---+---+\n| Name | Time |\n+---+---+\n| A | 3 |\n+---+---+\n");
+  assert.equal(boxed.text, "table 1\njob 1 p=3\n");
+  const bare = await pasted("Name;Time\n|A|;3\n|B|;2\n");
+  assert.deepEqual(bare.state.rows.map((row) => row.name), ["|A|", "|B|"]);
+});
+
+test("formulas that failed and links of project plans have advice", async () => {
+  for (const each of ["#WERT!", "#VALUE!", "#BEZUG!", "#NAME?", "#DIV/0!", "#N/A", "#NV", "#¡VALOR!",
+    "#N/D", "#REF!"]) {
+    const { table } = await pasted(`Name;Time\nA;${each}\nB;2\n`);
+    assert.match(table.faults[0].message, /is a formula that failed/, each);
+  }
+  for (const [link, words] of [["1FS+2", /project plan. Write #1 for .*; a waiting time/],
+    ["1AA", /Write #1 for .*, the only kind of link/], ["2EA", /Write #2 for “after the job in row 2”\.$/],
+    ["2", /Write #2 to mean/], ["1X", /no job called “1X”\.$/]]) {
+    const { table } = await pasted(`Name\tTime\tAfter\nA\t1\t\nB\t2\t\nC\t3\t${link}\n`);
+    assert.match(table.faults[0].message, words, link);
+  }
+});
+
+test("where no job has a time, that is said once", async () => {
+  const { table } = await pasted("Name;Due\nA;3\nB;4\nC;5\n");
+  assert.deepEqual(table.faults.map(({ row }) => row), [null]);
+  const one = await pasted("Name;Time\nA;\nB;4\nC;\nD;\n");
+  assert.deepEqual(one.table.faults.map(({ row }) => row), [0, 2, 3]);
+});
+
+test("nights and longer breaks lie between working days", () => {
+  const calendar = calendarOf({ step: "60" });
+  assert.deepEqual(breaks(calendar, 0, 48, 9), [8, 16, 24, 32, 40].map((step) =>
+    ({ step, isLong: step === 40 })));
+  assert.deepEqual(breaks(calendar, 0, 48, 3), [{ step: 40, isLong: true }]);
+  assert.deepEqual(breaks(calendar, 9, 16, 9), []);
+  const later = calendarOf({ step: "60", startTime: "15:00" });
+  assert.deepEqual(breaks(later, 0, 4, 9), [{ step: 2, isLong: false }]);
 });
 
 test("second times make a flow shop of one machine", async () => {

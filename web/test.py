@@ -168,6 +168,38 @@ def columns_are_corrected(page):
 
 
 @way
+def much_in_the_box(page):
+    """100,000 rows that are pasted into the dialog's box are read in about a second, and the box shows their beginning."""
+    page.click("#paste")
+    page.run("""(() => {
+        const lines = Array.from({ length: 100000 }, (_, k) => `Order ${k}\\t${k % 97 + 1}\\t${k * 61 % 5000000}`);
+        const clipboardData = new DataTransfer();
+        clipboardData.setData("text/plain", "Name\\tTime\\tDue\\n" + lines.join("\\n"));
+        const begun = performance.now();
+        document.getElementById("import-text").dispatchEvent(
+            new ClipboardEvent("paste", { clipboardData, bubbles: true, cancelable: true }));
+        window.took = performance.now() - begun;
+    })()""")
+    print(f"        read in {page.run('Math.round(window.took)')} ms")
+    expect_in("100000 rows, cells divided by tabs, with headings.", page.text("#import-words"))
+    expect(page.run("document.getElementById('import-text').value.length"), 200002)
+    page.click("#import-replace")
+    page.settle(60)
+    expect_in("100,000", page.text("#jobs-pager"))
+
+
+@way
+def a_column_for_the_times_is_missing(page):
+    page.click("#paste")
+    page.type("#import-text", "Auftrag;Termin\nA;3\nB;4\nC;5\n")
+    expect_in("Which column is the processing time? Without one you have to type the times.", page.text("#import-words"))
+    page.click("#import-replace")
+    page.settle()
+    expect_in("No job has a processing time. Paste again", page.text("#row-notes"))
+    expect(page.run("document.querySelectorAll('.found').length"), 0)
+
+
+@way
 def cells_without_a_heading(page):
     page.notation("1||sumC")
     page.import_cells("1\tCutting\t3\n2\tPainting\t2\n")
@@ -507,7 +539,10 @@ def chart(page):
     expect(page.run("document.querySelectorAll('.chart .bar').length"), 12)
     page.run("document.querySelector('.chart .bar').dispatchEvent(new MouseEvent('click', { bubbles: true }))")
     expect_in("Business cards Meyer: Mon 3 Mar 08:00 to Mon 3 Mar 10:00, 2 h of work", page.text("#chart-details"))
+    expect(page.run("['night', 'weekend'].map((each) => document.querySelectorAll('.chart .' + each).length)"), [8, 2])
+    expect_in("weekend, days off", page.text("#legend"))
     page.example(4)
+    expect(page.run("document.querySelectorAll('.chart .night').length"), 0)
     expect(page.run("document.querySelectorAll('.chart .idle-text').length"), 1)
     expect(page.run("document.querySelectorAll('.chart .mark.release').length"), 4)
     expect(page.run("document.querySelectorAll('.chart .links path').length"), 1)
@@ -524,6 +559,10 @@ def printing(page):
     page.browser.call("Emulation.setEmulatedMedia", media="print")
     expect(page.run("getComputedStyle(document.querySelector('.jobs')).display"), "none")
     expect_in("A print shop", page.text("#print-head"))
+    names = page.run("""(() => { window.dispatchEvent(new Event("beforeprint"));
+        return [...document.querySelectorAll(".chart .name")].map((each) => each.textContent); })()""")
+    expect([each for each in names if each.startswith("#")], [], "bars in print with a number in place of a name")
+    page.run("window.dispatchEvent(new Event('afterprint'))")
     page.browser.call("Emulation.setEmulatedMedia", media="")
 
 
@@ -621,6 +660,11 @@ MISTAKES = [
     ("no due date", "Name,Time,Due\nA,3,4\nB,2,\n", 2, "due", "No due date: due at the end of all work, so never late."),
     ("no due date in several rows", "Name,Time,Due\nA,3,\nB,2,\n", 2, "due", "1||Lmax needs a due date for each job"),
     ("after itself", "Name,Time,Due,After\nA,3,4,A\n", 1, "after", "“A” can't come after itself."),
+    ("a formula that failed", "Name;Time;Due\nA;#WERT!;4\n", 1, "time",
+     "“#WERT!” is a formula that failed in the spreadsheet."),
+    ("a link of a project plan", "Name\tTime\tAfter\nA\t3\t\nB\t2\t1FS+2\n", 2, "after",
+     "This is a link of a project plan. Write #1 for “after the job in row 1”; a waiting time between jobs can't be given."),
+    ("the number of a row", "Name\tTime\tAfter\nA\t3\t\nB\t2\t1\n", 2, "after", "Write #1 to mean the job in row 1."),
     ("a cycle", "Name,Time,Due,After\nA,3,4,B\nB,3,4,A\n", 1, "after", "These precedence constraints form a cycle: "),
 ]
 

@@ -19,6 +19,7 @@ export const STEPS = [
 ];
 
 const FARTHEST = 40000;
+const MOST_BREAKS = 4000;
 const MOST_STEPS = 1e12;
 const LONGEST = 60;
 const LONGEST_LIST = 20000;
@@ -225,6 +226,27 @@ export function dayStarts(calendar, from, to, most) {
   return starts;
 }
 
+/**
+ * Where work stops until another day, from one step to another: nights, and longer breaks such as
+ * weekends. Only these where there are more nights than `most`, and none where that are too many.
+ * @returns {{step: number, isLong: boolean}[]}
+ */
+export function breaks(calendar, from, to, most) {
+  const perDay = calendar.dayMinutes / calendar.stepMinutes;
+  const offset = calendar.origin / calendar.stepMinutes;
+  const first = Math.floor((from + offset) / perDay) + 1;
+  const last = Math.ceil((to + offset) / perDay) - 1;
+  if (last - first > MOST_BREAKS) return [];
+  const found = [];
+  for (let k = first; k <= last; k++) {
+    const [before, day] = [workingDay(calendar, k - 1), workingDay(calendar, k)];
+    if (before === null || day === null) break;
+    found.push({ step: k * perDay - offset, isLong: day - before > 1 });
+  }
+  const shown = found.length <= most ? found : found.filter(({ isLong }) => isLong);
+  return shown.length <= most ? shown : [];
+}
+
 /** A number of steps as working time, such as "1 d 3 h"; a number without a calendar. */
 export function lengthText(calendar, steps) {
   if (!calendar) return String(steps).replace("-", "−");
@@ -395,8 +417,9 @@ function readWhole(text, what, mayBeNegative = false) {
     return { fault: `${what} is a whole number here; ${text} is not. `
       + "Take a smaller unit, such as minutes in place of hours." };
   }
-  return { fault: needsCalendar(text) ? `“${text}” needs a calendar: choose a time step and a start `
-    + "under “Calendar”." : `${what} is a whole number; “${text}” is not.` };
+  return { fault: needsCalendar(text)
+    ? `“${text}” needs a calendar: choose a time step and a start under “Calendar”.`
+    : `${what} is a whole number; “${text}” is not.` };
 }
 
 /** Whether a text is a length with a unit, or looks like a date: plain numbers know neither. */

@@ -1,6 +1,6 @@
 // The Gantt chart of a plan as SVG: a window of time, perhaps folded into several lines.
 
-import { dayStarts, lengthText, momentText, stepNow } from "./calendar.js";
+import { breaks, dayStarts, lengthText, momentText, stepNow } from "./calendar.js";
 import { machineName } from "./machines.js";
 import { lateness } from "./plan.js";
 import { fitted, svg, textWidth } from "./svg.js";
@@ -18,6 +18,14 @@ const LEAST_ROOM = 36;
 const MOST_ROOM = 110;
 const ROOM_FOR_MARK = 12;
 const ROOM_FOR_IDLE = 30;
+const ROOM_FOR_BREAK = 9;
+const MOST_PRINTED_LINES = 12;
+const PRINTED_ROW = 27;
+// The heights of a list in print: its headings, and a line.
+const PRINTED_LIST = 50;
+const PRINTED_ITEM = 18.6;
+const ENOUGH_NAMED = 0.9;
+const MOST_MEASURED = 2000;
 const MOST_LINKS = 300;
 const MOST_LINKED = 20000;
 const MOST_NAMED = 100;
@@ -30,6 +38,7 @@ const MOST_LABEL = 140;
  * @property {number} lines into how many lines it is folded
  * @property {number} width in pixels
  * @property {boolean} marks whether due and release dates are marked
+ * @property {boolean} isPrint whether it is for paper, with lower rows
  */
 
 /**
@@ -73,8 +82,36 @@ export function goodLines(plan, view, height) {
   return Math.max(1, Math.min(wanted, most, Math.floor(to - from)));
 }
 
+/**
+ * The least number of lines at which nearly all names fit into their bars, for print. The list of
+ * the jobs stays on the same page, where it has room there.
+ * @param {object} plan
+ * @param {View} view its `lines` are not read
+ * @param {number} page the most pixels of a page for chart and list together
+ */
+export function linesForNames(plan, view, page) {
+  const beside = page - PRINTED_LIST - plan.jobs.length * PRINTED_ITEM;
+  const one = frameOf(plan, { ...view, lines: 1 }).lineHeight;
+  const height = beside >= one ? beside : page;
+  const { schedule, jobs } = plan;
+  const pieces = plan.order.slice(0, MOST_MEASURED);
+  const widths = Array.from(pieces, (piece) =>
+    textWidth(jobs[schedule.job[piece] - 1]?.name ?? "", TEXT) + 8);
+  const most = Math.min(MOST_PRINTED_LINES, Math.floor(view.to - view.from));
+  let lines = 1;
+  for (; lines < most; lines++) {
+    const { pixels } = frameOf(plan, { ...view, lines });
+    const fits = pieces.reduce((count, piece, k) => count
+      + ((schedule.stop[piece] - schedule.start[piece]) * pixels >= widths[k] ? 1 : 0), 0);
+    if (fits >= ENOUGH_NAMED * pieces.length) break;
+    if ((lines + 1) * frameOf(plan, { ...view, lines: lines + 1 }).lineHeight > height) break;
+  }
+  return lines;
+}
+
 function frameOf(plan, view) {
-  const [, row] = ROW_HEIGHTS.find(([most]) => plan.machines <= most);
+  const [, high] = ROW_HEIGHTS.find(([most]) => plan.machines <= most);
+  const row = view.isPrint ? Math.min(high, PRINTED_ROW) : high;
   const share = (view.to - view.from) / Math.max(1, plan.length) / view.lines / plan.machines;
   const hasMarks = view.marks && row >= 18 && plan.jobs.length * share * ROOM_FOR_MARK < view.width
     && plan.jobs.some((job) => job.due !== null || job.hasRelease && plan.usesRelease);
@@ -118,8 +155,28 @@ function drawLine(plan, frame, line) {
   if (plan.isPreempted && plan.order.length <= MOST_LINKED) {
     group.append(drawLinks(plan, frame, line, x));
   }
+  drawBreaks(group, plan, frame, line, x);
   drawNow(group, plan, frame, line, x);
   return group;
+}
+
+/**
+ * Marks nights and, wider, weekends and days off across the rows: there work goes on later. High
+ * rows have marks above and below the names.
+ */
+function drawBreaks(group, plan, frame, line, x) {
+  if (!plan.calendar) return;
+  const end = Math.min(line.to, plan.length);
+  const most = frame.width / ROOM_FOR_BREAK;
+  for (const { step, isLong } of breaks(plan.calendar, line.from, end, most)) {
+    for (let k = 0; k < plan.machines; k++) {
+      const top = AXIS + k * frame.rowHeight;
+      const [high, low] = [top + 1, top + frame.row - 1];
+      const at = `M${round(x(step))} `;
+      group.append(svg("path", { class: isLong ? "weekend" : "night", d: frame.row < 26
+        ? `${at}${high}V${low}` : `${at}${high}v8${at}${low}v-8` }));
+    }
+  }
 }
 
 /** A line at the moment by the clock of the browser, where it lies within the plan. */

@@ -1,12 +1,13 @@
 // The chart on the page: its window of time, zoom by buttons, keys and the mouse, and printing.
 
-import { drawChart, goodLines, latenessWords } from "./chart.js";
+import { drawChart, goodLines, latenessWords, linesForNames } from "./chart.js";
 import { lengthText, momentText } from "./calendar.js";
 import { lateness } from "./plan.js";
 import { html } from "./svg.js";
 
 const PRINT_WIDTH = 1020;
-const PRINT_HEIGHT = 500;
+// What a page of A4 leaves for the chart and the list below the measures.
+const PRINT_HEIGHT = 520;
 const KEYS = { "+": "in", "=": "in", "-": "out", "−": "out", 0: "all", ArrowLeft: "left",
   ArrowRight: "right" };
 
@@ -51,10 +52,11 @@ export class ChartView {
     this.drawnWidth = width ?? Math.max(280, this.frame.clientWidth);
     const scale = width ? 1 : parseFloat(getComputedStyle(document.documentElement).fontSize) / 16;
     const view = { from: this.from, to: this.to, width: this.drawnWidth / scale,
-      marks: this.marks.checked };
+      marks: this.marks.checked, isPrint: width !== null };
     const chosen = Number(this.lines.value);
-    const lines = Math.min(Math.max(1, Math.floor(this.to - this.from)),
-      chosen || goodLines(this.plan, view, width ? PRINT_HEIGHT : Infinity));
+    const lines = Math.min(Math.max(1, Math.floor(this.to - this.from)), chosen
+      || (width ? linesForNames(this.plan, view, PRINT_HEIGHT)
+        : goodLines(this.plan, view, Infinity)));
     this.chart = drawChart(this.plan, { ...view, lines }, scale);
     this.frame.replaceChildren(this.chart);
     this.frame.setAttribute("aria-label", this.describe());
@@ -140,6 +142,8 @@ export class ChartView {
       ...(hasLate ? [item("swatch-late", "late job")] : []),
       ...(plan.jobs.some((job) => job.due !== null) ? [html("span", {}, "▼ due")] : []),
       ...(plan.usesRelease ? [html("span", {}, "▲ released")] : []),
+      ...(this.chart.querySelector(".night") ? [html("span", {}, "╷ night")] : []),
+      ...(this.chart.querySelector(".weekend") ? [html("span", {}, "┃ weekend, days off")] : []),
       ...(this.chart.querySelector(".many-frame") ? [item("swatch-many", "many short jobs")] : []));
   }
 }

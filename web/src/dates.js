@@ -115,8 +115,8 @@ export function readDate(text, dayFirst, near) {
 }
 
 function noDate(text) {
-  return { isNone: true, fault: `“${text.slice(0, LONGEST)}” is not a date. Write it as 2025-03-14 or `
-    + "14.03.2025, and with a time of day as 2025-03-14 12:00." };
+  return { isNone: true, fault: `“${text.slice(0, LONGEST)}” is not a date. Write it as `
+    + "2025-03-14 or 14.03.2025, and with a time of day as 2025-03-14 12:00." };
 }
 
 /** Reads a day, perhaps with a day of the week before it, which has to be the right one. */

@@ -80,7 +80,8 @@ function problemFor(problem, rows) {
   const has = (field) => rows.some((row) => row[field].trim() !== "");
   if (has("time2")) {
     return { problem: { environment: "F", count: 2, conditions: [], objective: "Cmax" },
-      hints: ["Jobs have two times, so the problem is a flow shop now: machine 1, then machine 2."] };
+      hints: ["Jobs have two times, so the problem is a flow shop now: machine 1, then machine "
+        + "2."] };
   }
   const conditions = new Set(problem.conditions);
   const hints = [];

@@ -8,6 +8,7 @@ import { html } from "./svg.js";
 import { FIELDS, FIELD_WORDS, newRow } from "./table.js";
 
 const UNUSED = "";
+const MOST_SHOWN = 200000;
 
 export class ImportView {
   /**
@@ -24,6 +25,7 @@ export class ImportView {
     this.delimiter = null;
     this.cells = [];
     this.text.addEventListener("input", () => this.read());
+    this.text.addEventListener("paste", (event) => this.paste(event));
     document.getElementById("import-replace").addEventListener("click", () => this.finish(true));
     document.getElementById("import-add").addEventListener("click", () => this.finish(false));
   }
@@ -36,9 +38,19 @@ export class ImportView {
   }
 
   setText(text) {
-    this.whole = text.length > 200000 ? text : null;
-    this.text.value = this.whole ? `${text.slice(0, 200000)}\n…` : text;
+    this.whole = text.length > MOST_SHOWN ? text : null;
+    this.text.value = this.whole ? `${text.slice(0, MOST_SHOWN)}\n…` : text;
     this.read();
+  }
+
+  /** A long text that is pasted into the box is shown in part, since browsers are slow with it. */
+  paste(event) {
+    const text = event.clipboardData?.getData("text/plain") ?? "";
+    if (text.length <= MOST_SHOWN) return;
+    event.preventDefault();
+    const { value, selectionStart, selectionEnd } = this.text;
+    this.setText(this.whole ? text
+      : value.slice(0, selectionStart) + text + value.slice(selectionEnd));
   }
 
   read() {
@@ -71,13 +83,14 @@ export class ImportView {
     const count = Math.max(0, this.cells.length - (this.columns.headings ? 1 : 0));
     const { fields, headings } = this.columns;
     const twice = fields.find((field, place) => field && fields.indexOf(field) !== place);
-    const marks = { "\t": "tabs", ";": "semicolons", ",": "commas" };
-    this.words.textContent = count === 0 ? ""
-      : `${count} ${count === 1 ? "row" : "rows"}, cells divided by ${marks[this.delimiter]}, `
-      + `${headings ? "with headings" : "without headings"}.`
-      + unusedColumns(this.columns)
-      + (fields.includes("time") ? "" : " Which column is the processing time?")
-      + (twice ? ` Two columns are “${FIELD_WORDS[twice]}”: the later one is taken.` : "");
+    const marks = { "\t": "tabs", ";": "semicolons", ",": "commas", "|": "bars" };
+    const words = count === 0 ? []
+      : [`${count} ${count === 1 ? "row" : "rows"}, cells divided by ${marks[this.delimiter]}, `
+        + `${headings ? "with headings" : "without headings"}.` + unusedColumns(this.columns)
+        + (twice ? ` Two columns are “${FIELD_WORDS[twice]}”: the later one is taken.` : ""),
+      fields.includes("time") ? null : html("strong", { class: "late-words" },
+        " Which column is the processing time? Without one you have to type the times.")];
+    this.words.replaceChildren(...words.filter(Boolean));
     for (const id of ["import-replace", "import-add"]) {
       document.getElementById(id).disabled = count === 0;
     }

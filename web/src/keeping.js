@@ -62,7 +62,7 @@ export class Keeping {
     const { rows } = this.store.state;
     this.tell(!this.isOn ? "Nothing is kept: a reload loses what is not saved."
       : this.written || rows.length === 0
-        ? "What you enter is kept in this browser, on this device alone, over a reload."
+        ? "What you enter is kept in this browser, on this device alone."
         : "The browser can't keep this: save it before you leave the page.");
   }
 

@@ -14,7 +14,7 @@ const FRACTIONS = { "¼": ".25", "½": ".5", "¾": ".75" };
 const CLOCK = /^(\d{1,6}):([0-5]\d)(?::([0-5]\d))?\s*([a-z]+)?\.?$/;
 const PART = /^\s*(\d+(?:[' ]\d{3}(?!\d))*(?:[.,]\d+)*|[.,]\d+)\s*([a-z]+)?\.?\s*/;
 
-/** The unit that a word means, "min", "h", "d" or "w", or null; the word has small plain letters. */
+/** The unit that a word of small plain letters means, "min", "h", "d" or "w", or null. */
 export function unitOfWord(word) {
   return UNIT_OF_WORD.get(word) ?? null;
 }
@@ -33,7 +33,8 @@ export function readNumber(text) {
   if (/^[1-9]\d{0,2}[.,]\d{3}$/.test(text)) return { isAmbiguous: true };
   if (/^\d*[.,]?\d+$/.test(text)) return { value: Number(text.replace(",", ".")) };
   const grouped = [
-    [/^[1-9]\d{0,2}(?:[' ]\d{3})+(?:[.,]\d+)?$/, /[' ]/g], [/^[1-9]\d{0,2}(?:\.\d{3})+,\d+$/, /\./g],
+    [/^[1-9]\d{0,2}(?:[' ]\d{3})+(?:[.,]\d+)?$/, /[' ]/g],
+    [/^[1-9]\d{0,2}(?:\.\d{3})+,\d+$/, /\./g],
     [/^[1-9]\d{0,2}(?:,\d{3})+\.\d+$/, /,/g], [/^[1-9]\d{0,2}(?:\.\d{3}){2,}$/, /\./g],
     [/^[1-9]\d{0,2}(?:,\d{3}){2,}$/, /,/g],
   ].find(([pattern]) => pattern.test(text));
@@ -97,6 +98,6 @@ function noLength(text) {
 function ambiguousNumber(text, number) {
   const [whole, decimals] = number.split(/[.,]/);
   const small = Number(`${whole}.${decimals}`);
-  return { isAmbiguous: true, fault: `“${text}” is ${whole}${decimals} to some people and ${small} to `
-    + `others. Write ${whole}${decimals}, or ${small} with fewer than three decimals.` };
+  return { isAmbiguous: true, fault: `“${text}” is ${whole}${decimals} to some people and ${small} `
+    + `to others. Write ${whole}${decimals}, or ${small} with fewer than three decimals.` };
 }

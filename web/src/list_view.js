@@ -68,7 +68,8 @@ export class ListView {
     }[this.sort.value];
     if (this.order) release({ order: this.order });
     const isShown = (item) => !this.lateOnly.checked || late(this.jobOf(item)) > 0;
-    const all = this.isByMachine ? plan.order.slice() : Uint32Array.from(plan.jobs, (_, job) => job);
+    const all = this.isByMachine ? plan.order.slice()
+      : Uint32Array.from(plan.jobs, (_, job) => job);
     this.order = all.filter(isShown);
     release({ all });
     if (!this.isByMachine) this.order.sort((a, b) => by(a, b) || a - b);
@@ -176,12 +177,14 @@ export class ListView {
     const { plan, workLists } = this;
     workLists.replaceChildren();
     if (!plan || !this.hasWorkLists) return;
-    const columns = this.pieceColumns().filter(({ head }) => head !== "Machine" && head !== "Lateness");
+    const columns = this.pieceColumns()
+      .filter(({ head }) => head !== "Machine" && head !== "Lateness");
     const heads = [...columns.map(({ head }) => head), "Done"];
     plan.rows.forEach(([first, end], k) => {
       if (first === end) return;
+      const cells = (piece) => [...columns.map(({ wordsOf }) => wordsOf(piece)), ""];
       const lines = [...plan.order.subarray(first, end)].map((piece) => html("tr", {},
-        [...columns.map(({ wordsOf }) => wordsOf(piece)), ""].map((words) => html("td", {}, words))));
+        cells(piece).map((words) => html("td", {}, words))));
       workLists.append(html("section", { class: "work-list" },
         html("h3", {}, machineName(plan.names, k + 1)),
         html("table", {}, html("thead", {}, html("tr", {}, heads.map((words) => html("th",

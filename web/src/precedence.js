@@ -4,6 +4,8 @@ const MOST_COMPARED = 3000;
 const MOST_SUGGESTED = 20;
 const LONGEST_COMPARED = 200;
 const LONGEST_SHOWN = 80;
+// A row's number and perhaps a kind of link, in letters of five languages, and a lag: 1FS+2.
+const PROJECT_LINK = /^(\d{1,6})\s*([a-z]{2})?\s*([+-]\s*\d.*)?$/i;
 
 /**
  * Cuts the text of the column "after" into names: between semicolons, or between commas where the
@@ -92,9 +94,11 @@ export class NameIndex {
         + `${rows.join(", ")}. `
         + `Write #${rows[0]} to mean the one in row ${rows[0]}.` };
     }
+    const fault = `There is no job called “${shortened(name)}”.`;
+    const advice = adviceFor(name);
+    if (advice) return { fault: `${fault} ${advice}` };
     const near = this.nearest(name);
-    return { fault: `There is no job called “${shortened(name)}”.`
-      + (near ? ` Is “${near}” meant?` : "") };
+    return { fault: near ? `${fault} Is “${near}” meant?` : fault };
   }
 
   /** The name of a job that is spelled much like this; not for many names or many jobs. */
@@ -113,6 +117,18 @@ export class NameIndex {
     }
     return best;
   }
+}
+
+/** What to write in place of a name that is a number of a row or a link of a project plan. */
+function adviceFor(name) {
+  const link = PROJECT_LINK.exec(name.slice(0, LONGEST_COMPARED));
+  if (!link) return null;
+  const [, row, kind, lag] = link;
+  if (!kind && !lag) return `Write #${row} to mean the job in row ${row}.`;
+  const isPlain = !kind || /^(fs|ea|fd|fc|fi)$/i.test(kind);
+  return `This is a link of a project plan. Write #${row} for “after the job in row ${row}”`
+    + (isPlain ? "" : ", the only kind of link that is here")
+    + (lag ? "; a waiting time between jobs can't be given." : ".");
 }
 
 /** For each name its place, or the places of all the jobs that have it. */

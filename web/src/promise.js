@@ -60,7 +60,8 @@ export function promiseReason(plan, order, { certificate, value }) {
   const rest = jobs.length - MOST_NAMED;
   const names = jobs.slice(0, MOST_NAMED).map((job) => `“${job.name}”`).join(", ")
     + (rest > 0 ? ` and ${rest} more` : "");
-  return `${names} ${jobs.length === 1 ? "is" : "are"} ${lengthText(calendar, time)} of work, which `
+  const verb = jobs.length === 1 ? "is" : "are";
+  return `${names} ${verb} ${lengthText(calendar, time)} of work, which `
     + `can't begin before ${momentText(calendar, begin, false)}, so the last of it is done `
     + `${momentText(calendar, begin + time, true)}; but what comes last has to be done by `
     + `${momentText(calendar, due, true)}.`;

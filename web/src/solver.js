@@ -4,7 +4,7 @@
 //   const solver = await loadSolver(bytes);   // with 64-bit memory, or lowered to 32-bit memory
 //   solver.run(request)                       // { status, output: Uint8Array, errors: string }
 //   solver.can("plan")                        // whether the module has the command
-//   solver.module                             // compiled: loadSolver takes it in place of the bytes
+//   solver.module                             // compiled: loadSolver takes it in place of bytes
 //
 // The module imports nothing. What is trusted of this script, since no proof reads it:
 // - The buffers and the space that an export is called with lie apart from one another and from

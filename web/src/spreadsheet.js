@@ -5,6 +5,8 @@ import { plainLetters, unitOfWord } from "./lengths.js";
 import { FIELDS } from "./table.js";
 
 const LONGEST_HEADING = 100;
+const UNIT_AT_END =
+  /^(.*?)\s*(?:[([]\s*([a-z]+)\.?\s*[)\]]|(?:[/,]|\s(?:in|en))\s*([a-z]+)\.?)$/;
 const DATED = new Set(["time", "time2", "due", "release", "left"]);
 
 const HEADINGS = {
@@ -54,6 +56,7 @@ export function decodeText(bytes) {
  */
 export function readCells(text) {
   const clean = text.replace(/^\uFEFF/, "");
+  if (isBarred(clean)) return { cells: barredCells(clean), delimiter: "|" };
   const delimiter = findDelimiter(clean);
   const rows = [];
   let row = [];
@@ -73,6 +76,21 @@ export function readCells(text) {
   }
   if (row.length > 0) rows.push(row);
   return { cells: rows.filter((each) => each.some((cell) => cell !== "")), delimiter };
+}
+
+/** Whether a text is a table with bars around its cells, as in Markdown: its first lines say so. */
+function isBarred(text) {
+  const lines = text.slice(0, 20000).split("\n", 6).map((line) => line.trim()).filter(Boolean);
+  return lines.length > 1 && lines.slice(0, 2).every((line) => /^\|.*\|$|^\+[-+=]+\+$/.test(line));
+}
+
+/** The cells between bars; lines of dashes are left out, and \\| is a bar in a cell. */
+function barredCells(text) {
+  return text.split("\n").map((line) => line.trim())
+    .filter((line) => line !== "" && !/^[-|:+=\s]+$/.test(line))
+    .map((line) => line.replace(/^\|/, "").replace(/\|$/, "").split(/(?<!\\)\|/)
+      .map((cell) => cell.replace(/\\\|/g, "|").trim()))
+    .filter((row) => row.some((cell) => cell !== ""));
 }
 
 /** Reads the cell that begins at a place; `end` is the place of the delimiter or line end. */
@@ -132,14 +150,15 @@ export function readColumns(cells) {
     units: padded(hasHeading ? parts.map(({ unit }) => unit) : [], width) };
 }
 
-/** The fields by their headings; where none is a time, what has a unit such as “Sawing (h)” is one. */
+/** The fields by their headings; where none is a time, what has a unit, “Sawing (h)”, is one. */
 function timesByUnit(parts) {
   const fields = parts.map(({ field }) => field);
   if (fields.includes("time")) return fields;
   const isTime = ({ field, unit, words }) => field === null && unit !== null && words !== "";
   const [first, second, ...more] = parts.flatMap((each, place) => isTime(each) ? [place] : []);
   if (first === undefined || more.length > 0) return fields;
-  return fields.map((field, place) => place === first ? "time" : place === second ? "time2" : field);
+  return fields.map((field, place) =>
+    place === first ? "time" : place === second ? "time2" : field);
 }
 
 /** Each field once: of several names the first that is no number, of all else the first. */
@@ -186,7 +205,7 @@ export function partsOfHeading(heading) {
   if (heading.length > LONGEST_HEADING) return { field: null, unit: null, words: "" };
   const known = (words) => FIELD_OF_HEADING.get(words.replace(/[^a-z0-9]/g, "")) ?? null;
   const plain = plainLetters(heading);
-  const found = /^(.*?)\s*(?:[([]\s*([a-z]+)\.?\s*[)\]]|(?:[/,]|\s(?:in|en))\s*([a-z]+)\.?)$/.exec(plain);
+  const found = UNIT_AT_END.exec(plain);
   const unit = found ? unitOfWord(found[2] ?? found[3]) : null;
   if (unit) {
     return { field: known(found[1]), unit, words: heading.slice(0, found[1].length).trim() };

@@ -39,22 +39,34 @@ export function setChildren(element, children) {
 
 let canvas = null;
 
-/** The width of a text in pixels, in the font of the chart; of a long one, that of its beginning. */
+/** The width of a text in pixels, in the chart's font; of a long one, that of its beginning. */
 export function textWidth(text, size, isBold = false) {
   canvas ??= document.createElement("canvas").getContext("2d");
   canvas.font = `${isBold ? "bold " : ""}${size}px system-ui, "DejaVu Sans", sans-serif`;
   return canvas.measureText(text.slice(0, LONGEST_MEASURED)).width;
 }
 
-/** A text cut so that it has room, with … where something is left out; "" where nothing has. */
+/**
+ * A text cut in the middle so that it has room, since names often begin alike: "Ord…0017"; "" where
+ * nothing has.
+ */
 export function fitted(text, size, room) {
   if (textWidth(text, size) <= room) return text;
+  const letters = [...text.slice(0, LONGEST_MEASURED)];
   let low = 0;
-  let high = Math.min(text.length, 200);
+  let high = Math.min(letters.length, 200);
   while (low < high) {
     const middle = Math.ceil((low + high) / 2);
-    if (textWidth(`${text.slice(0, middle)}…`, size) <= room) low = middle;
+    if (textWidth(cut(letters, middle), size) <= room) low = middle;
     else high = middle - 1;
   }
-  return low >= 2 ? `${text.slice(0, low)}…` : "";
+  return low >= 2 ? cut(letters, low) : "";
+}
+
+/** So many of the letters, from the beginning and the end. */
+function cut(letters, count) {
+  const first = Math.ceil(count * 0.6);
+  const last = count - first;
+  return `${letters.slice(0, first).join("").trimEnd()}…`
+    + (last > 0 ? letters.slice(-last).join("").trimStart() : "");
 }

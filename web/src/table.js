@@ -6,7 +6,9 @@ import { NameIndex, quoteName, shortened, splitNames } from "./precedence.js";
 import { readLeft } from "./progress.js";
 
 /** The columns of a row, all of them text as it was written. */
-export const FIELDS = ["name", "time", "time2", "weight", "due", "release", "cost", "after", "left"];
+export const FIELDS = [
+  "name", "time", "time2", "weight", "due", "release", "cost", "after", "left",
+];
 
 export const FIELD_WORDS = {
   name: "Name", time: "Time", time2: "Time on machine 2", left: "Left to do", due: "Due",
@@ -19,11 +21,15 @@ const MOST_TOTAL = 9e15;
 const MOST_JOBS = 100000;
 const MOST_MACHINES = 1000;
 const MOST_ARCS = 200000;
+const FEW_ROWS = 3;
+const NO_TIME = "This job has no processing time.";
 const AT_ONCE = 20;
 const LINES_AT_ONCE = 500;
 // The letters of a line of the job table beside a job's fields are no more than this.
 const MOST_BESIDE = 16;
 const NONE = [];
+// What spreadsheets show of a formula that failed, in five languages: #WERT!, #REF!, #N/A.
+const FAILED_FORMULA = /^#(?:[\p{L}¡0-9/]{1,12}[!?]|N\/?[ADV]|N\/A)$/iu;
 
 /** What is added to texts: a unit to a time or to a date, a year, an order of day and month. */
 export const ASSUMED = { unit: 1, start: 2, year: 4, dayFirst: 8, endOfDay: 16 };
@@ -111,7 +117,8 @@ function readRow(row, place, number, { calendar, used }) {
   const take = (field, reader, ...more) => {
     const text = row[field].trim();
     if (text === "") return null;
-    const found = reader(calendar, text, ...more);
+    const found = FAILED_FORMULA.test(text) ? failedFormula(text)
+      : reader(calendar, text, ...more);
     if (found.fault) add(used.has(field) ? "faults" : "notes", field, found.fault);
     if (found.note) add("notes", field, found.note);
     assumed |= assumedIn(field, text, found);
@@ -122,7 +129,7 @@ function readRow(row, place, number, { calendar, used }) {
   const takeTime = (field, other) => {
     if (row[field].trim() !== "") return take(field, readDuration);
     if (!isShop || row[other].trim() === "") {
-      add("faults", field, "This job has no processing time.");
+      add("faults", field, NO_TIME);
       return null;
     }
     add("notes", field, `No time on machine ${field === "time" ? 1 : 2}: it counts as 0.`);
@@ -157,6 +164,11 @@ function takeLeft(calendar, text, whole, add) {
   if (found.fault) add("faults", "left", found.fault);
   if (found.note) add("notes", "left", found.note);
   return found.fault ? null : found.times;
+}
+
+function failedFormula(text) {
+  return { fault: `“${text}” is a formula that failed in the spreadsheet. Correct it there and `
+    + "paste again, or write the value." };
 }
 
 /** What was added to a text when it was read. */
@@ -221,9 +233,20 @@ export async function makeTable(rows, reader, pause) {
   const arcs = readArcs(rows, jobs, done, index, found);
   const isFirst = goOn(jobs, arcs, reader, findings);
   judgeTotals(jobs, arcs, reader.calendar, findings);
+  gatherMissingTimes(jobs, findings);
   const fillers = fillersOf(jobs, reader.used, findings);
   return { jobs, done, isFirst, index, arcs, fillers, bytes: bytesOf(jobs, arcs, fillers),
     ...findings };
+}
+
+/** Where no job has a processing time, that is said once and not of each row. */
+function gatherMissingTimes(jobs, findings) {
+  const isMissing = ({ message }) => message === NO_TIME;
+  const missing = findings.faults.filter(isMissing);
+  if (missing.length < FEW_ROWS || missing.length < jobs.length) return;
+  findings.faults = [{ row: null, field: null, message: "No job has a processing time. Paste again "
+    + "and say which column it is, or type the times into the column “Time”." },
+  ...findings.faults.filter((each) => !isMissing(each))];
 }
 
 /**
@@ -238,7 +261,9 @@ function goOn(jobs, arcs, { used, goesOn }, findings) {
     const others = arcs.filter(([from, to]) => to !== first && from !== first);
     arcs.length = 0;
     for (const arc of others) arcs.push(arc);
-    for (let place = 0; place < jobs.length; place++) if (place !== first) arcs.push([first, place]);
+    for (let place = 0; place < jobs.length; place++) {
+      if (place !== first) arcs.push([first, place]);
+    }
     return true;
   }
   const hint = begun.length === 1 && goesOn
@@ -262,7 +287,8 @@ function fillersOf(jobs, used, findings) {
     if (lacking.length === 0 || value === null) return null;
     const more = lacking.length - 1;
     const which = more === 0 ? "" : `, and none in ${more} more ${more === 1 ? "row" : "rows"}`;
-    findings.notes.push({ row: lacking[0].row, field, message: `${words[0]}${which}: ${words[1]}` });
+    const message = `${words[0]}${which}: ${words[1]}`;
+    findings.notes.push({ row: lacking[0].row, field, message });
     return value;
   };
   const most = (values) => values.reduce((largest, each) => Math.max(largest, each), 0);
@@ -282,8 +308,8 @@ function bytesOf(jobs, arcs, fillers) {
   const weight = fillers.weight === null ? "" : ` w=${fillers.weight}`;
   const most = jobs.reduce((sum, job) => sum + job.fields.length + MOST_BESIDE,
     heading.length + arcs.length * 2 * MOST_BESIDE + jobs.length * (due.length + weight.length));
-  const lineOf = (job, place) => `job ${place + 1} ${job.fields}${job.weight === null ? weight : ""}`
-    + `${job.due === null ? due : ""}\n`;
+  const lineOf = (job, place) => `job ${place + 1} ${job.fields}`
+    + `${job.weight === null ? weight : ""}${job.due === null ? due : ""}\n`;
   const bytes = new Uint8Array(most);
   const encoder = new TextEncoder();
   let end = 0;
@@ -327,7 +353,7 @@ function readArcs(rows, jobs, done, index, found) {
     for (const name of splitNames(rows[job.row].after, isKnown)) {
       if (completed.has(name) && !index.has(name)) continue;
       const other = index.find(name);
-      if (other.fault) fault(other.fault);
+      if (other.fault) fault(FAILED_FORMULA.test(name) ? failedFormula(name).fault : other.fault);
       else if (other.place === place) fault(`“${shortened(name)}” can't come after itself.`);
       else arcs.push([other.place, place]);
     }
@@ -338,7 +364,8 @@ function readArcs(rows, jobs, done, index, found) {
 function judgeTotals(jobs, arcs, calendar, findings) {
   const fault = (message) => findings.faults.push({ row: null, field: null, message });
   if (jobs.length > MOST_JOBS) {
-    fault(`There are ${jobs.length} jobs; at most ${MOST_JOBS} are solved.`);
+    fault(`There are ${jobs.length} jobs; at most ${MOST_JOBS} are solved. Split the list, or `
+      + "leave jobs out that are far away.");
   }
   if (arcs.length > MOST_ARCS) {
     fault(`There are ${arcs.length} precedence constraints; at most ${MOST_ARCS} are read.`);
