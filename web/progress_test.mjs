@@ -77,7 +77,7 @@ test("from now on: what the plan had done is filled in, and dates stay what they
   assert.deepEqual(patch.rows.map((row) => row.left), ["done", "1 h", "2 h", ""]);
   assert.deepEqual(patch.rows.map((row) => row.due),
     ["2026-12-01", "2026-12-01 17:00", "2026-12-02 17:00", ""]);
-  assert.deepEqual([patch.settings.start, patch.settings.startTime], ["2026-11-30", "12:00"]);
+  assert.deepEqual([patch.settings.start, patch.settings.startTime], ["2026-11-30", "13:00"]);
   const later = makeCalendar(patch.settings).calendar;
   assert.equal(momentField(later, 0, false), "2026-11-30 13:00");
 });

@@ -145,13 +145,13 @@ function countBefore(length, holds) {
 function minutesUpTo(calendar, day, clock) {
   const days = workingDaysBefore(calendar, day);
   if (days === null) return null;
-  let minutes = days * calendar.dayMinutes;
-  if (calendar.isWorking(day)) {
-    for (const [from, to] of calendar.spans) {
-      minutes += Math.max(0, Math.min(clock, to) - from);
-    }
-  }
-  return minutes - calendar.origin;
+  const minutes = calendar.isWorking(day) ? minutesWithin(calendar, clock) : 0;
+  return days * calendar.dayMinutes + minutes - calendar.origin;
+}
+
+/** The working minutes of a working day up to a time of day. */
+function minutesWithin({ spans }, clock) {
+  return spans.reduce((sum, [from, to]) => sum + Math.max(0, Math.min(clock, to) - from), 0);
 }
 
 /**
@@ -276,13 +276,14 @@ export function stepNow(calendar, now = new Date()) {
 /** The moment by the clock of the browser at which a plan can start: the end of this time step. */
 export function momentNow(calendar, now = new Date()) {
   const day = dayNumber(now.getFullYear(), now.getMonth() + 1, now.getDate());
-  const clock = now.getHours() * 60 + now.getMinutes();
-  if (calendar.stepMinutes > 60) {
-    const isBefore = clock <= calendar.spans[0][0];
-    return { day: isBefore ? day : day + 1, clock: 0 };
+  if (!calendar.isWorking(day)) return { day, clock: 0 };
+  const worked = minutesWithin(calendar, now.getHours() * 60 + now.getMinutes());
+  let rest = Math.ceil(worked / calendar.stepMinutes) * calendar.stepMinutes;
+  for (const [from, to] of calendar.spans) {
+    if (rest < to - from) return { day, clock: from + rest };
+    rest -= to - from;
   }
-  const next = Math.ceil(clock / calendar.stepMinutes) * calendar.stepMinutes;
-  return next < 1440 ? { day, clock: next } : { day: day + 1, clock: 0 };
+  return { day: day + 1, clock: 0 };
 }
 
 /** The working minutes from a moment such as "2025-03-03 08:00" to the start of a calendar. */

@@ -16,6 +16,7 @@ export class Files {
   constructor(page) {
     this.page = page;
     this.isLinkOpen = false;
+    this.linked = null;
     this.input = document.getElementById("file");
     this.input.addEventListener("change", () => this.openChosen());
     document.getElementById("open").addEventListener("click", () => this.choose());
@@ -118,8 +119,10 @@ export class Files {
     const text = await unpackText(location.hash.slice(MARK.length));
     const state = text === null ? null : readState(text);
     if (state && isSameWork(state, this.page.store.state)) return this.isOpened();
-    if (state) this.replace(state, "The plan of the link was opened.");
-    else this.page.notify("The link is damaged or was cut off, so its plan can't be opened.");
+    if (state) {
+      this.replace(state, "The plan of the link was opened.");
+      this.linked = this.page.store.state;
+    } else this.page.notify("The link is damaged or was cut off, so its plan can't be opened.");
     return state !== null;
   }
 

@@ -12,9 +12,12 @@ export class Keeping {
   /**
    * @param {import("./store.js").Store} store
    * @param {(words: string) => void} tell told whether the work is kept, in a sentence
+   * @param {() => boolean} isInLink whether a link holds the work of now, so that what was kept
+   *   before may stay
    */
-  constructor(store, tell) {
+  constructor(store, tell, isInLink) {
     this.store = store;
+    this.isInLink = isInLink;
     this.tell = tell;
     this.isOn = this.read() !== OFF;
     this.written = null;
@@ -48,6 +51,7 @@ export class Keeping {
     clearTimeout(this.timer);
     if (this.isOn && this.read() === OFF) this.isOn = false;
     if (!this.isOn) return false;
+    if (this.isInLink()) return true;
     const { state } = this.store;
     // Another page of this browser may have written its own work.
     if (this.written !== state || this.read() !== this.text) {

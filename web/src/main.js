@@ -58,7 +58,8 @@ class Page {
     });
     this.askPicture = (then) => this.picture(then);
     this.files = new Files(this);
-    this.keeping = new Keeping(this.store, (words) => this.showKeeping(words));
+    this.keeping = new Keeping(this.store, (words) => this.showKeeping(words),
+      () => this.store.state === this.files.linked);
     this.keeping.say();
     this.store.listen((...change) => this.changed(...change));
     this.listen();
