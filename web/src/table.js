@@ -117,8 +117,7 @@ function readRow(row, place, number, { calendar, used }) {
   const take = (field, reader, ...more) => {
     const text = row[field].trim();
     if (text === "") return null;
-    const found = FAILED_FORMULA.test(text) ? failedFormula(text)
-      : reader(calendar, text, ...more);
+    const found = hasFailed(text) ? failedFormula(text) : reader(calendar, text, ...more);
     if (found.fault) add(used.has(field) ? "faults" : "notes", field, found.fault);
     if (found.note) add("notes", field, found.note);
     assumed |= assumedIn(field, text, found);
@@ -164,6 +163,10 @@ function takeLeft(calendar, text, whole, add) {
   if (found.fault) add("faults", "left", found.fault);
   if (found.note) add("notes", "left", found.note);
   return found.fault ? null : found.times;
+}
+
+function hasFailed(text) {
+  return text[0] === "#" && FAILED_FORMULA.test(text);
 }
 
 function failedFormula(text) {
@@ -353,7 +356,7 @@ function readArcs(rows, jobs, done, index, found) {
     for (const name of splitNames(rows[job.row].after, isKnown)) {
       if (completed.has(name) && !index.has(name)) continue;
       const other = index.find(name);
-      if (other.fault) fault(FAILED_FORMULA.test(name) ? failedFormula(name).fault : other.fault);
+      if (other.fault) fault(hasFailed(name) ? failedFormula(name).fault : other.fault);
       else if (other.place === place) fault(`“${shortened(name)}” can't come after itself.`);
       else arcs.push([other.place, place]);
     }
