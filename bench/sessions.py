@@ -1,9 +1,11 @@
 """Reads the sessions of crates/test_sessions/data: texts, commands over them, and what the commands print.
 
-docs/tested.md says how a session is written.
+docs/tested.md says how a session is written. Run by itself, it prints all commands as JSON, for a test in another language.
 """
 import glob
+import json
 import os
+import sys
 
 HERE = os.path.dirname(os.path.abspath(__file__))
 FOLDER = os.path.join(HERE, "..", "crates", "test_sessions", "data")
@@ -67,3 +69,13 @@ def commands(path):
 
 def files():
     return sorted(glob.glob(os.path.join(FOLDER, "*.txt")))
+
+
+def members(path):
+    """The commands of a file as objects for JSON."""
+    place = os.path.basename(path)
+    return [{"place": f"{place}:{one.number}", "words": one.words(), **vars(one)} for one in commands(path)]
+
+
+if __name__ == "__main__":
+    json.dump([one for path in files() for one in members(path)], sys.stdout)

@@ -1,5 +1,5 @@
 #!/usr/bin/env python3
-"""Compares the man page and the completions with the options that the program's own help lists.
+"""Compares the man page, the completions and web/command_line.mjs with the options that the program's own help lists.
 
     python3 examples/check_options.py PROGRAM
 
@@ -11,6 +11,8 @@ import subprocess
 import sys
 
 TOP = os.path.join(os.path.dirname(os.path.abspath(__file__)), "..")
+PLACES = ("docs/threefield.1", "completions/threefield.bash", "completions/_threefield", "completions/threefield.fish",
+          "web/command_line.mjs")
 LONG = re.compile(r"(?<![\w-])--([a-z]+)")
 
 
@@ -42,7 +44,7 @@ def main(program):
     commands = commands_of(program)
     wanted = options_of(program).union(*(options_of(program, name) for name in commands - {"help"}))
     compared = wrong = 0
-    for path in ("docs/threefield.1", "completions/threefield.bash", "completions/_threefield", "completions/threefield.fish"):
+    for path in PLACES:
         text, named = read(path), named_in(path)
         compared += len(wanted | named) + len(commands)
         for what, names in (("missing", wanted - named), ("unknown", named - wanted)):

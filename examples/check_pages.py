@@ -6,7 +6,7 @@
 A command stands behind "$ " in a block of the kind `console`, its further lines behind "> ", and the lines below it are
 what it prints on both outputs.
 Where no line is shown, it only has to succeed. A file that a page shows by `cat` and that is not there yet is one that
-its reader writes, so it is written. The kit's own commands, which take long, are left out.
+its reader writes, so it is written. The kit's own commands, which take long, are left out, and those of node, which has tests of its own.
 """
 import os
 import re
@@ -15,7 +15,7 @@ import sys
 
 PAGES = ["README.md", "docs/usage.md", "docs/answers.md", "docs/evaluating.md", "docs/bounds.md", "docs/pictures.md", "docs/random.md",
          "examples/README.md", "examples/certificates/README.md", "examples/lecture/README.md", "examples/rules/README.md"]
-LEFT_OUT = re.compile(r"^(export |bash \.ci/run|.*\brt (try|run|ci)\b)")
+LEFT_OUT = re.compile(r"^(export |bash \.ci/run|node |.*\brt (try|run|ci)\b)")
 
 
 def commands(page):

@@ -1,0 +1,94 @@
+// The program's commands by the page's module: node --test web/*_test.mjs
+import assert from "node:assert/strict";
+import { execFileSync, spawnSync } from "node:child_process";
+import { test } from "node:test";
+import { fileURLToPath } from "node:url";
+import { perform } from "./commands.mjs";
+import { load } from "./solver.mjs";
+
+const ROOT = fileURLToPath(new URL("..", import.meta.url));
+const MOST_BYTES = 2 ** 28;
+const STEPS = /\rstep \d+ of \d+|\r\x1b\[K/g;
+const ABSENT = /^threefield: (\S+).* is not in the page's module/;
+
+// What the module does not have.
+const ABSENCES = ["--bound", "--bounds", "--csv", "--explain", "--fold", "--from", "--height",
+  "--index", "--input", "--json", "--measures", "--order", "--orders", "--schedule", "--steps",
+  "--to", "--width", "random", "trace"];
+
+// Sessions that a module of older sources answers otherwise (web/README.md). They go with it.
+const OLDER = ["assessed.txt:20", "assessed.txt:54", "assessed.txt:89", "assessed.txt:151",
+  "assessed.txt:182", "assessed.txt:213", "assessed.txt:279", "assessed.txt:371",
+  "bounds.txt:149", "counted.txt:25", "counted.txt:44", "counted.txt:348", "flow-shops.txt:164",
+  "flow-shops.txt:182", "flow-shops.txt:220", "flow-shops.txt:255", "offered.txt:394",
+  "offered.txt:676", "precedence.txt:51"];
+
+/** Opens the texts of a session in place of files. */
+const opening = (texts) => (name) => {
+  if (name !== "-" && texts[name] === undefined) {
+    throw Object.assign(new Error(name), { code: "ENOENT" });
+  }
+  return () => new TextEncoder().encode(texts[name] ?? "");
+};
+
+const firstLine = (text) => text.split("\n", 1)[0];
+
+/** Whether the same is said in the words of this command: help, a wrong command line, a cause. */
+function isInOtherWords(shown, given) {
+  if (shown.status !== given.status) return false;
+  if (shown.status === 5) return firstLine(shown.errors) === firstLine(given.errors);
+  const isHelp = shown.output.includes("Usage: threefield");
+  const isCause = shown.words[0] === "problems" && firstLine(shown.errors) === given.errors.trim();
+  return isHelp || isCause;
+}
+
+/** How what a session shows and what is given compare. */
+function compared(shown, given) {
+  const output = new TextDecoder().decode(given.output);
+  const errors = shown.errors.replace(STEPS, "");
+  if (output === shown.output && errors === given.errors && given.status === shown.status) {
+    return "same";
+  }
+  const absent = ABSENT.exec(given.errors);
+  if (absent) return absent[1];
+  if (isInOtherWords(shown, given)) return "other words";
+  return OLDER.includes(shown.place) ? "older module" : "different";
+}
+
+test("sessions give the program's bytes and status, or what is not in the module", async (t) => {
+  const words = [fileURLToPath(new URL("../bench/sessions.py", import.meta.url))];
+  const sessions = JSON.parse(execFileSync("python3", words, { maxBuffer: MOST_BYTES }));
+  const solver = await load();
+  const places = {};
+  for (const session of sessions) {
+    const given = await perform(session.words, async () => solver, opening(session.texts));
+    (places[compared(session, given)] ??= []).push(session.place);
+  }
+  for (const [what, list] of Object.entries(places)) t.diagnostic(`${what}: ${list.length}`);
+  assert.deepEqual(places.different ?? [], []);
+  assert.ok(places.same.length > sessions.length / 2);
+  const others = ["same", "other words", "older module"];
+  assert.deepEqual(Object.keys(places).filter((what) => !others.includes(what)).sort(), ABSENCES);
+});
+
+/** Runs the command as a process. */
+function run(words, input = "") {
+  const { status, stdout, stderr } =
+    spawnSync(process.execPath, ["web/threefield.mjs", ...words], { cwd: ROOT, input });
+  return [status, stdout.toString(), stderr.toString()];
+}
+
+test("files and standard input are read, and what is given is written", () => {
+  const table = "table 1\njob 1 p=2\njob 2 p=1\n";
+  const [status, answer, errors] = run(["solve", "-p", "1||sumC", "-"], table);
+  assert.deepEqual([status, errors], [0, ""]);
+  assert.match(answer, /^answer 2\nproblem 1\|\|sumC\n(.*\n)*value 4\n(.*\n)*end\n$/);
+  assert.deepEqual(run(["gantt"], answer), [0, "length 3\nmachine 1 |211|\n", ""]);
+  const judged = ["-p", "1||sumC", "examples/table.txt", "-"];
+  assert.equal(run(["check", ...judged], answer)[0], 1);
+  assert.deepEqual(run(["check", "-p", "1||sumC", "none.txt", "-"], answer),
+    [4, "", "threefield: device fault\n"]);
+  assert.deepEqual(run(["check", "-p", "1||sumC", "examples", "-"], answer),
+    [4, "", "threefield: device fault\n"]);
+  assert.equal(run([])[0], 5);
+});
