@@ -5,7 +5,7 @@
 
 Without a FILE all are played; with a LINE only the command that stands there. `rt ci` plays the same sessions over texts in
 memory; here the program's own main opens files and ends the process. The steps of a search are left out of the
-comparison, since only a terminal shows them.
+comparison, since only a terminal shows them. PROGRAM may be web/threefield.mjs too, which lacks some of the options.
 """
 import os
 import re

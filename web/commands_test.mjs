@@ -92,3 +92,30 @@ test("files and standard input are read, and what is given is written", () => {
     [4, "", "threefield: device fault\n"]);
   assert.equal(run([])[0], 5);
 });
+
+test("words are read as the program reads them; a wrong line opens nothing", async () => {
+  const solver = await load();
+  const table = new TextEncoder().encode("table 1\njob 1 p=2\n");
+  const ends = async (words, open) => {
+    const { status, errors } = await perform(words, async () => solver, open);
+    return [status, firstLine(errors)];
+  };
+  const good = [["-pP||sumC", "-m2", "a"], ["-p=P||sumC", "--machines=2", "a"],
+    ["--machines", "002", "a", "--problem", "P||sumC"], ["-m", "2", "-p", "P||sumC", "--", "-a"],
+    ["-m", "2", "-p", "P||sumC", "--jobs", "-1", "--pair", "-", "--explain=never", "-"]];
+  for (const words of good) {
+    assert.deepEqual(await ends(["solve", ...words], () => () => table), [0, ""]);
+  }
+  const wrong = [[["-p", "P||sumC", "a", "b"], "error: unexpected argument 'b' found"],
+    [["-p", "P||sumC", "--json=1", "a"],
+      "error: unexpected value '1' for '--json' found; no more were expected"],
+    [["-p", "--json", "a"],
+      "error: a value is required for '--problem <TEXT>' but none was supplied"],
+    [["-p", "a", "\u001b[1m\n", "ä\n"], "error: unexpected argument '\\xc3\\xa4\\x0a' found"],
+    [["-p", "a", "--json", "a"],
+      "threefield: --json is not in the page's module; the built program has it (README.md)"],
+    [["-p", "1||sumC", "-m", "1.5", "a"], "threefield: --machines takes a number from 1 to 1000"]];
+  for (const [words, line] of wrong) {
+    assert.deepEqual(await ends(["solve", ...words], assert.fail), [5, line]);
+  }
+});
