@@ -12,12 +12,13 @@ const MOST_BYTES = 2 ** 26;
 const CHUNK = 2 ** 16;
 const WAIT = 5;
 
-/** Does something again for as long as a device is not ready. */
+/** Does something again for as long as a device is not ready; nothing is left of one that ends. */
 function patiently(work) {
   for (;;) {
     try {
       return work();
     } catch (error) {
+      if (error.code === "EOF") return 0;
       if (error.code !== "EAGAIN") throw error;
       Atomics.wait(new Int32Array(new SharedArrayBuffer(4)), 0, 0, WAIT);
     }
