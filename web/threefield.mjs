@@ -12,16 +12,25 @@ const MOST_BYTES = 2 ** 26;
 const CHUNK = 2 ** 16;
 const WAIT = 5;
 
-/** Does something again for as long as a device is not ready; nothing is left of one that ends. */
+/** Does something again for as long as a device is not ready. */
 function patiently(work) {
   for (;;) {
     try {
       return work();
     } catch (error) {
-      if (error.code === "EOF") return 0;
       if (error.code !== "EAGAIN") throw error;
       Atomics.wait(new Int32Array(new SharedArrayBuffer(4)), 0, 0, WAIT);
     }
+  }
+}
+
+/** Reads into a buffer, and tells how many bytes; Windows reports the end as a fault. */
+function readSome(file, buffer) {
+  try {
+    return readSync(file, buffer);
+  } catch (error) {
+    if (error.code === "EOF") return 0;
+    throw error;
   }
 }
 
@@ -29,7 +38,7 @@ function readAll(file) {
   const chunks = [];
   for (let left = MOST_BYTES + 1, count = 1; left > 0 && count > 0; left -= count) {
     const chunk = Buffer.alloc(Math.min(CHUNK, left));
-    count = patiently(() => readSync(file, chunk));
+    count = patiently(() => readSome(file, chunk));
     chunks.push(chunk.subarray(0, count));
   }
   return Buffer.concat(chunks);
@@ -50,7 +59,7 @@ function write({ status, output, errors }) {
   try {
     writeAll(1, output);
   } catch {
-    return write({ ...DEVICE_FAULT, output: new Uint8Array(0) });
+    return write(DEVICE_FAULT);
   }
   try {
     writeAll(2, Buffer.from(errors));
