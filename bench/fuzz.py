@@ -36,6 +36,7 @@ NUMBER = re.compile("-?[0-9]+")
 
 STATUSES = {
     "solve": {0, 2, 3, 4, 5},
+    "plan": {0, 2, 3, 4, 5, 6},
     "bound": {0, 2, 3, 4, 5},
     "trace": {0, 2, 3, 4, 5},
     "check": {0, 1, 2, 3, 4, 5},
@@ -45,9 +46,9 @@ STATUSES = {
     "problems": {0, 2, 3, 4, 5},
 }
 OTHERWISE = {0, 5}  # help, the version, and what is no command
-EXPLAINS = ("solve", "bound", "trace", "check", "evaluate", "gantt")
-FORMATTED = ("solve", "bound", "check", "evaluate", "problems")
-TABLED = ("solve", "evaluate")
+EXPLAINS = ("solve", "plan", "bound", "trace", "check", "evaluate", "gantt")
+FORMATTED = ("solve", "plan", "bound", "check", "evaluate", "problems")
+TABLED = ("solve", "plan", "evaluate")
 # With these the command line has a format of its own, or none.
 FORMATS = (b"--json", b"--csv", b"--orders", b"--measures", b"--answer", b"--help", b"-h")
 
