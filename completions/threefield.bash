@@ -3,7 +3,7 @@ _threefield() {
     local word=${COMP_WORDS[COMP_CWORD]} before=${COMP_WORDS[COMP_CWORD - 1]} command=${COMP_WORDS[1]}
     local instance="--problem --format --jobs --index --name --pair --machines --explain --help"
     if [ "$COMP_CWORD" -eq 1 ]; then
-        COMPREPLY=($(compgen -W "solve bound trace check evaluate gantt random problems help --help --version" -- "$word"))
+        COMPREPLY=($(compgen -W "solve plan bound trace check evaluate gantt random problems help --help --version" -- "$word"))
         return
     fi
     case $before in
@@ -13,7 +13,7 @@ _threefield() {
     esac
     if [[ $word != -* ]]; then
         if [ "$command" = help ]; then
-            COMPREPLY=($(compgen -W "solve bound trace check evaluate gantt random problems" -- "$word"))
+            COMPREPLY=($(compgen -W "solve plan bound trace check evaluate gantt random problems" -- "$word"))
         else
             mapfile -t COMPREPLY < <(compgen -f -- "$word")
         fi
@@ -21,6 +21,7 @@ _threefield() {
     fi
     case $command in
     solve) COMPREPLY=($(compgen -W "$instance --answer --values --json --csv" -- "$word")) ;;
+    plan) COMPREPLY=($(compgen -W "$instance --steps --json --csv" -- "$word")) ;;
     bound) COMPREPLY=($(compgen -W "$instance --steps --json" -- "$word")) ;;
     trace) COMPREPLY=($(compgen -W "$instance --tex" -- "$word")) ;;
     check) COMPREPLY=($(compgen -W "$instance --json" -- "$word")) ;;

@@ -1,10 +1,11 @@
 # Completions of threefield for fish: put this file into ~/.config/fish/completions.
-set -l commands solve bound trace check evaluate gantt random problems help
-set -l instance solve bound trace check evaluate
+set -l commands solve plan bound trace check evaluate gantt random problems help
+set -l instance solve plan bound trace check evaluate
 
 complete -c threefield -n "not __fish_seen_subcommand_from $commands" -f
 complete -c threefield -n "not __fish_seen_subcommand_from $commands" -l version -d "Print the version"
 complete -c threefield -n "not __fish_seen_subcommand_from $commands" -a solve -d "Print an optimal schedule with its certificate"
+complete -c threefield -n "not __fish_seen_subcommand_from $commands" -a plan -d "Print a schedule, and how good it is"
 complete -c threefield -n "not __fish_seen_subcommand_from $commands" -a bound -d "Print a proved lower bound"
 complete -c threefield -n "not __fish_seen_subcommand_from $commands" -a trace -d "Show how an optimal schedule is found"
 complete -c threefield -n "not __fish_seen_subcommand_from $commands" -a check -d "Judge an answer"
@@ -24,10 +25,10 @@ complete -c threefield -n "__fish_seen_subcommand_from $instance gantt" -l pair 
 complete -c threefield -n "__fish_seen_subcommand_from $instance" -s m -l machines -x -d "Number of machines"
 complete -c threefield -n "__fish_seen_subcommand_from $instance gantt" -l explain -a "auto always never" -d "Explain what is wrong"
 complete -c threefield -n "__fish_seen_subcommand_from solve" -l answer -x -a "1 2" -d "Version of the answer text"
-complete -c threefield -n "__fish_seen_subcommand_from solve bound check evaluate problems" -l json -d "Write a JSON object"
+complete -c threefield -n "__fish_seen_subcommand_from solve plan bound check evaluate problems" -l json -d "Write a JSON object"
 complete -c threefield -n "__fish_seen_subcommand_from problems" -l bounds -d "List problems that have lower bounds and no solver"
-complete -c threefield -n "__fish_seen_subcommand_from solve evaluate" -l csv -d "Write a table for spreadsheets"
-complete -c threefield -n "__fish_seen_subcommand_from bound evaluate" -l steps -x -d "Steps of the search for prices"
+complete -c threefield -n "__fish_seen_subcommand_from solve plan evaluate" -l csv -d "Write a table for spreadsheets"
+complete -c threefield -n "__fish_seen_subcommand_from plan bound evaluate" -l steps -x -d "Steps of the search for prices"
 complete -c threefield -n "__fish_seen_subcommand_from trace" -l tex -d "Write it for LaTeX"
 complete -c threefield -n "__fish_seen_subcommand_from evaluate" -l certificate -d "Add the arithmetic of the certificate"
 complete -c threefield -n "__fish_seen_subcommand_from evaluate" -l measures -d "Add the value of every objective"
