@@ -14,7 +14,7 @@ import re
 import subprocess
 import sys
 
-PAGES = ["README.md", "docs/usage.md", "docs/answers.md", "docs/evaluating.md", "docs/bounds.md", "docs/pictures.md", "docs/random.md",
+PAGES = ["README.md", "docs/usage.md", "docs/answers.md", "docs/evaluating.md", "docs/plan.md", "docs/bounds.md", "docs/pictures.md", "docs/random.md",
          "examples/README.md", "examples/certificates/README.md", "examples/lecture/README.md", "examples/rules/README.md"]
 # The problems of a row of docs/border.md, and what its last column says of them.
 BORDER = re.compile(r"^\| (`.*?) \| .* \| (`solve`|`bound`, met|`bound`|no) \|$", re.M)
