@@ -37,6 +37,7 @@ const inPlaceOfAnswer = (name, value, rivals) =>
 const COMMANDS = {
   solve: [...INSTANCE, { name: "--answer", value: "VERSION", choices: ["1", "2"] },
     { name: "--values" }, { ...JSON_TEXT, rivals: ["--answer"] }, CSV],
+  plan: [...INSTANCE, STEPS, JSON_TEXT, CSV],
   bound: [...INSTANCE, STEPS, JSON_TEXT],
   trace: [...INSTANCE, { name: "--tex" }],
   check: [...INSTANCE, JSON_TEXT, { ...ANSWER, isRequired: true }],

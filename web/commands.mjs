@@ -66,9 +66,9 @@ function isSpan(word) {
     && Number(last) <= MOST_INDEX;
 }
 
-/** What the module does not have of what is asked for. */
+/** What no module has of what is asked for. */
 function lacking(command, given) {
-  const several = command !== "check" && given.get("--format") === "wt"
+  const several = !["plan", "check"].includes(command) && given.get("--format") === "wt"
     && isSpan(given.get("--index"));
   return missing(command, given) ?? (several ? `--index ${given.get("--index")}` : null);
 }
@@ -138,16 +138,19 @@ function withoutCommand([word, other]) {
   throw unrecognized(word);
 }
 
+/** What is said of what the module does not have. */
+const absent = (what) =>
+  refused(`${what} is not in the page's module; the built program has it (README.md)`);
+
 /** Does what a command is asked for, if the module has it. */
 async function served(command, words, load, open) {
   const given = read(command, words);
   if (given === null) return printed(commandHelp(command));
   const what = lacking(command, given);
-  if (what !== null) {
-    return refused(`${what} is not in the page's module; the built program has it (README.md)`);
-  }
+  if (what !== null) return absent(what);
   const solver = await load();
   const request = requestOf(command, given), names = namesOf(command, given);
+  if (!solver.can(request.command)) return absent(command);
   return fault(solver, request, names) ?? run(solver, request, names, open);
 }
 

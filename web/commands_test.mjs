@@ -11,7 +11,7 @@ const MOST_BYTES = 2 ** 28;
 const STEPS = /\rstep \d+ of \d+|\r\x1b\[K/g;
 const ABSENT = /^threefield: (\S+).* is not in the page's module/;
 
-// What the module does not have.
+// What no module has.
 const ABSENCES = ["--bound", "--bounds", "--csv", "--explain", "--fold", "--from", "--height",
   "--index", "--input", "--json", "--measures", "--order", "--orders", "--schedule", "--steps",
   "--to", "--width", "random", "trace"];
@@ -68,7 +68,8 @@ test("sessions give the program's bytes and status, or what is not in the module
   assert.deepEqual(places.different ?? [], []);
   assert.ok(places.same.length > sessions.length / 2);
   const others = ["same", "other words", "older module"];
-  assert.deepEqual(Object.keys(places).filter((what) => !others.includes(what)).sort(), ABSENCES);
+  const absences = solver.can("plan") ? ABSENCES : [...ABSENCES, "plan"].sort();
+  assert.deepEqual(Object.keys(places).filter((what) => !others.includes(what)).sort(), absences);
 });
 
 /** Runs the command as a process. */
@@ -91,6 +92,21 @@ test("files and standard input are read, and what is given is written", () => {
   assert.deepEqual(run(["check", "-p", "1||sumC", "examples", "-"], answer),
     [4, "", "threefield: device fault\n"]);
   assert.equal(run([])[0], 5);
+});
+
+test("a plan is asked of a module that has it, and a module that lacks it opens nothing", async () => {
+  const words = ["plan", "-p", "1||sumwT", "--steps", "7", "a"];
+  const table = new TextEncoder().encode("table 1\n");
+  const requests = [];
+  const planning = { can: (command) => command === "plan",
+    run: (request) => requests.push(request) && { status: 6, output: table, errors: "" } };
+  const { status, output } = await perform(words, async () => planning, () => () => table);
+  assert.deepEqual([status, output], [6, table]);
+  const { command, problem, steps, instance } = requests.at(-1);
+  assert.deepEqual([command, problem, steps, instance], ["plan", "1||sumwT", 7, table]);
+  const { errors } = await perform(words, async () => ({ ...planning, can: () => false }), assert.fail);
+  assert.equal(errors,
+    "threefield: plan is not in the page's module; the built program has it (README.md)\n");
 });
 
 test("words are read as the program reads them; a wrong line opens nothing", async () => {
