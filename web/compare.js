@@ -32,7 +32,7 @@ const HARD = ["P2||Cmax", "P||Cmax", "1|rj|Lmax", "1|rj|sumwC", "1||sumwT", "1||
 const ODD = ["", "1||", "1||Lmaxx", "F3||Cmax", "J2||Cmax", "é||Lmax", "1|prec,prec|Lmax", "P0||Cmax", "R||Cmax"];
 const problem = command => {
   if (once(30)) return pick(ODD);
-  return pick(once(10) === (command === "bound") ? SOLVED : HARD);
+  return pick(once(10) === ["plan", "bound"].includes(command) ? SOLVED : HARD);
 };
 
 // A word of a line is damaged, or a line.
@@ -106,20 +106,20 @@ function words(request) {
     ...(format.kind === "flow" && format.pair ? ["--pair", format.pair.join(",")] : []),
     ...(request.machines === null ? [] : ["-m", String(request.machines)]),
     ...(request.command === "solve" ? ["--answer", String(request.answerVersion)] : []),
-    ...(request.command === "bound" && request.steps !== null ? ["--steps", String(request.steps)] : []),
+    ...(["plan", "bound"].includes(request.command) && request.steps !== null ? ["--steps", String(request.steps)] : []),
     ...(request.certificate ? ["--certificate"] : []),
     "INSTANCE", ...(request.command === "check" || request.command === "evaluate" ? ["ANSWER"] : []),
   ];
 }
 
-// The requests of a case: to solve or to bound, or to solve and then to use the answer.
+// The requests of a case: to solve, to plan or to bound, or to solve and then to use the answer.
 function requestOf(solver, command) {
   const of = problem(command), [text, format] = instance(of), bytes = new TextEncoder().encode(sometimes(text));
   const machines = once(15) || /^P\|/.test(of) && !once(8) ? random(once(9) ? 3000 : 5) : null;
   const asked = { problem: of, machines, format, instance: bytes, answerVersion: 1 + random(2) };
   const request = { command, certificate: command === "evaluate" && once(2), columns: random(once(9) ? 2000 : 120),
     steps: once(2) ? null : random(once(9) ? 3 : 300), answer: new Uint8Array(0), ...asked };
-  if (command === "solve" || command === "bound" || command === "problems") return request;
+  if (["solve", "plan", "bound", "problems"].includes(command)) return request;
   const solved = solver.run({ command: "solve", ...asked });
   const example = "answer 2\nproblem 1||sumC\njobs 1\nmachines 1\nvalue 3\npiece 1 1 0 3\ncert pairs\nend\n";
   const answer = solved.status === 0 ? new TextDecoder().decode(solved.output) : example;
@@ -154,7 +154,8 @@ async function main() {
   async function worker(k) {
     while (next < CASES) {
       next++;
-      const command = pick(["solve", "solve", "check", "evaluate", "gantt", "picture", "bound", once(20) ? "problems" : "solve"]);
+      const hard = pick(solver.has("plan") ? ["plan", "bound"] : ["bound"]);
+      const command = pick(["solve", "solve", "check", "evaluate", "gantt", "picture", hard, once(20) ? "problems" : "solve"]);
       const request = requestOf(solver, command), mine = solver.run({ ...request, instance: command === "problems" ? undefined : request.instance });
       const theirs = await compared(request, k);
       const count = `${command} ${theirs.status}`;
