@@ -154,7 +154,7 @@ async function main() {
   async function worker(k) {
     while (next < CASES) {
       next++;
-      const hard = pick(solver.has("plan") ? ["plan", "bound"] : ["bound"]);
+      const hard = pick(solver.can("plan") ? ["plan", "bound"] : ["bound"]);
       const command = pick(["solve", "solve", "check", "evaluate", "gantt", "picture", hard, once(20) ? "problems" : "solve"]);
       const request = requestOf(solver, command), mine = solver.run({ ...request, instance: command === "problems" ? undefined : request.instance });
       const theirs = await compared(request, k);
