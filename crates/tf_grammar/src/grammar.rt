@@ -16,7 +16,7 @@ First steps: threefield solve -p \"1||Lmax\" TABLE, and with --explain where it
 
 Exit status: 0 done, 1 rejected, 2 refused, 3 want of memory,
              4 a file or a device failed, 5 the command line is wrong,
-             6 evaluated, and another schedule costs less.";
+             6 a schedule that is not proved optimal.";
 
 const ABOUT_SOLVE: &str = "\
 Example: threefield solve -p \"P2|prmp|Cmax\" examples/table.txt

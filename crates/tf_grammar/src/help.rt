@@ -31,7 +31,7 @@ threefield COMMAND --help has more of each command.
 
 Exit status: 0 done, 1 rejected, 2 refused, 3 want of memory,
              4 a file or a device failed, 5 the command line is wrong,
-             6 evaluated, and another schedule costs less.";
+             6 a schedule that is not proved optimal.";
 
 /// Of `solve`.
 pub(crate) const OF_SOLVE: &str = "\
@@ -79,7 +79,7 @@ less; about 1000 are usual.
 
 Example: threefield plan -p \"1|prec|sumwT\" examples/workshop.txt
          threefield plan -p \"P3|prec|Cmax\" table.txt | threefield gantt
-         threefield plan -p \"F3||sumT\" -f flow --name t01 shop.txt
+         threefield plan -p \"F3||sumC\" -f flow --name t01 shop.txt
 
 Exit status: 0 optimal, 2 refused, 3 want of memory,
              4 a file or a device failed, 5 the command line is wrong,
