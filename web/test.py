@@ -1150,11 +1150,16 @@ def memory(page):
 
 # ---- the module in the browser and the native program ----
 
-RUNS = """
+LOADED = """
     const text = document.getElementById("module-bytes").textContent;
     const packed = Uint8Array.from(atob(text), (letter) => letter.charCodeAt(0));
     const stream = new Blob([packed]).stream().pipeThrough(new DecompressionStream("deflate-raw"));
-    const { run } = await loadSolver(new Uint8Array(await new Response(stream).arrayBuffer()));
+    const { run, can } = await loadSolver(new Uint8Array(await new Response(stream).arrayBuffer()));
+"""
+CAN = LOADED + """
+    return ["plan"].filter(can);
+"""
+RUNS = LOADED + """
     const encode = (each) => new TextEncoder().encode(each ?? "");
     return REQUESTS.map((request) => {
         const found = run({ ...request, instance: encode(request.instance), answer: encode(request.answer) });
@@ -1169,6 +1174,11 @@ def in_browser(page, requests):
     return page.run(f"(async () => {{ {solver}\n{RUNS.replace('REQUESTS', json.dumps(requests), 1)} }})()")
 
 
+def has_plans(page):
+    """Whether the module of the page has the command `plan`."""
+    return "plan" in page.run(f"(async () => {{ {(HERE / 'src' / 'solver.js').read_text(encoding='utf-8')}\n{CAN} }})()")
+
+
 def in_program(program, request, folder):
     """What the native program says of the same request."""
     places = {}
@@ -1180,7 +1190,7 @@ def in_program(program, request, folder):
     words = {
         "gantt": ["gantt", "-c", str(request.get("columns")), places["answer"]], "problems": ["problems"],
         "picture": ["gantt", "--svg", places["answer"]], "solve": ["solve", *asked, places["instance"]],
-        "bound": ["bound", *asked, places["instance"]],
+        "bound": ["bound", *asked, places["instance"]], "plan": ["plan", *asked, places["instance"]],
     }.get(command, [command, *asked, *["--certificate"] * (command == "evaluate"), *places.values()])
     ran = subprocess.run([program, *words], capture_output=True, check=False)
     return [ran.returncode, ran.stdout.decode(), ran.stderr.decode()]
@@ -1194,7 +1204,8 @@ def like_the_program(page, program):
     asked += [{"problem": problem, "instance": (examples / "all_fields.txt").read_text()}
               for problem in ("1||sumwT", "1|rj|Lmax", "P2||Cmax", "P2||sumwC", "J2||Cmax", "1||", "P||sumC")]
     asked += [{"problem": "1||Lmax", "instance": (examples / "slips.txt").read_text()}]
-    requests = [{"command": command, **each} for each in asked for command in ("solve", "bound")]
+    commands = ("solve", "bound", "plan") if has_plans(page) else ("solve", "bound")
+    requests = [{"command": command, **each} for each in asked for command in commands]
     requests.append({"command": "problems"})
     for each in asked:
         _, answer, _ = in_program(program, {"command": "solve", **each}, page.browser.folder.name)
