@@ -64,10 +64,10 @@ async function inTurn(rows, of) {
     stop: list(stops) }, null, of, []);
 }
 
-test("from now on: what the plan had done is filled in, and dates stay what they were", async () => {
-  const rows = [{ name: "A", time: "3 h", due: "2026-12-01" }, { name: "B", time: "2 h", due: "16" },
-    { name: "C", time: "4 h", due: "3 d", left: "2 h" }, { name: "D", time: "1 h", due: "" }]
-    .map((row) => newRow(row));
+test("from now on, what the plan had done is filled in, and dates stay what they are", async () => {
+  const rows = [{ name: "A", time: "3 h", due: "2026-12-01" },
+    { name: "B", time: "2 h", due: "16" }, { name: "C", time: "4 h", due: "3 d", left: "2 h" },
+    { name: "D", time: "1 h", due: "" }].map((row) => newRow(row));
   const state = { ...emptyState(), settings: SETTINGS, rows };
   const plan = await inTurn(rows, calendar);
   const now = new Date(2026, 10, 30, 11, 40);

@@ -347,8 +347,11 @@ function barWords(plan, job, size, room, late) {
   if (room < 6) return "";
   const { name, row } = plan.jobs[job] ?? { name: `job ${job + 1}`, row: job };
   if (late && textWidth(name + late, size) <= room) return name + late;
-  const words = fitted(name, size, room);
-  if (words.length >= Math.min(name.length, 8)) return words;
+  if (textWidth(name, size) <= room) return name;
+  const rest = `…${name.slice(plan.prefix.length)}`;
+  if (plan.prefix !== "" && textWidth(rest, size) <= room) return rest;
+  const words = fitted(plan.prefix === "" ? name : rest, size, room);
+  if (words.length >= 8) return words;
   const numbers = [`#${row + 1}`, String(row + 1)];
   return numbers.find((number) => textWidth(number, size) <= room) ?? "";
 }

@@ -5,6 +5,7 @@ import { release } from "./memory.js";
 
 /** How many letters of colours the chart has; neighbours on a machine never share one. */
 export const COLOURS = 8;
+const LONGEST_PREFIX = 100;
 
 /**
  * Makes a plan.
@@ -29,7 +30,7 @@ export function makePlan(table, schedule, evaluation, calendar, names) {
   return {
     jobs: table.jobs, done: table.done, index: table.index, arcs: table.arcs, calendar,
     schedule, order, pieces, machine,
-    machines: schedule.machines, names,
+    machines: schedule.machines, names, prefix: commonPrefix(table.jobs),
     rows: machineRows(schedule, order),
     colour: colourJobs(schedule, order, count),
     start, completion, counts: evaluation?.counts ?? null,
@@ -40,6 +41,17 @@ export function makePlan(table, schedule, evaluation, calendar, names) {
     length: schedule.stop.reduce((most, stop) => Math.max(most, stop), 0),
     value: schedule.value, problem: schedule.problem, bound: schedule.bound, isOptimal: true,
   };
+}
+
+/** The words that the names of all jobs begin with, such as “Order ”; "" where they have none. */
+function commonPrefix(jobs) {
+  if (jobs.length < 3) return "";
+  let prefix = jobs[0].name.slice(0, LONGEST_PREFIX);
+  for (const { name } of jobs) {
+    while (!name.startsWith(prefix)) prefix = prefix.slice(0, -1);
+    if (prefix === "") return "";
+  }
+  return prefix.replace(/[\p{L}\p{N}]*$/u, "");
 }
 
 /** For each job the first start and the last stop of its pieces; 0 where it has none. */
