@@ -101,9 +101,10 @@ function run(solver, request, names, open) {
   return counted === null ? reply : solver.run({ ...request, ...texts, problem: counted });
 }
 
-/** The problem of an evaluation that names no number of machines, with that of its shop file. */
+/** The problem of a plan or an evaluation without a number of machines, with that of its file. */
 function countedShop({ command, problem, machines, format }, { errors }) {
-  const isUncounted = command === "evaluate" && machines === null && format.pair === null;
+  const isCounting = command === "plan" || command === "evaluate";
+  const isUncounted = isCounting && machines === null && format.pair === null;
   const [, count] = /^threefield: refused: MachineCount (\d+)\n$/.exec(errors) ?? [];
   if (!isUncounted || count === undefined || !UNCOUNTED_SHOP.test(problem)) return null;
   return problem.replace(UNCOUNTED_SHOP, `$1${count}`);
