@@ -21,7 +21,7 @@ const OLDER = ["assessed.txt:20", "assessed.txt:54", "assessed.txt:89", "assesse
   "assessed.txt:182", "assessed.txt:213", "assessed.txt:279", "assessed.txt:371",
   "bounds.txt:149", "counted.txt:25", "counted.txt:44", "counted.txt:348", "flow-shops.txt:164",
   "flow-shops.txt:182", "flow-shops.txt:220", "flow-shops.txt:255", "offered.txt:394",
-  "offered.txt:676", "precedence.txt:51"];
+  "offered.txt:676", "plan.txt:163", "precedence.txt:51"];
 
 /** Opens the texts of a session in place of files. */
 const opening = (texts) => (name) => {
