@@ -23,6 +23,9 @@ const LEAST_STEPS: u64 = 1_000_000;
 
 const MOST_STEPS: u64 = 100_000_000;
 
+// The most jobs of which a schedule is searched, since each change may move as many costs.
+const MOST_SEARCHED: usize = 5_000;
+
 // How many steps a search takes for each one that the caller grants.
 const STEPS_GRANTED: u64 = 10_000;
 
@@ -50,8 +53,8 @@ impl Given {
     }
 }
 
-/// The pieces of the best schedule of all rules, improved by a search. All jobs in this order keep
-/// the arcs.
+/// The pieces of the best schedule of all rules, improved by a search where there are not too many
+/// jobs. All jobs in this order keep the arcs.
 pub(crate) fn best_pieces<A: Allocator + Copy, B: Allocator>(
     alloc: A,
     task: &ProblemTask<B>,
@@ -60,6 +63,9 @@ pub(crate) fn best_pieces<A: Allocator + Copy, B: Allocator>(
 ) -> Result<Vec<Piece, A>, OutOfMemory> {
     let table = table_of(alloc, task, order)?;
     let first = best_list(alloc, task, &table)?;
+    if task.len() > MOST_SEARCHED {
+        return lay(alloc, &table, &first);
+    }
     let list = improved(alloc, &table, first, given.effort(task.len()))?;
     lay(alloc, &table, &list)
 }
