@@ -16,13 +16,6 @@ const ABSENCES = ["--bound", "--bounds", "--csv", "--explain", "--fold", "--from
   "--index", "--input", "--json", "--measures", "--order", "--orders", "--schedule", "--steps",
   "--to", "--width", "random", "trace"];
 
-// Sessions that a module of older sources answers otherwise (web/README.md). They go with it.
-const OLDER = ["assessed.txt:20", "assessed.txt:54", "assessed.txt:89", "assessed.txt:151",
-  "assessed.txt:182", "assessed.txt:213", "assessed.txt:279", "assessed.txt:371",
-  "bounds.txt:149", "counted.txt:25", "counted.txt:44", "counted.txt:348", "flow-shops.txt:164",
-  "flow-shops.txt:182", "flow-shops.txt:220", "flow-shops.txt:255", "offered.txt:394",
-  "offered.txt:676", "plan.txt:163", "precedence.txt:51"];
-
 /** Opens the texts of a session in place of files. */
 const opening = (texts) => (name) => {
   if (name !== "-" && texts[name] === undefined) {
@@ -52,7 +45,7 @@ function compared(shown, given) {
   const absent = ABSENT.exec(given.errors);
   if (absent) return absent[1];
   if (isInOtherWords(shown, given)) return "other words";
-  return OLDER.includes(shown.place) ? "older module" : "different";
+  return "different";
 }
 
 test("sessions give the program's bytes and status, or what is not in the module", async (t) => {
@@ -67,7 +60,7 @@ test("sessions give the program's bytes and status, or what is not in the module
   for (const [what, list] of Object.entries(places)) t.diagnostic(`${what}: ${list.length}`);
   assert.deepEqual(places.different ?? [], []);
   assert.ok(places.same.length > sessions.length / 2);
-  const others = ["same", "other words", "older module"];
+  const others = ["same", "other words"];
   const absences = solver.can("plan") ? ABSENCES : [...ABSENCES, "plan"].sort();
   assert.deepEqual(Object.keys(places).filter((what) => !others.includes(what)).sort(), absences);
 });
