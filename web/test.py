@@ -384,8 +384,8 @@ def machines_are_missing(page):
 def bound(page):
     page.example(1)
     page.notation("1||sumwT")
-    expect(page.text("#headline .proved"), "proved lower bound")
-    expect_in("Every schedule has at least the value", page.text("#headline"))
+    expect_in("above the optimum", page.text("#headline .proved"))
+    expect_in("No schedule of these", page.text("#headline"))
     page.click("#problem-notes button")
     page.settle()
     expect(page.text("#headline .proved"), "proved optimal")
