@@ -41,6 +41,7 @@ def checks(program):
         ("sessions over files", [python, "bench/play_sessions.py", program], None),
         ("words without a session", [python, "bench/unseen_words.py"], None),
         ("damaged command lines and texts", [python, "bench/fuzz.py", program, "1", "9000"], None),
+        ("plans of every problem that has bounds", [python, "bench/plans.py", program, "11"], None),
         ("an independent checker", [python, "bench/compare_verify.py", program, "1", "1500"], None),
         ("the same status with --explain", [python, "bench/same_status.py", program], None),
         ("the page's modules", ["node", "--test", *sorted(glob.glob("web/*_test.mjs", root_dir=TOP))], ("node", "nodejs")),
