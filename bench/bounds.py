@@ -20,7 +20,7 @@ COSTS = os.path.join(os.path.dirname(os.path.abspath(__file__)), "best_costs.txt
 
 
 class Measured:
-    """What one run of the program gave: the value, the processor seconds, and the most memory in MB of any run so far."""
+    """What one run of the program gave: status and value, the processor seconds, and the most memory in MB of any run so far."""
 
     def __init__(self, words, text):
         with tempfile.NamedTemporaryFile("w", suffix=".txt", delete=False) as file:
@@ -30,10 +30,10 @@ class Measured:
         after = resource.getrusage(resource.RUSAGE_CHILDREN)
         self.seconds = after.ru_utime + after.ru_stime - before.ru_utime - before.ru_stime
         os.unlink(file.name)
-        if done.returncode != 0:
+        if done.returncode not in (0, 6):
             raise SystemExit(f"{' '.join(words)}: status {done.returncode}: {done.stderr}")
         fields = dict(line.split(" ", 1) for line in done.stdout.splitlines() if " " in line)
-        self.value = int(fields["value"])
+        self.status, self.value = done.returncode, int(fields["value"])
         self.memory = after.ru_maxrss / 1024
 
 
@@ -52,12 +52,18 @@ def gap(cost, bound, text, problem):
     return 100 * (cost - bound) / whole if cost > bound else 0.0
 
 
-def words_for(program, problem, text, steps):
+def words_for(program, command, problem, text, steps):
     """The words of a command line, but for the file."""
     asked = ["--steps", steps] if steps else []
     if text.startswith("instance"):
-        return [program, "bound", "-p", problem, "-f", "flow", "--name", "shop", *asked]
-    return [program, "bound", "-p", problem, *asked]
+        return [program, command, "-p", problem, "-f", "flow", "--name", "shop", *asked]
+    return [program, command, "-p", problem, *asked]
+
+
+def title_of(name):
+    """The name of a family in a cell of a table."""
+    problem, *rest = name.split(", ")
+    return ", ".join([f"`{problem}`".replace("|", "\\|"), *rest])
 
 
 def main(program, word="", steps=None):
@@ -68,15 +74,13 @@ def main(program, word="", steps=None):
     for name, problem, texts in families():
         if word not in name:
             continue
-        runs = [Measured(words_for(program, problem, text, steps), text) for text in texts]
+        runs = [Measured(words_for(program, "bound", problem, text, steps), text) for text in texts]
         gaps = [gap(cost, run.value, text, problem) for cost, run, text in zip(costs[name], runs, texts, strict=True)]
         if "Taillard" in name and any(run.value < published for run, (_, published) in zip(runs, TAILLARD)):
             raise SystemExit("a bound is less than the one that Taillard published")
         mean, proved = sum(gaps) / len(gaps), sum(g == 0 for g in gaps)
         seconds, memory = sum(run.seconds for run in runs) / len(runs), max(memory, *(run.memory for run in runs))
-        problem, *rest = name.split(", ")
-        title = ", ".join([f"`{problem}`".replace("|", "\\|"), *rest])
-        print(f"| {title} | {len(gaps)} | {mean:.2f} | {max(gaps):.2f} | {proved} | {seconds:.3f} |", flush=True)
+        print(f"| {title_of(name)} | {len(gaps)} | {mean:.2f} | {max(gaps):.2f} | {proved} | {seconds:.3f} |", flush=True)
     print(f"\nAt most {memory:.0f} MB.")
 
 

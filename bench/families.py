@@ -8,6 +8,9 @@ import random
 
 FACTORS = (0.2, 0.4, 0.6, 0.8, 1.0)
 
+# the spreads of release dates and tails of Carlier's instances
+SPREADS = (6, 10, 14, 16, 18, 20, 22, 25)
+
 # of Taillard's flow shops of 20 jobs on five machines: the seed, and the lower bound that he published
 TAILLARD = ((873654221, 1232), (379008056, 1290), (1866992158, 1073), (216771124, 1268), (495070989, 1198),
             (402959317, 1180), (1369363414, 1226), (2021925980, 1170), (573109518, 1206), (88325120, 1082))
@@ -22,7 +25,7 @@ def table(jobs, arcs=()):
 def span_of_table(text):
     """The latest release date of a job table and all processing times: one machine alone is done by then."""
     fields = [dict(field.split("=") for field in line.split()[2:]) for line in text.splitlines() if line.startswith("job")]
-    return max(int(job.get("r", 0)) for job in fields) + sum(int(job["p"]) for job in fields)
+    return max(int(job.get("r", 0)) for job in fields) + sum(sum(map(int, job["p"].split(","))) for job in fields)
 
 
 def taillard(seed, jobs, machines):
@@ -95,6 +98,20 @@ def due_anywhere(last, draw):
     return {"p": draw.randint(1, 50), "r": draw.randint(1, last), "d": last - draw.randint(1, last)}
 
 
+def carlier(n, spread, draw):
+    """A table by the generator of Carlier (1982): dates, and tails behind the jobs, up to a spread for each job."""
+    return table([{"p": draw.randint(1, 50), "r": draw.randint(0, n * spread), "d": -draw.randint(0, n * spread)} for _ in range(n)])
+
+
+def shop_due_later(n, draw):
+    """A table of a flow shop of two machines whose jobs are released and due at any time."""
+    jobs = []
+    for _ in range(n):
+        times, release = [draw.randint(1, 100) for _ in range(2)], draw.randint(0, 25 * n)
+        jobs.append({"p": ",".join(map(str, times)), "r": release, "d": release + draw.randint(sum(times), 25 * n)})
+    return table(jobs)
+
+
 def due_soon(last, draw):
     """A job that is due at most 60 time steps after it can be completed."""
     time, release = draw.randint(1, 50), draw.randint(1, last)
@@ -148,6 +165,11 @@ def families():
         made[f"{problem}, 50 jobs"] = drawn(problem, 6, released_table)
     for last in (540, 750):
         made[f"1|rj|Lmax, 30 jobs, dates to {last}"] = dated("1|rj|Lmax", last, due_anywhere)
+    for n in (40, 100):
+        draw = random.Random(f"1|rj|Lmax {n} Carlier")
+        made[f"1|rj|Lmax, {n} jobs (Carlier)"] = ("1|rj|Lmax", [carlier(n, f, draw) for f in SPREADS for _ in range(3)])
+    for n in (40, 100):
+        made[f"F2|rj|Lmax, {n} jobs"] = drawn(f"F2|rj|Lmax {n}", 6, lambda draw, n=n: shop_due_later(n, draw))
     for last in (180, 240):
         made[f"P3|rj|Lmax, 30 jobs, dates to {last}, due soon"] = dated("P3|rj|Lmax", last, due_soon)
     for problem in ("P3|rj,prmp|Lmax", "P3|prmp|Lmax"):

@@ -1,5 +1,6 @@
 //! A list improved.
 use crate::anneal::{Annealing, TRIALS};
+use crate::greedy::{by_insertion, is_by_insertion};
 use crate::search::Search;
 use std::alloc::Allocator;
 use tf_decode::table::TaskTable;
@@ -20,9 +21,8 @@ pub struct SearchEffort {
     pub target: Option<i128>,
 }
 
-/// A list that costs no more by its decoder than the one that it begins with, found by simulated
-/// annealing (Kirkpatrick, Gelatt and Vecchi 1983). It has the same items, and keeps the arcs where
-/// the first one does. Very long lists are returned as they are.
+/// A list that costs no more by its decoder than the one that it begins with. It has the same items,
+/// and keeps the arcs where the first one does. Very long lists are returned as they are.
 pub fn improved<A: Allocator + Copy, B: Allocator>(
     alloc: A,
     table: &TaskTable<B>,
@@ -32,6 +32,19 @@ pub fn improved<A: Allocator + Copy, B: Allocator>(
     if list.len() < 2 || table.jobs.len().saturating_mul(table.machines) > MOST_STATES {
         return Ok(list);
     }
+    if is_by_insertion(table) {
+        return by_insertion(alloc, table, list, effort);
+    }
+    annealed(alloc, table, list, effort)
+}
+
+// A list found by simulated annealing (Kirkpatrick, Gelatt and Vecchi 1983).
+fn annealed<A: Allocator + Copy, B: Allocator>(
+    alloc: A,
+    table: &TaskTable<B>,
+    list: Vec<u32, A>,
+    effort: SearchEffort,
+) -> Result<Vec<u32, A>, OutOfMemory> {
     let mut search = Search::new(alloc, table, list, TRIALS)?;
     for round in 0..ROUNDS {
         if !search.restart(table) {
