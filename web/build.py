@@ -2,6 +2,7 @@
 """Packs the page's sources and the solver's module into one file, web/threefield.html.
 
     web/build.py MODULE.wasm             writes web/threefield.html
+    web/build.py                         writes it from the sources and the module that it holds already
     web/build.py --check MODULE.wasm     says whether that file is what the sources and the module give
     web/build.py --check                 the same for the sources alone, with the module that the file holds
 
@@ -26,6 +27,7 @@ MOST_BYTES = 700_000
 
 IMPORT = re.compile(r'^import (\{[^}]*\}|\* as \w+) from "\./(\w+)\.js";\n', re.MULTILINE)
 EXPORT = re.compile(r"^export (?=(?:async )?(?:function\*?|const|class) (\w+))", re.MULTILINE)
+COMMENT = re.compile(r"^ *(?://.*|/\*\*(?:[^*]|\*(?!/))*\*/)\n", re.MULTILINE)
 MODULE_IN_PAGE = re.compile(r'(<script type="text/plain" id="module-bytes">)([^<]*)(</script>)')
 
 
@@ -54,7 +56,7 @@ def modules_of(folder, entry):
 
 def wrapped(folder, name):
     """A module as a function that is called at once and returns the exports."""
-    text = read(folder, f"{name}.js")
+    text = COMMENT.sub("", read(folder, f"{name}.js"))
     imports = []
     for what, other in IMPORT.findall(text):
         target = what.removeprefix("* as ")
@@ -154,20 +156,21 @@ def check(module, is_lowered):
 def main(words):
     checks = words[:1] == ["--check"]
     files = words[1:] if checks else words
-    if len(files) > 1 or not (checks or files):
+    if len(files) > 1 or words[:1] == ["--help"]:
         sys.exit(__doc__)
     given = Path(files[0]).read_bytes() if files else None
     module = lowered(given) if files else None
     if checks:
         check(module, module != given)
         return
-    text = page(SOURCES, packed(module))
+    text = page(SOURCES, packed(module) if files else module_in(PAGE.read_text(encoding="utf-8")))
     size = len(text.encode())
     if size > MOST_BYTES:
         sys.exit(f"build.py: the page has {size} bytes, more than {MOST_BYTES}")
     PAGE.write_text(text, encoding="utf-8")
     by = f", lowered from 64-bit memory by binaryen {version()}" if module != given else ""
-    print(f"{PAGE.name}: {size} bytes, its module {len(module)} bytes unpacked{by}")
+    which = f"its module {len(module)} bytes unpacked{by}" if files else "with the module that it held"
+    print(f"{PAGE.name}: {size} bytes, {which}")
 
 
 if __name__ == "__main__":
