@@ -59,7 +59,7 @@ test("a schedule of a problem without a solver is judged by its bound", () => {
     evaluate: { status: 0, output: bytes(ASSESSED), errors: "" },
     picture: { status: 0, output: bytes("<svg/>"), errors: "" },
   };
-  const found = judge({ run: ({ command }) => replies[command] }, { jobs: 2 });
+  const found = judge({ run: ({ command }) => replies[command] }, { jobs: 2, isDrawn: true });
   assert.equal(found.verdict, "");
   assert.equal(found.evaluation.gap, "0");
   assert.equal(found.evaluation.completion[1], 4);

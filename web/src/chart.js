@@ -39,6 +39,7 @@ const MOST_LABEL = 140;
  * @property {number} width in pixels
  * @property {boolean} marks whether due and release dates are marked
  * @property {boolean} isPrint whether it is for paper, with lower rows
+ * @property {boolean} isMovable whether bars can have the focus, to be moved
  */
 
 /**
@@ -109,6 +110,29 @@ export function linesForNames(plan, view, page) {
   return lines;
 }
 
+/**
+ * Where a point of a chart is.
+ * @returns {{machine: number, step: number}} the nearest machine, and the time there
+ */
+export function placeAt(plan, view, x, y) {
+  const frame = frameOf(plan, view);
+  const within = (number, most) => Math.min(Math.max(0, Math.floor(number)), most);
+  const line = within(y / frame.lineHeight, view.lines - 1);
+  const row = (y - line * frame.lineHeight - AXIS) / frame.rowHeight;
+  const from = view.from + line * (view.to - view.from) / view.lines;
+  return { machine: within(row, plan.machines - 1) + 1,
+    step: from + (x - frame.left) / frame.pixels };
+}
+
+/** Where the row of a machine is at a time: the point and the height of the row. */
+export function pointOf(plan, view, machine, step) {
+  const frame = frameOf(plan, view);
+  const span = (view.to - view.from) / view.lines;
+  const line = Math.min(Math.max(0, Math.floor((step - view.from) / span)), view.lines - 1);
+  return { x: round(frame.left + (step - view.from - line * span) * frame.pixels),
+    y: line * frame.lineHeight + AXIS + (machine - 1) * frame.rowHeight, height: frame.row };
+}
+
 function frameOf(plan, view) {
   const [, high] = ROW_HEIGHTS.find(([most]) => plan.machines <= most);
   const row = view.isPrint ? Math.min(high, PRINTED_ROW) : high;
@@ -119,7 +143,8 @@ function frameOf(plan, view) {
   const rowHeight = row + (hasMarks ? LANE : 0) + 4;
   const lineHeight = AXIS + plan.machines * rowHeight + GAP;
   return {
-    row, rowHeight, lineHeight, hasMarks, left: labels, right: 14, isNarrow: view.width < 500,
+    row, rowHeight, lineHeight, hasMarks, left: labels, right: 14, isMovable: view.isMovable,
+    isNarrow: view.width < 500,
     width: view.width, height: lineHeight * view.lines,
     pixels: (view.width - labels - 14) / ((view.to - view.from) / view.lines),
   };
@@ -323,7 +348,7 @@ function drawBar(group, plan, frame, row, piece) {
   const inset = width > 8 ? 0.75 : 0;
   const bar = svg("rect", {
     class: `bar fill${plan.colour[job] ?? 0}${isLate ? " late" : ""}${width < 6 ? " thin" : ""}`,
-    "data-job": job,
+    "data-job": job, ...(frame.isMovable ? { tabindex: -1, role: "button" } : {}),
     x: round(left + inset), y: 0.75, width: round(width - 2 * inset), height: frame.row - 1.5,
     rx: width > 8 ? 2 : 0,
   }, svg("title", {}, barTitle(plan, job, row.machine, start, stop)));

@@ -2,6 +2,7 @@
 
 import { drawChart, goodLines, latenessWords, linesForNames } from "./chart.js";
 import { lengthText, momentText } from "./calendar.js";
+import { whyFixed } from "./moving.js";
 import { lateness } from "./plan.js";
 import { html } from "./svg.js";
 
@@ -18,6 +19,8 @@ export class ChartView {
     this.lines = document.getElementById("lines");
     this.marks = document.getElementById("marks");
     this.plan = null;
+    this.chosen = null;
+    this.onDraw = () => {};
     for (const button of document.querySelectorAll("[data-zoom]")) {
       button.addEventListener("click", () => this.zoom(button.dataset.zoom));
     }
@@ -34,13 +37,18 @@ export class ChartView {
 
   /** Shows a plan; the window stays where it is if the plan before was as long. */
   show(plan) {
+    const isSame = plan.jobs === this.plan?.jobs;
     if (plan.length !== this.plan?.length) {
       this.from = 0;
       this.to = Math.max(1, plan.length);
     }
     this.plan = plan;
+    this.fixed = whyFixed(plan);
+    const { chosen } = this;
     this.details.textContent = "";
+    this.chosen = null;
     this.draw();
+    if (isSame && chosen !== null) this.pointAt(chosen);
   }
 
   resize() {
@@ -52,15 +60,24 @@ export class ChartView {
     this.drawnWidth = width ?? Math.max(280, this.frame.clientWidth);
     const scale = width ? 1 : parseFloat(getComputedStyle(document.documentElement).fontSize) / 16;
     const view = { from: this.from, to: this.to, width: this.drawnWidth / scale,
-      marks: this.marks.checked, isPrint: width !== null };
+      marks: this.marks.checked, isPrint: width !== null,
+      isMovable: width === null && this.fixed === "" };
     const chosen = Number(this.lines.value);
     const lines = Math.min(Math.max(1, Math.floor(this.to - this.from)), chosen
       || (width ? linesForNames(this.plan, view, PRINT_HEIGHT)
         : goodLines(this.plan, view, Infinity)));
-    this.chart = drawChart(this.plan, { ...view, lines }, scale);
+    this.view = { ...view, lines };
+    this.scale = scale;
+    this.chart = drawChart(this.plan, this.view, scale);
+    const focused = this.frame.contains(document.activeElement)
+      ? document.activeElement.dataset.job : undefined;
     this.frame.replaceChildren(this.chart);
+    this.frame.setAttribute("role", view.isMovable ? "group" : "img");
     this.frame.setAttribute("aria-label", this.describe());
     this.drawLegend();
+    this.mark();
+    if (focused !== undefined) (this.barOf(focused) ?? this.frame).focus();
+    this.onDraw();
   }
 
   describe() {
@@ -69,7 +86,8 @@ export class ChartView {
       + `${plan.machines === 1 ? "machine" : "machines"}, from `
       + `${momentText(plan.calendar, Math.round(this.from), false)} to `
       + `${momentText(plan.calendar, Math.round(this.to), true)}. `;
-    return `${words}The list below says the same in words. Keys: plus and minus zoom, arrows move.`;
+    return `${words}The list below says the same in words. Keys: plus and minus zoom, arrows scroll`
+      + `${this.view.isMovable ? ", Tab goes to the bars." : "."}`;
   }
 
   // ---- the window ----
@@ -127,9 +145,23 @@ export class ChartView {
       + (plan.isPreempted && plan.pieces[job] > 1 ? ` in ${plan.pieces[job]} pieces` : "")
       + (late === null ? "." : `; due ${momentText(calendar, plan.jobs[job].due, true)}, `
         + `${latenessWords(calendar, late)}.`);
+    this.chosen = job;
+    this.mark();
+    this.onDraw();
+  }
+
+  barOf(job) {
+    return this.frame.querySelector(`.bar[data-job="${job}"]`);
+  }
+
+  /** Marks the bars of the job that is chosen; the Tab key goes to the first of them. */
+  mark() {
     for (const bar of this.frame.querySelectorAll("[data-job]")) {
-      bar.classList.toggle("chosen", Number(bar.dataset.job) === job);
+      bar.classList.toggle("chosen", Number(bar.dataset.job) === this.chosen);
+      if (bar.hasAttribute("tabindex")) bar.setAttribute("tabindex", "-1");
     }
+    const first = this.barOf(this.chosen) ?? this.frame.querySelector(".bar");
+    if (this.view.isMovable) first?.setAttribute("tabindex", "0");
   }
 
   drawLegend() {

@@ -81,7 +81,7 @@ export class Files {
     const { store } = this.page;
     const isLost = store.hasUnsavedWork;
     const hasTimes2 = rows.some((row) => row.time2 !== "");
-    store.change({ rows, kept: null, machineNames, ...(machines ? { machines } : {}),
+    store.change({ rows, kept: null, own: null, machineNames, ...(machines ? { machines } : {}),
       settings: { ...store.state.settings, step: "plain" } });
     this.page.notify(`${name}: ${rows.length} jobs were read.${hasTimes2 ? " They have two times, "
       + "so choose a flow shop or an open shop." : ""} ${faults.slice(0, 3).join(" ")}`

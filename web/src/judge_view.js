@@ -10,6 +10,12 @@ import { valueText } from "./values.js";
 
 const MOST_OUTCOMES = 300;
 
+/** Has the module judge an answer text, and draw it or read its schedule; null if it was stopped. */
+export function judgeText(ask, now, text, isDrawn) {
+  return ask({ ...now.request, kind: "judge", answer: new TextEncoder().encode(text),
+    jobs: now.table.jobs.length, isDrawn });
+}
+
 export class JudgeView {
   /**
    * @param {object} source `request()` gives the table and the request of now, or null;
@@ -66,9 +72,7 @@ export class JudgeView {
   async judge() {
     const now = this.source.request();
     if (!now) return this.say("fault", "First the jobs and the problem have to be in order.");
-    const answer = new TextEncoder().encode(this.at("judge-text").value);
-    const reply = await this.source.ask({ ...now.request, kind: "judge", answer,
-      jobs: now.table.jobs.length });
+    const reply = await judgeText(this.source.ask, now, this.at("judge-text").value, true);
     if (reply) return this.show(reply, now);
     return this.say("fault", "The solver was stopped or can't run, so nothing was judged.");
   }

@@ -12,14 +12,18 @@ const MOST_PRINTED = 3000;
 const alphabet = new Intl.Collator(undefined, { numeric: true });
 
 export class ListView {
-  /** @param {(job: number) => void} onChoose told of the job that is clicked */
-  constructor(onChoose) {
+  /**
+   * @param {(job: number) => void} onChoose told of the job that is clicked
+   * @param {(job: number, way: string) => void} onMove told of a job to move "left" or "right"
+   */
+  constructor(onChoose, onMove) {
     this.table = document.getElementById("list");
     this.sort = document.getElementById("sort");
     this.lateOnly = document.getElementById("late-only");
     this.workLists = document.getElementById("work-lists");
     this.pager = new Pager(document.getElementById("list-pager"), "Lines", () => this.draw());
     this.onChoose = onChoose;
+    this.onMove = onMove;
     this.plan = null;
     this.lines = new Map();
     for (const input of [this.sort, this.lateOnly]) {
@@ -93,6 +97,7 @@ export class ListView {
         heads.map((words) => html("th", { scope: "col" }, words))));
     }
     const before = this.lines;
+    const focused = [...before.values()].find(({ line }) => line.contains(document.activeElement));
     this.lines = new Map();
     for (const item of this.order.subarray(first, end)) {
       const words = columns.map(({ wordsOf }) => wordsOf(item));
@@ -102,6 +107,13 @@ export class ListView {
       this.lines.set(item, isSame ? known : { job, words, line: this.line(job, words, columns) });
     }
     setChildren(this.table.tBodies[0], [...this.lines.values()].map(({ line }) => line));
+    if (focused) this.focus(focused.job);
+  }
+
+  /** Gives a job that is on this page the focus. */
+  focus(job) {
+    const found = [...this.lines.values()].find((each) => each.job === job);
+    found?.line.querySelector("button").focus();
   }
 
   /** The columns of jobs: how late one is stands beside its name, where no width cuts it off. */
@@ -158,12 +170,20 @@ export class ListView {
       const { head, isName, isLateness } = columns[place];
       if (isName) {
         return html("th", { scope: "row" }, html("button", { type: "button", class: "link",
-          click: () => this.onChoose(job) }, each));
+          click: () => this.onChoose(job), keydown: (event) => this.key(event, job) }, each));
       }
       return html("td", { "data-head": head },
         isLateness && isLate ? html("span", { class: "late-words" }, each) : each);
     });
     return html("tr", { class: isLate ? "is-late" : "" }, cells);
+  }
+
+  /** Alt with the arrows moves a job before or behind its neighbour on the machine. */
+  key(event, job) {
+    const way = { ArrowUp: "left", ArrowDown: "right" }[event.key];
+    if (!way || !event.altKey) return;
+    event.preventDefault();
+    this.onMove(job, way);
   }
 
   /** Whether print has a list for each machine: on one machine the list by jobs says it all. */

@@ -10,6 +10,7 @@ import { JudgeView } from "./judge_view.js";
 import { Keeping } from "./keeping.js";
 import { machineNames } from "./machines.js";
 import { hasShown, release } from "./memory.js";
+import { OwnPlan } from "./own_plan.js";
 import { keepPlan, makePlan } from "./plan.js";
 import { PlanView, startOfText } from "./plan_view.js";
 import { PrecedenceView } from "./precedence_view.js";
@@ -38,7 +39,7 @@ class Page {
     this.version = 0;
     this.now = null;
     this.shown = null;
-    this.drawn = null;
+    this.best = null;
     this.problemView = new ProblemView(this.store);
     this.calendarView = new CalendarView(this.store);
     this.rowsView = new RowsView(this.store);
@@ -48,7 +49,11 @@ class Page {
     this.planView = new PlanView({
       keep: () => this.shown && this.store.change({ kept: keepPlan(this.shown.plan) }),
       forget: () => this.store.change({ kept: null }),
+      move: (job, target) => this.own.move(job, target),
     });
+    this.own = new OwnPlan({ store: this.store, request: () => this.now, best: () => this.best,
+      shown: () => this.shown, ask: (request) => this.solving.ask(request),
+      show: () => this.showOwn(), point: (job) => this.planView.chart.pointAt(job) });
     this.judgeView = new JudgeView({
       request: () => this.now, ownAnswer: () => this.shown?.answer ?? null,
       ask: (request) => this.solving.ask(request),
@@ -160,13 +165,16 @@ class Page {
     if (title.value !== state.title) title.value = state.title;
     document.getElementById("undo").disabled = !this.store.canUndo;
     document.getElementById("redo").disabled = !this.store.canRedo;
+    if (isOther("own")) this.own.isAway = false;
+    this.own.say("");
     if (isOther("rows", "problem", "machines", "settings")) {
       this.version++;
       this.planView.setBusy(true);
       this.judgeView.clear();
       clearTimeout(this.timer);
       this.timer = setTimeout(() => this.update(), isTyped ? REST : 0);
-    } else if (isOther("kept", "machineNames")) this.showPlan();
+    } else if (isOther("own")) this.showOwn();
+    else if (isOther("kept", "machineNames")) this.showPlan();
     this.showPrintHead();
   }
 
@@ -241,21 +249,35 @@ class Page {
     return this.showMade(reply, "Solved and evaluated");
   }
 
-  /** Shows the plan of a reply to the request of now. */
-  showMade(reply, words) {
+  /** Shows the plan of a reply to the request of now, or the planner's own plan if there is one. */
+  async showMade(reply, words) {
     const { table, calendar } = this.now;
     const { state } = this.store;
+    const before = this.best;
     const plan = makePlan(table, reply.schedule, reply.evaluation, calendar,
       machineNames(state.machineNames));
     if (reply.isOptimal === false) plan.isOptimal = false;
-    const before = this.drawn;
-    this.shown = { plan, evaluation: reply.evaluation, answer: reply.answer,
+    this.best = { plan, evaluation: reply.evaluation, answer: reply.answer,
       assumptions: assumptionsOf(table, calendar, state) };
-    this.drawn = this.shown;
-    this.showPlan();
-    if (before) release(before.plan, before.plan.schedule, before);
+    this.shown = this.best;
+    if (await this.showOwn() && before) release(before.plan, before.plan.schedule, before);
     document.getElementById("engine").textContent
       = `${words} in ${Math.round(reply.milliseconds)} ms.`;
+  }
+
+  /**
+   * Shows the planner's own plan where there is one, and else the plan that the module made; false
+   * where something has changed meanwhile.
+   */
+  async showOwn() {
+    if (!this.shown) return false;
+    const { version } = this;
+    const { own } = this.store.state;
+    const made = await this.own.made();
+    if (version !== this.version || own !== this.store.state.own) return false;
+    this.shown = made ?? this.best;
+    this.showPlan();
+    return true;
   }
 
   /** Makes the plan from now on, and keeps the one that is shown to compare it with. */
@@ -292,10 +314,13 @@ class Page {
     if (!this.shown) return;
     this.showBeginning(false);
     this.problemView.fold();
-    const { plan, evaluation, answer, assumptions } = this.shown;
-    plan.names = machineNames(this.store.state.machineNames);
-    this.planView.show(plan, evaluation, this.store.state.kept, answer, assumptions);
-    this.promiseView.show(plan);
+    const { plan } = this.shown;
+    const names = machineNames(this.store.state.machineNames);
+    Object.assign(this.best.plan, { names });
+    Object.assign(plan, { names });
+    this.own.draw();
+    this.planView.show(this.shown, this.best, this.store.state.kept);
+    this.promiseView.show(this.best.plan);
     this.showPrintHead();
     this.planView.setBusy(false);
     performance.mark("plan shown");

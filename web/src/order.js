@@ -1,7 +1,7 @@
 // From an order of jobs to a schedule in which each job starts as soon as it can in that order.
 
 import { splitNames } from "./precedence.js";
-import { isShop } from "./problems.js";
+import { isShop, readNotation } from "./problems.js";
 
 /**
  * Reads an order of jobs by names or numbers.
@@ -33,44 +33,92 @@ export function readOrder(text, table) {
 }
 
 /**
- * The answer text of an order. The lines `value` and `cert` are only there because the text has to
- * have them: an evaluation finds the value by itself.
+ * The answer text of an order: each job goes to the machine that is free first.
  * @param {number[]} order
  * @param {{table: object, problem: string}} now
  * @param {object} problem as `readNotation` gives it
  * @param {number} machines
  */
 export function answerOfOrder(order, now, problem, machines) {
-  const { table } = now;
-  const pieces = isShop(problem) ? shopPieces(order, table)
-    : parallelPieces(order, table, machines);
-  return ["answer 2", `problem ${now.problem}`, `jobs ${table.jobs.length}`,
+  if (isShop(problem)) return answerOfRows([order], now, machines);
+  const free = Array(machines).fill(0);
+  const rows = free.map(() => []);
+  const { jobs } = tasksOf(now);
+  for (const place of order) {
+    const machine = free.indexOf(Math.min(...free));
+    free[machine] = Math.max(free[machine], jobs[place].release) + jobs[place].time;
+    rows[machine].push(place);
+  }
+  return answerOfRows(rows, now, machines);
+}
+
+/**
+ * The answer text of what each machine does in order, each job as early as it can. The lines
+ * `value` and `cert` are only there because the text has to have them: an evaluation finds the
+ * value by itself.
+ * @param {number[][]} rows the jobs of each machine; of a flow shop, the one order of both
+ */
+export function answerOfRows(rows, now, machines) {
+  const problem = readNotation(now.problem);
+  const pieces = isShop(problem) ? shopPieces(rows[0], tasksOf(now), problem)
+    : machinePieces(rows, tasksOf(now));
+  return ["answer 2", `problem ${now.problem}`, `jobs ${now.table.jobs.length}`,
     `machines ${machines}`, "value 0", ...pieces.map((piece) => `piece ${piece.join(" ")}`),
     "cert load", "end", ""].join("\n");
 }
 
-/** Each job goes to the machine that is free first, after its release. */
-function parallelPieces(order, table, machines) {
-  const free = Array(machines).fill(0);
-  return order.map((place) => {
-    const { time, release } = table.jobs[place];
-    const machine = free.indexOf(Math.min(...free));
-    const start = Math.max(free[machine], release);
-    free[machine] = start + time;
-    return [place + 1, machine + 1, start, free[machine]];
-  });
+/** The jobs with what the problem uses of them: release dates, and the jobs that come before. */
+function tasksOf({ table, problem }) {
+  const { conditions } = readNotation(problem);
+  const has = (id) => conditions.includes(id);
+  const before = table.jobs.map(() => []);
+  if (has("prec")) for (const [first, then] of table.arcs) before[then].push(first);
+  return { before, jobs: table.jobs.map(({ time, release, fields }) =>
+    ({ time, release: has("rj") ? release : 0, fields })) };
+}
+
+/**
+ * Each job waits for its release, for the machine's job before it and for all that come before.
+ * Where the machines wait for one another, one of them doesn't: what the module says of that
+ * schedule is why there is none.
+ */
+function machinePieces(rows, { jobs, before }) {
+  const free = rows.map(() => 0);
+  const done = rows.map(() => 0);
+  const stops = new Map();
+  const hasWork = (machine) => done[machine] < rows[machine].length;
+  const isReady = (machine) => hasWork(machine)
+    && before[rows[machine][done[machine]]].every((each) => stops.has(each));
+  const machines = rows.map((_, machine) => machine);
+  const pieces = [];
+  for (;;) {
+    const machine = machines.find(isReady) ?? machines.find(hasWork);
+    if (machine === undefined) return pieces;
+    const place = rows[machine][done[machine]++];
+    const start = Math.max(free[machine], jobs[place].release,
+      ...before[place].map((each) => stops.get(each) ?? 0));
+    free[machine] = start + jobs[place].time;
+    stops.set(place, free[machine]);
+    pieces.push([place + 1, machine + 1, start, free[machine]]);
+  }
 }
 
 /** Each job goes to machine 1, and then to machine 2, in the same order on both. */
-function shopPieces(order, table) {
+function shopPieces(order, { jobs, before }, { conditions }) {
   const free = [0, 0];
+  const stops = new Map();
+  const waits = !conditions.includes("nwt");
   return order.flatMap((place) => {
-    const times = /p=(\d+),(\d+)/.exec(table.jobs[place].fields).slice(1).map(Number);
-    return times.flatMap((time, machine) => {
-      const start = machine === 0 ? free[0] : Math.max(free[0], free[1]);
-      if (time === 0) return [];
-      free[machine] = start + time;
-      return [[place + 1, machine + 1, start, start + time]];
-    });
+    const times = /p=(\d+),(\d+)/.exec(jobs[place].fields).slice(1).map(Number);
+    const start = Math.max(times[0] === 0 ? 0 : free[0], jobs[place].release,
+      waits ? 0 : free[1] - times[0], ...before[place].map((each) => stops.get(each) ?? 0));
+    const ready = start + times[0];
+    const second = times[1] === 0 ? ready : Math.max(ready, free[1]);
+    const pieces = [[place + 1, 1, start, ready], [place + 1, 2, second, second + times[1]]];
+    for (const [, machine, , stop] of pieces) {
+      if (times[machine - 1] > 0) free[machine - 1] = stop;
+    }
+    stops.set(place, second + times[1]);
+    return pieces.filter((_, k) => times[k] > 0);
   });
 }

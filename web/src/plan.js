@@ -40,6 +40,7 @@ export function makePlan(table, schedule, evaluation, calendar, names) {
     isPreempted: !/^\s*[FOJ]/.test(schedule.problem) && pieces.some((each) => each > 1),
     length: schedule.stop.reduce((most, stop) => Math.max(most, stop), 0),
     value: schedule.value, problem: schedule.problem, bound: schedule.bound, isOptimal: true,
+    gap: schedule.bound ? String(BigInt(schedule.value) - BigInt(schedule.bound.value)) : undefined,
   };
 }
 

@@ -4,22 +4,25 @@ import { lengthText } from "./calendar.js";
 import { boundReason, optimumReason } from "./certificates.js";
 import { ChartView } from "./chart_view.js";
 import { ListView } from "./list_view.js";
+import { MovingView } from "./moving_view.js";
 import { comparePlans, measures } from "./plan.js";
 import { html } from "./svg.js";
-import { leastWords, objectiveWords, valueText } from "./values.js";
+import { gapWords, leastWords, objectiveWords, valueText } from "./values.js";
 
 const MOST_NAMED = 8;
 const LONGEST_TEXT = 40000;
 
 export class PlanView {
   /**
-   * @param {object} actions `keep`, `forget`, `stop`: what the buttons do
+   * @param {object} actions `keep`, `forget`: what the buttons do; `move`, as `MovingView` has it
    */
   constructor(actions) {
     this.actions = actions;
     this.at = (id) => document.getElementById(id);
     this.chart = new ChartView();
-    this.list = new ListView((job) => this.chart.pointAt(job));
+    this.moving = new MovingView(this.chart, actions.move);
+    this.list = new ListView((job) => this.chart.pointAt(job),
+      (job, way) => this.moving.step(job, way));
     this.plan = null;
   }
 
@@ -43,33 +46,41 @@ export class PlanView {
   }
 
   /**
-   * Shows a plan.
-   * @param {object} plan
-   * @param {?object} evaluation of a plan of an exact method
-   * @param {?object} kept
-   * @param {Uint8Array} answer
-   * @param {{short: string, long: string}[]} assumptions
+   * What is shown of a plan.
+   * @typedef {object} Shown
+   * @property {object} plan @property {?object} evaluation of a plan of an exact method
+   * @property {Uint8Array} answer @property {{short: string, long: string}[]} assumptions
    */
-  show(plan, evaluation, kept, answer, assumptions) {
+
+  /**
+   * Shows a plan.
+   * @param {Shown} shown
+   * @param {Shown} best what the module made; the same, or the planner's own plan is shown
+   * @param {?object} kept
+   */
+  show({ plan, answer, assumptions }, best, kept) {
     this.plan = plan;
     this.at("plan").classList.remove("is-old");
     this.at("plan-body").hidden = false;
-    this.showHeadline(plan, assumptions);
+    this.showHeadline(plan, best.plan, assumptions);
     this.showMeasures(plan);
-    this.showCertificate(plan, evaluation);
+    this.showCertificate(best.plan, best.evaluation, plan.isOwn);
     const comparison = kept ? comparePlans(kept, plan) : null;
     this.showChanges(plan, kept, comparison);
     this.chart.show(plan);
     this.list.show(plan, comparison);
     this.at("answer-text").textContent = startOfText(answer);
+    this.at("answer-details").querySelector("summary").textContent
+      = plan.isOwn ? "Your plan as an answer text" : "The solver’s answer as text";
   }
 
-  showHeadline(plan, assumptions) {
+  showHeadline(plan, best, assumptions) {
     this.at("headline").replaceChildren(
       html("p", { class: "value" }, badgeOf(plan), html("span", {},
-        `${objectiveWords(plan.problem)}: `,
+        `${plan.isOwn ? "Your plan. " : ""}${objectiveWords(plan.problem)}: `,
         html("strong", {}, valueText(plan.calendar, plan.problem, plan.value)))),
-      html("p", {}, optimumWords(plan), ...lateWords(plan)), this.assumed(assumptions));
+      html("p", {}, plan.isOwn ? `${bestWords(best)} ` : "", optimumWords(best),
+        ...lateWords(plan)), this.assumed(assumptions));
     this.at("headline").className = `headline ${plan.isOptimal ? "good" : "near"}`;
   }
 
@@ -89,12 +100,13 @@ export class PlanView {
   }
 
   /** Why no schedule is better, or than which value none is. */
-  showCertificate(plan, evaluation) {
+  showCertificate(plan, evaluation, isOwn) {
     const place = this.at("certificate");
     place.hidden = !evaluation && (!plan.bound || isTrivial(plan) && !plan.isOptimal);
     if (place.hidden) return;
-    place.querySelector("summary").textContent = plan.isOptimal ? "Why no schedule is better"
-      : `Why no schedule has ${leastWords(plan.calendar, plan.problem, plan.bound.value)}`;
+    place.querySelector("summary").textContent = plan.isOptimal && !isOwn
+      ? "Why no schedule is better" : `Why no schedule has ${leastWords(plan.calendar,
+        plan.problem, plan.bound?.value ?? plan.value)}`;
     const reason = evaluation ? optimumReason(plan, evaluation) : boundReason(plan);
     place.querySelector("div").replaceChildren(...reason.filter(Boolean));
   }
@@ -120,10 +132,14 @@ export class PlanView {
 /** How near the plan is to the optimum: proved, or nothing where no bound is known. */
 function badgeOf(plan) {
   if (plan.isOptimal) return html("span", { class: "proved" }, "proved optimal");
-  if (!plan.bound) return null;
-  const gap = BigInt(plan.value) - BigInt(plan.bound.value);
-  const words = valueText(plan.calendar, plan.problem, String(gap));
-  return html("span", { class: "proved" }, `at most ${words} above the optimum`);
+  const words = gapWords(plan);
+  return words && html("span", { class: "proved" }, words);
+}
+
+/** What the plan that the module made comes to, beside the planner's own. */
+function bestWords({ isOptimal, calendar, problem, value }) {
+  return `The ${isOptimal ? "optimal plan" : "plan that was found"} has ${valueText(calendar,
+    problem, value)}.`;
 }
 
 /** Whether the bound says only what holds of every sum: that none is below 0. */

@@ -78,7 +78,7 @@ export class PromiseView {
     const { calendar } = plan;
     const late = plan.jobs.filter((_, job) => lateness(plan, job) > 0).length;
     const others = late === 0 ? "With that date no order is late."
-      : `With that date no order is later than in this plan: ${late === 1 ? "the one that is"
+      : `With that date no order is later than in the optimal plan: ${late === 1 ? "the one that is"
         : `the ${late} that are`} late now may be done when the plan has it done.`;
     const step = calendar ? `A step of ${lengthText(calendar, 1)}` : "One";
     const row = { ...order.texts, due: momentField(calendar, found.due, true) };

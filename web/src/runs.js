@@ -25,18 +25,22 @@ export function plan(solver, request) {
     evaluation: readEvaluation(evaluated.output, schedule.jobs) };
 }
 
-/** Checks and evaluates anybody's answer to a problem of `request.jobs` jobs, and draws it. */
+/**
+ * Checks and evaluates anybody's answer to a problem of `request.jobs` jobs, and draws it if
+ * `request.isDrawn`, or else reads its schedule.
+ */
 export function judge(solver, request) {
   const checked = solver.run({ ...request, command: "check" });
   const evaluated = solver.run({ ...request, command: "evaluate", certificate: true });
-  const drawn = solver.run({ ...request, command: "picture" });
+  const drawn = request.isDrawn ? solver.run({ ...request, command: "picture" }) : null;
   return {
     status: checked.status, errors: checked.errors,
     verdict: new TextDecoder().decode(checked.output).trim(),
     evaluation: evaluated.output.length > 0
       ? readEvaluation(evaluated.output, request.jobs) : null,
     evaluated: { status: evaluated.status, errors: evaluated.errors },
-    picture: drawn.status === 0 && drawn.output.length < LARGEST_PICTURE ? drawn.output : null,
+    picture: drawn?.status === 0 && drawn.output.length < LARGEST_PICTURE ? drawn.output : null,
+    schedule: drawn ? null : readAnswer(request.answer),
   };
 }
 

@@ -14,24 +14,33 @@ export const LONGEST_LINK = 16000;
  * @property {string} title @property {string} problem the notation @property {string} machines
  * @property {string} machineNames as `machineNames` reads them
  * @property {object} settings of the calendar @property {object[]} rows @property {?object} kept
+ * @property {?number[][]} own the planner's own plan: the rows of the jobs of each machine in order,
+ *   by their identities
  */
 
 /** @returns {State} */
 export function emptyState() {
   return { title: "", problem: "1||Lmax", machines: "", machineNames: "",
-    settings: defaultSettings(), rows: [], kept: null };
+    settings: defaultSettings(), rows: [], kept: null, own: null };
 }
 
 /** Writes a state as JSON; rows are lists of texts in the order of FIELDS, after their identity. */
 export function writeState(state) {
   const rows = state.rows.map((row) => [row.id, ...FIELDS.map((field) => row[field])]);
-  return JSON.stringify({ threefield: 1, ...state, rows });
+  return JSON.stringify({ threefield: 1, ...state, rows, own: placesOfOwn(state) });
+}
+
+/** The own plan with the places of its rows; those that are gone are left out. */
+function placesOfOwn({ own, rows }) {
+  if (!own) return null;
+  const places = new Map(rows.map(({ id }, place) => [id, place]));
+  return own.map((row) => row.map((id) => places.get(id)).filter((place) => place !== undefined));
 }
 
 /** Whether two states are the same work, whatever the identities of their rows. */
 export function isSameWork(one, other) {
-  const text = (state) => writeState({ ...state, kept: null,
-    rows: state.rows.map((row) => ({ ...row, id: 0 })) });
+  const text = (state) => writeState({ ...state, kept: null, own: placesOfOwn(state),
+    rows: state.rows.map((row, place) => ({ ...row, id: place })) });
   return one.rows.length === other.rows.length && text(one) === text(other);
 }
 
@@ -63,7 +72,16 @@ export function readState(text) {
     return row;
   });
   state.kept = readKept(data.kept, identities);
+  state.own = readOwn(data.own, state.rows);
   return state;
+}
+
+/** The own plan: each row at most once, by the identity that it has now. */
+function readOwn(data, rows) {
+  if (!Array.isArray(data) || data.length > 1000 || !data.every(Array.isArray)) return null;
+  const free = new Set(rows.keys());
+  return data.map((row) => row.filter((place) => free.delete(place))
+    .map((place) => rows[place].id));
 }
 
 function textOr(value, otherwise) {

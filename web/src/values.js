@@ -23,6 +23,13 @@ export function valueText(calendar, notation, value) {
   return lengthText(calendar, number);
 }
 
+/** How far a plan is from the optimum, to end a sentence with; null where that is not known. */
+export function gapWords({ isOptimal, gap, isExact, calendar, problem }) {
+  if (isOptimal) return "optimal";
+  if (gap === undefined) return null;
+  return `${isExact ? "" : "at most "}${valueText(calendar, problem, gap)} above the optimum`;
+}
+
 /** What a problem minimizes, to begin a sentence with: “Maximum lateness”. */
 export function objectiveWords(notation) {
   const { objective } = readNotation(notation) ?? { objective: "Cmax" };
