@@ -126,6 +126,11 @@ class Browser:
         self.call("Emulation.setDeviceMetricsOverride",
                   width=width, height=height, deviceScaleFactor=scale, mobile=False)
 
+    def touchable(self, width, height):
+        """A phone: touch takes the place of the mouse."""
+        self.call("Emulation.setDeviceMetricsOverride", width=width, height=height, deviceScaleFactor=1, mobile=True)
+        self.call("Emulation.setTouchEmulationEnabled", enabled=True, maxTouchPoints=1)
+
     def dark(self, is_dark):
         scheme = "dark" if is_dark else "light"
         self.call("Emulation.setEmulatedMedia", features=[{"name": "prefers-color-scheme", "value": scheme}])
@@ -151,10 +156,21 @@ class Browser:
         else:
             self.press("Delete")
 
-    def press(self, key):
+    def mouse(self, kind, x, y):
+        """Moves the mouse with its button held, or presses or releases it."""
+        self.call("Input.dispatchMouseEvent", type=kind, x=x, y=y, button="left", buttons=1, clickCount=1)
+
+    def touch(self, points):
+        """Puts a finger on the first point, moves it over the others, and lifts it."""
+        for k, (x, y) in enumerate(points):
+            self.call("Input.dispatchTouchEvent", type="touchMove" if k else "touchStart", touchPoints=[{"x": x, "y": y}])
+            time.sleep(0.02)
+        self.call("Input.dispatchTouchEvent", type="touchEnd", touchPoints=[])
+
+    def press(self, key, modifiers=0):
         name, code, text = KEYS.get(key, (key, ord(key[0].upper()), key if len(key) == 1 else None))
         code = {"Delete": 46}.get(key, code)
-        down = {"type": "keyDown", "key": name, "windowsVirtualKeyCode": code}
+        down = {"type": "keyDown", "key": name, "windowsVirtualKeyCode": code, "modifiers": modifiers}
         self.call("Input.dispatchKeyEvent", **down, **({"text": text} if text else {}))
         self.call("Input.dispatchKeyEvent", type="keyUp", key=name, windowsVirtualKeyCode=code)
 

@@ -38,7 +38,7 @@ globalThis.document = {
     measureText: (text) => ({ width: text.length * LETTER }) }) }),
 };
 
-const { drawChart, linesForNames } = await load("chart");
+const { drawChart, linesForNames, placeAt, pointOf } = await load("chart");
 const { defaultSettings, makeCalendar } = await load("calendar");
 const { makePlan } = await load("plan");
 const { newRow } = await load("table");
@@ -100,6 +100,26 @@ test("names that begin alike are told apart, and others are cut in the middle", 
   assert.deepEqual(namesIn(drawChart(others, view(others, 320))),
     ["Annual r…cover", "Labels,…large", "Wedding c…gold"]);
   assert.deepEqual(namesIn(drawChart(others, view(others, 130))), ["#1", "#2", "#3"]);
+});
+
+test("a point is on a machine at a time, in each line of the chart", async () => {
+  const plan = await planOf(["A", "B", "C"], [20, 28, 12]);
+  for (const lines of [1, 3]) {
+    for (const step of [0, 19, 21, 59.5]) {
+      const { x, y, height } = pointOf(plan, view(plan, 900, lines), 1, step);
+      const at = placeAt(plan, view(plan, 900, lines), x, y + height / 2);
+      assert.deepEqual([at.machine, Math.round(at.step * 10) / 10], [1, step]);
+    }
+  }
+  assert.equal(placeAt(plan, view(plan, 900), 500, -40).machine, 1);
+  assert.equal(placeAt(plan, view(plan, 900, 3), 500, 9999).machine, 1);
+});
+
+test("bars can have the focus where they are moved", async () => {
+  const plan = await planOf(["A", "B"], [20, 28]);
+  const bars = (isMovable) => drawChart(plan, { ...view(plan, 900), isMovable }).of("bar")
+    .map(({ attributes }) => attributes.tabindex);
+  assert.deepEqual([bars(true), bars(false)], [["-1", "-1"], [undefined, undefined]]);
 });
 
 test("print takes as many lines as most names need, and as the page has room for", async () => {

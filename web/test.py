@@ -548,6 +548,166 @@ def chart(page):
     expect(page.run("document.querySelectorAll('.chart .links path').length"), 1)
 
 
+# ---- moved bars ----
+
+def moved(page):
+    """What is said of a move, when it was judged."""
+    page.wait("!/^(Judging|$)/.test(document.getElementById('moved').innerText)")
+    return page.text("#moved").removesuffix(" proved")
+
+
+def drag(page, job, x, y=0, to=5):
+    """Drags the bar of a job, and stops before it is dropped."""
+    left, top = page.run(f"""(() => {{
+        const bar = document.querySelector('.bar[data-job="{job}"]');
+        bar.scrollIntoView({{ block: "center" }});
+        const box = bar.getBoundingClientRect();
+        return [box.left + box.width / 2, box.top + box.height / 2];
+    }})()""")
+    page.browser.mouse("mousePressed", left, top)
+    for k in range(1, to + 1):
+        page.browser.mouse("mouseMoved", left + x * k / to, top + y * k / to)
+    return left + x, top + y
+
+
+def jobs_in_bars(page):
+    return page.run("[...document.querySelectorAll('.chart .bar')].map((bar) => Number(bar.dataset.job) + 1)")
+
+
+def headline(page):
+    return page.text("#headline .value")
+
+
+@way
+def bars_by_mouse(page):
+    """A bar is dragged, and what that costs is said at once; undo, redo, and back to the optimal plan."""
+    page.example(0)
+    expect(jobs_in_bars(page)[:4], [3, 1, 4, 10])
+    page.browser.mouse("mouseReleased", *drag(page, 2, 300))
+    expect(moved(page), "“Business cards Meyer” is moved: allowed, costs 2 h more, 2 h above the optimum.")
+    expect(jobs_in_bars(page)[:5], [1, 4, 10, 5, 3])
+    expect_in("2 h above the optimumYour plan. Maximum lateness: 13 h", headline(page))
+    expect_in("The optimal plan has 11 h. No schedule of these 12 jobs has a smaller value. 4 jobs are late.",
+              page.text("#headline"))
+    expect(page.texts("#list tbody th")[:2], ["Plates, spring catalogue", "Menu “Zum Anker”"])
+    expect_in("Business cards Meyer: Wed 5 Mar 11:00", page.text("#chart-details"))
+    at = drag(page, 2, -300)
+    page.browser.press("Escape")
+    page.browser.mouse("mouseReleased", *at)
+    expect(jobs_in_bars(page)[:5], [1, 4, 10, 5, 3], "Escape lets go")
+    press_with_control(page, "z")
+    page.wait("/^proved optimal/.test(document.querySelector('#headline .value').innerText)")
+    expect(jobs_in_bars(page)[:4], [3, 1, 4, 10])
+    expect(page.run("document.getElementById('own').hidden"), True)
+    press_with_control(page, "y")
+    page.wait("/Your plan/.test(document.getElementById('headline').innerText)")
+    page.click("#own-show")
+    page.wait("/^proved optimal/.test(document.querySelector('#headline .value').innerText)")
+    expect(page.text("#own-show"), "Show your plan")
+    page.click("#own-show")
+    page.wait("/Your plan/.test(document.getElementById('headline').innerText)")
+    page.put(12, "time", "5 h")
+    expect_in("Your plan. Maximum lateness: 13 h", headline(page))
+    page.run("location.reload()")
+    page.wait("document.querySelector('#own:not([hidden])')")
+    expect(jobs_in_bars(page)[:5], [1, 4, 10, 5, 3], "kept over a reload")
+    page.click("#own-forget")
+    page.wait("/^proved optimal/.test(document.querySelector('#headline .value').innerText)")
+    expect(page.run("document.getElementById('own').hidden"), True)
+
+
+@way
+def bars_by_keyboard(page):
+    """A bar that has the focus goes before its neighbour; a forbidden move says why; rows of the list move too."""
+    page.example(1)
+    page.run("document.getElementById('chart-frame').focus()")
+    page.browser.press("Tab")
+    expect(page.run("document.activeElement.dataset.job"), "0")
+    page.browser.press("ArrowDown")
+    page.browser.press("ArrowDown")
+    expect(page.text("#chart-details"), "Drilling: 4 to 6, 2 of work; due 6, just on time.")
+    page.browser.press("ArrowLeft")
+    expect(moved(page), "“Drilling” is moved: allowed, costs the same, optimal.")
+    expect(page.run("document.activeElement.dataset.job"), "1", "the focus stays on the bar")
+    page.browser.press("ArrowUp")
+    page.browser.press("ArrowLeft")
+    expect(moved(page), "“Cutting” can't go further that way.")
+    page.run("document.querySelector('.bar[data-job=\"2\"]').focus()")
+    for wanted in ("“Painting” is moved: allowed, costs 4 more, 4 above the optimum.",
+                   "“Painting” is moved: allowed, costs the same, 4 above the optimum.",
+                   "“Painting” was not moved: “Painting” starts before “Cutting” is completed."):
+        page.run("document.getElementById('moved').replaceChildren()")
+        page.browser.press("ArrowLeft")
+        expect(moved(page), wanted)
+    expect(jobs_in_bars(page), [1, 3, 2, 4])
+    page.run("document.querySelectorAll('#list tbody th button')[1].focus()")
+    page.browser.press("ArrowDown", 1)
+    page.wait("/is moved/.test(document.getElementById('moved').innerText)")
+    expect(jobs_in_bars(page), [1, 2, 3, 4])
+    expect(page.run("document.activeElement.innerText"), "Painting", "the focus stays in the list")
+    press_with_control(page, "z")
+    page.wait("document.getElementById('moved').innerText === ''")
+    page.wait("document.querySelectorAll('.chart .bar')[1].dataset.job === '2'")
+    expect(jobs_in_bars(page), [1, 3, 2, 4])
+    expect(page.run("document.getElementById('chart-frame').getAttribute('role')"), "group", "a screen reader gets to the bars")
+    page.put(1, "after", "Painting")
+    page.put(3, "after", "")
+    expect_in("Your plan is not shown: “Cutting” starts before “Painting” is completed.", page.text("#moved"))
+    expect_in("proved optimal", headline(page))
+
+
+@way
+def bars_on_several_machines(page):
+    """A bar is dropped on another machine, and the buttons do the same; what isn't moved says so."""
+    page.example(2)
+    expect(page.text("#move-words"), "Jobs of this plan are done in pieces, so bars are not moved.")
+    page.notation("P||sumC")
+    page.click('.bar[data-job="3"]')
+    page.click('[data-move="up"]')
+    expect(moved(page), "“Disc” is moved: allowed, costs 4 more, 4 above the optimum.")
+    page.browser.mouse("mouseReleased", *drag(page, 3, 0, 40))
+    page.wait("/costs 4 less, optimal/.test(document.getElementById('moved').innerText)")
+    page.example(3)
+    page.browser.mouse("mouseReleased", *drag(page, 3, 300))
+    expect(moved(page), "“D” is moved: allowed, costs 1 more, 1 above the optimum.")
+    expect(jobs_in_bars(page), [3, 1, 5, 4, 2] * 2, "one order on both machines")
+    page.notation("O2||Cmax")
+    expect(page.text("#move-words"), "Bars of an open shop are not moved.")
+    page.example(1)
+    page.notation("1|prec|sumwT")
+    page.run("document.querySelector('.bar[data-job=\"1\"]').focus()")
+    page.browser.press("ArrowLeft")
+    expect_in("allowed, costs", moved(page))
+    expect_in("at most", moved(page))
+
+
+@way
+def bars_by_touch(page):
+    """On a phone the page scrolls over the chart; a bar that was tapped is dragged sideways."""
+    page.browser.touchable(360, 740)
+    page.example(0)
+
+    def touch(x, y):
+        left, top = page.run("""(() => {
+            const bar = document.querySelector('.bar[data-job="8"]');
+            bar.scrollIntoView({ block: "center" });
+            const box = bar.getBoundingClientRect();
+            return [box.left + box.width / 2, box.top + box.height / 2];
+        })()""")
+        before = page.run("scrollY")
+        page.browser.touch([(left + x * k / 8, top + y * k / 8) for k in range(9 if x or y else 1)])
+        page.run("new Promise((resolve) => setTimeout(resolve, 300))")
+        return page.run("scrollY") - before
+
+    expect(touch(0, -150) > 50, True, "the page scrolls")
+    expect([touch(-120, 0), page.text("#moved")], [0, ""], "a bar that was not tapped stays")
+    touch(0, 0)
+    expect(touch(0, -150) > 50, True, "the page scrolls")
+    touch(-120, 0)
+    expect(moved(page), "“Labels, dairy” is moved: allowed, costs the same, optimal.")
+    expect(page.run("document.documentElement.scrollWidth"), 360)
+
+
 @way
 def printing(page):
     """A4 landscape, with the title, and without the page's own parts."""
@@ -935,6 +1095,19 @@ def list_keeps_its_columns(page):
     tops = page.run("['.plan', '.jobs'].map((each) => document.querySelector(each).getBoundingClientRect().top)")
     if tops[0] > tops[1]:
         raise AssertionError("the jobs stand before the plan on a phone")
+
+
+@way
+def jobs_keep_their_columns(page):
+    """Five columns of the job table are not cut off at the widths of laptops."""
+    for number, notation in ((0, "1|prec|sumwT"), (3, "F2||Cmax")):
+        page.example(number)
+        page.notation(notation)
+        for width in (1200, 1280, 1366, 1920):
+            page.browser.size(width, 800)
+            page.run("new Promise((resolve) => setTimeout(resolve, 100))")
+            if page.run("(() => { const it = document.getElementById('jobs-scroll'); return it.scrollWidth > it.clientWidth; })()"):
+                raise AssertionError(f"the jobs are cut off at {width} pixels")
 
 
 @way

@@ -83,10 +83,11 @@ export function identitiesOf(rows, jobs) {
 /**
  * The rows of identities as places of the jobs of now. Jobs that are gone are left out; new ones
  * come last, on the machine that has the least work.
- * @returns {?number[][]} null where none of the jobs is there, or the machines are others
+ * @returns {?number[][]} null where none of the jobs is there, the jobs are too many, or the
+ *   machines are others
  */
 export function placesOf(own, jobs, machines, problem) {
-  if (own.length !== (isShop(problem) ? 1 : machines)) return null;
+  if (own.length !== (isShop(problem) ? 1 : machines) || jobs.length > MOST_MOVED) return null;
   const places = new Map(jobs.map(({ id }, place) => [id, place]));
   const rows = own.map((row) => row.map((id) => places.get(id))
     .filter((place) => place !== undefined));

@@ -2,7 +2,7 @@
 
 import { placeAt, pointOf } from "./chart.js";
 import { targetAt, targetBeside } from "./moving.js";
-import { svg } from "./svg.js";
+import { html, svg } from "./svg.js";
 
 const SLOP = 6;
 const WAYS = { ArrowLeft: "left", ArrowRight: "right", ArrowUp: "up", ArrowDown: "down" };
@@ -45,10 +45,12 @@ export class MovingView {
     for (const way of ["up", "down"]) {
       tools.querySelector(`[data-move="${way}"]`).hidden = !hasMachines;
     }
-    this.at("move-words").textContent = !isMovable ? fixed : "Move a bar to see what that costs: "
-      + "drag it (with a finger, tap it first), or choose it and press ← or →"
-      + `${hasMachines ? ", or Shift with ↑ or ↓ for another machine" : ""}. ↑ and ↓ choose the next `
-      + "bar. In the list, press Alt with ↑ or ↓.";
+    const words = (kind, text) => html("span", { class: kind }, text);
+    this.at("move-words").replaceChildren(...isMovable ? [
+      "Move a bar to see what that costs: ", words("touch", "tap it, then drag it sideways, or press "
+        + "the buttons that come."), words("keys", "drag it, or choose it and press ← or →"
+        + `${hasMachines ? ", or Shift with ↑ or ↓ for another machine" : ""}. ↑ and ↓ choose the `
+        + "next bar. In the list, press Alt with ↑ or ↓.")] : [fixed]);
   }
 
   /** Moves a job by one place, or to the next machine. */
@@ -119,8 +121,9 @@ export class MovingView {
     const rect = held.bar.cloneNode();
     rect.setAttribute("x", x);
     rect.setAttribute("y", y);
-    held.ghost = svg("g", { class: "ghost" }, rect, svg("text", { class: "name", x: x + 4,
-      y: y + bar.height / scale / 2 + 4 }, plan.jobs[held.job].name));
+    held.ghost = svg("g", { class: "ghost" }, rect, svg("text", { class: "name", "text-anchor": "middle",
+      x: (held.x - box.left) / scale, y: y + bar.height / scale / 2 + 4 },
+    plan.jobs[held.job].name));
     held.bar.classList.add("dragged");
     held.mark = svg("path", { class: "drop" });
     chart.append(held.mark, held.ghost);

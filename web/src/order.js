@@ -77,12 +77,19 @@ function tasksOf({ table, problem }) {
     ({ time, release: has("rj") ? release : 0, fields })) };
 }
 
+/** When a job can start: after its release, and after the jobs before it that have a stop. */
+function earliest(place, { jobs, before }, stops) {
+  return before[place].reduce((most, each) => Math.max(most, stops.get(each) ?? 0),
+    jobs[place].release);
+}
+
 /**
  * Each job waits for its release, for the machine's job before it and for all that come before.
  * Where the machines wait for one another, one of them doesn't: what the module says of that
  * schedule is why there is none.
  */
-function machinePieces(rows, { jobs, before }) {
+function machinePieces(rows, tasks) {
+  const { jobs, before } = tasks;
   const free = rows.map(() => 0);
   const done = rows.map(() => 0);
   const stops = new Map();
@@ -95,8 +102,7 @@ function machinePieces(rows, { jobs, before }) {
     const machine = machines.find(isReady) ?? machines.find(hasWork);
     if (machine === undefined) return pieces;
     const place = rows[machine][done[machine]++];
-    const start = Math.max(free[machine], jobs[place].release,
-      ...before[place].map((each) => stops.get(each) ?? 0));
+    const start = Math.max(free[machine], earliest(place, tasks, stops));
     free[machine] = start + jobs[place].time;
     stops.set(place, free[machine]);
     pieces.push([place + 1, machine + 1, start, free[machine]]);
@@ -104,14 +110,15 @@ function machinePieces(rows, { jobs, before }) {
 }
 
 /** Each job goes to machine 1, and then to machine 2, in the same order on both. */
-function shopPieces(order, { jobs, before }, { conditions }) {
+function shopPieces(order, tasks, { conditions }) {
+  const { jobs } = tasks;
   const free = [0, 0];
   const stops = new Map();
   const waits = !conditions.includes("nwt");
   return order.flatMap((place) => {
     const times = /p=(\d+),(\d+)/.exec(jobs[place].fields).slice(1).map(Number);
-    const start = Math.max(times[0] === 0 ? 0 : free[0], jobs[place].release,
-      waits ? 0 : free[1] - times[0], ...before[place].map((each) => stops.get(each) ?? 0));
+    const start = Math.max(earliest(place, tasks, stops), times[0] === 0 ? 0 : free[0],
+      waits ? 0 : free[1] - times[0]);
     const ready = start + times[0];
     const second = times[1] === 0 ? ready : Math.max(ready, free[1]);
     const pieces = [[place + 1, 1, start, ready], [place + 1, 2, second, second + times[1]]];

@@ -87,7 +87,7 @@ export class OwnPlan {
     const { plan, assumptions } = this.source.best();
     const { table } = now;
     const rows = placesOf(own, table.jobs, plan.machines, readNotation(now.problem));
-    if (!rows) return { fault: "it is of other jobs or machines." };
+    if (!rows) return { fault: "it is of other jobs or machines, or has 2,000 jobs or more." };
     const text = answerOfRows(rows, now, plan.machines);
     const reply = await judgeText(this.source.ask, now, text, false);
     if (!reply) return null;
