@@ -397,7 +397,8 @@ STUB = """
         solver = await loadSolver(await unpack(data.module));
         const { run } = solver, replies = REPLIES;
         solver = { ...solver, can: () => true, run: (request) => {
-          const reply = request.command === "plan" ? replies[request.problem] : null;
+          const { command, problem, steps } = request;
+          const reply = command === "plan" ? replies[`${problem} ${steps}`] ?? replies[problem] : null;
           return reply ? { status: reply[0], output: new TextEncoder().encode(reply[1]), errors: reply[2] } : run(request);
         } };"""
 REFUSED = [2, "", "threefield: refused: NoSolver\n"]
@@ -468,6 +469,33 @@ def plan_without_an_exact_method(page):
     expect_in("at least the value 7 h", page.text("#headline"))
     page.notation("1|rj|Lmax")
     expect_in("There is not enough memory", page.text("#headline"))
+
+
+@way
+def searching_longer(page):
+    """Longer searches keep the better plan and the better bound of all; moves and the button stop them."""
+    order = [(3, 0, 6), (1, 6, 10), (2, 10, 14)]
+    open_stubbed(page, {
+        "1||sumT": planned("1||sumT", 14, order, ["value 8", "prices 2 0 1 1"]),
+        "1||sumT 2000": planned("1||sumT", 15, order, ["value 10", "prices 1 0 1 1"]),
+        "1||sumT 5000": planned("1||sumT", 12, order[::-1], ["value 9", "prices 2 0 1 1"]),
+        "1||sumT 10000": planned("1||sumT", 12, order, ["value 10", "prices 2 0 1 1"]),
+        "1||sumT 20000": planned("1||sumT", 11, order, ["value 11", "machine 1 1 2 3"], 0)})
+    page.import_cells("Name;Time;Due\nA;4;5\nB;4;6\nC;6;7\n")
+    page.notation("1||sumT")
+    expect(page.text("#headline .proved"), "at most 6 above the optimum")
+    page.click("#search-longer")
+    page.wait("document.getElementById('search-longer').innerText === 'Search longer'")
+    expect(page.text("#longer-words"), "Nothing better was found: still at most 2 above the optimum.")
+    expect(page.text("#headline .proved"), "at most 2 above the optimum")
+    expect_in("Total tardiness: 12", page.text("#headline"))
+    expect_in("has less than 10.", page.text("#headline"))
+    page.click("#search-longer")
+    page.wait("/proved optimal now/.test(document.getElementById('longer-words').innerText)")
+    expect(page.text("#headline .proved"), "proved optimal")
+    expect(page.run("document.getElementById('search-longer').hidden"), True)
+    page.notation("1||sumC")
+    expect(page.run("document.getElementById('longer').hidden"), True)
 
 
 @way
@@ -608,8 +636,9 @@ def bars_by_mouse(page):
     page.wait("/Your plan/.test(document.getElementById('headline').innerText)")
     page.put(12, "time", "5 h")
     expect_in("Your plan. Maximum lateness: 13 h", headline(page))
-    page.run("location.reload()")
-    page.wait("document.querySelector('#own:not([hidden])')")
+    page.run("window.isOld = true")
+    page.browser.call("Page.reload")
+    page.wait("!window.isOld && document.querySelector('#own:not([hidden])') && document.querySelector('.chart .bar')")
     expect(jobs_in_bars(page)[:5], [1, 4, 10, 5, 3], "kept over a reload")
     page.click("#own-forget")
     page.wait("/^proved optimal/.test(document.querySelector('#headline .value').innerText)")

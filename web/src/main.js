@@ -8,10 +8,11 @@ import { Files } from "./files.js";
 import { ImportView } from "./import_view.js";
 import { JudgeView } from "./judge_view.js";
 import { Keeping } from "./keeping.js";
+import { Longer } from "./longer.js";
 import { machineNames } from "./machines.js";
 import { hasShown, release } from "./memory.js";
 import { OwnPlan } from "./own_plan.js";
-import { keepPlan, makePlan } from "./plan.js";
+import { betterOf, keepPlan, makePlan } from "./plan.js";
 import { PlanView, startOfText } from "./plan_view.js";
 import { PrecedenceView } from "./precedence_view.js";
 import { fromNow } from "./progress.js";
@@ -24,7 +25,7 @@ import { Solving } from "./solving.js";
 import { emptyState, isSameWork } from "./state.js";
 import { Store } from "./store.js";
 import { html } from "./svg.js";
-import { valueText } from "./values.js";
+import { gapChange, valueText } from "./values.js";
 import { FIELDS, RowReader, isEmptyRow, makeTable, newRow } from "./table.js";
 
 const REST = 150;
@@ -58,6 +59,9 @@ class Page {
       request: () => this.now, ownAnswer: () => this.shown?.answer ?? null,
       ask: (request) => this.solving.ask(request),
     });
+    this.longer = new Longer({ request: () => this.now, best: () => this.best,
+      ask: (request) => this.solving.ask(request), stop: () => this.solving.stop(),
+      found: (reply) => this.foundLonger(reply) });
     this.promiseView = new PromiseView({
       ask: (request) => this.solving.ask(request), add: (values) => this.addRow(values),
     });
@@ -251,18 +255,31 @@ class Page {
 
   /** Shows the plan of a reply to the request of now, or the planner's own plan if there is one. */
   async showMade(reply, words) {
-    const { table, calendar } = this.now;
-    const { state } = this.store;
     const before = this.best;
-    const plan = makePlan(table, reply.schedule, reply.evaluation, calendar,
-      machineNames(state.machineNames));
-    if (reply.isOptimal === false) plan.isOptimal = false;
-    this.best = { plan, evaluation: reply.evaluation, answer: reply.answer,
-      assumptions: assumptionsOf(table, calendar, state) };
+    this.best = this.madeOf(reply);
     this.shown = this.best;
     if (await this.showOwn() && before) release(before.plan, before.plan.schedule, before);
     document.getElementById("engine").textContent
       = `${words} in ${Math.round(reply.milliseconds)} ms.`;
+  }
+
+  madeOf(reply) {
+    const { table, calendar } = this.now;
+    const { state } = this.store;
+    const plan = makePlan(table, reply.schedule, reply.evaluation, calendar,
+      machineNames(state.machineNames));
+    if (reply.isOptimal === false) plan.isOptimal = false;
+    return { plan, evaluation: reply.evaluation, answer: reply.answer,
+      assumptions: assumptionsOf(table, calendar, state) };
+  }
+
+  /** Takes the better plan and the better bound of a longer search and of those before it. */
+  async foundLonger(reply) {
+    const { best } = this;
+    const longer = this.madeOf(reply);
+    this.best = betterOf(best, longer);
+    await this.showOwn();
+    return gapChange(best.plan, this.best.plan);
   }
 
   /**
@@ -319,6 +336,7 @@ class Page {
     Object.assign(this.best.plan, { names });
     Object.assign(plan, { names });
     this.own.draw();
+    this.longer.draw();
     this.planView.show(this.shown, this.best, this.store.state.kept);
     this.promiseView.show(this.best.plan);
     this.showPrintHead();

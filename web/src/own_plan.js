@@ -82,9 +82,10 @@ export class OwnPlan {
    */
   async make(own) {
     const now = this.source.request();
+    const best = this.source.best();
     const known = this.known.get(own);
-    if (known?.now === now) return known.made;
-    const { plan, assumptions } = this.source.best();
+    if (known?.best === best) return known.made;
+    const { plan, assumptions } = best;
     const { table } = now;
     const rows = placesOf(own, table.jobs, plan.machines, readNotation(now.problem));
     if (!rows) return { fault: "it is of other jobs or machines, or has 2,000 jobs or more." };
@@ -95,18 +96,21 @@ export class OwnPlan {
       : { ...this.planOf(reply, now, plan), assumptions,
         answer: new TextEncoder().encode(text.replace("\nvalue 0\n",
           `\nvalue ${reply.evaluation.value}\n`)) };
-    this.known.set(own, { now, made });
+    this.known.set(own, { best, made });
     return made;
   }
 
   /** The plan of a schedule that is allowed. Its jobs keep the colours that they have. */
-  planOf({ evaluation, evaluated, schedule }, { table, calendar }, best) {
-    const { value, gap, bound } = evaluation;
+  planOf({ evaluation, schedule }, { table, calendar }, best) {
+    const { value } = evaluation;
     const plan = makePlan(table, { ...schedule, value }, evaluation, calendar,
       machineNames(this.source.store.state.machineNames));
-    const isExact = evaluation.best !== undefined || best.isOptimal && bound === best.value;
-    Object.assign(plan, { isOwn: true, isOptimal: evaluated.status === 0, gap, isExact,
-      colour: best.colour });
+    // A longer search may have found a greater bound than the evaluation.
+    const least = evaluation.best ?? (best.isOptimal ? best.value
+      : greater(evaluation.bound, best.bound?.value));
+    const gap = least === undefined ? undefined : String(BigInt(value) - BigInt(least));
+    Object.assign(plan, { isOwn: true, isOptimal: gap === "0", gap, colour: best.colour,
+      isExact: evaluation.best !== undefined || best.isOptimal });
     return { plan, evaluation };
   }
 
@@ -117,6 +121,12 @@ export class OwnPlan {
     const other = best().plan.isOptimal ? "Back to the optimal plan" : "Back to the plan found";
     this.at("own-show").textContent = this.isAway ? "Show your plan" : other;
   }
+}
+
+/** The greater of two bounds, either of which may be missing. */
+export function greater(one, other) {
+  if (one === undefined || other === undefined) return one ?? other;
+  return BigInt(one) < BigInt(other) ? other : one;
 }
 
 /** Why a schedule is not allowed, or can't be judged. */

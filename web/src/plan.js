@@ -44,6 +44,21 @@ export function makePlan(table, schedule, evaluation, calendar, names) {
   };
 }
 
+/**
+ * The plan with the smaller value, with the greater of both bounds.
+ * @param {{plan: object}} one what is shown of a plan @param {{plan: object}} other
+ */
+export function betterOf(one, other) {
+  const isLess = BigInt(other.plan.value) < BigInt(one.plan.value);
+  const { plan, ...rest } = isLess ? other : one;
+  const bounds = [one.plan.bound, other.plan.bound].filter(Boolean);
+  const bound = bounds.reduce((most, each) =>
+    BigInt(each.value) > BigInt(most.value) ? each : most, bounds[0]) ?? null;
+  const gap = bound ? String(BigInt(plan.value) - BigInt(bound.value)) : undefined;
+  const isOptimal = one.plan.isOptimal || other.plan.isOptimal || gap === "0";
+  return { ...rest, plan: { ...plan, bound, gap, isOptimal } };
+}
+
 /** The words that the names of all jobs begin with, such as “Order ”; "" where they have none. */
 function commonPrefix(jobs) {
   if (jobs.length < 3) return "";

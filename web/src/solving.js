@@ -58,11 +58,15 @@ export class Solving {
     return [...this.waiting.values()].some(({ request }) => request.instance === instance);
   }
 
-  /** Whether the run under way is not worth waiting for: a search, or a long run of this kind. */
+  /**
+   * Whether the run under way is not worth waiting for: a search, or a long run of this kind. A
+   * longer search gives way to all others.
+   */
   isObsolete(request) {
     const { kind } = this.running.request;
     const isLong = performance.now() - this.running.begun > LONG;
-    return SEARCHES.has(kind) && request.kind === "plan" || kind === request.kind && isLong;
+    return SEARCHES.has(kind) && request.kind === "plan" || kind === request.kind && isLong
+      || kind === "longer";
   }
 
   /** Gives up the run under way. */

@@ -30,6 +30,16 @@ export function gapWords({ isOptimal, gap, isExact, calendar, problem }) {
   return `${isExact ? "" : "at most "}${valueText(calendar, problem, gap)} above the optimum`;
 }
 
+/** What a longer search did to the gap of a plan, in a sentence. */
+export function gapChange(before, after) {
+  if (after.isOptimal) return "The plan is proved optimal now.";
+  const words = gapWords(after);
+  if (before.gap !== after.gap && words) {
+    return `The plan was ${gapWords(before)}, and is ${words} now.`;
+  }
+  return `Nothing better was found${words ? `: still ${words}` : ""}.`;
+}
+
 /** What a problem minimizes, to begin a sentence with: “Maximum lateness”. */
 export function objectiveWords(notation) {
   const { objective } = readNotation(notation) ?? { objective: "Cmax" };

@@ -28,7 +28,7 @@ function warm() {
   }
 }
 
-const KINDS = { plan, search, promise, judge, picture: plain, problems: plain };
+const KINDS = { plan, search, longer: search, promise, judge, picture: plain, problems: plain };
 
 onmessage = async ({ data }) => {
   if (data.module !== undefined) {
