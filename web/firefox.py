@@ -8,6 +8,7 @@ import time
 from pathlib import Path
 
 PORT = 2828
+KEYS = {"ArrowLeft": "\ue012", "ArrowUp": "\ue013", "ArrowRight": "\ue014", "ArrowDown": "\ue015", "Tab": "\ue004"}
 
 
 class Firefox:
@@ -90,6 +91,18 @@ class Firefox:
     def click(self, selector):
         found = self.call("WebDriver:FindElement", using="css selector", value=selector)["value"]
         self.call("WebDriver:ElementClick", id=next(iter(found.values())))
+
+    def mouse(self, kind, x, y):
+        """Moves the mouse, and presses or releases its button there."""
+        steps = {"mousePressed": ["pointerDown"], "mouseReleased": ["pointerUp"], "mouseMoved": []}[kind]
+        self.act("pointer", [{"type": "pointerMove", "x": round(x), "y": round(y), "duration": 0},
+                             *({"type": step, "button": 0} for step in steps)])
+
+    def press(self, key):
+        self.act("key", [{"type": step, "value": KEYS.get(key, key)} for step in ("keyDown", "keyUp")])
+
+    def act(self, kind, steps):
+        self.call("WebDriver:PerformActions", actions=[{"type": kind, "id": kind, "actions": steps}])
 
     def type(self, selector, text):
         """Puts a text into a field in place of what is there."""

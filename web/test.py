@@ -32,8 +32,8 @@ SHOP = "\ufeffOrder;Time (h);Due;After;Customer\r\n" + "\r\n".join([
 WAYS = []
 IN_FIREFOX = ["empty_page", "spreadsheet", "columns_are_corrected", "cells_without_a_heading", "headings_of_other_languages",
               "examples", "no_release_date", "certificate", "what_if", "problem_in_words", "machines_are_missing", "bound",
-              "judging", "mistakes_in_rows", "mistakes_of_the_calendar", "problems_are_the_modules", "unsaved_work",
-              "no_network"]
+              "judging", "bars_on_several_machines", "mistakes_in_rows", "mistakes_of_the_calendar", "problems_are_the_modules",
+              "unsaved_work", "no_network"]
 
 
 def way(function):
@@ -1241,6 +1241,8 @@ def names_for_screen_readers(page):
     nameless = [node["role"]["value"] for node in tree if not node["ignored"]
                 and node["role"]["value"] in roles and not node.get("name", {}).get("value")]
     expect(nameless, [], "controls without a name")
+    names = {node["name"]["value"].split(":")[0] for node in tree if not node["ignored"] and node["role"]["value"] == "button"}
+    expect("Business cards Meyer, Machine 1" in names, True, "bars are buttons with names")
 
 
 @way

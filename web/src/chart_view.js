@@ -35,10 +35,14 @@ export class ChartView {
     window.addEventListener("afterprint", () => this.draw());
   }
 
-  /** Shows a plan; the window stays where it is if the plan before was as long. */
+  /**
+   * Shows a plan. The window stays where it is if the plan before was as long, or if it is a part
+   * of a plan of the same jobs.
+   */
   show(plan) {
     const isSame = plan.jobs === this.plan?.jobs;
-    if (plan.length !== this.plan?.length) {
+    const isWhole = this.to - this.from >= this.plan?.length;
+    if (plan.length !== this.plan?.length && (!isSame || isWhole || this.to > plan.length)) {
       this.from = 0;
       this.to = Math.max(1, plan.length);
     }

@@ -10,7 +10,7 @@ import { valueText } from "./values.js";
 
 const MOST_OUTCOMES = 300;
 
-/** Has the module judge an answer text, and draw it or read its schedule; null if it was stopped. */
+/** Has the module judge an answer text, and draw it or read it; null where it was stopped. */
 export function judgeText(ask, now, text, isDrawn) {
   return ask({ ...now.request, kind: "judge", answer: new TextEncoder().encode(text),
     jobs: now.table.jobs.length, isDrawn });

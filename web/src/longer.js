@@ -8,8 +8,8 @@ const TIMES = [2, 5, 10];
 export class Longer {
   /**
    * @param {object} source `request()` the request of now, or null; `best()` what the module made;
-   *   `ask(request)` asks the worker and `stop()` stops it; `found(reply)` takes what a longer search
-   *   found and tells what became of the gap, in a sentence
+   *   `ask(request)` asks the worker and `stop()` stops it; `found(reply)` takes what a longer
+   *   search found and tells what became of the gap, in a sentence
    */
   constructor(source) {
     this.source = source;

@@ -54,7 +54,8 @@ class Page {
     });
     this.own = new OwnPlan({ store: this.store, request: () => this.now, best: () => this.best,
       shown: () => this.shown, ask: (request) => this.solving.ask(request),
-      show: () => this.showOwn(), point: (job) => this.planView.chart.pointAt(job) });
+      show: () => this.showOwn(), showing: () => this.showing,
+      point: (job) => this.planView.chart.pointAt(job) });
     this.judgeView = new JudgeView({
       request: () => this.now, ownAnswer: () => this.shown?.answer ?? null,
       ask: (request) => this.solving.ask(request),
@@ -177,7 +178,7 @@ class Page {
       this.judgeView.clear();
       clearTimeout(this.timer);
       this.timer = setTimeout(() => this.update(), isTyped ? REST : 0);
-    } else if (isOther("own")) this.showOwn();
+    } else if (isOther("own")) this.showing = this.showOwn();
     else if (isOther("kept", "machineNames")) this.showPlan();
     this.showPrintHead();
   }

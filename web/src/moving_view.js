@@ -47,8 +47,8 @@ export class MovingView {
     }
     const words = (kind, text) => html("span", { class: kind }, text);
     this.at("move-words").replaceChildren(...isMovable ? [
-      "Move a bar to see what that costs: ", words("touch", "tap it, then drag it sideways, or press "
-        + "the buttons that come."), words("keys", "drag it, or choose it and press ← or →"
+      "Move a bar to see what that costs: ", words("touch", "tap it, then drag it sideways, or "
+        + "press the buttons that come."), words("keys", "drag it, or choose it and press ← or →"
         + `${hasMachines ? ", or Shift with ↑ or ↓ for another machine" : ""}. ↑ and ↓ choose the `
         + "next bar. In the list, press Alt with ↑ or ↓.")] : [fixed]);
   }
@@ -121,9 +121,10 @@ export class MovingView {
     const rect = held.bar.cloneNode();
     rect.setAttribute("x", x);
     rect.setAttribute("y", y);
-    held.ghost = svg("g", { class: "ghost" }, rect, svg("text", { class: "name", "text-anchor": "middle",
+    const name = svg("text", { class: "name", "text-anchor": "middle",
       x: (held.x - box.left) / scale, y: y + bar.height / scale / 2 + 4 },
-    plan.jobs[held.job].name));
+    plan.jobs[held.job].name);
+    held.ghost = svg("g", { class: "ghost" }, rect, name);
     held.bar.classList.add("dragged");
     held.mark = svg("path", { class: "drop" });
     chart.append(held.mark, held.ghost);

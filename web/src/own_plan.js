@@ -1,4 +1,4 @@
-// The planner's own plan, made by moving bars: judged by the module, and shown beside the optimal one.
+// The planner's own plan, made by moving bars and judged by the module, beside the optimal one.
 
 import { judgeText } from "./judge_view.js";
 import { machineNames } from "./machines.js";
@@ -16,7 +16,7 @@ export class OwnPlan {
   /**
    * @param {object} source `store`; `request()` the request of now, or null; `best()` and `shown()`
    *   what the module made and what is shown; `ask(request)` asks the worker; `show()` shows the
-   *   plan of now; `point(job)` shows where a job is
+   *   plan of now, and after `showing()` it is shown; `point(job)` shows where a job is
    */
   constructor(source) {
     this.source = source;
@@ -25,11 +25,15 @@ export class OwnPlan {
     this.isAway = false;
     this.moves = Promise.resolve();
     this.at("own-show").addEventListener("click", () => {
-      this.isAway = !this.isAway;
+      this.isAway = this.isShown;
       this.say("");
       source.show();
     });
     this.at("own-forget").addEventListener("click", () => source.store.change({ own: null }));
+  }
+
+  get isShown() {
+    return this.source.shown()?.plan.isOwn === true;
   }
 
   say(kind, ...words) {
@@ -43,7 +47,7 @@ export class OwnPlan {
   }
 
   async moveNow(job, target) {
-    const { request, shown, store, show, point } = this.source;
+    const { request, shown, store, showing, point } = this.source;
     const now = request();
     const before = shown()?.plan;
     if (!now || before?.jobs !== now.table.jobs) return;
@@ -60,10 +64,11 @@ export class OwnPlan {
     if (!made) return this.say("fault", "The solver was stopped, so nothing was moved.");
     if (made.fault) return this.say("fault", `${name} was not moved: ${made.fault}`);
     store.change({ own });
-    await show();
+    await showing();
     point(job);
-    this.say(made.plan.isOptimal ? "good" : "note", `${name} is moved: allowed, ${costWords(before, made.plan)}, `
-      + `${gapWords(made.plan) ?? "how far from the optimum is not known"}. `,
+    const { plan } = made;
+    this.say(plan.isOptimal ? "good" : "note", `${name} is moved: allowed, `
+      + `${costWords(before, plan)}, ${gapWords(plan) ?? "how far above the optimum is unknown"}. `,
       html("span", { class: "proved" }, "proved"));
   }
 
@@ -119,7 +124,7 @@ export class OwnPlan {
     const { store, best } = this.source;
     this.at("own").hidden = !store.state.own;
     const other = best().plan.isOptimal ? "Back to the optimal plan" : "Back to the plan found";
-    this.at("own-show").textContent = this.isAway ? "Show your plan" : other;
+    this.at("own-show").textContent = this.isShown ? other : "Show your plan";
   }
 }
 

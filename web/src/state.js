@@ -14,8 +14,8 @@ export const LONGEST_LINK = 16000;
  * @property {string} title @property {string} problem the notation @property {string} machines
  * @property {string} machineNames as `machineNames` reads them
  * @property {object} settings of the calendar @property {object[]} rows @property {?object} kept
- * @property {?number[][]} own the planner's own plan: the rows of the jobs of each machine in order,
- *   by their identities
+ * @property {?number[][]} own the planner's own plan: the jobs of each machine in order, by the
+ *   identities of their rows
  */
 
 /** @returns {State} */
