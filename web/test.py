@@ -636,6 +636,10 @@ def bars_by_mouse(page):
     page.wait("/Your plan/.test(document.getElementById('headline').innerText)")
     page.put(12, "time", "5 h")
     expect_in("Your plan. Maximum lateness: 13 h", headline(page))
+    name = "a-print-shop-one-machine-due-dates-precedence"
+    for kind, suffix, part, wanted in (("answer", "-answer.txt", b"value 13\n", True), ("chart", ".svg", b"tabindex", False)):
+        page.run(f"document.querySelector('[data-save={kind}]').click()")
+        expect(part in page.browser.downloaded(name + suffix), wanted, f"{part} in what is saved of the own plan")
     page.run("window.isOld = true")
     page.browser.call("Page.reload")
     page.wait("!window.isOld && document.querySelector('#own:not([hidden])') && document.querySelector('.chart .bar')")

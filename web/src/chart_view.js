@@ -20,6 +20,7 @@ export class ChartView {
     this.marks = document.getElementById("marks");
     this.plan = null;
     this.chosen = null;
+    this.first = null;
     this.onDraw = () => {};
     for (const button of document.querySelectorAll("[data-zoom]")) {
       button.addEventListener("click", () => this.zoom(button.dataset.zoom));
@@ -160,12 +161,12 @@ export class ChartView {
 
   /** Marks the bars of the job that is chosen; the Tab key goes to the first of them. */
   mark() {
-    for (const bar of this.frame.querySelectorAll("[data-job]")) {
-      bar.classList.toggle("chosen", Number(bar.dataset.job) === this.chosen);
-      if (bar.hasAttribute("tabindex")) bar.setAttribute("tabindex", "-1");
-    }
-    const first = this.barOf(this.chosen) ?? this.frame.querySelector(".bar");
-    if (this.view.isMovable) first?.setAttribute("tabindex", "0");
+    const { frame, chosen } = this;
+    for (const bar of frame.querySelectorAll(".chosen")) bar.classList.remove("chosen");
+    for (const bar of frame.querySelectorAll(`[data-job="${chosen}"]`)) bar.classList.add("chosen");
+    this.first?.setAttribute("tabindex", "-1");
+    this.first = this.view.isMovable ? this.barOf(chosen) ?? frame.querySelector(".bar") : null;
+    this.first?.setAttribute("tabindex", "0");
   }
 
   drawLegend() {

@@ -46,11 +46,13 @@ export class MovingView {
       tools.querySelector(`[data-move="${way}"]`).hidden = !hasMachines;
     }
     const words = (kind, text) => html("span", { class: kind }, text);
+    const isDense = this.chart.chart.querySelector(".many-frame") !== null;
     this.at("move-words").replaceChildren(...isMovable ? [
       "Move a bar to see what that costs: ", words("touch", "tap it, then drag it sideways, or "
         + "press the buttons that come."), words("keys", "drag it, or choose it and press ← or →"
         + `${hasMachines ? ", or Shift with ↑ or ↓ for another machine" : ""}. ↑ and ↓ choose the `
-        + "next bar. In the list, press Alt with ↑ or ↓.")] : [fixed]);
+        + "next bar. In the list, press Alt with ↑ or ↓."),
+      isDense ? " Zoom in to move short jobs." : ""] : [fixed]);
   }
 
   /** Moves a job by one place, or to the next machine. */

@@ -68,6 +68,10 @@ export function chartAsFile(chart, style, title) {
   for (const [name, value] of [["width", "100%"], ["height", "100%"], ["fill", "#ffffff"]]) {
     ground.setAttribute(name, value);
   }
+  for (const bar of copy.querySelectorAll("[tabindex]")) {
+    bar.removeAttribute("tabindex");
+    bar.removeAttribute("role");
+  }
   const words = make("title");
   words.textContent = title;
   copy.prepend(words, rules, ground);
