@@ -642,7 +642,7 @@ def bars_by_mouse(page):
         expect(part in page.browser.downloaded(name + suffix), wanted, f"{part} in what is saved of the own plan")
     page.run("window.isOld = true")
     page.browser.call("Page.reload")
-    page.wait("!window.isOld && document.querySelector('#own:not([hidden])') && document.querySelector('.chart .bar')")
+    page.wait("!window.isOld && document.querySelector('#own:not([hidden])') && document.querySelector('.chart .bar')", 60)
     expect(jobs_in_bars(page)[:5], [1, 4, 10, 5, 3], "kept over a reload")
     page.click("#own-forget")
     page.wait("/^proved optimal/.test(document.querySelector('#headline .value').innerText)")
