@@ -4,7 +4,7 @@
     python3 bench/plans.py PROGRAM [SEED [JOBS [ENVIRONMENTS]]]
 
 The problems are those of the environments 1, P, F and O (or those that are named, as FO), any of the five conditions and any
-objective, less those that have no bounds. Each has a job table of JOBS jobs (12 if it is not given), and a shop whose objective and conditions need times alone a
+objective. Each has a job table of JOBS jobs (12 if it is not given), and a shop whose objective and conditions need times alone a
 flow shop file of three machines too. The numbers are drawn from SEED. What is looked for:
 
 - `plan` ends with 0 or 6, and as `evaluate` of its plan does;
@@ -40,21 +40,10 @@ Done = collections.namedtuple("Done", "status written said")
 
 
 def problems(environments):
-    """Every problem of these environments that has bounds, by docs/bounds.md."""
+    """Every problem of these environments, by docs/bounds.md."""
     for env, goal in itertools.product(environments, GOALS):
         for chosen in itertools.product((False, True), repeat=len(CONDITIONS)):
-            named = [name for name, is_chosen in zip(CONDITIONS, chosen) if is_chosen]
-            if has_bounds(env, named, goal):
-                yield env, named, goal
-
-
-def has_bounds(env, named, goal):
-    """Whether a kind of certificate is there for a problem."""
-    if goal in ("Cmax", "Lmax"):
-        return True
-    if env in "FO":
-        return goal not in ("sumU", "sumwU")
-    return "prmp" not in named or (env == "1" and goal not in ("sumU", "sumwU"))
+            yield env, [name for name, is_chosen in zip(CONDITIONS, chosen) if is_chosen], goal
 
 
 def cases(seed, jobs, environments):
@@ -126,10 +115,6 @@ def faults_of_comments(player, case, plan, instance):
     """What is wrong with what a plan says behind its line `end`."""
     answer, said, bound = parts_of(plan.written)
     value = int(fields_of(answer)["value"])
-    if not bound:
-        if said != ["no bound"] or plan.status != 6:
-            yield f"no bound, and status {plan.status}: {said}"
-        return
     alone = player.run("bound", *STEPS, *case.options, instance)
     if alone.written != bound:
         yield f"another bound than that of bound: {bound!r} {alone}"
@@ -153,7 +138,7 @@ def faults_of_judged(player, case, plan, instance):
     if judged.status != plan.status or "fits" not in fields or fields["value"] != value:
         yield f"value {value} and status {plan.status}, and evaluate says {judged}"
     gap = fields.get("gap")
-    if said not in ([f"gap {gap}"], ["no bound"]) and (said or gap != "0"):
+    if said != [f"gap {gap}"] and (said or gap != "0"):
         yield f"{said}, and evaluate says gap {gap}"
 
 

@@ -141,11 +141,11 @@ export function readEvaluation(bytes, jobs) {
   return found;
 }
 
-/** Reads the line after a bound, if it is a certificate: one of the kind `job` has one number. */
+/** Reads the line after a bound, if it is a certificate: one of the kind `job` has one number, `alone` none. */
 function readCertificate(walk, found) {
   const begin = walk.at;
   const line = walk.rest();
-  if (/^(job \d+$|(window|crowd|machine|multipliers|prices) )/.test(line)) found.certificate = line;
+  if (/^(alone$|job \d+$|(window|crowd|machine|multipliers|prices) )/.test(line)) found.certificate = line;
   else walk.at = begin;
 }
 

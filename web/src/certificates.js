@@ -26,6 +26,8 @@ const BOUND_WORDS = {
     + "need so long for all their work.",
   crowd: "These jobs are so many that one machine has to do several of them.",
   machine: "One machine has to do all these jobs, one after another.",
+  alone: "Each job starts when it is released, or when the jobs that it has to follow can be done, and "
+    + "no other job is in its way.",
   multipliers: "Completion times are weighted by the multipliers below; in Smith's order no sum of "
     + "them is smaller.",
   prices: "Each time step has a price, listed below. No schedule costs less than what all jobs pay "

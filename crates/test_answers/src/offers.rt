@@ -19,18 +19,18 @@ use tf_text::answer::layout::Layout;
 use tf_text::counted::Counted;
 
 /// Job 1 is never late.
-const INSTANCE: &[u8] = b"table 1\njob 1 p=1,1 d=100\njob 2 p=3,1 d=1\n";
+const INSTANCE: &[u8] = b"table 1\njob 1 p=1,1 d=100\njob 2 p=3,1 d=1\njob 3 p=3,1 d=1\n";
 
-const ANSWER: &[u8] = b"answer 1\nproblem F2||sumT\njobs 2\nmachines 2\nvalue 3\npiece 2 1 0 3\n\
-    piece 1 1 3 4\npiece 2 2 3 4\npiece 1 2 4 5\ncert load\nend\n";
+const ANSWER: &[u8] = b"answer 1\nproblem F2||sumT\njobs 3\nmachines 2\nvalue 9\npiece 2 1 0 3\n\
+    piece 3 1 3 6\npiece 1 1 6 7\npiece 2 2 3 4\npiece 3 2 6 7\npiece 1 2 7 8\ncert load\nend\n";
 
-/// Job 2 comes first on machine 1: 3 + 1 - 1.
+/// Jobs 2 and 3 come first on machine 1: 3 + 6 + 2 - 2. Each alone they are late by 3, so 6.
 const BOUND: &[u8] =
-    b"bound 1\nproblem F2||sumT\njobs 2\nmachines 2\nvalue 3\nmultipliers 1 1 0 1\nend\n";
+    b"bound 1\nproblem F2||sumT\njobs 3\nmachines 2\nvalue 9\nmultipliers 1 1 0 1 1\nend\n";
 
-const WRITTEN: &[u8] = b"evaluation 1\nproblem F2||sumT\njobs 2\nmachines 2\nfits\nclaimed 3\n\
-    value 3\nbest 3\ngap 0\noffered 3\nbound 3\nmultipliers 1 1 0 1\njob 1 3 5 0\n\
-    job 2 0 4 3\nend\n";
+const WRITTEN: &[u8] = b"evaluation 1\nproblem F2||sumT\njobs 3\nmachines 2\nfits\nclaimed 9\n\
+    value 9\nbest 9\ngap 0\noffered 9\nbound 9\nmultipliers 1 1 0 1 1\njob 1 6 8 0\n\
+    job 2 0 4 3\njob 3 3 7 6\nend\n";
 
 /// Where the text of the bound was not read, or how else the run ended without an assessment.
 #[derive(Clone, Copy, PartialEq, Eq)]
@@ -122,10 +122,10 @@ fn nothing_is_written_where_a_read_of_the_bound_fails(rt: HostRuntime) -> Result
 
 /// The lines of the bounds that are none above the optimum.
 const SOUND: [&[u8]; 4] = [
-    b"\nbound 0\n",
-    b"\nbound 1\n",
-    b"\nbound 2\n",
-    b"\nbound 3\n",
+    b"\nbound 6\n",
+    b"\nbound 7\n",
+    b"\nbound 8\n",
+    b"\nbound 9\n",
 ];
 
 /// The text has the line of a bound that is at most the optimum.

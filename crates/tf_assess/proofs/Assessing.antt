@@ -23,7 +23,7 @@ use Rattle.tf_search.specs.Strongest.{IsFound}
 use Rattle.tf_text.specs.AnswerText.{SheetData}
 use Rattle.tf_assess.specs.declared.assessment.ProblemFit.{ProblemFit}
 use Rattle.tf_assess.specs.declared.assessment.ProblemFit.TheVariants.{Fits, NoSchedule, Misfit}
-use Rattle.tf_assess.specs.Assessing.{bound_in, standing_by, assessed_of, counted_by, problem_outcomes, DrawsProblem, IsProblemJudged, HasProblemFit, HasProblemTable, HasAssessed}
+use Rattle.tf_assess.specs.Assessing.{standing_by, assessed_of, counted_by, problem_outcomes, DrawsProblem, IsProblemJudged, HasProblemFit, HasProblemTable, HasAssessed}
 
 -- from the schedule to the pieces that it sorts
 draws_problem : (k : ProblemData) (ps qs : List Piece) → IsPermutation ps qs → IsSchedule qs
@@ -97,14 +97,13 @@ module _ (k : ProblemData) (sheet : SheetData) where
   standing_at value bound (is, (rows, draws, costs)) least false equal = (is, rows, draws)
 
   -- what follows of the fit and the bound
-  pub standing_is : {A : Type 0} (fit : Option ProblemFit) (bound : Option (Found A))
-      → HasProblemFit k sheet fit → IfSome bound (IsFound k)
-      → HasAssessed k sheet (assessed_of fit (bound_in bound))
+  pub standing_is : {A : Type 0} (fit : Option ProblemFit) (bound : Found A)
+      → HasProblemFit k sheet fit → IsFound k bound
+      → HasAssessed k sheet (assessed_of fit bound.value)
   standing_is None bound h found = tt
   standing_is (Some (NoSchedule fault)) bound h found = tt
   standing_is (Some (Misfit misfit)) bound h found = tt
   standing_is (Some (Fits None)) bound (is, (rows, draws, costs)) found = (is, rows, draws)
-  standing_is (Some (Fits (Some value))) None (is, (rows, draws, costs)) found = (is, rows, draws)
-  standing_is (Some (Fits (Some value))) (Some bound) h found =
+  standing_is (Some (Fits (Some value))) bound h found =
       standing_at value bound.value h found.bound (int_eq value bound.value)
       (Decides-int_eq value bound.value).0

@@ -7,7 +7,7 @@ use Rattle.tf_problem.specs.ProblemCost.{IsLowerBound}
 use Rattle.tf_bound.specs.Certified.{IsBoundBy, IsValueOn}
 use Rattle.tf_bound.specs.Faulted.{certificate_fault}
 use Rattle.tf_bound.specs.declared.certificate.BoundCertificate.{BoundCertificate}
-use Rattle.tf_bound.specs.declared.certificate.BoundCertificate.TheVariants.{Machine, Window, Crowd, OneJob, Multipliers, Prices}
+use Rattle.tf_bound.specs.declared.certificate.BoundCertificate.TheVariants.{Machine, Window, Crowd, OneJob, Multipliers, Prices, Alone}
 use Rattle.tf_search.specs.declared.strongest.Found.{Found}
 use Rattle.tf_search.specs.Strongest.{IsFound}
 use Rattle.tf_bound_text.specs.BoundSheetData.{Basis, BoundSheetData, basis_of, fault_by, IsValueBy}
@@ -23,6 +23,7 @@ value_on k (Crowd h0 jobs) b h = h
 value_on k (OneJob job) b h = h
 value_on k (Multipliers machine q numerators) b h = h
 value_on k (Prices q rows) b h = h
+value_on k Alone b h = h
 
 value_by : {A : Type 0} (k : ProblemData) (c : BoundCertificate A) (b : ℤ) → IsBoundBy k c b
     → IsJudgedValue k (basis_of c) b
@@ -37,6 +38,7 @@ on_value k (Crowd h0 jobs) b h = h
 on_value k (OneJob job) b h = h
 on_value k (Multipliers machine q numerators) b h = h
 on_value k (Prices q rows) b h = h
+on_value k Alone b h = h
 
 pub bound_by : {A : Type 0} (k : ProblemData) (c : BoundCertificate A) (b : ℤ)
     → IsJudgedValue k (basis_of c) b → IsBoundBy k c b
@@ -51,6 +53,7 @@ fault_is k (Crowd h0 jobs) = refl
 fault_is k (OneJob job) = refl
 fault_is k (Multipliers machine q numerators) = refl
 fault_is k (Prices q rows) = refl
+fault_is k Alone = refl
 
 faultless_by : {A : Type 0} (k : ProblemData) (c : BoundCertificate A) (basis : Basis)
     → basis_of c ≡ basis → certificate_fault k c ≡ None → fault_by k basis ≡ None
@@ -71,14 +74,14 @@ has_value k sheet c b fits same meant none by bound =
 
 -- the bound that is used is one
 pub used_found : {A : Type 0} (k : ProblemData) (sheet : BoundSheetData)
-    (found bound : Option (Found A)) (offered : Offered) (c : BoundCertificate A)
-    → IfSome found (IsFound k) → IsOffer k sheet offered → basis_of c ≡ sheet.basis
-    → IsUsed found offered c bound → IfSome bound (IsFound k)
+    (found bound : Found A) (offered : Offered) (c : BoundCertificate A)
+    → IsFound k found → IsOffer k sheet offered → basis_of c ≡ sheet.basis
+    → IsUsed found offered c bound → IsFound k bound
 used_found k sheet found bound offered c h offer same (inl is) =
-    subst (λ (b : Option (Found _)). IfSome b (IsFound k)) (sym is) h
+    subst (λ (b : Found _). IsFound k b) (sym is) h
 used_found k sheet found bound offered c h offer same (inr (value, meant, is)) =
     let has = (subst (IsOffer k sheet) meant offer).0 in
-    subst (λ (b : Option (Found _)). IfSome b (IsFound k)) (sym is) (record {
+    subst (λ (b : Found _). IsFound k b) (sym is) (record {
       value = bound_by k c value
           (subst (λ (basis : Basis). IsJudgedValue k basis value) (sym same) has.value);
       bound = has.bound;

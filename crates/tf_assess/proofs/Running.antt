@@ -12,7 +12,7 @@ use Rattle.tf_bound_text.specs.BoundSheetData.{BoundSheetData}
 use Rattle.tf_assess.specs.declared.assessment.Assessed.{Assessed}
 use Rattle.tf_assess.specs.declared.assessment.Assessment.{Assessment}
 use Rattle.tf_assess.specs.declared.case_read.ProblemCase.{ProblemCase}
-use Rattle.tf_assess.specs.Assessing.{bound_in, assessed_of, IsAssessment}
+use Rattle.tf_assess.specs.Assessing.{assessed_of, IsAssessment}
 use Rattle.tf_assess.specs.AssessmentText.{assessment_text}
 use Rattle.tf_assess.specs.RunAssessing.{SaysAssessment, IsAssessed, IsRefusedAssessment, HasProblemReaderFailed, IsAssessmentOf, ReadsProblemCase}
 
@@ -80,7 +80,7 @@ module _ (A T U : Type 0) (offer : Option BoundSheetData) (request : RequestData
       }
 
       -- it was written
-      pub said : (result : Assessed) → result ≡ assessed_of a.fit (bound_in a.bound)
+      pub said : (result : Assessed) → result ≡ assessed_of a.fit a.bound.value
           → Appends writer.before writer.after out
           → IsAssessmentOf {A = A} offer request (use_of remaining old new) (use_of giving before after)
           writer (Ok result)

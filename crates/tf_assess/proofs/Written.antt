@@ -9,7 +9,7 @@ use Rattle.tf_text.proofs.Written.{then}
 use Rattle.tf_problem.specs.ProblemData.{ProblemData}
 use Rattle.tf_assess.specs.declared.assessment.Assessment.{Assessment}
 use Rattle.tf_evaluate.specs.EvaluationText.{claimed_lines, outcome_words}
-use Rattle.tf_assess.specs.Assessing.{value_in, bound_in, best_in}
+use Rattle.tf_assess.specs.Assessing.{value_in, best_in}
 use Rattle.tf_assess.specs.AssessmentText.{fit_words, number_lines, gap_lines, offered_lines, bound_lines, judged_lines, assessment_text}
 
 -- lines, and then others
@@ -28,14 +28,14 @@ module _ (A : Type 0) (a : Assessment A) where
       → t3 ≡ t2 ++ flat_map line_text (number_lines (codes "value") (value_in a.fit))
       → t4 ≡ t3
       ++ flat_map line_text
-      (number_lines (codes "best") (best_in (value_in a.fit) (bound_in a.bound)))
-      → t5 ≡ t4 ++ flat_map line_text (gap_lines (value_in a.fit) (bound_in a.bound))
+      (number_lines (codes "best") (best_in (value_in a.fit) a.bound.value))
+      → t5 ≡ t4 ++ flat_map line_text (gap_lines (value_in a.fit) a.bound.value)
       → t6 ≡ t5 ++ flat_map line_text (offered_lines a.offered)
       → t7 ≡ t6 ++ flat_map line_text (bound_lines a.bound)
       → t7 ≡ t0 ++ flat_map line_text (judged_lines a)
   judged_written t0 t1 t2 t3 t4 t5 t6 t7 e1 e2 e3 e4 e5 e6 e7 =
-      let gap = gap_lines (value_in a.fit) (bound_in a.bound) in
-      let best = number_lines (codes "best") (best_in (value_in a.fit) (bound_in a.bound)) in
+      let gap = gap_lines (value_in a.fit) a.bound.value in
+      let best = number_lines (codes "best") (best_in (value_in a.fit) a.bound.value) in
       let bounds = offered_lines a.offered ++ bound_lines a.bound in
       let from5 = lines_then t5 t6 t7 (offered_lines a.offered) (bound_lines a.bound) e6 e7 in
       let from4 = lines_then t4 t5 t7 gap bounds e5 from5 in

@@ -41,21 +41,17 @@ abbrev pub value_in : Option ProblemFit → Option ℤ
 value_in (Some (Fits value)) = value
 value_in _ = None
 
-abbrev pub bound_in : {A : Type 0} → Option (Found A) → Option ℤ
-bound_in None = None
-bound_in (Some found) = Some found.value
-
--- both, where they are the same
-abbrev pub best_in : Option ℤ → Option ℤ → Option ℤ
-best_in (Some value) (Some bound) = if int_eq value bound then Some value else None
-best_in _ _ = None
+-- that, where it is the lower bound
+abbrev pub best_in : Option ℤ → ℤ → Option ℤ
+best_in (Some value) bound = if int_eq value bound then Some value else None
+best_in None bound = None
 
 abbrev pub standing_by : Option ℤ → Assessed
 standing_by (Some best) = Best
 standing_by None = Unproved
 
 -- a schedule that fits is best where it costs the bound
-abbrev pub assessed_of : Option ProblemFit → Option ℤ → Assessed
+abbrev pub assessed_of : Option ProblemFit → ℤ → Assessed
 assessed_of (Some (Fits value)) bound = standing_by (best_in value bound)
 assessed_of _ bound = Unfit
 
@@ -158,29 +154,23 @@ HasOffered k None None = Unit {0}
 HasOffered k (Some sheet) (Some offered) = IsOffer k sheet offered
 HasOffered k _ _ = ⊥
 
--- there is a bound, and it is this number or more
-abbrev pub IsAtLeast : {A : Type 0} → ℤ → Option (Found A) → Type 0
-IsAtLeast value None = ⊥
-IsAtLeast value (Some found) = value ≤ℤ found.value
-
 -- an offered bound counts: no weaker one is taken in its place
-abbrev pub Counts : {A : Type 0} → Option Offered → Option (Found A) → Type 0
-Counts (Some (Bounds value)) bound = IsAtLeast value bound
+abbrev pub Counts : {A : Type 0} → Option Offered → Found A → Type 0
+Counts (Some (Bounds value)) bound = value ≤ℤ bound.value
 Counts _ bound = Unit {0}
 
 -- the bound is the one that was found, or the certificate of an offered one
-abbrev pub IsUsed : {A : Type 0} → Option (Found A) → Offered → BoundCertificate A
-    → Option (Found A) → Type 0
+abbrev pub IsUsed : {A : Type 0} → Found A → Offered → BoundCertificate A → Found A → Type 0
 IsUsed found offered certificate bound =
     (bound ≡ found)
     ⊎ ((value : ℤ) × (offered ≡ Bounds value)
-    × (bound ≡ Some (record { value = value; certificate = certificate })))
+    × (bound ≡ record { value = value; certificate = certificate }))
 
 -- what is offered, judged, and the stronger of it and of what was found
 pub record IsWeighed {A : Type 0} (k : ProblemData) (offer : Option BoundSheetData) (w : Weighed A)
     : Type 0 where
   pub offered : HasOffered k offer w.offered
-  pub bound : IfSome w.bound (IsFound k)
+  pub bound : IsFound k w.bound
   pub counts : Counts w.offered w.bound
 
 -- ---- the assessment
@@ -203,7 +193,7 @@ pub record IsAssessment {A : Type 0} (k : ProblemData) (offer : Option BoundShee
   pub fit : HasProblemFit k sheet a.fit
   pub claimed : a.claimed ≡ Some sheet.answer.value
   pub offered : HasOffered k offer a.offered
-  pub bound : IfSome a.bound (IsFound k)
+  pub bound : IsFound k a.bound
   pub counts : Counts a.offered a.bound
-  pub standing : HasAssessed k sheet (assessed_of a.fit (bound_in a.bound))
+  pub standing : HasAssessed k sheet (assessed_of a.fit a.bound.value)
   pub outcomes : a.outcomes.items ≡ problem_outcomes k sheet.answer.pieces a.fit

@@ -18,7 +18,7 @@ use Rattle.tf_assess.specs.declared.assessment.ProblemFit.TheVariants.{Fits, NoS
 use Rattle.tf_assess.specs.declared.assessment.Offered.{Offered}
 use Rattle.tf_assess.specs.declared.assessment.Offered.TheVariants.{Bounds, OtherTask, WrongValue, Faulty}
 use Rattle.tf_assess.specs.declared.assessment.Assessment.{Assessment}
-use Rattle.tf_assess.specs.Assessing.{value_in, bound_in, best_in}
+use Rattle.tf_assess.specs.Assessing.{value_in, best_in}
 
 -- a misfit by its name and its arguments
 abbrev pub problem_misfit_words : ProblemMisfit → List (List ℕ)
@@ -40,10 +40,10 @@ number_lines name None = []
 number_lines name (Some number) = (name ∷ signed_decimal number ∷ []) ∷ []
 
 -- by how much the value is above the bound
-abbrev pub gap_lines : Option ℤ → Option ℤ → List (List (List ℕ))
-gap_lines (Some value) (Some bound) =
+abbrev pub gap_lines : Option ℤ → ℤ → List (List (List ℕ))
+gap_lines (Some value) bound =
     (codes "gap" ∷ decimal (unsigned_abs (value -ℤ bound)) ∷ []) ∷ []
-gap_lines _ _ = []
+gap_lines None bound = []
 
 -- why a certificate bounds nothing, by its name and its arguments; machines count from 1
 abbrev pub certificate_fault_words : BoundFault → List (List ℕ)
@@ -71,9 +71,8 @@ offered_lines None = []
 offered_lines (Some offered) = (codes "offered" ∷ offered_words offered) ∷ []
 
 -- the bound and its certificate
-abbrev pub bound_lines : {A : Type 0} → Option (Found A) → List (List (List ℕ))
-bound_lines None = []
-bound_lines (Some found) =
+abbrev pub bound_lines : {A : Type 0} → Found A → List (List (List ℕ))
+bound_lines found =
     (codes "bound" ∷ signed_decimal found.value ∷ []) ∷ certificate_words found.certificate ∷ []
 
 -- how the pieces fit, what is claimed, the cost, the least cost where it is known, the gap, what was
@@ -83,8 +82,8 @@ judged_lines a =
     fit_words a.fit
     ∷ (claimed_lines a.claimed
     ++ (number_lines (codes "value") (value_in a.fit)
-    ++ (number_lines (codes "best") (best_in (value_in a.fit) (bound_in a.bound))
-    ++ (gap_lines (value_in a.fit) (bound_in a.bound)
+    ++ (number_lines (codes "best") (best_in (value_in a.fit) a.bound.value)
+    ++ (gap_lines (value_in a.fit) a.bound.value
     ++ (offered_lines a.offered ++ bound_lines a.bound)))))
 
 -- all lines: a heading, what is asked, the judgement, and the jobs

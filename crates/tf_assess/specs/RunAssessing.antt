@@ -19,7 +19,7 @@ use Rattle.tf_bound_text.specs.BoundSheetData.{BoundSheetData}
 use Rattle.tf_assess.specs.declared.assessment.Assessed.{Assessed}
 use Rattle.tf_assess.specs.declared.assessment.Assessment.{Assessment}
 use Rattle.tf_assess.specs.declared.case_read.ProblemCase.{ProblemCase}
-use Rattle.tf_assess.specs.Assessing.{bound_in, assessed_of, IsAssessment}
+use Rattle.tf_assess.specs.Assessing.{assessed_of, IsAssessment}
 use Rattle.tf_assess.specs.AssessmentText.{assessment_text}
 
 -- the request and the instance text mean a task, the answer text says a sheet, and this is how it
@@ -57,7 +57,7 @@ abbrev pub AssessingOutcome : {A : Type 0} → Option BoundSheetData → Request
     → DeviceUse → DeviceUse → DeviceUse → Result Assessed (RunFault A) → Type 0
 AssessingOutcome {A = A} offer request text answer_text instance answer writer (Ok assessed) =
     (out : List ℕ) × (a : Assessment A) × IsAssessed offer request text answer_text out a
-    × (assessed ≡ assessed_of a.fit (bound_in a.bound)) × Appends writer.before writer.after out
+    × (assessed ≡ assessed_of a.fit a.bound.value) × Appends writer.before writer.after out
 AssessingOutcome {A = A} offer request text answer_text instance answer writer (Err e) =
     Leaves (SaysAssessment A offer request text answer_text)
     (IsRefusedAssessment request text answer_text)

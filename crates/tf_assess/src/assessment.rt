@@ -1,7 +1,4 @@
 //! What an assessment says.
-ghost use Rattle.std.specs.Prelude.{◌≡◌};
-ghost use Rattle.tf_assess.specs.Assessing.{bound_in};
-
 use std::alloc::{Allocator, Global};
 use tf_bound::fault::BoundFault;
 use tf_evaluate::evaluation::JobOutcome;
@@ -45,16 +42,6 @@ pub enum Offered {
     Faulty(BoundFault),
 }
 
-/// The value of a lower bound, where one was found.
-pub fn bound_in<A: Allocator>(bound: &Option<Found<A>>) -> Option<i128>
-    ensures { result ≡ bound_in bound.now }
-{
-    match bound {
-        Some(found) => Some(found.value),
-        None => None,
-    }
-}
-
 /// An answer, or a schedule of which nothing is claimed, as it stands to the task of a problem.
 #[derive(Drop)]
 pub struct Assessment<A: Allocator = Global> {
@@ -64,16 +51,15 @@ pub struct Assessment<A: Allocator = Global> {
     pub claimed: Option<i64>,
     /// What the bound that was offered comes to; `None` where none was.
     pub offered: Option<Offered>,
-    /// The strongest lower bound that was found or offered. None where each certificate that was
-    /// tried has a number beyond the limit.
-    pub bound: Option<Found<A>>,
+    /// The strongest lower bound that was found or offered.
+    pub bound: Found<A>,
     /// The jobs from 1 on, where the pieces make a schedule and the answer is for the task.
     pub outcomes: Vec<JobOutcome, A>,
 }
 
 impl<A: Allocator> Assessment<A> {
     ghost use Rattle.std.specs.Prelude.{◌≡◌};
-    ghost use Rattle.tf_assess.specs.Assessing.{value_in, bound_in, best_in, assessed_of};
+    ghost use Rattle.tf_assess.specs.Assessing.{value_in, best_in, assessed_of};
 
     /// What the schedule costs, if it fits.
     pub fn value(&self) -> Option<i128>
@@ -85,26 +71,19 @@ impl<A: Allocator> Assessment<A> {
         }
     }
 
-    /// The lower bound.
-    pub fn bound_value(&self) -> Option<i128>
-        ensures { result ≡ bound_in self.now.bound }
-    {
-        bound_in(&self.bound)
-    }
-
     /// The least cost of a timetable that fits, where the schedule shows it.
     pub fn best(&self) -> Option<i128>
-        ensures { result ≡ best_in (value_in self.now.fit) (bound_in self.now.bound) }
+        ensures { result ≡ best_in (value_in self.now.fit) self.now.bound.value }
     {
-        match (self.value(), self.bound_value()) {
-            (Some(value), Some(bound)) if value == bound => Some(value),
+        match self.value() {
+            Some(value) if value == self.bound.value => Some(value),
             _ => None,
         }
     }
 
     /// What the schedule comes to.
     pub fn assessed(&self) -> Assessed
-        ensures { result ≡ assessed_of self.now.fit (bound_in self.now.bound) }
+        ensures { result ≡ assessed_of self.now.fit self.now.bound.value }
     {
         match (&self.fit, self.best()) {
             (Some(ProblemFit::Fits(_)), Some(_)) => Assessed::Best,

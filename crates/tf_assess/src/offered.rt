@@ -1,7 +1,7 @@
 //! A bound that a text offers, judged for the task of a problem.
-ghost use Rattle.std.specs.Prelude.{◌≡◌, ◌⊎◌, Some, IfOk, IfSome};
+ghost use Rattle.std.specs.Prelude.{◌≡◌, ◌⊎◌, ◌≤ℤ◌, Some, IfOk};
 ghost use Rattle.tf_search.specs.Strongest.{IsFound};
-ghost use Rattle.tf_assess.specs.Assessing.{Counts, IsOffer, IsAtLeast, IsUsed, IsWeighed};
+ghost use Rattle.tf_assess.specs.Assessing.{Counts, IsOffer, IsUsed, IsWeighed};
 
 use crate::assess::is_for;
 use crate::assessment::Offered;
@@ -28,7 +28,7 @@ pub struct Aids<P, A: Allocator = Global> {
 #[derive(Drop)]
 pub(crate) struct Weighed<A: Allocator = Global> {
     pub offered: Option<Offered>,
-    pub bound: Option<Found<A>>,
+    pub bound: Found<A>,
 }
 
 /// What an offered bound comes to on a task. Only want of memory is an error.
@@ -52,28 +52,29 @@ fn judge_offer<A: Allocator + Copy, B: Allocator>(
 
 // The bound that was found, or the certificate of this value where that is greater.
 fn stronger<A: Allocator>(
-    found: Option<Found<A>>,
+    found: Found<A>,
     value: i128,
     certificate: BoundCertificate<A>,
-) -> Option<Found<A>>
-    ensures either { (result ≡ found) ⊎ (result ≡ Some (record {
+) -> Found<A>
+    ensures either { (result ≡ found) ⊎ (result ≡ record {
       value = value;
       certificate = certificate;
-    })) }
-    ensures least { IsAtLeast value result }
+    }) }
+    ensures least { value ≤ℤ result.value }
 {
-    match found {
-        Some(found) if value <= found.value => Some(found),
-        _ => Some(Found { value, certificate }),
+    if value <= found.value {
+        found
+    } else {
+        Found { value, certificate }
     }
 }
 
 // The bound that was found, or the certificate where what it offers is a stronger one.
 fn used<A: Allocator>(
-    found: Option<Found<A>>,
+    found: Found<A>,
     offered: &Offered,
     certificate: BoundCertificate<A>,
-) -> Option<Found<A>>
+) -> Found<A>
     ensures either { IsUsed found offered.now certificate result }
     ensures counts { Counts (Some offered.now) result }
 {
@@ -89,9 +90,9 @@ pub(crate) fn weigh<A: Allocator + Copy, B: Allocator>(
     alloc: A,
     task: &ProblemTask<B>,
     offer: Option<BoundSheet<A>>,
-    found: Option<Found<A>>,
+    found: Found<A>,
 ) -> Result<Weighed<A>, OutOfMemory>
-    requires { IfSome found (IsFound task.now) }
+    requires { IsFound task.now found }
     ensures { IfOk result (IsWeighed task.now offer) }
 {
     let Some(sheet) = offer else {

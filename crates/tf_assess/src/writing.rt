@@ -55,7 +55,7 @@ fn push_judged<A: Allocator, M: Allocator>(
     push_claimed(text, assessment.claimed)?;
     push_some(text, b"value", assessment.value())?;
     push_some(text, b"best", assessment.best())?;
-    push_gap(text, assessment.value(), assessment.bound_value())?;
+    push_gap(text, assessment.value(), assessment.bound.value)?;
     push_offered(text, &assessment.offered)?;
     push_bound(text, &assessment.bound)?;
     Ok(())
@@ -133,14 +133,14 @@ fn push_some<A: Allocator>(
 fn push_gap<A: Allocator>(
     text: &mut Vec<u8, A>,
     value: Option<i128>,
-    bound: Option<i128>,
+    bound: i128,
 ) -> Result<(), OutOfMemory>
     ensures { OnOk result
         (text.new.items ≡ text.old.items ++ flat_map line_text (gap_lines value bound)) }
 {
-    match (value, bound) {
-        (Some(value), Some(bound)) => push_number_line(text, b"gap", value.abs_diff(bound)),
-        _ => Ok(()),
+    match value {
+        Some(value) => push_number_line(text, b"gap", value.abs_diff(bound)),
+        None => Ok(()),
     }
 }
 
@@ -197,16 +197,11 @@ fn push_certificate_fault<A: Allocator>(
 // The bound and its certificate.
 fn push_bound<A: Allocator, M: Allocator>(
     text: &mut Vec<u8, A>,
-    bound: &Option<Found<M>>,
+    bound: &Found<M>,
 ) -> Result<(), OutOfMemory>
     ensures { OnOk result
         (text.new.items ≡ text.old.items ++ flat_map line_text (bound_lines bound.now)) }
 {
-    match bound {
-        Some(found) => {
-            push_number_line(text, b"bound", found.value)?;
-            push_certificate(text, &found.certificate)
-        }
-        None => Ok(()),
-    }
+    push_number_line(text, b"bound", bound.value)?;
+    push_certificate(text, &bound.certificate)
 }

@@ -9,11 +9,11 @@ use Rattle.tf_model.specs.Bounds.{stands_in}
 use Rattle.tf_model.specs.ClassTable.{is_shop_env}
 use Rattle.tf_problem.specs.ProblemData.{ProblemData}
 use Rattle.tf_problem.specs.ProblemBounds.{is_alike, is_by_machine, is_max_goal, is_sum_goal, is_tardy_goal}
-use Rattle.tf_problem.specs.Pushed.{pushed, pushed_job}
-use Rattle.std.specs.Cmp.{second_so}
+use Rattle.tf_problem.specs.Pushed.{with_dates, pushed_job}
+use Rattle.tf_problem.proofs.PushedBounds.{lateness_is}
 use Rattle.tf_bound.specs.Judged.{IsPushedTask}
 use Rattle.tf_bound.specs.Kinds.{takes_machine, takes_one_job}
-use Rattle.tf_bound.specs.Faulted.{is_job, list_fault, no_job, other_kind, no_machine, too_few, certificate_fault, multipliers_fault, prices_fault, NamesFault}
+use Rattle.tf_bound.specs.Faulted.{is_job, list_fault, no_job, other_kind, no_machine, too_few, certificate_fault, multipliers_fault, prices_fault, alone_fault, NamesFault}
 use Rattle.tf_bound.specs.declared.fault.BoundFault.{BoundFault}
 use Rattle.tf_bound.specs.declared.fault.BoundFault.TheVariants.{OtherKind, BadJob, Repeated}
 use Rattle.tf_bound.specs.declared.certificate.BoundCertificate.{BoundCertificate}
@@ -73,51 +73,63 @@ no_prices k q prices h =
     first_is _ _ OtherKind (wrong_kind _ (and_right (is_alike k.problem.env && not k.problem.prmp)
     (is_sum_goal k.problem.goal) (not_sum k.problem.goal h)))
 
+no_alone : (k : ProblemData) → IsTrue (is_max_goal k.problem.goal)
+    → alone_fault k ≡ Some OtherKind
+no_alone k h = wrong_kind _ (not_sum k.problem.goal h)
+
 -- ---- any kind
 
 module _ (k : ProblemData) (r : List ℕ) (d : List ℤ) (goal : IsTrue (is_max_goal k.problem.goal)) where
-  len : length (pushed k r d).jobs ≡ length k.jobs
+  abbrev other : ProblemData
+  other = with_dates k goals.Lmax r d
+
+  len : length other.jobs ≡ length k.jobs
   len = length-map-range_with_len (pushed_job k r d) 1 (length k.jobs)
 
   same_set : (b : Bool → Bool) (n : ℕ) (jobs : List ℕ)
-      → option_or (other_kind (b true)) (option_or (list_fault (pushed k r d) [] jobs) (too_few n jobs))
+      → option_or (other_kind (b true)) (option_or (list_fault other [] jobs) (too_few n jobs))
       ≡ option_or (other_kind (b (is_max_goal k.problem.goal)))
       (option_or (list_fault k [] jobs) (too_few n jobs))
   same_set b n jobs =
       ap (λ t. option_or (other_kind (b t))
-      (option_or (list_fault (pushed k r d) [] jobs) (too_few n jobs))) (sym goal)
+      (option_or (list_fault other [] jobs) (too_few n jobs))) (sym goal)
       ∙ ap (λ o. option_or (other_kind (b (is_max_goal k.problem.goal))) (option_or o (too_few n jobs)))
-      (same_list k (pushed k r d) len [] jobs)
+      (same_list k other len [] jobs)
 
   on_pushed : {A : Type 0} (c : BoundCertificate A)
-      → certificate_fault (pushed k r d) c ≡ certificate_fault k c
+      → certificate_fault other c ≡ certificate_fault k c
   on_pushed (kinds.Machine machine jobs) =
       ap (λ t. option_or (other_kind (is_by_machine k.problem.env && t)) (option_or (no_machine k machine)
-      (option_or (list_fault (pushed k r d) [] jobs.items) (too_few 0 jobs.items)))) (sym goal)
+      (option_or (list_fault other [] jobs.items) (too_few 0 jobs.items)))) (sym goal)
       ∙ ap (λ o. option_or (other_kind (takes_machine k.problem)) (option_or (no_machine k machine)
-      (option_or o (too_few 0 jobs.items)))) (same_list k (pushed k r d) len [] jobs.items)
+      (option_or o (too_few 0 jobs.items)))) (same_list k other len [] jobs.items)
   on_pushed (kinds.Window jobs) = same_set (λ t. is_alike k.problem.env && t) 0 jobs.items
   on_pushed (kinds.Crowd h jobs) =
       same_set (λ t. (is_alike k.problem.env && t) && not k.problem.prmp) (h * k.machines) jobs.items
   on_pushed (kinds.OneJob job) =
       ap (λ t. option_or (other_kind ((is_alike k.problem.env || is_shop_env k.problem.env) && t))
-      (no_job (pushed k r d) job)) (sym goal)
+      (no_job other job)) (sym goal)
       ∙ ap (λ o. option_or (other_kind (takes_one_job k.problem)) o)
-      (same_no_job k (pushed k r d) len job)
+      (same_no_job k other len job)
   on_pushed (kinds.Multipliers machine q numerators) =
-      no_multipliers (pushed k r d) machine q numerators.items refl
+      no_multipliers other machine q numerators.items refl
       ∙ sym (no_multipliers k machine q numerators.items goal)
   on_pushed (kinds.Prices q rows) =
-      no_prices (pushed k r d) q rows.items refl ∙ sym (no_prices k q rows.items goal)
+      no_prices other q rows.items refl ∙ sym (no_prices k q rows.items goal)
+  on_pushed kinds.Alone = no_alone other refl ∙ sym (no_alone k goal)
 
-pub fault_on_pushed : {A : Type 0} (k other : ProblemData) (c : BoundCertificate A)
-    → IsPushedTask k other → certificate_fault other c ≡ certificate_fault k c
-fault_on_pushed k other c is =
-    ap (λ (o : ProblemData). certificate_fault o c) is.is ∙ on_pushed k is.r is.d (second_so k.problem.prec (is_max_goal k.problem.goal) is.moved) c
+pub fault_on_pushed : {A : Type 0} (k it : ProblemData) (c : BoundCertificate A)
+    → IsTrue (is_max_goal k.problem.goal) → IsPushedTask k it
+    → certificate_fault it c ≡ certificate_fault k c
+fault_on_pushed k it c goal is =
+    ap (λ (o : ProblemData). certificate_fault o c) is.is
+    ∙ ap (λ (g : Goal). certificate_fault (with_dates k g is.r is.d) c)
+    (lateness_is k.problem.goal goal)
+    ∙ on_pushed k is.r is.d goal c
 
 -- what is answered on that task is the answer on the task
 pub named_on_pushed : {A X : Type 0} (k other : ProblemData) (c : BoundCertificate A)
-    (result : Result X BoundFault) → IsPushedTask k other
+    (result : Result X BoundFault) → IsTrue (is_max_goal k.problem.goal) → IsPushedTask k other
     → NamesFault (certificate_fault other c) result → NamesFault (certificate_fault k c) result
-named_on_pushed k other c result is h =
-    subst (λ o. NamesFault o result) (fault_on_pushed k other c is) h
+named_on_pushed k other c result goal is h =
+    subst (λ o. NamesFault o result) (fault_on_pushed k other c goal is) h

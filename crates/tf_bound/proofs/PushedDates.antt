@@ -9,14 +9,14 @@ use Rattle.std.proofs.lemmas.List.{get_or-map, get_or_default, get_or_past, leng
 use Rattle.tf_model.specs.Limit.{limit}
 use Rattle.tf_model.specs.Whole.{as_time, IsWithin}
 use Rattle.tf_problem.specs.ProblemData.{ProblemData, IsProblemJob, no_problem_job, problem_job, problem_jobs, problem_release, problem_due}
-use Rattle.tf_problem.specs.ProblemBounds.{problem_work}
-use Rattle.tf_problem.specs.Pushed.{release_in, due_in, pushed, pushed_job}
+use Rattle.tf_problem.specs.ProblemBounds.{is_max_goal, problem_work}
+use Rattle.tf_problem.specs.Pushed.{release_in, due_in, pushed, pushed_job, serving_by, AreServingDues}
 use Rattle.tf_bound.specs.declared.pushed.Number.TheVariants.{Tail}
 use Rattle.tf_model.specs.ClassTable.{is_shop_env}
 use Rattle.std.proofs.lemmas.List.FromFn.{get_or-map-range_with_len, length-map-range_with_len}
 use Rattle.tf_bound.specs.Along.{AreAlong, AreAmong, AreDated, AreTimes, AreWithin}
 use Rattle.tf_bound.specs.JobNumbers.{number_by}
-use Rattle.tf_bound.specs.Judged.{AreHeads, AreDeadlines, AreDuesWithin, IsPushedTask}
+use Rattle.tf_bound.specs.Judged.{AreHeads, AreDeadlines, AreKeptDues, AreMovedDues, AreDuesWithin, IsPushedTask, moved_by}
 use Rattle.tf_bound.specs.Sized.{IsSized, IsSizedJob, work as total}
 use Rattle.tf_bound.proofs.RaisedDates.{no_earlier}
 use Rattle.tf_bound.proofs.Dates.{swap, in_list, all_in_list, few_in_list, work_of, own_tail, tail_is, due_within}
@@ -298,6 +298,22 @@ module _ (k : ProblemData) (sized : IsSized k) (work : List ℕ)
 
 -- ---- the task with these dates
 
+-- there is a due date for each job
+pub moved_len : (k : ProblemData) (d : List ℤ) → AreMovedDues k d → length d ≡ length k.jobs
+moved_len k d dues = by (is_max_goal k.problem.goal) dues
+  where
+    by : (m : Bool) → moved_by m k d → length d ≡ length k.jobs
+    by true x = x.len
+    by false x = x.len
+
+-- they serve the objective
+pub moved_serve : (k : ProblemData) (d : List ℤ) → AreMovedDues k d → AreServingDues k d
+moved_serve k d dues = by (is_max_goal k.problem.goal) dues
+  where
+    by : (m : Bool) → moved_by m k d → serving_by m k d
+    by true x = x.greatest
+    by false x = x.own
+
 module _ (k : ProblemData) (sized : IsSized k) where
   -- its dates are within the limit
   module _ (r : List ℕ) (d : List ℤ) (its : IsSized (pushed k r d)) where
@@ -362,13 +378,43 @@ module _ (k : ProblemData) (sized : IsSized k) where
       ∙ omega (arith, ints, at, its, ap (λ l. slice_index l i) same)
       ∙ get_or_default e i (pos 0) z there)
 
+  pub kept_within : (d : List ℤ) → AreKeptDues k d → AreDuesWithin d
+  kept_within d kept j =
+      ⊎_elim
+      (λ lt. let index : j - 1 + 1 - 1 ≡ j - 1 = omega arith in
+      let job : IsProblemJob k (j - 1 + 1) = (omega arith, omega (arith, lt, kept.len)) in
+      subst (λ (n : ℕ). IsWithin (slice_index_or d n (pos 0))) index
+      (subst IsWithin (sym (kept.own (j - 1 + 1) job)) (sized_job k sized (j - 1 + 1) job).due))
+      (λ past. subst IsWithin (sym (get_or_past d (j - 1) (pos 0) past))
+      (omega (arith, ints), omega (arith, ints))) (cases_lt (j - 1) (length d))
+
+  kept_same : (d e : List ℤ) → AreKeptDues k d → AreKeptDues k e → d ≡ e
+  kept_same d e one other =
+      same_lists d e (one.len ∙ sym other.len)
+      (λ i z lt. let index : i + 1 - 1 ≡ i = omega arith in
+      let job : IsProblemJob k (i + 1) = (omega arith, omega (arith, lt, one.len)) in
+      get_or_default d i z (pos 0) lt
+      ∙ ap (λ n. slice_index_or d n (pos 0)) (sym index)
+      ∙ one.own (i + 1) job ∙ sym (other.own (i + 1) job)
+      ∙ ap (λ n. slice_index_or e n (pos 0)) index
+      ∙ get_or_default e i (pos 0) z (omega (arith, lt, one.len, other.len)))
+
+  moved_same : (d e : List ℤ) → AreMovedDues k d → AreDuesWithin d → AreMovedDues k e
+      → AreDuesWithin e → d ≡ e
+  moved_same d e one within other fits = by (is_max_goal k.problem.goal) one other
+    where
+      by : (m : Bool) → moved_by m k d → moved_by m k e → d ≡ e
+      by true x y = dues_same d e x within y fits
+      by false x y = kept_same d e x y
+
   -- no other one is within the limits where the one with these dates is not
-  pub only_pushed : (r : List ℕ) (d : List ℤ) → AreHeads k r → AreDeadlines k d → AreDuesWithin d
+  pub only_pushed : (r : List ℕ) (d : List ℤ) → AreHeads k r → AreMovedDues k d → AreDuesWithin d
       → (IsSized (pushed k r d) → ⊥) → (other : ProblemData) → IsPushedTask k other → ⊥
   only_pushed r d heads dues within not_sized other is =
       let its : IsSized (pushed k is.r is.d) = subst IsSized is.is is.sized in
       let same_r = heads_same is.r r is.heads heads in
-      let same_d = dues_same is.d d is.dues (dues_within is.r is.d its is.dues.len) dues within in
+      let len : length is.d ≡ length k.jobs = moved_len k is.d is.dues in
+      let same_d = moved_same is.d d is.dues (dues_within is.r is.d its len) dues within in
       not_sized (subst (λ (e : List ℤ). IsSized (pushed k r e)) same_d
       (subst (λ (s : List ℕ). IsSized (pushed k s is.d)) same_r its))
 

@@ -1,15 +1,17 @@
 -- A task within the limits is sound.
-use Rattle.std.proofs.Common.{◌≡◌, Bool, true, false, ℕ, ◌+◌, ◌-◌, List, [], ◌∷◌, length, sum, sum_by, slice_index, cond, refl, sym, ap, ◌∙◌, arith}
+use Rattle.std.proofs.Common.{◌≡◌, Bool, true, false, not, ◌&&◌, ◌||◌, IsTrue, ℕ, ◌+◌, ◌-◌, ◌≤◌, List, [], ◌∷◌, length, sum, sum_by, slice_index, cond, refl, sym, ap, ◌∙◌, arith}
 use Rattle.std.specs.List.{range_with_len}
-use Rattle.std.proofs.lemmas.Bool.{false≢true}
-use Rattle.std.proofs.lemmas.List.Sums.{sum_by-cons}
+use Rattle.std.proofs.lemmas.Bool.{false≢true, and_parts}
+use Rattle.std.proofs.lemmas.List.Sums.{sum_by-cons, get_or-le-sum_by}
+use Rattle.tf_model.specs.Limit.{limit}
 use Rattle.tf_model.specs.ClassTable.{is_shop_env}
 use Rattle.tf_model.proofs.Costs.{sum_by-from}
 use Rattle.tf_model.proofs.Sums.{sum_by-same}
 use Rattle.tf_problem.specs.ProblemData.{ProblemData, IsProblemSound, IsProblemJob, problem_job, problem_time, time_over, no_problem_job}
-use Rattle.tf_problem.specs.ProblemData.{problem_jobs}
-use Rattle.tf_problem.specs.ProblemBounds.{numerator, problem_work}
-use Rattle.tf_bound.specs.Sized.{IsSized, IsSizedJob, work}
+use Rattle.tf_problem.specs.ProblemData.{problem_jobs, problem_release, is_covered_env, is_covered_goal}
+use Rattle.tf_problem.specs.ProblemBounds.{is_alike, numerator, problem_work}
+use Rattle.tf_problem.proofs.Pushed.{known_env}
+use Rattle.tf_bound.specs.Sized.{IsSized, IsSizedJob, all_work, work}
 
 -- what is known of a job that is there
 pub sized_job : (k : ProblemData) → IsSized k → (j : ℕ) → IsProblemJob k j
@@ -55,6 +57,21 @@ sound k sized = record {
   arcs_in = sized.arcs_in;
 }
 
+-- the environment is one that the definitions cover
+pub env_is : (k : ProblemData) → IsSized k
+    → IsTrue (is_alike k.problem.env || is_shop_env k.problem.env)
+env_is k sized = known_env k.problem.env
+    (and_parts (is_covered_env k.problem.env) (is_covered_goal k.problem.goal)
+    (and_parts (is_covered_env k.problem.env && is_covered_goal k.problem.goal)
+    (not (k.problem.block || k.problem.rcrc)) sized.covered).0).0
+
+-- and so is the objective
+pub goal_is : (k : ProblemData) → IsSized k → IsTrue (is_covered_goal k.problem.goal)
+goal_is k sized =
+    (and_parts (is_covered_env k.problem.env) (is_covered_goal k.problem.goal)
+    (and_parts (is_covered_env k.problem.env && is_covered_goal k.problem.goal)
+    (not (k.problem.block || k.problem.rcrc)) sized.covered).0).1
+
 -- the numerators of all jobs are all numerators
 pub all_numerators : (k : ProblemData) (v : List ℕ) → length v ≡ length k.jobs
     → sum_by (numerator v) (problem_jobs k) ≡ sum v
@@ -73,3 +90,18 @@ work_is k sized j job = by (is_shop_env k.problem.env) refl
     by false e =
         ap (λ t. cond t (time_over k j 0 k.machines) (problem_time k j)) e
         ∙ sym (one_sum (problem_job k j).times ((sized_job k sized j job).one_time e))
+
+-- a job that starts at its release date completes within the limit
+pub ends_within : (k : ProblemData) → IsSized k → (j : ℕ) → IsProblemJob k j
+    → problem_release k j + problem_work k j ≤ limit
+ends_within k sized j job =
+    let place : j - 1 + 1 ≤ length k.jobs = omega (arith, job.0, job.1) in
+    let own : (problem_job k j).release + all_work k ≤ limit =
+    sized.horizon (j - 1) no_problem_job (omega (arith, place)) in
+    let its : work (problem_job k j) ≤ all_work k =
+    get_or-le-sum_by work k.jobs (j - 1) no_problem_job (omega (arith, place)) in
+    omega (arith, own, its, work_is k sized j job, by k.problem.release)
+  where
+    by : (named : Bool) → cond named (problem_job k j).release 0 ≤ (problem_job k j).release
+    by true = omega arith
+    by false = omega arith

@@ -1,11 +1,20 @@
 -- What a certificate of each kind bounds a task by.
-use Rattle.std.specs.Prelude.{◌≡◌, ℤ}
+use Rattle.std.specs.Prelude.{◌≡◌, ℕ, ℤ, pos, min}
 use Rattle.tf_problem.specs.ProblemData.{ProblemData}
-use Rattle.tf_problem.specs.ProblemBounds.{machine_value, window_value, crowd_value, one_job_value, multiplier_value}
+use Rattle.tf_problem.specs.ProblemBounds.{machine_value, window_value, crowd_value, one_job_value, multiplier_value, alone_cost}
 use Rattle.tf_bound.specs.Prices.{IsPricesBound}
-use Rattle.tf_bound.specs.Judged.{IsJudgedTask}
+use Rattle.tf_bound.specs.Judged.{IsDatedTask, IsJudgedTask}
 use Rattle.tf_bound.specs.declared.certificate.BoundCertificate.{BoundCertificate}
-use Rattle.tf_bound.specs.declared.certificate.BoundCertificate.TheVariants.{Machine, Window, Crowd, OneJob, Multipliers, Prices}
+use Rattle.tf_bound.specs.declared.certificate.BoundCertificate.TheVariants.{Machine, Window, Crowd, OneJob, Multipliers, Prices, Alone}
+
+-- the greatest value that the text of a bound can say
+abbrev pub most_value : ℕ
+most_value = 9223372036854775807
+
+-- what the jobs cost alone on the task whose dates follow by the arcs, or that value where it is more
+abbrev pub IsAloneBound : ProblemData → ℤ → Type 0
+IsAloneBound k b =
+    (other : ProblemData) × IsDatedTask k other × (b ≡ pos (min (alone_cost other) most_value))
 
 -- the number is the value of the certificate's kind, by its jobs or numbers
 abbrev pub IsValueOn : {A : Type 0} → ProblemData → BoundCertificate A → ℤ → Type 0
@@ -16,6 +25,7 @@ IsValueOn k (OneJob job) b = b ≡ one_job_value k job
 IsValueOn k (Multipliers machine q numerators) b =
     b ≡ multiplier_value k machine numerators.items q
 IsValueOn k (Prices q rows) b = IsPricesBound k q rows.items b
+IsValueOn k Alone b = IsAloneBound k b
 
 -- the number is that value on the task on which the certificate is judged
 abbrev pub IsBoundBy : {A : Type 0} → ProblemData → BoundCertificate A → ℤ → Type 0

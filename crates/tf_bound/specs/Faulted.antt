@@ -10,7 +10,7 @@ use Rattle.tf_problem.specs.ProblemData.{ProblemData, problem_jobs, problem_due,
 use Rattle.tf_problem.specs.ProblemCost.{penalty}
 use Rattle.tf_problem.specs.ProblemBounds.{head, int_sum, numerator, tail}
 use Rattle.tf_problem.specs.Relaxed.{weighed_task}
-use Rattle.tf_bound.specs.Kinds.{takes_machine, takes_windows, takes_crowds, takes_one_job, takes_multipliers, takes_prices}
+use Rattle.tf_bound.specs.Kinds.{takes_machine, takes_windows, takes_crowds, takes_one_job, takes_multipliers, takes_prices, takes_alone}
 use Rattle.tf_bound.specs.declared.fault.BoundFault.{BoundFault}
 use Rattle.tf_bound.specs.declared.fault.BoundFault.TheVariants.{OtherKind, NoDenominator, BadMachine, BadJob, Repeated, TooFew, Numerators, Condition, TooLarge, OutOfMemory}
 use Rattle.tf_bound.specs.declared.certificate.BoundCertificate.{BoundCertificate}
@@ -166,6 +166,11 @@ prices_fault k q prices =
     (option_or (no_denominator q)
     (too_large (are_prices_large k q prices)))
 
+-- ---- each job alone
+
+abbrev pub alone_fault : ProblemData → Option BoundFault
+alone_fault k = other_kind (takes_alone k.problem)
+
 -- ---- any kind
 
 abbrev pub certificate_fault : {A : Type 0} → ProblemData → BoundCertificate A → Option BoundFault
@@ -176,3 +181,4 @@ certificate_fault k (kinds.OneJob job) = one_job_fault k job
 certificate_fault k (kinds.Multipliers machine q numerators) =
     multipliers_fault k machine q numerators.items
 certificate_fault k (kinds.Prices q rows) = prices_fault k q rows.items
+certificate_fault k kinds.Alone = alone_fault k

@@ -1,11 +1,10 @@
 -- The task on which a certificate is judged.
-use Rattle.std.specs.Prelude.{◌≡◌, ℕ, ◌⊎◌, ◌+◌, ◌≤◌, ◌<◌, Bool, ◌&&◌, ℤ, pos, ◌-ℤ◌, ◌≤ℤ◌, List, length, IsTrue}
+use Rattle.std.specs.Prelude.{◌≡◌, ℕ, ◌⊎◌, ◌+◌, ◌≤◌, ◌<◌, Bool, true, false, ℤ, pos, ◌-ℤ◌, ◌≤ℤ◌, List, length, IsTrue}
 use Rattle.std.specs.List.{All}
-use Rattle.tf_model.specs.declared.problem.Problem.{Problem}
 use Rattle.tf_model.specs.Whole.{IsWithin}
 use Rattle.tf_problem.specs.ProblemData.{ProblemData, IsProblemJob, problem_release, problem_due}
 use Rattle.tf_problem.specs.ProblemBounds.{is_max_goal, problem_work}
-use Rattle.tf_problem.specs.Pushed.{release_in, due_in, pushed, AreReleases, AreDues}
+use Rattle.tf_problem.specs.Pushed.{release_in, due_in, pushed, AreReleases, AreDues, AreOwnDues}
 use Rattle.tf_bound.specs.Sized.{IsSized}
 
 -- the least release dates that are at least the jobs' own, and along each arc at least that of the
@@ -28,24 +27,40 @@ pub record AreDeadlines (k : ProblemData) (d : List ℤ) : Type 0 where
 abbrev pub AreDuesWithin : List ℤ → Type 0
 AreDuesWithin d = (j : ℕ) → IsWithin (due_in d j)
 
--- arcs move the dates of the problem's tasks
-abbrev pub is_moved : Problem → Bool
-is_moved problem = problem.prec && is_max_goal problem.goal
+-- the jobs' own due dates
+pub record AreKeptDues (k : ProblemData) (d : List ℤ) : Type 0 where
+  pub len : length d ≡ length k.jobs
+  pub own : AreOwnDues k d
 
--- The task asks for the makespan or the maximum lateness under arcs, and the other is the same with
--- the dates that follow by the arcs, all within the limits. There are no such dates where the arcs
--- form a cycle.
+-- for a maximum the due dates that follow by the arcs, and for a sum the jobs' own
+abbrev pub moved_by : Bool → ProblemData → List ℤ → Type 0
+moved_by true k d = AreDeadlines k d
+moved_by false k d = AreKeptDues k d
+
+abbrev pub AreMovedDues : ProblemData → List ℤ → Type 0
+AreMovedDues k d = moved_by (is_max_goal k.problem.goal) k d
+
+-- The task has arcs, and the other is the same with the dates that follow by them, all within the
+-- limits. There are no such dates where the arcs form a cycle.
 pub record IsPushedTask (k other : ProblemData) : Type 0 where
-  pub moved : IsTrue (is_moved k.problem)
+  pub moved : IsTrue k.problem.prec
   pub some_arc : 0 < length k.arcs
   pub r : List ℕ
   pub d : List ℤ
   pub heads : AreHeads k r
-  pub dues : AreDeadlines k d
+  pub dues : AreMovedDues k d
   pub is : other ≡ pushed k r d
   pub sized : IsSized other
 
 -- the one whose dates follow by the arcs, and the task itself where there is none
-abbrev pub IsJudgedTask : ProblemData → ProblemData → Type 0
-IsJudgedTask k other =
+abbrev pub IsDatedTask : ProblemData → ProblemData → Type 0
+IsDatedTask k other =
     IsPushedTask k other ⊎ ((other ≡ k) × ((it : ProblemData) → ¬ (IsPushedTask k it)))
+
+-- that one for a maximum, and the task itself for a sum
+abbrev pub judged_by : Bool → ProblemData → ProblemData → Type 0
+judged_by true k other = IsDatedTask k other
+judged_by false k other = other ≡ k
+
+abbrev pub IsJudgedTask : ProblemData → ProblemData → Type 0
+IsJudgedTask k other = judged_by (is_max_goal k.problem.goal) k other

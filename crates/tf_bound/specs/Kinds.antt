@@ -27,3 +27,7 @@ takes_multipliers p = is_by_machine p.env && is_tardy_goal p.goal
 -- a sum over jobs that are not preempted, on one machine or on identical ones
 abbrev pub takes_prices : Problem → Bool
 takes_prices p = (is_alike p.env && not p.prmp) && is_sum_goal p.goal
+
+-- a sum over the jobs
+abbrev pub takes_alone : Problem → Bool
+takes_alone p = is_sum_goal p.goal

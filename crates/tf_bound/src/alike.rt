@@ -15,6 +15,7 @@ ghost use Rattle.tf_problem.specs.ProblemBounds.{problem_work, window_value};
 ghost use Rattle.tf_bound.specs.Kinds.{takes_windows, takes_one_job};
 ghost use Rattle.tf_bound.specs.Faulted.{crowd_fault, one_job_fault, window_fault};
 ghost use Rattle.tf_bound.specs.Faulted.{NamesFault};
+ghost use Rattle.tf_bound.specs.Sized.{IsSized};
 
 use crate::fault::BoundFault;
 use crate::jobs::judge_list;
@@ -194,13 +195,24 @@ pub fn one_job_bound<B: Allocator>(task: &ProblemTask<B>, job: JobId) -> Result<
     if job.get() as usize > task.len() {
         return Err(BoundFault::BadJob(job));
     }
+    Ok(one_job_value(task, job))
+}
+
+/// What a job of a maximum costs at least.
+pub fn one_job_value<B: Allocator>(task: &ProblemTask<B>, job: JobId) -> i128
+    requires job { IsProblemJob task.now job }
+    requires goal { IsTrue (is_max_goal task.now.problem.goal) }
+    ensures value { result ≡ one_job_value task.now job }
+    ensures bound { IsLowerBound task.now result }
+{
     one_job_law();
-    Ok(one_job_span(task, job))
+    one_job_span(task, job)
 }
 
 fn one_job_span<B: Allocator>(task: &ProblemTask<B>, job: JobId) -> i128
     requires { IsProblemJob task.now job }
-    ensures { result ≡ one_job_value task.now job }
+    ensures value { result ≡ one_job_value task.now job }
+    ensures sized { IsSized task.now }
 {
     i128::from(task.release(job) + task.work(job)) - i128::from(task.due(job))
 }

@@ -5,11 +5,12 @@ ghost use Rattle.tf_bound.specs.Faulted.{certificate_fault, NamesFault};
 ghost use Rattle.tf_bound.specs.Certified.{IsBoundBy, IsValueOn};
 
 use crate::alike::{crowd_bound, one_job_bound, window_bound};
+use crate::alone::alone_bound;
 use crate::fault::BoundFault;
 use crate::machine::machine_bound;
 use crate::multipliers::multipliers_bound;
 use crate::prices::prices_bound;
-use crate::pushed::pushed_task;
+use crate::pushed::judged_task;
 use crate::task::ProblemTask;
 use std::alloc::{Allocator, Global};
 use tf_model::ids::JobId;
@@ -46,6 +47,8 @@ pub enum BoundCertificate<A: Allocator = Global> {
         q: u64,
         rows: Vec<u64, A>,
     },
+    /// Each job by itself, from its release date on, or from the one that follows by the arcs.
+    Alone,
 }
 
 impl<A: Allocator> BoundCertificate<A> {
@@ -60,8 +63,8 @@ impl<A: Allocator> BoundCertificate<A> {
         ensures value { IfOk result (IsBoundBy task.now self.now) }
         ensures bound { IfOk result (IsLowerBound task.now) }
     {
-        match pushed_task(alloc, task)? {
-            Some(pushed) => self.bound_on(alloc, &pushed),
+        match judged_task(alloc, task)? {
+            Some(judged) => self.bound_on(alloc, &judged),
             None => self.bound_on(alloc, task),
         }
     }
@@ -89,6 +92,7 @@ impl<A: Allocator> BoundCertificate<A> {
                 numerators,
             } => multipliers_bound(alloc, task, *machine, numerators, *q),
             BoundCertificate::Prices { q, rows } => prices_bound(alloc, task, *q, rows),
+            BoundCertificate::Alone => alone_bound(alloc, task),
         }
     }
 }

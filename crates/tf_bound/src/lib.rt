@@ -2,6 +2,7 @@
 #![tactic(auto)]
 
 pub mod alike;
+pub mod alone;
 mod along;
 pub mod certificate;
 pub mod fault;

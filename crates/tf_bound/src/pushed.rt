@@ -1,14 +1,16 @@
 //! The task whose release dates and due dates follow by its arcs.
-ghost use Rattle.std.specs.Prelude.{◌≡◌, ◌*◌, ℕ, ℤ, List, ◌<◌, ◌≤◌, pos, ◌-ℤ◌, length, map, IfOk, IfSome};
+ghost use Rattle.std.specs.Prelude.{◌≡◌, ◌*◌, ℕ, ℤ, List, ◌<◌, ◌≤◌, pos, ◌-ℤ◌, length, map, IfOk, IfSome, IsTrue};
 ghost use Rattle.std.specs.Prelude.{MatchOption, slice_index, slice_index_or};
 ghost use Rattle.tf_model.specs.Limit.{limit};
-ghost use Rattle.tf_problem.specs.ProblemData.{ProblemData, IsProblemJob, problem_jobs};
+ghost use Rattle.tf_problem.specs.ProblemData.{ProblemData, IsProblemJob, problem_job};
+ghost use Rattle.tf_problem.specs.ProblemData.{problem_jobs};
 ghost use Rattle.tf_problem.specs.ProblemCost.{IsLowerBound};
-ghost use Rattle.tf_problem.specs.ProblemBounds.{problem_work};
-ghost use Rattle.tf_problem.specs.Pushed.{pushed, pushed_job};
+ghost use Rattle.tf_problem.specs.ProblemBounds.{is_max_goal, problem_work};
+ghost use Rattle.tf_problem.specs.Pushed.{dated_goal, pushed, pushed_job};
 ghost use Rattle.tf_bound.specs.JobNumbers.{number_by};
 ghost use Rattle.tf_bound.specs.Along.{AreWithin};
-ghost use Rattle.tf_bound.specs.Judged.{AreDeadlines, AreDuesWithin, AreHeads, IsPushedTask, is_moved};
+ghost use Rattle.tf_bound.specs.Judged.{AreDeadlines, AreDuesWithin, AreHeads, AreKeptDues};
+ghost use Rattle.tf_bound.specs.Judged.{AreMovedDues, IsJudgedTask, IsPushedTask};
 ghost use Rattle.tf_bound.specs.Sized.{IsSized};
 
 use crate::along::dates_along;
@@ -29,9 +31,30 @@ enum Number {
     Tail,
 }
 
-/// The task whose dates follow by the arcs, for the makespan or the maximum lateness. None where
-/// there is no arc, or another objective; where the arcs form a cycle; or where a date is beyond
-/// the limit.
+/// The task on which a certificate is judged, where that is another: for a maximum the one whose
+/// dates follow by the arcs.
+pub fn judged_task<A: Allocator + Copy, B: Allocator>(
+    alloc: A,
+    task: &ProblemTask<B>,
+) -> Result<Option<ProblemTask<A>>, OutOfMemory>
+    ensures judged { IfOk result (λ found. MatchOption found
+        (IsJudgedTask task.now task.now) (IsJudgedTask task.now)) }
+    ensures bound { IfOk result (λ found. IfSome found (λ other.
+        (b : ℤ) → IsLowerBound other b → IsLowerBound task.now b)) }
+    ensures dated { IfOk result (λ found. IfSome found (IsPushedTask task.now)) }
+    ensures goal { IfOk result (λ found. IfSome found (λ _.
+        IsTrue (is_max_goal task.now.problem.goal))) }
+{
+    if is_of_maximum(task.problem().goal) {
+        pushed_task(alloc, task)
+    } else {
+        Ok(None)
+    }
+}
+
+/// The task whose dates follow by the arcs: its release dates, and for the makespan or the maximum
+/// lateness its due dates. None where there is no arc; where the arcs form a cycle; or where a date
+/// is beyond the limit.
 pub fn pushed_task<A: Allocator + Copy, B: Allocator>(
     alloc: A,
     task: &ProblemTask<B>,
@@ -42,25 +65,25 @@ pub fn pushed_task<A: Allocator + Copy, B: Allocator>(
     ensures bound { IfOk result (λ found. IfSome found (λ other.
         (b : ℤ) → IsLowerBound other b → IsLowerBound task.now b)) }
 {
-    if !is_pushed(task.problem()) || task.arcs().is_empty() {
+    if !task.problem().prec || task.arcs().is_empty() {
         return Ok(None);
     }
     let work = numbers(alloc, task, Number::Work)?;
     let Some(releases) = heads(alloc, task, &work)? else {
         return Ok(None);
     };
-    let Some(dues) = deadlines(alloc, task, &work)? else {
+    let Some(dues) = dues(alloc, task, &work)? else {
         return Ok(None);
     };
     pushed_law();
     with_dates(alloc, task, &releases, &dues)
 }
 
-// Whether arcs move the dates of a problem's tasks.
-fn is_pushed(problem: Problem) -> bool
-    ensures { result ≡ is_moved problem }
+/// Whether the objective is the makespan or the maximum lateness.
+pub fn is_of_maximum(goal: Goal) -> bool
+    ensures { result ≡ is_max_goal goal }
 {
-    problem.prec && matches!(problem.goal, Goal::Cmax | Goal::Lmax)
+    matches!(goal, Goal::Cmax | Goal::Lmax)
 }
 
 fn number_of<B: Allocator>(task: &ProblemTask<B>, number: Number, job: JobId) -> u64
@@ -102,6 +125,45 @@ fn heads<A: Allocator + Copy, B: Allocator>(
 {
     let own = numbers(alloc, task, Number::Release)?;
     dates_along(alloc, &own, work, task.arcs())
+}
+
+// The due dates: for a maximum those that follow by the arcs, for a sum the jobs' own.
+fn dues<A: Allocator + Copy, B: Allocator>(
+    alloc: A,
+    task: &ProblemTask<B>,
+    work: &[u64],
+) -> Result<Option<Vec<i64, A>>, OutOfMemory>
+    requires { work.now ≡ map (problem_work task.now) (problem_jobs task.now) }
+    ensures { IfOk result (λ found. MatchOption found
+        ((d : List ℤ) → AreMovedDues task.now d → ¬ (AreDuesWithin d))
+        (λ dues. AreMovedDues task.now dues.items × AreDuesWithin dues.items)) }
+{
+    if is_of_maximum(task.problem().goal) {
+        return deadlines(alloc, task, work);
+    }
+    Ok(Some(own_dues(alloc, task)?))
+}
+
+fn own_due<B: Allocator>(task: &ProblemTask<B>, job: JobId) -> i64
+    requires { IsProblemJob task.now job }
+    ensures { result ≡ (problem_job task.now job).due }
+{
+    task.job(job).due
+}
+
+// The jobs' own due dates.
+fn own_dues<A: Allocator, B: Allocator>(
+    alloc: A,
+    task: &ProblemTask<B>,
+) -> Result<Vec<i64, A>, OutOfMemory>
+    ensures kept { IfOk result (λ dues. AreKeptDues task.now dues.items) }
+    ensures within { IfOk result (λ dues. AreDuesWithin dues.items) }
+{
+    let mut dues = Vec::with_capacity(alloc, task.len())?;
+    for k in 0..task.len() {
+        dues.push(own_due(task, JobId::at(k)))?;
+    }
+    Ok(dues)
 }
 
 // The due dates that follow by the arcs: counted back from the limit, they are dates along the arcs
@@ -159,7 +221,7 @@ fn before_limit<A: Allocator>(alloc: A, tails: &[u64]) -> Result<Vec<i64, A>, Ou
     Ok(dates)
 }
 
-// The task with other dates, for the maximum lateness. None where one is beyond the limit.
+// The task with other dates. None where one is beyond the limit.
 fn with_dates<A: Allocator + Copy, B: Allocator>(
     alloc: A,
     task: &ProblemTask<B>,
@@ -176,10 +238,20 @@ fn with_dates<A: Allocator + Copy, B: Allocator>(
     let arcs = Vec::from_slice(alloc, task.arcs())?;
     let problem = Problem {
         release: true,
-        goal: Goal::Lmax,
+        goal: dated_goal(task.problem().goal),
         ..task.problem()
     };
     Ok(ProblemTask::new(problem, task.machines(), jobs, arcs).ok())
+}
+
+// The makespan of jobs with due dates is their maximum lateness.
+fn dated_goal(goal: Goal) -> Goal
+    ensures { result ≡ dated_goal goal }
+{
+    match goal {
+        Goal::Cmax => Goal::Lmax,
+        other => other,
+    }
 }
 
 // The jobs with other dates.

@@ -78,9 +78,9 @@ impl<A: Allocator> Model for ProblemTask<A> {
         }) };
 }
 
-// Whether the definitions speak of the problem; job shops, whose routes a job would have to name,
-// are left out.
-fn is_taken(problem: &Problem) -> bool
+/// Whether the definitions speak of the problem; job shops, whose routes a job would have to name,
+/// are left out. Some kind of certificate bounds the tasks of each such problem.
+pub fn is_taken(problem: &Problem) -> bool
     ensures { result ≡ is_taken_problem problem.now }
 {
     let env = !matches!(problem.env, Env::Uniform | Env::Unrelated | Env::JobShop);
@@ -334,6 +334,7 @@ impl<A: Allocator> ProblemTask<A> {
         requires { IsProblemJob self.now job }
         ensures value { result ≡ problem_work self.now job }
         ensures small { result ≤ limit }
+        ensures sized { IsSized self.now }
     {
         total_of(self.times(job))
     }

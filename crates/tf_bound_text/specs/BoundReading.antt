@@ -13,7 +13,7 @@ use Rattle.tf_words.specs.Ranged.{number_in}
 use Rattle.tf_words.specs.declared.ranged.Ranged.{Ranged}
 use Rattle.tf_words.specs.declared.ranged.Ranged.TheVariants.{NotANumber, Below, Above, Within}
 use Rattle.tf_notation.specs.Reading.{notation}
-use Rattle.tf_bound_text.specs.BoundSheetData.{Basis, ByMachine, ByWindow, ByCrowd, ByOneJob, ByMultipliers, ByPrices, BoundSheetData}
+use Rattle.tf_bound_text.specs.BoundSheetData.{Basis, ByMachine, ByWindow, ByCrowd, ByOneJob, ByMultipliers, ByPrices, ByAlone, BoundSheetData}
 use Rattle.tf_bound_text.specs.declared.fault.BoundTextFault.{BoundTextFault}
 use Rattle.tf_bound_text.specs.declared.fault.BoundTextFault.TheVariants.{TooLong, BadLine, OutOfRange, BadNotation, EndsEarly, OutOfMemory}
 
@@ -108,6 +108,11 @@ price_basis line words = do
   rows ← naturals line 0 limit more
   Ok (ByPrices q rows)
 
+-- no word
+abbrev pub alone_basis : ℕ → List (List ℕ) → Result Basis BoundTextFault
+alone_basis line [] = Ok ByAlone
+alone_basis line (word ∷ more) = Err (BadLine line)
+
 -- a kind, and the words behind it
 unfoldable pub kind_in : ℕ → List ℕ → List (List ℕ) → Result Basis BoundTextFault
 kind_in line kind words =
@@ -117,6 +122,7 @@ kind_in line kind words =
     else if bytes_eq kind (codes "job") then one_job_basis line words
     else if bytes_eq kind (codes "multipliers") then multiplier_basis line words
     else if bytes_eq kind (codes "prices") then price_basis line words
+    else if bytes_eq kind (codes "alone") then alone_basis line words
     else Err (BadLine line)
 
 abbrev pub basis_in : ℕ → List (List ℕ) → Result Basis BoundTextFault

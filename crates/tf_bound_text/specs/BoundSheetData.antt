@@ -3,14 +3,16 @@ use Rattle.std.specs.Prelude.{◌≡◌, ℕ, ℤ, List, Option}
 use Rattle.tf_model.specs.declared.problem.Problem.{Problem}
 use Rattle.tf_problem.specs.ProblemData.{ProblemData}
 use Rattle.tf_problem.specs.ProblemBounds.{machine_value, window_value, crowd_value, one_job_value, multiplier_value}
+use Rattle.tf_bound.specs.Certified.{IsAloneBound}
 use Rattle.tf_bound.specs.Prices.{IsPricesBound}
-use Rattle.tf_bound.specs.Faulted.{machine_fault, window_fault, crowd_fault, one_job_fault, multipliers_fault, prices_fault}
+use Rattle.tf_bound.specs.Faulted.{machine_fault, window_fault, crowd_fault, one_job_fault, multipliers_fault, prices_fault, alone_fault}
 use Rattle.tf_bound.specs.declared.fault.BoundFault.{BoundFault}
 use Rattle.tf_bound.specs.declared.certificate.BoundCertificate.{BoundCertificate}
-use Rattle.tf_bound.specs.declared.certificate.BoundCertificate.TheVariants.{Machine, Window, Crowd, OneJob, Multipliers, Prices}
+use Rattle.tf_bound.specs.declared.certificate.BoundCertificate.TheVariants.{Machine, Window, Crowd, OneJob, Multipliers, Prices, Alone}
 
 -- what a certificate names: a machine, counted from 0, or how many jobs each machine takes, and jobs;
--- or a machine, a denominator and numerators, job by job; or a denominator and prices, row by row
+-- or a machine, a denominator and numerators, job by job; or a denominator and prices, row by row;
+-- or nothing
 pub data Basis : Type 0 where
   ByMachine : ℕ → List ℕ → Basis
   ByWindow : List ℕ → Basis
@@ -18,6 +20,7 @@ pub data Basis : Type 0 where
   ByOneJob : ℕ → Basis
   ByMultipliers : ℕ → ℕ → List ℕ → Basis
   ByPrices : ℕ → List ℕ → Basis
+  ByAlone : Basis
 
 abbrev pub basis_of : {A : Type 0} → BoundCertificate A → Basis
 basis_of (Machine machine jobs) = ByMachine machine jobs.items
@@ -26,6 +29,7 @@ basis_of (Crowd h jobs) = ByCrowd h jobs.items
 basis_of (OneJob job) = ByOneJob job
 basis_of (Multipliers machine q numerators) = ByMultipliers machine q numerators.items
 basis_of (Prices q rows) = ByPrices q rows.items
+basis_of Alone = ByAlone
 
 -- the number is what a certificate that names this bounds a task by
 abbrev pub IsValueBy : ProblemData → Basis → ℤ → Type 0
@@ -35,6 +39,7 @@ IsValueBy k (ByCrowd h jobs) b = b ≡ crowd_value k h jobs
 IsValueBy k (ByOneJob job) b = b ≡ one_job_value k job
 IsValueBy k (ByMultipliers machine q v) b = b ≡ multiplier_value k machine v q
 IsValueBy k (ByPrices q rows) b = IsPricesBound k q rows b
+IsValueBy k ByAlone b = IsAloneBound k b
 
 -- the first fault that a certificate that names this has on a task, if it has one
 abbrev pub fault_by : ProblemData → Basis → Option BoundFault
@@ -44,6 +49,7 @@ fault_by k (ByCrowd h jobs) = crowd_fault k h jobs
 fault_by k (ByOneJob job) = one_job_fault k job
 fault_by k (ByMultipliers machine q v) = multipliers_fault k machine q v
 fault_by k (ByPrices q rows) = prices_fault k q rows
+fault_by k ByAlone = alone_fault k
 
 -- a certificate, and the problem, the sizes and the value that are stated beside it
 pub record BoundSheetData : Type 0 where

@@ -4,7 +4,7 @@ ghost use Rattle.tf_words.specs.Words.{words};
 ghost use Rattle.tf_bound_text.specs.BoundSheetData.{basis_of};
 ghost use Rattle.tf_bound_text.specs.BoundReading.{Gives, machine_basis, crowd_basis};
 ghost use Rattle.tf_bound_text.specs.BoundReading.{multiplier_basis, price_basis, one_job_basis};
-ghost use Rattle.tf_bound_text.specs.BoundReading.{window_basis, kind_in, basis_in};
+ghost use Rattle.tf_bound_text.specs.BoundReading.{window_basis, alone_basis, kind_in, basis_in};
 
 use crate::fault::BoundTextFault;
 use crate::number::{first_number, jobs_from, natural, numbers_from, only};
@@ -103,6 +103,16 @@ fn prices_in<A: Allocator>(
     Ok(BoundCertificate::Prices { q, rows })
 }
 
+/// Reads no word.
+fn alone_in<A: Allocator>(line: u32, text: &[u8]) -> Result<BoundCertificate<A>, BoundTextFault>
+    ensures { Gives basis_of result (alone_basis line (words text.now)) }
+{
+    match first_word(text) {
+        None => Ok(BoundCertificate::Alone),
+        Some(_) => Err(BoundTextFault::BadLine(line)),
+    }
+}
+
 /// Reads a certificate of this kind from the words that follow it.
 #[tactic(auto, unfolding(crate::specs::BoundReading::kind_in))]
 fn kind_in<A: Allocator>(
@@ -125,6 +135,8 @@ fn kind_in<A: Allocator>(
         multipliers_in(alloc, line, text)
     } else if is(kind, b"prices") {
         prices_in(alloc, line, text)
+    } else if is(kind, b"alone") {
+        alone_in(line, text)
     } else {
         Err(BoundTextFault::BadLine(line))
     }

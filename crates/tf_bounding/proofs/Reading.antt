@@ -6,6 +6,7 @@ use Rattle.tf_model.specs.declared.problem.Problem.{Problem}
 use Rattle.tf_model.specs.declared.prepare.Refusal.{Refusal}
 use Rattle.tf_model.specs.declared.prepare.Refusal.TheVariants as refusals
 use Rattle.tf_problem.specs.ProblemData.{ProblemData}
+use Rattle.tf_bound.specs.Sized.{IsSized}
 use Rattle.tf_text.specs.declared.counted.Counted.{Counted}
 use Rattle.tf_text.specs.Counted.{inner_of, has_failed}
 use Rattle.tf_engine.specs.declared.fault.RunFault.{RunFault}
@@ -27,11 +28,11 @@ use Rattle.tf_bounding.specs.RunBounding.{problem_in, problem_task_in, problem_t
 abbrev IsRefusal : Result ProblemData Refused → Refused → Type 0
 IsRefusal wanted refused =
     (wanted ≡ Err refused)
-    ⊎ ((refused ≡ ByTask refusals.TotalTooLarge) × ((task : ProblemData) × (wanted ≡ Ok task)))
+    ⊎ ((refused ≡ ByTask refusals.TotalTooLarge) × ((task : ProblemData) × (wanted ≡ Ok task) × (IsSized task → ⊥)))
 
 too_large : (wanted : Result ProblemData Refusal) (k : ProblemData) → wanted ≡ Ok k
-    → IsRefusal (refused_by ByTask wanted) (ByTask refusals.TotalTooLarge)
-too_large wanted k is = inr (refl, (k, ap (refused_by ByTask) is))
+    → (IsSized k → ⊥) → IsRefusal (refused_by ByTask wanted) (ByTask refusals.TotalTooLarge)
+too_large wanted k is large = inr (refl, (k, ap (refused_by ByTask) is, large))
 
 -- why an instance is no task of the problem stops the run
 exact : (A : Type 0) (wanted : Result ProblemData Refusal) (refusal : Refusal)
@@ -45,7 +46,7 @@ unprepared : (A : Type 0) (wanted : Result ProblemData Refusal) (refusal : Refus
     → StopsBy (IsRefusal (refused_by ByTask wanted)) (stop_of (of_refusal {A = A} refusal))
 unprepared A wanted refusal (inl h) = exact A wanted refusal h
 unprepared A wanted refusal (inr (k, is, inl same)) = rw same tt
-unprepared A wanted refusal (inr (k, is, inr (same, large))) = rw same (too_large wanted k is)
+unprepared A wanted refusal (inr (k, is, inr (same, large))) = rw same (too_large wanted k is large)
 
 module _ (A T : Type 0) (request : RequestData) (remaining : T → Option (List ℕ)) (old : Counted T)
   where
@@ -126,7 +127,7 @@ module _ (A T : Type 0) (request : RequestData) (remaining : T → Option (List 
                 → IsRefusal (refused_by ByTask (prepared_in timed problem request.machines)) refused
                 → IsRefusedBound request had.text refused
             because refused (inl e) = inl (whole ∙ e)
-            because refused (inr (same, (task, e))) = inr (same, (task, whole ∙ e))
+            because refused (inr (same, (task, e, large))) = inr (same, (task, whole ∙ e, large))
 
             stopped : (s : Stop)
                 → StopsBy (IsRefusal (refused_by ByTask

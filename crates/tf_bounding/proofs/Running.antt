@@ -3,18 +3,17 @@ use Rattle.std.proofs.Common.{◌≡◌, ℕ, List, Option, Bool, true, Ok, Err,
 use Rattle.std.specs.Io.KnownBytes.{Appends}
 use Rattle.std.proofs.KnownBytes.{Keeps-refl}
 use Rattle.tf_problem.specs.ProblemData.{ProblemData}
-use Rattle.tf_model.specs.declared.prepare.Refusal.TheVariants.{TotalTooLarge}
 use Rattle.tf_text.specs.declared.counted.Counted.{Counted}
 use Rattle.tf_text.specs.Counted.{AppendsPrefix, DeviceUse, has_failed, use_of, unused}
 use Rattle.tf_engine.specs.declared.fault.RunFault.{RunFault}
 use Rattle.tf_engine.specs.declared.fault.RunFault.TheVariants.{Device, OutOfMemory}
-use Rattle.tf_engine.specs.Faults.{ByTask, stop_of}
+use Rattle.tf_engine.specs.Faults.{stop_of}
 use Rattle.tf_engine.specs.RequestData.{RequestData}
-use Rattle.tf_engine.proofs.Unread.{part_stops, reading_stops}
+use Rattle.tf_engine.proofs.Unread.{reading_stops}
 use Rattle.tf_search.specs.declared.strongest.Found.{Found}
 use Rattle.tf_search.specs.Strongest.{IsFound}
 use Rattle.tf_bounding.specs.BoundText.{bound_text}
-use Rattle.tf_bounding.specs.RunBounding.{IsUnfound, SaysBound, IsRefusedBound, IsBoundingOf, ReadsProblemTask}
+use Rattle.tf_bounding.specs.RunBounding.{SaysBound, IsRefusedBound, IsBoundingOf, ReadsProblemTask}
 
 module _ (A T : Type 0) (request : RequestData) (remaining : T → Option (List ℕ))
     (old new : Counted T) where
@@ -31,18 +30,6 @@ module _ (A T : Type 0) (request : RequestData) (remaining : T → Option (List 
   }
 
   module _ (k : ProblemData) (had : ReadsProblemTask {A = A} request remaining old new (Ok k)) where
-    -- nor where no bound was found
-    pub unfound : (held : Option (List ℕ)) (writer : Bool) (e : RunFault A) → IsUnfound (stop_of e)
-        → IsBoundingOf request (use_of remaining old new) (unused held writer) (Err e)
-    unfound held writer e h = record {
-      text = had.text;
-      is_all = had.is_all;
-      outcome = part_stops (SaysBound A request had.text)
-          (λ refused. refused ≡ ByTask TotalTooLarge) (IsRefusedBound request had.text)
-          (has_failed new ≡ true) held writer (λ refused same. inr (same, (k, had.given)))
-          (stop_of e) h;
-    }
-
     -- nor where memory was wanting
     pub wanting : (held : Option (List ℕ)) (writer : Bool)
         → IsBoundingOf {A = A} request (use_of remaining old new) (unused held writer)

@@ -6,7 +6,7 @@ use Rattle.tf_notation.specs.Canonical.{canonical}
 use Rattle.tf_text.specs.AnswerText.{line_text}
 use Rattle.tf_problem.specs.ProblemData.{ProblemData}
 use Rattle.tf_bound.specs.declared.certificate.BoundCertificate.{BoundCertificate}
-use Rattle.tf_bound.specs.declared.certificate.BoundCertificate.TheVariants.{Machine, Window, Crowd, OneJob, Multipliers, Prices}
+use Rattle.tf_bound.specs.declared.certificate.BoundCertificate.TheVariants.{Machine, Window, Crowd, OneJob, Multipliers, Prices, Alone}
 
 -- The words of a certificate: its kind, its numbers, and its jobs or numerators. Machines count
 -- from 1. Prices are those of the rows from 0 on.
@@ -19,6 +19,7 @@ certificate_words (OneJob job) = codes "job" ∷ decimal job ∷ []
 certificate_words (Multipliers machine q numerators) =
     codes "multipliers" ∷ decimal (machine + 1) ∷ decimal q ∷ map decimal numerators.items
 certificate_words (Prices q rows) = codes "prices" ∷ decimal q ∷ map decimal rows.items
+certificate_words Alone = codes "alone" ∷ []
 
 -- all lines: a heading, the problem, the sizes of the task, the value and the certificate
 abbrev pub bound_lines : {A : Type 0} → ProblemData → ℕ → ℤ → BoundCertificate A

@@ -10,6 +10,8 @@ use Rattle.tf_text.specs.declared.counted.Counted.{Counted}
 use Rattle.tf_text.specs.Counted.{DeviceUse, inner_of, has_failed}
 use Rattle.tf_text.specs.Input.{IsTextOf}
 use Rattle.tf_problem.specs.ProblemData.{ProblemData}
+use Rattle.tf_bound.specs.Refused.{is_taken_problem}
+use Rattle.tf_bound.specs.Sized.{IsSized}
 use Rattle.tf_engine.specs.declared.fault.RunFault.{RunFault}
 use Rattle.tf_engine.specs.Faults.{Refused, ByNotation, ByTask, Stop, stop_of, end_of}
 use Rattle.tf_engine.specs.Parts.{StopsBy, StopsReading}
@@ -19,7 +21,7 @@ use Rattle.tf_engine.specs.Runs.{Leaves}
 use Rattle.tf_engine.specs.Devices.{LeavesInstance}
 use Rattle.tf_search.specs.declared.strongest.Found.{Found}
 use Rattle.tf_search.specs.Strongest.{IsFound}
-use Rattle.tf_prepare.specs.Preparing.{is_bounded, prepared_in}
+use Rattle.tf_prepare.specs.Preparing.{prepared_in}
 use Rattle.tf_bounding.specs.BoundText.{bound_text}
 use Rattle.tf_bounding.specs.ShopTimes.{timed_said}
 
@@ -27,7 +29,7 @@ use Rattle.tf_bounding.specs.ShopTimes.{timed_said}
 abbrev pub problem_in : List ℕ → Result Problem Refused
 problem_in text =
     refused_by ByNotation (notation text)
-    >>= λ problem. if is_bounded problem then Ok problem else Err (ByTask NoSolver)
+    >>= λ problem. if is_taken_problem problem then Ok problem else Err (ByTask NoSolver)
 
 -- the task of a problem and a text, or the first refusal but that of totals
 abbrev pub problem_task_in : RequestData → Problem → List ℕ → Result ProblemData Refused
@@ -53,17 +55,13 @@ pub record Bounds {A : Type 0} (request : RequestData) (text out : List ℕ) (fo
 abbrev pub SaysBound : Type 0 → RequestData → List ℕ → List ℕ → Type 0
 SaysBound A request text out = (found : Found A) × Bounds request text out found
 
--- the refusal is the one of the definitions, or nothing else is refused and a total of the task or of
--- each certificate is beyond the limit
+-- the refusal is the one of the definitions, or nothing else is refused and a number or a total of
+-- the task is beyond the limits
 abbrev pub IsRefusedBound : RequestData → List ℕ → Refused → Type 0
 IsRefusedBound request text refused =
     (problem_task_for request text ≡ Err refused)
     ⊎ ((refused ≡ ByTask TotalTooLarge)
-    × ((task : ProblemData) × (problem_task_for request text ≡ Ok task)))
-
--- why no bound is found: memory was wanting, or each certificate has a number beyond the limit
-abbrev pub IsUnfound : Stop → Type 0
-IsUnfound = StopsBy (λ refused. refused ≡ ByTask TotalTooLarge)
+    × ((task : ProblemData) × (problem_task_for request text ≡ Ok task) × (¬ (IsSized task))))
 
 -- A part that reads an instance gives the task that its text means, which is all bytes of the reader
 -- up to its end where they are known, or the one refusal.

@@ -2,13 +2,12 @@
 ghost use Rattle.std.specs.Prelude.{◌≡◌};
 ghost use Rattle.tf_engine.specs.FormData.{InTable, form_of};
 ghost use Rattle.tf_engine.specs.Parts.{GivesProblem, ReadsTo, instance_said};
-ghost use Rattle.tf_prepare.specs.Preparing.{is_bounded};
 ghost use Rattle.tf_bounding.specs.RunBounding.{problem_in, ReadsProblemTask};
 
 use crate::timed_read::timed_read;
 use std::alloc::Allocator;
 use std::io::Read;
-use tf_bound::task::ProblemTask;
+use tf_bound::task::{ProblemTask, is_taken};
 use tf_engine::fault::RunFault;
 use tf_engine::form_read::{flow_read, wt_read};
 use tf_engine::request::{Form, Request};
@@ -20,26 +19,6 @@ use tf_prepare::prepare::prepare_problem;
 use tf_read::job_table::read_table;
 use tf_text::counted::Counted;
 use tf_text::input::read_all;
-
-// Whether some kind of certificate bounds the tasks of a problem.
-fn is_bounded(problem: &Problem) -> bool
-    ensures { result ≡ is_bounded problem.now }
-{
-    let uncovered = matches!(problem.env, Env::Uniform | Env::Unrelated | Env::JobShop)
-        || matches!(problem.goal, Goal::Hmax)
-        || problem.block
-        || problem.rcrc;
-    if uncovered {
-        return false;
-    }
-    match problem.goal {
-        Goal::Cmax | Goal::Lmax => true,
-        Goal::SumC | Goal::SumWC | Goal::SumT | Goal::SumWT => {
-            !matches!(problem.env, Env::Parallel) || !problem.prmp
-        }
-        _ => matches!(problem.env, Env::Single | Env::Parallel) && !problem.prmp,
-    }
-}
 
 /// The task of a request and of the instance that the reader's text holds.
 pub fn task_read<A: Allocator + Copy, B: Allocator, R: Read>(
@@ -60,7 +39,7 @@ fn problem_in<A: Allocator>(text: &str) -> Result<Problem, RunFault<A>>
     ensures { GivesProblem result (problem_in text.now) }
 {
     let problem = read(text.as_bytes())?;
-    if !is_bounded(&problem) {
+    if !is_taken(&problem) {
         return Err(RunFault::Task(Refusal::NoSolver));
     }
     Ok(problem)

@@ -1,21 +1,17 @@
 //! A lower bound of a problem and an instance, from bytes to bytes.
 ghost use Rattle.tf_text.specs.Counted.{use_of};
 ghost use Rattle.tf_engine.specs.Devices.{LeavesRun};
-ghost use Rattle.std.specs.Prelude.{MatchResult};
-ghost use Rattle.tf_engine.specs.Faults.{end_of, stop_of};
-ghost use Rattle.tf_search.specs.Strongest.{IsFound};
-ghost use Rattle.tf_bounding.specs.RunBounding.{IsBoundingOf, IsUnfound, problem_in};
+ghost use Rattle.tf_engine.specs.Faults.{end_of};
+ghost use Rattle.tf_bounding.specs.RunBounding.{IsBoundingOf, problem_in};
 
 use crate::instance_read::task_read;
 use crate::writing::bound_bytes;
 use std::alloc::Allocator;
 use std::io::{Read, Write};
-use tf_bound::task::ProblemTask;
 use tf_engine::fault::RunFault;
 use tf_engine::request::Request;
-use tf_model::prepare::Refusal;
 use tf_search::effort::{Effort, Progress};
-use tf_search::strongest::{Found, strongest};
+use tf_search::strongest::strongest;
 use tf_text::counted::Counted;
 
 /// Reads an instance to its end, searches for the strongest lower bound of its task, and writes the
@@ -38,23 +34,8 @@ pub fn run_bound<A: Allocator + Copy, B: Allocator, P: Progress + Drop, R: Read,
         writer.old writer.new (end_of result) }
 {
     let task = task_read(alloc, request, reader)?;
-    let found = found_for(alloc, &task, effort)?;
+    let found = strongest(alloc, &task, effort)?;
     let text = bound_bytes(alloc, &task, &found)?;
     writer.push_all(text.as_slice())?;
     Ok(())
-}
-
-// The strongest bound that is found, or the refusal where each certificate that was tried has a
-// number beyond the limit.
-fn found_for<A: Allocator + Copy, B: Allocator, P: Progress + Drop>(
-    alloc: A,
-    task: &ProblemTask<B>,
-    effort: Effort<P>,
-) -> Result<Found<A>, RunFault<A>>
-    ensures { MatchResult result (IsFound task.now) (λ e. IsUnfound (stop_of e)) }
-{
-    match strongest(alloc, task, effort)? {
-        Some(found) => Ok(found),
-        None => Err(RunFault::Task(Refusal::TotalTooLarge)),
-    }
 }

@@ -1,5 +1,5 @@
 //! Texts of bounds, written.
-ghost use Rattle.std.specs.Prelude.{◌≡◌, ◌∷◌, ◌++◌, codes, length, map, IfOk, OnOk};
+ghost use Rattle.std.specs.Prelude.{◌≡◌, [], ◌∷◌, ◌++◌, codes, length, map, IfOk, OnOk};
 ghost use Rattle.std.specs.List.{flat_map};
 ghost use Rattle.tf_text.specs.AnswerText.{line_text};
 ghost use Rattle.std.specs.Fmt.{decimal};
@@ -117,6 +117,14 @@ fn push_prices<A: Allocator>(text: &mut Vec<u8, A>, q: u64, rows: &[u64]) -> Res
     Ok(())
 }
 
+// Adds the line of the jobs alone.
+fn push_alone<A: Allocator>(text: &mut Vec<u8, A>) -> Result<(), OutOfMemory>
+    ensures { OnOk result (text.new.items ≡ text.old.items ++ line_text (codes "alone" ∷ [])) }
+{
+    text.extend_from_slice(b"alone\n")?;
+    Ok(())
+}
+
 /// Adds the line of a certificate.
 pub fn push_certificate<A: Allocator, C: Allocator>(
     text: &mut Vec<u8, A>,
@@ -138,5 +146,6 @@ pub fn push_certificate<A: Allocator, C: Allocator>(
             numerators,
         } => push_multipliers(text, *machine as u128 + 1, *q, numerators),
         BoundCertificate::Prices { q, rows } => push_prices(text, *q, rows),
+        BoundCertificate::Alone => push_alone(text),
     }
 }

@@ -59,7 +59,7 @@ answer_list kind =
 abbrev pub bound_list : List ℕ → List ℕ
 bound_list kind =
     if bytes_eq kind (codes "multipliers") || bytes_eq kind (codes "prices") then codes "numerators"
-    else (if bytes_eq kind (codes "job") then [] else codes "jobs")
+    else (if bytes_eq kind (codes "job") || bytes_eq kind (codes "alone") then [] else codes "jobs")
 
 -- a certificate, by its kind, the name of its list and its other words
 abbrev pub certificate : List ℕ → List ℕ → List (List ℕ) → List ℕ
@@ -77,6 +77,7 @@ is_bound_kind key row =
     bytes_eq key (codes "machine") || bytes_eq key (codes "window") || bytes_eq key (codes "crowd")
     || bytes_eq key (codes "multipliers") || bytes_eq key (codes "prices")
     || (bytes_eq key (codes "job") && (length row == 1))
+    || (bytes_eq key (codes "alone") && (length row == 0))
 
 -- the key of a line that says one thing
 abbrev pub is_plain_key : List ℕ → Bool

@@ -53,7 +53,7 @@ fn bound_list(kind: &[u8]) -> &'static [u8]
     if is(kind, b"multipliers") || is(kind, b"prices") {
         return b"numerators";
     }
-    if is(kind, b"job") {
+    if is(kind, b"job") || is(kind, b"alone") {
         return b"";
     }
     b"jobs"
@@ -69,6 +69,7 @@ fn is_bound_kind(key: &[u8], row: &[u8]) -> bool
         || is(key, b"multipliers")
         || is(key, b"prices")
         || (is(key, b"job") && count_words(row) == 1)
+        || (is(key, b"alone") && count_words(row) == 0)
 }
 
 /// Whether a line of this key says one thing.

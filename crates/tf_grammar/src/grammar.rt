@@ -453,11 +453,7 @@ fn explain() -> Row {
 }
 
 fn steps() -> Row {
-    number(
-        "steps",
-        "N",
-        "The steps of the search for prices, 1 to 1000000",
-    )
+    number("steps", "N", "The steps of the search, 1 to 1000000")
 }
 
 fn json() -> Row {

@@ -67,15 +67,15 @@ solver is solved as \"solve\" does it.
 
 The schedule is an answer, which \"gantt\" draws and \"evaluate\" judges. Behind its
 line \"end\" stand comments: \"## gap G\" says that the value is G above the lower
-bound, so that 0 means optimal, or \"## no bound\" that none is known; then comes
-the text of the bound, each line behind \"# \", for \"evaluate --bound\":
+bound, so that 0 means optimal; then comes the text of the bound, each line
+behind \"# \", for \"evaluate --bound\":
 
     threefield plan -p \"P2||Cmax\" table.txt > plan.txt
     sed -n \"s/^# //p\" plan.txt > bound.txt
 
-The schedule is the best of several rules, improved by a search (simulated
-annealing). --steps lets the searches for schedule and bound take more time, or
-less; about 1000 are usual.
+The schedule is the best of several rules, improved by a search (iterated greedy
+or simulated annealing). --steps lets the searches for schedule and bound take
+more time, or less; about 1000 are usual.
 
 Example: threefield plan -p \"1|prec|sumwT\" examples/workshop.txt
          threefield plan -p \"P3|prec|Cmax\" table.txt | threefield gantt

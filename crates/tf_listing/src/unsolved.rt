@@ -6,7 +6,7 @@ use tf_model::class::class_of;
 use tf_model::problem::{Env, Goal, Problem};
 
 /// The environment and the objective of each, in the order of the list.
-pub(crate) const UNSOLVED: [(Env, Goal); 28] = [
+pub(crate) const UNSOLVED: [(Env, Goal); 32] = [
     (Env::Single, Goal::Cmax),
     (Env::Single, Goal::Lmax),
     (Env::Single, Goal::SumC),
@@ -29,12 +29,16 @@ pub(crate) const UNSOLVED: [(Env, Goal); 28] = [
     (Env::Flow, Goal::SumWC),
     (Env::Flow, Goal::SumT),
     (Env::Flow, Goal::SumWT),
+    (Env::Flow, Goal::SumU),
+    (Env::Flow, Goal::SumWU),
     (Env::OpenShop, Goal::Cmax),
     (Env::OpenShop, Goal::Lmax),
     (Env::OpenShop, Goal::SumC),
     (Env::OpenShop, Goal::SumWC),
     (Env::OpenShop, Goal::SumT),
     (Env::OpenShop, Goal::SumWT),
+    (Env::OpenShop, Goal::SumU),
+    (Env::OpenShop, Goal::SumWU),
 ];
 
 /// The problem without conditions, or where that is solved, with release dates.

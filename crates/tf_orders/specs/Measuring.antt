@@ -22,7 +22,7 @@ IsMeasure request text (Optimum problem task best) =
     × (task_for request text ≡ Ok task) × IsLeastCost task best
 IsMeasure request text (Bound task found) =
     IsFalse (is_solved request.problem) × (problem_task_for request text ≡ Ok task)
-    × IfSome found (IsFound task)
+    × IsFound task found
 
 -- the jobs of the task
 abbrev pub jobs_in : {A : Type 0} → Measure A → ℕ

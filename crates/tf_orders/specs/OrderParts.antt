@@ -94,7 +94,7 @@ abbrev pub Measures : {A : Type 0} → Posed A → Measure A → Type 0
 Measures (Solved asked) m =
     (best : ℤ) × (m ≡ Optimum asked.problem asked.task best) × IsLeastCost asked.task best
 Measures {A = A} (Unsolved task) m =
-    (found : Option (Found A)) × (m ≡ Bound task found) × IfSome found (IsFound task)
+    (found : Found A) × (m ≡ Bound task found) × IsFound task found
 
 -- the arcs of the task have a cycle, and the jobs are the one that is named
 abbrev pub IsCycleOf : {A : Type 0} → Posed A → List ℕ → Type 0

@@ -20,7 +20,7 @@ use Rattle.tf_evaluate.specs.EvaluationText.{fit_words, evaluation_text}
 use Rattle.tf_assess.specs.declared.assessment.Assessment.{Assessment}
 use Rattle.tf_assess.specs.declared.assessment.ProblemFit.{ProblemFit}
 use Rattle.tf_assess.specs.declared.assessment.ProblemFit.TheVariants as fits
-use Rattle.tf_assess.specs.Assessing.{IsProblemJudged, bound_in, assessed_of, problem_outcomes}
+use Rattle.tf_assess.specs.Assessing.{IsProblemJudged, assessed_of, problem_outcomes}
 use Rattle.tf_assess.specs.AssessmentText as assessments
 use Rattle.tf_assess.specs.AssessmentText.{assessment_text}
 use Rattle.tf_assess.specs.RunRating.{standing_as}
@@ -53,7 +53,7 @@ pub record IsScheduleEvaluation (problem : Problem) (k : SchedulingTask) (best :
   }
 
 -- the same of a problem without a solver
-pub record IsScheduleAssessment {A : Type 0} (k : ProblemData) (found : Option (Found A))
+pub record IsScheduleAssessment {A : Type 0} (k : ProblemData) (found : Found A)
     (ps : List Piece) (a : Assessment A) : Type 0 where
   pub fit : ProblemFit
   pub judged : IsProblemJudged k ps fit
@@ -71,7 +71,7 @@ IsEvaluated (Optimum problem task best) ps out standing =
 IsEvaluated {A = A} (Bound task found) ps out standing =
     (a : Assessment A) × IsScheduleAssessment task found ps a
     × (out ≡ assessment_text task (length task.jobs) a)
-    × (standing ≡ standing_as (assessed_of a.fit (bound_in a.bound)))
+    × (standing ≡ standing_as (assessed_of a.fit a.bound.value))
 
 -- the same of a standing that is kept as that of one order
 abbrev pub IsEvaluatedAs : {A : Type 0} → Measure A → List Piece → List ℕ → OrdersRated → Type 0
@@ -90,14 +90,13 @@ abbrev pub number_or_dash : Option ℤ → List ℕ
 number_or_dash None = codes "-"
 number_or_dash (Some number) = signed_decimal number
 
--- by how much a cost is above a bound, or `-` where one of them is missing
-abbrev pub gap_or_dash : Option ℤ → Option ℤ → List ℕ
+-- by how much a cost is above a bound, or `-` where it is missing
+abbrev pub gap_or_dash : Option ℤ → ℤ → List ℕ
 gap_or_dash None bound = codes "-"
-gap_or_dash (Some value) None = codes "-"
-gap_or_dash (Some value) (Some bound) = decimal (unsigned_abs (value -ℤ bound))
+gap_or_dash (Some value) bound = decimal (unsigned_abs (value -ℤ bound))
 
 -- the same of a problem without a solver, of which the gap is that to the lower bound
-abbrev pub problem_row_words : ProblemFit → Option ℤ → List (List ℕ)
+abbrev pub problem_row_words : ProblemFit → ℤ → List (List ℕ)
 problem_row_words (fits.Fits value) bound = number_or_dash value ∷ gap_or_dash value bound ∷ []
 problem_row_words fit bound = assessments.fit_words (Some fit)
 
@@ -107,7 +106,7 @@ IsRowOf (Optimum problem task best) ps row =
     (fit : Fit) × IsJudged task ps fit × (row ≡ line_text (row_words fit best))
 IsRowOf (Bound task found) ps row =
     (fit : ProblemFit) × IsProblemJudged task ps fit
-    × (row ≡ line_text (problem_row_words fit (bound_in found)))
+    × (row ≡ line_text (problem_row_words fit found.value))
 
 -- the line of the order that a text says
 abbrev pub IsRow : {A : Type 0} → Measure A → List ℕ → List ℕ → Type 0

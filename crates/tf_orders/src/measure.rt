@@ -23,11 +23,10 @@ pub enum Measure<A: Allocator = Global> {
         task: Task<A>,
         best: i64,
     },
-    /// A task of another problem, and the strongest lower bound that is found. None where each
-    /// certificate that was tried has a number beyond the limit.
+    /// A task of another problem, and the strongest lower bound that is found.
     Bound {
         task: ProblemTask<A>,
-        found: Option<Found<A>>,
+        found: Found<A>,
     },
 }
 

@@ -15,7 +15,7 @@ use crate::schedules::scheduled;
 use crate::writing::{push_problem_row, push_row};
 use std::alloc::Allocator;
 use tf_assess::assess::{judge_problem_pieces, judged};
-use tf_assess::assessment::{Assessment, bound_in};
+use tf_assess::assessment::Assessment;
 use tf_assess::run_rate::standing_as;
 use tf_assess::writing::assessment_bytes;
 use tf_bound::task::ProblemTask;
@@ -156,7 +156,7 @@ fn evaluation_of<A: Allocator + Copy, B: Allocator>(
 fn assessment_of<A: Allocator + Copy, B: Allocator>(
     alloc: A,
     task: &ProblemTask<B>,
-    found: Option<Found<A>>,
+    found: Found<A>,
     pieces: Vec<Piece, A>,
 ) -> Result<Assessment<A>, OutOfMemory>
     ensures { IfOk result (IsScheduleAssessment task.now found pieces.items) }
@@ -227,7 +227,7 @@ fn push_rated<A: Allocator + Copy, B: Allocator>(
         }
         Measure::Bound { task, found } => {
             let fit = judged(alloc, task, pieces)?;
-            push_problem_row(out, fit, bound_in(found))
+            push_problem_row(out, fit, found.value)
         }
     }
 }

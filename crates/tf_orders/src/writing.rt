@@ -34,7 +34,7 @@ pub(crate) fn push_row<A: Allocator>(
 pub(crate) fn push_problem_row<A: Allocator>(
     text: &mut Vec<u8, A>,
     fit: ProblemFit,
-    bound: Option<i128>,
+    bound: i128,
 ) -> Result<(), OutOfMemory>
     ensures { OnOk result
         (text.new.items ≡ text.old.items ++ line_text (problem_row_words fit bound)) }
@@ -45,11 +45,11 @@ pub(crate) fn push_problem_row<A: Allocator>(
     }
 }
 
-// A cost and its gap to a bound, each of which may be missing.
+// A cost, which may be missing, and its gap to a bound.
 fn push_numbers<A: Allocator>(
     text: &mut Vec<u8, A>,
     value: Option<i128>,
-    bound: Option<i128>,
+    bound: i128,
 ) -> Result<(), OutOfMemory>
     ensures { OnOk result (text.new.items
         ≡ text.old.items ++ line_text (problem_row_words (ProblemFit.Fits value) bound)) }
@@ -59,13 +59,5 @@ fn push_numbers<A: Allocator>(
         return Ok(());
     };
     let mut digits = Buffer::new();
-    let value_word = digits.format(value).as_bytes();
-    match bound {
-        Some(bound) => push_number_line(text, value_word, value.abs_diff(bound)),
-        None => {
-            text.extend_from_slice(value_word)?;
-            text.extend_from_slice(b" -\n")?;
-            Ok(())
-        }
-    }
+    push_number_line(text, digits.format(value).as_bytes(), value.abs_diff(bound))
 }

@@ -18,7 +18,7 @@ use Rattle.tf_planning.specs.declared.writing.Planned.{Planned}
 untasked : (request : RequestData) (text : List ℕ) (refused : Refused)
     → IsRefusedBound request text refused → IsRefusedPlan request text refused
 untasked request text refused (inl h) = inl h
-untasked request text refused (inr (same, (task, is))) = inr (task, is, inr same)
+untasked request text refused (inr (same, (task, is, large))) = inr (task, is, inr same)
 
 module _ (A T : Type 0) (request : RequestData) (remaining : T → Option (List ℕ))
     (old new : Counted T) where

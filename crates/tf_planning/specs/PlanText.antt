@@ -1,5 +1,5 @@
 -- The text of a plan: an answer text, and behind it in comments how good it is.
-use Rattle.std.specs.Prelude.{ℕ, ℤ, ◌-ℤ◌, unsigned_abs, List, [], ◌∷◌, ◌++◌, codes, Option, None, Some, if◌then◌else◌}
+use Rattle.std.specs.Prelude.{ℕ, ℤ, ◌-ℤ◌, unsigned_abs, List, [], ◌∷◌, ◌++◌, codes, if◌then◌else◌}
 use Rattle.std.specs.List.{flat_map}
 use Rattle.std.specs.Fmt.{decimal}
 use Rattle.std.specs.Ordering.{int_eq}
@@ -15,9 +15,8 @@ use Rattle.tf_planning.specs.declared.writing.Planned.{Planned}
 use Rattle.tf_planning.specs.declared.writing.Planned.TheVariants.{Optimal, Open}
 
 -- proved to be best where the value is that of the bound
-abbrev pub standing_of : {A : Type 0} → ℤ → Option (Found A) → Planned
-standing_of value None = Open
-standing_of value (Some found) = if int_eq value found.value then Optimal else Open
+abbrev pub standing_of : {A : Type 0} → ℤ → Found A → Planned
+standing_of value found = if int_eq value found.value then Optimal else Open
 
 -- What the answer text says. Nobody looks at the certificate of an answer to a problem without a
 -- solver: it is the one that has no numbers.
@@ -41,14 +40,12 @@ abbrev pub distance : ℤ → ℤ → List ℕ
 distance value bound = line_text (codes "## gap" ∷ decimal (unsigned_abs (value -ℤ bound)) ∷ [])
 
 -- that, and the text of the bound
-abbrev pub remarks : {A : Type 0} → ProblemData → ℕ → ℤ → Option (Found A) → List ℕ
-remarks k jobs value None = codes "## no bound\n"
-remarks k jobs value (Some found) =
+abbrev pub remarks : {A : Type 0} → ProblemData → ℕ → ℤ → Found A → List ℕ
+remarks k jobs value found =
     distance value found.value
     ++ comments (lines (bound_text k jobs found.value found.certificate))
 
 -- the text of a plan of a task
-unfoldable pub plan_text : {A : Type 0} → ProblemData → ℕ → List Piece → ℤ → Option (Found A)
-    → List ℕ
+unfoldable pub plan_text : {A : Type 0} → ProblemData → ℕ → List Piece → ℤ → Found A → List ℕ
 plan_text k jobs pieces value found =
     answer_text Two (plan_sheet k jobs pieces value) ++ remarks k jobs value found

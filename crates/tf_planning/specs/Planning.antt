@@ -1,5 +1,5 @@
 -- A plan of a task, how good it is, and why there is none.
-use Rattle.std.specs.Prelude.{◌≡◌, ◌⊎◌, ℕ, List, IfSome}
+use Rattle.std.specs.Prelude.{◌≡◌, ◌⊎◌, ℕ, List}
 use Rattle.tf_model.specs.declared.prepare.Refusal.TheVariants.{TotalTooLarge}
 use Rattle.tf_problem.specs.ProblemData.{ProblemData}
 use Rattle.tf_engine.specs.Faults.{Refused, ByCycle, ByTask, Stop}
@@ -12,7 +12,7 @@ use Rattle.tf_planning.specs.declared.made.Made.{Made}
 -- the plan fits and costs its value, and no timetable that fits costs less than the bound
 pub record IsMade {A : Type 0} (k : ProblemData) (made : Made A) : Type 0 where
   pub plan : IsPlan k made.plan.schedule made.plan.value
-  pub found : IfSome made.found (IsFound k)
+  pub found : IsFound k made.found
 
 -- the arcs have this cycle, so that no timetable fits; or a total or a cost is beyond the limit
 abbrev pub IsUnplannable : ProblemData → Refused → Type 0

@@ -1,5 +1,5 @@
 -- What a run that plans a problem leaves behind.
-use Rattle.std.specs.Prelude.{◌≡◌, ◌⊎◌, ℕ, ℤ, true, List, length, Option, Result, Ok, Err, IfSome}
+use Rattle.std.specs.Prelude.{◌≡◌, ◌⊎◌, ℕ, ℤ, true, List, length, Result, Ok, Err}
 use Rattle.std.specs.Io.KnownBytes.{Appends}
 use Rattle.tf_text.specs.Counted.{DeviceUse}
 use Rattle.tf_text.specs.Input.{IsTextOf}
@@ -21,13 +21,13 @@ use Rattle.tf_planning.specs.declared.writing.Planned.{Planned}
 use Rattle.tf_planning.specs.declared.writing.Planned.TheVariants.{Optimal}
 
 -- `out` is the text of a schedule that fits the task and costs the value, beside a lower bound of
--- every timetable that fits, where one was found; where both are equal no timetable costs less
+-- every timetable that fits; where both are equal no timetable costs less
 pub record IsPlanOf (A : Type 0) (k : ProblemData) (planned : Planned) (out : List ℕ) : Type 0 where
   pub pieces : List Piece
   pub value : ℤ
-  pub found : Option (Found A)
+  pub found : Found A
   pub plan : IsPlan k pieces value
-  pub bound : IfSome found (IsFound k)
+  pub bound : IsFound k found
   pub written : out ≡ plan_text k (length k.jobs) pieces value found
   pub standing : planned ≡ standing_of value found
   pub best : planned ≡ Optimal → IsProblemBest k (drawing k.machines pieces) value

@@ -35,7 +35,7 @@ pub(crate) struct Given {
     /// The steps that the caller grants, where it says how many.
     pub steps: Option<u32>,
     /// The lower bound that was found: a schedule of this cost is optimal.
-    pub bound: Option<i128>,
+    pub bound: i128,
 }
 
 impl Given {
@@ -48,7 +48,7 @@ impl Given {
         };
         SearchEffort {
             steps,
-            target: self.bound,
+            target: Some(self.bound),
         }
     }
 }

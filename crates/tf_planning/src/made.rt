@@ -21,11 +21,11 @@ use tf_schedule::piece::Piece;
 use tf_search::effort::{Effort, Progress};
 use tf_search::strongest::{Found, strongest};
 
-/// A plan, and the strongest lower bound that was found, if one was.
+/// A plan, and the strongest lower bound that was found.
 #[derive(Drop)]
 pub struct Made<A: Allocator = Global> {
     pub plan: Plan<A>,
-    pub found: Option<Found<A>>,
+    pub found: Found<A>,
 }
 
 /// The best plan of a task that is found, and the strongest lower bound that is found with an
@@ -42,19 +42,11 @@ pub(crate) fn made_for<A: Allocator + Copy, B: Allocator, P: Progress + Drop>(
     let found = strongest(alloc, task, effort)?;
     let given = Given {
         steps,
-        bound: value_of(&found),
+        bound: found.value,
     };
     let pieces = best_pieces(alloc, task, &order, given)?;
     let plan = plan_for(alloc, task, &order, pieces)?;
     Ok(Made { plan, found })
-}
-
-// The value of a bound, if one was found.
-fn value_of<A: Allocator>(found: &Option<Found<A>>) -> Option<i128> {
-    match found {
-        Some(found) => Some(found.value),
-        None => None,
-    }
 }
 
 // An order of all jobs that keeps the arcs.

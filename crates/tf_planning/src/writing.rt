@@ -1,5 +1,5 @@
 //! Plans, written.
-ghost use Rattle.std.specs.Prelude.{◌≡◌, ◌++◌, ℤ, List, length, IfOk, IfSome, MatchResult, OnOk};
+ghost use Rattle.std.specs.Prelude.{◌≡◌, ◌++◌, ℤ, List, length, IfOk, MatchResult, OnOk};
 ghost use Rattle.tf_words.specs.Words.{lines};
 ghost use Rattle.tf_engine.specs.Faults.{stop_of};
 ghost use Rattle.tf_problem.specs.ProblemCost.{IsProblemBest};
@@ -44,21 +44,16 @@ pub enum Planned {
 }
 
 /// What is known of a plan of this value beside the strongest bound that was found.
-pub(crate) fn standing_of<A: Allocator>(value: i128, found: &Option<Found<A>>) -> Planned
+pub(crate) fn standing_of<A: Allocator>(value: i128, found: &Found<A>) -> Planned
     ensures is { result ≡ standing_of value found.now }
     ensures best { (k : ProblemData) (ps : List Piece) → IsPlan k ps value →
-        IfSome found.now (IsFound k) → result ≡ Planned.Optimal →
+        IsFound k found.now → result ≡ Planned.Optimal →
         IsProblemBest k (drawing k.machines ps) value }
 {
-    match found {
-        Some(found) => {
-            if value == found.value {
-                Planned::Optimal
-            } else {
-                Planned::Open
-            }
-        }
-        None => Planned::Open,
+    if value == found.value {
+        Planned::Optimal
+    } else {
+        Planned::Open
     }
 }
 
@@ -117,21 +112,16 @@ pub(crate) fn remarks_of<A: Allocator + Copy, B: Allocator>(
     alloc: A,
     task: &ProblemTask<B>,
     value: i128,
-    found: &Option<Found<A>>,
+    found: &Found<A>,
 ) -> Result<Vec<u8, A>, OutOfMemory>
     ensures { IfOk result (λ text. text.items
         ≡ remarks task.now (length task.now.jobs) value found.now) }
 {
-    match found {
-        None => Ok(Vec::from_slice(alloc, b"## no bound\n")?),
-        Some(found) => {
-            let bound = bound_bytes(alloc, task, found)?;
-            let mut text = Vec::new(alloc);
-            push_distance(&mut text, value, found.value)?;
-            push_comments(&mut text, &bound)?;
-            Ok(text)
-        }
-    }
+    let bound = bound_bytes(alloc, task, found)?;
+    let mut text = Vec::new(alloc);
+    push_distance(&mut text, value, found.value)?;
+    push_comments(&mut text, &bound)?;
+    Ok(text)
 }
 
 // Adds how far a value is from a bound.

@@ -19,20 +19,11 @@ use Rattle.tf_model.specs.declared.prepare.Field.{Field}
 use Rattle.tf_model.specs.declared.prepare.Field.TheVariants.{Weight, Due, Release}
 use Rattle.tf_model.specs.declared.prepare.Refusal.{Refusal}
 use Rattle.tf_model.specs.declared.prepare.Refusal.TheVariants.{MachineCount, WrongTimes, MissingField, ZeroTime, TotalTooLarge, OutOfMemory}
-use Rattle.tf_problem.specs.ProblemData.{ProblemData, ProblemJobData, is_covered, is_job_shop}
-use Rattle.tf_problem.specs.ProblemBounds.{is_max_goal, is_tardy_goal, is_sum_goal, is_alike, is_by_machine}
+use Rattle.tf_problem.specs.ProblemData.{ProblemData, ProblemJobData}
 use Rattle.tf_bound.specs.Sized.{IsSized}
 use Rattle.tf_prepare.specs.TimedData.{TimedData}
 
 -- ---- the problem
-
--- The problems of which some kind of certificate bounds the tasks: windows and one job the maxima,
--- multipliers the sums of completion times and of tardiness, prices every sum without preemption.
-abbrev pub is_bounded : Problem → Bool
-is_bounded p =
-    is_covered p && not (is_job_shop p.env)
-    && (is_max_goal p.goal || (is_by_machine p.env && is_tardy_goal p.goal)
-    || (is_alike p.env && not p.prmp && is_sum_goal p.goal))
 
 -- the objectives that use weights
 abbrev pub uses_weight : Goal → Bool

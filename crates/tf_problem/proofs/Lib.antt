@@ -16,3 +16,5 @@ pub mod ProblemExamples
 pub mod Agreement
 pub mod Crowds
 pub mod Pushed
+pub mod PushedBounds
+pub mod Alone

@@ -155,7 +155,7 @@ module _ (k : ProblemData) (sound : IsProblemSound k) (alike : IsTrue (is_alike 
 IsDistinct-problem_jobs : (k : ProblemData) → IsDistinct (problem_jobs k)
 IsDistinct-problem_jobs k = once 1 (length k.jobs)
 
-sum-cost : (g : Goal) → IsTrue (is_sum_goal g) → (k : ProblemData) (rows : Timetable)
+pub sum-cost : (g : Goal) → IsTrue (is_sum_goal g) → (k : ProblemData) (rows : Timetable)
     → pos (sum_by (λ j. penalty g k j (completion rows j)) (problem_jobs k)) ≤ℤ problem_cost_by g k rows
 sum-cost goals.Cmax h k rows = absurd (false≢true h)
 sum-cost goals.Lmax h k rows = absurd (false≢true h)

@@ -18,7 +18,7 @@ use Rattle.tf_problem.specs.ProblemData.{ProblemData, ProblemJobData, IsProblemS
 use Rattle.tf_problem.specs.FitsProblem.{FitsProblem, GoesFirst, IsInOneOrder}
 use Rattle.tf_problem.specs.ProblemCost.{problem_cost, tardiness, unit_penalty, IsLowerBound, IsProblemBest}
 use Rattle.tf_problem.specs.Relaxed.{pair_task}
-use Rattle.tf_problem.specs.ProblemBounds.{pair_margin, machine_value, window_value, multiplier_value, numerator, one_job_value, problem_work, AreCheapest, start_price}
+use Rattle.tf_problem.specs.ProblemBounds.{pair_margin, machine_value, window_value, multiplier_value, numerator, one_job_value, alone_cost, problem_work, AreCheapest, start_price}
 use Rattle.tf_problem.proofs.Least.{Contains-problem_jobs}
 use Rattle.tf_problem.proofs.FitsTest.{fits-passed}
 use Rattle.tf_problem.proofs.Relaxing.{All-problem_jobs, bound-of_relaxation}
@@ -27,7 +27,9 @@ use Rattle.tf_problem.proofs.Crowds.{crowd-bound}
 use Rattle.tf_model.proofs.Loads.{once}
 use Rattle.tf_problem.proofs.TwoMachines.{pair_task-relaxes}
 use Rattle.tf_problem.proofs.OneMachine.{machine-bound}
-use Rattle.tf_problem.proofs.Pushed.{pushed-bound, pushed-sound}
+use Rattle.tf_problem.proofs.Pushed.{pushed-sound}
+use Rattle.tf_problem.proofs.PushedBounds.{pushed-bound}
+use Rattle.tf_problem.proofs.Alone.{alone-bound}
 use Rattle.tf_problem.specs.Pushed.{pushed, release_in, due_in}
 use Rattle.tf_problem.proofs.Multipliers.{multipliers-bound}
 use Rattle.tf_problem.proofs.Prices.{prices-bound, cheapest-by_starts}
@@ -541,7 +543,7 @@ chain_value = refl
 
 chain_bound : IsLowerBound chain (pos 6)
 chain_bound =
-    pushed-bound chain chain_sound refl refl chain_releases
+    pushed-bound chain chain_sound refl chain_releases
     (each_three (λ j. (release_in chain_releases j ≤ problem_release chain j)
     ⊎ ((i : ℕ) × Contains chain.arcs (i, j)
     × (release_in chain_releases j ≤ release_in chain_releases i + problem_work chain i)))
@@ -560,6 +562,41 @@ chain_bound =
 
 chain_best : IsProblemBest chain chain_rows (pos 6)
 chain_best = record { fits = chain_fits; value = refl; least = chain_bound }
+
+-- the same with the sum of completions: 2, 5 and 6, each job alone from these release dates on
+abbrev summed : ProblemData
+summed = record chain {
+  problem = record (plain_problem Parallel goals.SumC) { count = Some 2; prec = true };
+}
+
+summed_sound : IsProblemSound summed
+summed_sound = record {
+  covered = refl;
+  some_job = omega arith;
+  some_machine = omega arith;
+  single = λ e. absurd (false≢true e);
+  one_time = chain_sound.one_time;
+  shop_times = λ e. absurd (false≢true e);
+  routes = λ e. absurd (false≢true e);
+  arcs_in = chain_sound.arcs_in;
+}
+
+abbrev own_dues : List ℤ
+own_dues = pos 0 ∷ pos 0 ∷ pos 0 ∷ []
+
+summed_bound : IsLowerBound summed (pos 13)
+summed_bound =
+    pushed-bound summed summed_sound refl chain_releases
+    (each_three (λ j. (release_in chain_releases j ≤ problem_release summed j)
+    ⊎ ((i : ℕ) × Contains summed.arcs (i, j)
+    × (release_in chain_releases j ≤ release_in chain_releases i + problem_work summed i)))
+    (inl (omega arith)) (inr (1, (0, omega arith, refl), omega arith))
+    (inr (2, (1, omega arith, refl), omega arith)))
+    own_dues
+    (each_three (λ j. due_in own_dues j ≡ (problem_job summed j).due) refl refl refl)
+    (pos 13)
+    (alone-bound (pushed summed chain_releases own_dues)
+    (pushed-sound summed chain_releases own_dues summed_sound) refl)
 
 -- ---- penalties
 

@@ -6,6 +6,8 @@ use Rattle.std.proofs.lemmas.Int.{ints, fold-int_max_reached}
 use Rattle.std.proofs.lemmas.Bool.{false≢true, and_parts, or_cases, or_right}
 use Rattle.std.proofs.lemmas.List.Elements.{All-contains}
 use Rattle.std.proofs.lemmas.List.FromFn.{get_or-map-range_with_len, length-map-range_with_len}
+use Rattle.tf_model.specs.declared.problem.Goal.{Goal}
+use Rattle.tf_model.specs.declared.problem.Goal.TheVariants as goals
 use Rattle.tf_model.specs.declared.problem.Env.{Env}
 use Rattle.tf_model.specs.declared.problem.Env.TheVariants.{Single, Parallel, Uniform, Unrelated, Flow, OpenShop, JobShop}
 use Rattle.tf_model.specs.Timetable.{Timetable, cell, completion}
@@ -17,14 +19,14 @@ use Rattle.tf_problem.specs.ProblemData.{ProblemData, IsProblemSound, IsProblemJ
 use Rattle.tf_problem.specs.FitsProblem.{FitsProblem, VisitsFirst}
 use Rattle.tf_problem.specs.ProblemCost.{problem_cost, lateness, IsLowerBound}
 use Rattle.tf_problem.specs.ProblemBounds.{problem_work, is_alike, is_max_goal}
-use Rattle.tf_problem.specs.Pushed.{release_in, due_in, pushed_job, pushed, AreReleases, AreDues}
+use Rattle.tf_problem.specs.Pushed.{release_in, due_in, pushed_job, pushed, dated_goal, AreReleases, AreDues}
 use Rattle.tf_problem.proofs.Relaxing.{problem_release-le-row}
 use Rattle.tf_problem.proofs.Least.{late-le-cost}
 use Rattle.tf_problem.proofs.Routes.{over-le-rows}
 use Rattle.tf_problem.proofs.RouteLists.{range-apart, range-below}
 use Rattle.tf_problem.proofs.Windows.{alike_no_shop, cells-between, units-le-rows}
 
-known_env : (e : Env) → IsTrue (is_covered_env e) → IsTrue (is_alike e || is_shop_env e)
+pub known_env : (e : Env) → IsTrue (is_covered_env e) → IsTrue (is_alike e || is_shop_env e)
 known_env Single h = refl
 known_env Parallel h = refl
 known_env Uniform h = absurd (false≢true h)
@@ -32,31 +34,6 @@ known_env Unrelated h = absurd (false≢true h)
 known_env Flow h = refl
 known_env OpenShop h = refl
 known_env JobShop h = refl
-
-greatest_reached : (f : ℕ → ℤ) (n : ℕ) → 1 ≤ n
-    → (j : ℕ) × ((1 ≤ j) × (j ≤ n)) × (greatest f (range_with_len 1 n) ≡ f j)
-greatest_reached f zero h = absurd (omega (arith, h))
-greatest_reached f (suc n) h =
-    ⊎_elim
-    (λ first. (1, (omega arith, omega arith), first))
-    (λ at.
-    let i : ℕ = at.0 in
-    let in' : i < suc n = omega (arith, at.1, length-map-range_with_len f 1 (suc n)) in (
-      1 + i,
-      (omega arith, omega arith),
-      sym at.2
-          ∙ get_or-map-range_with_len f 1 (suc n) i (1 + i) (greatest f (range_with_len 1 (suc n))) in'
-          refl,
-    ))
-    (fold-int_max_reached (f 1) (map f (range_with_len 1 (suc n)))
-    (greatest f (range_with_len 1 (suc n))) refl)
-
--- some job has the greatest
-greatest_at_job : (k : ProblemData) (f : ℕ → ℤ) (jobs : List ℕ) → jobs ≡ problem_jobs k
-    → 1 ≤ length k.jobs → (j : ℕ) × IsProblemJob k j × (greatest f jobs ≡ f j)
-greatest_at_job k f jobs is some =
-    let reached = greatest_reached f (length k.jobs) some in
-    (reached.0, reached.1, ap (greatest f) is ∙ reached.2)
 
 module _ (k : ProblemData) (sound : IsProblemSound k) (rows : Timetable) (fits : FitsProblem k rows) where
   env : IsTrue (is_alike k.problem.env || is_shop_env k.problem.env)
@@ -68,7 +45,7 @@ module _ (k : ProblemData) (sound : IsProblemSound k) (rows : Timetable) (fits :
   -- ---- a job's whole work
 
   -- where all of a job's cells stand between two rows, its work has room there
-  work-le-rows : (j : ℕ) → IsProblemJob k j → (from to : ℕ)
+  pub work-le-rows : (j : ℕ) → IsProblemJob k j → (from to : ℕ)
       → ((s i : ℕ) → cell rows s i ≡ j → (from ≤ s) × (s < to)) → problem_work k j ≤ to - from
   work-le-rows j h from to between =
       ⊎_elim
@@ -98,7 +75,7 @@ module _ (k : ProblemData) (sound : IsProblemSound k) (rows : Timetable) (fits :
           let last = cell_at_completion j rows c e in
           omega (arith, e, between c last.0 last.1)
 
-  some_work : (j : ℕ) → IsProblemJob k j → 1 ≤ problem_work k j
+  pub some_work : (j : ℕ) → IsProblemJob k j → 1 ≤ problem_work k j
   some_work j h = by (is_shop_env k.problem.env) refl
     where
       by : (s : Bool) → is_shop_env k.problem.env ≡ s
@@ -196,7 +173,7 @@ module _ (k : ProblemData) (sound : IsProblemSound k) (rows : Timetable) (fits :
       by_work c w e d f o p q r = omega (arith, ints)
 
   -- a job's lateness by such a due date is within the cost
-  due-le-cost : IsTrue k.problem.prec → IsTrue (is_max_goal k.problem.goal) → (d : List ℤ)
+  pub due-le-cost : IsTrue k.problem.prec → IsTrue (is_max_goal k.problem.goal) → (d : List ℤ)
       → AreDues k d → (n i : ℕ) → IsProblemJob k i → length rows ≤ completion rows i + n
       → (pos (completion rows i) -ℤ due_in d i) ≤ℤ problem_cost k rows
   due-le-cost prec max d are zero i h le = down_from prec max d are i h
@@ -207,10 +184,10 @@ module _ (k : ProblemData) (sound : IsProblemSound k) (rows : Timetable) (fits :
 -- ---- the task with these dates
 
 module _ (k : ProblemData) (r : List ℕ) (d : List ℤ) where
-  size : length (pushed k r d).jobs ≡ length k.jobs
+  pub size : length (pushed k r d).jobs ≡ length k.jobs
   size = length-map-range_with_len (pushed_job k r d) 1 (length k.jobs)
 
-  its_job : (j : ℕ) → IsProblemJob k j → problem_job (pushed k r d) j ≡ pushed_job k r d j
+  pub its_job : (j : ℕ) → IsProblemJob k j → problem_job (pushed k r d) j ≡ pushed_job k r d j
   its_job j h =
       get_or-map-range_with_len (pushed_job k r d) 1 (length k.jobs) (j - 1) j no_problem_job
       (omega (arith, h.0, h.1)) (omega (arith, h.0))
@@ -229,8 +206,8 @@ module _ (k : ProblemData) (r : List ℕ) (d : List ℤ) where
 
   pub pushed-sound : IsProblemSound k → IsProblemSound (pushed k r d)
   pushed-sound sound = record {
-    covered = covered_as (is_covered_env k.problem.env) (is_covered_goal k.problem.goal)
-        (not (k.problem.block || k.problem.rcrc)) sound.covered;
+    covered = subst (λ (b : Bool). (is_covered_env k.problem.env && b
+        && not (k.problem.block || k.problem.rcrc)) ≡ true) (same_goal k.problem.goal) sound.covered;
     some_job = omega (arith, sound.some_job, size);
     some_machine = sound.some_machine;
     single = sound.single;
@@ -256,13 +233,16 @@ module _ (k : ProblemData) (r : List ℕ) (d : List ℤ) where
     );
   }
     where
-      covered_as : (a b c : Bool) → (a && b && c) ≡ true → (a && true && c) ≡ true
-      covered_as true true c e = e
-      covered_as true false c e = absurd (false≢true e)
-      covered_as false b c e = absurd (false≢true (by_first b c e))
-        where
-          by_first : (b c : Bool) → (false && b && c) ≡ true → false ≡ true
-          by_first b c e = e
+      same_goal : (g : Goal) → is_covered_goal g ≡ is_covered_goal (dated_goal g)
+      same_goal goals.Cmax = refl
+      same_goal goals.Lmax = refl
+      same_goal goals.Hmax = refl
+      same_goal goals.SumC = refl
+      same_goal goals.SumWC = refl
+      same_goal goals.SumT = refl
+      same_goal goals.SumWT = refl
+      same_goal goals.SumU = refl
+      same_goal goals.SumWU = refl
 
       routed : (j : ℕ) → IsProblemJob k j → IsRoute k j (problem_job k j).route
           → IsRoute (pushed k r d) j (problem_job (pushed k r d) j).route
@@ -309,27 +289,3 @@ module _ (k : ProblemData) (r : List ℕ) (d : List ℤ) where
     without_wait = λ is j low high. let g : IsProblemJob k j = job j (low, high) in
         fits.without_wait is j g.0 g.1;
   }
-
--- whatever bounds the task with dates that follow by its arcs bounds the task
-pub pushed-bound : (k : ProblemData) → IsProblemSound k → IsTrue k.problem.prec
-    → IsTrue (is_max_goal k.problem.goal) → (r : List ℕ) → AreReleases k r → (d : List ℤ)
-    → AreDues k d → (b : ℤ) → IsLowerBound (pushed k r d) b → IsLowerBound k b
-pushed-bound k sound prec max r early d late b bound rows fits =
-    let some : (j : ℕ) × IsProblemJob k j
-    × (greatest (λ j. lateness (pushed k r d) j (completion rows j)) (problem_jobs (pushed k r d))
-    ≡ lateness (pushed k r d) j (completion rows j)) =
-    greatest_at_job k (λ j. lateness (pushed k r d) j (completion rows j)) (problem_jobs (pushed k r d))
-    (ap (range_with_len 1) (size k r d)) sound.some_job in
-    let j : ℕ = some.0 in
-    let le : b ≤ℤ greatest (λ j. lateness (pushed k r d) j (completion rows j))
-    (problem_jobs (pushed k r d)) = bound rows (pushed-fits k r d sound prec early rows fits) in
-    let at : lateness (pushed k r d) j (completion rows j)
-    ≡ (pos (completion rows j) -ℤ due_in d j) =
-    ap (λ x. pos (completion rows j) -ℤ x.due) (its_job k r d j some.1) in
-    let paid : (pos (completion rows j) -ℤ due_in d j) ≤ℤ problem_cost k rows =
-    due-le-cost k sound rows fits prec max d late (length rows) j some.1 (omega arith) in
-    chain b (greatest (λ j. lateness (pushed k r d) j (completion rows j)) (problem_jobs (pushed k r d)))
-    (pos (completion rows j) -ℤ due_in d j) (problem_cost k rows) le (some.2 ∙ at) paid
-  where
-    chain : (b g l o : ℤ) → b ≤ℤ g → g ≡ l → l ≤ℤ o → b ≤ℤ o
-    chain b g l o p q s = omega (arith, ints)

@@ -147,3 +147,10 @@ AreCheapest k q prices cheapest = (j : ℕ) → IsProblemJob k j → (s : ℕ) �
 abbrev pub prices_value : ProblemData → ℕ → List ℕ → List ℕ → ℤ
 prices_value k q prices cheapest =
     share_up (pos (sum_by (numerator cheapest) (problem_jobs k)) -ℤ pos (k.machines * sum prices)) q
+
+-- ---- each job by itself
+
+-- what each job adds to a sum if it starts at its release date and waits nowhere
+abbrev pub alone_cost : ProblemData → ℕ
+alone_cost k =
+    sum_by (λ j. penalty k.problem.goal k j (problem_release k j + problem_work k j)) (problem_jobs k)

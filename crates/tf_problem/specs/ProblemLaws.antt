@@ -14,8 +14,8 @@ use Rattle.tf_check.specs.Bound.{bound_by}
 use Rattle.tf_problem.specs.ProblemData.{ProblemData, IsProblemSound, IsProblemJob, problem_job, problem_weight, problem_release}
 use Rattle.tf_problem.specs.ProblemCost.{IsLowerBound}
 use Rattle.tf_problem.specs.Relaxed.{IsRelaxation, window_task, load_task, rank_task, weighed_task, pair_task}
-use Rattle.tf_problem.specs.Pushed.{pushed, AreReleases, AreDues}
-use Rattle.tf_problem.specs.ProblemBounds.{pair_margin, window_value, crowd_value, one_job_value, machine_value, multiplier_value, numerator, is_alike, is_by_machine, is_max_goal, is_tardy_goal, is_sum_goal, AreCheapest, prices_value, start_price}
+use Rattle.tf_problem.specs.Pushed.{pushed, AreReleases, AreServingDues}
+use Rattle.tf_problem.specs.ProblemBounds.{pair_margin, window_value, crowd_value, one_job_value, machine_value, multiplier_value, numerator, is_alike, is_by_machine, is_max_goal, is_tardy_goal, is_sum_goal, AreCheapest, prices_value, start_price, alone_cost}
 
 -- ---- relaxation
 
@@ -56,9 +56,9 @@ pub record RelaxationLaw (k : ProblemData) : Type 0 where
 
 -- whatever bounds the task with dates that follow by its arcs bounds the task
 abbrev pub PushedLaw : Type 0
-PushedLaw = (k : ProblemData) → IsProblemSound k → IsTrue k.problem.prec
-    → IsTrue (is_max_goal k.problem.goal) → (r : List ℕ) → AreReleases k r → (d : List ℤ)
-    → AreDues k d → (b : ℤ) → IsLowerBound (pushed k r d) b → IsLowerBound k b
+PushedLaw = (k : ProblemData) → IsProblemSound k → IsTrue k.problem.prec → (r : List ℕ)
+    → AreReleases k r → (d : List ℤ) → AreServingDues k d → (b : ℤ)
+    → IsLowerBound (pushed k r d) b → IsLowerBound k b
 
 -- ---- bounds of their own, whatever the conditions
 
@@ -111,3 +111,8 @@ CheapestLaw = (k : ProblemData) (q : ℕ) (prices cheapest : List ℕ)
     → s ≤ max (problem_release k j) (length prices)
     → numerator cheapest j ≤ start_price k q prices j s)
     → AreCheapest k q prices cheapest
+
+-- each job by itself, in every environment and under all conditions: any sum
+abbrev pub AloneLaw : Type 0
+AloneLaw = (k : ProblemData) → IsProblemSound k → IsTrue (is_sum_goal k.problem.goal)
+    → IsLowerBound k (pos (alone_cost k))

@@ -3,7 +3,7 @@
 ghost use Rattle.tf_problem.specs.ProblemData.{ProblemData, IsProblemSound};
 ghost use Rattle.tf_problem.specs.ProblemLaws.{CertificateLaw, BestLaw, RelaxationLaw, PushedLaw};
 ghost use Rattle.tf_problem.specs.ProblemLaws.{WindowLaw, CrowdLaw, OneJobLaw, MachineLaw};
-ghost use Rattle.tf_problem.specs.ProblemLaws.{MultiplierLaw, PricesLaw, CheapestLaw};
+ghost use Rattle.tf_problem.specs.ProblemLaws.{MultiplierLaw, PricesLaw, CheapestLaw, AloneLaw};
 ghost use Rattle.tf_problem.specs.Agreement.{AgreementLaw};
 
 /// A lower bound that a certificate gives of a relaxed task is one of the task.
@@ -59,6 +59,11 @@ pub fn prices_law()
 /// The starts among which a job's cheapest is found, for the prices.
 pub fn cheapest_law()
     ensures { CheapestLaw }
+{}
+
+/// A lower bound by each job by itself, for any sum.
+pub fn alone_law()
+    ensures { AloneLaw }
 {}
 
 /// On a problem of a class the task of the problem means what the class's task means.

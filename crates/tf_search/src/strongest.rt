@@ -1,7 +1,8 @@
 //! The strongest of the lower bounds that judges and searches give of a task.
-ghost use Rattle.std.specs.Prelude.{◌≡◌, ◌⊎◌, IfOk, IfSome, IsFalse};
+ghost use Rattle.std.specs.Prelude.{◌≡◌, ◌⊎◌, IfOk, IfSome, IsTrue, IsFalse};
 ghost use Rattle.tf_model.specs.ClassTable.{is_shop_env};
-ghost use Rattle.tf_problem.specs.ProblemData.{ProblemData};
+ghost use Rattle.tf_problem.specs.ProblemData.{ProblemData, IsProblemJob};
+ghost use Rattle.tf_problem.specs.ProblemBounds.{is_max_goal, is_sum_goal};
 ghost use Rattle.tf_search.specs.Strongest.{IsFound, IsFoundOn};
 
 use crate::due_prices::crossed_out_cost;
@@ -14,10 +15,12 @@ use crate::ranked::{Rank, crowd_front, crowded_above, jobs_by_rank, window_front
 use crate::sequence::best_order;
 use crate::windows::{jobs_within, strongest_window};
 use std::alloc::{Allocator, Global};
+use tf_bound::alike::one_job_value;
+use tf_bound::alone::alone_value;
 use tf_bound::certificate::BoundCertificate;
 use tf_bound::fault::BoundFault;
 use tf_bound::prices::is_by_unit;
-use tf_bound::pushed::pushed_task;
+use tf_bound::pushed::{is_of_maximum, judged_task};
 use tf_bound::task::ProblemTask;
 use tf_model::ids::JobId;
 use tf_model::limit::LIMIT;
@@ -46,17 +49,16 @@ pub struct Found<A: Allocator = Global> {
     pub certificate: BoundCertificate<A>,
 }
 
-/// The strongest bound that is found with an effort. None where each certificate that was tried has
-/// a number beyond the limit.
+/// The strongest bound that is found with an effort.
 pub fn strongest<A: Allocator + Copy, B: Allocator, P: Progress + Drop>(
     alloc: A,
     task: &ProblemTask<B>,
     mut effort: Effort<P>,
-) -> Result<Option<Found<A>>, OutOfMemory>
-    ensures { IfOk result (λ best. IfSome best (IsFound task.now)) }
+) -> Result<Found<A>, OutOfMemory>
+    ensures { IfOk result (IsFound task.now) }
 {
-    match pushed_task(alloc, task)? {
-        Some(pushed) => strongest_on(alloc, &pushed, &mut effort),
+    match judged_task(alloc, task)? {
+        Some(judged) => strongest_on(alloc, &judged, &mut effort),
         None => strongest_on(alloc, task, &mut effort),
     }
 }
@@ -66,12 +68,53 @@ fn strongest_on<A: Allocator + Copy, B: Allocator, P: Progress>(
     alloc: A,
     task: &ProblemTask<B>,
     effort: &mut Effort<P>,
-) -> Result<Option<Found<A>>, OutOfMemory>
-    ensures { IfOk result (λ best. IfSome best (IsFoundOn task.now)) }
+) -> Result<Found<A>, OutOfMemory>
+    ensures { IfOk result (IsFoundOn task.now) }
 {
-    match task.problem().goal {
-        Goal::Cmax | Goal::Lmax => of_maximum(alloc, task),
-        _ => of_sum(alloc, task, effort),
+    if is_of_maximum(task.problem().goal) {
+        return of_maximum(alloc, task);
+    }
+    let alone = by_each_alone(alloc, task)?;
+    match of_sum(alloc, task, effort)? {
+        Some(best) => Ok(stronger(best, Some(alone))),
+        None => Ok(alone),
+    }
+}
+
+// The jobs of a sum, each alone.
+fn by_each_alone<A: Allocator + Copy, B: Allocator>(
+    alloc: A,
+    task: &ProblemTask<B>,
+) -> Result<Found<A>, OutOfMemory>
+    requires { IsTrue (is_sum_goal task.now.problem.goal) }
+    ensures { IfOk result (IsFoundOn task.now) }
+{
+    Ok(Found {
+        value: alone_value(alloc, task)?,
+        certificate: BoundCertificate::Alone,
+    })
+}
+
+// The job of a maximum that costs most by itself.
+fn by_longest_job<A: Allocator, B: Allocator>(task: &ProblemTask<B>) -> Found<A>
+    requires { IsTrue (is_max_goal task.now.problem.goal) }
+    ensures { IsFoundOn task.now result }
+{
+    let job = longest_job(task);
+    Found {
+        value: one_job_value(task, job),
+        certificate: BoundCertificate::OneJob { job },
+    }
+}
+
+// The one of the greater value.
+fn stronger<A: Allocator>(one: Found<A>, other: Option<Found<A>>) -> Found<A>
+    ensures { (k : ProblemData) → IsFoundOn k one → IfSome other (IsFoundOn k)
+        → IsFoundOn k result }
+{
+    match other {
+        Some(other) if one.value < other.value => other,
+        _ => one,
     }
 }
 
@@ -133,21 +176,23 @@ fn searched<T: Drop>(outcome: Result<T, BoundFault>) -> Result<Option<T>, OutOfM
 fn of_maximum<A: Allocator + Copy, B: Allocator>(
     alloc: A,
     task: &ProblemTask<B>,
-) -> Result<Option<Found<A>>, OutOfMemory>
-    ensures { IfOk result (λ best. IfSome best (IsFoundOn task.now)) }
+) -> Result<Found<A>, OutOfMemory>
+    requires { IsTrue (is_max_goal task.now.problem.goal) }
+    ensures { IfOk result (IsFoundOn task.now) }
 {
-    let job = longest_job(task);
-    let alone = judged(alloc, task, BoundCertificate::OneJob { job })?;
+    let alone = by_longest_job(task);
     if !matches!(task.problem().env, Env::Parallel) {
-        return improved(alone, by_machine(alloc, task));
+        return Ok(stronger(alone, by_machine(alloc, task)?));
     }
-    let best = improved(alone, by_windows(alloc, task))?;
-    let value = value_of(&best);
-    improved(best, by_crowd(alloc, task, value))
+    let best = stronger(alone, by_windows(alloc, task)?);
+    let value = best.value;
+    Ok(stronger(best, by_crowd(alloc, task, value)?))
 }
 
 // The job that completes latest after its due date, if it runs alone.
-fn longest_job<B: Allocator>(task: &ProblemTask<B>) -> JobId {
+fn longest_job<B: Allocator>(task: &ProblemTask<B>) -> JobId
+    ensures { IsProblemJob task.now result }
+{
     let mut longest = JobId::at(0);
     let mut most = 0;
     for k in 0..task.len() {

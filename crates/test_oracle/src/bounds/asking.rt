@@ -61,8 +61,5 @@ pub fn bound_of(alloc: Global, task: &SmallTask) -> Result<Option<i128>, Fail> {
     let task = problem_task(alloc, task)?;
     let effort: Effort<Nobody> = Effort::untold(None);
     let found = strongest(alloc, &task, effort)?;
-    match found {
-        Some(found) => Ok(Some(found.value)),
-        None => Ok(None),
-    }
+    Ok(Some(found.value))
 }

@@ -7,7 +7,7 @@ use Rattle.tf_engine.specs.Faults.{Wants, stop_of}
 use Rattle.tf_engine.proofs.Devices.{instance_sound, instance_later, stopped, cut, wrote}
 use Rattle.tf_engine.proofs.Unread.{err_is, err_ends}
 use Rattle.tf_bounding.specs.RunBounding.{IsBoundingOf}
-use Rattle.tf_bounding.proofs.Running.{unasked, unfound, wanting, cut_off, said}
+use Rattle.tf_bounding.proofs.Running.{unasked, wanting, cut_off, said}
 use Rattle.tf_bounding.proofs.run_bound.run_bound.Goals as goal
 
 pub returns-in_err-task-clause-outcome : goal.returns-in_err-task-clause-outcome
@@ -23,16 +23,14 @@ returns-in_err-task-clause-devices g c =
 
 pub returns-in_err-found-clause-outcome : goal.returns-in_err-found-clause-outcome
 returns-in_err-found-clause-outcome g c =
-    err_is (IsBoundingOf c.args.request.now _ _) c.in_err-found.field-0.0 _
+    err_is (IsBoundingOf c.args.request.now _ _) OutOfMemory _
     c.from_residual-in_err-found.ensures.1
-    (unfound g.row.A.Denot _ c.args.request.now _ _ _ _ c.in_ok-task.ensures _ _
-    c.in_err-found.field-0.0 c.in_err-found.ensures)
+    (wanting g.row.A.Denot _ c.args.request.now _ _ _ _ c.in_ok-task.ensures _ _)
 
 pub returns-in_err-found-clause-devices : goal.returns-in_err-found-clause-devices
 returns-in_err-found-clause-devices g c =
-    err_ends (LeavesRun _ _ _ _ _ _) c.in_err-found.field-0.0 _
-    c.from_residual-in_err-found.ensures.1
-    (stopped _ _ _ (stop_of c.in_err-found.field-0.0) (instance_later c.in_ok-task.ensures.reader _))
+    err_ends (LeavesRun _ _ _ _ _ _) OutOfMemory _ c.from_residual-in_err-found.ensures.1
+    (stopped _ _ _ Wants (instance_later c.in_ok-task.ensures.reader _))
 
 pub returns-in_err-text-clause-outcome : goal.returns-in_err-text-clause-outcome
 returns-in_err-text-clause-outcome g c =

@@ -1,0 +1,5 @@
+use Rattle.tf_problem.specs.ProblemData.{IsProblemJob}
+use Rattle.tf_search.proofs.strongest.longest_job.Given as goal
+
+abbrev pub invariant-loop-k : goal.invariant-loop-k
+invariant-loop-k g l = IsProblemJob l.task l.longest
