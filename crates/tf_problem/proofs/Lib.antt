@@ -18,3 +18,9 @@ pub mod Crowds
 pub mod Pushed
 pub mod PushedBounds
 pub mod Alone
+pub mod Arcs
+pub mod Middles
+pub mod FastMachine
+pub mod SharedMultipliers
+pub mod AnyMultipliers
+pub mod ArcExamples

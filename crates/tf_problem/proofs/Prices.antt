@@ -152,7 +152,7 @@ module _ (k : ProblemData) (sound : IsProblemSound k) (alike : IsTrue (is_alike 
 
 -- ---- the bound
 
-IsDistinct-problem_jobs : (k : ProblemData) → IsDistinct (problem_jobs k)
+pub IsDistinct-problem_jobs : (k : ProblemData) → IsDistinct (problem_jobs k)
 IsDistinct-problem_jobs k = once 1 (length k.jobs)
 
 pub sum-cost : (g : Goal) → IsTrue (is_sum_goal g) → (k : ProblemData) (rows : Timetable)

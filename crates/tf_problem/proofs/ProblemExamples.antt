@@ -18,7 +18,7 @@ use Rattle.tf_problem.specs.ProblemData.{ProblemData, ProblemJobData, IsProblemS
 use Rattle.tf_problem.specs.FitsProblem.{FitsProblem, GoesFirst, IsInOneOrder}
 use Rattle.tf_problem.specs.ProblemCost.{problem_cost, tardiness, unit_penalty, IsLowerBound, IsProblemBest}
 use Rattle.tf_problem.specs.Relaxed.{pair_task}
-use Rattle.tf_problem.specs.ProblemBounds.{pair_margin, machine_value, window_value, multiplier_value, numerator, one_job_value, alone_cost, problem_work, AreCheapest, start_price}
+use Rattle.tf_problem.specs.ProblemBounds.{pair_margin, machine_value, window_value, any_multiplier_value, numerator, one_job_value, problem_work, AreCheapest, start_price}
 use Rattle.tf_problem.proofs.Least.{Contains-problem_jobs}
 use Rattle.tf_problem.proofs.FitsTest.{fits-passed}
 use Rattle.tf_problem.proofs.Relaxing.{All-problem_jobs, bound-of_relaxation}
@@ -31,7 +31,7 @@ use Rattle.tf_problem.proofs.Pushed.{pushed-sound}
 use Rattle.tf_problem.proofs.PushedBounds.{pushed-bound}
 use Rattle.tf_problem.proofs.Alone.{alone-bound}
 use Rattle.tf_problem.specs.Pushed.{pushed, release_in, due_in}
-use Rattle.tf_problem.proofs.Multipliers.{multipliers-bound}
+use Rattle.tf_problem.proofs.AnyMultipliers.{any_multipliers-bound}
 use Rattle.tf_problem.proofs.Prices.{prices-bound, cheapest-by_starts}
 
 -- a number from 1 to 3
@@ -97,25 +97,28 @@ tardy_cost : problem_cost tardy tardy_rows ≡ pos 3
 tardy_cost = refl
 
 -- the multipliers 2/2, 1/2 and 3/2: (25 - 20) / 2, rounded up
-tardy_value : multiplier_value tardy 0 (2 ∷ 1 ∷ 3 ∷ []) 2 ≡ pos 3
+tardy_value : any_multiplier_value tardy 0 (2 ∷ 1 ∷ 3 ∷ []) [] 2 ≡ pos 3
 tardy_value = refl
 
 tardy_bound : IsLowerBound tardy (pos 3)
 tardy_bound =
-    multipliers-bound tardy tardy_sound refl refl 0 (omega arith) (2 ∷ 1 ∷ 3 ∷ []) 2 (omega arith)
-    (each_three (λ j. numerator (2 ∷ 1 ∷ 3 ∷ []) j ≤ 2 * problem_weight tardy j) (omega arith)
-    (omega arith) (omega arith))
+    any_multipliers-bound tardy tardy_sound refl 0 (omega arith) (2 ∷ 1 ∷ 3 ∷ []) [] 2 (omega arith)
+    (record {
+      within = each_three (λ j. numerator (2 ∷ 1 ∷ 3 ∷ []) j ≤ 2 * problem_weight tardy j)
+          (omega arith) (omega arith) (omega arith);
+      enough = λ j h. omega arith;
+    })
 
 -- so the bound is reached
 tardy_best : IsProblemBest tardy tardy_rows (pos 3)
 tardy_best = record { fits = tardy_fits; value = tardy_cost; least = tardy_bound }
 
 -- multipliers of 0 bound by 0
-tardy_none : multiplier_value tardy 0 (0 ∷ 0 ∷ 0 ∷ []) 1 ≡ pos 0
+tardy_none : any_multiplier_value tardy 0 (0 ∷ 0 ∷ 0 ∷ []) [] 1 ≡ pos 0
 tardy_none = refl
 
 -- a sum that is negative bounds by 0: the due dates are far
-tardy_negative : multiplier_value tardy 0 (1 ∷ 0 ∷ 0 ∷ []) 1 ≡ pos 0
+tardy_negative : any_multiplier_value tardy 0 (1 ∷ 0 ∷ 0 ∷ []) [] 1 ≡ pos 0
 tardy_negative = refl
 
 -- ---- `F3|prmu|Cmax`: OR-Library's flow shop, three machines, and a time 0

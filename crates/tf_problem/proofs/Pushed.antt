@@ -1,8 +1,8 @@
 -- Release dates and due dates that follow from the arcs.
-use Rattle.std.proofs.Common.{◌≡◌, Bool, true, false, ℕ, zero, suc, ◌+◌, ◌-◌, ◌≤◌, ◌<◌, ◌||◌, ◌&&◌, not, slice_index, slice_index_or, List, length, map, cond, refl, sym, ap, ◌∙◌, subst, ⊎_elim, arith, sum_by, All, Contains, ℤ, pos, ◌-ℤ◌, ◌≤ℤ◌, IsTrue}
+use Rattle.std.proofs.Common.{◌≡◌, Bool, true, false, ℕ, zero, suc, ◌+◌, ◌-◌, ◌≤◌, ◌<◌, ◌||◌, ◌&&◌, not, slice_index, slice_index_or, List, length, cond, refl, sym, ap, ◌∙◌, subst, ⊎_elim, arith, sum_by, All, Contains, ℤ, pos, ◌-ℤ◌, ◌≤ℤ◌, IsTrue}
 use Rattle.std.specs.List.{AllPairs, range_with_len}
 use Rattle.std.specs.List.Sorted.{IsPermutation}
-use Rattle.std.proofs.lemmas.Int.{ints, fold-int_max_reached}
+use Rattle.std.proofs.lemmas.Int.{ints}
 use Rattle.std.proofs.lemmas.Bool.{false≢true, and_parts, or_cases, or_right}
 use Rattle.std.proofs.lemmas.List.Elements.{All-contains}
 use Rattle.std.proofs.lemmas.List.FromFn.{get_or-map-range_with_len, length-map-range_with_len}
@@ -13,11 +13,10 @@ use Rattle.tf_model.specs.declared.problem.Env.TheVariants.{Single, Parallel, Un
 use Rattle.tf_model.specs.Timetable.{Timetable, cell, completion}
 use Rattle.tf_model.specs.ClassTable.{is_single_env, is_shop_env}
 use Rattle.tf_model.specs.Feasible.{IsKept}
-use Rattle.tf_model.specs.Cost.{greatest}
 use Rattle.tf_model.proofs.Units.{cell_at_completion, completion-le-row, completion-le-length}
-use Rattle.tf_problem.specs.ProblemData.{ProblemData, IsProblemSound, IsProblemJob, problem_job, problem_jobs, problem_time, time_over, problem_due, route_by, no_problem_job, is_covered_env, is_covered_goal, IsRoute}
+use Rattle.tf_problem.specs.ProblemData.{ProblemData, IsProblemSound, IsProblemJob, problem_job, problem_time, time_over, problem_due, route_by, no_problem_job, is_covered_env, is_covered_goal, IsRoute}
 use Rattle.tf_problem.specs.FitsProblem.{FitsProblem, VisitsFirst}
-use Rattle.tf_problem.specs.ProblemCost.{problem_cost, lateness, IsLowerBound}
+use Rattle.tf_problem.specs.ProblemCost.{problem_cost}
 use Rattle.tf_problem.specs.ProblemBounds.{problem_work, is_alike, is_max_goal}
 use Rattle.tf_problem.specs.Pushed.{release_in, due_in, pushed_job, pushed, dated_goal, AreReleases, AreDues}
 use Rattle.tf_problem.proofs.Relaxing.{problem_release-le-row}
@@ -122,7 +121,7 @@ module _ (k : ProblemData) (sound : IsProblemSound k) (rows : Timetable) (fits :
   -- ---- due dates
 
   -- a job that comes behind by an arc completes later, by its work
-  behind-arc : IsTrue k.problem.prec → (i j : ℕ) → Contains k.arcs (i, j)
+  pub behind-arc : IsTrue k.problem.prec → (i j : ℕ) → Contains k.arcs (i, j)
       → completion rows i + problem_work k j ≤ completion rows j
   behind-arc prec i j at =
       let g : IsProblemJob k i = (job_of_arc i j at).0 in

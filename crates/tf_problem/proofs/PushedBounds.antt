@@ -1,5 +1,5 @@
 -- Whatever bounds the task with dates that follow by its arcs bounds the task.
-use Rattle.std.proofs.Common.{◌≡◌, Bool, true, false, ℕ, zero, suc, ◌+◌, ◌-◌, ◌*◌, ◌≤◌, ◌<◌, ◌&&◌, ◌||◌, not, List, length, map, cond, int_lt, refl, sym, ap, ◌∙◌, subst, ⊎_elim, arith, sum_by, All, ℤ, pos, ◌-ℤ◌, ◌≤ℤ◌, IsTrue}
+use Rattle.std.proofs.Common.{◌≡◌, Bool, true, false, ℕ, zero, suc, ◌+◌, ◌*◌, ◌≤◌, ◌<◌, ◌&&◌, ◌||◌, not, List, length, map, cond, int_lt, refl, sym, ap, ◌∙◌, subst, ⊎_elim, arith, sum_by, ℤ, pos, ◌-ℤ◌, ◌≤ℤ◌, IsTrue}
 use Rattle.std.specs.List.{range_with_len}
 use Rattle.std.proofs.lemmas.Int.{ints, fold-int_max_reached}
 use Rattle.std.proofs.lemmas.Bool.{false≢true, and_parts}
@@ -11,10 +11,9 @@ use Rattle.tf_model.specs.Timetable.{Timetable, completion}
 use Rattle.tf_model.specs.Cost.{greatest}
 use Rattle.tf_model.proofs.Sums.{sum_by_le_all}
 use Rattle.tf_problem.specs.ProblemData.{ProblemData, IsProblemSound, IsProblemJob, problem_job, problem_jobs, is_covered_env, is_covered_goal}
-use Rattle.tf_problem.specs.FitsProblem.{FitsProblem}
 use Rattle.tf_problem.specs.ProblemCost.{problem_cost, problem_cost_by, lateness, penalty, IsLowerBound}
 use Rattle.tf_problem.specs.ProblemBounds.{is_max_goal, is_sum_goal}
-use Rattle.tf_problem.specs.Pushed.{due_in, pushed_job, pushed, dated_goal, serving_by, AreReleases, AreDues, AreOwnDues, AreServingDues}
+use Rattle.tf_problem.specs.Pushed.{due_in, pushed, dated_goal, serving_by, AreReleases, AreDues, AreOwnDues, AreServingDues}
 use Rattle.tf_problem.proofs.Relaxing.{All-problem_jobs}
 use Rattle.tf_problem.proofs.Prices.{sum-cost}
 use Rattle.tf_problem.proofs.Pushed.{size, its_job, due-le-cost, pushed-fits}

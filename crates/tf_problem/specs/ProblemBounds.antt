@@ -9,7 +9,7 @@ use Rattle.tf_model.specs.ClassTable.{is_single_env, is_parallel_env, is_shop_en
 use Rattle.tf_model.specs.Cost.{greatest}
 use Rattle.tf_model.specs.Bounds.{pairs_value}
 use Rattle.tf_check.specs.Bound.{least_number, least}
-use Rattle.tf_problem.specs.ProblemData.{ProblemData, IsProblemJob, problem_jobs, problem_time, problem_time_on, time_over, problem_release, problem_due, route_of}
+use Rattle.tf_problem.specs.ProblemData.{ProblemData, IsProblemJob, problem_jobs, problem_time, problem_time_on, time_over, problem_release, problem_due, problem_weight, route_of}
 use Rattle.tf_problem.specs.Relaxed.{weighed_task}
 use Rattle.tf_problem.specs.ProblemCost.{penalty}
 
@@ -117,14 +117,68 @@ share_up (negsuc n) q = pos 0
 abbrev pub numerator : List ℕ → ℕ → ℕ
 numerator v j = slice_index v (j - 1)
 
--- The least sum of completions on machine a, weighted by the numerators, and for each job what it
--- waits for the machine and has to go behind it, less its due date, as often; all over the
+-- the arcs that are asked for: none where the problem has no precedence constraints
+abbrev pub problem_arcs : ProblemData → List (ℕ × ℕ)
+problem_arcs k = if k.problem.prec then k.arcs else []
+
+-- the sum of f over the arcs, each times its multiplier; a multiplier past the end of the list is 0
+abbrev pub over_arcs : (ℕ × ℕ → ℕ) → List (ℕ × ℕ) → List ℕ → ℕ
+over_arcs f [] l = 0
+over_arcs f (arc ∷ arcs) [] = 0
+over_arcs f (arc ∷ arcs) (n ∷ l) = n * f arc + over_arcs f arcs l
+
+-- the multipliers of the arcs from a job, and of those to it
+abbrev pub arcs_from : ProblemData → List ℕ → ℕ → ℕ
+arcs_from k l j = over_arcs (λ arc. if arc.0 == j then 1 else 0) (problem_arcs k) l
+
+abbrev pub arcs_to : ProblemData → List ℕ → ℕ → ℕ
+arcs_to k l j = over_arcs (λ arc. if arc.1 == j then 1 else 0) (problem_arcs k) l
+
+-- for each arc its multiplier times the time of its second job, in a shop on all machines
+abbrev pub arcs_gain : ProblemData → List ℕ → ℕ
+arcs_gain k l = over_arcs (λ arc. problem_work k arc.1) (problem_arcs k) l
+
+-- the multiplier of a job, after each arc has moved its own from its second job to its first
+abbrev pub moved : ProblemData → List ℕ → List ℕ → ℕ → ℕ
+moved k v l j = numerator v j + arcs_from k l j - arcs_to k l j
+
+-- the multiplier of each job is at most its weight, and no arcs take more from a job than it has
+pub record AreMultipliers (k : ProblemData) (v l : List ℕ) (q : ℕ) : Type 0 where
+  pub within : (j : ℕ) → IsProblemJob k j → numerator v j ≤ q * problem_weight k j
+  pub enough : (j : ℕ) → IsProblemJob k j → arcs_to k l j ≤ numerator v j + arcs_from k l j
+
+-- the due dates, each as often as the job's own multiplier
+abbrev pub owed_dues : ProblemData → List ℕ → ℤ
+owed_dues k v = int_sum (λ j. pos (numerator v j) *ℤ problem_due k j) (problem_jobs k)
+
+-- The least sum of completions on machine a, weighted by the moved multipliers; as often what each job
+-- waits for the machine and has to go behind it; what the arcs gain; less the due dates; all over the
 -- denominator q.
-abbrev pub multiplier_value : ProblemData → ℕ → List ℕ → ℕ → ℤ
-multiplier_value k a v q =
-    share_up (pos (pairs_value (weighed_task k a (numerator v)))
-    +ℤ int_sum (λ j. pos (numerator v j)
-    *ℤ (pos (least_number (head k a) (problem_jobs k) + tail k a j) -ℤ problem_due k j)) (problem_jobs k)) q
+abbrev pub arc_multiplier_value : ProblemData → ℕ → List ℕ → List ℕ → ℕ → ℤ
+arc_multiplier_value k a v l q =
+    share_up (pos (pairs_value (weighed_task k a (moved k v l))
+    + sum_by (λ j. moved k v l j * (least_number (head k a) (problem_jobs k) + tail k a j)) (problem_jobs k)
+    + arcs_gain k l)
+    -ℤ owed_dues k v) q
+
+-- Identical machines, with or without preemption: the same with one machine that is as fast as all of
+-- them, (m - 1) / (2 m) of each job's time (Eastman, Even and Isaacs 1964) and the least release date;
+-- all times 2 m, over 2 m q.
+abbrev pub shared_multiplier_value : ProblemData → List ℕ → List ℕ → ℕ → ℤ
+shared_multiplier_value k v l q =
+    share_up (pos (2 * pairs_value (weighed_task k 0 (moved k v l))
+    + (k.machines - 1) * sum_by (λ j. moved k v l j * problem_time k j) (problem_jobs k)
+    + 2 * k.machines
+    * (least_number (problem_release k) (problem_jobs k) * sum_by (moved k v l) (problem_jobs k)
+    + arcs_gain k l))
+    -ℤ (pos (2 * k.machines) *ℤ owed_dues k v))
+    (2 * k.machines * q)
+
+-- in every environment: on identical machines by all of them together, elsewhere by machine a
+abbrev pub any_multiplier_value : ProblemData → ℕ → List ℕ → List ℕ → ℕ → ℤ
+any_multiplier_value k a v l q =
+    if is_parallel_env k.problem.env then shared_multiplier_value k v l q
+    else arc_multiplier_value k a v l q
 
 -- ---- prices
 

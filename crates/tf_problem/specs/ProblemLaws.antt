@@ -11,11 +11,11 @@ use Rattle.tf_model.specs.Sound.{IsSound}
 use Rattle.tf_model.specs.Cost.{IsBest}
 use Rattle.tf_check.specs.Claim.{Claim}
 use Rattle.tf_check.specs.Bound.{bound_by}
-use Rattle.tf_problem.specs.ProblemData.{ProblemData, IsProblemSound, IsProblemJob, problem_job, problem_weight, problem_release}
+use Rattle.tf_problem.specs.ProblemData.{ProblemData, IsProblemSound, IsProblemJob, problem_job, problem_release}
 use Rattle.tf_problem.specs.ProblemCost.{IsLowerBound}
 use Rattle.tf_problem.specs.Relaxed.{IsRelaxation, window_task, load_task, rank_task, weighed_task, pair_task}
 use Rattle.tf_problem.specs.Pushed.{pushed, AreReleases, AreServingDues}
-use Rattle.tf_problem.specs.ProblemBounds.{pair_margin, window_value, crowd_value, one_job_value, machine_value, multiplier_value, numerator, is_alike, is_by_machine, is_max_goal, is_tardy_goal, is_sum_goal, AreCheapest, prices_value, start_price, alone_cost}
+use Rattle.tf_problem.specs.ProblemBounds.{pair_margin, window_value, crowd_value, one_job_value, machine_value, AreMultipliers, any_multiplier_value, numerator, is_alike, is_by_machine, is_max_goal, is_tardy_goal, is_sum_goal, AreCheapest, prices_value, start_price, alone_cost}
 
 -- ---- relaxation
 
@@ -89,13 +89,11 @@ MachineLaw = (k : ProblemData) → IsProblemSound k → IsTrue (is_by_machine k.
     → (jobs : List ℕ) → IsDistinct jobs → All (IsProblemJob k) jobs → 0 < length jobs
     → IsLowerBound k (machine_value k a jobs)
 
--- multipliers of at most the weights, on one machine
+-- multipliers of jobs and arcs, in every environment and under all conditions
 abbrev pub MultiplierLaw : Type 0
-MultiplierLaw = (k : ProblemData) → IsProblemSound k → IsTrue (is_by_machine k.problem.env)
-    → IsTrue (is_tardy_goal k.problem.goal) → (a : ℕ) → a < k.machines
-    → (v : List ℕ) (q : ℕ) → 1 ≤ q
-    → ((j : ℕ) → IsProblemJob k j → numerator v j ≤ q * problem_weight k j)
-    → IsLowerBound k (multiplier_value k a v q)
+MultiplierLaw = (k : ProblemData) → IsProblemSound k → IsTrue (is_tardy_goal k.problem.goal)
+    → (a : ℕ) → a < k.machines → (v l : List ℕ) (q : ℕ) → 1 ≤ q → AreMultipliers k v l q
+    → IsLowerBound k (any_multiplier_value k a v l q)
 
 -- prices of the rows where no job is broken off: any sum over the jobs
 abbrev pub PricesLaw : Type 0

@@ -46,7 +46,8 @@ pub fn machine_law()
     ensures { MachineLaw }
 {}
 
-/// A lower bound by multipliers on one machine (Potts and Van Wassenhove 1985).
+/// A lower bound by multipliers of jobs and arcs (Potts and Van Wassenhove 1985), on identical
+/// machines with one that is as fast as all of them (Eastman, Even and Isaacs 1964).
 pub fn multiplier_law()
     ensures { MultiplierLaw }
 {}
