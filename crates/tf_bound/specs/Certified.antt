@@ -1,7 +1,7 @@
 -- What a certificate of each kind bounds a task by.
 use Rattle.std.specs.Prelude.{◌≡◌, ℕ, ℤ, pos, min}
 use Rattle.tf_problem.specs.ProblemData.{ProblemData}
-use Rattle.tf_problem.specs.ProblemBounds.{machine_value, window_value, crowd_value, one_job_value, multiplier_value, alone_cost}
+use Rattle.tf_problem.specs.ProblemBounds.{machine_value, window_value, crowd_value, one_job_value, any_multiplier_value, alone_cost}
 use Rattle.tf_bound.specs.Prices.{IsPricesBound}
 use Rattle.tf_bound.specs.Judged.{IsDatedTask, IsJudgedTask}
 use Rattle.tf_bound.specs.declared.certificate.BoundCertificate.{BoundCertificate}
@@ -22,8 +22,8 @@ IsValueOn k (Machine machine jobs) b = b ≡ machine_value k machine jobs.items
 IsValueOn k (Window jobs) b = b ≡ window_value k jobs.items
 IsValueOn k (Crowd h jobs) b = b ≡ crowd_value k h jobs.items
 IsValueOn k (OneJob job) b = b ≡ one_job_value k job
-IsValueOn k (Multipliers machine q numerators) b =
-    b ≡ multiplier_value k machine numerators.items q
+IsValueOn k (Multipliers machine q numerators arcs) b =
+    b ≡ any_multiplier_value k machine numerators.items arcs.items q
 IsValueOn k (Prices q rows) b = IsPricesBound k q rows.items b
 IsValueOn k Alone b = IsAloneBound k b
 

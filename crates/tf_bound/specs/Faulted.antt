@@ -1,14 +1,15 @@
 -- The first fault of a certificate of each kind on a task. Each line of a fault is one condition, in
 -- order.
-use Rattle.std.specs.Prelude.{◌≡◌, ◌⊎◌, ℕ, ◌+◌, ◌*◌, ◌^◌, max, ℤ, pos, negsuc, ◌+ℤ◌, ◌-ℤ◌, ◌*ℤ◌, Bool, not, ◌&&◌, ◌||◌, ◌==◌, nat_lt, nat_le, List, [], ◌∷◌, ◌++◌, length, sum, Option, Some, None, Result, MatchResult, if◌then◌else◌}
-use Rattle.std.specs.List.{find, list_any, range_with_len}
+use Rattle.std.specs.Prelude.{◌≡◌, ◌⊎◌, ℕ, ◌+◌, ◌-◌, ◌*◌, ◌^◌, map, max, ℤ, pos, negsuc, ◌+ℤ◌, ◌-ℤ◌, ◌*ℤ◌, Bool, not, ◌&&◌, ◌||◌, ◌==◌, nat_lt, nat_le, List, [], ◌∷◌, ◌++◌, length, sum, Option, Some, None, Result, MatchResult, if◌then◌else◌}
+use Rattle.std.specs.List.{find, list_any, range_with_len, sum_by}
 use Rattle.std.specs.Option.{option_map, option_or}
 use Rattle.tf_model.specs.Bounds.{pairs_value, stands_in}
+use Rattle.tf_model.specs.ClassTable.{is_parallel_env}
 use Rattle.tf_model.specs.Limit.{limit}
 use Rattle.tf_check.specs.Bound.{least_number}
 use Rattle.tf_problem.specs.ProblemData.{ProblemData, problem_jobs, problem_due, problem_release, problem_time, problem_time_on, problem_weight}
 use Rattle.tf_problem.specs.ProblemCost.{penalty}
-use Rattle.tf_problem.specs.ProblemBounds.{head, int_sum, numerator, tail}
+use Rattle.tf_problem.specs.ProblemBounds.{head, int_sum, numerator, tail, arcs_from, arcs_to, arcs_gain, moved, owed_dues}
 use Rattle.tf_problem.specs.Relaxed.{weighed_task}
 use Rattle.tf_bound.specs.Kinds.{takes_machine, takes_windows, takes_crowds, takes_one_job, takes_multipliers, takes_prices, takes_alone}
 use Rattle.tf_bound.specs.declared.fault.BoundFault.{BoundFault}
@@ -86,17 +87,40 @@ no_denominator q = if q == 0 then Some NoDenominator else None
 abbrev pub numerators_fault : ProblemData → List ℕ → Option BoundFault
 numerators_fault k v = if length v == length k.jobs then None else Some Numerators
 
+-- there are some of arcs, and not as many as arcs
+abbrev pub arcs_fault : ProblemData → List ℕ → Option BoundFault
+arcs_fault k l =
+    if (length l == 0) || (length l == length k.arcs) then None else Some Numerators
+
 -- the numerator is more than q times the weight
 abbrev pub is_beyond : ProblemData → ℕ → List ℕ → ℕ → Bool
 is_beyond k q v j = nat_lt (q * problem_weight k j) (numerator v j)
 
--- the job has no time on the machine
-abbrev pub is_idle : ProblemData → ℕ → ℕ → Bool
-is_idle k a j = problem_time_on k j a == 0
-
 -- the smallest job that the test names
 abbrev pub first_job : ProblemData → (ℕ → Bool) → Option BoundFault
 first_job k test = option_map Condition (find test (problem_jobs k))
+
+-- what is wrong with the certificate by itself, or with a numerator of a job
+abbrev pub numbers_fault : ProblemData → ℕ → ℕ → List ℕ → List ℕ → Option BoundFault
+numbers_fault k a q v l =
+    option_or (other_kind (takes_multipliers k.problem))
+    (option_or (no_denominator q)
+    (option_or (no_machine k a)
+    (option_or (numerators_fault k v)
+    (option_or (arcs_fault k l)
+    (first_job k (is_beyond k q v))))))
+
+-- the arcs to the job take more than it has and those from it give
+abbrev pub is_overdrawn : ProblemData → List ℕ → List ℕ → ℕ → Bool
+is_overdrawn k v l j = nat_lt (numerator v j + arcs_from k l j) (arcs_to k l j)
+
+-- the machine whose times are looked at: on identical machines each job has the first alone
+abbrev pub timed_machine : ProblemData → ℕ → ℕ
+timed_machine k a = if is_parallel_env k.problem.env then 0 else a
+
+-- the job has no time on the machine
+abbrev pub is_idle : ProblemData → ℕ → ℕ → Bool
+is_idle k a j = problem_time_on k j a == 0
 
 abbrev pub too_large : Bool → Option BoundFault
 too_large wide = if wide then Some TooLarge else None
@@ -106,40 +130,72 @@ abbrev pub is_wide : ℤ → Bool
 is_wide (pos n) = nat_le (2 ^ 127) n
 is_wide (negsuc n) = nat_le (2 ^ 127) n
 
--- what a job waits for the machine at least and has to go after it, less its due date, as often as
--- its numerator says
-abbrev pub wait : ProblemData → ℕ → ℕ → List ℕ → ℕ → ℤ
-wait k a least v j = pos (numerator v j) *ℤ (pos (least + tail k a j) -ℤ problem_due k j)
+-- a job's multiplier with what the arcs move needs more than 64 bits
+abbrev pub are_moved_wide : ProblemData → List ℕ → List ℕ → Bool
+are_moved_wide k v l = list_any (nat_le (2 ^ 64)) (map (moved k v l) (problem_jobs k))
 
--- the waits of the jobs up to this one
-abbrev pub waits_to : ProblemData → ℕ → ℕ → List ℕ → ℕ → ℤ
-waits_to k a least v j = int_sum (wait k a least v) (range_with_len 1 j)
+-- on identical machines all is counted 2 m times, and the weighted completions on one that is as fast
+-- as all twice
+abbrev pub all_counted : ProblemData → ℕ
+all_counted k = if is_parallel_env k.problem.env then 2 * k.machines else 1
 
--- the wait of a job is too wide, or that of all jobs up to one
-abbrev pub are_waits_wide : ProblemData → ℕ → ℕ → List ℕ → Bool
-are_waits_wide k a least v =
-    list_any (λ j. is_wide (wait k a least v j) || is_wide (waits_to k a least v j)) (problem_jobs k)
+abbrev pub pairs_counted : ProblemData → ℕ
+pairs_counted k = if is_parallel_env k.problem.env then 2 else 1
 
--- the weighted sum of completions is too wide, or its sum with all waits
-abbrev pub is_sum_wide : ℕ → ℤ → Bool
-is_sum_wide pairs waits = is_wide (pos pairs) || is_wide (pos pairs +ℤ waits)
+-- on identical machines the least release date, elsewhere the least head
+abbrev pub first_start : ProblemData → ℕ → ℕ
+first_start k a =
+    if is_parallel_env k.problem.env then least_number (problem_release k) (problem_jobs k)
+    else least_number (head k a) (problem_jobs k)
+
+-- what is added to the completion of a job, if the machine starts at `first`
+abbrev pub wait_from : ProblemData → ℕ → ℕ → ℕ → ℕ
+wait_from k a first j =
+    if is_parallel_env k.problem.env then (k.machines - 1) * problem_time k j + 2 * k.machines * first
+    else first + tail k a j
+
+-- the waits of all jobs, each as often as its weight
+abbrev pub waits_from : ProblemData → ℕ → ℕ → (ℕ → ℕ) → ℕ
+waits_from k a first u = sum_by (λ j. u j * wait_from k a first j) (problem_jobs k)
+
+-- what the weighted completions come to at least, from their sum on one machine, the waits and what
+-- the arcs gain
+abbrev pub come_to : ProblemData → ℕ → ℕ → ℕ → ℕ
+come_to k pairs waits gain = pairs_counted k * pairs + waits + all_counted k * gain
+
+abbrev pub least_by : ProblemData → ℕ → (ℕ → ℕ) → List ℕ → ℕ
+least_by k a u l =
+    come_to k (pairs_value (weighed_task k (timed_machine k a) u))
+    (waits_from k a (first_start k a) u) (arcs_gain k l)
+
+-- the due date of a job, as often as its numerator says, and those of the jobs up to one
+abbrev pub owed_due : ProblemData → List ℕ → ℕ → ℤ
+owed_due k v j = pos (numerator v j) *ℤ problem_due k j
+
+abbrev pub owed_to : ProblemData → List ℕ → ℕ → ℤ
+owed_to k v j = int_sum (owed_due k v) (range_with_len 1 j)
+
+-- the due date of a job is too wide, or that of all jobs up to one
+abbrev pub are_owed_wide : ProblemData → List ℕ → Bool
+are_owed_wide k v = list_any (λ j. is_wide (owed_due k v j) || is_wide (owed_to k v j)) (problem_jobs k)
+
+-- the weighted completions are too wide, the due dates as often as all is counted, or what remains
+abbrev pub is_rest_wide : ℕ → ℕ → ℤ → Bool
+is_rest_wide least times owed =
+    is_wide (pos least) || (is_wide (pos times *ℤ owed) || is_wide (pos least -ℤ (pos times *ℤ owed)))
 
 -- a number of the bound is too wide
-abbrev pub are_multipliers_wide : ProblemData → ℕ → List ℕ → Bool
-are_multipliers_wide k a v =
-    are_waits_wide k a (least_number (head k a) (problem_jobs k)) v
-    || is_sum_wide (pairs_value (weighed_task k a (numerator v)))
-    (waits_to k a (least_number (head k a) (problem_jobs k)) v (length k.jobs))
+abbrev pub are_multipliers_wide : ProblemData → ℕ → List ℕ → List ℕ → Bool
+are_multipliers_wide k a v l =
+    are_moved_wide k v l
+    || (are_owed_wide k v || is_rest_wide (least_by k a (moved k v l) l) (all_counted k) (owed_dues k v))
 
-abbrev pub multipliers_fault : ProblemData → ℕ → ℕ → List ℕ → Option BoundFault
-multipliers_fault k a q v =
-    option_or (other_kind (takes_multipliers k.problem))
-    (option_or (no_denominator q)
-    (option_or (no_machine k a)
-    (option_or (numerators_fault k v)
-    (option_or (first_job k (is_beyond k q v))
-    (option_or (first_job k (is_idle k a))
-    (too_large (are_multipliers_wide k a v)))))))
+abbrev pub multipliers_fault : ProblemData → ℕ → ℕ → List ℕ → List ℕ → Option BoundFault
+multipliers_fault k a q v l =
+    option_or (numbers_fault k a q v l)
+    (option_or (first_job k (is_overdrawn k v l))
+    (option_or (first_job k (is_idle k (timed_machine k a)))
+    (too_large (are_multipliers_wide k a v l))))
 
 -- ---- prices
 
@@ -178,7 +234,7 @@ certificate_fault k (kinds.Machine machine jobs) = machine_fault k machine jobs.
 certificate_fault k (kinds.Window jobs) = window_fault k jobs.items
 certificate_fault k (kinds.Crowd h jobs) = crowd_fault k h jobs.items
 certificate_fault k (kinds.OneJob job) = one_job_fault k job
-certificate_fault k (kinds.Multipliers machine q numerators) =
-    multipliers_fault k machine q numerators.items
+certificate_fault k (kinds.Multipliers machine q numerators arcs) =
+    multipliers_fault k machine q numerators.items arcs.items
 certificate_fault k (kinds.Prices q rows) = prices_fault k q rows.items
 certificate_fault k kinds.Alone = alone_fault k

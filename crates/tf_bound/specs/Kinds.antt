@@ -20,9 +20,9 @@ takes_crowds p = takes_windows p && not p.prmp
 abbrev pub takes_one_job : Problem → Bool
 takes_one_job p = (is_alike p.env || is_shop_env p.env) && is_max_goal p.goal
 
--- a sum of completions or of tardiness, on one machine or in a shop
+-- a sum of completions or of tardiness
 abbrev pub takes_multipliers : Problem → Bool
-takes_multipliers p = is_by_machine p.env && is_tardy_goal p.goal
+takes_multipliers p = (is_alike p.env || is_shop_env p.env) && is_tardy_goal p.goal
 
 -- a sum over jobs that are not preempted, on one machine or on identical ones
 abbrev pub takes_prices : Problem → Bool

@@ -5,6 +5,7 @@ pub mod RowSums
 pub mod Prices
 pub mod Kinds
 pub mod Faulted
+pub mod ArcEnds
 pub mod Along
 pub mod JobNumbers
 pub mod Judged

@@ -53,7 +53,7 @@ fn takes_one_job<A: Allocator>(task: &ProblemTask<A>) -> bool
 }
 
 // The least release date of jobs of which there are some.
-fn least_release<B: Allocator>(task: &ProblemTask<B>, jobs: &[JobId]) -> u64
+pub(crate) fn least_release<B: Allocator>(task: &ProblemTask<B>, jobs: &[JobId]) -> u64
     requires known { All (IsProblemJob task.now) jobs.now }
     requires some { 0 < length jobs.now }
     ensures value { result ≡ least_number (problem_release task.now) jobs.now }

@@ -36,11 +36,12 @@ pub enum BoundCertificate<A: Allocator = Global> {
     OneJob {
         job: JobId,
     },
-    /// Numerators over q, job by job.
+    /// Numerators over q, job by job, and arc by arc or none.
     Multipliers {
         machine: usize,
         q: u64,
         numerators: Vec<u64, A>,
+        arcs: Vec<u64, A>,
     },
     /// Prices of the unit rows from 0 on, over q.
     Prices {
@@ -90,7 +91,8 @@ impl<A: Allocator> BoundCertificate<A> {
                 machine,
                 q,
                 numerators,
-            } => multipliers_bound(alloc, task, *machine, numerators, *q),
+                arcs,
+            } => multipliers_bound(alloc, task, *machine, numerators, arcs, *q),
             BoundCertificate::Prices { q, rows } => prices_bound(alloc, task, *q, rows),
             BoundCertificate::Alone => alone_bound(alloc, task),
         }

@@ -62,8 +62,8 @@ pub enum BoundFault {
     #[error("the list has too few jobs")]
     TooFew,
 
-    /// There are not as many numerators as jobs.
-    #[error("there are not as many numerators as jobs")]
+    /// There are not as many numerators as jobs, or as arcs.
+    #[error("there are not as many numerators as jobs or arcs")]
     Numerators,
 
     /// This job breaks the kind's condition.

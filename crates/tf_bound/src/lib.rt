@@ -4,6 +4,7 @@
 pub mod alike;
 pub mod alone;
 mod along;
+mod arc_multipliers;
 pub mod certificate;
 pub mod fault;
 pub mod job_times;

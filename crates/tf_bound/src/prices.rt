@@ -152,14 +152,14 @@ fn total_of(prices: &[u64]) -> u128
 }
 
 // A number over q, rounded up, and 0 where it is negative.
-pub(crate) fn share_up(number: i128, q: u64) -> i128
+pub(crate) fn share_up(number: i128, q: u128) -> i128
     requires { 1 ≤ q }
     ensures { result ≡ share_up number q }
 {
     if number <= 0 {
         0
     } else {
-        (number as u128).div_ceil(u128::from(q)) as i128
+        (number as u128).div_ceil(q) as i128
     }
 }
 
@@ -171,7 +171,7 @@ fn prices_value(machines: u32, all: u64, cheapest: &[u64], q: u64) -> i128
     ensures { result ≡ share_up (pos (sum cheapest.now) -ℤ pos (machines * all)) q }
 {
     let taken = u128::from(machines) * u128::from(all);
-    share_up(total_of(cheapest) as i128 - taken as i128, q)
+    share_up(total_of(cheapest) as i128 - taken as i128, u128::from(q))
 }
 
 /// The bound by the prices of the rows from 0 on, which are over q. It takes memory for the rows
