@@ -1,6 +1,7 @@
 -- Conditions of which one or none holds.
-use Rattle.std.proofs.Common.{◌≡◌, ◌||◌, Bool, true, false, not, Some, None, refl, ap, ◌∙◌}
-use Rattle.tf_bound.specs.Faulted.{too_large}
+use Rattle.std.proofs.Common.{◌≡◌, ◌||◌, Bool, true, false, not, Some, None, refl, sym, ap, ◌∙◌, inl, inr, subst}
+use Rattle.tf_bound.specs.Faulted.{too_large, IsFaultOrNoMemory}
+use Rattle.tf_bound.specs.declared.fault.BoundFault.{BoundFault}
 use Rattle.tf_bound.specs.declared.fault.BoundFault.TheVariants.{TooLarge}
 
 pub or_none : (a b : Bool) → a ≡ false → b ≡ false → (a || b) ≡ false
@@ -23,3 +24,21 @@ not_large b h = ap too_large h
 pub both_small : (a b : Bool) → true ≡ not a → too_large b ≡ None → too_large (a || b) ≡ None
 both_small true b h small = cc
 both_small false b h small = small
+
+-- no condition holds
+pub is_small : (b : Bool) → too_large b ≡ None → b ≡ false
+is_small true h = absurd (some_fault h)
+  where
+    some_fault : too_large true ≡ None → ⊥
+    some_fault e = cc
+is_small false h = refl
+
+-- what is answered where another condition holds, which has this as well
+pub wide_by : (a b : Bool) (e : BoundFault) → (a ≡ true → b ≡ true)
+    → IsFaultOrNoMemory (too_large a) e → IsFaultOrNoMemory (too_large b) e
+wide_by true b e as_well h = subst (λ t. IsFaultOrNoMemory (too_large t) e) (sym (as_well refl)) h
+wide_by false b e as_well (inl memory) = inl memory
+wide_by false b e as_well (inr is) = absurd (no_fault e is)
+  where
+    no_fault : (e : BoundFault) → None ≡ Some e → ⊥
+    no_fault e h = cc

@@ -61,11 +61,12 @@ not_sum goals.SumWT h = absurd (false≢true h)
 not_sum goals.SumU h = absurd (false≢true h)
 not_sum goals.SumWU h = absurd (false≢true h)
 
-no_multipliers : (k : ProblemData) (a q : ℕ) (v : List ℕ) → IsTrue (is_max_goal k.problem.goal)
-    → multipliers_fault k a q v ≡ Some OtherKind
-no_multipliers k a q v h =
-    first_is _ _ OtherKind (wrong_kind _ (and_right (is_by_machine k.problem.env)
-    (is_tardy_goal k.problem.goal) (not_tardy k.problem.goal h)))
+no_multipliers : (k : ProblemData) (a q : ℕ) (v l : List ℕ) → IsTrue (is_max_goal k.problem.goal)
+    → multipliers_fault k a q v l ≡ Some OtherKind
+no_multipliers k a q v l h =
+    first_is _ _ OtherKind (first_is _ _ OtherKind (wrong_kind _
+    (and_right (is_alike k.problem.env || is_shop_env k.problem.env)
+    (is_tardy_goal k.problem.goal) (not_tardy k.problem.goal h))))
 
 no_prices : (k : ProblemData) (q : ℕ) (prices : List ℕ) → IsTrue (is_max_goal k.problem.goal)
     → prices_fault k q prices ≡ Some OtherKind
@@ -111,9 +112,9 @@ module _ (k : ProblemData) (r : List ℕ) (d : List ℤ) (goal : IsTrue (is_max_
       (no_job other job)) (sym goal)
       ∙ ap (λ o. option_or (other_kind (takes_one_job k.problem)) o)
       (same_no_job k other len job)
-  on_pushed (kinds.Multipliers machine q numerators) =
-      no_multipliers other machine q numerators.items refl
-      ∙ sym (no_multipliers k machine q numerators.items goal)
+  on_pushed (kinds.Multipliers machine q numerators arcs) =
+      no_multipliers other machine q numerators.items arcs.items refl
+      ∙ sym (no_multipliers k machine q numerators.items arcs.items goal)
   on_pushed (kinds.Prices q rows) =
       no_prices other q rows.items refl ∙ sym (no_prices k q rows.items goal)
   on_pushed kinds.Alone = no_alone other refl ∙ sym (no_alone k goal)

@@ -13,3 +13,5 @@ pub mod Faults
 pub mod Firsts
 pub mod Conditions
 pub mod FaultsAlong
+pub mod ArcSums
+pub mod ArcValues

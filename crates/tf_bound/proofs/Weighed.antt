@@ -1,21 +1,17 @@
--- The jobs of a machine with numerators for weights, and their waits.
-use Rattle.std.proofs.Common.{◌≡◌, ◌||◌, true, ℕ, ◌+◌, ◌-◌, ◌≤◌, ◌^◌, ℤ, pos, ◌+ℤ◌, ◌-ℤ◌, ◌*ℤ◌, length, slice_index, List, [], ◌∷◌, ◌++◌, sym, ap, ◌∙◌, arith}
+-- The jobs of a machine with numerators for weights, and their due dates.
+use Rattle.std.proofs.Common.{◌≡◌, ℕ, ◌+◌, ◌-◌, ℤ, pos, ◌+ℤ◌, ◌*ℤ◌, slice_index, List, [], ◌∷◌, ◌++◌, sym, ap, ◌∙◌, arith}
 use Rattle.std.specs.List.{range_with_len}
-use Rattle.std.proofs.lemmas.Bool.{le-leb}
 use Rattle.std.proofs.lemmas.Int.{ints}
 use Rattle.std.proofs.lemmas.List.{map-id}
 use Rattle.std.proofs.lemmas.List.FromFn.{map-range_with_len_more}
 use Rattle.tf_model.specs.declared.class.Class.TheVariants.{PrmpWeightedSum}
 use Rattle.tf_model.specs.SchedulingTask.{JobData, all_jobs, job_data}
-use Rattle.tf_model.specs.Bounds.{pairs_value}
-use Rattle.tf_check.specs.Bound.{least_number}
 use Rattle.tf_check.specs.declared.weighted_job.WeightedJob.{WeightedJob}
 use Rattle.tf_check.specs.Ratio.{IsOfTask}
 use Rattle.tf_problem.specs.ProblemData.{ProblemData, IsProblemJob, problem_due, problem_jobs, problem_time_on}
-use Rattle.tf_problem.specs.ProblemBounds.{head, int_sum, numerator, tail}
+use Rattle.tf_problem.specs.ProblemBounds.{int_sum}
 use Rattle.tf_problem.specs.Relaxed.{weighed_task, only_time}
-use Rattle.tf_bound.specs.Faulted.{are_multipliers_wide, are_waits_wide, is_sum_wide, is_wide, wait, waits_to}
-use Rattle.tf_bound.proofs.Conditions.{or_first, or_second}
+use Rattle.tf_bound.specs.Faulted.{owed_due, owed_to}
 use Rattle.tf_problem.proofs.Relaxing.{job-task_by, jobs-task_by}
 
 pub told : (k : ProblemData) (a : ℕ) (w : ℕ → ℕ) (x : WeightedJob) → IsProblemJob k x.job
@@ -59,39 +55,19 @@ pub int_sum_more : (f : ℕ → ℤ) (n j : ℕ) → j ≡ n + 1
 int_sum_more f n j is =
     ap (int_sum f) (range_more n j is) ∙ int_sum-push f (range_with_len 1 n) j
 
--- the wait of the next job, and the sum with it
-pub wait_step : (k : ProblemData) (a least : ℕ) (v : List ℕ) (n x : ℕ) (sum its : ℤ) → x ≡ n + 1
-    → sum ≡ waits_to k a least v n → its ≡ pos (least + tail k a x) -ℤ problem_due k x
-    → (pos (slice_index v n) *ℤ its ≡ wait k a least v x)
-    × (sum +ℤ (pos (slice_index v n) *ℤ its) ≡ waits_to k a least v x)
-wait_step k a least v n x sum its is so_far same =
+-- the due date of the next job, and the sum with it
+pub owed_step : (k : ProblemData) (v : List ℕ) (n x : ℕ) (sum its : ℤ) → x ≡ n + 1
+    → sum ≡ owed_to k v n → its ≡ problem_due k x
+    → (pos (slice_index v n) *ℤ its ≡ owed_due k v x)
+    × (sum +ℤ (pos (slice_index v n) *ℤ its) ≡ owed_to k v x)
+owed_step k v n x sum its is so_far same =
     let place : n ≡ x - 1 = omega (arith, is) in
-    let product : pos (slice_index v n) *ℤ its ≡ wait k a least v x =
+    let product : pos (slice_index v n) *ℤ its ≡ owed_due k v x =
     ap (λ z. pos (slice_index v n) *ℤ z) same
-    ∙ ap (λ i. pos (slice_index v i) *ℤ (pos (least + tail k a x) -ℤ problem_due k x)) place in
-    let more : waits_to k a least v x ≡ waits_to k a least v n +ℤ wait k a least v x =
-    ap (waits_to k a least v) is ∙ int_sum_more (wait k a least v) n x is in (
+    ∙ ap (λ i. pos (slice_index v i) *ℤ problem_due k x) place in
+    let more : owed_to k v x ≡ owed_to k v n +ℤ owed_due k v x =
+    ap (owed_to k v) is ∙ int_sum_more (owed_due k v) n x is in (
       product,
       ap (λ z. z +ℤ (pos (slice_index v n) *ℤ its)) so_far
-          ∙ ap (λ z. waits_to k a least v n +ℤ z) product ∙ sym more,
+          ∙ ap (λ z. owed_to k v n +ℤ z) product ∙ sym more,
     )
-
--- the test of the numbers of a bound, by numbers that are equal to them
-pub wide_is : (k : ProblemData) (a : ℕ) (v : List ℕ) (least pairs : ℕ) (waits : ℤ)
-    → least ≡ least_number (head k a) (problem_jobs k)
-    → pairs ≡ pairs_value (weighed_task k a (numerator v))
-    → waits ≡ waits_to k a least v (length k.jobs)
-    → are_multipliers_wide k a v ≡ (are_waits_wide k a least v || is_sum_wide pairs waits)
-wide_is k a v least pairs waits is pairs_are waits_are =
-    let first : ℕ = least_number (head k a) (problem_jobs k) in
-    let all : ℕ = pairs_value (weighed_task k a (numerator v)) in
-    sym (ap (λ z. are_waits_wide k a least v || is_sum_wide pairs z) waits_are
-    ∙ ap (λ n. are_waits_wide k a least v || is_sum_wide n (waits_to k a least v (length k.jobs)))
-    pairs_are
-    ∙ ap (λ n. are_waits_wide k a n v || is_sum_wide all (waits_to k a n v (length k.jobs))) is)
-
--- where the weighted sum of completions is too wide, so is a number
-pub pairs_wide : (k : ProblemData) (a : ℕ) (v : List ℕ) (n : ℕ) → 2 ^ 127 ≤ n
-    → n ≡ pairs_value (weighed_task k a (numerator v)) → are_multipliers_wide k a v ≡ true
-pairs_wide k a v n h is =
-    or_second _ _ (or_first _ _ (ap (λ m. is_wide (pos m)) (sym is) ∙ le-leb (2 ^ 127) n h))

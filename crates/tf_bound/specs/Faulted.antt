@@ -1,6 +1,6 @@
 -- The first fault of a certificate of each kind on a task. Each line of a fault is one condition, in
 -- order.
-use Rattle.std.specs.Prelude.{◌≡◌, ◌⊎◌, ℕ, ◌+◌, ◌-◌, ◌*◌, ◌^◌, map, max, ℤ, pos, negsuc, ◌+ℤ◌, ◌-ℤ◌, ◌*ℤ◌, Bool, not, ◌&&◌, ◌||◌, ◌==◌, nat_lt, nat_le, List, [], ◌∷◌, ◌++◌, length, sum, Option, Some, None, Result, MatchResult, if◌then◌else◌}
+use Rattle.std.specs.Prelude.{◌≡◌, ◌⊎◌, ℕ, ◌+◌, ◌-◌, ◌*◌, ◌^◌, map, max, ℤ, pos, negsuc, ◌-ℤ◌, ◌*ℤ◌, Bool, not, ◌&&◌, ◌||◌, ◌==◌, nat_lt, nat_le, List, [], ◌∷◌, ◌++◌, length, sum, Option, Some, None, Result, MatchResult, if◌then◌else◌}
 use Rattle.std.specs.List.{find, list_any, range_with_len, sum_by}
 use Rattle.std.specs.Option.{option_map, option_or}
 use Rattle.tf_model.specs.Bounds.{pairs_value, stands_in}

@@ -1,6 +1,6 @@
 //! Multipliers of arcs: what each job has after the arcs have moved theirs, and what they gain.
-ghost use Rattle.std.specs.Prelude.{◌≡◌, ℕ, ◌+◌, ◌*◌, ◌-◌, ◌^◌, ◌≤◌, ◌==◌, cond, nat_le};
-ghost use Rattle.std.specs.Prelude.{map, length, slice_index, IfErr, IfOk, MatchOption};
+ghost use Rattle.std.specs.Prelude.{◌≡◌, ℕ, ◌+◌, ◌*◌, ◌-◌, ◌^◌, ◌≤◌, ◌==◌, cond, is_none, nat_le};
+ghost use Rattle.std.specs.Prelude.{map, length, slice_index, IfErr, IfOk, IfSome, MatchOption};
 ghost use Rattle.std.specs.List.{All, list_any};
 ghost use Rattle.tf_problem.specs.ProblemData.{IsProblemJob, problem_jobs};
 ghost use Rattle.tf_problem.specs.ProblemBounds.{arcs_from, arcs_gain, arcs_to, moved, numerator};
@@ -120,6 +120,14 @@ pub(crate) fn moved_multipliers<A: Allocator + Copy, B: Allocator>(
     Ok(moved)
 }
 
+// The same number, where it needs no more than 64 bits.
+fn small_of(number: u128) -> Option<u64>
+    ensures wide { is_none result ≡ nat_le (2 ^ 64) number }
+    ensures value { IfSome result (λ small. small ≡ number) }
+{
+    u64::try_from(number).ok()
+}
+
 /// The same numbers, where each needs no more than 64 bits.
 pub(crate) fn narrowed<A: Allocator>(alloc: A, numbers: &[u128]) -> Result<Vec<u64, A>, BoundFault>
     ensures fault { NamesFault (too_large (list_any (nat_le (2 ^ 64)) numbers.now)) result }
@@ -129,7 +137,7 @@ pub(crate) fn narrowed<A: Allocator>(alloc: A, numbers: &[u128]) -> Result<Vec<u
         return Err(BoundFault::OutOfMemory);
     };
     for number in numbers {
-        let Ok(small) = u64::try_from(*number) else {
+        let Some(small) = small_of(*number) else {
             return Err(BoundFault::TooLarge);
         };
         let Ok(()) = narrow.push(small) else {

@@ -1,7 +1,7 @@
 //! The bound of tardiness by multipliers of at most the weights (Potts and Van Wassenhove 1985) and
 //! of arcs, on the only machine, on one of a shop, or on identical ones.
 ghost use Rattle.std.specs.Prelude.{◌≡◌, ℕ, ◌+◌, ◌-◌, ◌*◌, ◌<◌, ◌≤◌, pos, ◌+ℤ◌, ◌-ℤ◌, ◌*ℤ◌, length};
-ghost use Rattle.std.specs.Prelude.{◌^◌, ◌||◌, map, None, Some, is_none, IfErr, IfNone, IfOk, IfSome};
+ghost use Rattle.std.specs.Prelude.{◌^◌, ◌||◌, map, nat_le, None, Some, is_none, IfErr, IfNone, IfOk, IfSome};
 ghost use Rattle.std.specs.Prelude.{IsFalse, IsTrue, MatchOption};
 ghost use Rattle.std.specs.Ordering.{is_lt};
 ghost use Rattle.tf_model.specs.ClassTable.{is_parallel_env};
@@ -39,6 +39,7 @@ use tf_problem::laws::multiplier_law;
 /// Whether multipliers bound a problem: a sum of completions or of tardiness.
 pub fn takes_multipliers<A: Allocator>(task: &ProblemTask<A>) -> bool
     ensures exact { result ≡ takes_multipliers task.now.problem }
+    ensures sized { IsSized task.now }
     ensures goal { IsTrue result → IsTrue (is_tardy_goal task.now.problem.goal) }
 {
     let problem = task.problem();
@@ -287,10 +288,13 @@ fn weighted_least<B: Allocator>(
         (λ sum. sum
         ≡ come_to task.now (completions_from 0 jobs.now) waits (arcs_gain task.now l.now)) }
 {
+    let times = all_counted(task);
+    let Some(gain) = gain_of(task, l) else {
+        return None;
+    };
     let pairs = completions(jobs)?;
-    let gain = gain_of(task, l)?;
     let sum = with_multiple(waits, pairs_counted(task), pairs)?;
-    with_multiple(sum, all_counted(task), gain)
+    with_multiple(sum, times, gain)
 }
 
 // The due dates of all jobs, each as often as its numerator says, where the sum is small enough.
@@ -348,6 +352,7 @@ fn judge_numbers<B: Allocator>(
     q: u64,
 ) -> Result<(), BoundFault>
     ensures fault { NamesFault (numbers_fault task.now machine q v.now arcs.now) result }
+    ensures sized { IsSized task.now }
     ensures goal { IfOk result (λ _. IsTrue (is_tardy_goal task.now.problem.goal)) }
     ensures machine { IfOk result (λ _. machine < task.now.machines) }
     ensures len { IfOk result (λ _. length v.now ≡ length task.now.jobs) }
@@ -401,9 +406,7 @@ fn value_of<A: Allocator + Copy, B: Allocator>(
     let Some(owed) = owed(task, v) else {
         return Err(BoundFault::TooLarge);
     };
-    let Some(least) = least_of(alloc, task, machine, arcs, &weights)? else {
-        return Err(BoundFault::TooLarge);
-    };
+    let least = least_of(alloc, task, machine, arcs, &weights)?;
     let times = all_counted(task);
     match rest_of(least, times, owed) {
         Some(rest) => Ok(share_up(rest, u128::from(times) * u128::from(q))),
@@ -419,23 +422,26 @@ fn least_of<A: Allocator + Copy, B: Allocator>(
     machine: usize,
     l: &[u64],
     u: &[u64],
-) -> Result<Option<u128>, BoundFault>
+) -> Result<u128, BoundFault>
     requires machine { machine < task.now.machines }
     requires len { length u.now ≡ length task.now.jobs }
     requires busy { (j : ℕ) → IsProblemJob task.now j
         → 1 ≤ problem_time_on task.now j (timed_machine task.now machine) }
-    ensures fault { IfErr result (λ fault. fault ≡ OutOfMemory) }
-    ensures sum { IfOk result (λ found. MatchOption found
-        (2 ^ 128 ≤ least_by task.now machine (numerator u.now) l.now)
-        (λ sum. sum ≡ least_by task.now machine (numerator u.now) l.now)) }
+    ensures fault { NamesFault (too_large
+        (nat_le (2 ^ 128) (least_by task.now machine (numerator u.now) l.now))) result }
+    ensures value { IfOk result (λ sum.
+        sum ≡ least_by task.now machine (numerator u.now) l.now) }
 {
     let jobs = jobs_by_ratio(alloc, task, machine, u)?;
     let numbers = all_jobs(alloc, task)?;
     let first = first_start(task, machine, &numbers);
     let Some(waits) = waits(task, machine, first, u) else {
-        return Ok(None);
+        return Err(BoundFault::TooLarge);
     };
-    Ok(weighted_least(task, &jobs, waits, l))
+    match weighted_least(task, &jobs, waits, l) {
+        Some(least) => Ok(least),
+        None => Err(BoundFault::TooLarge),
+    }
 }
 
 // What remains without the due dates.

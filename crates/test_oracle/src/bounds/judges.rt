@@ -5,14 +5,15 @@ use std::test::Fail;
 use tf_bound::certificate::BoundCertificate;
 use tf_model::ids::JobId;
 
-/// The kinds of certificates, in the order of their words. Machines count from 0.
+/// The kinds of certificates, in the order of their words. Machines count from 0. Multipliers have a
+/// denominator and the numerators of the arcs.
 #[derive(Clone, Copy)]
 enum Kind {
     Machine(usize),
     Window,
     Crowd(u32),
     OneJob,
-    Multipliers(u64),
+    Multipliers(u64, &'static [u64]),
     Prices(u64),
 }
 
@@ -20,9 +21,52 @@ enum Kind {
 type Case = (Sample, Kind, &'static [u64], Option<i128>);
 
 const CASES: &[Case] = &[
-    (Sample::Tardy, Kind::Multipliers(2), &[2, 1, 3], Some(3)),
-    (Sample::Tardy, Kind::Multipliers(2), &[0, 0, 0], Some(0)),
-    (Sample::Tardy, Kind::Multipliers(2), &[3, 1, 3], None),
+    (
+        Sample::Tardy,
+        Kind::Multipliers(2, &[]),
+        &[2, 1, 3],
+        Some(3),
+    ),
+    (
+        Sample::Tardy,
+        Kind::Multipliers(2, &[]),
+        &[0, 0, 0],
+        Some(0),
+    ),
+    (Sample::Tardy, Kind::Multipliers(2, &[]), &[3, 1, 3], None),
+    (Sample::Tardy, Kind::Multipliers(2, &[1]), &[2, 1, 3], None),
+    (Sample::Behind, Kind::Multipliers(1, &[]), &[1, 3], Some(6)),
+    (
+        Sample::Behind,
+        Kind::Multipliers(1, &[2]),
+        &[1, 3],
+        Some(11),
+    ),
+    (
+        Sample::Behind,
+        Kind::Multipliers(3, &[5]),
+        &[3, 9],
+        Some(11),
+    ),
+    (Sample::Behind, Kind::Multipliers(1, &[4]), &[1, 3], None),
+    (
+        Sample::Pairs,
+        Kind::Multipliers(1, &[]),
+        &[1, 1, 2, 2],
+        Some(8),
+    ),
+    (
+        Sample::Pairs,
+        Kind::Multipliers(1, &[1, 1]),
+        &[1, 1, 2, 2],
+        Some(10),
+    ),
+    (
+        Sample::Pairs,
+        Kind::Multipliers(1, &[1]),
+        &[1, 1, 2, 2],
+        None,
+    ),
     (Sample::Flow, Kind::Machine(1), &[2, 3], Some(8)),
     (Sample::Flow, Kind::Machine(1), &[2, 2], None),
     (Sample::Flow, Kind::Machine(1), &[2, 4], None),
@@ -55,10 +99,11 @@ fn certificate(alloc: Global, kind: Kind, values: &[u64]) -> Result<BoundCertifi
         Kind::Window => BoundCertificate::Window { jobs },
         Kind::Crowd(h) => BoundCertificate::Crowd { h, jobs },
         Kind::OneJob => BoundCertificate::OneJob { job: JobId::at(0) },
-        Kind::Multipliers(q) => BoundCertificate::Multipliers {
+        Kind::Multipliers(q, arcs) => BoundCertificate::Multipliers {
             machine: 0,
             q,
             numerators: given,
+            arcs: numbers(alloc, arcs)?,
         },
         Kind::Prices(q) => BoundCertificate::Prices { q, rows: given },
     })

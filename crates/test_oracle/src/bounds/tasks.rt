@@ -3,6 +3,7 @@ use std::alloc::{AllocError, Global};
 use std::test::Fail;
 use tf_bound::job_times::JobTimes;
 use tf_bound::task::{ProblemJob, ProblemTask};
+use tf_model::ids::JobId;
 use tf_model::problem::{Env, Goal, Problem};
 
 /// The tasks.
@@ -20,6 +21,10 @@ pub enum Sample {
     Late,
     /// `1|rj|sumwC`: two jobs of time 2, the second released at 1, of optimum 6.
     Overlapping,
+    /// `1|prec|sumwC`: job 2 has more weight and less time, but comes after job 1; of optimum 11.
+    Behind,
+    /// `P2|prmp,prec|sumwC`: four jobs of time 1 and two arcs, of optimum 10.
+    Pairs,
 }
 
 // Its environment, objective and number of machines.
@@ -30,7 +35,8 @@ fn frame(sample: Sample) -> (Env, Goal, u32) {
         Sample::Released => (Env::Single, Goal::Lmax, 1),
         Sample::Fours => (Env::Parallel, Goal::Cmax, 2),
         Sample::Late => (Env::Single, Goal::SumU, 1),
-        Sample::Overlapping => (Env::Single, Goal::SumWC, 1),
+        Sample::Overlapping | Sample::Behind => (Env::Single, Goal::SumWC, 1),
+        Sample::Pairs => (Env::Parallel, Goal::SumWC, 2),
     }
 }
 
@@ -53,6 +59,15 @@ const LATE: &[Row] = &[(&[2], 1, 0, 2), (&[2], 1, 0, 2), (&[2], 1, 0, 2)];
 
 const OVERLAPPING: &[Row] = &[(&[2], 1, 0, 0), (&[2], 1, 1, 0)];
 
+const BEHIND: &[Row] = &[(&[2], 1, 0, 0), (&[1], 3, 0, 0)];
+
+const PAIRS: &[Row] = &[
+    (&[1], 1, 0, 0),
+    (&[1], 1, 0, 0),
+    (&[1], 2, 0, 0),
+    (&[1], 2, 0, 0),
+];
+
 fn rows_of(sample: Sample) -> &'static [Row] {
     match sample {
         Sample::Tardy => TARDY,
@@ -61,6 +76,8 @@ fn rows_of(sample: Sample) -> &'static [Row] {
         Sample::Fours => FOURS,
         Sample::Late => LATE,
         Sample::Overlapping => OVERLAPPING,
+        Sample::Behind => BEHIND,
+        Sample::Pairs => PAIRS,
     }
 }
 
@@ -87,14 +104,34 @@ fn jobs_of(alloc: Global, rows: &[Row]) -> Result<Vec<ProblemJob>, AllocError> {
     Ok(jobs)
 }
 
+// Its arcs, by places from 0.
+fn arcs_of(sample: Sample) -> &'static [(usize, usize)] {
+    match sample {
+        Sample::Behind => &[(0, 1)],
+        Sample::Pairs => &[(0, 2), (1, 3)],
+        _ => &[],
+    }
+}
+
+fn pairs_of(alloc: Global, arcs: &[(usize, usize)]) -> Result<Vec<(JobId, JobId)>, AllocError> {
+    let mut pairs = Vec::new(alloc);
+    for (before, after) in arcs {
+        pairs.push((JobId::at(*before % 10), JobId::at(*after % 10)))?;
+    }
+    Ok(pairs)
+}
+
 /// The task.
 pub fn task_of(alloc: Global, sample: Sample) -> Result<ProblemTask, Fail> {
     let (env, goal, machines) = frame(sample);
     let problem = Problem {
         release: matches!(sample, Sample::Released | Sample::Overlapping),
         prmu: sample == Sample::Flow,
+        prmp: sample == Sample::Pairs,
+        prec: matches!(sample, Sample::Behind | Sample::Pairs),
         ..Problem::plain(env, goal)
     };
     let jobs = jobs_of(alloc, rows_of(sample))?;
-    Ok(ProblemTask::new(problem, machines, jobs, Vec::new(alloc))?)
+    let arcs = pairs_of(alloc, arcs_of(sample))?;
+    Ok(ProblemTask::new(problem, machines, jobs, arcs)?)
 }

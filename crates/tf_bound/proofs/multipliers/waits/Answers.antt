@@ -1,64 +1,58 @@
-use Rattle.std.proofs.Common.{◌≡◌, ◌||◌, false, ℕ, ℤ, pos, ◌+ℤ◌, ◌*ℤ◌, slice_index, SFits, to_z, of_z, ap, sym, ◌∙◌, arith, rules}
-use Rattle.std.specs.Int.{w128}
-use Rattle.std.proofs.lemmas.Int.{to_z-of_z}
-use Rattle.tf_problem.specs.ProblemData.{IsProblemJob}
-use Rattle.tf_bound.specs.Faulted.{is_wide, wait, waits_to}
-use Rattle.tf_bound.proofs.Firsts.{any_found, no_found, up_to_more}
-use Rattle.tf_bound.proofs.Weighed.{wait_step}
+use Rattle.std.proofs.Common.{◌≡◌, ℕ, ◌+◌, ◌-◌, ◌*◌, List, length, slice_index, ap, sum_by, ◌∙◌, arith}
+use Rattle.std.specs.List.{range_with_len}
+use Rattle.tf_model.proofs.Ranges.{sum_by-range_le, sum_by-range_more}
+use Rattle.tf_problem.specs.ProblemBounds.{numerator}
+use Rattle.tf_bound.specs.Faulted.{wait_from}
 use Rattle.tf_bound.proofs.multipliers.waits.Goals as goal
+
+-- the sum with the wait of one job more
+more : (u : List ℕ) (w : ℕ → ℕ) (n x wait : ℕ) → x ≡ n + 1 → wait ≡ w x
+    → sum_by (λ j. numerator u j * w j) (range_with_len 1 n) + slice_index u n * wait
+    ≡ sum_by (λ j. numerator u j * w j) (range_with_len 1 (n + 1))
+more u w n x wait is its =
+    let f : ℕ → ℕ = λ j. numerator u j * w j in
+    let place : n ≡ x - 1 = omega (arith, is) in
+    let next : x ≡ 1 + n = omega (arith, is) in
+    omega (
+      arith,
+      ap (λ m. slice_index u n * m) its ∙ ap (λ i. slice_index u i * w x) place ∙ ap f next,
+      sum_by-range_more f 1 n,
+    )
 
 pub loop-k-preserved : goal.loop-k-preserved
 loop-k-preserved g c =
     let k = c.args.task.now in
-    let a = c.args.machine in
-    let least : ℕ = c.args.least in
-    let v = c.args.v.now in
-    let x : ℕ = c.at.result in
-    let sum : ℤ = to_z w128 c.loop-k.sum-bits in
-    let its : ℤ = to_z w128 (of_z w128 c.wait_of-wait.result) in
-    let fits : SFits w128 c.in_ok-sum.sum = search rules in
-    let its_fits : SFits w128 c.wait_of-wait.result = search rules in
-    let step = wait_step k a least v c.loop-k.k x sum its c.at.ensures c.loop-k.invariant.sum
-    (to_z-of_z w128 c.wait_of-wait.result its_fits ∙ c.wait_of-wait.ensures) in
-    record {
-      sum = to_z-of_z w128 c.in_ok-sum.sum fits ∙ c.in_ok-sum.ensures.value ∙ step.1
-          ∙ ap (waits_to k a least v) c.at.ensures;
-      narrow = up_to_more
-          (λ j. (is_wide (wait k a least v j) || is_wide (waits_to k a least v j)) ≡ false)
-          c.loop-k.k x c.at.ensures c.loop-k.invariant.narrow
-          (sym (c.in_ok-sum.ensures.wide
-          ∙ ap (λ z. is_wide z || is_wide (sum +ℤ (pos (slice_index v c.loop-k.k) *ℤ its))) step.0
-          ∙ ap (λ z. is_wide (wait k a least v x) || is_wide z) step.1));
-    }
+    let w : ℕ → ℕ = wait_from k c.args.machine c.args.first in
+    omega (
+      arith,
+      c.in_ok-sum.ensures,
+      c.loop-k.invariant,
+      more c.args.u.now w c.loop-k.k c.at.result c.wait_of-wait.result c.at.ensures c.wait_of-wait.ensures,
+    )
 
-pub returns-in_err-sum-clause-wide : goal.returns-in_err-sum-clause-wide
-returns-in_err-sum-clause-wide g c =
+pub returns-in_err-sum : goal.returns-in_err-sum
+returns-in_err-sum g c =
     let k = c.args.task.now in
-    let a = c.args.machine in
-    let least : ℕ = c.args.least in
-    let v = c.args.v.now in
-    let x : ℕ = c.at.result in
-    let sum : ℤ = to_z w128 c.loop-k.sum-bits in
-    let its : ℤ = to_z w128 (of_z w128 c.wait_of-wait.result) in
-    let its_fits : SFits w128 c.wait_of-wait.result = search rules in
-    let step = wait_step k a least v c.loop-k.k x sum its c.at.ensures c.loop-k.invariant.sum
-    (to_z-of_z w128 c.wait_of-wait.result its_fits ∙ c.wait_of-wait.ensures) in
-    let job : IsProblemJob k x = (
-      omega (arith, c.at.ensures),
-      omega (arith, c.at.ensures, c.loop-k-test.true, c.len-k-end.ensures.value),
-    ) in
+    let w : ℕ → ℕ = wait_from k c.args.machine c.args.first in
+    let f : ℕ → ℕ = λ j. numerator c.args.u.now j * w j in
+    let n : ℕ = c.loop-k.k in
+    let d : ℕ = length k.jobs - (n + 1) in
+    let all : n + 1 + d ≡ length k.jobs =
+    omega (arith, c.loop-k-test.true, c.len-k-end.ensures.value) in
     rw c.from_residual.ensures
-    (sym (any_found k (λ j. is_wide (wait k a least v j) || is_wide (waits_to k a least v j)) x job
-    (sym (c.in_err-sum.ensures.wide
-    ∙ ap (λ z. is_wide z || is_wide (sum +ℤ (pos (slice_index v c.loop-k.k) *ℤ its))) step.0
-    ∙ ap (λ z. is_wide (wait k a least v x) || is_wide z) step.1))))
+    (omega (
+      arith,
+      c.in_err-sum.ensures,
+      c.loop-k.invariant,
+      more c.args.u.now w n c.at.result c.wait_of-wait.result c.at.ensures c.wait_of-wait.ensures,
+      sum_by-range_le f 1 (n + 1) d,
+      ap (λ m. sum_by f (range_with_len 1 m)) all,
+    ))
 
-pub returns-clause-wide : goal.returns-clause-wide
-returns-clause-wide g c =
+pub returns : goal.returns
+returns g c =
     let k = c.args.task.now in
-    let a = c.args.machine in
-    let least : ℕ = c.args.least in
-    let v = c.args.v.now in
-    sym (no_found k (λ j. is_wide (wait k a least v j) || is_wide (waits_to k a least v j))
-    (λ j job. c.loop-k.invariant.narrow j job.0
-    (omega (arith, job.1, c.len-k-end.ensures.value, c.loop-k-test.false))))
+    let f : ℕ → ℕ = λ j. numerator c.args.u.now j * wait_from k c.args.machine c.args.first j in
+    let all : c.loop-k.k ≡ length k.jobs =
+    omega (arith, c.len-k-end.ensures.value, c.loop-k-test.false, c.loop-k.auto.k-end) in
+    c.loop-k.invariant ∙ ap (λ n. sum_by f (range_with_len 1 n)) all
