@@ -3,6 +3,8 @@
 //! Nothing is promised of what they find: the judges of `tf_bound` compute what it bounds.
 #![tactic(auto)]
 
+mod arc_links;
+mod arc_search;
 mod due_prices;
 pub mod effort;
 mod job_starts;

@@ -40,7 +40,7 @@ pub fn multiplier_bound<A: Allocator + Copy, B: Allocator>(
         return Err(BoundFault::OtherKind);
     }
     let (multipliers, target) = best_multipliers(alloc, task)?;
-    let value = multipliers_bound(alloc, task, 0, &multipliers, DENOMINATOR)?;
+    let value = multipliers_bound(alloc, task, 0, &multipliers, &[], DENOMINATOR)?;
     Ok(MultiplierBound {
         q: DENOMINATOR,
         multipliers,

@@ -5,6 +5,8 @@ ghost use Rattle.tf_problem.specs.ProblemData.{ProblemData, IsProblemJob};
 ghost use Rattle.tf_problem.specs.ProblemBounds.{is_max_goal, is_sum_goal};
 ghost use Rattle.tf_search.specs.Strongest.{IsFound, IsFoundOn};
 
+use crate::arc_links::{Link, links_of};
+use crate::arc_search::arc_multipliers;
 use crate::due_prices::crossed_out_cost;
 use crate::effort::{Effort, Progress};
 use crate::machine_search::search_machines;
@@ -19,6 +21,7 @@ use tf_bound::alike::one_job_value;
 use tf_bound::alone::alone_value;
 use tf_bound::certificate::BoundCertificate;
 use tf_bound::fault::BoundFault;
+use tf_bound::multipliers::takes_multipliers;
 use tf_bound::prices::is_by_unit;
 use tf_bound::pushed::{is_of_maximum, judged_task};
 use tf_bound::task::ProblemTask;
@@ -74,6 +77,19 @@ fn strongest_on<A: Allocator + Copy, B: Allocator, P: Progress>(
     if is_of_maximum(task.problem().goal) {
         return of_maximum(alloc, task);
     }
+    let best = without_arcs(alloc, task, effort)?;
+    Ok(stronger(best, by_arcs(alloc, task)?))
+}
+
+// The strongest bound of a sum that needs no multipliers of the arcs.
+fn without_arcs<A: Allocator + Copy, B: Allocator, P: Progress>(
+    alloc: A,
+    task: &ProblemTask<B>,
+    effort: &mut Effort<P>,
+) -> Result<Found<A>, OutOfMemory>
+    requires { IsTrue (is_sum_goal task.now.problem.goal) }
+    ensures { IfOk result (IsFoundOn task.now) }
+{
     let alone = by_each_alone(alloc, task)?;
     match of_sum(alloc, task, effort)? {
         Some(best) => Ok(stronger(best, Some(alone))),
@@ -285,7 +301,7 @@ fn by_machine<A: Allocator + Copy, B: Allocator>(
     judged(alloc, task, certificate)
 }
 
-// A sum: multipliers, and without preemption prices.
+// A sum: multipliers of the jobs, and without preemption prices.
 fn of_sum<A: Allocator + Copy, B: Allocator, P: Progress>(
     alloc: A,
     task: &ProblemTask<B>,
@@ -317,6 +333,7 @@ fn by_weights<A: Allocator + Copy, B: Allocator>(
             machine,
             q: 1,
             numerators: weights(alloc, task)?,
+            arcs: Vec::new(alloc),
         };
         best = improved(best, judged(alloc, task, certificate))?;
     }
@@ -347,6 +364,57 @@ fn by_multipliers<A: Allocator + Copy, B: Allocator>(
         machine: 0,
         q: found.q,
         numerators: found.multipliers,
+        arcs: Vec::new(alloc),
+    };
+    judged(alloc, task, certificate)
+}
+
+// Multipliers of the jobs and of the arcs on the best machine, and on identical machines also those
+// of the jobs alone.
+fn by_arcs<A: Allocator + Copy, B: Allocator>(
+    alloc: A,
+    task: &ProblemTask<B>,
+) -> Result<Option<Found<A>>, OutOfMemory>
+    ensures { IfOk result (λ best. IfSome best (IsFoundOn task.now)) }
+{
+    let mut best: Option<Found<A>> = None;
+    if !takes_multipliers(task) {
+        return Ok(best);
+    }
+    let Some(links) = links_of(alloc, task)? else {
+        return Ok(best);
+    };
+    for machine in 0..machines_of(task, links.is_empty()) {
+        best = improved(best, by_arcs_on(alloc, task, machine, &links))?;
+    }
+    Ok(best)
+}
+
+// How many machines are searched for multipliers of the arcs: identical ones as one.
+fn machines_of<B: Allocator>(task: &ProblemTask<B>, has_none: bool) -> usize {
+    match task.problem().env {
+        Env::Parallel => 1,
+        _ if has_none => 0,
+        _ => task.machines() as usize,
+    }
+}
+
+fn by_arcs_on<A: Allocator + Copy, B: Allocator>(
+    alloc: A,
+    task: &ProblemTask<B>,
+    machine: usize,
+    links: &[Link],
+) -> Result<Option<Found<A>>, OutOfMemory>
+    ensures { IfOk result (λ best. IfSome best (IsFoundOn task.now)) }
+{
+    let Some(found) = arc_multipliers(alloc, task, machine, links)? else {
+        return Ok(None);
+    };
+    let certificate = BoundCertificate::Multipliers {
+        machine,
+        q: found.q,
+        numerators: found.jobs,
+        arcs: found.arcs,
     };
     judged(alloc, task, certificate)
 }
