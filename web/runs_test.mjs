@@ -36,6 +36,15 @@ test("an evaluation of a problem without a solver has its bound and its jobs", (
   assert.ok(found.isOfJobs);
 });
 
+test("multipliers of the precedence constraints belong to the certificate", () => {
+  const found = readEvaluation(bytes(ASSESSED.replace("job 1 3 5 0", "arcs 2\njob 1 3 5 0")), 2);
+  assert.equal(found.certificate, "multipliers 1 1 0 1\narcs 2");
+  assert.deepEqual([[...found.start], [...found.completion]], [[3, 0], [5, 4]]);
+  const plan = PLAN.replace("# prices 2 0 1 1", "# multipliers 1 1 1 1 1\n# arcs 1 0");
+  assert.deepEqual(readAnswer(bytes(plan)).bound,
+    { value: "1", certificate: "multipliers 1 1 1 1 1\narcs 1 0" });
+});
+
 test("a certificate of one job is not the line of a job", () => {
   const text = "evaluation 1\nproblem P2|prec|Cmax\njobs 2\nmachines 2\nfits\nclaimed 9\nvalue 9\n"
     + "gap 1\nbound 8\njob 1\njob 1 0 4 4\njob 2 4 9 9\nend\n";

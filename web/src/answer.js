@@ -141,12 +141,24 @@ export function readEvaluation(bytes, jobs) {
   return found;
 }
 
-/** Reads the line after a bound, if it is a certificate: one of the kind `job` has one number, `alone` none. */
+/**
+ * Reads the line after a bound, if it is a certificate: one of the kind `job` has one number,
+ * `alone` none. A line of the precedence constraints may follow multipliers.
+ */
 function readCertificate(walk, found) {
+  const line = nextLine(walk, /^(alone$|job \d+$|(window|crowd|machine|multipliers|prices) )/);
+  if (line === null) return;
+  const arcs = nextLine(walk, /^arcs /);
+  found.certificate = arcs === null ? line : `${line}\n${arcs}`;
+}
+
+/** Reads the next line, if it is of this form, and otherwise leaves it and gives null. */
+function nextLine(walk, form) {
   const begin = walk.at;
   const line = walk.rest();
-  if (/^(alone$|job \d+$|(window|crowd|machine|multipliers|prices) )/.test(line)) found.certificate = line;
-  else walk.at = begin;
+  if (form.test(line)) return line;
+  walk.at = begin;
+  return null;
 }
 
 /** Reads the line of a job after its first word: job, start, completion, and what counts of it. */
@@ -179,6 +191,7 @@ function boundOf(lines) {
   for (const line of lines) {
     const [word, rest] = firstWord(line);
     if (word === "value") found.value = rest;
+    else if (word === "arcs") found.certificate += `\n${line}`;
     else if (!/^(bound|problem|jobs|machines|end)$/.test(word)) found.certificate = line;
   }
   return /^-?\d+$/.test(found.value) ? found : null;

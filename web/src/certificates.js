@@ -34,6 +34,9 @@ const BOUND_WORDS = {
     + "at their cheapest starts, less the prices of all steps.",
 };
 
+const ARC_WORDS = " Along a precedence constraint the later job gives some of its multiplier to "
+  + "the one before it.";
+
 /** How many numbers stand before the jobs of a certificate, for the kinds that list jobs. */
 const BEFORE_JOBS = { last: 0, window: 0, job: 0, crowd: 1 };
 
@@ -65,7 +68,8 @@ export function boundReason(plan) {
   const { value, certificate } = plan.bound;
   const before = { ...BEFORE_JOBS, machine: 1 };
   return [
-    html("p", {}, BOUND_WORDS[certificate.split(" ")[0]] ?? ""),
+    html("p", {}, (BOUND_WORDS[certificate.split(" ")[0]] ?? "")
+      + (certificate.includes("\narcs ") ? ARC_WORDS : "")),
     jobsOf(plan, certificateJobs(certificate, plan.jobs.length, before)),
     html("p", {}, `So no schedule has ${leastWords(plan.calendar, plan.problem, value)}. `,
       proved()),

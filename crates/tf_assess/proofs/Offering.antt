@@ -1,5 +1,5 @@
 -- What an offered certificate is worth.
-use Rattle.std.proofs.Common.{◌≡◌, ℤ, SFits, to_z, of_z, Option, None, IfSome, inl, inr, refl, sym, ap, subst, ◌∙◌}
+use Rattle.std.proofs.Common.{◌≡◌, ℤ, SFits, to_z, of_z, None, inl, inr, refl, sym, ap, subst, ◌∙◌}
 use Rattle.std.specs.Int.{w128}
 use Rattle.std.proofs.lemmas.Int.{to_z-of_z}
 use Rattle.tf_problem.specs.ProblemData.{ProblemData}
@@ -21,7 +21,7 @@ value_on k (Machine machine jobs) b h = h
 value_on k (Window jobs) b h = h
 value_on k (Crowd h0 jobs) b h = h
 value_on k (OneJob job) b h = h
-value_on k (Multipliers machine q numerators) b h = h
+value_on k (Multipliers machine q numerators arcs) b h = h
 value_on k (Prices q rows) b h = h
 value_on k Alone b h = h
 
@@ -36,7 +36,7 @@ on_value k (Machine machine jobs) b h = h
 on_value k (Window jobs) b h = h
 on_value k (Crowd h0 jobs) b h = h
 on_value k (OneJob job) b h = h
-on_value k (Multipliers machine q numerators) b h = h
+on_value k (Multipliers machine q numerators arcs) b h = h
 on_value k (Prices q rows) b h = h
 on_value k Alone b h = h
 
@@ -51,7 +51,7 @@ fault_is k (Machine machine jobs) = refl
 fault_is k (Window jobs) = refl
 fault_is k (Crowd h0 jobs) = refl
 fault_is k (OneJob job) = refl
-fault_is k (Multipliers machine q numerators) = refl
+fault_is k (Multipliers machine q numerators arcs) = refl
 fault_is k (Prices q rows) = refl
 fault_is k Alone = refl
 

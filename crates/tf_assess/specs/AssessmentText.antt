@@ -12,7 +12,7 @@ use Rattle.tf_bound.specs.declared.fault.BoundFault.{BoundFault}
 use Rattle.tf_bound.specs.declared.fault.BoundFault.TheVariants as faults
 use Rattle.tf_search.specs.declared.strongest.Found.{Found}
 use Rattle.tf_evaluate.specs.EvaluationText.{claimed_lines, outcome_words}
-use Rattle.tf_bounding.specs.BoundText.{certificate_words}
+use Rattle.tf_bounding.specs.BoundText.{certificate_lines}
 use Rattle.tf_assess.specs.declared.assessment.ProblemFit.{ProblemFit}
 use Rattle.tf_assess.specs.declared.assessment.ProblemFit.TheVariants.{Fits, NoSchedule, Misfit}
 use Rattle.tf_assess.specs.declared.assessment.Offered.{Offered}
@@ -73,7 +73,7 @@ offered_lines (Some offered) = (codes "offered" ∷ offered_words offered) ∷ [
 -- the bound and its certificate
 abbrev pub bound_lines : {A : Type 0} → Found A → List (List (List ℕ))
 bound_lines found =
-    (codes "bound" ∷ signed_decimal found.value ∷ []) ∷ certificate_words found.certificate ∷ []
+    (codes "bound" ∷ signed_decimal found.value ∷ []) ∷ certificate_lines found.certificate
 
 -- how the pieces fit, what is claimed, the cost, the least cost where it is known, the gap, what was
 -- offered and the bound

@@ -203,5 +203,6 @@ fn push_bound<A: Allocator, M: Allocator>(
         (text.new.items ≡ text.old.items ++ flat_map line_text (bound_lines bound.now)) }
 {
     push_number_line(text, b"bound", bound.value)?;
-    push_certificate(text, &bound.certificate)
+    push_certificate(text, &bound.certificate)?;
+    Ok(())
 }

@@ -100,7 +100,7 @@ multiplier_basis line words = do
   (machine, more) ← first_number line 1 most_machines words
   (q, more) ← first_number line 0 limit more
   numerators ← naturals line 0 limit more
-  Ok (ByMultipliers (machine - 1) q numerators)
+  Ok (ByMultipliers (machine - 1) q numerators [])
 
 unfoldable pub price_basis : ℕ → List (List ℕ) → Result Basis BoundTextFault
 price_basis line words = do
@@ -193,12 +193,46 @@ value_at all = do
   value ← value_in number word
   Ok (value, more)
 
--- the line of the certificate, and those behind it
+-- one number at least
+abbrev pub arcs_in : ℕ → List (List ℕ) → Result (List ℕ) BoundTextFault
+arcs_in line [] = Err (BadLine line)
+arcs_in line (word ∷ more) = naturals line 0 limit (word ∷ more)
+
+-- the numbers of a line `arcs`, and the lines behind it
+abbrev pub listed_at : KeptLine → List KeptLine → Result (List ℕ × List KeptLine) BoundTextFault
+listed_at line more =
+    arcs_in line.number (drop 1 (words line.bytes)) >>= λ numbers. Ok (numbers, more)
+
+-- the same, where that line comes first, and otherwise no numbers
+unfoldable pub arcs_at : List KeptLine → Result (List ℕ × List KeptLine) BoundTextFault
+arcs_at [] = Ok ([], [])
+arcs_at (line ∷ more) =
+    if first_is (codes "arcs") (words line.bytes) then listed_at line more
+    else Ok ([], line ∷ more)
+
+-- multipliers, and those of the arcs that may follow
+unfoldable pub multipliers_at : ℕ → ℕ → List ℕ → List KeptLine
+    → Result (Basis × List KeptLine) BoundTextFault
+multipliers_at machine q v all = do
+  (arcs, rest) ← arcs_at all
+  Ok (ByMultipliers machine q v arcs, rest)
+
+-- The line `arcs` may follow multipliers.
+abbrev pub with_arcs : Basis → List KeptLine → Result (Basis × List KeptLine) BoundTextFault
+with_arcs (ByMachine machine jobs) all = Ok (ByMachine machine jobs, all)
+with_arcs (ByWindow jobs) all = Ok (ByWindow jobs, all)
+with_arcs (ByCrowd h jobs) all = Ok (ByCrowd h jobs, all)
+with_arcs (ByOneJob job) all = Ok (ByOneJob job, all)
+with_arcs (ByMultipliers machine q v none) all = multipliers_at machine q v all
+with_arcs (ByPrices q rows) all = Ok (ByPrices q rows, all)
+with_arcs ByAlone all = Ok (ByAlone, all)
+
+-- the lines of the certificate, and those behind them
 unfoldable pub certificate_at : List KeptLine → Result (Basis × List KeptLine) BoundTextFault
 certificate_at all = do
   (line, more) ← next all
   basis ← basis_in line.number (words line.bytes)
-  Ok (basis, more)
+  with_arcs basis more
 
 -- the word `end` and no other
 abbrev pub is_end : List (List ℕ) → Bool

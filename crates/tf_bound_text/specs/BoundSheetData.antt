@@ -2,7 +2,7 @@
 use Rattle.std.specs.Prelude.{◌≡◌, ℕ, ℤ, List, Option}
 use Rattle.tf_model.specs.declared.problem.Problem.{Problem}
 use Rattle.tf_problem.specs.ProblemData.{ProblemData}
-use Rattle.tf_problem.specs.ProblemBounds.{machine_value, window_value, crowd_value, one_job_value, multiplier_value}
+use Rattle.tf_problem.specs.ProblemBounds.{machine_value, window_value, crowd_value, one_job_value, any_multiplier_value}
 use Rattle.tf_bound.specs.Certified.{IsAloneBound}
 use Rattle.tf_bound.specs.Prices.{IsPricesBound}
 use Rattle.tf_bound.specs.Faulted.{machine_fault, window_fault, crowd_fault, one_job_fault, multipliers_fault, prices_fault, alone_fault}
@@ -11,14 +11,15 @@ use Rattle.tf_bound.specs.declared.certificate.BoundCertificate.{BoundCertificat
 use Rattle.tf_bound.specs.declared.certificate.BoundCertificate.TheVariants.{Machine, Window, Crowd, OneJob, Multipliers, Prices, Alone}
 
 -- what a certificate names: a machine, counted from 0, or how many jobs each machine takes, and jobs;
--- or a machine, a denominator and numerators, job by job; or a denominator and prices, row by row;
+-- or a machine, a denominator and numerators, job by job and arc by arc; or a denominator and prices,
+-- row by row;
 -- or nothing
 pub data Basis : Type 0 where
   ByMachine : ℕ → List ℕ → Basis
   ByWindow : List ℕ → Basis
   ByCrowd : ℕ → List ℕ → Basis
   ByOneJob : ℕ → Basis
-  ByMultipliers : ℕ → ℕ → List ℕ → Basis
+  ByMultipliers : ℕ → ℕ → List ℕ → List ℕ → Basis
   ByPrices : ℕ → List ℕ → Basis
   ByAlone : Basis
 
@@ -27,7 +28,8 @@ basis_of (Machine machine jobs) = ByMachine machine jobs.items
 basis_of (Window jobs) = ByWindow jobs.items
 basis_of (Crowd h jobs) = ByCrowd h jobs.items
 basis_of (OneJob job) = ByOneJob job
-basis_of (Multipliers machine q numerators) = ByMultipliers machine q numerators.items
+basis_of (Multipliers machine q numerators arcs) =
+    ByMultipliers machine q numerators.items arcs.items
 basis_of (Prices q rows) = ByPrices q rows.items
 basis_of Alone = ByAlone
 
@@ -37,7 +39,7 @@ IsValueBy k (ByMachine machine jobs) b = b ≡ machine_value k machine jobs
 IsValueBy k (ByWindow jobs) b = b ≡ window_value k jobs
 IsValueBy k (ByCrowd h jobs) b = b ≡ crowd_value k h jobs
 IsValueBy k (ByOneJob job) b = b ≡ one_job_value k job
-IsValueBy k (ByMultipliers machine q v) b = b ≡ multiplier_value k machine v q
+IsValueBy k (ByMultipliers machine q v arcs) b = b ≡ any_multiplier_value k machine v arcs q
 IsValueBy k (ByPrices q rows) b = IsPricesBound k q rows b
 IsValueBy k ByAlone b = IsAloneBound k b
 
@@ -47,7 +49,7 @@ fault_by k (ByMachine machine jobs) = machine_fault k machine jobs
 fault_by k (ByWindow jobs) = window_fault k jobs
 fault_by k (ByCrowd h jobs) = crowd_fault k h jobs
 fault_by k (ByOneJob job) = one_job_fault k job
-fault_by k (ByMultipliers machine q v) = multipliers_fault k machine q v
+fault_by k (ByMultipliers machine q v arcs) = multipliers_fault k machine q v arcs
 fault_by k (ByPrices q rows) = prices_fault k q rows
 fault_by k ByAlone = alone_fault k
 

@@ -72,7 +72,7 @@ fn one_job_in<A: Allocator>(line: u32, text: &[u8]) -> Result<BoundCertificate<A
 
 /// Reads a machine, a denominator and numerators.
 #[tactic(auto, unfolding(crate::specs::BoundReading::multiplier_basis))]
-fn multipliers_in<A: Allocator>(
+fn multipliers_in<A: Allocator + Copy>(
     alloc: A,
     line: u32,
     text: &[u8],
@@ -86,6 +86,7 @@ fn multipliers_in<A: Allocator>(
         machine: machine as usize - 1,
         q,
         numerators,
+        arcs: Vec::new(alloc),
     })
 }
 
@@ -115,7 +116,7 @@ fn alone_in<A: Allocator>(line: u32, text: &[u8]) -> Result<BoundCertificate<A>,
 
 /// Reads a certificate of this kind from the words that follow it.
 #[tactic(auto, unfolding(crate::specs::BoundReading::kind_in))]
-fn kind_in<A: Allocator>(
+fn kind_in<A: Allocator + Copy>(
     alloc: A,
     line: u32,
     kind: &[u8],
@@ -143,7 +144,7 @@ fn kind_in<A: Allocator>(
 }
 
 /// Reads the line of a certificate.
-pub(crate) fn certificate_in<A: Allocator>(
+pub(crate) fn certificate_in<A: Allocator + Copy>(
     alloc: A,
     line: u32,
     text: &[u8],

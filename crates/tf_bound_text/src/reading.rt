@@ -7,11 +7,13 @@ ghost use Rattle.tf_words.specs.Lines.{line_of, lines_of};
 ghost use Rattle.tf_bound_text.specs.BoundSheetData.{basis_of};
 ghost use Rattle.tf_bound_text.specs.BoundReading.{Gives, next, word_at, heading_at, problem_in};
 ghost use Rattle.tf_bound_text.specs.BoundReading.{problem_at, count_at, value_at, certificate_at};
-ghost use Rattle.tf_bound_text.specs.BoundReading.{is_end, end_at, bound_at, sheet_of, bound_in};
+ghost use Rattle.tf_bound_text.specs.BoundReading.{arcs_in, arcs_at, multipliers_at, with_arcs};
+ghost use Rattle.tf_bound_text.specs.BoundReading.{is_end, end_at};
+ghost use Rattle.tf_bound_text.specs.BoundReading.{bound_at, sheet_of, bound_in};
 
 use crate::certificate::certificate_in;
 use crate::fault::BoundTextFault;
-use crate::number::{natural, only, value_in};
+use crate::number::{natural, numbers_from, only, value_in};
 use crate::sheet::BoundSheet;
 use std::alloc::Allocator;
 use tf_bound::certificate::BoundCertificate;
@@ -114,9 +116,86 @@ fn value_at<'a>(lines: &Lines<'a>) -> Result<(i64, Lines<'a>), BoundTextFault>
     Ok((value, more))
 }
 
-/// Reads the line of the certificate, and returns the lines after it.
+/// Reads the numbers of a line `arcs`.
+fn arcs_in<A: Allocator>(alloc: A, line: u32, text: &[u8]) -> Result<Vec<u64, A>, BoundTextFault>
+    ensures { Gives (λ numbers. numbers.items) result (arcs_in line (words text.now)) }
+{
+    match first_word(text) {
+        None => Err(BoundTextFault::BadLine(line)),
+        Some(_) => numbers_from(alloc, line, text),
+    }
+}
+
+/// Reads the line `arcs` where it comes first, and returns the lines after it.
+#[tactic(auto, unfolding(crate::specs::BoundReading::arcs_at))]
+fn arcs_at<'a, A: Allocator>(
+    alloc: A,
+    lines: Lines<'a>,
+) -> Result<(Vec<u64, A>, Lines<'a>), BoundTextFault>
+    ensures { Gives (λ x. (x.0.items, lines_of x.1)) result (arcs_at (lines_of lines.entry)) }
+{
+    let Some((line, more)) = lines.split_first() else {
+        return Ok((Vec::new(alloc), lines));
+    };
+    let Some(text) = behind_key(line.bytes, b"arcs") else {
+        return Ok((Vec::new(alloc), lines));
+    };
+    let arcs = arcs_in(alloc, line.number, text)?;
+    Ok((arcs, more))
+}
+
+/// Reads what may follow multipliers, and returns the lines after it.
+#[tactic(auto, unfolding(crate::specs::BoundReading::multipliers_at))]
+fn multipliers_at<'a, A: Allocator>(
+    alloc: A,
+    machine: usize,
+    q: u64,
+    numerators: Vec<u64, A>,
+    lines: Lines<'a>,
+) -> Result<(BoundCertificate<A>, Lines<'a>), BoundTextFault>
+    ensures { Gives (λ x. (basis_of x.0, lines_of x.1)) result
+        (multipliers_at machine q numerators.items (lines_of lines.entry)) }
+{
+    let (arcs, lines) = arcs_at(alloc, lines)?;
+    let certificate = BoundCertificate::Multipliers {
+        machine,
+        q,
+        numerators,
+        arcs,
+    };
+    Ok((certificate, lines))
+}
+
+/// Reads what may follow the first line of the certificate.
+fn with_arcs<'a, A: Allocator>(
+    alloc: A,
+    certificate: BoundCertificate<A>,
+    lines: Lines<'a>,
+) -> Result<(BoundCertificate<A>, Lines<'a>), BoundTextFault>
+    ensures { Gives (λ x. (basis_of x.0, lines_of x.1)) result
+        (with_arcs (basis_of certificate) (lines_of lines.entry)) }
+{
+    match certificate {
+        BoundCertificate::Machine { machine, jobs } => {
+            Ok((BoundCertificate::Machine { machine, jobs }, lines))
+        }
+        BoundCertificate::Window { jobs } => Ok((BoundCertificate::Window { jobs }, lines)),
+        BoundCertificate::Crowd { h, jobs } => Ok((BoundCertificate::Crowd { h, jobs }, lines)),
+        BoundCertificate::OneJob { job } => Ok((BoundCertificate::OneJob { job }, lines)),
+        BoundCertificate::Multipliers {
+            machine,
+            q,
+            numerators,
+            ..
+        } => multipliers_at(alloc, machine, q, numerators, lines),
+        BoundCertificate::Prices { q, rows } => Ok((BoundCertificate::Prices { q, rows }, lines)),
+        BoundCertificate::Alone => Ok((BoundCertificate::Alone, lines)),
+    }
+}
+
+/// Reads the lines of the certificate, and returns the lines after them.
 #[tactic(auto, unfolding(crate::specs::BoundReading::certificate_at))]
-fn certificate_at<'a, A: Allocator>(
+fn certificate_at<'a, A: Allocator + Copy>(
     alloc: A,
     lines: &Lines<'a>,
 ) -> Result<(BoundCertificate<A>, Lines<'a>), BoundTextFault>
@@ -125,7 +204,7 @@ fn certificate_at<'a, A: Allocator>(
 {
     let (line, more) = next(lines)?;
     let certificate = certificate_in(alloc, line.number, line.bytes)?;
-    Ok((certificate, more))
+    with_arcs(alloc, certificate, more)
 }
 
 /// Whether the line is `end`.
@@ -155,7 +234,7 @@ fn end_at(lines: &Lines<'_>) -> Result<(), BoundTextFault>
 
 /// Reads the bound: value, certificate and end.
 #[tactic(auto, unfolding(crate::specs::BoundReading::bound_at))]
-fn bound_at<A: Allocator>(
+fn bound_at<A: Allocator + Copy>(
     alloc: A,
     lines: &Lines<'_>,
 ) -> Result<(i64, BoundCertificate<A>), BoundTextFault>
@@ -169,7 +248,10 @@ fn bound_at<A: Allocator>(
 
 /// Reads all lines of a bound's text.
 #[tactic(auto, unfolding(crate::specs::BoundReading::sheet_of))]
-fn sheet_of<A: Allocator>(alloc: A, lines: &Lines<'_>) -> Result<BoundSheet<A>, BoundTextFault>
+fn sheet_of<A: Allocator + Copy>(
+    alloc: A,
+    lines: &Lines<'_>,
+) -> Result<BoundSheet<A>, BoundTextFault>
     ensures { Gives (λ s. s) result (sheet_of (lines_of lines.now)) }
 {
     let lines = heading_at(lines)?;
@@ -195,7 +277,10 @@ fn sheet_of<A: Allocator>(alloc: A, lines: &Lines<'_>) -> Result<BoundSheet<A>, 
 /// The first fault of the text, from its first line to its last. In each line the form of what
 /// comes first is judged before what follows it.
 #[tactic(auto, unfolding(crate::specs::BoundReading::bound_in))]
-pub fn read_bound<A: Allocator>(alloc: A, text: &[u8]) -> Result<BoundSheet<A>, BoundTextFault>
+pub fn read_bound<A: Allocator + Copy>(
+    alloc: A,
+    text: &[u8],
+) -> Result<BoundSheet<A>, BoundTextFault>
     ensures { Gives (λ s. s) result (bound_in text.now) }
 {
     if text.len() > MOST_BYTES {

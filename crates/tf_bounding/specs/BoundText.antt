@@ -1,5 +1,5 @@
 -- The text of a lower bound.
-use Rattle.std.specs.Prelude.{ℕ, ℤ, ◌+◌, List, [], ◌∷◌, map, codes}
+use Rattle.std.specs.Prelude.{ℕ, ℤ, ◌+◌, List, [], ◌∷◌, ◌++◌, map, codes}
 use Rattle.std.specs.List.{flat_map}
 use Rattle.std.specs.Fmt.{decimal, signed_decimal}
 use Rattle.tf_notation.specs.Canonical.{canonical}
@@ -8,18 +8,24 @@ use Rattle.tf_problem.specs.ProblemData.{ProblemData}
 use Rattle.tf_bound.specs.declared.certificate.BoundCertificate.{BoundCertificate}
 use Rattle.tf_bound.specs.declared.certificate.BoundCertificate.TheVariants.{Machine, Window, Crowd, OneJob, Multipliers, Prices, Alone}
 
--- The words of a certificate: its kind, its numbers, and its jobs or numerators. Machines count
+-- the line of the arcs' multipliers, if there are any
+abbrev pub arc_lines : List ℕ → List (List (List ℕ))
+arc_lines [] = []
+arc_lines (number ∷ numbers) = (codes "arcs" ∷ map decimal (number ∷ numbers)) ∷ []
+
+-- The lines of a certificate: its kind, its numbers, and its jobs or numerators. Machines count
 -- from 1. Prices are those of the rows from 0 on.
-abbrev pub certificate_words : {A : Type 0} → BoundCertificate A → List (List ℕ)
-certificate_words (Machine machine jobs) =
-    codes "machine" ∷ decimal (machine + 1) ∷ map decimal jobs.items
-certificate_words (Window jobs) = codes "window" ∷ map decimal jobs.items
-certificate_words (Crowd h jobs) = codes "crowd" ∷ decimal h ∷ map decimal jobs.items
-certificate_words (OneJob job) = codes "job" ∷ decimal job ∷ []
-certificate_words (Multipliers machine q numerators) =
-    codes "multipliers" ∷ decimal (machine + 1) ∷ decimal q ∷ map decimal numerators.items
-certificate_words (Prices q rows) = codes "prices" ∷ decimal q ∷ map decimal rows.items
-certificate_words Alone = codes "alone" ∷ []
+abbrev pub certificate_lines : {A : Type 0} → BoundCertificate A → List (List (List ℕ))
+certificate_lines (Machine machine jobs) =
+    (codes "machine" ∷ decimal (machine + 1) ∷ map decimal jobs.items) ∷ []
+certificate_lines (Window jobs) = (codes "window" ∷ map decimal jobs.items) ∷ []
+certificate_lines (Crowd h jobs) = (codes "crowd" ∷ decimal h ∷ map decimal jobs.items) ∷ []
+certificate_lines (OneJob job) = (codes "job" ∷ decimal job ∷ []) ∷ []
+certificate_lines (Multipliers machine q numerators arcs) =
+    (codes "multipliers" ∷ decimal (machine + 1) ∷ decimal q ∷ map decimal numerators.items)
+    ∷ arc_lines arcs.items
+certificate_lines (Prices q rows) = (codes "prices" ∷ decimal q ∷ map decimal rows.items) ∷ []
+certificate_lines Alone = (codes "alone" ∷ []) ∷ []
 
 -- all lines: a heading, the problem, the sizes of the task, the value and the certificate
 abbrev pub bound_lines : {A : Type 0} → ProblemData → ℕ → ℤ → BoundCertificate A
@@ -30,8 +36,7 @@ bound_lines k jobs value certificate =
     ∷ (codes "jobs" ∷ decimal jobs ∷ [])
     ∷ (codes "machines" ∷ decimal k.machines ∷ [])
     ∷ (codes "value" ∷ signed_decimal value ∷ [])
-    ∷ certificate_words certificate
-    ∷ (codes "end" ∷ []) ∷ []
+    ∷ (certificate_lines certificate ++ (codes "end" ∷ []) ∷ [])
 
 -- the text of a bound of a task
 unfoldable pub bound_text : {A : Type 0} → ProblemData → ℕ → ℤ → BoundCertificate A → List ℕ

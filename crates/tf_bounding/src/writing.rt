@@ -3,7 +3,7 @@ ghost use Rattle.std.specs.Prelude.{◌≡◌, [], ◌∷◌, ◌++◌, codes, l
 ghost use Rattle.std.specs.List.{flat_map};
 ghost use Rattle.tf_text.specs.AnswerText.{line_text};
 ghost use Rattle.std.specs.Fmt.{decimal};
-ghost use Rattle.tf_bounding.specs.BoundText.{certificate_words, bound_text};
+ghost use Rattle.tf_bounding.specs.BoundText.{arc_lines, certificate_lines, bound_text};
 
 use std::alloc::Allocator;
 use tf_bound::certificate::BoundCertificate;
@@ -62,7 +62,7 @@ fn push_listed<A: Allocator>(
     jobs: &[JobId],
 ) -> Result<(), OutOfMemory>
     ensures { OnOk result (text.new.items
-        ≡ text.old.items ++ line_text (word.now ∷ map decimal jobs.now)) }
+        ≡ text.old.items ++ flat_map line_text ((word.now ∷ map decimal jobs.now) ∷ [])) }
 {
     text.extend_from_slice(word)?;
     push_jobs(text, jobs)?;
@@ -77,8 +77,8 @@ fn push_counted<A: Allocator>(
     number: u128,
     jobs: &[JobId],
 ) -> Result<(), OutOfMemory>
-    ensures { OnOk result (text.new.items
-        ≡ text.old.items ++ line_text (word.now ∷ decimal number ∷ map decimal jobs.now)) }
+    ensures { OnOk result (text.new.items ≡ text.old.items
+        ++ flat_map line_text ((word.now ∷ decimal number ∷ map decimal jobs.now) ∷ [])) }
 {
     text.extend_from_slice(word)?;
     push_number(text, number)?;
@@ -87,28 +87,55 @@ fn push_counted<A: Allocator>(
     Ok(())
 }
 
-// Adds the line of multipliers on a machine, counted from 1.
+// Adds the line of one job.
+#[tactic(auto, using(crate::proofs::Written::only_line))]
+fn push_job<A: Allocator>(text: &mut Vec<u8, A>, job: JobId) -> Result<(), OutOfMemory>
+    ensures { OnOk result (text.new.items
+        ≡ text.old.items ++ flat_map line_text ((codes "job" ∷ decimal job ∷ []) ∷ [])) }
+{
+    push_number_line(text, b"job", job.get())?;
+    Ok(())
+}
+
+// Adds the lines of multipliers on a machine, counted from 1.
 fn push_multipliers<A: Allocator>(
     text: &mut Vec<u8, A>,
     machine: u128,
     q: u64,
     numerators: &[u64],
+    arcs: &[u64],
 ) -> Result<(), OutOfMemory>
-    ensures { OnOk result (text.new.items ≡ text.old.items ++ line_text
-        (codes "multipliers" ∷ decimal machine ∷ decimal q ∷ map decimal numerators.now)) }
+    ensures { OnOk result (text.new.items ≡ text.old.items ++ flat_map line_text
+        ((codes "multipliers" ∷ decimal machine ∷ decimal q ∷ map decimal numerators.now)
+        ∷ arc_lines arcs.now)) }
 {
     text.extend_from_slice(b"multipliers")?;
     push_number(text, machine)?;
     push_number(text, q)?;
     push_numbers(text, numerators)?;
     text.push(b'\n')?;
+    push_arcs(text, arcs)?;
+    Ok(())
+}
+
+// Adds the line of the arcs' multipliers, if there are any.
+fn push_arcs<A: Allocator>(text: &mut Vec<u8, A>, arcs: &[u64]) -> Result<(), OutOfMemory>
+    ensures { OnOk result
+        (text.new.items ≡ text.old.items ++ flat_map line_text (arc_lines arcs.now)) }
+{
+    if arcs.is_empty() {
+        return Ok(());
+    }
+    text.extend_from_slice(b"arcs")?;
+    push_numbers(text, arcs)?;
+    text.push(b'\n')?;
     Ok(())
 }
 
 // Adds the line of prices.
 fn push_prices<A: Allocator>(text: &mut Vec<u8, A>, q: u64, rows: &[u64]) -> Result<(), OutOfMemory>
-    ensures { OnOk result (text.new.items ≡ text.old.items ++ line_text
-        (codes "prices" ∷ decimal q ∷ map decimal rows.now)) }
+    ensures { OnOk result (text.new.items ≡ text.old.items
+        ++ flat_map line_text ((codes "prices" ∷ decimal q ∷ map decimal rows.now) ∷ [])) }
 {
     text.extend_from_slice(b"prices")?;
     push_number(text, q)?;
@@ -119,19 +146,20 @@ fn push_prices<A: Allocator>(text: &mut Vec<u8, A>, q: u64, rows: &[u64]) -> Res
 
 // Adds the line of the jobs alone.
 fn push_alone<A: Allocator>(text: &mut Vec<u8, A>) -> Result<(), OutOfMemory>
-    ensures { OnOk result (text.new.items ≡ text.old.items ++ line_text (codes "alone" ∷ [])) }
+    ensures { OnOk result (text.new.items
+        ≡ text.old.items ++ flat_map line_text ((codes "alone" ∷ []) ∷ [])) }
 {
     text.extend_from_slice(b"alone\n")?;
     Ok(())
 }
 
-/// Adds the line of a certificate.
+/// Adds the lines of a certificate.
 pub fn push_certificate<A: Allocator, C: Allocator>(
     text: &mut Vec<u8, A>,
     certificate: &BoundCertificate<C>,
 ) -> Result<(), OutOfMemory>
     ensures { OnOk result (text.new.items
-        ≡ text.old.items ++ line_text (certificate_words certificate.now)) }
+        ≡ text.old.items ++ flat_map line_text (certificate_lines certificate.now)) }
 {
     match certificate {
         BoundCertificate::Machine { machine, jobs } => {
@@ -139,12 +167,13 @@ pub fn push_certificate<A: Allocator, C: Allocator>(
         }
         BoundCertificate::Window { jobs } => push_listed(text, b"window", jobs),
         BoundCertificate::Crowd { h, jobs } => push_counted(text, b"crowd", u128::from(*h), jobs),
-        BoundCertificate::OneJob { job } => push_number_line(text, b"job", job.get()),
+        BoundCertificate::OneJob { job } => push_job(text, *job),
         BoundCertificate::Multipliers {
             machine,
             q,
             numerators,
-        } => push_multipliers(text, *machine as u128 + 1, *q, numerators),
+            arcs,
+        } => push_multipliers(text, *machine as u128 + 1, *q, numerators, arcs),
         BoundCertificate::Prices { q, rows } => push_prices(text, *q, rows),
         BoundCertificate::Alone => push_alone(text),
     }

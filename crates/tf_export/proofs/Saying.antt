@@ -8,9 +8,10 @@ use Rattle.tf_words.specs.Words.{words, lines, first_is}
 use Rattle.tf_words.proofs.Lines.{line_none}
 use Rattle.tf_export.specs.Csv.{csv_line, column_names, row_key}
 use Rattle.tf_export.specs.declared.csv.Table.{Table}
-use Rattle.tf_export.specs.Json.{scalar, member, object}
-use Rattle.tf_export.specs.Members.{phrase, fields, line_members, rest_members, row_in, rows, verdict_members}
-use Rattle.tf_export.specs.Documents.{step_in, distance_in, bound_members, bounded_in}
+use Rattle.tf_export.specs.Json.{array, scalar, member, object}
+use Rattle.tf_export.specs.Members.{arc_members, phrase, fields, line_members, rest_members, row_in, rows, verdict_members}
+use Rattle.tf_export.specs.Documents.{first_of, part_in, parts, step_in, distance_in, bound_members, bounded_in}
+use Rattle.tf_export.specs.declared.documents.Part.{Part}
 use Rattle.tf_export.specs.Faults.{explanation, fault, first_line, behind_line, fault_members, fault_json}
 
 -- a word by its name, and the others
@@ -76,31 +77,56 @@ pub step_some : (line row : List (List ℕ)) → first_is (codes "step") line �
 step_some [] row is row-is = absurd (true≢false (sym is))
 step_some (key ∷ others) row is row-is = rw (is, row-is) refl
 
+-- what is taken of lines, by the first one
+pub parts_next : (part : Part) (text line rest : List ℕ) → lines text ≡ line ∷ lines rest
+    → parts part (lines text) ≡ part_in part line (first_of (lines rest)) ++ parts part (lines rest)
+unfolding parts
+parts_next part text line rest is = rw is refl
+
+pub parts_none : (part : Part) (text : List ℕ) → length text ≡ 0 → parts part (lines text) ≡ []
+unfolding parts
+parts_none part text is = rw (line_none text is) refl
+
 -- how far a plan is from its bound
 pub distance_none : (line : List (List ℕ)) → first_is (codes "##") line ≡ false
     → distance_in line ≡ []
 distance_none line is = rw is refl
 
 pub distance_some : (line row : List (List ℕ)) → first_is (codes "##") line ≡ true
-    → row ≡ drop 1 line → line_members row ≡ distance_in line
+    → row ≡ drop 1 line → line_members row [] ≡ distance_in line
 distance_some line row is same = rw (is, same) refl
 
 -- a line of its bound
-pub bounded_none : (line : List (List ℕ)) → first_is (codes "#") line ≡ false
-    → bounded_in line ≡ []
-bounded_none line is = rw is refl
+pub bounded_none : (line next : List (List ℕ)) → first_is (codes "#") line ≡ false
+    → bounded_in line next ≡ []
+bounded_none line next is = rw is refl
 
-pub bounded_some : (line row : List (List ℕ)) → first_is (codes "#") line ≡ true
-    → row ≡ drop 1 line → bound_members row ≡ bounded_in line
-bounded_some line row is same = rw (is, same) refl
+pub bounded_some : (line row next behind : List (List ℕ)) → first_is (codes "#") line ≡ true
+    → row ≡ drop 1 line → behind ≡ drop 1 next → bound_members row behind ≡ bounded_in line next
+bounded_some line row next behind is same same-next = rw (is, same, same-next) refl
 
-pub bound_none : (row : List (List ℕ)) → first_is (codes "bound") row ≡ false
-    → line_members row ≡ bound_members row
-bound_none row is = rw is refl
+pub bound_none : (row next : List (List ℕ)) → first_is (codes "bound") row ≡ false
+    → line_members row next ≡ bound_members row next
+bound_none row next is = rw is refl
 
-pub bound_some : (row : List (List ℕ)) → first_is (codes "bound") row ≡ true
-    → bound_members row ≡ []
-bound_some row is = rw is refl
+pub bound_some : (row next : List (List ℕ)) → first_is (codes "bound") row ≡ true
+    → bound_members row next ≡ []
+bound_some row next is = rw is refl
+
+-- the numerators of the arcs
+pub no_arcs : (kind : List ℕ) (next : List (List ℕ)) → bytes_eq kind (codes "multipliers") ≡ false
+    → arc_members kind next ≡ []
+no_arcs kind next is = rw is refl
+
+pub arcs_none : (kind : List ℕ) (next : List (List ℕ)) → bytes_eq kind (codes "multipliers") ≡ true
+    → first_is (codes "arcs") next ≡ false → arc_members kind next ≡ []
+arcs_none kind next is none = rw (is, none) refl
+
+pub arcs_some : (kind : List ℕ) (next row : List (List ℕ))
+    → bytes_eq kind (codes "multipliers") ≡ true → first_is (codes "arcs") next ≡ true
+    → row ≡ drop 1 next
+    → member (codes "arcs") (array (map scalar row)) ∷ [] ≡ arc_members kind next
+arcs_some kind next row is some same = rw (is, some, same) refl
 
 pub verdict_none : (key : List ℕ) (row : List (List ℕ)) → bytes_eq key (codes "fits") ≡ false
     → bytes_eq key (codes "misfit") ≡ false → bytes_eq key (codes "accepted") ≡ false

@@ -4,7 +4,8 @@ use Rattle.std.specs.List.{flat_map, join_with_byte, position}
 use Rattle.std.proofs.lemmas.Bool.{lt-ltb, le-ltb}
 use Rattle.std.proofs.lemmas.List.{drop-drop}
 use Rattle.tf_words.specs.Words.{lines}
-use Rattle.tf_words.proofs.Lines.{line_last, line_then}
+use Rattle.tf_words.proofs.Lines.{line_last, line_none, line_then}
+use Rattle.tf_export.specs.Documents.{first_of}
 use Rattle.tf_export.specs.Faults.{line_end, behind_line}
 
 -- the last line
@@ -25,6 +26,11 @@ line_before text line from rest k end within line-is from-is rest-is =
     lt-ltb (line_end text) (length text) (omega (arith, end, within)) in
     let place : position (λ b. eqb b 10) text ≡ Some k = rw (near, end) refl in
     line_then text line from rest k place line-is from-is rest-is
+
+-- a text without a line
+pub no_first : (text : List ℕ) → length text ≡ 0 → text ≡ first_of (lines text)
+no_first [] is = sym (ap first_of (line_none [] is))
+no_first (byte ∷ bytes) is = absurd (omega (arith, is))
 
 pub rest_behind : (text from rest : List ℕ) (k : ℕ) → line_end text ≡ k → from ≡ drop k text
     → rest ≡ drop 1 from → rest ≡ behind_line text

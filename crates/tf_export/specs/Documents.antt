@@ -1,6 +1,5 @@
 -- What the commands print, as JSON.
 use Rattle.std.specs.Prelude.{ℕ, List, [], ◌∷◌, ◌++◌, codes, drop, take, length, map, if◌then◌else◌}
-use Rattle.std.specs.List.{flat_map}
 use Rattle.tf_words.specs.Words.{words, lines, first_is}
 use Rattle.tf_export.specs.Json.{array, member, object}
 use Rattle.tf_export.specs.Members.{phrase, record_of, row_in, line_members}
@@ -26,29 +25,36 @@ problem_in line = object (
 
 -- how far a plan is from its bound, in a comment of its own
 abbrev pub distance_in : List (List ℕ) → List (List ℕ)
-distance_in line = if first_is (codes "##") line then line_members (drop 1 line) else []
+distance_in line = if first_is (codes "##") line then line_members (drop 1 line) [] else []
 
 -- the lines of the bound of a plan, each a comment, but for their heading
-abbrev pub bound_members : List (List ℕ) → List (List ℕ)
-bound_members row = if first_is (codes "bound") row then [] else line_members row
+abbrev pub bound_members : List (List ℕ) → List (List ℕ) → List (List ℕ)
+bound_members row next = if first_is (codes "bound") row then [] else line_members row next
 
-abbrev pub bounded_in : List (List ℕ) → List (List ℕ)
-bounded_in line = if first_is (codes "#") line then bound_members (drop 1 line) else []
+abbrev pub bounded_in : List (List ℕ) → List (List ℕ) → List (List ℕ)
+bounded_in line next =
+    if first_is (codes "#") line then bound_members (drop 1 line) (drop 1 next) else []
 
--- what is taken of a line: members, a step, a problem, a row of a table as an object, or what a
--- comment of a plan says
-abbrev pub part_in : Part → List ℕ → List (List ℕ)
-part_in Members line = line_members (words line)
-part_in Step line = step_in (words line)
-part_in Problem line = problem_in line ∷ []
-part_in (Row table) line = map (record_of (column_names table))
+-- what is taken of a line and of the next one: members, a step, a problem, a row of a table as an
+-- object, or what a comment of a plan says
+abbrev pub part_in : Part → List ℕ → List ℕ → List (List ℕ)
+part_in Members line next = line_members (words line) (words next)
+part_in Step line next = step_in (words line)
+part_in Problem line next = problem_in line ∷ []
+part_in (Row table) line next = map (record_of (column_names table))
     (row_in (row_key table) (length (words (column_names table))) (words line))
-part_in Distance line = distance_in (words line)
-part_in Bounded line = bounded_in (words line)
+part_in Distance line next = distance_in (words line)
+part_in Bounded line next = bounded_in (words line) (words next)
+
+-- the first line, and an empty one where there is none
+abbrev pub first_of : List (List ℕ) → List ℕ
+first_of [] = []
+first_of (line ∷ more) = line
 
 -- and of all lines
-abbrev pub parts : Part → List (List ℕ) → List (List ℕ)
-parts part lines = flat_map (part_in part) lines
+unfoldable pub parts : Part → List (List ℕ) → List (List ℕ)
+parts part [] = []
+parts part (line ∷ more) = part_in part line (first_of more) ++ parts part more
 
 abbrev pub parts_array : List ℕ → Part → List (List ℕ) → List ℕ
 parts_array name part lines = member name (array (parts part lines))

@@ -1,5 +1,5 @@
 -- What a line of words says, as members of a JSON object.
-use Rattle.std.specs.Prelude.{ℕ, Bool, ◌&&◌, ◌||◌, List, [], ◌∷◌, codes, length, drop, map, ◌==◌, if◌then◌else◌}
+use Rattle.std.specs.Prelude.{ℕ, Bool, ◌&&◌, ◌||◌, List, [], ◌∷◌, ◌++◌, codes, length, drop, map, ◌==◌, if◌then◌else◌}
 use Rattle.std.specs.List.{flat_map, join_with_byte}
 use Rattle.std.specs.Str.{bytes_eq}
 use Rattle.tf_words.specs.Words.{words, lines, first_is}
@@ -61,15 +61,22 @@ bound_list kind =
     if bytes_eq kind (codes "multipliers") || bytes_eq kind (codes "prices") then codes "numerators"
     else (if bytes_eq kind (codes "job") || bytes_eq kind (codes "alone") then [] else codes "jobs")
 
--- a certificate, by its kind, the name of its list and its other words
-abbrev pub certificate : List ℕ → List ℕ → List (List ℕ) → List ℕ
-certificate kind list row =
+-- the numerators of the arcs, where the line behind multipliers has them
+abbrev pub arc_members : List ℕ → List (List ℕ) → List (List ℕ)
+arc_members kind next =
+    if bytes_eq kind (codes "multipliers") && first_is (codes "arcs") next
+    then member (codes "arcs") (array (map scalar (drop 1 next))) ∷ [] else []
+
+-- a certificate, by its kind, the name of its list, its other words and those of the next line
+abbrev pub certificate : List ℕ → List ℕ → List (List ℕ) → List (List ℕ) → List ℕ
+certificate kind list row next =
     member (codes "certificate") (object
-    (member (codes "kind") (string kind) ∷ fields (words (certificate_names kind)) list row))
+    (member (codes "kind") (string kind)
+    ∷ (fields (words (certificate_names kind)) list row ++ arc_members kind next)))
 
 abbrev pub answer_certificate : List (List ℕ) → List (List ℕ)
 answer_certificate [] = []
-answer_certificate (kind ∷ row) = certificate kind (answer_list kind) row ∷ []
+answer_certificate (kind ∷ row) = certificate kind (answer_list kind) row [] ∷ []
 
 -- a line of a bound's certificate
 abbrev pub is_bound_kind : List ℕ → List (List ℕ) → Bool
@@ -101,14 +108,15 @@ verdict_members key row =
     else (if bytes_eq key (codes "rejected:")
     then verdict (codes "accepted") (codes "false") (codes "reason") row else [])))
 
--- a line by its key and its other words
-abbrev pub keyed_members : List ℕ → List (List ℕ) → List (List ℕ)
-keyed_members key row =
+-- a line by its key, its other words and those of the next line
+abbrev pub keyed_members : List ℕ → List (List ℕ) → List (List ℕ) → List (List ℕ)
+keyed_members key row next =
     if is_plain_key key then member key (said row) ∷ []
     else (if bytes_eq key (codes "cert") then answer_certificate row
-    else (if is_bound_kind key row then certificate key (bound_list key) row ∷ []
+    else (if is_bound_kind key row then certificate key (bound_list key) row next ∷ []
     else verdict_members key row))
 
-unfoldable pub line_members : List (List ℕ) → List (List ℕ)
-line_members [] = []
-line_members (key ∷ row) = keyed_members key row
+-- a line, and the one that comes next
+unfoldable pub line_members : List (List ℕ) → List (List ℕ) → List (List ℕ)
+line_members [] next = []
+line_members (key ∷ row) next = keyed_members key row next

@@ -1,6 +1,5 @@
 //! What the commands print, as JSON.
 ghost use Rattle.std.specs.Prelude.{◌≡◌, ◌∷◌, ◌++◌, [], codes, drop, take, length, map, IfOk, OnOk};
-ghost use Rattle.std.specs.List.{flat_map};
 ghost use Rattle.tf_words.specs.Words.{words, lines};
 ghost use Rattle.tf_export.specs.Members.{record_of, row_in};
 ghost use Rattle.tf_export.specs.Csv.{column_names, row_key};
@@ -12,7 +11,7 @@ ghost use Rattle.tf_export.specs.Documents.{plan_members};
 
 use crate::csv::Table;
 use crate::json::Json;
-use crate::line::{count_words, next_line, row_in};
+use crate::line::{behind_first, count_words, first_of, next_line, row_in};
 use std::alloc::Global;
 use tf_model::memory::OutOfMemory;
 use tf_words::word::behind_key;
@@ -125,40 +124,48 @@ impl Json {
     {
         match behind_key(line, b"##") {
             None => Ok(()),
-            Some(row) => self.line_members(alloc, row),
+            Some(row) => self.line_members(alloc, row, b""),
         }
     }
 
     /// Adds what the bound of a plan says, if the line is one of its lines but the heading.
-    fn bounded_in(&mut self, alloc: Global, line: &[u8]) -> Result<(), OutOfMemory>
-        ensures { OnOk result (Adds self.old self.new (bounded_in (words line.now))) }
+    fn bounded_in(&mut self, alloc: Global, line: &[u8], next: &[u8]) -> Result<(), OutOfMemory>
+        ensures { OnOk result
+            (Adds self.old self.new (bounded_in (words line.now) (words next.now))) }
     {
         match behind_key(line, b"#") {
             None => Ok(()),
-            Some(row) => self.bound_members(alloc, row),
+            Some(row) => self.bound_members(alloc, row, behind_first(next)),
         }
     }
 
-    fn bound_members(&mut self, alloc: Global, row: &[u8]) -> Result<(), OutOfMemory>
-        ensures { OnOk result (Adds self.old self.new (bound_members (words row.now))) }
+    fn bound_members(&mut self, alloc: Global, row: &[u8], next: &[u8]) -> Result<(), OutOfMemory>
+        ensures { OnOk result
+            (Adds self.old self.new (bound_members (words row.now) (words next.now))) }
     {
         match behind_key(row, b"bound") {
-            None => self.line_members(alloc, row),
+            None => self.line_members(alloc, row, next),
             Some(_) => Ok(()),
         }
     }
 
-    /// Adds what is taken of a line.
-    fn part(&mut self, alloc: Global, part: Part, line: &[u8]) -> Result<(), OutOfMemory>
-        ensures { OnOk result (Adds self.old self.new (part_in part line.now)) }
+    /// Adds what is taken of a line and of the next one.
+    fn part(
+        &mut self,
+        alloc: Global,
+        part: Part,
+        line: &[u8],
+        next: &[u8],
+    ) -> Result<(), OutOfMemory>
+        ensures { OnOk result (Adds self.old self.new (part_in part line.now next.now)) }
     {
         match part {
-            Part::Members => self.line_members(alloc, line),
+            Part::Members => self.line_members(alloc, line, next),
             Part::Step => self.step_in(alloc, line),
             Part::Problem => self.problem_in(alloc, line),
             Part::Row(table) => self.row_in(table, line),
             Part::Distance => self.distance_in(alloc, line),
-            Part::Bounded => self.bounded_in(alloc, line),
+            Part::Bounded => self.bounded_in(alloc, line, next),
         }
     }
 
@@ -169,7 +176,7 @@ impl Json {
         let mut rest = text;
         while !rest.is_empty() {
             let (line, more) = next_line(rest);
-            self.part(alloc, part, line)?;
+            self.part(alloc, part, line, first_of(more))?;
             rest = more;
         }
         Ok(())

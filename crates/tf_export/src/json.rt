@@ -181,7 +181,7 @@ impl Json {
     }
 
     /// Adds a member with an array of words.
-    fn scalars_member(&mut self, name: &[u8], row: &[u8]) -> Result<(), OutOfMemory>
+    pub(crate) fn scalars_member(&mut self, name: &[u8], row: &[u8]) -> Result<(), OutOfMemory>
         ensures { OnOk result
             (Adds self.old self.new (member name.now (array (map scalar (words row.now))) ∷ [])) }
     {

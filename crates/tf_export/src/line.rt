@@ -1,7 +1,8 @@
 //! Lines, and the words in them.
-ghost use Rattle.std.specs.Prelude.{◌≡◌, ◌<◌, ◌∷◌, [], length, MatchOption};
+ghost use Rattle.std.specs.Prelude.{◌≡◌, ◌<◌, ◌∷◌, [], drop, length, MatchOption};
 ghost use Rattle.tf_words.specs.Words.{words, lines};
 ghost use Rattle.tf_export.specs.Members.{row_in};
+ghost use Rattle.tf_export.specs.Documents.{first_of};
 ghost use Rattle.tf_export.specs.Faults.{first_line, behind_line};
 
 use tf_words::line::line_len;
@@ -22,6 +23,27 @@ pub fn next_line(text: &[u8]) -> (&[u8], &[u8])
     let (line, from) = text.split_at(len);
     let (_, rest) = from.split_at(1);
     (line, rest)
+}
+
+/// The first line of a text, and an empty one where it has none.
+pub(crate) fn first_of(text: &[u8]) -> &[u8]
+    ensures { result.now ≡ first_of (lines text.now) }
+{
+    if text.is_empty() {
+        return text;
+    }
+    let (line, _) = next_line(text);
+    line
+}
+
+/// What stands behind the first word of a line.
+pub(crate) fn behind_first(line: &[u8]) -> &[u8]
+    ensures { words result.now ≡ drop 1 (words line.now) }
+{
+    match first_word(line) {
+        None => line,
+        Some((_, rest)) => rest,
+    }
 }
 
 /// How many words a text has.

@@ -2,6 +2,7 @@
 ghost use Rattle.std.specs.Prelude.{◌≡◌, ◌∷◌, [], codes, length, OnOk};
 ghost use Rattle.tf_words.specs.Words.{words};
 ghost use Rattle.tf_export.specs.Members.{certificate_names, answer_list, bound_list, certificate};
+ghost use Rattle.tf_export.specs.Members.{arc_members};
 ghost use Rattle.tf_export.specs.Members.{answer_certificate, is_bound_kind, is_plain_key, verdict};
 ghost use Rattle.tf_export.specs.Members.{verdict_members, keyed_members, line_members};
 
@@ -9,7 +10,7 @@ use crate::json::Json;
 use crate::line::count_words;
 use std::alloc::Global;
 use tf_model::memory::OutOfMemory;
-use tf_words::word::{first_word, is};
+use tf_words::word::{behind_key, first_word, is};
 
 /// The names of a certificate's first words, by its kind.
 fn certificate_names(kind: &[u8]) -> &'static [u8]
@@ -90,15 +91,35 @@ fn is_plain_key(key: &[u8]) -> bool
 impl Json {
     ghost use Rattle.tf_export.specs.Adds.{Adds};
 
-    /// Adds a certificate by its kind, the name of its list and its other words.
-    fn certificate(&mut self, kind: &[u8], list: &[u8], row: &[u8]) -> Result<(), OutOfMemory>
-        ensures { OnOk result
-            (Adds self.old self.new (certificate kind.now list.now (words row.now) ∷ [])) }
+    /// Adds the numerators of the arcs, where the line behind multipliers has them.
+    fn arc_members(&mut self, kind: &[u8], next: &[u8]) -> Result<(), OutOfMemory>
+        ensures { OnOk result (Adds self.old self.new (arc_members kind.now (words next.now))) }
+    {
+        if !is(kind, b"multipliers") {
+            return Ok(());
+        }
+        match behind_key(next, b"arcs") {
+            None => Ok(()),
+            Some(row) => self.scalars_member(b"arcs", row),
+        }
+    }
+
+    /// Adds a certificate by its kind, the name of its list, its other words and the next line.
+    fn certificate(
+        &mut self,
+        kind: &[u8],
+        list: &[u8],
+        row: &[u8],
+        next: &[u8],
+    ) -> Result<(), OutOfMemory>
+        ensures { OnOk result (Adds self.old self.new
+            (certificate kind.now list.now (words row.now) (words next.now) ∷ [])) }
     {
         self.name(b"certificate")?;
         self.enter(b'{')?;
         self.string_member(b"kind", kind)?;
         self.fields(certificate_names(kind), list, row)?;
+        self.arc_members(kind, next)?;
         self.leave(b'}')?;
         Ok(())
     }
@@ -108,7 +129,7 @@ impl Json {
     {
         match first_word(row) {
             None => Ok(()),
-            Some((kind, row)) => self.certificate(kind, answer_list(kind), row),
+            Some((kind, row)) => self.certificate(kind, answer_list(kind), row, b""),
         }
     }
 
@@ -146,9 +167,16 @@ impl Json {
         Ok(())
     }
 
-    /// Adds what a line says, by its key and its other words.
-    fn keyed_members(&mut self, alloc: Global, key: &[u8], row: &[u8]) -> Result<(), OutOfMemory>
-        ensures { OnOk result (Adds self.old self.new (keyed_members key.now (words row.now))) }
+    /// Adds what a line says, by its key, its other words and the next line.
+    fn keyed_members(
+        &mut self,
+        alloc: Global,
+        key: &[u8],
+        row: &[u8],
+        next: &[u8],
+    ) -> Result<(), OutOfMemory>
+        ensures { OnOk result
+            (Adds self.old self.new (keyed_members key.now (words row.now) (words next.now))) }
     {
         if is_plain_key(key) {
             return self.said_member(alloc, key, row);
@@ -157,18 +185,24 @@ impl Json {
             return self.answer_certificate(row);
         }
         if is_bound_kind(key, row) {
-            return self.certificate(key, bound_list(key), row);
+            return self.certificate(key, bound_list(key), row, next);
         }
         self.verdict_members(key, row)
     }
 
-    /// Adds what a line says.
-    pub(crate) fn line_members(&mut self, alloc: Global, line: &[u8]) -> Result<(), OutOfMemory>
-        ensures { OnOk result (Adds self.old self.new (line_members (words line.now))) }
+    /// Adds what a line says, with what the next one adds to it.
+    pub(crate) fn line_members(
+        &mut self,
+        alloc: Global,
+        line: &[u8],
+        next: &[u8],
+    ) -> Result<(), OutOfMemory>
+        ensures { OnOk result
+            (Adds self.old self.new (line_members (words line.now) (words next.now))) }
     {
         match first_word(line) {
             None => Ok(()),
-            Some((key, row)) => self.keyed_members(alloc, key, row),
+            Some((key, row)) => self.keyed_members(alloc, key, row, next),
         }
     }
 }

@@ -9,8 +9,9 @@ pub returns-in-None : goal.returns-in-None
 returns-in-None c = nothing c.args.self.now _ (ap answer_certificate c.in-None.ensures.words)
 
 pub returns-in-Some : goal.returns-in-Some
+unfolding words
 returns-in-Some c =
     let row = words c.in-Some.row.now in
     subst (λ items. OnOk c.certificate.result (Adds c.args.self.now c.certificate.new.self items))
-    (ap (λ (list : List ℕ). certificate c.in-Some.kind.now list row ∷ []) c.answer_list.ensures
+    (ap (λ (list : List ℕ). certificate c.in-Some.kind.now list row [] ∷ []) c.answer_list.ensures
     ∙ sym (ap answer_certificate c.in-Some.ensures.words)) c.certificate.ensures

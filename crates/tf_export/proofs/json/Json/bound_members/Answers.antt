@@ -8,8 +8,8 @@ use Rattle.tf_export.proofs.json.Json.bound_members.Goals as goal
 pub returns-in-None : goal.returns-in-None
 returns-in-None c =
     subst (λ items. OnOk c.line_members.result (Adds c.args.self.now c.line_members.new.self items))
-    (bound_none (words c.args.row.now) c.in-None.ensures) c.line_members.ensures
+    (bound_none (words c.args.row.now) (words c.args.next.now) c.in-None.ensures) c.line_members.ensures
 
 pub returns-in-Some : goal.returns-in-Some
 returns-in-Some c =
-    nothing c.args.self.now _ (bound_some (words c.args.row.now) c.in-Some.ensures.0)
+    nothing c.args.self.now _ (bound_some (words c.args.row.now) (words c.args.next.now) c.in-Some.ensures.0)

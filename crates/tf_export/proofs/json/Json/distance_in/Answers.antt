@@ -10,6 +10,7 @@ returns-in-None c =
     nothing c.args.self.now _ (distance_none (words c.args.line.now) c.in-None.ensures)
 
 pub returns-in-Some : goal.returns-in-Some
+unfolding words
 returns-in-Some c =
     subst (λ items. OnOk c.line_members.result (Adds c.args.self.now c.line_members.new.self items))
     (distance_some (words c.args.line.now) (words c.in-Some.row.now) c.in-Some.ensures.0

@@ -6,35 +6,35 @@ use Rattle.tf_export.proofs.json.Json.part.Goals as goal
 pub returns-in-Members : goal.returns-in-Members
 returns-in-Members c =
     subst (λ part. OnOk c.line_members.result
-    (Adds c.args.self.now c.line_members.new.self (part_in part c.args.line.now)))
+    (Adds c.args.self.now c.line_members.new.self (part_in part c.args.line.now c.args.next.now)))
     (sym c.in-Members.is) c.line_members.ensures
 
 pub returns-in-Step : goal.returns-in-Step
 returns-in-Step c =
     subst (λ part. OnOk c.step_in.result
-    (Adds c.args.self.now c.step_in.new.self (part_in part c.args.line.now)))
+    (Adds c.args.self.now c.step_in.new.self (part_in part c.args.line.now c.args.next.now)))
     (sym c.in-Step.is) c.step_in.ensures
 
 pub returns-in-Problem : goal.returns-in-Problem
 returns-in-Problem c =
     subst (λ part. OnOk c.problem_in.result
-    (Adds c.args.self.now c.problem_in.new.self (part_in part c.args.line.now)))
+    (Adds c.args.self.now c.problem_in.new.self (part_in part c.args.line.now c.args.next.now)))
     (sym c.in-Problem.is) c.problem_in.ensures
 
 pub returns-in-Row : goal.returns-in-Row
 returns-in-Row c =
     subst (λ part. OnOk c.row_in.result
-    (Adds c.args.self.now c.row_in.new.self (part_in part c.args.line.now)))
+    (Adds c.args.self.now c.row_in.new.self (part_in part c.args.line.now c.args.next.now)))
     (sym c.in-Row.is) c.row_in.ensures
 
 pub returns-in-Distance : goal.returns-in-Distance
 returns-in-Distance c =
     subst (λ part. OnOk c.distance_in.result
-    (Adds c.args.self.now c.distance_in.new.self (part_in part c.args.line.now)))
+    (Adds c.args.self.now c.distance_in.new.self (part_in part c.args.line.now c.args.next.now)))
     (sym c.in-Distance.is) c.distance_in.ensures
 
 pub returns-in-Bounded : goal.returns-in-Bounded
 returns-in-Bounded c =
     subst (λ part. OnOk c.bounded_in.result
-    (Adds c.args.self.now c.bounded_in.new.self (part_in part c.args.line.now)))
+    (Adds c.args.self.now c.bounded_in.new.self (part_in part c.args.line.now c.args.next.now)))
     (sym c.in-Bounded.is) c.bounded_in.ensures
