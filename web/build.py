@@ -24,10 +24,14 @@ HERE = Path(__file__).resolve().parent
 SOURCES = HERE / "src"
 PAGE = HERE / "threefield.html"
 MOST_BYTES = 700_000
+# The letters of the packed module, as solver.js reads them: ASCII from # to ~ without <, which could end it in the page.
+LETTERS = "".join(map(chr, [*range(35, 60), *range(61, 127)]))
 
 IMPORT = re.compile(r'^import (\{[^}]*\}|\* as \w+) from "\./(\w+)\.js";\n', re.MULTILINE)
 EXPORT = re.compile(r"^export (?=(?:async )?(?:function\*?|const|class) (\w+))", re.MULTILINE)
 COMMENT = re.compile(r"^ *(?://.*|/\*\*(?:[^*]|\*(?!/))*\*/)\n", re.MULTILINE)
+STYLE_COMMENT = re.compile(r"^ *//.*\n|^ */\*[^*]*\*/\n|^ *\n", re.MULTILINE)
+INDENT = re.compile(r"^ +", re.MULTILINE)
 MODULE_IN_PAGE = re.compile(r'(<script type="text/plain" id="module-bytes">)([^<]*)(</script>)')
 
 
@@ -75,7 +79,7 @@ def wrapped(folder, name):
 def script(folder, entry):
     """The script of `entry` and all that it imports."""
     parts = [wrapped(folder, name) for name in modules_of(folder, entry)]
-    text = '"use strict";\n(() => {\n' + "\n".join(parts) + "})();\n"
+    text = INDENT.sub("", '"use strict";\n(() => {\n' + "\n".join(parts) + "})();\n")
     for mark in ("</script", "<!--"):
         if mark in text:
             sys.exit(f"build.py: {mark} stands in a source of {entry}.js, and would end the script in the page")
@@ -101,18 +105,38 @@ def policy(main, style):
 
 
 def packed(module):
+    """The module deflated, as text: how many bytes that are, and two letters for each 13 bits of them, the lowest first."""
     deflate = zlib.compressobj(9, zlib.DEFLATED, -15)
-    return base64.b64encode(deflate.compress(module) + deflate.flush()).decode()
+    data = deflate.compress(module) + deflate.flush()
+    bits, held, letters = 0, 0, []
+    for byte in [*data, 0, 0]:
+        bits |= byte << held
+        held += 8
+        if held >= 13:
+            letters += [LETTERS[bits % 8192 % 91], LETTERS[bits % 8192 // 91]]
+            bits >>= 13
+            held -= 13
+    return f"{len(data)} {''.join(letters)}"
 
 
 def unpacked(text):
-    return zlib.decompress(base64.b64decode(text), -15)
+    count, letters = text.split(" ")
+    numbers = [LETTERS.index(letter) for letter in letters]
+    bits, held, data = 0, 0, bytearray()
+    for low, high in zip(numbers[::2], numbers[1::2]):
+        bits |= low + 91 * high << held
+        held += 13
+        while held >= 8:
+            data.append(bits & 255)
+            bits >>= 8
+            held -= 8
+    return zlib.decompress(bytes(data[:int(count)]), -15)
 
 
 def page(folder, module_text):
     """The whole page, with the packed module as it is given."""
-    main, style = script(folder, "main"), read(folder, "style.css")
-    text = read(folder, "index.html")
+    main, style = script(folder, "main"), INDENT.sub("", STYLE_COMMENT.sub("", read(folder, "style.css")))
+    text = INDENT.sub("", read(folder, "index.html"))
     for mark, value in (
         ("/*POLICY*/", policy(main, style)),
         ("/*STYLE*/", style),

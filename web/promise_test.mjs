@@ -6,7 +6,7 @@ import { test } from "node:test";
 import { inflateRawSync } from "node:zlib";
 import { load, tableOf } from "./modules.mjs";
 
-const { loadSolver } = createRequire(import.meta.url)("./src/solver.js");
+const { loadSolver, packedBytes } = createRequire(import.meta.url)("./src/solver.js");
 const { newRow } = await load("table");
 const { makePlan } = await load("plan");
 const { columnsUsed, readNotation } = await load("problems");
@@ -15,7 +15,7 @@ const { canPromise, promiseReason, promiseRequest } = await load("promise");
 
 const page = readFileSync(new URL("./threefield.html", import.meta.url), "utf8");
 const packed = /id="module-bytes">([^<]*)</.exec(page)[1];
-const solver = await loadSolver(inflateRawSync(Buffer.from(packed, "base64")));
+const solver = await loadSolver(inflateRawSync(packedBytes(packed)));
 
 async function planned(problem, rows) {
   const table = await tableOf(rows.map((row) => newRow(row)), null,

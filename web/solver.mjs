@@ -10,5 +10,5 @@ const MODULE = /<script type="text\/plain" id="module-bytes">([^<]*)</;
 /** The solver, ready to run. */
 export function load() {
   const [, packed] = MODULE.exec(readFileSync(PAGE, "latin1"));
-  return script.loadSolver(inflateRawSync(Buffer.from(packed, "base64")));
+  return script.loadSolver(inflateRawSync(script.packedBytes(packed)));
 }

@@ -1360,8 +1360,7 @@ def memory(page):
 
 LOADED = """
     const text = document.getElementById("module-bytes").textContent;
-    const packed = Uint8Array.from(atob(text), (letter) => letter.charCodeAt(0));
-    const stream = new Blob([packed]).stream().pipeThrough(new DecompressionStream("deflate-raw"));
+    const stream = new Blob([packedBytes(text)]).stream().pipeThrough(new DecompressionStream("deflate-raw"));
     const { run, can } = await loadSolver(new Uint8Array(await new Response(stream).arrayBuffer()));
 """
 CAN = LOADED + """

@@ -2,7 +2,7 @@
 
 import { buffersOf } from "./memory.js";
 import { judge, plain, plan, promise, search } from "./runs.js";
-import { loadSolver } from "./solver.js";
+import { loadSolver, packedBytes } from "./solver.js";
 
 // Some plans of this many jobs, so soon after the start, let the browser compile well what large
 // tables need.
@@ -10,11 +10,10 @@ const WARMING = { jobs: 2000, plans: 3, milliseconds: 300 };
 
 let solver = null;
 
-/** Unpacks the module: base64 of its bytes, deflated; or it is a compiled one already. */
+/** Unpacks the module: its bytes, deflated, as letters; or it is a compiled one already. */
 async function unpack(text) {
   if (text instanceof WebAssembly.Module) return text;
-  const packed = Uint8Array.from(atob(text), (letter) => letter.charCodeAt(0));
-  const stream = new Blob([packed]).stream().pipeThrough(new DecompressionStream("deflate-raw"));
+  const stream = new Blob([packedBytes(text)]).stream().pipeThrough(new DecompressionStream("deflate-raw"));
   return new Uint8Array(await new Response(stream).arrayBuffer());
 }
 
