@@ -99,7 +99,7 @@ class Browser:
                   browserContextId=self.context)
         self.size(width, height)
         self.call("Page.navigate", url=address)
-        self.wait(f"location.href === {json.dumps(address)} && document.readyState === 'complete'")
+        self.wait(f"location.href === {json.dumps(address)} && document.readyState === 'complete'", 90)
 
     def run(self, script):
         """Runs a script in the page and gives its value; a promise is awaited."""

@@ -39,7 +39,7 @@ globalThis.document = {
 };
 
 const { drawChart, linesForNames, placeAt, pointOf } = await load("chart");
-const { defaultSettings, makeCalendar } = await load("calendar");
+const { defaultSettings, makeCalendar, momentText, weeksOf } = await load("calendar");
 const { makePlan } = await load("plan");
 const { newRow } = await load("table");
 // Monday 30 November 2026, 08:00-12:00 and 13:00-17:00.
@@ -113,6 +113,77 @@ test("a point is on a machine at a time, in each line of the chart", async () =>
   }
   assert.equal(placeAt(plan, view(plan, 900), 500, -40).machine, 1);
   assert.equal(placeAt(plan, view(plan, 900, 3), 500, 9999).machine, 1);
+});
+
+/** A plan with due and release dates on one machine that work by a calendar. */
+async function datedPlan(rows, calendarOf) {
+  const table = await tableOf(rows.map((row) => newRow(row)), calendarOf,
+    ["name", "time", "due", "release"]);
+  const starts = [];
+  for (const job of table.jobs) starts.push(Math.max(starts.stop ?? 0, job.release));
+  const stops = table.jobs.map(({ time }, k) => starts[k] + time);
+  const list = (values) => Float64Array.from(values);
+  return makePlan(table, { problem: "1|rj|Lmax", jobs: rows.length, machines: 1, value: "0",
+    certificate: "", bound: null, job: list(rows.map((_, k) => k + 1)),
+    machine: list(rows.map(() => 1)), start: list(starts), stop: list(stops) }, null, calendarOf,
+  []);
+}
+
+test("weeks begin on Monday, with a column for each day of the week that is worked", async () => {
+  const { calendar: broken } = makeCalendar({ ...defaultSettings(), step: "60",
+    start: "2026-12-02", startTime: "10:00", days: [1, 2, 3, 4, 5, 6], off: "2026-12-08" });
+  const weeks = weeksOf(broken, 0, 60, 9);
+  assert.deepEqual(weeks.map(({ words, days }) => [words, days.map(({ column }) => column)]),
+    [["Week 49", [0, 1, 2, 3, 4, 5]], ["Week 50", [0, 2, 3, 4, 5]]]);
+  assert.deepEqual(weeks[1].days.map(({ step }) => momentText(broken, step, false)),
+    ["Mon 7 Dec 08:00", "Wed 9 Dec 08:00", "Thu 10 Dec 08:00", "Fri 11 Dec 08:00",
+      "Sat 12 Dec 08:00"]);
+  assert.equal(weeks[0].days[2].step, -2, "the plan starts at ten");
+  assert.equal(weeksOf(broken, 0, 1e6, 3).length, 3);
+  assert.equal(weeksOf(broken, 40, 41, 9)[0].days.length, 5, "whole weeks");
+  const newYear = makeCalendar({ ...defaultSettings(), step: "60", start: "2026-12-28" }).calendar;
+  assert.deepEqual(weeksOf(newYear, 0, 60, 9).map(({ words }) => words), ["Week 53", "Week 1"]);
+});
+
+test("a line for each week: days off are left free, and the week's end is a weekend", async () => {
+  const { calendar: broken } = makeCalendar({ ...defaultSettings(), step: "60",
+    start: "2026-11-30", off: "2026-12-08" });
+  const plan = await planOf(["A", "B", "C"], [20, 32, 12], broken);
+  const weeks = weeksOf(broken, 0, plan.length, 9);
+  const view = { from: 0, to: plan.length, width: 900, weeks, marks: true };
+  const chart = drawChart(plan, view);
+  assert.deepEqual(chart.of("week").map((each) => each.text), ["Week 49", "Week 50"]);
+  const bars = chart.of("bar").map(({ attributes }) =>
+    [attributes["data-job"], Number(attributes.x), Number(attributes.width)]);
+  assert.deepEqual(bars.map(([job]) => job), ["0", "1", "1", "1", "2"]);
+  assert.equal(chart.of("weekend").length, 2, "a weekend, and Tuesday off");
+  const { x: monday } = pointOf(plan, view, 1, 44);
+  const { x: wednesday, y } = pointOf(plan, view, 1, 48);
+  const day = (900 - 14 - pointOf(plan, view, 1, 0).x) / 5;
+  assert.ok(Math.abs(wednesday - monday - 1.5 * day) < 0.1, `${wednesday} ${monday} ${day}`);
+  for (const step of [1, 39, 41, 47, 49, 63]) {
+    const at = pointOf(plan, view, 1, step);
+    assert.equal(Math.round(placeAt(plan, view, at.x, at.y + 3).step), step);
+  }
+  assert.equal(placeAt(plan, view, wednesday - day / 2, y + 3).step, 48, "on the day off");
+});
+
+test("marks are the program’s: due below, released above, late at the upper edge", async () => {
+  const plan = await datedPlan([{ name: "A", time: "8 h", due: "2026-11-30" },
+    { name: "B", time: "8 h", due: "2026-12-01 10:00", release: "2026-12-01" }], calendar);
+  const chart = drawChart(plan, view(plan, 900));
+  const [due, released] = ["due", "release"].map((kind) => chart.of(kind).map(({ attributes }) =>
+    attributes.d.match(/-?[\d.]+/g).map(Number)));
+  const { height } = chart.of("ground")[0].attributes;
+  assert.equal(due.length, 2);
+  for (const [, base, , , tip] of due) assert.ok(base > tip && tip > height, "points up, below");
+  assert.equal(released.length, 1);
+  for (const [, base, , , tip] of released) assert.ok(base < tip && tip < 0, "points down, above");
+  assert.deepEqual(chart.of("late-edge").map(({ attributes }) => attributes.y), ["0.75"]);
+  assert.equal(chart.of("bar").filter(({ attributes }) =>
+    attributes.class.includes("late")).length, 1);
+  const two = drawChart(plan, view(plan, 900, 2));
+  assert.equal(two.of("due").length, 2, "a date at the end of a line is marked once");
 });
 
 test("bars can have the focus where they are moved", async () => {

@@ -4,7 +4,7 @@ import { test } from "node:test";
 import { load, tableOf } from "./modules.mjs";
 
 const { defaultSettings, makeCalendar, momentField, stepNow } = await load("calendar");
-const { fromNow, readLeft } = await load("progress");
+const { fromNow, readLeft, tickedOff, unticked } = await load("progress");
 const { comparePlans, keepPlan, makePlan } = await load("plan");
 const { emptyState } = await load("state");
 const { RowReader, makeTable, newRow } = await load("table");
@@ -90,4 +90,35 @@ test("a kept plan is compared by dates, and not by steps from another start", as
   const next = [{ ...rows[0], left: "done" }, rows[1], { ...rows[2], time: "3 h" }];
   const { moved, done, gone, added } = comparePlans(kept, await inTurn(next, later));
   assert.deepEqual([[...moved], done, gone, added], [[[1, 1]], ["A"], [], []]);
+});
+
+test("a job that is ticked off is done, and the rest goes on from now in its order", async () => {
+  const rows = [{ name: "A", time: "3 h", due: "16" }, { name: "B", time: "2 h", due: "16" },
+    { name: "C", time: "4 h", due: "2026-12-01" }].map((row) => newRow(row));
+  const state = { ...emptyState(), settings: SETTINGS, rows };
+  const plan = await inTurn(rows, calendar);
+  const patch = tickedOff(state, calendar, plan, 1, null, new Date(2026, 10, 30, 11, 40));
+  assert.deepEqual(patch.rows.map((row) => row.left), ["", "done", ""]);
+  assert.deepEqual(patch.rows.map((row) => row.due),
+    ["2026-12-01 17:00", "2026-12-01 17:00", "2026-12-01"]);
+  assert.deepEqual(patch.own, [rows.map(({ id }) => id)]);
+  assert.equal(patch.settings.startTime, "13:00");
+  const early = tickedOff(state, calendar, plan, 0, null, new Date(2026, 10, 29, 9, 0));
+  assert.deepEqual([early.settings, early.rows[0].left, early.rows[0].due],
+    [undefined, "done", "16"]);
+  assert.deepEqual(unticked({ rows: patch.rows }, rows[1].id).rows.map((row) => row.left),
+    ["", "", ""]);
+});
+
+test("of a shop the work on one machine is ticked off", async () => {
+  const rows = [newRow({ name: "A", time: "3 h", time2: "1 h" })];
+  const table = await tableOf(rows, calendar, ["name", "time", "time2"]);
+  const list = (...values) => Float64Array.from(values);
+  const plan = makePlan(table, { problem: "F2||Cmax", jobs: 1, machines: 2, value: "8",
+    certificate: "", bound: null, job: list(1, 1), machine: list(1, 2), start: list(0, 6),
+    stop: list(6, 8) }, null, calendar, []);
+  const state = { ...emptyState(), settings: SETTINGS, rows };
+  const left = (piece) => tickedOff(state, calendar, plan, 0, piece, new Date(2026, 10, 1))
+    .rows[0].left;
+  assert.deepEqual([left(0), left(1), left(null)], ["0 h; 1 h", "3 h; 0 h", "done"]);
 });

@@ -11,8 +11,10 @@ module in the browser with the native program byte for byte over the examples of
 import functools
 import http.server
 import json
+import os
 import random
 import re
+import shutil
 import subprocess
 import sys
 import threading
@@ -576,6 +578,40 @@ def chart(page):
     expect(page.run("document.querySelectorAll('.chart .links path').length"), 1)
 
 
+@way
+def weeks(page):
+    """A line for each week, with nights and weekends: by keys and mouse as the other lines, at all widths, and in print."""
+    expect(page.run("document.querySelector('#lines [value=weeks]').disabled"), False)
+    page.example(0)
+    page.browser.choose("#lines", "weeks")
+    texts = "[...document.querySelectorAll('.chart .week')].map((each) => each.textContent)"
+    expect(page.run(texts), ["Week 10", "Week 11", "Week 12"])
+    expect(page.run("['night', 'weekend'].map((each) => document.querySelectorAll('.chart .' + each).length)"), [8, 2])
+    expect(page.run("document.querySelectorAll('.chart .mark.due').length"), 12, "each due date once")
+    for width in (360, 768, 1366, 1920):
+        page.browser.size(width, 900)
+        page.run("new Promise((resolve) => setTimeout(resolve, 200))")
+        expect(page.run("document.documentElement.scrollWidth > innerWidth"), False)
+        expect(page.run("new Set([...document.querySelectorAll('.chart .bar')].map((each) => each.dataset.job)).size"), 12)
+    page.run("document.getElementById('chart-frame').focus()")
+    page.browser.press("+")
+    expect(len(page.run(texts)) < 3, True, "zoomed in")
+    page.browser.press("0")
+    expect(page.run(texts), ["Week 10", "Week 11", "Week 12"])
+    page.run("document.querySelector('.bar[data-job=\"2\"]').focus()")
+    page.browser.press("ArrowRight")
+    expect_in("“Business cards Meyer” is moved: allowed", moved(page))
+    expect(jobs_in_bars(page)[:2], [1, 3])
+    page.browser.mouse("mouseReleased", *drag(page, 2, 250))
+    page.wait("document.querySelector('.chart .bar').dataset.job === '0'")
+    page.run("window.dispatchEvent(new Event('beforeprint'))")
+    expect(page.run("document.querySelectorAll('#chart-frame > svg').length"), 3, "pages break between weeks")
+    page.run("window.dispatchEvent(new Event('afterprint'))")
+    page.example(1)
+    expect(page.run("document.querySelector('#lines [value=weeks]').disabled"), True, "plain numbers have no weeks")
+    expect(page.run("document.querySelectorAll('.chart .bar').length"), 4)
+
+
 # ---- moved bars ----
 
 def moved(page):
@@ -757,6 +793,93 @@ def printing(page):
     expect([each for each in names if each.startswith("#")], [], "bars in print with a number in place of a name")
     page.run("window.dispatchEvent(new Event('afterprint'))")
     page.browser.call("Emulation.setEmulatedMedia", media="")
+
+
+def read_code(page):
+    """The text of the code on a picture of the printed page, or None where zbar is missing and can't be installed."""
+    if not shutil.which("zbarimg") and os.geteuid() == 0 and shutil.which("apt-get"):
+        subprocess.run(["apt-get", "install", "-y", "-qq", "--no-install-recommends", "zbar-tools"], capture_output=True, check=False)
+    if not shutil.which("zbarimg"):
+        print("        there is no zbarimg (zbar-tools), so the code is not read back")
+        return None
+    path = Path(page.browser.folder.name) / "sheet.png"
+    page.browser.size(1040, 720, 2)
+    page.run("scrollTo(0, 0)")
+    page.browser.screenshot(path)
+    return subprocess.run(["zbarimg", "-q", "--raw", str(path)], capture_output=True, text=True, check=False).stdout.strip()
+
+
+@way
+def sheet(page):
+    """The printed sheet has a code of the link to its plan, which opens the plan; a link that is too long is said to be so."""
+    page.example(0)
+    page.put(2, "time", "4 h")
+    value = page.plan_value()
+    page.click("#changes button")
+    page.run("window.print = () => { window.hasPrinted = true; }")
+    page.click("#print")
+    page.wait("window.hasPrinted")
+    page.browser.call("Emulation.setEmulatedMedia", media="print")
+    page.run("window.dispatchEvent(new Event('beforeprint'))")
+    expect_in("on a phone, open the page there and paste the text of the code.", page.text("#sheet-top"))
+    page.run("new Promise((resolve) => setTimeout(resolve, 200))")
+    code = read_code(page)
+    page.run("window.dispatchEvent(new Event('afterprint'))")
+    expect(page.run("document.querySelectorAll('.code').length"), 0)
+    page.browser.call("Emulation.setEmulatedMedia", media="")
+    if code is None:
+        return
+    expect(code.split("#plan=")[0], page.address)
+    page.browser.open(code)
+    page.wait_for_value(value)
+    page.fresh()
+    page.browser.paste("body", code)
+    page.wait_for_value(value)
+    expect(page.value(page.cell(2, "time")), "4 h")
+    page.import_cells("Name\tTime\tDue\n" + "\n".join(f"Order {k * k * 7919 % 100003}\t{k % 97 + 1}\t{k * 61 % 500000}" for k in range(700)))
+    page.click("#print")
+    page.wait("window.hasPrinted ?? true")
+    page.run("new Promise((resolve) => setTimeout(resolve, 800))")
+    page.run("window.dispatchEvent(new Event('beforeprint'))")
+    expect_in("and a square code has room for 2,953: save everything on the page as a file", page.run("document.getElementById('sheet-end').textContent"))
+    page.run("window.dispatchEvent(new Event('afterprint'))")
+
+
+@way
+def ticking_off(page):
+    """On a phone jobs are ticked off; the rest goes on from now in its order, and whether it is in time is said."""
+    page.browser.open(page.address, 360, 740)
+    page.wait("document.querySelector('#jobs-table tbody tr')")
+    page.example(0)
+    page.run(CLOCK)
+    expect(page.run("document.querySelectorAll('#list .tick input').length"), 12)
+    page.click('#list [aria-label="Business cards Meyer is done"]')
+    page.wait("/^1 of 12 done/.test(document.getElementById('ticked').innerText)")
+    expect_in("1 of 12 done. The rest, from Tue 4 Mar 10:00 in this order: 7 jobs late, by up to 2 d 3 h.", page.text("#ticked"))
+    expect_in("Your plan. Maximum lateness:", headline(page))
+    expect(page.texts("#list tbody th")[0], "Plates, spring catalogue")
+    expect(page.run("document.documentElement.scrollWidth"), 360)
+    page.click('#list [aria-label="Plates, spring catalogue is done"]')
+    page.wait("/^2 of 12 done/.test(document.getElementById('ticked').innerText)")
+    page.click("#ticked input")
+    page.wait("/^1 of 12 done/.test(document.getElementById('ticked').innerText)")
+    expect(page.texts("#ticked label"), ["Business cards Meyer"])
+    page.click("#undo")
+    page.click("#undo")
+    page.click("#undo")
+    page.wait_for_value("11 h")
+    expect(page.text("#ticked"), "")
+    page.example(1)
+    expect(page.run("document.getElementById('tick-label').hidden"), True, "no boxes in plain numbers")
+    page.import_cells("Order;Sawing (h);Painting (h);Due\nShelves;2;3;2030-12-10\nDesk;4;1;2030-12-11\n")
+    page.browser.choose("#sort", "machine")
+    page.click('#list [aria-label="Shelves is done"]')
+    page.settle()
+    expect(page.value(page.cell(1, "left")), "0 h; 3 h")
+    page.wait("/begun/.test(document.getElementById('headline').textContent)")
+    page.click('#list tbody tr:last-child [type="checkbox"]')
+    page.settle()
+    expect(page.value(page.cell(2, "left")), "4 h; 0 h")
 
 
 # ---- files and links ----

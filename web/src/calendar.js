@@ -73,6 +73,7 @@ export function makeCalendar(settings) {
     dayMinutes,
     sizes: { min: 1, h: 60, d: dayMinutes, w: dayMinutes * settings.days.length },
     spans: hours.spans,
+    weekdays: [1, 2, 3, 4, 5, 6, 0].filter((day) => settings.days.includes(day)),
     isWorking: (day) => settings.days.includes(weekdayOf(day)) && !off.days.has(day),
     ahead: [], back: [], aheadTo: start.day, backTo: start.day,
     dayFirst: settings.dayFirst,
@@ -245,6 +246,47 @@ export function breaks(calendar, from, to, most) {
   }
   const shown = found.length <= most ? found : found.filter(({ isLong }) => isLong);
   return shown.length <= most ? shown : [];
+}
+
+/**
+ * The weeks from one step to another, each from its first working day to its last.
+ * @param {number} most of them that are wanted
+ * @returns {{words: string, days: {step: number, column: number, words: string[]}[]}[]} the days of
+ *   work with the steps at which they begin, their places among the working days of a week, and
+ *   their words from long to short
+ */
+export function weeksOf(calendar, from, to, most) {
+  const perDay = calendar.dayMinutes / calendar.stepMinutes;
+  const offset = calendar.origin / calendar.stepMinutes;
+  const mondayOf = (day) => day - (weekdayOf(day) + 6) % 7;
+  let k = Math.floor((from + offset) / perDay);
+  const first = workingDay(calendar, k);
+  while (first !== null && workingDay(calendar, k - 1) >= mondayOf(first)) k--;
+  const weeks = [];
+  for (let monday = null; ; k++) {
+    const day = workingDay(calendar, k);
+    if (day === null) return weeks;
+    const step = k * perDay - offset;
+    if (mondayOf(day) !== monday) {
+      if (step >= to || weeks.length === most) return weeks;
+      monday = mondayOf(day);
+      weeks.push({ words: weekWords(monday), days: [] });
+    }
+    weeks.at(-1).days.push({ step, column: calendar.weekdays.indexOf(weekdayOf(day)),
+      words: shorter(calendar, day) });
+  }
+}
+
+/** A week by its number, as most of Europe counts. */
+function weekWords(monday) {
+  const first = dayNumber(fromDay(monday + 3).year, 1, 1);
+  return `Week ${Math.floor((monday + 3 - first) / 7) + 1}`;
+}
+
+/** A day in words from long to short. */
+function shorter(calendar, day) {
+  const { date } = fromDay(day);
+  return [dayText(calendar, day), `${WEEKDAYS[weekdayOf(day)]} ${date}`, String(date)];
 }
 
 /** A number of steps as working time, such as "1 d 3 h"; a number without a calendar. */

@@ -30,12 +30,18 @@ const MOST_LINKS = 300;
 const MOST_LINKED = 20000;
 const MOST_NAMED = 100;
 const MOST_LABEL = 140;
+const RIGHT = 14;
+const ROOM_FOR_WEEK = 32;
+const WIDEST_DAYS = ["Wed 28 Nov 2028", "Wed 28", ""];
+// Less than any time that is drawn: a break at the end of a week is within it.
+const HARDLY = 0.001;
 
 /**
  * What of a plan is drawn, and how.
  * @typedef {object} View
  * @property {number} from @property {number} to the window in time steps
  * @property {number} lines into how many lines it is folded
+ * @property {object[]} [weeks] in place of lines: a line for each week, as `weeksOf` gives them
  * @property {number} width in pixels
  * @property {boolean} marks whether due and release dates are marked
  * @property {boolean} isPrint whether it is for paper, with lower rows
@@ -56,12 +62,38 @@ export function drawChart(plan, view, scale = 1) {
     viewBox: `0 0 ${view.width} ${frame.height}`,
     "font-family": 'system-ui, "DejaVu Sans", sans-serif', "font-size": TEXT,
   }, patterns());
-  const span = (view.to - view.from) / view.lines;
-  for (let line = 0; line < view.lines; line++) {
-    const from = view.from + line * span;
-    chart.append(drawLine(plan, frame, { from, to: from + span, top: line * frame.lineHeight }));
-  }
+  frame.lines.forEach((line, k) => chart.append(drawLine(plan, frame,
+    { ...line, top: k * frame.lineHeight })));
   return chart;
+}
+
+/** The lines of a chart: each has parts of time, which begin at a place on it. */
+function linesOf(plan, view, left, pixels) {
+  if (view.weeks) return view.weeks.map((week) => weekLine(plan, week, left, pixels));
+  const span = (view.to - view.from) / view.lines;
+  return Array.from({ length: view.lines }, (_, line) => {
+    const from = view.from + line * span;
+    return { parts: [{ from, to: from + span, left }] };
+  });
+}
+
+/** A line of a week: days that follow one another are one part, and days off leave their room. */
+function weekLine({ calendar, length }, { words, days }, left, pixels) {
+  const perDay = calendar.dayMinutes / calendar.stepMinutes;
+  const at = (column) => left + column * perDay * pixels;
+  const parts = [];
+  let last = null;
+  for (const { step, column } of days) {
+    const isNext = last !== null && column === last + 1;
+    if (isNext) parts.at(-1).to = step + perDay;
+    else parts.push({ from: step, to: step + perDay, left: at(column) });
+    last = column;
+  }
+  const first = parts[0];
+  const gone = Math.min(Math.max(0, -first.from), first.to - first.from);
+  Object.assign(first, { from: first.from + gone, left: first.left + gone * pixels });
+  return { parts: parts.filter(({ from, to }) => from < to && from < Math.max(1, length)),
+    words, days: days.map((day) => ({ ...day, left: at(day.column) })) };
 }
 
 /**
@@ -117,45 +149,65 @@ export function linesForNames(plan, view, page) {
 export function placeAt(plan, view, x, y) {
   const frame = frameOf(plan, view);
   const within = (number, most) => Math.min(Math.max(0, Math.floor(number)), most);
-  const line = within(y / frame.lineHeight, view.lines - 1);
+  const line = within(y / frame.lineHeight, frame.lines.length - 1);
   const row = (y - line * frame.lineHeight - AXIS) / frame.rowHeight;
-  const from = view.from + line * (view.to - view.from) / view.lines;
+  const { parts } = frame.lines[line];
+  const { from, to, left } = parts.findLast((part) => part.left <= x) ?? parts[0];
   return { machine: within(row, plan.machines - 1) + 1,
-    step: from + (x - frame.left) / frame.pixels };
+    step: Math.min(to, from + (x - left) / frame.pixels) };
 }
 
 /** Where the row of a machine is at a time: the point and the height of the row. */
 export function pointOf(plan, view, machine, step) {
   const frame = frameOf(plan, view);
-  const span = (view.to - view.from) / view.lines;
-  const line = Math.min(Math.max(0, Math.floor((step - view.from) / span)), view.lines - 1);
-  return { x: round(frame.left + (step - view.from - line * span) * frame.pixels),
-    y: line * frame.lineHeight + AXIS + (machine - 1) * frame.rowHeight, height: frame.row };
+  const { lines } = frame;
+  const line = Math.max(0, lines.findLastIndex(({ parts }) => parts[0].from <= step));
+  const { parts } = lines[line];
+  const { from, left } = parts.findLast((part) => part.from <= step) ?? parts[0];
+  return { x: round(left + (step - from) * frame.pixels),
+    y: line * frame.lineHeight + rowTop(frame, machine), height: frame.row };
+}
+
+/** Where the row of a machine is in a line. */
+function rowTop(frame, machine) {
+  return AXIS + (machine - 1) * frame.rowHeight + frame.above;
 }
 
 function frameOf(plan, view) {
   const [, high] = ROW_HEIGHTS.find(([most]) => plan.machines <= most);
-  const row = view.isPrint ? Math.min(high, PRINTED_ROW) : high;
-  const share = (view.to - view.from) / Math.max(1, plan.length) / view.lines / plan.machines;
+  const row = view.isPrint || view.weeks ? Math.min(high, PRINTED_ROW) : high;
+  const span = view.weeks ? weekSteps(plan.calendar) : (view.to - view.from) / view.lines;
+  const share = span / Math.max(1, plan.length) / plan.machines;
+  const isReleased = plan.usesRelease && plan.jobs.some((job) => job.hasRelease);
   const hasMarks = view.marks && row >= 18 && plan.jobs.length * share * ROOM_FOR_MARK < view.width
-    && plan.jobs.some((job) => job.due !== null || job.hasRelease && plan.usesRelease);
-  const labels = labelWidth(plan, view.width);
-  const rowHeight = row + (hasMarks ? LANE : 0) + 4;
+    && (isReleased || plan.jobs.some((job) => job.due !== null));
+  const left = labelWidth(plan, view);
+  const above = hasMarks && isReleased ? LANE : 0;
+  const rowHeight = row + (hasMarks ? LANE : 0) + above + 4;
   const lineHeight = AXIS + plan.machines * rowHeight + GAP;
+  const pixels = (view.width - left - RIGHT) / span;
+  const lines = linesOf(plan, view, left, pixels);
   return {
-    row, rowHeight, lineHeight, hasMarks, left: labels, right: 14, isMovable: view.isMovable,
-    isNarrow: view.width < 500,
-    width: view.width, height: lineHeight * view.lines,
-    pixels: (view.width - labels - 14) / ((view.to - view.from) / view.lines),
+    row, rowHeight, lineHeight, hasMarks, above, left, pixels, lines, isMovable: view.isMovable,
+    day: view.weeks ? (view.width - left - RIGHT) / plan.calendar.weekdays.length : 0,
+    isNarrow: view.width < 500, width: view.width, height: lineHeight * lines.length,
   };
 }
 
+/** The steps of a week in which every day of the week that is a working day is worked. */
+function weekSteps({ weekdays, dayMinutes, stepMinutes }) {
+  return weekdays.length * dayMinutes / stepMinutes;
+}
+
 /** The room before a row for the machine's name, or on a narrow page for its number. */
-function labelWidth({ machines, names }, width) {
-  if (width < 500 && !names.some(Boolean)) return machines.toString().length * 8 + 16;
+function labelWidth({ machines, names }, { width, weeks }) {
+  const least = weeks && width >= 500 ? textWidth("Week 52", TEXT, true) + 12 : 0;
+  if (width < 500 && !names.some(Boolean)) {
+    return Math.max(machines.toString().length * 8 + 16, weeks ? ROOM_FOR_WEEK : 0);
+  }
   const widths = Array.from({ length: Math.min(machines, MOST_NAMED) },
     (_, k) => textWidth(machineName(names, k + 1), TEXT));
-  return Math.min(Math.max(...widths) + 12, MOST_LABEL, width / 4);
+  return Math.min(Math.max(least, Math.max(...widths) + 12), MOST_LABEL, width / 4);
 }
 
 function patterns() {
@@ -170,19 +222,46 @@ function patterns() {
 
 /** One line of the chart: an axis, and a row for each machine. */
 function drawLine(plan, frame, line) {
-  const x = (step) => frame.left + (step - line.from) * frame.pixels;
   const group = svg("g", { transform: `translate(0 ${line.top})` });
-  group.append(drawAxis(plan, frame, line, x));
-  for (let machine = 1; machine <= plan.machines; machine++) {
-    const top = AXIS + (machine - 1) * frame.rowHeight;
-    group.append(drawRow(plan, frame, { ...line, machine, top, x }));
-  }
-  if (plan.isPreempted && plan.order.length <= MOST_LINKED) {
-    group.append(drawLinks(plan, frame, line, x));
-  }
-  drawBreaks(group, plan, frame, line, x);
-  drawNow(group, plan, frame, line, x);
+  if (line.days) group.append(drawDays(frame, line));
+  line.parts.forEach((part, k) => {
+    const x = (step) => part.left + (step - part.from) * frame.pixels;
+    if (!line.days) group.append(drawAxis(plan, frame, part, x));
+    else drawEnd(group, plan, frame, part, x);
+    for (let machine = 1; machine <= plan.machines; machine++) {
+      const top = rowTop(frame, machine);
+      group.append(drawRow(plan, frame, { ...part, machine, top, x, hasLabel: k === 0 }));
+    }
+    if (plan.isPreempted && plan.order.length <= MOST_LINKED) {
+      group.append(drawLinks(plan, frame, part, x));
+    }
+    const goesOn = line.days && part.to < plan.length;
+    drawBreaks(group, plan, frame, goesOn ? { ...part, to: part.to + HARDLY } : part, x);
+    drawNow(group, plan, frame, part, x);
+  });
   return group;
+}
+
+/** Above a week its number and its days, each at its column. */
+function drawDays(frame, { words, days }) {
+  const group = svg("g", { class: "axis" });
+  const choice = WIDEST_DAYS.findIndex((each) => textWidth(each, TEXT) <= frame.day - 6);
+  group.append(svg("text", { class: "week", x: frame.isNarrow ? 0 : 4, y: AXIS - 8,
+    "font-size": frame.isNarrow ? 10 : TEXT },
+  frame.isNarrow ? words.replace("Week ", "W") : words));
+  for (const { left, words: each } of days) {
+    group.append(
+      svg("path", { class: "grid", d: `M${round(left)} ${AXIS - 18}V${frame.lineHeight - GAP}` }),
+      svg("text", { x: round(left + 3), y: AXIS - 8 }, each[choice]));
+  }
+  return group;
+}
+
+/** The end of the plan, where it lies in a part of a week. */
+function drawEnd(group, plan, { lineHeight }, { from, to }, x) {
+  if (plan.length <= from || plan.length > to) return;
+  group.append(svg("path", { class: "end",
+    d: `M${round(x(plan.length))} ${AXIS - 6}V${lineHeight - GAP}` }));
 }
 
 /**
@@ -195,7 +274,7 @@ function drawBreaks(group, plan, frame, line, x) {
   const most = frame.width / ROOM_FOR_BREAK;
   for (const { step, isLong } of breaks(plan.calendar, line.from, end, most)) {
     for (let k = 0; k < plan.machines; k++) {
-      const top = AXIS + k * frame.rowHeight;
+      const top = rowTop(frame, k + 1);
       const [high, low] = [top + 1, top + frame.row - 1];
       const at = `M${round(x(step))} `;
       group.append(svg("path", { class: isLong ? "weekend" : "night", d: frame.row < 26
@@ -273,8 +352,8 @@ function drawRow(plan, frame, row) {
   const left = row.x(row.from);
   const right = row.x(Math.min(row.to, Math.max(plan.length, row.from)));
   group.append(
-    svg("text", { class: "label", x: frame.left - 6, y: frame.row / 2 + 4, "text-anchor": "end" },
-      frame.row < 14 && row.machine % 5 !== 1 ? "" : label),
+    row.hasLabel ? svg("text", { class: "label", x: frame.left - 6, y: frame.row / 2 + 4,
+      "text-anchor": "end" }, frame.row < 14 && row.machine % 5 !== 1 ? "" : label) : "",
     svg("rect", { class: "ground", x: round(left), width: round(right - left), height: frame.row }),
     svg("rect", { class: "idle", x: round(left), width: round(right - left), height: frame.row,
       fill: "url(#idle)" }));
@@ -344,7 +423,7 @@ function drawBar(group, plan, frame, row, piece) {
   const left = row.x(Math.max(start, row.from));
   const width = Math.max(1, row.x(Math.min(stop, row.to)) - left);
   const late = lateness(plan, job);
-  const isLate = late !== null && late > 0;
+  const isLate = late !== null && stop > plan.jobs[job].due;
   const inset = width > 8 ? 0.75 : 0;
   const bar = svg("rect", {
     class: `bar fill${plan.colour[job] ?? 0}${isLate ? " late" : ""}${width < 6 ? " thin" : ""}`,
@@ -354,9 +433,8 @@ function drawBar(group, plan, frame, row, piece) {
   }, svg("title", {}, barTitle(plan, job, row.machine, start, stop)));
   group.append(bar);
   if (isLate && width > 3) {
-    const height = frame.row < 14 ? 2 : 4;
-    group.append(svg("rect", { class: "late-edge", x: round(left + inset),
-      y: frame.row - height - 0.75, width: round(width - 2 * inset), height }));
+    group.append(svg("rect", { class: "late-edge", x: round(left + inset), y: 0.75,
+      width: round(width - 2 * inset), height: frame.row < 14 ? 2 : 4 }));
   }
   if (frame.row < 14) return;
   const size = frame.row < 20 ? 10 : TEXT;
@@ -405,7 +483,7 @@ export function latenessWords(calendar, late) {
 
 // ---- due and release dates ----
 
-/** Marks the due and release dates of the jobs of a machine in a lane below its row. */
+/** Marks the dates of the jobs of a machine: due below its row, released above, as the program. */
 function drawMarks(group, plan, frame, row) {
   const [first, last] = plan.rows[row.machine - 1];
   const marked = new Set();
@@ -415,15 +493,17 @@ function drawMarks(group, plan, frame, row) {
     const at = plan.jobs[job];
     if (!at || marked.has(job) || plan.machine[job] !== row.machine) continue;
     marked.add(job);
-    const isHere = (step) => step >= row.from && step <= row.to;
-    if (at.due !== null && isHere(at.due)) marks.push({ step: at.due, job, isDue: true });
-    const isReleased = plan.usesRelease && at.hasRelease && isHere(at.release);
+    const isDue = at.due !== null && at.due <= row.to
+      && (at.due > row.from || at.due === 0 && row.from === 0);
+    if (isDue) marks.push({ step: at.due, job, isDue: true });
+    const isReleased = plan.usesRelease && at.hasRelease && at.release >= row.from
+      && at.release < row.to;
     if (isReleased) marks.push({ step: at.release, job, isDue: false });
     if (marks.length * ROOM_FOR_MARK > frame.width) return;
   }
   marks.sort((a, b) => a.step - b.step).forEach((mark, k) => {
-    const next = k + 1 < marks.length ? row.x(marks[k + 1].step) - 6 : frame.width;
-    drawMark(group, plan, frame, row, mark, next);
+    const next = marks.slice(k + 1).find(({ isDue }) => isDue === mark.isDue);
+    drawMark(group, plan, frame, row, mark, next ? row.x(next.step) - 6 : frame.width);
   });
 }
 
@@ -431,9 +511,8 @@ function drawMarks(group, plan, frame, row) {
 function drawMark(group, plan, frame, row, { step, job, isDue }, next) {
   const { name } = plan.jobs[job];
   const x = row.x(step);
-  const y = frame.row + 3;
-  const shape = isDue ? `M${round(x - 4)} ${y}H${round(x + 4)}L${round(x)} ${y + 8}Z`
-    : `M${round(x - 4)} ${y + 8}H${round(x + 4)}L${round(x)} ${y}Z`;
+  const [tip, base] = isDue ? [frame.row + 3, frame.row + 11] : [-3, -11];
+  const shape = `M${round(x - 4)} ${base}H${round(x + 4)}L${round(x)} ${tip}Z`;
   const isLate = isDue && lateness(plan, job) > 0;
   const words = `${name}: ${isDue ? "due" : "released"} ${momentText(plan.calendar, step, isDue)}`;
   group.append(svg("path", {
@@ -442,8 +521,8 @@ function drawMark(group, plan, frame, row, { step, job, isDue }, next) {
   }, svg("title", {}, words)));
   const label = fitted(name, 10, Math.min(90, next - x - 8));
   if (label === "") return;
-  group.append(svg("text", { class: "mark-text", x: round(x + 6), y: y + 8, "font-size": 10 },
-    label));
+  group.append(svg("text", { class: "mark-text", x: round(x + 6), y: isDue ? base : tip,
+    "font-size": 10 }, label));
 }
 
 /** Joins the pieces of preempted jobs by thin lines. */
@@ -460,7 +539,7 @@ function drawLinks(plan, frame, line, x) {
     if (before === undefined || drawn >= MOST_LINKS) continue;
     const [from, to] = [schedule.stop[before], schedule.start[piece]];
     if (from < line.from || to > line.to) continue;
-    const y = (each) => AXIS + (schedule.machine[each] - 1) * frame.rowHeight + frame.row - 4;
+    const y = (each) => rowTop(frame, schedule.machine[each]) + frame.row - 4;
     if (from === to && y(before) === y(piece)) continue;
     group.append(svg("path", { d: `M${round(x(from))} ${y(before)}L${round(x(to))} ${y(piece)}` }));
     drawn++;

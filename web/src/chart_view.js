@@ -1,7 +1,7 @@
 // The chart on the page: its window of time, zoom by buttons, keys and the mouse, and printing.
 
 import { drawChart, goodLines, latenessWords, linesForNames } from "./chart.js";
-import { lengthText, momentText } from "./calendar.js";
+import { lengthText, momentText, weeksOf } from "./calendar.js";
 import { whyFixed } from "./moving.js";
 import { lateness } from "./plan.js";
 import { html } from "./svg.js";
@@ -9,6 +9,7 @@ import { html } from "./svg.js";
 const PRINT_WIDTH = 1020;
 // What a page of A4 leaves for the chart and the list below the measures.
 const PRINT_HEIGHT = 520;
+const MOST_WEEKS = 26;
 const KEYS = { "+": "in", "=": "in", "-": "out", "−": "out", 0: "all", ArrowLeft: "left",
   ArrowRight: "right" };
 
@@ -67,22 +68,37 @@ export class ChartView {
     const view = { from: this.from, to: this.to, width: this.drawnWidth / scale,
       marks: this.marks.checked, isPrint: width !== null,
       isMovable: width === null && this.fixed === "" };
-    const chosen = Number(this.lines.value);
-    const lines = Math.min(Math.max(1, Math.floor(this.to - this.from)), chosen
-      || (width ? linesForNames(this.plan, view, PRINT_HEIGHT)
-        : goodLines(this.plan, view, Infinity)));
-    this.view = { ...view, lines };
+    this.view = { ...view, ...this.linesOf(view) };
     this.scale = scale;
-    this.chart = drawChart(this.plan, this.view, scale);
+    const { weeks } = this.view;
+    const charts = view.isPrint && weeks
+      ? weeks.map((week) => drawChart(this.plan, { ...this.view, weeks: [week] }, scale))
+      : [drawChart(this.plan, this.view, scale)];
+    [this.chart] = charts;
     const focused = this.frame.contains(document.activeElement)
       ? document.activeElement.dataset.job : undefined;
-    this.frame.replaceChildren(this.chart);
+    this.frame.replaceChildren(...charts);
     this.frame.setAttribute("role", view.isMovable ? "group" : "img");
     this.frame.setAttribute("aria-label", this.describe());
     this.drawLegend();
     this.mark();
     if (focused !== undefined) (this.barOf(focused) ?? this.frame).focus();
     this.onDraw();
+  }
+
+  /** The lines of the chart as they are chosen: weeks, so many, or as many as names need. */
+  linesOf(view) {
+    const { plan } = this;
+    this.lines.querySelector("[value=weeks]").disabled = plan.calendar === null;
+    if (this.lines.value === "weeks" && plan.calendar) {
+      const weeks = weeksOf(plan.calendar, this.from, this.to, MOST_WEEKS);
+      const end = weeks.at(-1)?.days.at(-1).step ?? this.to;
+      if (weeks.length === MOST_WEEKS) this.to = Math.min(this.to, Math.max(end, this.from + 1));
+      if (weeks.length > 0) return { weeks, lines: weeks.length };
+    }
+    const lines = Number(this.lines.value) || (view.isPrint
+      ? linesForNames(plan, view, PRINT_HEIGHT) : goodLines(plan, view, Infinity));
+    return { lines: Math.min(Math.max(1, Math.floor(this.to - this.from)), lines) };
   }
 
   describe() {
@@ -175,12 +191,15 @@ export class ChartView {
     const item = (kind, words) => html("span", { class: "key" },
       html("span", { class: `swatch ${kind}` }), ` ${words}`);
     const place = document.getElementById("legend");
-    place.replaceChildren(...(plan.hasIdle ? [item("swatch-idle", "idle")] : []),
+    const isPart = this.view.weeks && this.to < plan.length;
+    place.replaceChildren(...(isPart ? [html("span", {}, `${this.view.weeks.length} weeks, until `
+      + `${momentText(plan.calendar, Math.round(this.to), true)}; ▶ shows later ones`)] : []),
+      ...(plan.hasIdle ? [item("swatch-idle", "idle")] : []),
       ...(hasLate ? [item("swatch-late", "late job")] : []),
-      ...(plan.jobs.some((job) => job.due !== null) ? [html("span", {}, "▼ due")] : []),
-      ...(plan.usesRelease ? [html("span", {}, "▲ released")] : []),
-      ...(this.chart.querySelector(".night") ? [html("span", {}, "╷ night")] : []),
-      ...(this.chart.querySelector(".weekend") ? [html("span", {}, "┃ weekend, days off")] : []),
-      ...(this.chart.querySelector(".many-frame") ? [item("swatch-many", "many short jobs")] : []));
+      ...(plan.jobs.some((job) => job.due !== null) ? [html("span", {}, "▲ due")] : []),
+      ...(plan.usesRelease ? [html("span", {}, "▼ released")] : []),
+      ...(this.frame.querySelector(".night") ? [html("span", {}, "╷ night")] : []),
+      ...(this.frame.querySelector(".weekend") ? [html("span", {}, "┃ weekend, days off")] : []),
+      ...(this.frame.querySelector(".many-frame") ? [item("swatch-many", "many short jobs")] : []));
   }
 }

@@ -9,6 +9,8 @@ import {
 
 const LARGEST_FILE = 67108864;
 const MARK = "#plan=";
+// The text of a code that was scanned, or a link that was copied.
+const LINK = /^\s*\S+#plan=([\w-]+)\s*$/;
 const UNSAVED = "What was here before is not saved: Undo brings it back.";
 
 export class Files {
@@ -100,6 +102,13 @@ export class Files {
   paste(event) {
     const text = event.clipboardData?.getData("text/plain") ?? "";
     const { target } = event;
+    const link = LINK.exec(text);
+    if (link) {
+      event.preventDefault();
+      this.page.importView.dialog.close();
+      this.openPacked(link[1]);
+      return;
+    }
     const isField = target.closest?.("input, textarea, select, dialog");
     const isCell = target.closest?.("#jobs-table") && /\t|\n./.test(text);
     if (text === "" || isField && !isCell) return;
@@ -107,16 +116,17 @@ export class Files {
     this.openText(text);
   }
 
-  /** Opens the state that the address carries, if there is one. */
+  /** Opens the state that the address carries, if there is one; a link that is pasted, too. */
   async openLink() {
     this.isLinkOpen = false;
-    const isOpened = location.hash.startsWith(MARK) && await this.openPacked();
+    const isOpened = location.hash.startsWith(MARK)
+      && await this.openPacked(location.hash.slice(MARK.length));
     this.isLinkOpen = true;
     return isOpened;
   }
 
-  async openPacked() {
-    const text = await unpackText(location.hash.slice(MARK.length));
+  async openPacked(packed) {
+    const text = await unpackText(packed);
     const state = text === null ? null : readState(text);
     if (state && isSameWork(state, this.page.store.state)) return this.isOpened();
     if (state) {

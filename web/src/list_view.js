@@ -9,24 +9,28 @@ import { lateness } from "./plan.js";
 import { html, setChildren } from "./svg.js";
 
 const MOST_PRINTED = 3000;
+const MOST_TICKED = 60;
 const alphabet = new Intl.Collator(undefined, { numeric: true });
 
 export class ListView {
   /**
-   * @param {(job: number) => void} onChoose told of the job that is clicked
-   * @param {(job: number, way: string) => void} onMove told of a job to move "left" or "right"
+   * @param {object} actions `choose(job)` told of the job that is clicked; `move(job, way)` of a
+   *   job to move "left" or "right"; `tick(job, piece)` of a job that is done, or of its piece where
+   *   one is given; `untick(id)` of the row of a job that is not done after all
    */
-  constructor(onChoose, onMove) {
+  constructor(actions) {
     this.table = document.getElementById("list");
     this.sort = document.getElementById("sort");
     this.lateOnly = document.getElementById("late-only");
     this.workLists = document.getElementById("work-lists");
     this.pager = new Pager(document.getElementById("list-pager"), "Lines", () => this.draw());
-    this.onChoose = onChoose;
-    this.onMove = onMove;
+    this.tick = document.getElementById("tick");
+    this.tick.checked = window.matchMedia("(max-width: 40rem)").matches;
+    this.ticked = document.getElementById("ticked");
+    this.actions = actions;
     this.plan = null;
     this.lines = new Map();
-    for (const input of [this.sort, this.lateOnly]) {
+    for (const input of [this.sort, this.lateOnly, this.tick]) {
       input.addEventListener("change", () => this.arrange());
     }
     window.addEventListener("beforeprint", () => {
@@ -86,6 +90,10 @@ export class ListView {
     if (!this.plan) return;
     const columns = this.isByMachine ? this.pieceColumns() : this.jobColumns();
     if (isPrint && !this.hasWorkLists) columns.push({ head: "Done", wordsOf: () => "" });
+    if (!isPrint && this.isTicking) {
+      columns.unshift({ head: "Done", isTick: true, wordsOf: () => "" });
+    }
+    this.drawTicked();
     this.pager.show(this.order.length);
     const [first, end] = isPrint ? [0, Math.min(MOST_PRINTED, this.order.length)]
       : [this.pager.first, this.pager.end];
@@ -104,7 +112,7 @@ export class ListView {
       const known = before.get(item);
       const job = this.jobOf(item);
       const isSame = known?.job === job && known.words.join("\n") === words.join("\n");
-      this.lines.set(item, isSame ? known : { job, words, line: this.line(job, words, columns) });
+      this.lines.set(item, isSame ? known : { job, words, line: this.line(item, words, columns) });
     }
     setChildren(this.table.tBodies[0], [...this.lines.values()].map(({ line }) => line));
     if (focused) this.focus(focused.job);
@@ -164,18 +172,49 @@ export class ListView {
     return due === null ? "" : momentText(this.plan.calendar, due, true, true);
   }
 
-  line(job, words, columns) {
+  line(item, words, columns) {
+    const job = this.jobOf(item);
     const isLate = lateness(this.plan, job) > 0;
     const cells = words.map((each, place) => {
-      const { head, isName, isLateness } = columns[place];
+      const { head, isName, isLateness, isTick } = columns[place];
       if (isName) {
         return html("th", { scope: "row" }, html("button", { type: "button", class: "link",
-          click: () => this.onChoose(job), keydown: (event) => this.key(event, job) }, each));
+          click: () => this.actions.choose(job), keydown: (event) => this.key(event, job) }, each));
       }
+      if (isTick) return html("td", { class: "tick" }, this.box(item));
       return html("td", { "data-head": head },
         isLateness && isLate ? html("span", { class: "late-words" }, each) : each);
     });
     return html("tr", { class: isLate ? "is-late" : "" }, cells);
+  }
+
+  /** A box to tick off a job, or in the list by machine the work on that machine. */
+  box(item) {
+    const job = this.jobOf(item);
+    const piece = this.isByMachine && this.plan.pieces[job] > 1 ? item : null;
+    return html("input", { type: "checkbox", "aria-label": `${this.plan.jobs[job].name} is done`,
+      change: () => this.actions.tick(job, piece) });
+  }
+
+  /** Whether jobs can be ticked off: not in plain numbers, where no one knows what time it is. */
+  get isTicking() {
+    return this.tick.checked && this.plan.calendar !== null;
+  }
+
+  /** How much is done, whether the rest is in time, and the boxes of what is done. */
+  drawTicked() {
+    const { plan, tick, ticked } = this;
+    tick.closest("label").hidden = plan.calendar === null;
+    const { done } = plan;
+    ticked.replaceChildren();
+    if (done.length === 0 || plan.calendar === null) return;
+    const late = plan.jobs.reduce((count, _, job) => count + (lateness(plan, job) > 0 ? 1 : 0), 0);
+    ticked.append(html("p", { class: late > 0 ? "fault" : "good" }, `${done.length} of `
+      + `${done.length + plan.jobs.length} done. ${restWords(plan, late)}`));
+    if (!tick.checked) return;
+    ticked.append(html("p", { class: "checks" }, done.slice(-MOST_TICKED).map(({ id, name }) =>
+      html("label", {}, html("input", { type: "checkbox", checked: true,
+        change: () => this.actions.untick(id) }), ` ${name}`))));
   }
 
   /** Alt with the arrows moves a job before or behind its neighbour on the machine. */
@@ -183,7 +222,7 @@ export class ListView {
     const way = { ArrowUp: "left", ArrowDown: "right" }[event.key];
     if (!way || !event.altKey) return;
     event.preventDefault();
-    this.onMove(job, way);
+    this.actions.move(job, way);
   }
 
   /** Whether print has a list for each machine: on one machine the list by jobs says it all. */
@@ -244,3 +283,14 @@ export class ListView {
   }
 }
 
+/** Whether what is left is in time, and from when on. */
+function restWords(plan, late) {
+  const { calendar, jobs } = plan;
+  const from = `The rest, from ${momentText(calendar, 0, false)}${plan.isOwn ? " in this order"
+    : ""}`;
+  const all = jobs.map((_, job) => lateness(plan, job)).filter((each) => each !== null);
+  if (all.length === 0) return `${from}, ends ${momentText(calendar, plan.length, true)}.`;
+  const most = lengthText(calendar, Math.abs(Math.max(...all)));
+  if (late > 0) return `${from}: ${late} ${late === 1 ? "job" : "jobs"} late, by up to ${most}.`;
+  return `${from}, is in time, the tightest by ${most}.`;
+}

@@ -15,12 +15,13 @@ import { OwnPlan } from "./own_plan.js";
 import { betterOf, keepPlan, makePlan } from "./plan.js";
 import { PlanView, startOfText } from "./plan_view.js";
 import { PrecedenceView } from "./precedence_view.js";
-import { fromNow } from "./progress.js";
+import { fromNow, tickedOff, unticked } from "./progress.js";
 import { PromiseView } from "./promise_view.js";
 import { columnsUsed, describe, needsMachines, readNotation } from "./problems.js";
 import { ProblemView } from "./problem_view.js";
 import { explainRefusal } from "./refusals.js";
 import { RowsView } from "./rows_view.js";
+import { SheetView } from "./sheet_view.js";
 import { Solving } from "./solving.js";
 import { emptyState, isSameWork } from "./state.js";
 import { Store } from "./store.js";
@@ -51,7 +52,10 @@ class Page {
       keep: () => this.shown && this.store.change({ kept: keepPlan(this.shown.plan) }),
       forget: () => this.store.change({ kept: null }),
       move: (job, target) => this.own.move(job, target),
+      tick: (job, piece) => this.tick(job, piece),
+      untick: (id) => this.store.change(unticked(this.store.state, id)),
     });
+    this.sheet = new SheetView(this.store);
     this.own = new OwnPlan({ store: this.store, request: () => this.now, best: () => this.best,
       shown: () => this.shown, ask: (request) => this.solving.ask(request),
       show: () => this.showOwn(), showing: () => this.showing,
@@ -92,7 +96,7 @@ class Page {
     document.addEventListener("keydown", (event) => this.key(event));
     at("keep-work").addEventListener("change", () =>
       this.keeping.switchTo(at("keep-work").checked));
-    at("print").addEventListener("click", () => window.print());
+    at("print").addEventListener("click", () => this.sheet.print());
     at("title").addEventListener("input", () =>
       this.store.change({ title: at("title").value }, "title"));
     document.addEventListener("click", (event) => {
@@ -314,6 +318,13 @@ class Page {
     this.notify(progressWords(done, begun, isKept));
   }
 
+  /** A job is done, or the piece of it that was ticked: what is left goes on from now. */
+  tick(job, piece) {
+    const { plan } = this.shown;
+    this.store.change(tickedOff(this.store.state, this.made.calendar, plan, job, piece,
+      new Date()));
+  }
+
   addRow(values) {
     const rows = this.store.state.rows.filter((row) => !isEmptyRow(row));
     this.store.change({ rows: [...rows, newRow(values)] });
@@ -341,6 +352,7 @@ class Page {
     this.planView.show(this.shown, this.best, this.store.state.kept);
     this.promiseView.show(this.best.plan);
     this.showPrintHead();
+    this.sheet.prepare();
     this.planView.setBusy(false);
     performance.mark("plan shown");
     hasShown(plan.jobs.length);
@@ -437,7 +449,7 @@ class Page {
     let place = document.getElementById("print-head");
     if (!place) {
       place = html("div", { id: "print-head", class: "print" });
-      document.getElementById("plan").prepend(place);
+      document.getElementById("sheet-top").after(place);
     }
     place.replaceChildren(html("p", { class: "print-title" }, title || "Plan"),
       html("p", {}, `${known ? describe(known) : ""} (${problem}). Printed `

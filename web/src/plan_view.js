@@ -14,15 +14,16 @@ const LONGEST_TEXT = 40000;
 
 export class PlanView {
   /**
-   * @param {object} actions `keep`, `forget`: what the buttons do; `move`, as `MovingView` has it
+   * @param {object} actions `keep`, `forget`: what the buttons do; `move`, as `MovingView` has it;
+   *   `tick`, `untick`, as `ListView` has them
    */
   constructor(actions) {
     this.actions = actions;
     this.at = (id) => document.getElementById(id);
     this.chart = new ChartView();
     this.moving = new MovingView(this.chart, actions.move);
-    this.list = new ListView((job) => this.chart.pointAt(job),
-      (job, way) => this.moving.step(job, way));
+    this.list = new ListView({ choose: (job) => this.chart.pointAt(job),
+      move: (job, way) => this.moving.step(job, way), tick: actions.tick, untick: actions.untick });
     this.plan = null;
   }
 

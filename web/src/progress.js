@@ -4,6 +4,7 @@ import {
   isoDay, lengthText, momentField, momentNow, readDuration, readMoment, stepNow,
 } from "./calendar.js";
 import { plainLetters } from "./lengths.js";
+import { identitiesOf, rowsOf, whyFixed } from "./moving.js";
 
 const LONGEST = 120;
 const DONE = new Set(("done x ok yes ja oui si fertig erledigt fini termine hecho terminado fatto "
@@ -58,22 +59,64 @@ export function fromNow(state, calendar, plan, now) {
   const filled = plan && step > 0 ? leftAt(plan, Math.ceil(step)) : new Map();
   const done = [];
   const begun = [];
-  const rows = state.rows.map((row) => {
-    const changed = { ...row };
-    for (const field of ["due", "release"]) changed[field] = dateOf(calendar, field, row[field]);
+  const patch = startingNow(state, calendar, now);
+  patch.rows = patch.rows.map((row) => {
     const left = filled.get(row.id);
-    if (left && row.left.trim() === "") {
-      changed.left = left;
-      (left === "done" ? done : begun).push(row.name);
-    }
-    return ["due", "release", "left"].some((field) => changed[field] !== row[field]) ? changed
-      : row;
+    if (!left || row.left.trim() !== "") return row;
+    (left === "done" ? done : begun).push(row.name);
+    return { ...row, left };
+  });
+  return { patch, done, begun };
+}
+
+/** The rows and the settings of a plan that starts now, with dates that are written out. */
+function startingNow(state, calendar, now) {
+  const rows = state.rows.map((row) => {
+    const [due, release] = ["due", "release"].map((field) => dateOf(calendar, field, row[field]));
+    return due === row.due && release === row.release ? row : { ...row, due, release };
   });
   const { day, clock } = momentNow(calendar, now);
   const two = (number) => String(number).padStart(2, "0");
-  const settings = { ...state.settings, start: isoDay(day),
-    startTime: `${two(Math.floor(clock / 60))}:${two(clock % 60)}` };
-  return { patch: { rows, settings }, done, begun };
+  return { rows, settings: { ...state.settings, start: isoDay(day),
+    startTime: `${two(Math.floor(clock / 60))}:${two(clock % 60)}` } };
+}
+
+/**
+ * What becomes of a state when a job of its plan is ticked off: once the plan has begun, the rest
+ * goes on from now, in the order that it has.
+ * @param {import("./state.js").State} state
+ * @param {object} calendar of the state
+ * @param {object} plan that is shown
+ * @param {number} job
+ * @param {?number} piece of the job that alone is done; null for the whole job
+ * @param {Date} now
+ * @returns {object} the parts that change
+ */
+export function tickedOff(state, calendar, plan, job, piece, now) {
+  const patch = stepNow(calendar, now) > 0 ? startingNow(state, calendar, now)
+    : { rows: state.rows };
+  const { id } = plan.jobs[job];
+  const left = piece === null ? "done" : leftBeside(plan, job, piece);
+  patch.rows = patch.rows.map((row) => row.id === id ? { ...row, left } : row);
+  const own = whyFixed(plan) === "" ? identitiesOf(rowsOf(plan), plan.jobs) : null;
+  return { ...patch, own };
+}
+
+/** A job that was ticked off is not done after all. */
+export function unticked(state, id) {
+  return { rows: state.rows.map((row) => row.id === id ? { ...row, left: "" } : row) };
+}
+
+/** What is left of a job without one of its pieces: “done”, or a length for each machine. */
+function leftBeside({ problem, schedule, calendar }, job, piece) {
+  const isShop = /^\s*[FO]/.test(problem);
+  const left = isShop ? [0, 0] : [0];
+  schedule.job.forEach((number, each) => {
+    if (number !== job + 1 || each === piece) return;
+    left[isShop ? schedule.machine[each] - 1 : 0] += schedule.stop[each] - schedule.start[each];
+  });
+  return left.every((each) => each === 0) ? "done"
+    : left.map((each) => lengthText(calendar, each)).join("; ");
 }
 
 /** A date that is counted from the start, written out; every other text as it is. */

@@ -13,7 +13,8 @@ let solver = null;
 /** Unpacks the module: its bytes, deflated, as letters; or it is a compiled one already. */
 async function unpack(text) {
   if (text instanceof WebAssembly.Module) return text;
-  const stream = new Blob([packedBytes(text)]).stream().pipeThrough(new DecompressionStream("deflate-raw"));
+  const stream = new Blob([packedBytes(text)]).stream()
+    .pipeThrough(new DecompressionStream("deflate-raw"));
   return new Uint8Array(await new Response(stream).arrayBuffer());
 }
 
