@@ -320,8 +320,9 @@ class Page {
 
   /** A job is done, or the piece of it that was ticked: what is left goes on from now. */
   tick(job, piece) {
-    const { plan } = this.shown;
-    this.store.change(tickedOff(this.store.state, this.made.calendar, plan, job, piece,
+    const { calendar } = this.made;
+    if (!this.shown || !calendar) return;
+    this.store.change(tickedOff(this.store.state, calendar, this.shown.plan, job, piece,
       new Date()));
   }
 
@@ -352,7 +353,6 @@ class Page {
     this.planView.show(this.shown, this.best, this.store.state.kept);
     this.promiseView.show(this.best.plan);
     this.showPrintHead();
-    this.sheet.prepare();
     this.planView.setBusy(false);
     performance.mark("plan shown");
     hasShown(plan.jobs.length);

@@ -17,11 +17,12 @@ export class SheetView {
     this.store = store;
     this.state = null;
     this.link = null;
+    store.listen(() => this.prepare());
     window.addEventListener("beforeprint", () => this.draw());
     window.addEventListener("afterprint", () => this.clear());
   }
 
-  /** Told of each plan that is shown: its link is made a little later. */
+  /** After each change the link is made a little later. */
   prepare() {
     clearTimeout(this.timer);
     this.timer = setTimeout(() => this.make(), REST);
