@@ -3,7 +3,7 @@ import assert from "node:assert/strict";
 import { test } from "node:test";
 import { load, tableOf } from "./modules.mjs";
 
-const { defaultSettings, lengthText, makeCalendar, readMoment } = await load("calendar");
+const { assumedOf, defaultSettings, lengthText, makeCalendar, readMoment } = await load("calendar");
 const { machineName, machineNames, machineText } = await load("machines");
 const { betterOf, lateness, makePlan, measures } = await load("plan");
 const { planAsCsv } = await load("saving");
@@ -45,6 +45,18 @@ test("a due date within a time step is the end of the step before, a release its
 test("lengths are in working days of the calendar, from two on", () => {
   assert.deepEqual([1, 15, 16, 31, 32, 35, -34].map((steps) => lengthText(calendar, steps)),
     ["30 min", "7 h 30 min", "8 h", "15 h 30 min", "2 d", "2 d 1 h 30 min", "−2 d 1 h"]);
+});
+
+test("a unit or a year that nobody wrote stands beside its number", () => {
+  const { calendar: inMinutes } = makeCalendar({ ...defaultSettings(), step: "5", plain: "min",
+    start: "2026-11-30" });
+  for (const [field, text, hours, minutes] of [["time", "30", "h", "min"], ["time", "3 h", "", ""],
+    ["time2", "90", "h", "min"], ["due", "Thu 3 Dec", "2026", "2026"], ["due", "24", "h", "min"],
+    ["release", "3 Dec 2026", "", ""], ["weight", "3", "", ""], ["due", "", "", ""]]) {
+    assert.deepEqual([calendar, inMinutes].map((each) => assumedOf(each, field, text)),
+      [hours, minutes], `${field} ${text}`);
+  }
+  assert.equal(assumedOf(null, "time", "3"), "");
 });
 
 test("machines have their own names, and a number where they have none", () => {

@@ -1263,6 +1263,20 @@ def list_keeps_its_columns(page):
 
 
 @way
+def late_jobs_only(page):
+    """The list of late jobs has none that is done just on time, and is sorted as is chosen."""
+    page.example(0)
+    page.browser.choose("#sort", "lateness")
+    expect(page.texts("#list tbody td:nth-child(3)")[:5], ["11 h late", "8 h late", "7 h late", "just on time", "2 h early"])
+    page.click("#late-only")
+    expect(page.texts("#list tbody td:nth-child(3)"), ["11 h late", "8 h late", "7 h late"])
+    page.browser.choose("#sort", "name")
+    expect(page.texts("#list tbody th"), ["Annual report, inside", "School newspaper", "Wedding invitations"])
+    page.browser.choose("#sort", "machine")
+    expect(len(page.texts("#list tbody th")), 3)
+
+
+@way
 def jobs_keep_their_columns(page):
     """Five columns of the job table are not cut off at the widths of laptops."""
     for number, notation in ((0, "1|prec|sumwT"), (3, "F2||Cmax")):
