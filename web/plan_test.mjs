@@ -17,13 +17,13 @@ const { calendar } = makeCalendar({ ...defaultSettings(), step: "30", start: "20
 
 /** A flow shop of two jobs, of which the second is late by half an hour and the first in time. */
 async function shop() {
-  const rows = [{ name: "A", time: "1 h", time2: "2 h", due: "2026-11-30 11:00" },
-    { name: "B", time: "1 h", time2: "7 h", due: "2026-12-01 09:30" }].map((row) => newRow(row));
+  const rows = [{ name: "A", time: "1 h", time2: "3 h", due: "2026-11-30 12:00" },
+    { name: "B", time: "1 h", time2: "7 h", due: "2026-12-01 10:30" }].map((row) => newRow(row));
   const table = await tableOf(rows, calendar, ["name", "time", "time2", "due"]);
   const list = (...values) => Float64Array.from(values);
   return makePlan(table, { problem: "F2||Lmax", jobs: 2, machines: 2, value: "1",
     certificate: "", bound: { value: "0", certificate: "" }, job: list(1, 2, 1, 2),
-    machine: list(1, 1, 2, 2), start: list(0, 2, 2, 6), stop: list(2, 4, 6, 20) }, null, calendar,
+    machine: list(1, 1, 2, 2), start: list(0, 2, 2, 8), stop: list(2, 4, 8, 22) }, null, calendar,
   ["Sawing", ""]);
 }
 
@@ -32,7 +32,7 @@ test("a job that is done just on time is not late", async () => {
   assert.deepEqual([0, 1].map((job) => lateness(plan, job)), [0, 1]);
   const found = new Map(measures(plan).map(({ words, steps, number }) => [words, number ?? steps]));
   assert.deepEqual(["Makespan", "Late jobs", "Maximum lateness", "Total tardiness",
-    "Mean completion time"].map((words) => found.get(words)), [20, "1 of 2", 1, 1, 13]);
+    "Mean completion time"].map((words) => found.get(words)), [22, "1 of 2", 1, 1, 15]);
 });
 
 test("a due date within a time step is the end of the step before, a release its end", () => {
@@ -70,10 +70,10 @@ test("machines have their own names, and a number where they have none", () => {
 test("a file for spreadsheets has a line for each piece, with hours and moments", async () => {
   const [, ...lines] = planAsCsv(await shop(), { delimiter: ";", decimal: "," });
   assert.deepEqual(lines.map((line) => line.trim()), [
-    "A;Sawing;2026-11-30 08:00;2026-11-30 09:00;1;2026-11-30 11:00;2026-11-30 11:00;0;",
-    "B;Sawing;2026-11-30 09:00;2026-11-30 10:00;1;2026-12-01 10:00;2026-12-01 09:30;0,5;late",
-    "A;2;2026-11-30 09:00;2026-11-30 11:00;2;2026-11-30 11:00;2026-11-30 11:00;0;",
-    "B;2;2026-11-30 11:00;2026-12-01 10:00;7;2026-12-01 10:00;2026-12-01 09:30;0,5;late"]);
+    "A;Sawing;2026-11-30 08:00;2026-11-30 09:00;1;2026-11-30 12:00;2026-11-30 12:00;0;",
+    "B;Sawing;2026-11-30 09:00;2026-11-30 10:00;1;2026-12-01 11:00;2026-12-01 10:30;0,5;late",
+    "A;2;2026-11-30 09:00;2026-11-30 12:00;3;2026-11-30 12:00;2026-11-30 12:00;0;",
+    "B;2;2026-11-30 13:00;2026-12-01 11:00;7;2026-12-01 11:00;2026-12-01 10:30;0,5;late"]);
 });
 
 test("a gap is said as a gap, in the plan's own units", () => {

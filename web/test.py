@@ -1580,6 +1580,26 @@ def pictures(page):
     page.run("document.getElementById('plan').scrollIntoView()")
     page.settle()
     page.browser.screenshot(PICTURES / "phone.png")
+    handler = functools.partial(http.server.SimpleHTTPRequestHandler, directory=Path(page.address.removeprefix("file://")).parent)
+    handler.func.log_message = lambda *_: None
+    with http.server.ThreadingHTTPServer(("127.0.0.1", 8000), handler) as server:
+        threading.Thread(target=server.serve_forever, daemon=True).start()
+        picture_of_the_sheet(page, "http://localhost:8000/threefield.html")
+        server.shutdown()
+    page.browser.requests.clear()
+
+
+def picture_of_the_sheet(page, address):
+    """The printed page, with the code of an address that is no file of this machine."""
+    page.browser.open(address, 1040, 720)
+    page.wait("document.querySelector('#jobs-table tbody tr')")
+    page.example(0)
+    page.run("new Promise((resolve) => setTimeout(resolve, 600))")
+    page.browser.call("Emulation.setEmulatedMedia", media="print")
+    page.run("scrollTo(0, 0); document.body.style.padding = '10px'")
+    page.run("new Promise((resolve) => setTimeout(resolve, 300))")
+    page.run("window.dispatchEvent(new Event('beforeprint'))")
+    page.browser.screenshot(PICTURES / "sheet.png")
 
 
 def main(words):
