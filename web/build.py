@@ -14,7 +14,10 @@ one script, this one style and a worker, no network, and no script or markup mad
 import base64
 import hashlib
 import re
+import shutil
+import subprocess
 import sys
+import tempfile
 import zlib
 from pathlib import Path
 
@@ -31,7 +34,7 @@ IMPORT = re.compile(r'^import (\{[^}]*\}|\* as \w+) from "\./(\w+)\.js";\n', re.
 EXPORT = re.compile(r"^export (?=(?:async )?(?:function\*?|const|class) (\w+))", re.MULTILINE)
 COMMENT = re.compile(r"^ *(?://.*|/\*\*(?:[^*]|\*(?!/))*\*/)\n", re.MULTILINE)
 STYLE_COMMENT = re.compile(r"^ *//.*\n|^ */\*[^*]*\*/\n|^ *\n", re.MULTILINE)
-INDENT = re.compile(r"^ +", re.MULTILINE)
+INDENT = re.compile(r"^[ \n]+", re.MULTILINE)
 MODULE_IN_PAGE = re.compile(r'(<script type="text/plain" id="module-bytes">)([^<]*)(</script>)')
 
 
@@ -64,16 +67,16 @@ def wrapped(folder, name):
     imports = []
     for what, other in IMPORT.findall(text):
         target = what.removeprefix("* as ")
-        imports.append(f"const {' '.join(target.split())} = in_{other};\n")
+        imports.append(f"const {' '.join(target.split())} = ${other};\n")
     body = IMPORT.sub("", text)
     names = EXPORT.findall(body)
     if "module.exports = " in body:
-        return f"const in_{name} = (() => {{\nconst module = {{}};\n{body}return module.exports;\n}})();\n"
+        return f"const ${name} = (() => {{\nconst module = {{}};\n{body}return module.exports;\n}})();\n"
     body = EXPORT.sub("", body)
     if re.search(r"^(import|export)\b", body, re.MULTILINE):
         sys.exit(f"build.py: {name}.js imports or exports in a form that this script does not know")
     returned = f"return {{ {', '.join(names)} }};\n" if names else ""
-    return f"const in_{name} = (() => {{\n{''.join(imports)}{body}{returned}}})();\n"
+    return f"const ${name} = (() => {{\n{''.join(imports)}{body}{returned}}})();\n"
 
 
 def script(folder, entry):
@@ -104,10 +107,20 @@ def policy(main, style):
     ])
 
 
+def deflated(module):
+    """Deflated by Debian's zopfli where it is installed, which packs a twentieth smaller, and else by zlib."""
+    if shutil.which("zopfli") is None:
+        deflate = zlib.compressobj(9, zlib.DEFLATED, -15)
+        return deflate.compress(module) + deflate.flush()
+    with tempfile.NamedTemporaryFile() as file:
+        file.write(module)
+        file.flush()
+        return subprocess.run(["zopfli", "--deflate", "-c", file.name], capture_output=True, check=True).stdout
+
+
 def packed(module):
     """The module deflated, as text: how many bytes that are, and two letters for each 13 bits of them, the lowest first."""
-    deflate = zlib.compressobj(9, zlib.DEFLATED, -15)
-    data = deflate.compress(module) + deflate.flush()
+    data = deflated(module)
     bits, held, letters = 0, 0, []
     for byte in [*data, 0, 0]:
         bits |= byte << held
