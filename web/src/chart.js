@@ -491,7 +491,7 @@ function drawMarks(group, plan, frame, row) {
   for (let k = first; k < last; k++) {
     const job = plan.schedule.job[plan.order[k]] - 1;
     const at = plan.jobs[job];
-    if (!at || marked.has(job) || plan.machine[job] !== row.machine) continue;
+    if (!at || marked.has(job)) continue;
     marked.add(job);
     const isDue = at.due !== null && at.due <= row.to
       && (at.due > row.from || at.due === 0 && row.from === 0);
