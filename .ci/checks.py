@@ -21,9 +21,9 @@ INSTALL_SECONDS = 900
 
 
 def has(tool, package):
-    """Whether there is a tool, which is installed where Debian's packages can be."""
+    """Whether there is a tool, which is installed, with what its check needs, where Debian's packages can be."""
     if shutil.which(tool) is None and os.geteuid() == 0 and shutil.which("apt-get"):
-        for words in ["update", "-qq"], ["install", "-y", "-qq", "--no-install-recommends", package]:
+        for words in ["update", "-qq"], ["install", "-y", "-qq", "--no-install-recommends", *package.split()]:
             try:
                 subprocess.run(["apt-get", *words], capture_output=True, timeout=INSTALL_SECONDS)
             except subprocess.TimeoutExpired:
@@ -44,6 +44,7 @@ def checks(program):
         ("plans of every problem that has bounds", [python, "bench/plans.py", program, "11"], None),
         ("an independent checker", [python, "bench/compare_verify.py", program, "1", "1500"], None),
         ("the same status with --explain", [python, "bench/same_status.py", program], None),
+        ("LaTeX of the traces", [python, "bench/latex.py", program], ("pdflatex", "texlive-latex-base poppler-utils")),
         ("the page's modules", ["node", "--test", *sorted(glob.glob("web/*_test.mjs", root_dir=TOP))], ("node", "nodejs")),
         ("the page in a browser", [python, "web/test.py", f"--program={program}"], ("chromium", "chromium")),
     ]

@@ -1,4 +1,5 @@
 //! The board: sentences and tables, as plain text or for LaTeX.
+use crate::latex;
 use crate::table::{Cell, Table};
 use std::alloc::{AllocError, Global};
 use tf_model::ids::JobId;
@@ -11,7 +12,7 @@ pub(crate) const MOST_ROWS: usize = 60;
 pub enum Style {
     /// As plain text, in columns.
     Plain,
-    /// For LaTeX: a paragraph for each sentence, and `tabular`.
+    /// For LaTeX: a paragraph for each sentence, and `tabular`, or `longtable` for long tables.
     Latex,
 }
 
@@ -71,7 +72,22 @@ fn push_lines(page: &mut String, sentence: &str) -> Result<(), AllocError> {
         page.push_str(gap)?;
         page.push_str(word)?;
     }
-    Ok(())
+    page.push('\n')
+}
+
+// The same for LaTeX.
+fn push_paragraph(page: &mut String, alloc: Global, sentence: &str) -> Result<(), AllocError> {
+    let mut columns: usize = 0;
+    let mut shown = String::new(alloc);
+    for word in sentence.split(' ') {
+        shown.clear();
+        latex::push_word(&mut shown, word)?;
+        let (gap, len) = placed(columns, shown.len());
+        columns = len;
+        page.push_str(gap)?;
+        page.push_str(shown.as_str())?;
+    }
+    page.push_str("\n\n")
 }
 
 impl Board {
@@ -98,12 +114,12 @@ impl Board {
 
     /// Ends a sentence: it is written in lines that are not too long.
     pub(crate) fn end_sentence(&mut self) -> Result<(), AllocError> {
-        push_lines(&mut self.page, self.text.as_str())?;
+        match self.style {
+            Style::Plain => push_lines(&mut self.page, self.text.as_str())?,
+            Style::Latex => push_paragraph(&mut self.page, self.alloc, self.text.as_str())?,
+        }
         self.text.clear();
-        self.page.push_str(match self.style {
-            Style::Plain => "\n",
-            Style::Latex => "\n\n",
-        })
+        Ok(())
     }
 
     /// Words, and then a list of jobs, shortened in the middle.

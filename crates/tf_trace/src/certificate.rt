@@ -91,6 +91,13 @@ fn say_pairs(board: &mut Board, task: &Task, value: i128) -> Result<(), AllocErr
 
 fn say_last(board: &mut Board, task: &Task, jobs: &[JobId], value: i64) -> Result<(), AllocError> {
     let work = work_of(task, jobs);
+    if let [job] = jobs {
+        return write!(
+            board.text,
+            "Job {} takes {work}. It completes at {work} or later, and costs at least {value} then.",
+            job.get()
+        );
+    }
     board.list("The jobs", jobs)?;
     let among = if task.class().is_ordered() {
         " has no successor among them,"
@@ -117,12 +124,25 @@ fn say_window(board: &mut Board, task: &Task, jobs: &[JobId]) -> Result<(), Allo
     let bound = i128::from(release)
         .saturating_add(i128::from(work))
         .saturating_sub(i128::from(due));
-    board.list("The jobs", jobs)?;
-    write!(
-        board.text,
-        " are released at {release} or later and take {work} together, and each is due at {due} or \
-         earlier: {release} + {work} - {due} = {bound}."
-    )
+    if let [job] = jobs {
+        write!(
+            board.text,
+            "Job {} is released at {release}, takes {work}, and is due at {due}: ",
+            job.get()
+        )?;
+    } else {
+        board.list("The jobs", jobs)?;
+        write!(
+            board.text,
+            " are released at {release} or later and take {work} together, and each is due at {due} \
+             or earlier: "
+        )?;
+    }
+    if due < 0 {
+        write!(board.text, "{release} + {work} - ({due}) = {bound}.")
+    } else {
+        write!(board.text, "{release} + {work} - {due} = {bound}.")
+    }
 }
 
 fn say_split(board: &mut Board, task: &Task, split: &Split) -> Result<(), AllocError> {

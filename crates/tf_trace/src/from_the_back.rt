@@ -1,15 +1,13 @@
 //! Lawler's algorithm for the greatest cost on one machine.
 use crate::board::{Board, MOST_ROWS, Visible, shown};
 use crate::exchange::say_tie;
+use crate::shortened::Shortened;
 use crate::table::Cell;
 use crate::trace::{price_at, row_of, say_preemption};
 use std::alloc::{AllocError, Global};
 use tf_model::ids::JobId;
 use tf_model::task::Task;
 use tf_schedule::piece::Piece;
-
-/// The most candidates of a step that are shown.
-const MOST_CANDIDATES: usize = 8;
 
 /// The steps from the last place to the first, and then the schedule.
 pub(crate) fn write_lawler(
@@ -136,7 +134,7 @@ fn push_step(
     place: usize,
     piece: &Piece,
 ) -> Result<(), AllocError> {
-    let candidates = candidates_at(board.alloc, task, places, place, piece.stop)?;
+    let candidates = candidates_at(board.alloc, task, places, place, piece)?;
     board.table.row(&[
         Cell::Number(place as i128 + 1),
         Cell::Number(i128::from(piece.stop)),
@@ -146,31 +144,23 @@ fn push_step(
     ])
 }
 
-// The candidates for a place with what each costs at this time.
+// The candidates for a place with what each costs at the end of the piece of the one that gets it,
+// which is always shown.
 fn candidates_at(
     alloc: Global,
     task: &Task,
     places: &Places,
     place: usize,
-    time: i64,
+    piece: &Piece,
 ) -> Result<String, AllocError> {
-    let mut text = String::new(alloc);
-    let mut count: usize = 0;
+    let mut list = Shortened::new(alloc, piece.job);
     for k in 0..task.len() {
-        if !places.is_candidate(k, place) {
-            continue;
-        }
-        if count < MOST_CANDIDATES {
+        if places.is_candidate(k, place) {
             let job = JobId::at(k);
-            let gap = if count == 0 { "" } else { ", " };
-            write!(text, "{gap}{} ({})", job.get(), price_at(task, job, time))?;
+            list.push(job, price_at(task, job, piece.stop))?;
         }
-        count = count.saturating_add(1);
     }
-    if count > MOST_CANDIDATES {
-        write!(text, ", and {} more", count - MOST_CANDIDATES)?;
-    }
-    Ok(text)
+    list.into_text()
 }
 
 fn show_schedule(board: &mut Board, task: &Task, pieces: &[Piece]) -> Result<(), AllocError> {

@@ -1,15 +1,13 @@
 //! Horn's rule for release dates, preemption and the greatest lateness on one machine.
 use crate::board::{Board, Visible, shown};
 use crate::exchange::say_exchange;
+use crate::shortened::Shortened;
 use crate::table::Cell;
 use std::alloc::{AllocError, Global};
 use tf_model::ids::JobId;
 use tf_model::memory::OutOfMemory;
 use tf_model::task::Task;
 use tf_schedule::piece::Piece;
-
-/// The most jobs of a time that are shown.
-const MOST_WAITING: usize = 8;
 
 /// Each time at which a job starts or goes on, and who waits there.
 pub(crate) fn write_released(
@@ -71,7 +69,7 @@ fn push_event(
     ends: &[i64],
     piece: &Piece,
 ) -> Result<(), AllocError> {
-    let waiting = waiting_at(board.alloc, task, ends, piece.start)?;
+    let waiting = waiting_at(board.alloc, task, ends, piece)?;
     let is_done = ends.get(piece.job.place()) == Some(&piece.stop);
     board.table.row(&[
         Cell::Number(i128::from(piece.start)),
@@ -82,27 +80,23 @@ fn push_event(
     ])
 }
 
-// The jobs that are released by this time and unfinished, with their due dates.
-fn waiting_at(alloc: Global, task: &Task, ends: &[i64], time: i64) -> Result<String, AllocError> {
-    let mut text = String::new(alloc);
-    let mut count: usize = 0;
+// The jobs that are released and unfinished where a piece starts, with their due dates.
+fn waiting_at(
+    alloc: Global,
+    task: &Task,
+    ends: &[i64],
+    piece: &Piece,
+) -> Result<String, AllocError> {
+    let mut list = Shortened::new(alloc, piece.job);
     for k in 0..task.len() {
         let job = JobId::at(k);
         let row = task.job(job);
-        let is_done = matches!(ends.get(k), Some(end) if *end <= time);
-        if is_done || i128::from(row.release) > i128::from(time) {
-            continue;
+        let is_done = matches!(ends.get(k), Some(end) if *end <= piece.start);
+        if !is_done && i128::from(row.release) <= i128::from(piece.start) {
+            list.push(job, i128::from(row.due))?;
         }
-        if count < MOST_WAITING {
-            let gap = if count == 0 { "" } else { ", " };
-            write!(text, "{gap}{} ({})", job.get(), row.due)?;
-        }
-        count = count.saturating_add(1);
     }
-    if count > MOST_WAITING {
-        write!(text, ", and {} more", count - MOST_WAITING)?;
-    }
-    Ok(text)
+    list.into_text()
 }
 
 fn show_jobs(board: &mut Board, task: &Task, ends: &[i64]) -> Result<(), AllocError> {

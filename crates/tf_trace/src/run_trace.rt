@@ -10,7 +10,7 @@ ghost use Rattle.tf_trace.specs.RunTracing.{EndsInValue, IsOfCycle, IsTraceOf};
 
 use crate::board::{Board, Style};
 use crate::trace::write_trace;
-use std::alloc::Global;
+use std::alloc::{AllocError, Global};
 use std::io::{Read, Write};
 use tf_check::answer::Answer;
 use tf_engine::case::{Asked, asked_read};
@@ -58,6 +58,12 @@ fn answer_to(alloc: Global, task: &Task) -> Result<Answer, RunFault>
     Ok(answer)
 }
 
+// A number of things, by their name where there is one.
+fn push_count(text: &mut String, count: u64, name: &str) -> Result<(), AllocError> {
+    let plural = if count == 1 { "" } else { "s" };
+    write!(text, "{count} {name}{plural}")
+}
+
 // The working, and behind it the line of the value.
 fn trace_bytes(
     alloc: Global,
@@ -70,14 +76,11 @@ fn trace_bytes(
     let mut board = Board::new(alloc, style);
     let notation = notation_text(alloc, &asked.problem)?;
     let task = &asked.task;
-    write!(
-        board.text,
-        "Problem {}, {} jobs",
-        notation.as_str(),
-        task.len()
-    )?;
+    write!(board.text, "Problem {}, ", notation.as_str())?;
+    push_count(&mut board.text, task.len() as u64, "job")?;
     if !task.class().is_single() {
-        write!(board.text, " and {} machines", task.machines())?;
+        board.text.push_str(" and ")?;
+        push_count(&mut board.text, u64::from(task.machines()), "machine")?;
     }
     board.text.push('.')?;
     board.end_sentence()?;

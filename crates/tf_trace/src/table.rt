@@ -1,8 +1,12 @@
 //! Tables: headings, and rows of as many cells.
+use crate::latex;
 use std::alloc::{AllocError, Global};
 
 /// The most columns of a table.
 const MOST_COLUMNS: usize = 8;
+
+/// The most lines of a `tabular`, which stands on one page.
+const MOST_LINES: usize = 31;
 
 /// A cell of a row.
 #[derive(Clone, Copy)]
@@ -119,20 +123,59 @@ impl Table {
         column.saturating_add(1) == self.columns
     }
 
-    /// For LaTeX.
+    /// For LaTeX: a long table breaks over pages, with its headings on each.
     pub(crate) fn write_latex(&self, text: &mut String) -> Result<(), AllocError> {
-        text.push_str("\\begin{center}\\begin{tabular}{")?;
+        let is_long = self.text.as_str().split('\n').count() > MOST_LINES + 1;
+        text.push_str(if is_long {
+            "\\begin{longtable}{"
+        } else {
+            "\\begin{center}\\begin{tabular}{"
+        })?;
         for column in 0..self.columns {
-            text.push(if self.is_left(column) { 'l' } else { 'r' })?;
+            text.push_str(if self.is_left(column) {
+                "p{0.45\\linewidth}"
+            } else {
+                "r"
+            })?;
         }
         text.push_str("}\n")?;
-        for (k, row) in self.text.as_str().split('\n').enumerate() {
+        for (line, row) in self.text.as_str().split('\n').enumerate() {
             if !row.is_empty() {
-                write_cells(text, row)?;
-                text.push_str(if k == 0 { " \\\\ \\hline\n" } else { " \\\\\n" })?;
+                self.write_line(text, line, row)?;
+                text.push_str(match (line, is_long) {
+                    (0, true) => " \\hline \\endhead\n",
+                    (0, false) => " \\hline\n",
+                    _ => "\n",
+                })?;
             }
         }
-        text.push_str("\\end{tabular}\\end{center}\n\n")
+        text.push_str(if is_long {
+            "\\end{longtable}\n\n"
+        } else {
+            "\\end{tabular}\\end{center}\n\n"
+        })
+    }
+
+    // A line of a table for LaTeX; the first one holds the headings.
+    fn write_line(&self, text: &mut String, line: usize, row: &str) -> Result<(), AllocError> {
+        for (column, cell) in row.split('\t').enumerate() {
+            text.push_str(if column == 0 { "" } else { " & " })?;
+            text.push_str(if self.is_left(column) {
+                "\\raggedright "
+            } else {
+                ""
+            })?;
+            if line == 0 {
+                latex::push_heading(text, cell)?;
+            } else {
+                push_words(text, cell)?;
+            }
+        }
+        text.push_str(if self.is_ragged {
+            " \\tabularnewline"
+        } else {
+            " \\\\"
+        })
     }
 }
 
@@ -154,10 +197,11 @@ fn push_spaces(text: &mut String, times: usize) -> Result<(), AllocError> {
     Ok(())
 }
 
-fn write_cells(text: &mut String, row: &str) -> Result<(), AllocError> {
-    for (column, cell) in row.split('\t').enumerate() {
-        text.push_str(if column == 0 { "" } else { " & " })?;
-        text.push_str(cell)?;
+// The words of a cell for LaTeX.
+fn push_words(text: &mut String, cell: &str) -> Result<(), AllocError> {
+    for (place, word) in cell.split(' ').enumerate() {
+        text.push_str(if place == 0 { "" } else { " " })?;
+        latex::push_word(text, word)?;
     }
     Ok(())
 }
