@@ -22,13 +22,18 @@ LITERAL = re.compile(r'"((?:[^"\\]|\\.)*)"', re.DOTALL)
 COMMENT = re.compile(r"^\s*//.*$|'\"'", re.MULTILINE)
 HOLE = re.compile(r"\{[^{}]*\}")
 
+# What examples/check_pages.py compares with docs/border.md.
+COMPARED = os.path.join("tf_advice", "src", "border.rt")
+
 # What no command line comes to, with the reason.
 HIDDEN = {
     "The file has zero bytes: it is no plain text, or it is in UTF-16.": "a file of sessions with zero bytes is no text",
     "Save it as plain text in UTF-8.": "the same",
     "gives each job a cost of its own: at most {MOST_COSTED_JOBS} jobs.": "a table of 2,001 jobs",
     "has more than {most} {what}.": "tables of 100,001 jobs, and texts of 64 MiB",
-    "The answer is not explained: there was no room to keep its text beside the instance.": "texts of 24 MiB",
+    "The answer is not explained: it is longer than 24 MiB, or there was no memory to keep": "texts of 24 MiB",
+    "its text beside the instance.": "the same",
+    "The answer is longer than 67108864 bytes, the most that a text may have.": "texts of 64 MiB",
 }
 
 
@@ -41,6 +46,8 @@ def unescaped(text):
 def sentences(crate):
     """The sentences of a crate, each with its file."""
     for path in sorted(glob.glob(os.path.join(TOP, "crates", crate, "src", "**", "*.rt"), recursive=True)):
+        if path.endswith(COMPARED):
+            continue
         with open(path, encoding="utf-8") as file:
             text = COMMENT.sub("", file.read())
         for literal in LITERAL.findall(text):

@@ -13,11 +13,14 @@ import os
 import re
 import subprocess
 import sys
+import tempfile
 
 PAGES = ["README.md", "docs/usage.md", "docs/answers.md", "docs/evaluating.md", "docs/plan.md", "docs/bounds.md", "docs/pictures.md", "docs/random.md",
          "examples/README.md", "examples/certificates/README.md", "examples/lecture/README.md", "examples/rules/README.md"]
 # The problems of a row of docs/border.md, and what its last column says of them.
 BORDER = re.compile(r"^\| (`.*?) \| .* \| (`solve`|`bound`, met|`bound`|no) \|$", re.M)
+# The NP-hard problems of a row, what is said of them, and by whom.
+HARD = re.compile(r"^\| (`[^|]*) \|([^|]*)\| ([A-Z][^|]*) \|$", re.M)
 LEFT_OUT = re.compile(r"^(export |bash \.ci/run|node |.*\brt (try|run|ci)\b)")
 
 
@@ -34,10 +37,11 @@ def commands(page):
             yield command, shown
 
 
-def wrong(command, shown):
-    """Runs a command, and tells what is wrong with it, if something is."""
-    listed = re.fullmatch(r"cat (/tmp/\S+)", command)
-    if listed and not os.path.exists(listed[1]):
+def wrong(command, shown, folder):
+    """Runs a command, with a folder in place of /tmp, and tells what is wrong with it, if something is."""
+    command, shown = (text.replace("/tmp/", folder + os.sep) for text in (command, shown))
+    listed = re.fullmatch(r"cat (\S+)", command)
+    if listed and listed[1].startswith(folder) and not os.path.exists(listed[1]):
         with open(listed[1], "w", encoding="utf-8") as file:
             file.write(shown)
     ran = subprocess.run(["bash", "-c", command], stdout=subprocess.PIPE, stderr=subprocess.STDOUT, text=True)
@@ -73,19 +77,43 @@ def misplaced():
             yield problem
 
 
-def main(pages):
+def told(problem):
+    """What `solve --explain` says of a problem's complexity: the lines that say it is polynomial, NP-hard or trivial."""
+    ran = subprocess.run(["threefield", "solve", "-p", problem, "--explain", os.devnull], capture_output=True, text=True)
+    return [line for line in ran.stderr.splitlines() if re.match(r"It is (polynomial|NP-hard)|On (one machine|two machines)", line)]
+
+
+def mistold():
+    """The rows of docs/border.md that the program's advice contradicts, or knows nothing of."""
+    with open("docs/border.md", encoding="utf-8") as file:
+        text = file.read().replace("\\|", "!")
+    for names, where, by in HARD.findall(text):
+        for name in re.findall(r"`(.*?)`", names):
+            lines = told(name.replace("!", "|"))
+            if name[0] in "1PFO" and "block" not in name and not any(
+                    line.startswith("It is NP-hard (") and by.replace("ö", "oe").startswith(line[15:-2]) for line in lines):
+                yield name.replace("!", "|")
+    # Where a problem is polynomial if its instances are of a kind, it may be NP-hard in general.
+    for names, _ in BORDER.findall(text.replace("!", "\\|")):
+        for name in () if ", if " in names else re.findall(r"`(.*?)`", names):
+            problem = name.replace("\\|", "|")
+            if any("NP-hard" in line for line in told(problem)):
+                yield problem
+
+
+def main(pages, folder):
     ran = failed = 0
     for page in pages:
         for command, shown in commands(page):
             if LEFT_OUT.match(command):
                 continue
             ran += 1
-            fault = wrong(command, shown)
+            fault = wrong(command, shown, folder)
             if fault:
                 failed += 1
                 print(f"{page}: $ {command}\n{fault}")
     ran += 1
-    wrong_rows = list(misplaced())
+    wrong_rows = [*misplaced(), *mistold()]
     if wrong_rows:
         failed += 1
         print(f"docs/border.md: {', '.join(wrong_rows)}: the program does otherwise")
@@ -94,4 +122,5 @@ def main(pages):
 
 
 if __name__ == "__main__":
-    sys.exit(main(sys.argv[1:] or PAGES))
+    with tempfile.TemporaryDirectory() as place:
+        sys.exit(main(sys.argv[1:] or PAGES, place))

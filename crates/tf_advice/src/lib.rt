@@ -3,6 +3,7 @@
 #![tactic(auto)]
 
 pub mod advice;
+mod border;
 pub mod cycle;
 mod field;
 pub mod notation;

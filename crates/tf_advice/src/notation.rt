@@ -1,4 +1,5 @@
 //! What is wrong with a notation, and the problems nearest to one that is not solved.
+use crate::border::{Hard, easy, hardness};
 use crate::page::Page;
 use std::alloc::{AllocError, Global};
 use strsim::osa_distance;
@@ -38,8 +39,12 @@ const DEADLINES: &str = "Due dates are no condition: give each job its d=.";
 
 const SETUPS: &str = "Setup times are not read.";
 
+const OPERATIONS: &str = "Numbers of operations are not read.";
+
+const SETS_OF_MACHINES: &str = "Sets of machines for each job are not read.";
+
 /// Words of the literature that are not read, each with what to write for it.
-static HINTS: [(&str, &str); 16] = [
+static HINTS: [(&str, &str); 20] = [
     (
         "Tmax",
         "Tmax is 0 or Lmax, whichever is greater: a schedule with minimum Lmax minimizes it.",
@@ -59,6 +64,10 @@ static HINTS: [(&str, &str); 16] = [
     ("outtree", PREC),
     ("chain", PREC),
     ("chains", PREC),
+    ("nj", OPERATIONS),
+    ("n_j", OPERATIONS),
+    ("Mj", SETS_OF_MACHINES),
+    ("M_j", SETS_OF_MACHINES),
 ];
 
 /// The most edits by which a word is taken for another.
@@ -247,9 +256,24 @@ pub fn explain_unsolved(alloc: Global, page: &mut Page, problem: &str) -> Result
     if let Some(reason) = reason_of(&asked) {
         page.say(reason)?;
     }
+    say_border(page, &asked)?;
     page.say("Nearest to it of those that are solved:")?;
     push_nearest(alloc, page, &asked)?;
     page.say("\"threefield problems\" lists them all.")
+}
+
+// Whether it is polynomial or NP-hard, where that is known here.
+fn say_border(page: &mut Page, asked: &Problem) -> Result<(), AllocError> {
+    if let Some((_, by)) = easy(asked) {
+        return writeln!(page.text, "It is polynomial ({by}), and not solved here.");
+    }
+    match hardness(asked) {
+        Some(Hard::Itself((_, by))) => writeln!(page.text, "It is NP-hard ({by})."),
+        Some(Hard::Since((problem, by))) => {
+            writeln!(page.text, "It is NP-hard, since {problem} is ({by}).")
+        }
+        None => Ok(()),
+    }
 }
 
 fn push_nearest(alloc: Global, page: &mut Page, asked: &Problem) -> Result<(), AllocError> {
@@ -282,19 +306,31 @@ fn reason_of(asked: &Problem) -> Option<&'static str> {
         Env::Uniform | Env::Unrelated => {
             Some("Parallel machines are solved only if they are identical.")
         }
-        Env::Single if asked.goal == Goal::Cmax && !asked.release => Some(
-            "On one machine every order without idle time is optimal, such as that of 1||sumC.",
-        ),
+        Env::Single if asked.goal == Goal::Cmax => Some(one_machine(asked)),
         Env::Flow if asked.goal == Goal::Cmax && asked.prmu && !has_more(asked) => {
             Some("On two machines F2||Cmax gives a permutation schedule, and none is shorter.")
         }
         Env::Parallel if asked.goal == Goal::Cmax && !asked.prmp => Some(
-            "Without preemption this is NP-hard. The value of P|prmp|Cmax is a lower bound on it.",
+            "The value of P|prmp|Cmax is a lower bound on it.",
         ),
-        _ if asked.release && !asked.prmp => {
-            Some("Release dates are solved on one machine with preemption, as 1|rj,prmp|Lmax.")
+        Env::Single if asked.goal == Goal::Lmax && asked.release && !asked.prmp => {
+            Some("With release dates it is solved if jobs may be preempted, as 1|rj,prmp|Lmax.")
         }
         _ => None,
+    }
+}
+
+// Which orders have the least makespan on one machine.
+fn one_machine(asked: &Problem) -> &'static str {
+    match (asked.release, asked.prec) {
+        (false, false) => {
+            "On one machine every order without idle time is optimal, such as that of 1||sumC."
+        }
+        (false, true) => {
+            "On one machine every order that keeps the arcs, without idle time, is optimal."
+        }
+        (true, false) => "On one machine the order by release dates is optimal.",
+        (true, true) => "On one machine the order by release dates that keeps the arcs is optimal.",
     }
 }
 

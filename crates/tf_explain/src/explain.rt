@@ -16,10 +16,15 @@ use tf_engine::fault::RunFault;
 use tf_engine::request::{Form, Request};
 use tf_engine::run_check::Checked;
 use tf_read::fault::ReadFault;
+use tf_text::answer::fault::AnswerFault;
 
 /// What is said of an answer at fault whose text was not kept.
 const NOT_KEPT: &str = "\
-The answer is not explained: there was no room to keep its text beside the instance.";
+The answer is not explained: it is longer than 24 MiB, or there was no memory to keep
+its text beside the instance.";
+
+/// What is said of an answer that is longer than a text may be.
+const TOO_LONG: &str = "The answer is longer than 67108864 bytes, the most that a text may have.";
 
 /// What a solved problem did not use of its instance, and nothing where it used all of it.
 ///
@@ -97,9 +102,27 @@ fn say_refused(
         RunFault::Task(refusal) => explain_refusal(alloc, page, request, instance, refusal),
         RunFault::Cycle(jobs) => explain_cycle(page, instance, jobs.as_slice()),
         RunFault::Device => say_output(page),
+        RunFault::Answer(AnswerFault::TooLong) => page.say(TOO_LONG),
         RunFault::Answer(_) | RunFault::Pieces(_) => page.say(NOT_KEPT),
         RunFault::OutOfMemory => Ok(()),
     }
+}
+
+/// A line that is no order or no piece, and what such a line is.
+///
+/// # Errors
+///
+/// There was no memory.
+pub fn not_a_line(
+    alloc: Global,
+    source: &Source<'_>,
+    number: u32,
+    wanted: &str,
+) -> Result<String, AllocError> {
+    let mut page = Page::new(alloc);
+    page.quote_number(source, number as usize)?;
+    page.text.push_str(wanted)?;
+    Ok(page.text)
 }
 
 /// What is wrong with an answer that was not read or not drawn.

@@ -47,11 +47,20 @@ pub(crate) fn explain_refusal(
                 page.text,
                 "All times together, or times by weights, are above {LIMIT}.\n\
                  Take a coarser unit of time or of weight."
-            )
+            )?;
+            if matches!(request.form, Form::Flow { pair: None, .. }) {
+                page.say(TOO_LARGE_A_SHOP)?;
+            }
+            Ok(())
         }
         Refusal::OutOfMemory => Ok(()),
     }
 }
+
+/// Why a shop on all machines of a flow shop file may be too large.
+const TOO_LARGE_A_SHOP: &str = "\
+Or the shop has more than 2000000 times, or its file, which is read once for each
+machine, is too long: put the instance into a file of its own.";
 
 const NO_MACHINES: &str = " needs a number of machines, and no place gives one.
 Write it in the notation, as in P3 or F2, as --machines 3, or as a line \"machines 3\".";
