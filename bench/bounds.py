@@ -20,7 +20,7 @@ COSTS = os.path.join(os.path.dirname(os.path.abspath(__file__)), "best_costs.txt
 
 
 class Measured:
-    """What one run of the program gave: status and value, the processor seconds, and the most memory in MB of any run so far."""
+    """What one run of the program gave: status, value and output, the processor seconds, and the most memory in MB of any run so far."""
 
     def __init__(self, words, text):
         with tempfile.NamedTemporaryFile("w", suffix=".txt", delete=False) as file:
@@ -33,7 +33,7 @@ class Measured:
         if done.returncode not in (0, 6):
             raise SystemExit(f"{' '.join(words)}: status {done.returncode}: {done.stderr}")
         fields = dict(line.split(" ", 1) for line in done.stdout.splitlines() if " " in line)
-        self.status, self.value = done.returncode, int(fields["value"])
+        self.status, self.value, self.output = done.returncode, int(fields["value"]), done.stdout
         self.memory = after.ru_maxrss / 1024
 
 

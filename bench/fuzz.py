@@ -62,7 +62,7 @@ PROBLEMS = [b"1||sumC", b"1||sumwC", b"1||Lmax", b"1|prec|Lmax", b"1|rj,prmp|Lma
             b"P2|prmp|Cmax", b"F2||Cmax", b"O2||Cmax", b"F3||Cmax", b"J||Cmax", b"1||sumU", b"", b"1|\x1b[2J|Lmax", b"1||Lm\xc3\xa4x"]
 OPTIONS = [[b"--explain"], [b"--certificate"], [b"--svg"], [b"-c", b"7"], [b"--columns", b"0"], [b"--machines", b"2"],
            [b"--format", b"wt", b"--jobs", b"3"], [b"--format", b"flow", b"--name", b"demo"], [b"--pair", b"0,1"], [b"--answer", b"1"],
-           [b"--json"], [b"--csv"], [b"--order", b"2 1 3"], [b"--orders", b"-"], [b"--schedule", b"-"], [b"--tex"], [b"--steps", b"3"],
+           [b"--json"], [b"--csv"], [b"--order", b"2 1 3"], [b"--orders", b"-"], [b"--orders", b"-", b"--grade"], [b"--schedule", b"-"], [b"--tex"], [b"--steps", b"3"],
            [b"--index", b"2"], [b"--help"], [b"--"], [b"--n\xc3\xb6"], [b"--a\x1b[31m"], [b"-"], [b"n\xc3\xb6\nthreefield: accepted"]]
 
 Case = collections.namedtuple("Case", "words texts")

@@ -10,7 +10,17 @@ _threefield() {
     --format | -f) COMPREPLY=($(compgen -W "table wt flow" -- "$word")); return ;;
     --size) COMPREPLY=($(compgen -W "a4 a3 16:9" -- "$word")); return ;;
     --answer) COMPREPLY=($(compgen -W "1 2" -- "$word")); return ;;
+    --problem | -p)
+        mapfile -t COMPREPLY < <(compgen -W "$(threefield problems 2>/dev/null | sed -n '2,$s/ .*//p')" -- "$word")
+        return
+        ;;
+    =) COMPREPLY=($(compgen -W "auto always never" -- "$word")); return ;;
     esac
+    # The sign behind --explain is a word of its own.
+    if [ "$word" = = ]; then
+        COMPREPLY=(auto always never)
+        return
+    fi
     if [[ $word != -* ]]; then
         if [ "$command" = help ]; then
             COMPREPLY=($(compgen -W "solve plan bound trace check evaluate gantt random problems" -- "$word"))
@@ -25,9 +35,9 @@ _threefield() {
     bound) COMPREPLY=($(compgen -W "$instance --steps --json" -- "$word")) ;;
     trace) COMPREPLY=($(compgen -W "$instance --tex" -- "$word")) ;;
     check) COMPREPLY=($(compgen -W "$instance --json" -- "$word")) ;;
-    evaluate) COMPREPLY=($(compgen -W "$instance --certificate --measures --bound --steps --order --orders --schedule --json --csv" -- "$word")) ;;
+    evaluate) COMPREPLY=($(compgen -W "$instance --certificate --measures --bound --steps --order --orders --grade --schedule --json --csv" -- "$word")) ;;
     gantt) COMPREPLY=($(compgen -W "--columns --svg --fold --from --to --width --height --size --input --format --jobs --index --name --pair --explain --help" -- "$word")) ;;
-    random) COMPREPLY=($(compgen -W "--problem --jobs --machines --seed --help" -- "$word")) ;;
+    random) COMPREPLY=($(compgen -W "--problem --jobs --machines --seed --max --help" -- "$word")) ;;
     problems) COMPREPLY=($(compgen -W "--bounds --json --help" -- "$word")) ;;
     esac
 }

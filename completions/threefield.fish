@@ -16,7 +16,7 @@ complete -c threefield -n "not __fish_seen_subcommand_from $commands" -a problem
 complete -c threefield -n "__fish_seen_subcommand_from help" -f -a "$commands"
 complete -c threefield -s h -l help -d "Print help"
 
-complete -c threefield -n "__fish_seen_subcommand_from $instance" -s p -l problem -x -d "The problem in three-field notation"
+complete -c threefield -n "__fish_seen_subcommand_from $instance" -s p -l problem -x -a "(threefield problems 2>/dev/null | tail -n +2 | string replace -r ' .*' '')" -d "The problem in three-field notation"
 complete -c threefield -n "__fish_seen_subcommand_from $instance gantt" -s f -l format -x -a "table wt flow" -d "Format of the instance"
 complete -c threefield -n "__fish_seen_subcommand_from $instance gantt" -l jobs -x -d "With wt: jobs of each instance"
 complete -c threefield -n "__fish_seen_subcommand_from $instance gantt" -l index -x -d "With wt: which instance, from 1"
@@ -36,6 +36,7 @@ complete -c threefield -n "__fish_seen_subcommand_from solve" -l values -d "With
 complete -c threefield -n "__fish_seen_subcommand_from evaluate" -l bound -r -d "File of a lower bound"
 complete -c threefield -n "__fish_seen_subcommand_from evaluate" -l order -x -d "An order of the jobs"
 complete -c threefield -n "__fish_seen_subcommand_from evaluate" -l orders -r -d "File with an order in each line"
+complete -c threefield -n "__fish_seen_subcommand_from evaluate" -l grade -d "Go on behind a line that is no order"
 complete -c threefield -n "__fish_seen_subcommand_from evaluate" -l schedule -r -d "File of the pieces of a schedule"
 complete -c threefield -n "__fish_seen_subcommand_from gantt" -s c -l columns -x -d "Columns of the chart"
 complete -c threefield -n "__fish_seen_subcommand_from gantt" -l svg -d "Draw a picture"
@@ -50,3 +51,4 @@ complete -c threefield -n "__fish_seen_subcommand_from random" -s p -l problem -
 complete -c threefield -n "__fish_seen_subcommand_from random" -l jobs -x -d "Number of jobs"
 complete -c threefield -n "__fish_seen_subcommand_from random" -s m -l machines -x -d "Number of machines"
 complete -c threefield -n "__fish_seen_subcommand_from random" -l seed -x -d "Number of the table"
+complete -c threefield -n "__fish_seen_subcommand_from random" -l max -x -d "Longest processing time"

@@ -47,6 +47,8 @@ const COMMANDS = {
     { name: "--measures", rivals: [...SCHEDULES, "--bound", "--json", "--csv"], isBuiltOnly: true },
     inPlaceOfAnswer("--order", "JOBS", ["--orders"]),
     inPlaceOfAnswer("--orders", "FILE", ["--json", "--csv"]),
+    { name: "--grade", needs: "--orders", rivals: ["--order", "--schedule", "ANSWER"],
+      isBuiltOnly: true },
     inPlaceOfAnswer("--schedule", "FILE", ["--order", "--orders"]),
     { ...ANSWER, substitutes: SCHEDULES }],
   gantt: [{ name: "--columns", letter: "-c", value: "N", allowed: NEGATIVE },
@@ -58,7 +60,8 @@ const COMMANDS = {
     { name: "--input", value: "INPUT", needs: "--svg", isBuiltOnly: true },
     { ...FORMAT, needs: "--input" }, ...FORMS, EXPLAIN, ANSWER],
   random: [PROBLEM, { name: "--jobs", value: "N", allowed: NEGATIVE, isRequired: true }, MACHINES,
-    { name: "--seed", value: "S", allowed: NEGATIVE }],
+    { name: "--seed", value: "S", allowed: NEGATIVE },
+    { name: "--max", value: "T", allowed: NEGATIVE }],
   problems: [{ name: "--bounds", isBuiltOnly: true }, JSON_TEXT, { name: "FILE", isPlace: true }],
 };
 

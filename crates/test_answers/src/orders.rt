@@ -44,7 +44,7 @@ const PIECES: Case = Case {
 /// The second order is optimal.
 const TWO_ORDERS: Case = Case {
     problem: "1||sumC",
-    form: OrderForm::Lines,
+    form: OrderForm::Lines { goes_on: false },
     text: b"2 1 3\n2 3 1\n",
     written: b"11 1\n10 0\n",
 };
@@ -58,7 +58,15 @@ const WAITING: Case = Case {
         bound 3\njob 1\njob 1 0 3 3\njob 2 0 1 1\njob 3 2 4 4\nend\n",
 };
 
-const CASES: [Case; 4] = [ONE_ORDER, PIECES, TWO_ORDERS, WAITING];
+/// A word that is no number, a job twice, a job that is missing, and a list too many.
+const SLIPS: Case = Case {
+    problem: "1||sumC",
+    form: OrderForm::Lines { goes_on: true },
+    text: b"2 J1 3\n2 3 1\n2 2 1\n3 1\n2 3 / 1\n",
+    written: b"wrong word 2\n10 0\nwrong twice 2\nwrong missing 2\nwrong lists\n",
+};
+
+const CASES: [Case; 5] = [ONE_ORDER, PIECES, TWO_ORDERS, WAITING, SLIPS];
 
 fn request_of(rt: &HostRuntime, case: &Case) -> Result<Request, AllocError> {
     request(rt, case.problem, Given::Table, Layout::Two)

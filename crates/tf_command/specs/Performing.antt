@@ -161,8 +161,8 @@ Performs texts (Rate options (Given order)) writer says status =
     EndsOver texts options.input.now writer said status
     (λ instance. (reader : DeviceUse) × (reader.before ≡ Some order.now)
     × EndsRating Global Single (requested options Two) instance reader writer said status)
-Performs texts (Rate options (Named name)) writer says status =
-    RatesNamed texts options name.now Lines writer says status
+Performs texts (Rate options (Named name goes_on)) writer says status =
+    RatesNamed texts options name.now (Lines goes_on) writer says status
 Performs texts (Rate options (Drawn name)) writer says status =
     RatesNamed texts options name.now Pieces writer says status
 Performs texts (Gantt answer drawing explain) writer says status =

@@ -74,8 +74,9 @@ pub fn perform<S: Sources, W: Write, E: Write>(
         Work::Rate(options, OrderSource::Given(order)) => {
             rate_given(console, sources, options, order)
         }
-        Work::Rate(options, OrderSource::Named(name)) => {
-            rate_named(console, sources, options, name, OrderForm::Lines)
+        Work::Rate(options, OrderSource::Named { name, goes_on }) => {
+            let form = OrderForm::Lines { goes_on: *goes_on };
+            rate_named(console, sources, options, name, form)
         }
         Work::Rate(options, OrderSource::Drawn(name)) => {
             rate_named(console, sources, options, name, OrderForm::Pieces)

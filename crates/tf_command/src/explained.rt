@@ -160,16 +160,6 @@ pub struct Rated<'a> {
     pub run: &'a Result<OrdersRated, RunFault>,
 }
 
-impl<'a> Rated<'a> {
-    /// What is said of a line that is malformed.
-    fn malformed(self) -> &'static str {
-        match self.form {
-            OrderForm::Single | OrderForm::Lines => WHAT_AN_ORDER_IS,
-            OrderForm::Pieces => WHAT_A_SCHEDULE_IS,
-        }
-    }
-}
-
 /// What a run that has ended was asked for.
 #[derive(Clone, Copy)]
 pub struct Ended<'a> {
@@ -266,6 +256,25 @@ impl Ended<'_> {
         }
     }
 
+    // What is said of a line that is malformed, which is shown where it is a text's.
+    fn malformed(
+        &self,
+        form: OrderForm,
+        text: Option<&Source<'_>>,
+        line: u32,
+    ) -> Result<String, AllocError> {
+        match (form, text) {
+            (OrderForm::Lines { .. }, Some(text)) => {
+                explain::not_a_line(self.alloc, text, line, WHAT_AN_ORDER_IS)
+            }
+            (OrderForm::Pieces, Some(text)) => {
+                explain::not_a_line(self.alloc, text, line, WHAT_A_SCHEDULE_IS)
+            }
+            (OrderForm::Pieces, None) => String::from_str(self.alloc, WHAT_A_SCHEDULE_IS),
+            _ => String::from_str(self.alloc, WHAT_AN_ORDER_IS),
+        }
+    }
+
     /// Says what is to be said of the options and of a run over orders or pieces, where the
     /// instance was kept.
     pub fn tell_rated<R, S, E: Write>(
@@ -278,8 +287,8 @@ impl Ended<'_> {
         if let Some(told) = Told::of_both(instance, orders) {
             let explanation = match rated.run {
                 Ok(_) => Ok(String::new(self.alloc)),
-                Err(RunFault::Answer(AnswerFault::BadLine(_))) => {
-                    String::from_str(self.alloc, rated.malformed())
+                Err(RunFault::Answer(AnswerFault::BadLine(line))) => {
+                    self.malformed(rated.form, told.answer.as_ref(), *line)
                 }
                 Err(fault) => told.refused(self.alloc, fault, self.request),
             };

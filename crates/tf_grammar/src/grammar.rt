@@ -79,8 +79,7 @@ Example: threefield problems examples/all_fields.txt
          threefield problems --bounds
 
 --bounds lists one problem for each machine environment and objective.
-Conditions may be added: rj, prec, prmu and nwt; prmp too, except for sums on
-machines in parallel and for numbers of late jobs.
+Conditions may be added: rj, prec, prmp, prmu and nwt.
 
 Exit status: 0 listed, 2 the table is refused, 3 want of memory,
              4 a file or a device failed, 5 the command line is wrong.";
@@ -104,6 +103,8 @@ static AGAINST_BOUND: [&str; 4] = ["order", "orders", "schedule", "certificate"]
 static AGAINST_ORDER: [&str; 3] = ["orders", "certificate", "ANSWER"];
 
 static AGAINST_ORDERS: [&str; 4] = ["certificate", "json", "csv", "ANSWER"];
+
+static AGAINST_GRADE: [&str; 3] = ["order", "schedule", "ANSWER"];
 
 static AGAINST_SCHEDULE: [&str; 4] = ["order", "orders", "certificate", "ANSWER"];
 
@@ -262,7 +263,7 @@ fn reported() -> [Row; 6] {
 }
 
 // The schedules that are evaluated.
-fn schedules() -> [Row; 4] {
+fn schedules() -> [Row; 5] {
     [
         text(
             "order",
@@ -276,6 +277,12 @@ fn schedules() -> [Row; 4] {
             "Prints cost and gap of the order in each line of FILE",
         )
         .without(AGAINST_ORDERS.as_slice()),
+        flag(
+            "grade",
+            "With orders: prints what is wrong with a line, and goes on",
+        )
+        .with("orders")
+        .without(AGAINST_GRADE.as_slice()),
         text(
             "schedule",
             "FILE",
@@ -368,6 +375,7 @@ fn random_command<'a>(alloc: Global) -> Result<Command<'a>, AllocError>
         number("jobs", "N", "The number of jobs, 1 to 100000").required(),
         machines(),
         number("seed", "S", "Which of 4294967296 tables, from 0").or("1"),
+        number("max", "T", "The longest processing time, 1 to 1000000").or("100"),
     ];
     with_rows(alloc, page.command(alloc), &rows)
 }

@@ -137,7 +137,7 @@ The schedule is an answer, whose certificate need not show anything; with
 --schedule the lines \"piece JOB MACHINE START STOP\" of a file, which need no
 other lines; with --order that of jobs one after another as early as possible;
 with --orders that of each line of a file, for which one line is printed, with
-its cost and its gap.
+its cost and its gap; with --grade also where a line is no order.
 
 --bound takes a lower bound as \"bound\" prints it, or one of your own. It is
 judged, and used where it is stronger than the one that is found. --steps lets

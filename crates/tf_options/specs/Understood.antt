@@ -18,8 +18,9 @@ use Rattle.tf_options.specs.declared.options.Work.TheVariants.{Solve, Bound, Pla
 -- pieces of the text that `--schedule` names
 abbrev pub IsOrderBy : Given → OrderSource → Type 0
 IsOrderBy given (Written order) = given.value (codes "order") ≡ Some order.now
-IsOrderBy given (Named name) =
+IsOrderBy given (Named name goes_on) =
     (given.value (codes "order") ≡ None) × (given.value (codes "orders") ≡ Some name.now)
+    × IsFlagBy (given.flag (codes "grade")) goes_on
 IsOrderBy given (Drawn name) =
     (given.value (codes "order") ≡ None) × (given.value (codes "orders") ≡ None)
     × (given.value (codes "schedule") ≡ Some name.now)
@@ -41,7 +42,7 @@ fault_if twice fault = if twice then Some fault else None
 
 abbrev pub input_fault : OrderSource → Option (List ℕ)
 input_fault (Written order) = None
-input_fault (Named name) =
+input_fault (Named name goes_on) =
     fault_if (bytes_eq name.now (codes "-")) (codes "INPUT and --orders cannot both be standard input")
 input_fault (Drawn name) =
     fault_if (bytes_eq name.now (codes "-"))
@@ -53,14 +54,18 @@ pub record IsWantedBy (given : Given) (wanted : Wanted) : Type 0 where
   pub jobs : number_by given (codes "jobs") 1 most_jobs ≡ Some wanted.jobs
   pub machines : IsNumberBy 1 most_machines (given.value (codes "machines")) wanted.machines
   pub seed : number_by given (codes "seed") 0 4294967295 ≡ Some wanted.seed
+  pub most : number_by given (codes "max") 1 1000000 ≡ Some wanted.most
 
 abbrev pub wanted_fault : Given → Option (List ℕ)
 wanted_fault given = first_fault (machines_fault given)
     (first_fault
     (unless_some (codes "--jobs takes a number from 1 to 100000")
     (number_by given (codes "jobs") 1 most_jobs))
+    (first_fault
     (unless_some (codes "--seed takes a number from 0 to 4294967295")
-    (number_by given (codes "seed") 0 4294967295)))
+    (number_by given (codes "seed") 0 4294967295))
+    (unless_some (codes "--max takes a number from 1 to 1000000")
+    (number_by given (codes "max") 1 1000000))))
 
 -- the text of a bound and the steps of the search for prices, where they are given
 pub record AreAidsBy (given : Given) (aids : Aids) : Type 0 where

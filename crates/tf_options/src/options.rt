@@ -154,8 +154,9 @@ struct Aids<'a> {
 pub enum OrderSource<'a> {
     /// One order, on the command line.
     Given(&'a str),
-    /// The name of a text with an order in each line.
-    Named(&'a str),
+    /// The name of a text with an order in each line, and whether a line that is none is told
+    /// and the others are gone on with.
+    Named { name: &'a str, goes_on: bool },
     /// The name of a text with the pieces of a schedule.
     Drawn(&'a str),
 }
@@ -527,7 +528,10 @@ fn orders_in<'a>(given: &ArgMatches<'a>) -> Option<OrderSource<'a>>
         return Some(OrderSource::Given(order));
     }
     if let Some(name) = given.get_str("orders") {
-        return Some(OrderSource::Named(name));
+        return Some(OrderSource::Named {
+            name,
+            goes_on: given.get_flag("grade"),
+        });
     }
     match given.get_str("schedule") {
         Some(name) => Some(OrderSource::Drawn(name)),
@@ -540,7 +544,7 @@ fn input_fault(orders: &OrderSource<'_>) -> Option<&'static str>
     ensures { option_map (λ fault. fault.now) result ≡ input_fault orders.now }
 {
     match orders {
-        OrderSource::Named(name) if *name == "-" => {
+        OrderSource::Named { name, .. } if *name == "-" => {
             Some("INPUT and --orders cannot both be standard input")
         }
         OrderSource::Drawn(name) if *name == "-" => {

@@ -9,6 +9,9 @@ use clap::ArgMatches;
 use tf_model::limit::MOST_JOBS;
 use tf_random::run_random::Wanted;
 
+/// The most that the longest processing time of a random table may be.
+const MOST_TIME: u32 = 1_000_000;
+
 /// The random table that the options ask for.
 pub(crate) fn wanted_in<'a>(given: &ArgMatches<'a>) -> Result<Wanted<'a>, Wrong>
     ensures given { IfOk result (IsWantedBy (given_of given.now)) }
@@ -26,13 +29,18 @@ pub(crate) fn wanted_in<'a>(given: &ArgMatches<'a>) -> Result<Wanted<'a>, Wrong>
     let seed = given
         .get_str("seed")
         .and_then(|word| number_within(word, 0, u32::MAX));
-    match (jobs, seed) {
-        (None, _) => Err(Wrong::Unfit("--jobs takes a number from 1 to 100000")),
-        (_, None) => Err(Wrong::Unfit("--seed takes a number from 0 to 4294967295")),
-        (Some(jobs), Some(seed)) => Ok(Wanted {
+    let most = given
+        .get_str("max")
+        .and_then(|word| number_within(word, 1, MOST_TIME));
+    match (jobs, seed, most) {
+        (None, _, _) => Err(Wrong::Unfit("--jobs takes a number from 1 to 100000")),
+        (_, None, _) => Err(Wrong::Unfit("--seed takes a number from 0 to 4294967295")),
+        (_, _, None) => Err(Wrong::Unfit("--max takes a number from 1 to 1000000")),
+        (Some(jobs), Some(seed), Some(most)) => Ok(Wanted {
             problem,
             jobs,
             machines,
+            most,
             seed,
         }),
     }

@@ -1,6 +1,5 @@
 -- Jobs of which none stands twice, by marks.
-use Rattle.std.proofs.Common.{◌≡◌, ℕ, zero, suc, ◌+◌, ◌-◌, ◌<◌, ◌≤◌, ◌==◌, Bool, true, false, List, [], ◌∷◌, length, get_or, set, take, replicate, count_by, All, refl, sym, ap, ◌∙◌, subst, arith}
-use Rattle.std.specs.List.{sum_by}
+use Rattle.std.proofs.Common.{◌≡◌, ℕ, zero, suc, ◌+◌, ◌-◌, ◌<◌, ◌≤◌, ◌==◌, Bool, true, false, List, [], ◌∷◌, length, get_or, take, replicate, refl, sym, ap, ◌∙◌, arith}
 use Rattle.std.proofs.lemmas.List.Sums.{sum_by-take-le}
 use Rattle.std.proofs.lemmas.List.{length-replicate, get_or-replicate}
 use Rattle.std.proofs.lemmas.Bool.{eq-eqb}
@@ -9,7 +8,7 @@ use Rattle.tf_model.specs.ClassTable.{plain_problem}
 use Rattle.tf_model.specs.declared.problem.Env.TheVariants.{Single}
 use Rattle.tf_model.specs.declared.problem.Goal.TheVariants.{Cmax}
 use Rattle.tf_problem.specs.ProblemData.{ProblemData, ProblemJobData, no_problem_job, IsProblemJob}
-use Rattle.tf_bound.proofs.Marks.{AreMarks, as_one, marks_more, distinct}
+use Rattle.tf_bound.proofs.Marks.{AreMarks, as_one, distinct}
 use Rattle.tf_bound.proofs.Steps.{sum_next}
 
 -- a task of n jobs

@@ -3,7 +3,6 @@ use Rattle.std.proofs.Common.{◌≡◌, ℕ, ◌++◌, List, sym, subst}
 use Rattle.tf_schedule.specs.declared.piece.Piece.{Piece}
 use Rattle.tf_orders.specs.declared.order.Turn.{Turn}
 use Rattle.tf_orders.specs.declared.measure.Measure.{Measure}
-use Rattle.tf_orders.specs.declared.run_orders.OrdersRated.TheVariants as rateds
 use Rattle.tf_orders.specs.Orders.{IsOrder, IsNoOrder}
 use Rattle.tf_orders.specs.Measuring.{jobs_in, orders_in, schedule_in, IsScheduled, IsUnordered}
 use Rattle.tf_orders.specs.OrderText.{IsRow, IsRowOf}

@@ -1,28 +1,21 @@
 -- Reading an instance and orders.
-use Rattle.std.proofs.Common.{◌≡◌, ℕ, ◌+◌, ◌<◌, ◌≤◌, true, false, List, Option, Some, Result, Ok, Err, IfSome, Bool, cond, length, refl, sym, ap, subst, ◌∙◌, inl, inr}
+use Rattle.std.proofs.Common.{◌≡◌, ℕ, ◌+◌, ◌<◌, ◌≤◌, true, false, List, Option, Some, Ok, Err, IfSome, Bool, length, refl, sym, subst, ◌∙◌, inl, inr}
 use Rattle.std.specs.Io.KnownBytes.{IsAtEnd}
 use Rattle.std.specs.declared.vec.Vec.{Vec}
 use Rattle.tf_model.specs.Limit.{most_bytes}
-use Rattle.tf_model.specs.declared.problem.Problem.{Problem}
 use Rattle.tf_text.specs.declared.counted.Counted.{Counted}
 use Rattle.tf_text.specs.Counted.{inner_of, pulled_of, has_failed, use_of, ConsumesAtMost}
 use Rattle.tf_text.specs.Input.{IsTextOf}
 use Rattle.tf_text.specs.declared.answer.fault.AnswerFault.TheVariants as answers
-use Rattle.tf_problem.specs.ProblemData.{ProblemData}
-use Rattle.tf_engine.specs.declared.case.Asked.{Asked}
 use Rattle.tf_engine.specs.declared.fault.RunFault.{RunFault}
 use Rattle.tf_engine.specs.declared.fault.RunFault.TheVariants.{Answer, Device, OutOfMemory}
-use Rattle.tf_engine.specs.CaseParts.{ReadsAsked}
-use Rattle.tf_engine.specs.Devices.{LeavesInstance}
 use Rattle.tf_engine.specs.Faults.{Refused, Stop, Refuses, Fails, Wants, is_on_answer, is_on_instance, stop_of}
 use Rattle.tf_engine.specs.Parts.{StopsReading}
-use Rattle.tf_engine.specs.Refusal.{problem_for, task_for}
 use Rattle.tf_engine.specs.RequestData.{RequestData}
 use Rattle.tf_engine.proofs.CaseRead.{refusal_first}
 use Rattle.tf_engine.proofs.Devices.{instance_later}
 use Rattle.tf_engine.proofs.Unread.{text_for, long_text_for}
-use Rattle.tf_bounding.specs.RunBounding.{problem_in, problem_task_for, IsRefusedBound, ReadsProblemTask}
-use Rattle.tf_assess.specs.RunRating.{is_solved, posed_problem}
+use Rattle.tf_assess.specs.RunRating.{is_solved}
 use Rattle.tf_assess.proofs.Reading.{bound_first, stops_as}
 use Rattle.tf_orders.specs.declared.case_read.OrderCase.{OrderCase}
 use Rattle.tf_orders.specs.declared.case_read.Posed.{Posed}

@@ -1,9 +1,8 @@
 -- What the schedules of orders are measured by: in a class the optimum, and otherwise the strongest
 -- lower bound that is found.
-use Rattle.std.specs.Prelude.{◌≡◌, ℕ, ℤ, List, length, Option, None, Some, IfSome, IsTrue, IsFalse, Result, Ok}
+use Rattle.std.specs.Prelude.{◌≡◌, ℕ, List, length, IsTrue, IsFalse, Ok}
 use Rattle.tf_engine.specs.RequestData.{RequestData}
 use Rattle.tf_engine.specs.Refusal.{problem_for, task_for}
-use Rattle.tf_search.specs.declared.strongest.Found.{Found}
 use Rattle.tf_search.specs.Strongest.{IsFound}
 use Rattle.tf_bounding.specs.RunBounding.{problem_task_for}
 use Rattle.tf_evaluate.specs.Evaluating.{IsLeastCost}

@@ -1,8 +1,7 @@
 -- What the parts of a run over orders give.
-use Rattle.std.specs.Prelude.{◌≡◌, ℕ, ◌<◌, ◌≤◌, true, List, length, Option, Result, Ok, Err, IfSome, IsTrue, IsFalse, MatchResult, ◌⊎◌, ℤ}
+use Rattle.std.specs.Prelude.{◌≡◌, ℕ, ◌<◌, ◌≤◌, Bool, true, false, List, length, Option, Result, Ok, IsTrue, IsFalse, MatchResult, ◌⊎◌, ℤ}
 use Rattle.std.specs.declared.vec.Vec.{Vec}
 use Rattle.tf_model.specs.Limit.{most_bytes}
-use Rattle.tf_model.specs.SchedulingTask.{SchedulingTask}
 use Rattle.tf_text.specs.declared.counted.Counted.{Counted}
 use Rattle.tf_text.specs.Counted.{inner_of, has_failed, use_of}
 use Rattle.tf_text.specs.Input.{IsTextOf}
@@ -11,7 +10,7 @@ use Rattle.tf_text.specs.declared.answer.fault.AnswerFault.TheVariants as answer
 use Rattle.tf_engine.specs.declared.fault.RunFault.{RunFault}
 use Rattle.tf_engine.specs.CaseParts.{IsAsked}
 use Rattle.tf_engine.specs.Devices.{LeavesInstance, LeavesReader, LeavesBoth}
-use Rattle.tf_engine.specs.Faults.{Refused, ByCycle, ByAnswer, Stop, Refuses, Fails, Wants, stop_of, end_of}
+use Rattle.tf_engine.specs.Faults.{Refused, ByCycle, ByAnswer, Stop, stop_of, end_of}
 use Rattle.tf_engine.specs.Parts.{StopsBy, StopsReading}
 use Rattle.tf_engine.specs.RequestData.{RequestData}
 use Rattle.tf_engine.specs.Solvers.{IsNamedCycle}
@@ -28,7 +27,7 @@ use Rattle.tf_orders.specs.declared.measure.Measure.TheVariants.{Optimum, Bound}
 use Rattle.tf_orders.specs.declared.run_orders.OrderForm.{OrderForm}
 use Rattle.tf_orders.specs.Measuring.{IsUnordered}
 use Rattle.tf_orders.specs.OrderText.{IsMalformed}
-use Rattle.tf_orders.specs.RunOrders.{IsPosed, IsRefusedInstance, IsTooLong, HasOrderReaderFailed}
+use Rattle.tf_orders.specs.RunOrders.{IsRefusedInstance, IsTooLong, HasOrderReaderFailed}
 
 -- the request and the text mean the task
 abbrev pub Means : {A : Type 0} → RequestData → List ℕ → Posed A → Type 0
@@ -114,7 +113,9 @@ IsUnrated form m text =
     StopsBy (λ refused. (fault : AnswerFault) × (refused ≡ ByAnswer fault)
     × IsMalformed form m text fault)
 
--- why nothing is written of the line of this number: it says no order
-abbrev pub IsWithoutRow : {A : Type 0} → Measure A → ℕ → List ℕ → Stop → Type 0
-IsWithoutRow m number text =
-    StopsBy (λ refused. (refused ≡ ByAnswer (answers.BadLine number)) × IsUnordered m text)
+-- why nothing is written of the line of this number: it says no order, and the others are not gone on
+-- with
+abbrev pub IsWithoutRow : {A : Type 0} → Bool → Measure A → ℕ → List ℕ → Stop → Type 0
+IsWithoutRow goes_on m number text =
+    StopsBy (λ refused. (goes_on ≡ false) × (refused ≡ ByAnswer (answers.BadLine number))
+    × IsUnordered m text)

@@ -1,5 +1,5 @@
 -- What is written of orders: of one a whole evaluation, and of many a line each.
-use Rattle.std.specs.Prelude.{◌≡◌, ℕ, ℤ, ◌-ℤ◌, ◌⊎◌, unsigned_abs, List, [], ◌∷◌, ◌++◌, length, codes, Option, None, Some, Ok, Err}
+use Rattle.std.specs.Prelude.{◌≡◌, Bool, true, false, ℕ, ℤ, ◌-ℤ◌, ◌⊎◌, unsigned_abs, List, [], ◌∷◌, ◌++◌, length, codes, Option, None, Some, IfSome, Ok, Err}
 use Rattle.std.specs.Fmt.{decimal, signed_decimal}
 use Rattle.tf_words.specs.Words.{KeptLine, lines, kept_lines}
 use Rattle.tf_model.specs.declared.problem.Problem.{Problem}
@@ -30,7 +30,10 @@ use Rattle.tf_orders.specs.declared.run_orders.OrderForm.{OrderForm}
 use Rattle.tf_orders.specs.declared.run_orders.OrderForm.TheVariants.{Single, Lines, Pieces}
 use Rattle.tf_orders.specs.declared.run_orders.OrdersRated.{OrdersRated}
 use Rattle.tf_orders.specs.declared.run_orders.OrdersRated.TheVariants as rateds
-use Rattle.tf_orders.specs.Measuring.{IsScheduled, IsUnordered}
+use Rattle.tf_orders.specs.declared.flaw.Flaw.{Flaw}
+use Rattle.tf_orders.specs.declared.flaw.Flaw.TheVariants as flaws
+use Rattle.tf_orders.specs.Orders.{IsFlaw}
+use Rattle.tf_orders.specs.Measuring.{IsScheduled, IsUnordered, jobs_in, orders_in}
 use Rattle.tf_orders.specs.Pieces.{pieces_of}
 
 -- ---- one order, evaluated
@@ -112,12 +115,35 @@ IsRowOf (Bound task found) ps row =
 abbrev pub IsRow : {A : Type 0} → Measure A → List ℕ → List ℕ → Type 0
 IsRow m text row = (ps : List Piece) × IsScheduled m text ps × IsRowOf m ps row
 
--- the lines of orders
-abbrev pub AreRows : {A : Type 0} → Measure A → List KeptLine → List ℕ → Type 0
-AreRows m [] out = out ≡ []
-AreRows m (line ∷ more) out =
-    (row : List ℕ) × (rest : List ℕ) × IsRow m line.bytes row × AreRows m more rest
-    × (out ≡ row ++ rest)
+-- why a line says no order
+abbrev pub flaw_words : Flaw → List (List ℕ)
+flaw_words (flaws.Word k) = codes "wrong word" ∷ decimal k ∷ []
+flaw_words flaws.Lists = codes "wrong lists" ∷ []
+flaw_words (flaws.Twice j) = codes "wrong twice" ∷ decimal j ∷ []
+flaw_words (flaws.Missing j) = codes "wrong missing" ∷ decimal j ∷ []
+
+-- the same where it may not be found
+abbrev pub wrong_words : Option Flaw → List (List ℕ)
+wrong_words None = codes "wrong" ∷ []
+wrong_words (Some flaw) = flaw_words flaw
+
+-- the line of a text that says no order: what is wrong with it, if that is found
+pub record IsWrongRow {A : Type 0} (m : Measure A) (text row : List ℕ) : Type 0 where
+  pub unordered : IsUnordered m text
+  pub found : Option Flaw
+  pub flaw : IfSome found (IsFlaw (jobs_in m) (orders_in m) text)
+  pub says : row ≡ line_text (wrong_words found)
+
+-- the line of a text; where it says no order there is one only if the others are gone on with
+abbrev pub IsLineOf : {A : Type 0} → Bool → Measure A → List ℕ → List ℕ → Type 0
+IsLineOf goes_on m text row = IsRow m text row ⊎ ((goes_on ≡ true) × IsWrongRow m text row)
+
+-- the lines of all lines
+abbrev pub AreRows : {A : Type 0} → Bool → Measure A → List KeptLine → List ℕ → Type 0
+AreRows goes_on m [] out = out ≡ []
+AreRows goes_on m (line ∷ more) out =
+    (row : List ℕ) × (rest : List ℕ) × IsLineOf goes_on m line.bytes row
+    × AreRows goes_on m more rest × (out ≡ row ++ rest)
 
 -- the line of this number says no order, and each before it says one
 abbrev pub IsFirstBad : {A : Type 0} → Measure A → List KeptLine → ℕ → Type 0
@@ -135,14 +161,14 @@ AreRated Single m text out (rateds.Single standing) =
 AreRated Pieces m text out (rateds.Single standing) =
     (ps : List Piece) × (pieces_of (kept_lines 1 (lines text)) ≡ Ok ps)
     × IsEvaluated m ps out standing
-AreRated Lines m text out rateds.Lines = AreRows m (kept_lines 1 (lines text)) out
+AreRated (Lines goes_on) m text out rateds.Lines = AreRows goes_on m (kept_lines 1 (lines text)) out
 AreRated Single m text out rateds.Lines = ⊥
 AreRated Pieces m text out rateds.Lines = ⊥
-AreRated Lines m text out (rateds.Single standing) = ⊥
+AreRated (Lines goes_on) m text out (rateds.Single standing) = ⊥
 
 -- this is the text's first fault
 abbrev pub IsMalformed : {A : Type 0} → OrderForm → Measure A → List ℕ → AnswerFault → Type 0
 IsMalformed Single m text fault = IsUnordered m text × (fault ≡ answers.BadLine 1)
-IsMalformed Lines m text fault =
-    (k : ℕ) × IsFirstBad m (kept_lines 1 (lines text)) k × (fault ≡ answers.BadLine k)
+IsMalformed (Lines goes_on) m text fault =
+    (goes_on ≡ false) × (k : ℕ) × IsFirstBad m (kept_lines 1 (lines text)) k × (fault ≡ answers.BadLine k)
 IsMalformed Pieces m text fault = pieces_of (kept_lines 1 (lines text)) ≡ Err fault

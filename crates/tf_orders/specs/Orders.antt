@@ -1,6 +1,7 @@
 -- Orders of jobs. In each, the machines have their jobs in the order in which they process them; a
 -- shop has one order, in which the jobs pass all machines.
-use Rattle.std.specs.Prelude.{◌≡◌, ℕ, pos, ◌+◌, ◌≤◌, ◌==◌, List, [], ◌∷◌, length, map, codes, Option, None, Some, if◌then◌else◌}
+use Rattle.std.specs.Prelude.{◌≡◌, ℕ, pos, ◌≢◌, ◌+◌, ◌≤◌, ◌==◌, Bool, false, List, [], ◌∷◌, ◌++◌, length, map, codes, Option, None, Some, if◌then◌else◌}
+use Rattle.std.specs.List.{count_by}
 use Rattle.std.specs.Option.{option_map}
 use Rattle.std.specs.Str.{bytes_eq}
 use Rattle.tf_words.specs.Words.{words}
@@ -9,6 +10,10 @@ use Rattle.tf_words.specs.declared.ranged.Ranged.{Ranged}
 use Rattle.tf_words.specs.declared.ranged.Ranged.TheVariants.{NotANumber, Below, Above, Within}
 use Rattle.tf_model.specs.Distinct.{IsDistinct}
 use Rattle.tf_model.specs.Whole.{as_time}
+use Rattle.tf_orders.specs.declared.flaw.Flaw.{Flaw}
+use Rattle.tf_orders.specs.declared.flaw.Flaw.TheVariants.{Word, Lists, Twice, Missing}
+use Rattle.tf_orders.specs.declared.flaw.Named.{Named}
+use Rattle.tf_orders.specs.declared.flaw.Named.TheVariants.{Slash, Job}
 use Rattle.tf_orders.specs.declared.order.Turn.{Turn}
 
 -- a number of the range as that of a job
@@ -52,3 +57,36 @@ IsNoOrder n g text = (turns : List Turn) → ¬ (IsOrder n g text turns)
 pub record IsTurn (n g : ℕ) (t : Turn) : Type 0 where
   pub job : (1 ≤ t.job) × (t.job ≤ n)
   pub machine : (1 ≤ t.machine) × (t.machine ≤ g)
+
+-- ---- what is wrong with a text that says no order of the jobs 1 to n on g machines
+
+-- the number is that of job j
+abbrev pub is_number_of : ℕ → Option ℕ → Bool
+is_number_of j None = false
+is_number_of j (Some i) = i == j
+
+-- the word stands for this
+abbrev pub is_named : ℕ → Named → List ℕ → Bool
+is_named n Slash word = bytes_eq word (codes "/")
+is_named n (Job j) word = is_number_of j (job_in n word)
+
+-- how many words stand for this
+abbrev pub times_named : ℕ → Named → List ℕ → ℕ
+times_named n named text = count_by (is_named n named) (words text)
+
+-- the word at place k, counted from 1, is neither a job nor `/`
+pub record IsOtherWord (n : ℕ) (text : List ℕ) (k : ℕ) : Type 0 where
+  pub front : List (List ℕ)
+  pub word : List ℕ
+  pub back : List (List ℕ)
+  pub says : words text ≡ front ++ word ∷ back
+  pub place : k ≡ length front + 1
+  pub slash : bytes_eq word (codes "/") ≡ false
+  pub job : job_in n word ≡ None
+
+-- that is what is wrong
+abbrev pub IsFlaw : ℕ → ℕ → List ℕ → Flaw → Type 0
+IsFlaw n g text (Word k) = IsOtherWord n text k
+IsFlaw n g text Lists = times_named n Slash text + 1 ≢ g
+IsFlaw n g text (Twice j) = 2 ≤ times_named n (Job j) text
+IsFlaw n g text (Missing j) = (1 ≤ j) × (j ≤ n) × (times_named n (Job j) text ≡ 0)

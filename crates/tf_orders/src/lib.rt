@@ -2,6 +2,7 @@
 #![tactic(auto)]
 
 mod case_read;
+pub mod flaw;
 mod laying;
 pub mod measure;
 pub mod order;

@@ -87,8 +87,8 @@ fn turns_in<A: Allocator + Copy>(
     }
 }
 
-// The job that a word names.
-fn job_in(word: &[u8], jobs: u32) -> Option<JobId>
+/// The job from 1 to `jobs` that a word names.
+pub(crate) fn job_in(word: &[u8], jobs: u32) -> Option<JobId>
     ensures job { result ≡ job_in jobs word.now }
     ensures known { IfSome result (λ j. (1 ≤ j) × (j ≤ jobs)) }
 {

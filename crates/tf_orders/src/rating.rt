@@ -5,14 +5,14 @@ ghost use Rattle.tf_model.specs.Limit.{most_bytes};
 ghost use Rattle.tf_engine.specs.Faults.{stop_of};
 ghost use Rattle.tf_check.specs.Judgement.{IsJudged};
 ghost use Rattle.tf_orders.specs.OrderParts.{IsUnrated, IsWithoutRow};
-ghost use Rattle.tf_orders.specs.OrderText.{AreRated, AreRows, IsEvaluatedAs, IsRow, IsRowOf};
+ghost use Rattle.tf_orders.specs.OrderText.{AreRated, AreRows, IsEvaluatedAs, IsLineOf, IsRowOf};
 ghost use Rattle.tf_orders.specs.OrderText.{IsScheduleAssessment, IsScheduleEvaluation};
 
 use crate::measure::Measure;
 use crate::pieces::pieces_in;
 use crate::run_orders::{OrderForm, OrdersRated};
-use crate::schedules::scheduled;
-use crate::writing::{push_problem_row, push_row};
+use crate::schedules::{flaw_of, scheduled};
+use crate::writing::{push_flaw, push_problem_row, push_row};
 use std::alloc::Allocator;
 use tf_assess::assess::{judge_problem_pieces, judged};
 use tf_assess::assessment::Assessment;
@@ -55,8 +55,8 @@ pub(crate) fn rating_of<A: Allocator + Copy>(
     match form {
         OrderForm::Single => single_rating(alloc, measure, text),
         OrderForm::Pieces => pieces_rating(alloc, measure, text),
-        OrderForm::Lines => {
-            let text = rows_of(alloc, &measure, text)?;
+        OrderForm::Lines { goes_on } => {
+            let text = rows_of(alloc, &measure, goes_on, text)?;
             Ok(Rating {
                 text,
                 rated: OrdersRated::Lines,
@@ -175,38 +175,45 @@ fn assessment_of<A: Allocator + Copy, B: Allocator>(
 fn rows_of<A: Allocator + Copy, B: Allocator>(
     alloc: A,
     measure: &Measure<B>,
+    goes_on: bool,
     text: &[u8],
 ) -> Result<Vec<u8, A>, RunFault<A>>
     requires { length text.now ≤ most_bytes }
     ensures { MatchResult result
-        (λ out. AreRows measure.now (kept_lines 1 (lines text.now)) out.items)
-        (λ e. IsUnrated OrderForm.Lines measure.now text.now (stop_of e)) }
+        (λ out. AreRows goes_on measure.now (kept_lines 1 (lines text.now)) out.items)
+        (λ e. IsUnrated (OrderForm.Lines goes_on) measure.now text.now (stop_of e)) }
 {
     let mut out = Vec::new(alloc);
     let mut lines = Lines::new(text);
     while let Some((line, more)) = lines.split_first() {
-        push_line(&mut out, measure, alloc, &line)?;
+        push_line(&mut out, measure, alloc, goes_on, &line)?;
         lines = more;
     }
     Ok(out)
 }
 
-// Adds the line of the order that a line says.
+// Adds the line of the order that a line says, or what is wrong with it.
 fn push_line<A: Allocator + Copy, B: Allocator>(
     out: &mut Vec<u8, A>,
     measure: &Measure<B>,
     alloc: A,
+    goes_on: bool,
     line: &Line<'_>,
 ) -> Result<(), RunFault<A>>
     ensures { MatchResult result
-        (λ _. (row : List ℕ) × IsRow measure.now line.now.bytes.now row
+        (λ _. (row : List ℕ) × IsLineOf goes_on measure.now line.now.bytes.now row
         × (out.new.items ≡ out.old.items ++ row))
-        (λ e. IsWithoutRow measure.now line.now.number line.now.bytes.now (stop_of e)) }
+        (λ e. IsWithoutRow goes_on measure.now line.now.number line.now.bytes.now (stop_of e)) }
 {
-    let Some(pieces) = scheduled(alloc, measure, line.bytes)? else {
+    if let Some(pieces) = scheduled(alloc, measure, line.bytes)? {
+        push_rated(out, measure, alloc, pieces)?;
+        return Ok(());
+    }
+    if !goes_on {
         return Err(RunFault::Answer(AnswerFault::BadLine(line.number)));
-    };
-    push_rated(out, measure, alloc, pieces)?;
+    }
+    let flaw = flaw_of(alloc, measure, line.bytes)?;
+    push_flaw(out, flaw)?;
     Ok(())
 }
 

@@ -21,8 +21,9 @@ pub enum OrderForm {
     /// It is one order. The schedule is evaluated as an answer is, except what an answer claims.
     Single,
     /// Each line that has a word and is no comment is an order. A line is written of each: the cost
-    /// of the schedule and its gap to the optimum or to the lower bound, or the misfit.
-    Lines,
+    /// of the schedule and its gap to the optimum or to the lower bound, or the misfit. Of a line
+    /// that is no order it is `wrong` and why, if the others are gone on with.
+    Lines { goes_on: bool },
     /// It is no order, but the pieces of a schedule, which is evaluated in the same way. The other
     /// lines of an answer may stand before and after them, and aren't looked at.
     Pieces,
@@ -51,8 +52,8 @@ pub enum OrdersRated {
 /// The refusals come in this order: those of [`tf_engine::run_solve::run_solve`], where a problem
 /// of no class is refused only if no kind of certificate bounds it; reading the orders; a cycle of
 /// the arcs; and the first line that is no order, as
-/// [`tf_text::answer::fault::AnswerFault::BadLine`], or the first fault of the pieces. After a
-/// refusal nothing was written, unless it is [`RunFault::Device`], after which a prefix may have
+/// [`tf_text::answer::fault::AnswerFault::BadLine`], unless the others are gone on with, or the
+/// first fault of the pieces. After a refusal nothing was written, unless it is [`RunFault::Device`], after which a prefix may have
 /// been.
 pub fn run_orders<A: Allocator + Copy, B: Allocator, R: Read, S: Read, W: Write>(
     alloc: A,

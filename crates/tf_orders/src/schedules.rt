@@ -1,12 +1,13 @@
 //! The semi-active schedules of orders, by the tasks of classes and of other problems.
-ghost use Rattle.std.specs.Prelude.{◌≡◌, ◌≤◌, length, IfOk, MatchOption};
+ghost use Rattle.std.specs.Prelude.{◌≡◌, ◌≤◌, length, IfOk, IfSome, MatchOption};
 ghost use Rattle.std.specs.List.{All};
 ghost use Rattle.tf_model.specs.Limit.{most_machines};
 ghost use Rattle.tf_orders.specs.Laying.{orders_of, problem_orders_of, problem_schedule_of};
 ghost use Rattle.tf_orders.specs.Laying.{schedule_of, with_problem_turn, with_turn_of};
-ghost use Rattle.tf_orders.specs.Measuring.{IsScheduled, IsUnordered};
-ghost use Rattle.tf_orders.specs.Orders.{IsTurn};
+ghost use Rattle.tf_orders.specs.Measuring.{IsScheduled, IsUnordered, jobs_in, orders_in};
+ghost use Rattle.tf_orders.specs.Orders.{IsFlaw, IsTurn};
 
+use crate::flaw::{Flaw, flaw_in};
 use crate::laying::Laying;
 use crate::measure::Measure;
 use crate::order::{Turn, order_in};
@@ -41,6 +42,28 @@ pub(crate) fn scheduled<A: Allocator + Copy, B: Allocator>(
             };
             let pieces = problem_schedule_of(alloc, task, &turns)?;
             Ok(Some(pieces))
+        }
+    }
+}
+
+/// What is wrong with a text that says no order, as far as it is found. Only want of memory is an
+/// error.
+pub(crate) fn flaw_of<A: Allocator, B: Allocator>(
+    alloc: A,
+    measure: &Measure<B>,
+    text: &[u8],
+) -> Result<Option<Flaw>, OutOfMemory>
+    ensures { IfOk result (λ found. IfSome found
+        (IsFlaw (jobs_in measure.now) (orders_in measure.now) text.now)) }
+{
+    match measure {
+        Measure::Optimum { task, .. } => {
+            let found = flaw_in(alloc, task.len() as u32, orders_of(task), text)?;
+            Ok(found)
+        }
+        Measure::Bound { task, .. } => {
+            let found = flaw_in(alloc, task.len() as u32, problem_orders_of(task), text)?;
+            Ok(found)
         }
     }
 }

@@ -1,8 +1,9 @@
 //! The lines of orders, written.
 ghost use Rattle.std.specs.Prelude.{◌≡◌, ◌++◌, OnOk};
 ghost use Rattle.tf_text.specs.AnswerText.{line_text};
-ghost use Rattle.tf_orders.specs.OrderText.{problem_row_words, row_words};
+ghost use Rattle.tf_orders.specs.OrderText.{problem_row_words, row_words, wrong_words};
 
+use crate::flaw::Flaw;
 use itoa::Buffer;
 use std::alloc::Allocator;
 use tf_assess::assessment::ProblemFit;
@@ -60,4 +61,27 @@ fn push_numbers<A: Allocator>(
     };
     let mut digits = Buffer::new();
     push_number_line(text, digits.format(value).as_bytes(), value.abs_diff(bound))
+}
+
+/// Adds the line of a text that says no order: what is wrong with it, if that is known.
+pub(crate) fn push_flaw<A: Allocator>(
+    text: &mut Vec<u8, A>,
+    flaw: Option<Flaw>,
+) -> Result<(), OutOfMemory>
+    ensures { OnOk result (text.new.items ≡ text.old.items
+        ++ line_text (wrong_words flaw)) }
+{
+    let Some(flaw) = flaw else {
+        text.extend_from_slice(b"wrong\n")?;
+        return Ok(());
+    };
+    match flaw {
+        Flaw::Word(place) => push_number_line(text, b"wrong word", place),
+        Flaw::Twice(job) => push_number_line(text, b"wrong twice", job.get()),
+        Flaw::Missing(job) => push_number_line(text, b"wrong missing", job.get()),
+        Flaw::Lists => {
+            text.extend_from_slice(b"wrong lists\n")?;
+            Ok(())
+        }
+    }
 }

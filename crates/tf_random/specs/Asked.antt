@@ -14,7 +14,7 @@ pub record IsTableFor (wanted : Wanted) (text : List ℕ) : Type 0 where
   pub problem : Problem
   pub is_read : notation wanted.problem.now ≡ Ok problem
   pub plan : Plan
-  pub planned : plan_of problem wanted.jobs wanted.machines wanted.seed ≡ Some plan
+  pub planned : plan_of problem wanted.jobs wanted.machines wanted.most wanted.seed ≡ Some plan
   pub text_is : text ≡ random_table problem plan
 
 -- the notation is at fault, or a table has no place for the problem
@@ -22,5 +22,5 @@ abbrev pub IsFaultOf : Wanted → RandomFault → Type 0
 IsFaultOf wanted (Notation fault) = notation wanted.problem.now ≡ Err fault.byte
 IsFaultOf wanted NotInATable =
     (problem : Problem) × (notation wanted.problem.now ≡ Ok problem)
-    × (plan_of problem wanted.jobs wanted.machines wanted.seed ≡ None)
+    × (plan_of problem wanted.jobs wanted.machines wanted.most wanted.seed ≡ None)
 IsFaultOf wanted OutOfMemory = Unit {0}

@@ -21,23 +21,25 @@ machines_in JobShop count machines = 0
 abbrev pub machines_of : Problem → Option ℕ → ℕ
 machines_of problem machines = machines_in problem.env problem.count machines
 
--- about how long so many jobs take: 50 time steps each, on all machines where they are parallel
-abbrev pub work_in : Env → ℕ → ℕ → ℕ
-work_in Single jobs machines = jobs * 50
-work_in Parallel jobs machines = jobs * 50 / max machines 1
-work_in Uniform jobs machines = jobs * 50
-work_in Unrelated jobs machines = jobs * 50
-work_in Flow jobs machines = jobs * 50
-work_in OpenShop jobs machines = jobs * 50
-work_in JobShop jobs machines = jobs * 50
+-- about how long so many jobs take of at most so many time steps: half of that each, on all machines
+-- where they are parallel
+abbrev pub work_in : Env → ℕ → ℕ → ℕ → ℕ
+work_in Single jobs machines most = jobs * most / 2
+work_in Parallel jobs machines most = jobs * most / 2 / max machines 1
+work_in Uniform jobs machines most = jobs * most / 2
+work_in Unrelated jobs machines most = jobs * most / 2
+work_in Flow jobs machines most = jobs * most / 2
+work_in OpenShop jobs machines most = jobs * most / 2
+work_in JobShop jobs machines most = jobs * most / 2
 
-abbrev pub work_of : Problem → ℕ → ℕ → ℕ
-work_of problem jobs machines = work_in problem.env jobs machines
+abbrev pub work_of : Problem → ℕ → ℕ → ℕ → ℕ
+work_of problem jobs machines most = work_in problem.env jobs machines most
 
-abbrev pub planned : Problem → ℕ → ℕ → ℕ → Plan
-planned problem jobs machines seed = record {
+abbrev pub planned : Problem → ℕ → ℕ → ℕ → ℕ → Plan
+planned problem jobs machines most seed = record {
   jobs = jobs;
   machines = machines;
+  most = most;
   seed = seed;
   second = is_shop_env problem.env;
   weight = has_weight problem.goal;
@@ -45,13 +47,13 @@ planned problem jobs machines seed = record {
   release = problem.release;
   cost = has_cost problem.goal;
   arcs = problem.prec;
-  work = work_of problem jobs machines;
+  work = work_of problem jobs machines most;
 }
 
 -- the plan of a table for a problem, if a table can be written for it
-abbrev pub plan_of : Problem → ℕ → Option ℕ → ℕ → Option Plan
-plan_of problem jobs machines seed =
-    if is_written problem then Some (planned problem jobs (machines_of problem machines) seed)
+abbrev pub plan_of : Problem → ℕ → Option ℕ → ℕ → ℕ → Option Plan
+plan_of problem jobs machines most seed =
+    if is_written problem then Some (planned problem jobs (machines_of problem machines) most seed)
     else None
 
 -- draw i of job k, below `most`

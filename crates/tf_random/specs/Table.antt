@@ -1,5 +1,5 @@
 -- The text of a random table.
-use Rattle.std.specs.Prelude.{ℕ, ◌+◌, ◌-◌, ◌/◌, Bool, ◌==◌, nat_le, ◌&&◌, List, [], ◌++◌, codes, if◌then◌else◌}
+use Rattle.std.specs.Prelude.{ℕ, ◌+◌, ◌-◌, ◌/◌, Bool, ◌==◌, nat_le, ◌&&◌, List, [], ◌++◌, codes, if◌then◌else◌, max, not}
 use Rattle.std.specs.Fmt.{decimal}
 use Rattle.std.specs.List.{flat_map, range_with_len}
 use Rattle.tf_model.specs.declared.problem.Problem.{Problem}
@@ -40,8 +40,8 @@ cost_if plan k = if plan.cost then cost plan k else []
 abbrev pub times : Plan → ℕ → List ℕ
 times plan k =
     part (codes "job ") k
-    ++ part (codes " p=") (value plan k 1 100 + 1)
-    ++ part_if plan.second (codes ",") (value plan k 2 100 + 1)
+    ++ part (codes " p=") (value plan k 1 (max plan.most 1) + 1)
+    ++ part_if plan.second (codes ",") (value plan k 2 (max plan.most 1) + 1)
 
 -- the fields that are numbers
 abbrev pub fields : Plan → ℕ → List ℕ
@@ -70,11 +70,15 @@ abbrev pub machines_line : ℕ → List ℕ
 machines_line machines =
     if machines == 0 then [] else part (codes "machines ") machines ++ codes "\n"
 
--- a comment with the problem and the seed, and the first lines
+-- the longest processing time, where it is not 100
+abbrev pub most_part : ℕ → List ℕ
+most_part most = part_if (not (most == 100)) (codes ", times up to ") most
+
+-- a comment with the problem, the seed and the longest processing time, and the first lines
 abbrev pub heading : List ℕ → Plan → List ℕ
 heading notation plan =
-    codes "# " ++ notation ++ part (codes ", seed ") plan.seed ++ codes "\ntable 1\n"
-    ++ machines_line plan.machines
+    codes "# " ++ notation ++ part (codes ", seed ") plan.seed ++ most_part plan.most
+    ++ codes "\ntable 1\n" ++ machines_line plan.machines
 
 -- the whole
 unfoldable pub random_table : Problem → Plan → List ℕ

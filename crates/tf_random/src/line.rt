@@ -25,9 +25,10 @@ fn push_times(text: &mut Vec<u8>, plan: &Plan, k: u32) -> Result<(), OutOfMemory
     requires { 0 < k }
     ensures { OnOk result (text.new.items ≡ text.old.items ++ times plan.now k) }
 {
+    let most = u64::from(plan.most.max(1));
     push_part(text, b"job ", u64::from(k))?;
-    push_part(text, b" p=", plan.value(k, 1, 100) + 1)?;
-    push_part_if(text, plan.second, b",", plan.value(k, 2, 100) + 1)
+    push_part(text, b" p=", plan.value(k, 1, most) + 1)?;
+    push_part_if(text, plan.second, b",", plan.value(k, 2, most) + 1)
 }
 
 // The fields that are numbers.

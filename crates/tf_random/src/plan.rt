@@ -16,6 +16,8 @@ pub struct Plan {
     pub jobs: u32,
     /// The number of machines that the table names, or 0 where it names none.
     pub machines: u32,
+    /// The longest processing time, from 1.
+    pub most: u32,
     pub seed: u32,
     /// Whether a job has a second processing time.
     pub second: bool,
@@ -30,9 +32,16 @@ pub struct Plan {
 
 impl Plan {
     /// The plan of a table for a problem, if a table can be written for it. The number of machines
-    /// is used where they are parallel and the problem names none; it is 2 if it is not given.
-    pub fn of(problem: &Problem, jobs: u32, machines: Option<u32>, seed: u32) -> Option<Plan>
-        ensures { result ≡ plan_of problem.now jobs machines seed }
+    /// is used where they are parallel and the problem names none; it is 2 if it is not given. The
+    /// longest processing time is at least 1.
+    pub fn of(
+        problem: &Problem,
+        jobs: u32,
+        machines: Option<u32>,
+        most: u32,
+        seed: u32,
+    ) -> Option<Plan>
+        ensures { result ≡ plan_of problem.now jobs machines most seed }
     {
         if !is_written(problem) {
             return None;
@@ -41,6 +50,7 @@ impl Plan {
         Some(Plan {
             jobs,
             machines,
+            most,
             seed,
             second: problem.env.is_shop(),
             weight: has_weight(problem.goal),
@@ -48,7 +58,7 @@ impl Plan {
             release: problem.release,
             cost: has_cost(problem.goal),
             arcs: problem.prec,
-            work: work_of(problem, jobs, machines),
+            work: work_of(problem, jobs, machines, most),
         })
     }
 
@@ -75,11 +85,12 @@ fn machines_of(problem: &Problem, machines: Option<u32>) -> u32
     }
 }
 
-// About how long so many jobs take: 50 time steps each, on all machines where they are parallel.
-fn work_of(problem: &Problem, jobs: u32, machines: u32) -> u64
-    ensures { result ≡ work_of problem.now jobs machines }
+// About how long so many jobs take of at most so many time steps: half of that each, on all machines
+// where they are parallel.
+fn work_of(problem: &Problem, jobs: u32, machines: u32, most: u32) -> u64
+    ensures { result ≡ work_of problem.now jobs machines most }
 {
-    let work = u64::from(jobs) * 50;
+    let work = u64::from(jobs) * u64::from(most) / 2;
     match problem.env {
         Env::Parallel => work / u64::from(machines.max(1)),
         _ => work,

@@ -17,6 +17,8 @@ pub struct Wanted<'a> {
     pub jobs: u32,
     /// The number of machines, where they are parallel and the problem names none.
     pub machines: Option<u32>,
+    /// The longest processing time, from 1.
+    pub most: u32,
     pub seed: u32,
 }
 
@@ -38,7 +40,13 @@ pub fn run_random(alloc: Global, wanted: &Wanted<'_>) -> Result<Vec<u8>, RandomF
         Ok(problem) => problem,
         Err(fault) => return Err(RandomFault::Notation(fault)),
     };
-    let Some(plan) = Plan::of(&problem, wanted.jobs, wanted.machines, wanted.seed) else {
+    let Some(plan) = Plan::of(
+        &problem,
+        wanted.jobs,
+        wanted.machines,
+        wanted.most,
+        wanted.seed,
+    ) else {
         return Err(RandomFault::NotInATable);
     };
     match random_table(alloc, &problem, &plan) {

@@ -6,7 +6,7 @@ ghost use Rattle.tf_random.specs.Table.{random_table};
 
 use crate::line::{push_arc_if, push_job};
 use crate::plan::Plan;
-use crate::writing::push_part;
+use crate::writing::{push_part, push_part_if};
 use std::alloc::Global;
 use tf_model::memory::OutOfMemory;
 use tf_model::problem::Problem;
@@ -32,6 +32,12 @@ fn push_heading(text: &mut Vec<u8>, notation: &[u8], plan: &Plan) -> Result<(), 
     text.extend_from_slice(b"# ")?;
     text.extend_from_slice(notation)?;
     push_part(text, b", seed ", u64::from(plan.seed))?;
+    push_part_if(
+        text,
+        plan.most != 100,
+        b", times up to ",
+        u64::from(plan.most),
+    )?;
     text.extend_from_slice(b"\ntable 1\n")?;
     push_machines(text, plan.machines)
 }

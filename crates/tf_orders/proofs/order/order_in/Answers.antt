@@ -1,7 +1,6 @@
-use Rattle.std.proofs.Common.{◌≡◌, ℕ, List, Some, None, true, false, IfSome, MatchOption, length, ap, subst, ◌∙◌, arith}
+use Rattle.std.proofs.Common.{◌≡◌, Some, None, IfSome, MatchOption, ap, subst, ◌∙◌, arith}
 use Rattle.std.specs.List.{All}
 use Rattle.tf_words.specs.Words.{words}
-use Rattle.tf_orders.specs.declared.order.Turn.{Turn}
 use Rattle.tf_orders.specs.Orders.{IsTurn, jobs_of, turns_from}
 use Rattle.tf_orders.proofs.Turns.{known_jobs, no_order, order_is}
 use Rattle.tf_orders.proofs.order.order_in.Goals as goal
