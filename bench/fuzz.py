@@ -15,6 +15,7 @@ alone, so it can be run again. What is looked for:
 - another status with --json than without it, or something else than one JSON object on standard output, where the command line
   takes --json and asks for the same with it;
 - the same with --csv: another status, or no table of a heading and rows of as many whole numbers;
+- a value, an optimum or a gap in the JSON object that is not the one of the text, or rows of the table that are not its pieces or jobs;
 - a control byte other than a line feed, or a byte that is not ASCII, on standard output;
 - a picture that is no well-formed XML, and LaTeX whose braces do not match.
 """
@@ -151,6 +152,26 @@ def is_table(text):
     return lines[-1] == "" and all(len(row) == width + 1 and all(map(NUMBER.fullmatch, row)) for row in cells)
 
 
+def lines_of(text, key):
+    """The words behind a key, of each line of a text that begins with it."""
+    return [words[1:] for words in map(str.split, text.decode("latin-1").split("\n")) if words[:1] == [key]]
+
+
+def differing(text, described):
+    """The numbers of a text that a JSON object gives otherwise."""
+    stated = {key: found[0] for key in ("value", "best", "gap") if (found := lines_of(text, key))}
+    stated |= {"gap": words[1:] for words in lines_of(text, "##") if words[:1] == ["gap"]}
+    members = json.loads(described)
+    return [key for key, words in stated.items() if key in members and str(members[key]) != " ".join(words)]
+
+
+def has_its_rows(text, table):
+    """Whether a table has the pieces of a text, or else the lines of its jobs, in their order."""
+    rows = [row.split(",") for row in table.decode("latin-1").split("\n")[1:-1]]
+    pieces = lines_of(text, "piece") or [words for words in lines_of(text, "job") if len(words) == 4]
+    return rows == pieces
+
+
 def has_raw_byte(text):
     return any(byte != 10 and not 32 <= byte < 127 for byte in text)
 
@@ -190,6 +211,11 @@ def faults(words, outcomes):
         written = outcomes[name].written if name in outcomes else b""
         if written and not is_right(written):
             yield f"no right output with {name}: {written!r}"
+    for name, is_right, agrees in (("--json", is_object, lambda one, other: not differing(one, other)),
+                                   ("--csv", is_table, has_its_rows)):
+        written = outcomes[name].written if name in outcomes else b""
+        if plain.written and written and is_right(written) and not agrees(plain.written, written):
+            yield f"{name} says otherwise: {written!r} for {plain.written!r}"
     if plain.status == 0:
         yield from faults_of_text(plain.written)
 
