@@ -3,9 +3,11 @@
 
     python3 bench/compare_verify.py PROGRAM SEED COUNT
 
-For each problem that is solved it makes small job tables, has the program solve them in both versions of the answer text,
-damages most of the answers (and now and then the table), and has `PROGRAM check` and verify.py judge them: the line on
-standard output and the status have to be the same. COUNT is the number of answers that are judged.
+First verify.py judges the sessions of `check` and `solve` over job tables, whose outcome is worked by hand there: each misfit, each
+fault of a certificate, each refusal; what `solve` prints has to be accepted. Then, for each problem that is solved, it makes small
+job tables, has the program solve them in both versions of the answer text, damages most of the answers (and now and then the
+table), and has `PROGRAM check` and verify.py judge them: the line on standard output and the status have to be the same. COUNT is
+the number of answers that are judged so.
 """
 import collections
 import os
@@ -17,12 +19,15 @@ import tempfile
 
 HERE = os.path.dirname(os.path.abspath(__file__))
 sys.path.insert(0, os.path.join(HERE, "..", "examples"))
+import sessions  # noqa: E402
 import verify  # noqa: E402
 
 PROBLEMS = [name.replace("prmp,rj", "rj,prmp") for name in sorted(verify.SOLVED)]
 OTHERS = ["1||sumX", "1||sumU", "F3||Cmax", "P|prmp|sumC", "1|rj|Lmax", "1 | pmtn , r_j | L_max", "Pm|pmtn|C_max"]
 NUMBERS = ["0", "1", "-1", "2", "3", "7", "007", "100001", "1001", str(4 * 10**18), str(4 * 10**18 + 1), str(-2**63), str(2**63), "x", "1-2",
            "9" * 5000, "0" * 5000 + "3"]
+# Where a table is refused, it is before this.
+OTHER_ANSWER = "answer 2\nproblem 1||Lmax\njobs 1\nmachines 1\nvalue 0\ncert last 1\nend\n"
 WORDS = ["piece", "cert", "end", "value", "problem", "last", "window", "ranks", "pairs", "load", "split", "first", "second", "machine",
          "job", "jobs", "machines", "answer", "1-3", "3-1", "1-100000", "#", "1||Lmax", "O2||Cmax"]
 
@@ -121,17 +126,65 @@ def solved(program, folder, problem, machines, text, version):
     return done.stdout
 
 
+def asked_in(words):
+    """The problem, the number of machines and the files of a command line; nothing where it has options of another form."""
+    named, places = {}, []
+    rest = iter(words[1:])
+    for word in rest:
+        if word in ("-p", "--problem", "-m", "--machines", "--answer"):
+            named[word.lstrip("-")[0]] = next(rest)
+        elif word.startswith("-") and word != "-" and not word.startswith("--explain"):
+            return None
+        else:
+            places += [word] if not word.startswith("--explain") else []
+    if "p" not in named or not named.get("m", "1").isdigit():
+        return None
+    return named["p"], int(named["m"]) if "m" in named else None, places
+
+
+def texts_in(command, places):
+    """The table and the answer that a session judges or prints, and the outcome; nothing where it has none."""
+    if any(name not in command.texts for name in places) or command.status > 2:
+        return None
+    texts = [command.texts[name].encode() for name in places]
+    kind = command.words()[0]
+    if kind == "check" and len(texts) == 2:
+        return texts, (command.output.rstrip("\n"), command.status)
+    # A cycle of arcs is the solver's own refusal: an answer is judged all the same.
+    if kind == "solve" and len(texts) == 1 and "refused: Cycle" not in command.errors:
+        return [*texts, (command.output or OTHER_ANSWER).encode()], ("", 2) if command.status else ("accepted", 0)
+    return None
+
+
+def in_sessions():
+    """Each session that verify.py can judge: its outcome, its place, and what verify.py says."""
+    for path in sessions.files():
+        for command in sessions.commands(path):
+            words = command.words()
+            asked = asked_in(words) if words[:1] in (["check"], ["solve"]) else None
+            judged_by = texts_in(command, asked[2]) if asked else None
+            if judged_by:
+                texts, shown = judged_by
+                line, status = verify.judge(asked[0].encode("utf-8", "surrogateescape"), *texts, asked[1])
+                yield shown, f"{os.path.basename(path)}:{command.number}", ("" if status == 2 else line, status)
+
+
 def main(program, seed, count):
     program, rng = os.path.abspath(program), random.Random(seed)
     seen, differ = collections.Counter(), 0
+    for shown, place, given in in_sessions():
+        seen["in sessions"] += 1
+        if given != shown:
+            differ += 1
+            print(f"{place}: verify.py says {given}, and the session shows {shown}")
     with tempfile.TemporaryDirectory() as folder:
-        while seen.total() < int(count):
+        while seen.total() - seen["in sessions"] < int(count):
             problem = rng.choice(PROBLEMS)
             machines = rng.choice([1, 2, 3]) if problem[0] == "P" else 2 if problem[0] in "FO" else None
             jobs = table(rng, problem)
             answer = solved(program, folder, problem, machines, jobs, rng.choice("12"))
             if not answer:
-                answer = "answer 2\nproblem 1||Lmax\njobs 1\nmachines 1\nvalue 0\ncert last 1\nend\n"
+                answer = OTHER_ANSWER
             for _ in range(8):
                 text, asked, own = answer, problem, jobs
                 for _ in range(rng.choice([0, 1, 1, 1, 2])):
