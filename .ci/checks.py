@@ -20,19 +20,22 @@ NODE_COUNTS = re.compile(r"^\S+ pass (\d+)\n\S+ fail (\d+)$", re.MULTILINE)
 INSTALL_SECONDS = 900
 
 
-def has(tool, package):
-    """Whether there is a tool, which is installed, with what its check needs, where Debian's packages can be."""
-    if shutil.which(tool) is None and os.geteuid() == 0 and shutil.which("apt-get"):
-        for words in ["update", "-qq"], ["install", "-y", "-qq", "--no-install-recommends", *package.split()]:
+def has(tools, packages):
+    """Whether there are the tools that a check needs, which are installed where Debian's packages can be."""
+    def are_here():
+        return all(map(shutil.which, tools.split()))
+
+    if not are_here() and os.geteuid() == 0 and shutil.which("apt-get"):
+        for words in ["update", "-qq"], ["install", "-y", "-qq", "--no-install-recommends", *packages.split()]:
             try:
                 subprocess.run(["apt-get", *words], capture_output=True, timeout=INSTALL_SECONDS)
             except subprocess.TimeoutExpired:
                 break
-    return shutil.which(tool) is not None
+    return are_here()
 
 
 def checks(program):
-    """The name of each check, its words, and the tool and Debian's package that it needs, if any."""
+    """The name of each check, its words, and the tools and Debian's packages that it needs, if any."""
     python = sys.executable
     return [
         ("the commands of the pages", [python, "examples/check_pages.py"], None),
@@ -44,7 +47,7 @@ def checks(program):
         ("plans of every problem that has bounds", [python, "bench/plans.py", program, "11"], None),
         ("an independent checker", [python, "bench/compare_verify.py", program, "1", "1500"], None),
         ("the same status with --explain", [python, "bench/same_status.py", program], None),
-        ("LaTeX of the traces", [python, "bench/latex.py", program], ("pdflatex", "texlive-latex-base poppler-utils")),
+        ("LaTeX of the traces", [python, "bench/latex.py", program], ("pdflatex pdftotext", "texlive-latex-base poppler-utils")),
         ("the page's modules", ["node", "--test", *sorted(glob.glob("web/*_test.mjs", root_dir=TOP))], ("node", "nodejs")),
         ("the page in a browser", [python, "web/test.py", f"--program={program}"], ("chromium", "chromium")),
     ]
