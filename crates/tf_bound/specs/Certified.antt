@@ -2,10 +2,13 @@
 use Rattle.std.specs.Prelude.{◌≡◌, ℕ, ℤ, pos, min}
 use Rattle.tf_problem.specs.ProblemData.{ProblemData}
 use Rattle.tf_problem.specs.ProblemBounds.{machine_value, window_value, crowd_value, one_job_value, any_multiplier_value, alone_cost}
+use Rattle.tf_problem.specs.Kept.{kept_value}
+use Rattle.tf_problem.specs.Shortest.{shortest_value}
+use Rattle.tf_problem.specs.Ranks.{rank_value}
 use Rattle.tf_bound.specs.Prices.{IsPricesBound}
 use Rattle.tf_bound.specs.Judged.{IsDatedTask, IsJudgedTask}
 use Rattle.tf_bound.specs.declared.certificate.BoundCertificate.{BoundCertificate}
-use Rattle.tf_bound.specs.declared.certificate.BoundCertificate.TheVariants.{Machine, Window, Crowd, OneJob, Multipliers, Prices, Alone}
+use Rattle.tf_bound.specs.declared.certificate.BoundCertificate.TheVariants.{Machine, Window, Crowd, OneJob, Multipliers, Prices, Alone, Kept, Shortest, Ranks}
 
 -- the greatest value that the text of a bound can say
 abbrev pub most_value : ℕ
@@ -26,6 +29,9 @@ IsValueOn k (Multipliers machine q numerators arcs) b =
     b ≡ any_multiplier_value k machine numerators.items arcs.items q
 IsValueOn k (Prices q rows) b = IsPricesBound k q rows.items b
 IsValueOn k Alone b = IsAloneBound k b
+IsValueOn k (Kept jobs) b = b ≡ pos (kept_value k jobs.items)
+IsValueOn k (Shortest jobs) b = b ≡ pos (shortest_value k jobs.items)
+IsValueOn k (Ranks jobs) b = b ≡ pos (rank_value k jobs.items)
 
 -- the number is that value on the task on which the certificate is judged
 abbrev pub IsBoundBy : {A : Type 0} → ProblemData → BoundCertificate A → ℤ → Type 0

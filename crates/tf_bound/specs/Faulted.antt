@@ -11,7 +11,10 @@ use Rattle.tf_problem.specs.ProblemData.{ProblemData, problem_jobs, problem_due,
 use Rattle.tf_problem.specs.ProblemCost.{penalty}
 use Rattle.tf_problem.specs.ProblemBounds.{head, int_sum, numerator, tail, arcs_from, arcs_to, arcs_gain, moved, owed_dues}
 use Rattle.tf_problem.specs.Relaxed.{weighed_task}
-use Rattle.tf_bound.specs.Kinds.{takes_machine, takes_windows, takes_crowds, takes_one_job, takes_multipliers, takes_prices, takes_alone}
+use Rattle.tf_problem.specs.Kept.{due_time}
+use Rattle.tf_problem.specs.Shortest.{shortest_value}
+use Rattle.tf_problem.specs.Ranks.{rank_value}
+use Rattle.tf_bound.specs.Kinds.{takes_machine, takes_windows, takes_crowds, takes_one_job, takes_multipliers, takes_prices, takes_alone, takes_kept, takes_shortest, takes_ranks}
 use Rattle.tf_bound.specs.declared.fault.BoundFault.{BoundFault}
 use Rattle.tf_bound.specs.declared.fault.BoundFault.TheVariants.{OtherKind, NoDenominator, BadMachine, BadJob, Repeated, TooFew, Numerators, Condition, TooLarge, OutOfMemory}
 use Rattle.tf_bound.specs.declared.certificate.BoundCertificate.{BoundCertificate}
@@ -227,6 +230,44 @@ prices_fault k q prices =
 abbrev pub alone_fault : ProblemData → Option BoundFault
 alone_fault k = other_kind (takes_alone k.problem)
 
+-- ---- lists in an order
+
+-- the first job of which f is less than that of the job before it, which is t
+abbrev pub falls_fault : (ℕ → ℕ) → ℕ → List ℕ → Option BoundFault
+falls_fault f t [] = None
+falls_fault f t (j ∷ jobs) = if nat_lt (f j) t then Some (Condition j) else falls_fault f (f j) jobs
+
+-- the first job of which f is more than that of the job before it, which is t
+abbrev pub rises_fault : (ℕ → ℕ) → ℕ → List ℕ → Option BoundFault
+rises_fault f t [] = None
+rises_fault f t (j ∷ jobs) = if nat_lt t (f j) then Some (Condition j) else rises_fault f (f j) jobs
+
+-- jobs by due date
+abbrev pub kept_fault : ProblemData → List ℕ → Option BoundFault
+kept_fault k jobs =
+    option_or (other_kind (takes_kept k.problem))
+    (option_or (list_fault k [] jobs)
+    (option_or (too_few 0 jobs)
+    (falls_fault (due_time k) 0 jobs)))
+
+-- jobs by release date
+abbrev pub shortest_fault : ProblemData → List ℕ → Option BoundFault
+shortest_fault k jobs =
+    option_or (other_kind (takes_shortest k.problem))
+    (option_or (list_fault k [] jobs)
+    (option_or (too_few 0 jobs)
+    (option_or (falls_fault (problem_release k) 0 jobs)
+    (too_large (nat_lt limit (shortest_value k jobs))))))
+
+-- jobs by falling time
+abbrev pub ranks_fault : ProblemData → List ℕ → Option BoundFault
+ranks_fault k jobs =
+    option_or (other_kind (takes_ranks k.problem))
+    (option_or (list_fault k [] jobs)
+    (option_or (too_few 0 jobs)
+    (option_or (rises_fault (problem_time k) limit jobs)
+    (too_large (nat_lt limit (rank_value k jobs))))))
+
 -- ---- any kind
 
 abbrev pub certificate_fault : {A : Type 0} → ProblemData → BoundCertificate A → Option BoundFault
@@ -238,3 +279,6 @@ certificate_fault k (kinds.Multipliers machine q numerators arcs) =
     multipliers_fault k machine q numerators.items arcs.items
 certificate_fault k (kinds.Prices q rows) = prices_fault k q rows.items
 certificate_fault k kinds.Alone = alone_fault k
+certificate_fault k (kinds.Kept jobs) = kept_fault k jobs.items
+certificate_fault k (kinds.Shortest jobs) = shortest_fault k jobs.items
+certificate_fault k (kinds.Ranks jobs) = ranks_fault k jobs.items

@@ -1,7 +1,9 @@
 -- Which kind of certificate bounds the tasks of which problem.
-use Rattle.std.specs.Prelude.{Bool, not, ◌&&◌, ◌||◌}
+use Rattle.std.specs.Prelude.{Bool, true, false, not, ◌&&◌, ◌||◌}
 use Rattle.tf_model.specs.declared.problem.Problem.{Problem}
-use Rattle.tf_model.specs.ClassTable.{is_shop_env}
+use Rattle.tf_model.specs.declared.problem.Goal.{Goal}
+use Rattle.tf_model.specs.declared.problem.Goal.TheVariants as goals
+use Rattle.tf_model.specs.ClassTable.{is_single_env, is_shop_env}
 use Rattle.tf_problem.specs.ProblemBounds.{is_alike, is_by_machine, is_max_goal, is_sum_goal, is_tardy_goal}
 
 -- the makespan or the maximum lateness, on one machine or in a shop
@@ -31,3 +33,23 @@ takes_prices p = (is_alike p.env && not p.prmp) && is_sum_goal p.goal
 -- a sum over the jobs
 abbrev pub takes_alone : Problem → Bool
 takes_alone p = is_sum_goal p.goal
+
+abbrev pub is_late_jobs : Goal → Bool
+is_late_jobs goals.SumU = true
+is_late_jobs _ = false
+
+abbrev pub is_completions : Goal → Bool
+is_completions goals.SumC = true
+is_completions _ = false
+
+-- the number of late jobs, on one machine or on identical ones
+abbrev pub takes_kept : Problem → Bool
+takes_kept p = is_alike p.env && is_late_jobs p.goal
+
+-- the sum of completion times on one machine
+abbrev pub takes_shortest : Problem → Bool
+takes_shortest p = is_single_env p.env && is_completions p.goal
+
+-- the sum of completion times, on one machine or on identical ones
+abbrev pub takes_ranks : Problem → Bool
+takes_ranks p = is_alike p.env && is_completions p.goal

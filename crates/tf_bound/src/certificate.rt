@@ -7,10 +7,13 @@ ghost use Rattle.tf_bound.specs.Certified.{IsBoundBy, IsValueOn};
 use crate::alike::{crowd_bound, one_job_bound, window_bound};
 use crate::alone::alone_bound;
 use crate::fault::BoundFault;
+use crate::kept::kept_bound;
 use crate::machine::machine_bound;
 use crate::multipliers::multipliers_bound;
 use crate::prices::prices_bound;
 use crate::pushed::judged_task;
+use crate::ranks::ranks_bound;
+use crate::shortest::shortest_bound;
 use crate::task::ProblemTask;
 use std::alloc::{Allocator, Global};
 use tf_model::ids::JobId;
@@ -50,6 +53,18 @@ pub enum BoundCertificate<A: Allocator = Global> {
     },
     /// Each job by itself, from its release date on, or from the one that follows by the arcs.
     Alone,
+    /// Some jobs by due date: how many of them are late.
+    Kept {
+        jobs: Vec<JobId, A>,
+    },
+    /// Some jobs by release date, on one machine: the shortest remaining time is always next.
+    Shortest {
+        jobs: Vec<JobId, A>,
+    },
+    /// Some jobs by falling time, each counted by its rank on the machines.
+    Ranks {
+        jobs: Vec<JobId, A>,
+    },
 }
 
 impl<A: Allocator> BoundCertificate<A> {
@@ -95,6 +110,9 @@ impl<A: Allocator> BoundCertificate<A> {
             } => multipliers_bound(alloc, task, *machine, numerators, arcs, *q),
             BoundCertificate::Prices { q, rows } => prices_bound(alloc, task, *q, rows),
             BoundCertificate::Alone => alone_bound(alloc, task),
+            BoundCertificate::Kept { jobs } => kept_bound(alloc, task, jobs),
+            BoundCertificate::Shortest { jobs } => shortest_bound(alloc, task, jobs),
+            BoundCertificate::Ranks { jobs } => ranks_bound(alloc, task, jobs),
         }
     }
 }

@@ -24,3 +24,14 @@ pub mod FastMachine
 pub mod SharedMultipliers
 pub mod AnyMultipliers
 pub mod ArcExamples
+pub mod Piles
+pub mod Kept
+pub mod Reached
+pub mod InTurn
+pub mod KeptBest
+pub mod Over
+pub mod Shortest
+pub mod ShortestBest
+pub mod Ranks
+pub mod RankBest
+pub mod KeptExamples

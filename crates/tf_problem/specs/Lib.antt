@@ -6,4 +6,7 @@ pub mod Relaxed
 pub mod ProblemBounds
 pub mod Agreement
 pub mod Pushed
+pub mod Kept
+pub mod Shortest
+pub mod Ranks
 pub mod ProblemLaws

@@ -4,6 +4,9 @@ ghost use Rattle.tf_problem.specs.ProblemData.{ProblemData, IsProblemSound};
 ghost use Rattle.tf_problem.specs.ProblemLaws.{CertificateLaw, BestLaw, RelaxationLaw, PushedLaw};
 ghost use Rattle.tf_problem.specs.ProblemLaws.{WindowLaw, CrowdLaw, OneJobLaw, MachineLaw};
 ghost use Rattle.tf_problem.specs.ProblemLaws.{MultiplierLaw, PricesLaw, CheapestLaw, AloneLaw};
+ghost use Rattle.tf_problem.specs.Kept.{KeptBestLaw, KeptLaw};
+ghost use Rattle.tf_problem.specs.Shortest.{ShortestBestLaw, ShortestLaw};
+ghost use Rattle.tf_problem.specs.Ranks.{RankBestLaw, RankLaw};
 ghost use Rattle.tf_problem.specs.Agreement.{AgreementLaw};
 
 /// A lower bound that a certificate gives of a relaxed task is one of the task.
@@ -65,6 +68,40 @@ pub fn cheapest_law()
 /// A lower bound by each job by itself, for any sum.
 pub fn alone_law()
     ensures { AloneLaw }
+{}
+
+/// A lower bound of the number of late jobs by the jobs that can be kept (Moore 1968).
+pub fn kept_law()
+    ensures { KeptLaw }
+{}
+
+/// The minimum number of late jobs on one machine by the jobs that can be kept (Moore 1968).
+pub fn kept_best_law()
+    ensures { KeptBestLaw }
+{}
+
+/// A lower bound of the sum of completion times on one machine with release dates, by the shortest
+/// remaining processing time (Schrage 1968).
+pub fn shortest_law()
+    ensures { ShortestLaw }
+{}
+
+/// The minimum sum of completion times on one machine with release dates and preemption, by the
+/// shortest remaining processing time (Schrage 1968).
+pub fn shortest_best_law()
+    ensures { ShortestBestLaw }
+{}
+
+/// A lower bound of the sum of completion times on identical machines by ranks, with or without
+/// preemption (McNaughton 1959).
+pub fn rank_law()
+    ensures { RankLaw }
+{}
+
+/// The minimum sum of completion times on identical machines with preemption, by ranks (McNaughton
+/// 1959).
+pub fn rank_best_law()
+    ensures { RankBestLaw }
 {}
 
 /// On a problem of a class the task of the problem means what the class's task means.
