@@ -6,14 +6,14 @@ use Rattle.std.proofs.lemmas.List.FromFn.{length-map-range_with_len}
 use Rattle.tf_model.specs.declared.problem.Goal.{Goal}
 use Rattle.tf_model.specs.declared.problem.Goal.TheVariants as goals
 use Rattle.tf_model.specs.Bounds.{stands_in}
-use Rattle.tf_model.specs.ClassTable.{is_shop_env}
+use Rattle.tf_model.specs.ClassTable.{is_single_env, is_shop_env}
 use Rattle.tf_problem.specs.ProblemData.{ProblemData}
 use Rattle.tf_problem.specs.ProblemBounds.{is_alike, is_by_machine, is_max_goal, is_sum_goal, is_tardy_goal}
 use Rattle.tf_problem.specs.Pushed.{with_dates, pushed_job}
 use Rattle.tf_problem.proofs.PushedBounds.{lateness_is}
 use Rattle.tf_bound.specs.Judged.{IsPushedTask}
-use Rattle.tf_bound.specs.Kinds.{takes_machine, takes_one_job}
-use Rattle.tf_bound.specs.Faulted.{is_job, list_fault, no_job, other_kind, no_machine, too_few, certificate_fault, multipliers_fault, prices_fault, alone_fault, NamesFault}
+use Rattle.tf_bound.specs.Kinds.{is_completions, is_late_jobs, takes_machine, takes_one_job}
+use Rattle.tf_bound.specs.Faulted.{is_job, list_fault, no_job, other_kind, no_machine, too_few, certificate_fault, multipliers_fault, prices_fault, alone_fault, kept_fault, shortest_fault, ranks_fault, NamesFault}
 use Rattle.tf_bound.specs.declared.fault.BoundFault.{BoundFault}
 use Rattle.tf_bound.specs.declared.fault.BoundFault.TheVariants.{OtherKind, BadJob, Repeated}
 use Rattle.tf_bound.specs.declared.certificate.BoundCertificate.{BoundCertificate}
@@ -78,6 +78,46 @@ no_alone : (k : ProblemData) → IsTrue (is_max_goal k.problem.goal)
     → alone_fault k ≡ Some OtherKind
 no_alone k h = wrong_kind _ (not_sum k.problem.goal h)
 
+not_late : (g : Goal) → IsTrue (is_max_goal g) → is_late_jobs g ≡ false
+not_late goals.Cmax h = refl
+not_late goals.Lmax h = refl
+not_late goals.Hmax h = refl
+not_late goals.SumC h = refl
+not_late goals.SumWC h = refl
+not_late goals.SumT h = refl
+not_late goals.SumWT h = refl
+not_late goals.SumU h = absurd (false≢true h)
+not_late goals.SumWU h = refl
+
+not_completions : (g : Goal) → IsTrue (is_max_goal g) → is_completions g ≡ false
+not_completions goals.Cmax h = refl
+not_completions goals.Lmax h = refl
+not_completions goals.Hmax h = refl
+not_completions goals.SumC h = absurd (false≢true h)
+not_completions goals.SumWC h = refl
+not_completions goals.SumT h = refl
+not_completions goals.SumWT h = refl
+not_completions goals.SumU h = refl
+not_completions goals.SumWU h = refl
+
+no_kept : (k : ProblemData) (jobs : List ℕ) → IsTrue (is_max_goal k.problem.goal)
+    → kept_fault k jobs ≡ Some OtherKind
+no_kept k jobs h =
+    first_is _ _ OtherKind (wrong_kind _ (and_right (is_alike k.problem.env)
+    (is_late_jobs k.problem.goal) (not_late k.problem.goal h)))
+
+no_shortest : (k : ProblemData) (jobs : List ℕ) → IsTrue (is_max_goal k.problem.goal)
+    → shortest_fault k jobs ≡ Some OtherKind
+no_shortest k jobs h =
+    first_is _ _ OtherKind (wrong_kind _ (and_right (is_single_env k.problem.env)
+    (is_completions k.problem.goal) (not_completions k.problem.goal h)))
+
+no_ranks : (k : ProblemData) (jobs : List ℕ) → IsTrue (is_max_goal k.problem.goal)
+    → ranks_fault k jobs ≡ Some OtherKind
+no_ranks k jobs h =
+    first_is _ _ OtherKind (wrong_kind _ (and_right (is_alike k.problem.env)
+    (is_completions k.problem.goal) (not_completions k.problem.goal h)))
+
 -- ---- any kind
 
 module _ (k : ProblemData) (r : List ℕ) (d : List ℤ) (goal : IsTrue (is_max_goal k.problem.goal)) where
@@ -118,6 +158,10 @@ module _ (k : ProblemData) (r : List ℕ) (d : List ℤ) (goal : IsTrue (is_max_
   on_pushed (kinds.Prices q rows) =
       no_prices other q rows.items refl ∙ sym (no_prices k q rows.items goal)
   on_pushed kinds.Alone = no_alone other refl ∙ sym (no_alone k goal)
+  on_pushed (kinds.Kept jobs) = no_kept other jobs.items refl ∙ sym (no_kept k jobs.items goal)
+  on_pushed (kinds.Shortest jobs) =
+      no_shortest other jobs.items refl ∙ sym (no_shortest k jobs.items goal)
+  on_pushed (kinds.Ranks jobs) = no_ranks other jobs.items refl ∙ sym (no_ranks k jobs.items goal)
 
 pub fault_on_pushed : {A : Type 0} (k it : ProblemData) (c : BoundCertificate A)
     → IsTrue (is_max_goal k.problem.goal) → IsPushedTask k it

@@ -15,3 +15,6 @@ pub mod Conditions
 pub mod FaultsAlong
 pub mod ArcSums
 pub mod ArcValues
+pub mod InOrder
+pub mod Remaining
+pub mod Orders

@@ -9,4 +9,5 @@ pub mod ArcEnds
 pub mod Along
 pub mod JobNumbers
 pub mod Judged
+pub mod InOrder
 pub mod Certified

@@ -1,8 +1,9 @@
 //! The bound of the number of late jobs by those of a list that can be kept (Moore 1968).
-ghost use Rattle.std.specs.Prelude.{◌≡◌, ◌+◌, ◌-◌, ◌*◌, ◌≤◌, ◌<◌, pos, length, IfOk, IfSome, IfNone};
-ghost use Rattle.std.specs.Prelude.{List, ℕ, None, Some, IsTrue, IsFalse, MatchOption};
-ghost use Rattle.std.specs.BinaryHeap.{heap_items};
+ghost use Rattle.std.specs.Prelude.{◌≡◌, ◌+◌, ◌-◌, ◌*◌, ◌^◌, ◌≤◌, ◌<◌, pos, length, sum, IfOk};
+ghost use Rattle.std.specs.Prelude.{None, Some, IsTrue, IsFalse, MatchOption};
+ghost use Rattle.std.specs.BinaryHeap.{IsHeap, heap_items};
 ghost use Rattle.std.specs.List.{All};
+ghost use Rattle.std.specs.Ordering.{nat_cmp};
 ghost use Rattle.tf_model.specs.ClassTable.{is_shop_env};
 ghost use Rattle.tf_model.specs.declared.problem.Goal.TheVariants as goals;
 ghost use Rattle.tf_model.specs.Limit.{limit};
@@ -10,6 +11,7 @@ ghost use Rattle.tf_problem.specs.ProblemData.{IsProblemJob};
 ghost use Rattle.tf_problem.specs.ProblemCost.{IsLowerBound};
 ghost use Rattle.tf_problem.specs.ProblemBounds.{is_alike};
 ghost use Rattle.tf_problem.specs.Kept.{due_time, kept, kept_value, put, within_room};
+ghost use Rattle.tf_bound.specs.InOrder.{in_order};
 ghost use Rattle.tf_bound.specs.Kinds.{takes_kept};
 ghost use Rattle.tf_bound.specs.Faulted.{falls_fault, kept_fault, NamesFault};
 ghost use Rattle.tf_bound.specs.declared.fault.BoundFault.TheVariants.{Condition};
@@ -74,6 +76,14 @@ fn keep<A: Allocator>(
     time: u64,
     room: u128,
 ) -> Result<u128, OutOfMemory>
+    requires heap { IsHeap nat_cmp (heap_items kept.old) }
+    requires total { total ≡ sum (heap_items kept.old) }
+    requires small { total ≤ 2 ^ 126 }
+    ensures heap { IfOk result (λ _. IsHeap nat_cmp (heap_items kept.new)) }
+    ensures total { IfOk result (λ more. more ≡ sum (heap_items kept.new)) }
+    ensures more { IfOk result (λ more. more ≤ total + time) }
+    ensures kept { IfOk result (λ _. in_order (heap_items kept.new)
+        ≡ within_room room (put time (in_order (heap_items kept.old)))) }
 {
     kept.push(time)?;
     let more = total + u128::from(time);
@@ -105,13 +115,19 @@ fn kept_count<A: Allocator, B: Allocator>(
     requires goal { task.now.problem.goal ≡ goals.SumU }
     requires known { All (IsProblemJob task.now) jobs.now }
     requires some { 0 < length jobs.now }
-    ensures { IfOk result (λ n. n ≡ length (kept task.now jobs.now)) }
+    ensures value { IfOk result (λ n. n ≡ length (kept task.now jobs.now)) }
+    ensures few { IfOk result (λ n. n ≤ length jobs.now) }
 {
     let first = least_release(task, jobs);
     let mut kept = BinaryHeap::new(alloc);
     let mut total: u128 = 0;
     for job in jobs {
-        total = keep(&mut kept, total, task.time(*job), room_from(task, first, *job))?;
+        total = keep(
+            &mut kept,
+            total,
+            task.time(*job),
+            room_from(task, first, *job),
+        )?;
     }
     Ok(kept.len())
 }

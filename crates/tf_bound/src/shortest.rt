@@ -1,14 +1,16 @@
 //! The bound of the sum of completion times on one machine by the shortest remaining processing
 //! time (Schrage 1968).
-ghost use Rattle.std.specs.Prelude.{◌≡◌, ◌≤◌, ◌<◌, ◌+◌, ◌-◌, pos, IfOk, IfSome, IfNone};
-ghost use Rattle.std.specs.Prelude.{List, ℕ, None, Some, IsTrue, IsFalse, MatchOption};
+ghost use Rattle.std.specs.Prelude.{◌≡◌, ◌≤◌, ◌+◌, ◌-◌, [], ◌∷◌, min, pos, IfOk, IfSome, IfNone};
+ghost use Rattle.std.specs.Prelude.{None, Some, IsTrue, IsFalse, MatchOption};
+ghost use Rattle.std.specs.BinaryHeap.{IsHeap, heap_items, heap_len};
 ghost use Rattle.std.specs.List.{All};
 ghost use Rattle.tf_model.specs.ClassTable.{is_shop_env, is_single_env};
 ghost use Rattle.tf_model.specs.declared.problem.Goal.TheVariants as goals;
-ghost use Rattle.tf_model.specs.Limit.{limit};
 ghost use Rattle.tf_problem.specs.ProblemData.{IsProblemJob, problem_release};
 ghost use Rattle.tf_problem.specs.ProblemCost.{IsLowerBound};
+ghost use Rattle.tf_problem.specs.Kept.{put, IsRisingBy};
 ghost use Rattle.tf_problem.specs.Shortest.{completions, remaining, shortest_value};
+ghost use Rattle.tf_bound.specs.InOrder.{all_completions, by_shortest, most_total, rising_times};
 ghost use Rattle.tf_bound.specs.Kinds.{takes_shortest};
 ghost use Rattle.tf_bound.specs.Faulted.{falls_fault, shortest_fault, NamesFault};
 ghost use Rattle.tf_bound.specs.declared.fault.BoundFault.TheVariants.{Condition};
@@ -53,6 +55,33 @@ fn first_released_early<B: Allocator>(task: &ProblemTask<B>, jobs: &[JobId]) -> 
     None
 }
 
+// Takes the shortest out.
+fn take_shortest<A: Allocator>(times: &mut BinaryHeap<Reverse<u64>, A>) -> Option<u64>
+    requires heap { IsHeap by_shortest (heap_items times.old) }
+    ensures heap { IsHeap by_shortest (heap_items times.new) }
+    ensures less { IfSome result (λ _. heap_len times.new + 1 ≡ heap_len times.old) }
+    ensures least { IfSome result (λ time.
+        rising_times (heap_items times.old) ≡ time ∷ rising_times (heap_items times.new)) }
+    ensures none { IfNone result (rising_times (heap_items times.old) ≡ []) }
+    ensures unchanged { IfNone result (heap_items times.new ≡ heap_items times.old) }
+{
+    match times.pop() {
+        Some(Reverse(time)) => Some(time),
+        None => None,
+    }
+}
+
+// Adds a time.
+fn add<A: Allocator>(times: &mut BinaryHeap<Reverse<u64>, A>, time: u64) -> Result<(), OutOfMemory>
+    requires heap { IsHeap by_shortest (heap_items times.old) }
+    ensures heap { IfOk result (λ _. IsHeap by_shortest (heap_items times.new)) }
+    ensures added { IfOk result (λ _.
+        rising_times (heap_items times.new) ≡ put time (rising_times (heap_items times.old))) }
+{
+    times.push(Reverse(time))?;
+    Ok(())
+}
+
 // Works on the shortest from one time to another, and adds the completions to `total`.
 fn work_until<A: Allocator>(
     times: &mut BinaryHeap<Reverse<u64>, A>,
@@ -60,40 +89,45 @@ fn work_until<A: Allocator>(
     until: u64,
     total: u64,
 ) -> Result<u64, OutOfMemory>
+    requires heap { IsHeap by_shortest (heap_items times.old) }
+    requires order { from ≤ until }
+    ensures heap { IfOk result (λ _. IsHeap by_shortest (heap_items times.new)) }
+    ensures rest { IfOk result (λ _. rising_times (heap_items times.new)
+        ≡ remaining (until - from) (rising_times (heap_items times.old))) }
+    ensures total { IfOk result (λ sum. sum ≡ min (total
+        + completions from (until - from) (rising_times (heap_items times.old))) most_total) }
 {
     let mut now = from;
-    let mut total = total;
-    while let Some(Reverse(time)) = times.pop() {
+    let mut sum = total;
+    while let Some(time) = take_shortest(times) {
         let room = until - now;
         if time > room {
-            times.push(Reverse(time - room))?;
-            return Ok(total);
+            add(times, time - room)?;
+            return Ok(sum);
         }
         now += time;
-        total = total.saturating_add(now);
+        sum = sum.saturating_add(now);
     }
-    Ok(total)
+    Ok(sum)
 }
 
 // Works on the shortest from a time on until all are completed, and adds the completions to
 // `total`.
-fn work_all<A: Allocator>(
-    times: &mut BinaryHeap<Reverse<u64>, A>,
-    from: u64,
-    total: u64,
-) -> u64
+fn work_all<A: Allocator>(times: &mut BinaryHeap<Reverse<u64>, A>, from: u64, total: u64) -> u64
+    requires heap { IsHeap by_shortest (heap_items times.old) }
+    ensures { result ≡ min (total + all_completions from (rising_times (heap_items times.old))) most_total }
 {
     let mut now = from;
-    let mut total = total;
-    while let Some(Reverse(time)) = times.pop() {
+    let mut sum = total;
+    while let Some(time) = take_shortest(times) {
         now = now.saturating_add(time);
-        total = total.saturating_add(now);
+        sum = sum.saturating_add(now);
     }
-    total
+    sum
 }
 
-// The sum of the completions where the shortest remaining time is always next. A sum of 64 bits or
-// more is the greatest number of 64 bits.
+// The sum of the completions where the shortest remaining time is always next. A sum of more than
+// 64 bits is the greatest number of 64 bits.
 fn shortest_sum<A: Allocator, B: Allocator>(
     alloc: A,
     task: &ProblemTask<B>,
@@ -101,6 +135,8 @@ fn shortest_sum<A: Allocator, B: Allocator>(
 ) -> Result<u64, OutOfMemory>
     requires one_time { IsFalse (is_shop_env task.now.problem.env) }
     requires known { All (IsProblemJob task.now) jobs.now }
+    requires order { IsRisingBy (problem_release task.now) 0 jobs.now }
+    ensures { IfOk result (λ sum. sum ≡ min (shortest_value task.now jobs.now) most_total) }
 {
     let mut times = BinaryHeap::new(alloc);
     let mut now: u64 = 0;
@@ -108,7 +144,7 @@ fn shortest_sum<A: Allocator, B: Allocator>(
     for job in jobs {
         let release = task.release(*job);
         total = work_until(&mut times, now, release, total)?;
-        times.push(Reverse(task.time(*job)))?;
+        add(&mut times, task.time(*job))?;
         now = release;
     }
     Ok(work_all(&mut times, now, total))

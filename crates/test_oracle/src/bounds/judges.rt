@@ -15,6 +15,9 @@ enum Kind {
     OneJob,
     Multipliers(u64, &'static [u64]),
     Prices(u64),
+    Kept,
+    Shortest,
+    Ranks,
 }
 
 // A task, a kind with its numbers or jobs, and the bound, if it is not refused.
@@ -80,6 +83,21 @@ const CASES: &[Case] = &[
     (Sample::Late, Kind::Prices(1), &[0], Some(0)),
     (Sample::Late, Kind::Prices(1), &[5], Some(0)),
     (Sample::Late, Kind::Prices(0), &[1], None),
+    (Sample::Late, Kind::Kept, &[3, 1, 2], Some(2)),
+    (Sample::Crossed, Kind::Kept, &[1, 2, 4, 3], Some(1)),
+    (Sample::Crossed, Kind::Kept, &[1, 2], Some(1)),
+    (Sample::Crossed, Kind::Kept, &[1, 3], Some(0)),
+    (Sample::Crossed, Kind::Kept, &[2, 1, 3, 4], None),
+    (Sample::Crossed, Kind::Kept, &[], None),
+    (Sample::Crossed, Kind::Kept, &[1, 1], None),
+    (Sample::Remaining, Kind::Shortest, &[1, 2, 3, 4], Some(24)),
+    (Sample::Remaining, Kind::Shortest, &[1, 3, 4], Some(18)),
+    (Sample::Remaining, Kind::Shortest, &[1, 2, 4, 3], None),
+    (Sample::Remaining, Kind::Kept, &[1, 2, 3, 4], None),
+    (Sample::Dealt, Kind::Ranks, &[1, 3, 2, 4], Some(11)),
+    (Sample::Dealt, Kind::Ranks, &[1, 2, 4], Some(7)),
+    (Sample::Dealt, Kind::Ranks, &[2, 1, 3, 4], None),
+    (Sample::Dealt, Kind::Shortest, &[1, 2, 3, 4], None),
 ];
 
 // The jobs of these numbers.
@@ -106,6 +124,9 @@ fn certificate(alloc: Global, kind: Kind, values: &[u64]) -> Result<BoundCertifi
             arcs: numbers(alloc, arcs)?,
         },
         Kind::Prices(q) => BoundCertificate::Prices { q, rows: given },
+        Kind::Kept => BoundCertificate::Kept { jobs },
+        Kind::Shortest => BoundCertificate::Shortest { jobs },
+        Kind::Ranks => BoundCertificate::Ranks { jobs },
     })
 }
 

@@ -25,6 +25,12 @@ pub enum Sample {
     Behind,
     /// `P2|prmp,prec|sumwC`: four jobs of time 1 and two arcs, of optimum 10.
     Pairs,
+    /// `1||sumU`: job 2 is late in an optimal schedule, of optimum 1.
+    Crossed,
+    /// `1|rj,prmp|sumC`: job 1 is preempted, and the machine is idle from 8 on, of optimum 24.
+    Remaining,
+    /// `P2|prmp|sumC`: four jobs of times 3, 2, 2 and 1, of optimum 11.
+    Dealt,
 }
 
 // Its environment, objective and number of machines.
@@ -37,6 +43,9 @@ fn frame(sample: Sample) -> (Env, Goal, u32) {
         Sample::Late => (Env::Single, Goal::SumU, 1),
         Sample::Overlapping | Sample::Behind => (Env::Single, Goal::SumWC, 1),
         Sample::Pairs => (Env::Parallel, Goal::SumWC, 2),
+        Sample::Crossed => (Env::Single, Goal::SumU, 1),
+        Sample::Remaining => (Env::Single, Goal::SumC, 1),
+        Sample::Dealt => (Env::Parallel, Goal::SumC, 2),
     }
 }
 
@@ -68,6 +77,27 @@ const PAIRS: &[Row] = &[
     (&[1], 2, 0, 0),
 ];
 
+const CROSSED: &[Row] = &[
+    (&[2], 1, 0, 3),
+    (&[3], 1, 0, 4),
+    (&[2], 1, 0, 5),
+    (&[1], 1, 0, 5),
+];
+
+const REMAINING: &[Row] = &[
+    (&[4], 1, 0, 0),
+    (&[2], 1, 1, 0),
+    (&[1], 1, 2, 0),
+    (&[1], 1, 9, 0),
+];
+
+const DEALT: &[Row] = &[
+    (&[3], 1, 0, 0),
+    (&[2], 1, 0, 0),
+    (&[2], 1, 0, 0),
+    (&[1], 1, 0, 0),
+];
+
 fn rows_of(sample: Sample) -> &'static [Row] {
     match sample {
         Sample::Tardy => TARDY,
@@ -78,6 +108,9 @@ fn rows_of(sample: Sample) -> &'static [Row] {
         Sample::Overlapping => OVERLAPPING,
         Sample::Behind => BEHIND,
         Sample::Pairs => PAIRS,
+        Sample::Crossed => CROSSED,
+        Sample::Remaining => REMAINING,
+        Sample::Dealt => DEALT,
     }
 }
 
@@ -125,9 +158,12 @@ fn pairs_of(alloc: Global, arcs: &[(usize, usize)]) -> Result<Vec<(JobId, JobId)
 pub fn task_of(alloc: Global, sample: Sample) -> Result<ProblemTask, Fail> {
     let (env, goal, machines) = frame(sample);
     let problem = Problem {
-        release: matches!(sample, Sample::Released | Sample::Overlapping),
+        release: matches!(
+            sample,
+            Sample::Released | Sample::Overlapping | Sample::Remaining
+        ),
         prmu: sample == Sample::Flow,
-        prmp: sample == Sample::Pairs,
+        prmp: matches!(sample, Sample::Pairs | Sample::Remaining | Sample::Dealt),
         prec: matches!(sample, Sample::Behind | Sample::Pairs),
         ..Problem::plain(env, goal)
     };

@@ -1,6 +1,7 @@
-use Rattle.std.proofs.Common.{IfOk, ◌≡◌, ℤ, List, ℕ, subst}
+use Rattle.std.proofs.Common.{IfOk, ◌≡◌, ℤ, pos, List, ℕ, subst}
 use Rattle.tf_problem.specs.ProblemBounds.{any_multiplier_value}
-use Rattle.tf_bound.specs.Faulted.{multipliers_fault, prices_fault, NamesFault}
+use Rattle.tf_problem.specs.Ranks.{rank_value}
+use Rattle.tf_bound.specs.Faulted.{multipliers_fault, prices_fault, ranks_fault, NamesFault}
 use Rattle.tf_bound.proofs.certificate.BoundCertificate.bound_on.Goals as goal
 
 pub returns-in-Multipliers-clause-fault : goal.returns-in-Multipliers-clause-fault
@@ -33,3 +34,16 @@ returns-in-Prices-clause-fault g c =
     (prices_fault c.args.task.now c.in-Prices.q rows) c.prices_bound.result)
     c.deref-in-Prices.ensures.value c.prices_bound.ensures.fault in
     rw c.in-Prices.is by_items
+
+pub returns-in-Ranks-clause-fault : goal.returns-in-Ranks-clause-fault
+returns-in-Ranks-clause-fault g c =
+    let by_items = subst (λ (jobs : List ℕ). NamesFault (ranks_fault c.args.task.now jobs)
+    c.ranks_bound.result) c.deref-in-Ranks.ensures.value c.ranks_bound.ensures.fault in
+    rw c.in-Ranks.is by_items
+
+pub returns-in-Ranks-clause-value : goal.returns-in-Ranks-clause-value
+returns-in-Ranks-clause-value g c =
+    let by_items = subst (λ (jobs : List ℕ). IfOk c.ranks_bound.result
+    (λ (b : ℤ). b ≡ pos (rank_value c.args.task.now jobs)))
+    c.deref-in-Ranks.ensures.value c.ranks_bound.ensures.value in
+    rw c.in-Ranks.is by_items
