@@ -1,13 +1,13 @@
 -- Numbers put in order one by one: a heap's, however it stores them.
-use Rattle.std.proofs.Common.{◌≡◌, Bool, true, false, ℕ, zero, suc, ◌+◌, ◌-◌, ◌≤◌, ◌<◌, ◌==◌, nat_lt, nat_cmp, sum, List, [], ◌∷◌, length, map, cond, count_by, sum_by, All, refl, sym, ap, ◌∙◌, arith}
-use Rattle.std.proofs.lemmas.Bool.{ltb-true, ltb-false, eqb-true, eq-eqb, ne_eqb, cases_Bool}
+use Rattle.std.proofs.Common.{◌≡◌, Bool, true, false, ℕ, ◌+◌, ◌≤◌, ◌<◌, ◌==◌, nat_lt, sum, List, [], ◌∷◌, length, cond, count_by, sum_by, All, refl, sym, ap, ◌∙◌, arith}
+use Rattle.std.proofs.lemmas.Bool.{ltb-true, ltb-false, eqb-true, eq-eqb}
 use Rattle.std.proofs.lemmas.List.Sums.{sum_by-cons}
-use Rattle.std.proofs.lemmas.List.Elements.{All-cons, All-nil, All-head, All-tail}
+use Rattle.std.proofs.lemmas.List.Elements.{All-cons, All-head, All-tail}
 use Rattle.std.proofs.lemmas.List.Sorted.{sum_by-IsPermutation, sum_by_pushed, sum_by_popped}
 use Rattle.std.specs.List.Sorted.{IsPermutation}
 use Rattle.tf_problem.specs.Kept.{put, without_last, within_room}
 use Rattle.tf_bound.specs.InOrder.{in_order}
-use Rattle.tf_problem.proofs.Piles.{Rising, put-rising, put-length, Rising-lower}
+use Rattle.tf_problem.proofs.Piles.{Rising, put-rising, put-length}
 
 abbrev as_one : Bool → ℕ
 as_one t = cond t 1 0

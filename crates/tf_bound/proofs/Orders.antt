@@ -1,13 +1,12 @@
 -- Lists along which a number rises or falls, as the judges go through them.
-use Rattle.std.proofs.Common.{◌≡◌, Bool, true, false, ℕ, ◌+◌, ◌≤◌, ◌<◌, nat_lt, sum, List, [], ◌∷◌, ◌++◌, length, get_or, take, drop, cond, All, AllPairs, Some, None, refl, sym, ap, ◌∙◌, arith}
-use Rattle.std.proofs.lemmas.Bool.{ltb-true, ltb-false}
-use Rattle.std.proofs.lemmas.List.{take_more, drop_more}
+use Rattle.std.proofs.Common.{◌≡◌, Bool, true, false, ℕ, ◌+◌, ◌≤◌, ◌<◌, nat_lt, sum, List, [], ◌∷◌, ◌++◌, length, get_or, take, cond, All, AllPairs, Some, None, refl, sym, ap, ◌∙◌, arith}
+use Rattle.std.proofs.lemmas.Bool.{ltb-false}
+use Rattle.std.proofs.lemmas.List.{take_more}
 use Rattle.std.proofs.lemmas.List.Elements.{All-cons, All-nil, All-weaker}
 use Rattle.std.proofs.lemmas.List.Kept.{AllPairs-cons}
 use Rattle.tf_problem.specs.Kept.{put, without_last, within_room, kept_by, IsRisingBy}
 use Rattle.tf_problem.proofs.Piles.{put-length, last-length}
 use Rattle.tf_bound.specs.Faulted.{falls_fault, rises_fault}
-use Rattle.tf_bound.specs.declared.fault.BoundFault.{BoundFault}
 use Rattle.tf_bound.specs.declared.fault.BoundFault.TheVariants.{Condition}
 
 -- a list without a job that falls rises

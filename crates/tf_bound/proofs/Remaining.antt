@@ -1,7 +1,6 @@
 -- Working on the first of times that rise, by a heap.
-use Rattle.std.proofs.Common.{◌≡◌, Bool, true, false, ℕ, ◌+◌, ◌-◌, ◌≤◌, ◌<◌, min, nat_lt, nat_le, sum, List, [], ◌∷◌, map, cond, All, refl, sym, ap, ◌∙◌, subst, arith}
-use Rattle.std.proofs.lemmas.Bool.{ltb-true, leb-true, leb-false}
-use Rattle.std.proofs.lemmas.List.Sums.{sum_by-cons}
+use Rattle.std.proofs.Common.{◌≡◌, Bool, true, false, ℕ, ◌+◌, ◌-◌, ◌≤◌, ◌<◌, nat_lt, nat_le, List, [], ◌∷◌, map, cond, All, refl, sym, ap, ◌∙◌, subst, arith}
+use Rattle.std.proofs.lemmas.Bool.{ltb-true, leb-true}
 use Rattle.std.proofs.lemmas.List.Sorted.{IsPermutation-map}
 use Rattle.std.specs.List.Sorted.{IsPermutation}
 use Rattle.std.specs.BinaryHeap.{IsUpperBound}
@@ -10,7 +9,7 @@ use Rattle.std.proofs.lemmas.List.Elements.{All-cons, All-nil}
 use Rattle.std.specs.declared.cmp.Reverse.{Reverse}
 use Rattle.tf_problem.specs.Kept.{put}
 use Rattle.tf_problem.specs.Shortest.{remaining, completions}
-use Rattle.tf_bound.specs.InOrder.{in_order, by_shortest, rising_times, all_completions, most_total}
+use Rattle.tf_bound.specs.InOrder.{by_shortest, rising_times, all_completions}
 use Rattle.tf_problem.proofs.Piles.{Rising}
 use Rattle.tf_bound.proofs.InOrder.{in_order-rising, least-first, pushed}
 

@@ -1,4 +1,4 @@
-use Rattle.std.proofs.Common.{◌∷◌, heap_items, sum, arith}
+use Rattle.std.proofs.Common.{heap_items, arith}
 use Rattle.std.proofs.lemmas.List.Sorted.{le_from_greatest, sum_by_pushed}
 use Rattle.tf_bound.proofs.InOrder.{kept-all, kept-less, rest-sum}
 use Rattle.tf_bound.proofs.kept.keep.Goals as goal

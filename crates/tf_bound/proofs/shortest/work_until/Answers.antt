@@ -1,7 +1,5 @@
-use Rattle.std.proofs.Common.{ℕ, ◌-◌, List, heap_items, ap, ◌∙◌, sym, arith}
-use Rattle.std.specs.declared.cmp.Reverse.{Reverse}
-use Rattle.tf_problem.specs.Shortest.{completions, remaining}
-use Rattle.tf_bound.specs.InOrder.{rising_times}
+use Rattle.std.proofs.Common.{◌-◌, heap_items, ap, ◌∙◌, sym, arith}
+use Rattle.tf_problem.specs.Shortest.{completions}
 use Rattle.tf_bound.proofs.Remaining.{more-none, rest-part}
 use Rattle.tf_bound.proofs.shortest.work_until.Goals as goal
 
