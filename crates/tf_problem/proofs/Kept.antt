@@ -1,15 +1,13 @@
 -- As many jobs are late as are crossed out.
-use Rattle.std.proofs.Common.{◌≡◌, Bool, true, false, not, ℕ, suc, ◌+◌, ◌-◌, ◌*◌, ◌≤◌, ◌==◌, int_lt, List, [], ◌∷◌, length, get_or, take, drop, cond, refl, sym, ap, ◌∙◌, subst, arith, sum_by, count_by, All, ℤ, pos, negsuc, ◌≤ℤ◌, IsTrue, mul-le-mul_left, length-take, length-drop}
+use Rattle.std.proofs.Common.{◌≡◌, Bool, true, false, not, ℕ, suc, ◌+◌, ◌-◌, ◌*◌, ◌≤◌, ◌==◌, int_lt, List, [], ◌∷◌, length, get_or, take, drop, cond, refl, sym, ap, subst, arith, sum_by, count_by, All, ℤ, pos, negsuc, ◌≤ℤ◌, IsTrue, mul-le-mul_left, length-take, length-drop}
 use Rattle.std.proofs.lemmas.Int.{ints}
-use Rattle.std.proofs.lemmas.Bool.{eq-eqb}
-use Rattle.std.proofs.lemmas.List.Sums.{sum_by-cons, get_or-le-sum_by, sum_by-le-sum_by}
+use Rattle.std.proofs.lemmas.List.Sums.{sum_by-cons}
 use Rattle.std.proofs.lemmas.List.Elements.{All-weaker, All-take, All-drop, All-cons, All-nil, All-head, All-tail}
-use Rattle.std.proofs.lemmas.List.FromFn.{length-range_with_len, get_or-range_with_len}
 use Rattle.tf_model.specs.declared.problem.Goal.TheVariants as goals
 use Rattle.tf_model.specs.Distinct.{IsDistinct}
 use Rattle.tf_model.specs.Whole.{as_time}
 use Rattle.tf_model.specs.Timetable.{Timetable, cells_of, all_units, completion}
-use Rattle.tf_model.proofs.Sums.{sum_by_le_all, sum_by-times, sum_by-swap}
+use Rattle.tf_model.proofs.Sums.{sum_by_le_all}
 use Rattle.tf_model.proofs.Work.{cells-le-length, work-le-rows}
 use Rattle.tf_check.specs.Bound.{least_number}
 use Rattle.tf_problem.specs.ProblemData.{ProblemData, IsProblemSound, IsProblemJob, problem_jobs, problem_job, problem_time, problem_release}
@@ -18,6 +16,7 @@ use Rattle.tf_problem.specs.ProblemCost.{problem_cost, problem_cost_by, unit_pen
 use Rattle.tf_problem.specs.ProblemBounds.{is_alike}
 use Rattle.tf_problem.proofs.Relaxing.{problem_release-le-row}
 use Rattle.tf_problem.proofs.Least.{least_number-le}
+use Rattle.tf_problem.proofs.ProblemLists.{sum_by-le-jobs}
 use Rattle.tf_problem.proofs.Windows.{cells-between}
 use Rattle.tf_problem.specs.Kept.{put, within_room, kept_by, IsRisingBy, due_time, room_by_due, kept, kept_value}
 use Rattle.tf_problem.proofs.Piles.{first, Rising, put-length, put-rising, put-more, put-same, within_room-keeps}
@@ -110,7 +109,7 @@ module _ (k : ProblemData) (sound : IsProblemSound k) (alike : IsTrue (is_alike 
       → All (λ j. r ≤ problem_release k j) jobs → (on : ℕ → Bool) (c : ℕ)
       → All (λ j. on j ≡ true → completion rows j ≤ c) jobs
       → sum_by (λ j. cond (on j) (problem_time k j) 0) jobs ≤ k.machines * (c - r)
-  done-room jobs distinct known early on c completions =
+  done-room jobs distinct known early on c ends =
       let part : Timetable = drop r (take c rows) in
       let room : All (λ row. sum_by (λ j. cells_of j row) jobs ≤ k.machines) rows =
       All-weaker (λ row. length row ≡ k.machines)
@@ -123,7 +122,7 @@ module _ (k : ProblemData) (sound : IsProblemSound k) (alike : IsTrue (is_alike 
       let asked : sum_by (λ j. cond (on j) (problem_time k j) 0) jobs
       ≤ sum_by (λ j. all_units part j) jobs =
       sum_by_le_all (λ j. cond (on j) (problem_time k j) 0) (λ j. all_units part j) jobs
-      (λ i d h. its (get_or jobs i d) (known i d h) (early i d h) (completions i d h) (on (get_or jobs i d)) refl) in
+      (λ i d h. its (get_or jobs i d) (known i d h) (early i d h) (ends i d h) (on (get_or jobs i d)) refl) in
       let short : length part ≤ c - r =
       omega (arith, length-drop r (take c rows), length-take c rows) in
       let all : k.machines * length part ≤ k.machines * (c - r) = mul-le-mul_left k.machines short in
@@ -183,40 +182,6 @@ module _ (k : ProblemData) (sound : IsProblemSound k) (alike : IsTrue (is_alike 
       )
 
 -- ---- late jobs
-
--- a sum over some of the jobs is within_room the sum over all
-pub sum_by-le-jobs : (k : ProblemData) (g : ℕ → ℕ) (jobs : List ℕ) → IsDistinct jobs
-    → All (IsProblemJob k) jobs → sum_by g jobs ≤ sum_by g (problem_jobs k)
-sum_by-le-jobs k g jobs distinct in' =
-    let n : ℕ = length k.jobs in
-    let at_own : (j : ℕ) → IsProblemJob k j → g j ≤ sum_by (λ c. g c * cond (c == j) 1 0) (problem_jobs k) =
-    λ j h.
-    let i : ℕ = j - 1 in
-    let here : get_or (problem_jobs k) i 0 ≡ j =
-    get_or-range_with_len 1 (length k.jobs) i 0 (omega (arith, h.0, h.1))
-    ∙ omega (arith, h.0) in
-    let term : g (get_or (problem_jobs k) i 0) * cond (get_or (problem_jobs k) i 0 == j) 1 0 ≡ g j * 1 =
-    ap (λ c. g c * cond (c == j) 1 0) here ∙ ap (λ t. g j * as_one t) (eq-eqb j j refl) in
-    omega (
-      arith,
-      term,
-      get_or-le-sum_by (λ c. g c * cond (c == j) 1 0) (problem_jobs k) i 0
-          (omega (arith, h.0, h.1, length-range_with_len 1 (length k.jobs))),
-    ) in
-    let each : sum_by g jobs
-    ≤ sum_by (λ j. sum_by (λ c. g c * cond (c == j) 1 0) (problem_jobs k)) jobs =
-    sum_by_le_all g (λ j. sum_by (λ c. g c * cond (c == j) 1 0) (problem_jobs k)) jobs
-    (All-weaker (IsProblemJob k) (λ j. g j ≤ sum_by (λ c. g c * cond (c == j) 1 0) (problem_jobs k)) at_own
-    jobs in') in
-    let few : sum_by (λ c. sum_by (λ j. g c * cond (c == j) 1 0) jobs) (problem_jobs k)
-    ≤ sum_by g (problem_jobs k) =
-    sum_by-le-sum_by (λ c. sum_by (λ j. g c * cond (c == j) 1 0) jobs) g (problem_jobs k)
-    (λ c. omega (
-      arith,
-      sum_by-times (g c) (λ j. cond (c == j) 1 0) jobs,
-      mul-le-mul_left (g c) (distinct c),
-    )) in
-    omega (arith, each, few, sum_by-swap (λ j c. g c * cond (c == j) 1 0) jobs (problem_jobs k))
 
 -- each job is late or on time
 late-or-on : (k : ProblemData) (rows : Timetable) (jobs : List ℕ)

@@ -269,12 +269,12 @@ kept-best k sound single goal unreleased unordered free waits jobs moved rising 
     (All-weaker (IsProblemJob k) (λ j. 1 ≤ p j)
     (λ j h. (sound.one_time (alike_no_shop k alike) j h).1) first parts.0)
     apart in
-    let within_room : (j : ℕ) → room j ≤ due_time k j =
+    let within : (j : ℕ) → room j ≤ due_time k j =
     λ j. omega (arith, ap (λ m. m * (due_time k j - r)) (sound.single single)) in
     let none : sum_by u first ≡ 0 =
     sum-none u first
     (All-weaker (λ j. (0 + c j ≤ room j) × (1 ≤ room j)) (λ j. u j ≡ 0)
-    (λ j h. in-time (c j) (problem_job k j).due (omega (arith, h.1, within_room j)) (omega (arith, h.0, within_room j)))
+    (λ j h. in-time (c j) (problem_job k j).due (omega (arith, h.1, within j)) (omega (arith, h.0, within j)))
     first over) in
     let some : sum_by u last ≤ length last = sum-ones u last (λ j. at_most (int_lt (problem_job k j).due (pos (c j)))) in
     let all : sum_by u (problem_jobs k) ≤ kept_value k jobs =

@@ -1,12 +1,16 @@
 -- Sums over ranges, and units of a job in some of the rows.
-use Rattle.std.proofs.Common.{◌≡◌, Bool, ℕ, zero, suc, ◌+◌, ◌≤◌, ◌<◌, List, [], ◌∷◌, ◌==◌, length, slice_index, take, drop, cond, refl, ap, ◌∙◌, ⊎_elim, arith, sum_by, All, Contains}
+use Rattle.std.proofs.Common.{◌≡◌, Bool, ℕ, zero, suc, ◌+◌, ◌≤◌, ◌<◌, List, [], ◌∷◌, ◌==◌, length, slice_index, get_or, take, drop, cond, refl, ap, ◌∙◌, ⊎_elim, arith, sum_by, mul-le-mul_left, All, Contains, ◌*◌, ◌-◌}
 use Rattle.std.specs.List.{range_with_len}
 use Rattle.std.proofs.lemmas.Bool.{eq-eqb, ne_eqb, cases_eq, cases_lt}
-use Rattle.std.proofs.lemmas.List.Sums.{sum_by-cons}
-use Rattle.std.proofs.lemmas.List.Elements.{All-head, All-tail}
+use Rattle.std.proofs.lemmas.List.Sums.{sum_by-cons, get_or-le-sum_by, sum_by-le-sum_by}
+use Rattle.std.proofs.lemmas.List.Elements.{All-head, All-tail, All-weaker}
+use Rattle.std.proofs.lemmas.List.FromFn.{length-range_with_len, get_or-range_with_len}
+use Rattle.tf_model.specs.Distinct.{IsDistinct}
 use Rattle.tf_model.specs.Timetable.{Row, Timetable, cell, cells_of, units, all_units}
+use Rattle.tf_model.proofs.Sums.{sum_by_le_all, sum_by-times, sum_by-swap}
 use Rattle.tf_model.proofs.Units.{cell_with}
 use Rattle.tf_model.proofs.Work.{greatest_at}
+use Rattle.tf_problem.specs.ProblemData.{ProblemData, IsProblemJob, problem_jobs}
 
 abbrev as_one : Bool → ℕ
 as_one t = cond t 1 0
@@ -181,3 +185,39 @@ pub last_by : (g : ℕ → ℕ) (jobs : List ℕ) → 0 < length jobs
     → (l : ℕ) × Contains jobs l × All (λ j. g j ≤ g l) jobs
 last_by g [] h = absurd (omega arith)
 last_by g (x ∷ xs) h = greatest_at g x xs
+
+-- ---- some of the jobs
+
+-- a sum over some of the jobs is at most the sum over all
+pub sum_by-le-jobs : (k : ProblemData) (g : ℕ → ℕ) (jobs : List ℕ) → IsDistinct jobs
+    → All (IsProblemJob k) jobs → sum_by g jobs ≤ sum_by g (problem_jobs k)
+sum_by-le-jobs k g jobs distinct in' =
+    let n : ℕ = length k.jobs in
+    let at_own : (j : ℕ) → IsProblemJob k j → g j ≤ sum_by (λ c. g c * cond (c == j) 1 0) (problem_jobs k) =
+    λ j h.
+    let i : ℕ = j - 1 in
+    let here : get_or (problem_jobs k) i 0 ≡ j =
+    get_or-range_with_len 1 (length k.jobs) i 0 (omega (arith, h.0, h.1))
+    ∙ omega (arith, h.0) in
+    let term : g (get_or (problem_jobs k) i 0) * cond (get_or (problem_jobs k) i 0 == j) 1 0 ≡ g j * 1 =
+    ap (λ c. g c * cond (c == j) 1 0) here ∙ ap (λ t. g j * as_one t) (eq-eqb j j refl) in
+    omega (
+      arith,
+      term,
+      get_or-le-sum_by (λ c. g c * cond (c == j) 1 0) (problem_jobs k) i 0
+          (omega (arith, h.0, h.1, length-range_with_len 1 (length k.jobs))),
+    ) in
+    let each : sum_by g jobs
+    ≤ sum_by (λ j. sum_by (λ c. g c * cond (c == j) 1 0) (problem_jobs k)) jobs =
+    sum_by_le_all g (λ j. sum_by (λ c. g c * cond (c == j) 1 0) (problem_jobs k)) jobs
+    (All-weaker (IsProblemJob k) (λ j. g j ≤ sum_by (λ c. g c * cond (c == j) 1 0) (problem_jobs k)) at_own
+    jobs in') in
+    let few : sum_by (λ c. sum_by (λ j. g c * cond (c == j) 1 0) jobs) (problem_jobs k)
+    ≤ sum_by g (problem_jobs k) =
+    sum_by-le-sum_by (λ c. sum_by (λ j. g c * cond (c == j) 1 0) jobs) g (problem_jobs k)
+    (λ c. omega (
+      arith,
+      sum_by-times (g c) (λ j. cond (c == j) 1 0) jobs,
+      mul-le-mul_left (g c) (distinct c),
+    )) in
+    omega (arith, each, few, sum_by-swap (λ j c. g c * cond (c == j) 1 0) jobs (problem_jobs k))

@@ -1,7 +1,7 @@
 -- The bound by ranks where jobs may be broken off and go on on another machine. The jobs are ranked by
 -- their completions, the last first. In a row of m cells only jobs of the ranks up to the number of
 -- jobs that are not complete stand, so their ranks over m, rounded up, come to at most that number.
-use Rattle.std.proofs.Common.{◌≡◌, Bool, true, false, ℕ, zero, suc, ◌+◌, ◌-◌, ◌*◌, ◌/◌, ◌%◌, max, nat_lt, ◌≤◌, ◌<◌, List, [], ◌∷◌, length, get_or, ◌==◌, cond, refl, sym, ap, ◌∙◌, subst, ⊎_elim, arith, sum_by, All, pos, ◌≤ℤ◌, IsTrue, IsFalse, mul-le-mul_left, mul-le-mul_right, div-add-mod', mod-lt}
+use Rattle.std.proofs.Common.{◌≡◌, Bool, true, false, ℕ, zero, suc, ◌+◌, ◌-◌, ◌*◌, ◌/◌, ◌%◌, max, nat_lt, ◌≤◌, ◌<◌, List, [], ◌∷◌, length, get_or, ◌==◌, cond, refl, sym, ap, ◌∙◌, subst, ⊎_elim, arith, sum_by, All, pos, ◌≤ℤ◌, IsTrue, mul-le-mul_left, mul-le-mul_right, div-add-mod', mod-lt}
 use Rattle.std.specs.Int.{div_ceil}
 use Rattle.std.specs.List.{enumerate_from, AllPairs}
 use Rattle.std.proofs.lemmas.Int.{ints}
@@ -18,22 +18,12 @@ use Rattle.tf_model.proofs.Units.{completion_cases, completion-le-length}
 use Rattle.tf_model.proofs.Work.{cells-le-length}
 use Rattle.tf_model.proofs.Loads.{div_ceil_least}
 use Rattle.tf_model.proofs.RankSums.{ranked, Falling}
-use Rattle.std.proofs.lemmas.List.Kept.{AllPairs-cons}
-use Rattle.tf_model.specs.SchedulingTask.{SchedulingTask, all_jobs, IsJob, job_data, time_of}
-use Rattle.tf_model.specs.ClassTable.{is_shop, is_weighted}
-use Rattle.tf_model.specs.Feasible.{FitsBroken}
-use Rattle.tf_model.specs.Sound.{IsSound}
-use Rattle.tf_model.specs.Cost.{Total, objective_of, cost, cost_by, total_price}
-use Rattle.tf_model.specs.Bounds.{ranks_value}
-use Rattle.tf_model.proofs.Costs.{All-all_jobs}
-use Rattle.tf_model.proofs.Loads.{time-le-units}
-use Rattle.tf_model.proofs.Ranks.{ranks_value_from, sum_by-le-all_jobs}
 use Rattle.tf_problem.specs.ProblemData.{ProblemData, IsProblemSound, IsProblemJob, problem_jobs, problem_time}
 use Rattle.tf_problem.specs.ProblemCost.{problem_cost, problem_cost_by, IsLowerBound}
 use Rattle.tf_problem.specs.ProblemBounds.{is_alike}
 use Rattle.tf_problem.proofs.Windows.{alike_no_shop}
 use Rattle.tf_problem.specs.Ranks.{rank_value, IsFalling}
-use Rattle.tf_problem.proofs.Kept.{sum_by-le-jobs}
+use Rattle.tf_problem.proofs.ProblemLists.{sum_by-le-jobs}
 
 abbrev as_one : Bool → ℕ
 as_one t = cond t 1 0
@@ -210,7 +200,7 @@ module _ (m : ℕ) (h : 1 ≤ m) where
       (omega (arith, is, sum_by-cons (λ j. some (c j)) x xs, some_is (c x) has)) le in
       let all : q * sum_by e (x ∷ xs) ≡ q * e x + q * sum_by e xs =
       ap (λ z. q * z) (sum_by-cons e x xs) ∙ omega arith in
-      let within_room : i + 1 ≤ n =
+      let within : i + 1 ≤ n =
       omega (arith, is, sum_by-cons (λ j. some (c j)) x xs, some_is (c x) has) in
       ⊎_elim
       (λ low.
@@ -219,9 +209,9 @@ module _ (m : ℕ) (h : 1 ≤ m) where
       omega (arith, rest, all, one, low))
       (λ high.
       let d : div_ceil (i + 1) m ≤ q + 1 =
-      div_ceil_least (i + 1) m (q + 1) h (omega (arith, le, within_room)) in
+      div_ceil_least (i + 1) m (q + 1) h (omega (arith, le, within)) in
       let one : div_ceil (i + 1) m * e x ≤ (q + 1) * e x = mul-le-mul_right (e x) d in
-      omega (arith, rest, all, one, high, within_room, its.0))
+      omega (arith, rest, all, one, high, within, its.0))
       (cases_lt i (q * m)))
       (λ none.
       omega (
@@ -325,50 +315,6 @@ module _ (m : ℕ) (h : 1 ≤ m) where
             (sorted-falling c (length rows) xs (λ i d lt. completion-le-length (get_or xs i d) rows)),
         sorted-sum c c xs,
       )
-
--- ---- the task of a class
-
-falls-pairs : (p : ℕ → ℕ) (t : ℕ) (xs : List ℕ) → Falling p t xs
-    → All (λ j. p j ≤ t) xs × AllPairs (λ a b. p b ≤ p a) xs
-falls-pairs p t [] falling = (All-nil (λ j. p j ≤ t), λ i j d lt h. absurd (omega arith))
-falls-pairs p t (x ∷ xs) falling =
-    let rest = falls-pairs p (p x) xs falling.1 in (
-      All-cons (λ j. p j ≤ t) x xs falling.0
-          (All-weaker (λ j. p j ≤ p x) (λ j. p j ≤ t) (λ j h. omega (arith, h, falling.0)) xs rest.0),
-      AllPairs-cons (λ a b. p b ≤ p a) x xs rest.0 rest.1,
-    )
-
--- `ranks-le-cost` of tf_model, for jobs that may be broken off
-pub ranks-le-cost_broken : (k : SchedulingTask) (rows : Timetable) → IsSound k → FitsBroken k rows
-    → IsFalse (is_shop k.class) → objective_of k.class ≡ Total
-    → (t : ℕ) (jobs : List ℕ) → IsDistinct jobs → All (IsJob k) jobs → Falling (time_of k) t jobs
-    → IsFalse (is_weighted k.class)
-    → pos (ranks_value k jobs) ≤ℤ cost k rows
-ranks-le-cost_broken k rows sound fits one_time is t jobs distinct in' falling unweighted =
-    let c : ℕ → ℕ = completion rows in
-    let at_cost : cost k rows ≡ pos (total_price k rows) = ap (λ o. cost_by o k rows) is in
-    let le : ranked k.machines (time_of k) 0 jobs ≤ sum_by c jobs =
-    times-le-completions k.machines sound.some_machine rows
-    (All-weaker (λ row. length row ≡ k.machines) (λ row. length row ≤ k.machines)
-    (λ row w. omega (arith, w)) rows fits.width)
-    (time_of k) jobs distinct
-    (All-weaker (IsJob k) (IsOnce rows) (λ j h. fits.single_place j h.0 h.1) jobs in')
-    (All-weaker (IsJob k) (λ j. time_of k j ≤ all_units rows j)
-    (λ j h. time-le-units k rows fits j h) jobs in')
-    (falls-pairs (time_of k) t jobs falling).1 in
-    let weights : sum_by c (all_jobs k) ≤ total_price k rows =
-    sum_by_le_all c (λ j. (job_data k j).weight * completion rows j) (all_jobs k)
-    (All-all_jobs k (λ j. completion rows j ≤ (job_data k j).weight * completion rows j)
-    (λ j h. omega (arith, ap (λ w. w * completion rows j) (sound.unit_weights unweighted j h)))) in
-    subst (λ z. pos (ranks_value k jobs) ≤ℤ z) (sym at_cost)
-    (omega (
-      arith,
-      ints,
-      ranks_value_from k 0 jobs,
-      le,
-      sum_by-le-all_jobs k c jobs distinct in',
-      weights,
-    ))
 
 -- ---- the task of a problem
 

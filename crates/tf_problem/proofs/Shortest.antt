@@ -19,7 +19,8 @@ use Rattle.tf_problem.specs.Kept.{put, IsRisingBy}
 use Rattle.tf_problem.specs.Shortest.{remaining, completions, shortest_first, shortest_value}
 use Rattle.tf_problem.proofs.Piles.{first, Rising, Rising-lower, put-length, put-rising, put-more, put-same}
 use Rattle.tf_problem.proofs.Over.{over, over-le, over-const, over-plus, over-split, over-same, over-swap, over-below}
-use Rattle.tf_problem.proofs.Kept.{done-room, sum_by-le-jobs}
+use Rattle.tf_problem.proofs.Kept.{done-room}
+use Rattle.tf_problem.proofs.ProblemLists.{sum_by-le-jobs}
 
 abbrev as_one : Bool → ℕ
 as_one t = cond t 1 0
@@ -81,7 +82,7 @@ remaining-is (suc n) e d (a ∷ times) few all =
       less = omega (arith, leb-false a d is);
     }
 
--- the times that are over by then, and what is remaining at the end, are at most the lengths meanwhile
+-- the times that are over by then, and what remains at the end, are at most the lengths meanwhile
 completions-le : (now d : ℕ) (times : List ℕ)
     → completions now d times + (now + d) * length (remaining d times)
     ≤ now * length times + over d (λ s. length (remaining s times))
@@ -145,7 +146,7 @@ completions-le now d (a ∷ times) =
 -- ---- jobs that are released
 
 module _ (p r : ℕ → ℕ) where
-  -- how many of the times that are remaining at now, and of the jobs, are not over at t
+  -- how many of the times that remain at now, and of the jobs, are not over at t
   abbrev count : ℕ → ℕ → List ℕ → List ℕ → ℕ
   count t now times [] = length (remaining (t - now) times)
   count t now times (j ∷ jobs) =

@@ -127,7 +127,7 @@ remaining-in c d (b ∷ bs) = by (nat_le b.1 d) (remaining-in c (d - b.1) bs)
           sum_by-cons (λ b. as_one (c == b.0)) (b.0, b.1 - d) bs,
         )
 
--- in all the time nothing is remaining
+-- in all the time nothing remains
 remaining-none : (d : ℕ) (bs : List Need) → sum (times_of bs) ≤ d → left_needs d bs ≡ []
 unfolding left_needs
 remaining-none d [] h = refl
