@@ -115,7 +115,8 @@ fn work_until<A: Allocator>(
 // `total`.
 fn work_all<A: Allocator>(times: &mut BinaryHeap<Reverse<u64>, A>, from: u64, total: u64) -> u64
     requires heap { IsHeap by_shortest (heap_items times.old) }
-    ensures { result ≡ min (total + all_completions from (rising_times (heap_items times.old))) most_total }
+    ensures { result ≡ min (total
+        + all_completions from (rising_times (heap_items times.old))) most_total }
 {
     let mut now = from;
     let mut sum = total;
