@@ -10,4 +10,5 @@ pub mod Along
 pub mod JobNumbers
 pub mod Judged
 pub mod InOrder
+pub mod Optimal
 pub mod Certified

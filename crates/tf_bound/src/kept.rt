@@ -15,6 +15,7 @@ ghost use Rattle.tf_bound.specs.InOrder.{in_order};
 ghost use Rattle.tf_bound.specs.Kinds.{takes_kept};
 ghost use Rattle.tf_bound.specs.Faulted.{falls_fault, kept_fault, NamesFault};
 ghost use Rattle.tf_bound.specs.declared.fault.BoundFault.TheVariants.{Condition};
+ghost use Rattle.tf_bound.specs.Optimal.{AreUnreleased, IsMinimum};
 
 use crate::alike::least_release;
 use crate::fault::BoundFault;
@@ -25,7 +26,7 @@ use std::collections::BinaryHeap;
 use tf_model::ids::JobId;
 use tf_model::memory::OutOfMemory;
 use tf_model::problem::{Env, Goal};
-use tf_problem::laws::kept_law;
+use tf_problem::laws::{kept_best_law, kept_law};
 
 /// Whether jobs by due date bound a problem: the number of late jobs, on one machine or on
 /// identical ones.
@@ -141,6 +142,7 @@ pub fn kept_bound<A: Allocator + Copy, B: Allocator>(
     ensures fault { NamesFault (kept_fault task.now jobs.now) result }
     ensures value { IfOk result (λ b. b ≡ pos (kept_value task.now jobs.now)) }
     ensures bound { IfOk result (IsLowerBound task.now) }
+    ensures best { AreUnreleased task.now jobs.now → IfOk result (IsMinimum task.now) }
 {
     if !takes_kept(task) {
         return Err(BoundFault::OtherKind);
@@ -153,6 +155,7 @@ pub fn kept_bound<A: Allocator + Copy, B: Allocator>(
         return Err(BoundFault::Condition(job));
     }
     kept_law();
+    kept_best_law();
     let kept = kept_count(alloc, task, jobs)?;
     Ok((jobs.len() - kept) as i128)
 }

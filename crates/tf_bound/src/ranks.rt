@@ -13,6 +13,7 @@ ghost use Rattle.tf_problem.specs.Ranks.{rank_value};
 ghost use Rattle.tf_bound.specs.Kinds.{takes_ranks};
 ghost use Rattle.tf_bound.specs.Faulted.{rises_fault, ranks_fault, NamesFault};
 ghost use Rattle.tf_bound.specs.declared.fault.BoundFault.TheVariants.{Condition};
+ghost use Rattle.tf_bound.specs.Optimal.{AreDealt, IsMinimum};
 
 use crate::fault::BoundFault;
 use crate::jobs::judge_list;
@@ -21,7 +22,7 @@ use std::alloc::Allocator;
 use tf_model::ids::JobId;
 use tf_model::limit::LIMIT;
 use tf_model::problem::{Env, Goal};
-use tf_problem::laws::rank_law;
+use tf_problem::laws::{rank_best_law, rank_law};
 
 /// Whether jobs by falling time bound a problem: the sum of completion times, on one machine or on
 /// identical ones.
@@ -85,6 +86,7 @@ pub fn ranks_bound<A: Allocator, B: Allocator>(
     ensures fault { NamesFault (ranks_fault task.now jobs.now) result }
     ensures value { IfOk result (λ b. b ≡ pos (rank_value task.now jobs.now)) }
     ensures bound { IfOk result (IsLowerBound task.now) }
+    ensures best { AreDealt task.now jobs.now → IfOk result (IsMinimum task.now) }
 {
     if !takes_ranks(task) {
         return Err(BoundFault::OtherKind);
@@ -97,6 +99,7 @@ pub fn ranks_bound<A: Allocator, B: Allocator>(
         return Err(BoundFault::Condition(job));
     }
     rank_law();
+    rank_best_law();
     match ranked_times(task, jobs) {
         Some(total) => Ok(i128::from(total)),
         None => Err(BoundFault::TooLarge),

@@ -14,6 +14,7 @@ ghost use Rattle.tf_bound.specs.InOrder.{all_completions, by_shortest, most_tota
 ghost use Rattle.tf_bound.specs.Kinds.{takes_shortest};
 ghost use Rattle.tf_bound.specs.Faulted.{falls_fault, shortest_fault, NamesFault};
 ghost use Rattle.tf_bound.specs.declared.fault.BoundFault.TheVariants.{Condition};
+ghost use Rattle.tf_bound.specs.Optimal.{ArePreempted, IsMinimum};
 
 use crate::fault::BoundFault;
 use crate::jobs::judge_list;
@@ -25,7 +26,7 @@ use tf_model::ids::JobId;
 use tf_model::limit::LIMIT;
 use tf_model::memory::OutOfMemory;
 use tf_model::problem::{Env, Goal};
-use tf_problem::laws::shortest_law;
+use tf_problem::laws::{shortest_best_law, shortest_law};
 
 /// Whether jobs by release date bound a problem: the sum of completion times on one machine.
 pub fn takes_shortest<A: Allocator>(task: &ProblemTask<A>) -> bool
@@ -160,6 +161,7 @@ pub fn shortest_bound<A: Allocator + Copy, B: Allocator>(
     ensures fault { NamesFault (shortest_fault task.now jobs.now) result }
     ensures value { IfOk result (λ b. b ≡ pos (shortest_value task.now jobs.now)) }
     ensures bound { IfOk result (IsLowerBound task.now) }
+    ensures best { ArePreempted task.now jobs.now → IfOk result (IsMinimum task.now) }
 {
     if !takes_shortest(task) {
         return Err(BoundFault::OtherKind);
@@ -172,6 +174,7 @@ pub fn shortest_bound<A: Allocator + Copy, B: Allocator>(
         return Err(BoundFault::Condition(job));
     }
     shortest_law();
+    shortest_best_law();
     let total = shortest_sum(alloc, task, jobs)?;
     if total > LIMIT as u64 {
         return Err(BoundFault::TooLarge);
