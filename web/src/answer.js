@@ -7,6 +7,9 @@ const ZERO = 48;
 const PIECE = new TextEncoder().encode("piece ");
 const JOB = new TextEncoder().encode("job ");
 const SHORTEST_PIECE = "piece 1 1 0 1\n".length;
+/** The line of a bound's certificate: `job` has one number, `alone` none, and others have more. */
+const BOUND_KIND = new RegExp("^(alone$|job \\d+$|"
+  + "(window|crowd|machine|multipliers|prices|kept|shortest|ranks) )");
 const decoder = new TextDecoder();
 
 /** Walks over the lines of a text of bytes, and makes no string of what is not kept. */
@@ -142,11 +145,11 @@ export function readEvaluation(bytes, jobs) {
 }
 
 /**
- * Reads the line after a bound, if it is a certificate: one of the kind `job` has one number,
- * `alone` none. A line of the precedence constraints may follow multipliers.
+ * Reads the line after a bound, if it is a certificate. A line of the precedence constraints may
+ * follow multipliers.
  */
 function readCertificate(walk, found) {
-  const line = nextLine(walk, /^(alone$|job \d+$|(window|crowd|machine|multipliers|prices) )/);
+  const line = nextLine(walk, BOUND_KIND);
   if (line === null) return;
   const arcs = nextLine(walk, /^arcs /);
   found.certificate = arcs === null ? line : `${line}\n${arcs}`;

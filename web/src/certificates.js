@@ -30,6 +30,12 @@ const BOUND_WORDS = {
     + "no other job is in its way.",
   multipliers: "Completion times are weighted by the multipliers below; in Smith's order no sum of "
     + "them is smaller.",
+  kept: "By due date, job after job is planned in. Where the planned ones take longer than there "
+    + "is time, the longest of them is put aside. As many jobs as are put aside are late at least.",
+  shortest: "At each time the released job of the shortest remaining time runs, even where it "
+    + "interrupts another one. No sum of completion times is smaller.",
+  ranks: "Each job delays itself and the jobs after it on its machine: one job for each machine "
+    + "counts once, as many count twice, and so on. With the longest jobs last no sum is smaller.",
   prices: "Each time step has a price, listed below. No schedule costs less than what all jobs pay "
     + "at their cheapest starts, less the prices of all steps.",
 };

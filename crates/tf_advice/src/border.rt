@@ -47,6 +47,9 @@ static EASY: [Known; 17] = [
     ("P2|prec,prmp|Cmax", "Muntz and Coffman 1969"),
 ];
 
+/// Of these the ones whose plans are optimal, and proved to be.
+static PLANNED: [&str; 4] = ["1|rj,prmp|sumC", "1||sumU", "1|prmp|sumU", "P|prmp|sumC"];
+
 /// NP-hard problems with as few conditions as possible.
 static HARD: [Known; 38] = [
     ("1|rj|Lmax", "Lenstra, Rinnooy Kan and Brucker 1977"),
@@ -102,6 +105,19 @@ pub(crate) fn easy(asked: &Problem) -> Option<Known> {
         }
     }
     None
+}
+
+/// Whether `threefield plan` gives an optimal schedule and proves that it is, by a rule and a bound
+/// that are both exact.
+pub(crate) fn is_planned(asked: &Problem) -> bool {
+    for row in &PLANNED {
+        if let Ok(known) = read(row.as_bytes())
+            && is_same(asked, &known)
+        {
+            return true;
+        }
+    }
+    false
 }
 
 /// Why a problem is NP-hard, if that is known.

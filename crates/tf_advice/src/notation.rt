@@ -1,5 +1,5 @@
 //! What is wrong with a notation, and the problems nearest to one that is not solved.
-use crate::border::{Hard, easy, hardness};
+use crate::border::{Hard, easy, hardness, is_planned};
 use crate::page::Page;
 use std::alloc::{AllocError, Global};
 use strsim::osa_distance;
@@ -265,7 +265,12 @@ pub fn explain_unsolved(alloc: Global, page: &mut Page, problem: &str) -> Result
 // Whether it is polynomial or NP-hard, where that is known here.
 fn say_border(page: &mut Page, asked: &Problem) -> Result<(), AllocError> {
     if let Some((_, by)) = easy(asked) {
-        return writeln!(page.text, "It is polynomial ({by}), and not solved here.");
+        let here = if is_planned(asked) {
+            ": \"threefield plan\" gives an optimal schedule"
+        } else {
+            ", and not solved here"
+        };
+        return writeln!(page.text, "It is polynomial ({by}){here}.");
     }
     match hardness(asked) {
         Some(Hard::Itself((_, by))) => writeln!(page.text, "It is NP-hard ({by})."),

@@ -7,7 +7,7 @@ use Rattle.tf_problem.specs.ProblemCost.{IsLowerBound}
 use Rattle.tf_bound.specs.Certified.{IsBoundBy, IsValueOn}
 use Rattle.tf_bound.specs.Faulted.{certificate_fault}
 use Rattle.tf_bound.specs.declared.certificate.BoundCertificate.{BoundCertificate}
-use Rattle.tf_bound.specs.declared.certificate.BoundCertificate.TheVariants.{Machine, Window, Crowd, OneJob, Multipliers, Prices, Alone}
+use Rattle.tf_bound.specs.declared.certificate.BoundCertificate.TheVariants.{Machine, Window, Crowd, OneJob, Multipliers, Prices, Alone, Kept, Shortest, Ranks}
 use Rattle.tf_search.specs.declared.strongest.Found.{Found}
 use Rattle.tf_search.specs.Strongest.{IsFound}
 use Rattle.tf_bound_text.specs.BoundSheetData.{Basis, BoundSheetData, basis_of, fault_by, IsValueBy}
@@ -24,6 +24,9 @@ value_on k (OneJob job) b h = h
 value_on k (Multipliers machine q numerators arcs) b h = h
 value_on k (Prices q rows) b h = h
 value_on k Alone b h = h
+value_on k (Kept jobs) b h = h
+value_on k (Shortest jobs) b h = h
+value_on k (Ranks jobs) b h = h
 
 value_by : {A : Type 0} (k : ProblemData) (c : BoundCertificate A) (b : ℤ) → IsBoundBy k c b
     → IsJudgedValue k (basis_of c) b
@@ -39,6 +42,9 @@ on_value k (OneJob job) b h = h
 on_value k (Multipliers machine q numerators arcs) b h = h
 on_value k (Prices q rows) b h = h
 on_value k Alone b h = h
+on_value k (Kept jobs) b h = h
+on_value k (Shortest jobs) b h = h
+on_value k (Ranks jobs) b h = h
 
 pub bound_by : {A : Type 0} (k : ProblemData) (c : BoundCertificate A) (b : ℤ)
     → IsJudgedValue k (basis_of c) b → IsBoundBy k c b
@@ -54,6 +60,9 @@ fault_is k (OneJob job) = refl
 fault_is k (Multipliers machine q numerators arcs) = refl
 fault_is k (Prices q rows) = refl
 fault_is k Alone = refl
+fault_is k (Kept jobs) = refl
+fault_is k (Shortest jobs) = refl
+fault_is k (Ranks jobs) = refl
 
 faultless_by : {A : Type 0} (k : ProblemData) (c : BoundCertificate A) (basis : Basis)
     → basis_of c ≡ basis → certificate_fault k c ≡ None → fault_by k basis ≡ None

@@ -13,7 +13,7 @@ use Rattle.tf_words.specs.Ranged.{number_in}
 use Rattle.tf_words.specs.declared.ranged.Ranged.{Ranged}
 use Rattle.tf_words.specs.declared.ranged.Ranged.TheVariants.{NotANumber, Below, Above, Within}
 use Rattle.tf_notation.specs.Reading.{notation}
-use Rattle.tf_bound_text.specs.BoundSheetData.{Basis, ByMachine, ByWindow, ByCrowd, ByOneJob, ByMultipliers, ByPrices, ByAlone, BoundSheetData}
+use Rattle.tf_bound_text.specs.BoundSheetData.{Basis, ByMachine, ByWindow, ByCrowd, ByOneJob, ByMultipliers, ByPrices, ByAlone, ByKept, ByShortest, ByRanks, BoundSheetData}
 use Rattle.tf_bound_text.specs.declared.fault.BoundTextFault.{BoundTextFault}
 use Rattle.tf_bound_text.specs.declared.fault.BoundTextFault.TheVariants.{TooLong, BadLine, OutOfRange, BadNotation, EndsEarly, OutOfMemory}
 
@@ -113,6 +113,22 @@ abbrev pub alone_basis : ℕ → List (List ℕ) → Result Basis BoundTextFault
 alone_basis line [] = Ok ByAlone
 alone_basis line (word ∷ more) = Err (BadLine line)
 
+-- jobs by due date, by release date, and by falling time
+unfoldable pub kept_basis : ℕ → List (List ℕ) → Result Basis BoundTextFault
+kept_basis line words = do
+  jobs ← naturals line 1 most_jobs words
+  Ok (ByKept jobs)
+
+unfoldable pub shortest_basis : ℕ → List (List ℕ) → Result Basis BoundTextFault
+shortest_basis line words = do
+  jobs ← naturals line 1 most_jobs words
+  Ok (ByShortest jobs)
+
+unfoldable pub ranks_basis : ℕ → List (List ℕ) → Result Basis BoundTextFault
+ranks_basis line words = do
+  jobs ← naturals line 1 most_jobs words
+  Ok (ByRanks jobs)
+
 -- a kind, and the words behind it
 unfoldable pub kind_in : ℕ → List ℕ → List (List ℕ) → Result Basis BoundTextFault
 kind_in line kind words =
@@ -123,6 +139,9 @@ kind_in line kind words =
     else if bytes_eq kind (codes "multipliers") then multiplier_basis line words
     else if bytes_eq kind (codes "prices") then price_basis line words
     else if bytes_eq kind (codes "alone") then alone_basis line words
+    else if bytes_eq kind (codes "kept") then kept_basis line words
+    else if bytes_eq kind (codes "shortest") then shortest_basis line words
+    else if bytes_eq kind (codes "ranks") then ranks_basis line words
     else Err (BadLine line)
 
 abbrev pub basis_in : ℕ → List (List ℕ) → Result Basis BoundTextFault
@@ -226,6 +245,9 @@ with_arcs (ByOneJob job) all = Ok (ByOneJob job, all)
 with_arcs (ByMultipliers machine q v none) all = multipliers_at machine q v all
 with_arcs (ByPrices q rows) all = Ok (ByPrices q rows, all)
 with_arcs ByAlone all = Ok (ByAlone, all)
+with_arcs (ByKept jobs) all = Ok (ByKept jobs, all)
+with_arcs (ByShortest jobs) all = Ok (ByShortest jobs, all)
+with_arcs (ByRanks jobs) all = Ok (ByRanks jobs, all)
 
 -- the lines of the certificate, and those behind them
 unfoldable pub certificate_at : List KeptLine → Result (Basis × List KeptLine) BoundTextFault

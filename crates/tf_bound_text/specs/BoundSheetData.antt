@@ -5,15 +5,15 @@ use Rattle.tf_problem.specs.ProblemData.{ProblemData}
 use Rattle.tf_problem.specs.ProblemBounds.{machine_value, window_value, crowd_value, one_job_value, any_multiplier_value}
 use Rattle.tf_bound.specs.Certified.{IsAloneBound}
 use Rattle.tf_bound.specs.Prices.{IsPricesBound}
-use Rattle.tf_bound.specs.Faulted.{machine_fault, window_fault, crowd_fault, one_job_fault, multipliers_fault, prices_fault, alone_fault}
+use Rattle.tf_bound.specs.Faulted.{machine_fault, window_fault, crowd_fault, one_job_fault, multipliers_fault, prices_fault, alone_fault, kept_fault, shortest_fault, ranks_fault}
 use Rattle.tf_bound.specs.declared.fault.BoundFault.{BoundFault}
 use Rattle.tf_bound.specs.declared.certificate.BoundCertificate.{BoundCertificate}
-use Rattle.tf_bound.specs.declared.certificate.BoundCertificate.TheVariants.{Machine, Window, Crowd, OneJob, Multipliers, Prices, Alone}
+use Rattle.tf_bound.specs.declared.certificate.BoundCertificate.TheVariants.{Machine, Window, Crowd, OneJob, Multipliers, Prices, Alone, Kept, Shortest, Ranks}
 
 -- what a certificate names: a machine, counted from 0, or how many jobs each machine takes, and jobs;
 -- or a machine, a denominator and numerators, job by job and arc by arc; or a denominator and prices,
 -- row by row;
--- or nothing
+-- or nothing; or jobs by due date, by release date, or by falling time
 pub data Basis : Type 0 where
   ByMachine : ℕ → List ℕ → Basis
   ByWindow : List ℕ → Basis
@@ -22,6 +22,9 @@ pub data Basis : Type 0 where
   ByMultipliers : ℕ → ℕ → List ℕ → List ℕ → Basis
   ByPrices : ℕ → List ℕ → Basis
   ByAlone : Basis
+  ByKept : List ℕ → Basis
+  ByShortest : List ℕ → Basis
+  ByRanks : List ℕ → Basis
 
 abbrev pub basis_of : {A : Type 0} → BoundCertificate A → Basis
 basis_of (Machine machine jobs) = ByMachine machine jobs.items
@@ -32,6 +35,9 @@ basis_of (Multipliers machine q numerators arcs) =
     ByMultipliers machine q numerators.items arcs.items
 basis_of (Prices q rows) = ByPrices q rows.items
 basis_of Alone = ByAlone
+basis_of (Kept jobs) = ByKept jobs.items
+basis_of (Shortest jobs) = ByShortest jobs.items
+basis_of (Ranks jobs) = ByRanks jobs.items
 
 -- the number is what a certificate that names this bounds a task by
 abbrev pub IsValueBy : ProblemData → Basis → ℤ → Type 0
@@ -42,6 +48,9 @@ IsValueBy k (ByOneJob job) b = b ≡ one_job_value k job
 IsValueBy k (ByMultipliers machine q v arcs) b = b ≡ any_multiplier_value k machine v arcs q
 IsValueBy k (ByPrices q rows) b = IsPricesBound k q rows b
 IsValueBy k ByAlone b = IsAloneBound k b
+IsValueBy k (ByKept jobs) b = b ≡ pos (kept_value k jobs)
+IsValueBy k (ByShortest jobs) b = b ≡ pos (shortest_value k jobs)
+IsValueBy k (ByRanks jobs) b = b ≡ pos (rank_value k jobs)
 
 -- the first fault that a certificate that names this has on a task, if it has one
 abbrev pub fault_by : ProblemData → Basis → Option BoundFault
@@ -52,6 +61,9 @@ fault_by k (ByOneJob job) = one_job_fault k job
 fault_by k (ByMultipliers machine q v arcs) = multipliers_fault k machine q v arcs
 fault_by k (ByPrices q rows) = prices_fault k q rows
 fault_by k ByAlone = alone_fault k
+fault_by k (ByKept jobs) = kept_fault k jobs
+fault_by k (ByShortest jobs) = shortest_fault k jobs
+fault_by k (ByRanks jobs) = ranks_fault k jobs
 
 -- a certificate, and the problem, the sizes and the value that are stated beside it
 pub record BoundSheetData : Type 0 where

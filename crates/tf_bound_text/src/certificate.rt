@@ -5,6 +5,7 @@ ghost use Rattle.tf_bound_text.specs.BoundSheetData.{basis_of};
 ghost use Rattle.tf_bound_text.specs.BoundReading.{Gives, machine_basis, crowd_basis};
 ghost use Rattle.tf_bound_text.specs.BoundReading.{multiplier_basis, price_basis, one_job_basis};
 ghost use Rattle.tf_bound_text.specs.BoundReading.{window_basis, alone_basis, kind_in, basis_in};
+ghost use Rattle.tf_bound_text.specs.BoundReading.{kept_basis, shortest_basis, ranks_basis};
 
 use crate::fault::BoundTextFault;
 use crate::number::{first_number, jobs_from, natural, numbers_from, only};
@@ -114,6 +115,45 @@ fn alone_in<A: Allocator>(line: u32, text: &[u8]) -> Result<BoundCertificate<A>,
     }
 }
 
+/// Reads jobs by due date.
+#[tactic(auto, unfolding(crate::specs::BoundReading::kept_basis))]
+fn kept_in<A: Allocator>(
+    alloc: A,
+    line: u32,
+    text: &[u8],
+) -> Result<BoundCertificate<A>, BoundTextFault>
+    ensures { Gives basis_of result (kept_basis line (words text.now)) }
+{
+    let jobs = jobs_from(alloc, line, text)?;
+    Ok(BoundCertificate::Kept { jobs })
+}
+
+/// Reads jobs by release date.
+#[tactic(auto, unfolding(crate::specs::BoundReading::shortest_basis))]
+fn shortest_in<A: Allocator>(
+    alloc: A,
+    line: u32,
+    text: &[u8],
+) -> Result<BoundCertificate<A>, BoundTextFault>
+    ensures { Gives basis_of result (shortest_basis line (words text.now)) }
+{
+    let jobs = jobs_from(alloc, line, text)?;
+    Ok(BoundCertificate::Shortest { jobs })
+}
+
+/// Reads jobs by falling processing time.
+#[tactic(auto, unfolding(crate::specs::BoundReading::ranks_basis))]
+fn ranks_in<A: Allocator>(
+    alloc: A,
+    line: u32,
+    text: &[u8],
+) -> Result<BoundCertificate<A>, BoundTextFault>
+    ensures { Gives basis_of result (ranks_basis line (words text.now)) }
+{
+    let jobs = jobs_from(alloc, line, text)?;
+    Ok(BoundCertificate::Ranks { jobs })
+}
+
 /// Reads a certificate of this kind from the words that follow it.
 #[tactic(auto, unfolding(crate::specs::BoundReading::kind_in))]
 fn kind_in<A: Allocator + Copy>(
@@ -138,6 +178,12 @@ fn kind_in<A: Allocator + Copy>(
         prices_in(alloc, line, text)
     } else if is(kind, b"alone") {
         alone_in(line, text)
+    } else if is(kind, b"kept") {
+        kept_in(alloc, line, text)
+    } else if is(kind, b"shortest") {
+        shortest_in(alloc, line, text)
+    } else if is(kind, b"ranks") {
+        ranks_in(alloc, line, text)
     } else {
         Err(BoundTextFault::BadLine(line))
     }

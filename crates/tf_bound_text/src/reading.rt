@@ -190,6 +190,9 @@ fn with_arcs<'a, A: Allocator>(
         } => multipliers_at(alloc, machine, q, numerators, lines),
         BoundCertificate::Prices { q, rows } => Ok((BoundCertificate::Prices { q, rows }, lines)),
         BoundCertificate::Alone => Ok((BoundCertificate::Alone, lines)),
+        BoundCertificate::Kept { jobs } => Ok((BoundCertificate::Kept { jobs }, lines)),
+        BoundCertificate::Shortest { jobs } => Ok((BoundCertificate::Shortest { jobs }, lines)),
+        BoundCertificate::Ranks { jobs } => Ok((BoundCertificate::Ranks { jobs }, lines)),
     }
 }
 

@@ -176,5 +176,8 @@ pub fn push_certificate<A: Allocator, C: Allocator>(
         } => push_multipliers(text, *machine as u128 + 1, *q, numerators, arcs),
         BoundCertificate::Prices { q, rows } => push_prices(text, *q, rows),
         BoundCertificate::Alone => push_alone(text),
+        BoundCertificate::Kept { jobs } => push_listed(text, b"kept", jobs),
+        BoundCertificate::Shortest { jobs } => push_listed(text, b"shortest", jobs),
+        BoundCertificate::Ranks { jobs } => push_listed(text, b"ranks", jobs),
     }
 }

@@ -83,6 +83,7 @@ abbrev pub is_bound_kind : List ℕ → List (List ℕ) → Bool
 is_bound_kind key row =
     bytes_eq key (codes "machine") || bytes_eq key (codes "window") || bytes_eq key (codes "crowd")
     || bytes_eq key (codes "multipliers") || bytes_eq key (codes "prices")
+    || bytes_eq key (codes "kept") || bytes_eq key (codes "shortest") || bytes_eq key (codes "ranks")
     || (bytes_eq key (codes "job") && (length row == 1))
     || (bytes_eq key (codes "alone") && (length row == 0))
 

@@ -69,6 +69,9 @@ fn is_bound_kind(key: &[u8], row: &[u8]) -> bool
         || is(key, b"crowd")
         || is(key, b"multipliers")
         || is(key, b"prices")
+        || is(key, b"kept")
+        || is(key, b"shortest")
+        || is(key, b"ranks")
         || (is(key, b"job") && count_words(row) == 1)
         || (is(key, b"alone") && count_words(row) == 0)
 }

@@ -62,7 +62,7 @@ pub(crate) fn best_pieces<A: Allocator + Copy, B: Allocator>(
     given: Given,
 ) -> Result<Vec<Piece, A>, OutOfMemory> {
     let table = table_of(alloc, task, order)?;
-    let first = best_list(alloc, task, &table)?;
+    let first = best_list(alloc, task, &table, given.bound)?;
     if task.len() > MOST_SEARCHED {
         return lay(alloc, &table, &first);
     }
@@ -112,16 +112,20 @@ fn times_of<A: Allocator, B: Allocator>(
     Ok(times)
 }
 
-// The list of the rule whose schedule costs least.
+// The list of the rule whose schedule costs least, or of the first that costs as much as the bound.
 fn best_list<A: Allocator + Copy, B: Allocator>(
     alloc: A,
     task: &ProblemTask<B>,
     table: &TaskTable<A>,
+    bound: i128,
 ) -> Result<Vec<u32, A>, OutOfMemory> {
     let rules = rules_for(alloc, table)?;
     let mut best = Vec::new(alloc);
     let mut least = i128::MAX;
     for rule in rules.as_slice().iter().take(most_rules(table)) {
+        if least <= bound {
+            break;
+        }
         let list = list_by(alloc, table, *rule)?;
         let cost = cost_of(alloc, task, table, &list)?;
         if best.is_empty() || cost < least {

@@ -6,5 +6,6 @@
 mod due_dates;
 mod keys;
 mod listing;
+mod remaining;
 pub mod rule;
 mod urgency;

@@ -2,6 +2,7 @@
 use crate::due_dates::few_late;
 use crate::keys::keys_of;
 use crate::listing::listed;
+use crate::remaining::shortest_remaining;
 use crate::urgency::urgent_first;
 use std::alloc::Allocator;
 use tf_decode::measure::Measure;
@@ -24,6 +25,8 @@ pub enum Rule {
     /// By due dates; where a job is late, the one goes last that takes most for its weight (Moore
     /// 1968, by Hodgson's algorithm).
     FewLate,
+    /// The shortest remaining processing time first (Schrage 1968).
+    ShortestRemaining,
     /// The greatest apparent tardiness cost first (Vepsalainen and Morton 1987): so many tenths of
     /// the mean work halve the urgency.
     Urgency(u64),
@@ -51,6 +54,10 @@ pub fn rules_for<A: Allocator + Copy, B: Allocator>(
     if matches!(table.measure, Measure::LateWeight) && !table.has_arcs {
         rules.push(Rule::FewLate)?;
     }
+    let is_preempted = matches!(table.decoder, Decoder::Priorities);
+    if is_preempted && matches!(table.measure, Measure::TotalTardiness) && !table.has_arcs {
+        rules.push(Rule::ShortestRemaining)?;
+    }
     let is_sum = !matches!(table.measure, Measure::MaximumLateness);
     if is_sum && table.jobs.len() <= MOST_URGENT {
         for look in [5_u64, 12, 19, 26, 33, 40] {
@@ -68,6 +75,7 @@ pub fn list_by<A: Allocator + Copy, B: Allocator>(
 ) -> Result<Vec<u32, A>, OutOfMemory> {
     let jobs = match rule {
         Rule::FewLate => few_late(alloc, table)?,
+        Rule::ShortestRemaining => shortest_remaining(alloc, table)?,
         Rule::Urgency(look) => urgent_first(alloc, table, look)?,
         _ => listed(alloc, table, &keys_of(alloc, table, rule)?)?,
     };

@@ -17,8 +17,10 @@ use tf_model::memory::OutOfMemory;
 pub(crate) enum Rank {
     /// The latest release date first.
     LastReleased,
-    /// The earliest due date first.
-    FirstDue,
+    /// The earliest due date first, of the jobs that are released at this time or later.
+    FirstDue(u64),
+    /// The earliest release date first.
+    FirstReleased,
     /// The longest processing time first, of the jobs that take longer than this many time steps.
     LongerThan(u64),
 }
@@ -29,7 +31,9 @@ fn place_of<B: Allocator>(task: &ProblemTask<B>, rank: Rank, job: JobId) -> Opti
 {
     match rank {
         Rank::LastReleased => Some(u64::MAX - task.release(job)),
-        Rank::FirstDue => Some(task.due(job).abs_diff(i64::MIN)),
+        Rank::FirstReleased => Some(task.release(job)),
+        Rank::FirstDue(from) if task.release(job) < from => None,
+        Rank::FirstDue(_) => Some(task.due(job).abs_diff(i64::MIN)),
         Rank::LongerThan(time) if task.work(job) <= time => None,
         Rank::LongerThan(_) => Some(u64::MAX - task.work(job)),
     }
@@ -81,6 +85,29 @@ fn ranks_of<A: Allocator, B: Allocator>(
         }
     }
     Ok(ranks)
+}
+
+/// The release dates of the jobs from the first on, each once; only some where there are more than
+/// so many.
+pub(crate) fn release_dates<A: Allocator + Copy, B: Allocator>(
+    alloc: A,
+    task: &ProblemTask<B>,
+    most: usize,
+) -> Result<Vec<u64, A>, OutOfMemory> {
+    let mut dates = Vec::with_capacity(alloc, task.len())?;
+    for k in 0..task.len() {
+        dates.push(task.release(JobId::at(k)))?;
+    }
+    dates.sort_unstable();
+    dates.dedup();
+    let every = dates.len().div_ceil(most.max(1)).max(1);
+    let mut chosen = Vec::new(alloc);
+    for (place, date) in dates.iter().enumerate() {
+        if place % every == 0 {
+            chosen.push(*date)?;
+        }
+    }
+    Ok(chosen)
 }
 
 /// The jobs in the order of the rank, and of their numbers where it is the same.

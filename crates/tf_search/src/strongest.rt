@@ -13,7 +13,7 @@ use crate::machine_search::search_machines;
 use crate::multiplier_search::multiplier_bound;
 use crate::price_search::{Steps, hasty_search, patient_search};
 use crate::price_start::{Prices, finer_prices, prices_by_due, sequence_prices};
-use crate::ranked::{Rank, crowd_front, crowded_above, jobs_by_rank, window_front};
+use crate::ranked::{Rank, crowd_front, crowded_above, jobs_by_rank, release_dates, window_front};
 use crate::sequence::best_order;
 use crate::windows::{jobs_within, strongest_window};
 use std::alloc::{Allocator, Global};
@@ -28,10 +28,13 @@ use tf_bound::task::ProblemTask;
 use tf_model::ids::JobId;
 use tf_model::limit::LIMIT;
 use tf_model::memory::OutOfMemory;
-use tf_model::problem::{Env, Goal};
+use tf_model::problem::{Env, Goal, Problem};
 
 // The most jobs of which a sequence is searched, which takes the square of their number.
 const MOST_SEQUENCED: usize = 1_000;
+
+// How many jobs the lists may have together of which the late jobs are counted.
+const MOST_COUNTED: usize = 500_000;
 
 // How many visits of a row by a job the steps of a search for prices may take, where the caller
 // does not say how many steps it takes.
@@ -77,8 +80,93 @@ fn strongest_on<A: Allocator + Copy, B: Allocator, P: Progress>(
     if is_of_maximum(task.problem().goal) {
         return of_maximum(alloc, task);
     }
+    match by_rule(alloc, task)? {
+        Some(found) if is_met_by_rule(task.problem()) => Ok(found),
+        found => Ok(stronger(by_search(alloc, task, effort)?, found)),
+    }
+}
+
+// The strongest bound of a sum that a search finds.
+fn by_search<A: Allocator + Copy, B: Allocator, P: Progress>(
+    alloc: A,
+    task: &ProblemTask<B>,
+    effort: &mut Effort<P>,
+) -> Result<Found<A>, OutOfMemory>
+    requires { IsTrue (is_sum_goal task.now.problem.goal) }
+    ensures { IfOk result (IsFoundOn task.now) }
+{
     let best = without_arcs(alloc, task, effort)?;
     Ok(stronger(best, by_arcs(alloc, task)?))
+}
+
+// The bound by the rule for late jobs or completion times that is optimal where nothing more is
+// asked.
+fn by_rule<A: Allocator + Copy, B: Allocator>(
+    alloc: A,
+    task: &ProblemTask<B>,
+) -> Result<Option<Found<A>>, OutOfMemory>
+    ensures { IfOk result (λ best. IfSome best (IsFoundOn task.now)) }
+{
+    let problem = task.problem();
+    match problem.goal {
+        _ if problem.env.is_shop() => Ok(None),
+        Goal::SumU => by_kept(alloc, task),
+        Goal::SumC if matches!(problem.env, Env::Single) => by_shortest(alloc, task),
+        Goal::SumC => by_ranks(alloc, task),
+        _ => Ok(None),
+    }
+}
+
+// Whether the rule gives the optimum, and no other bound is known to do so.
+fn is_met_by_rule(problem: Problem) -> bool {
+    let is_single = matches!(problem.env, Env::Single);
+    if problem.prec || problem.prmu || problem.nwt {
+        return false;
+    }
+    match problem.goal {
+        Goal::SumU => is_single && !problem.release,
+        Goal::SumC => problem.prmp && problem.release == is_single,
+        _ => false,
+    }
+}
+
+// The late jobs by the rule of Moore and Hodgson, of those that are released from some date on.
+fn by_kept<A: Allocator + Copy, B: Allocator>(
+    alloc: A,
+    task: &ProblemTask<B>,
+) -> Result<Option<Found<A>>, OutOfMemory>
+    ensures { IfOk result (λ best. IfSome best (IsFoundOn task.now)) }
+{
+    let most = MOST_COUNTED / task.len().max(1);
+    let dates = release_dates(alloc, task, most)?;
+    let mut best: Option<Found<A>> = None;
+    for date in dates.as_slice() {
+        let jobs = jobs_by_rank(alloc, task, Rank::FirstDue(*date))?;
+        best = improved(best, judged(alloc, task, BoundCertificate::Kept { jobs }))?;
+    }
+    Ok(best)
+}
+
+// The completion times where the shortest remaining time always goes first.
+fn by_shortest<A: Allocator + Copy, B: Allocator>(
+    alloc: A,
+    task: &ProblemTask<B>,
+) -> Result<Option<Found<A>>, OutOfMemory>
+    ensures { IfOk result (λ best. IfSome best (IsFoundOn task.now)) }
+{
+    let jobs = jobs_by_rank(alloc, task, Rank::FirstReleased)?;
+    judged(alloc, task, BoundCertificate::Shortest { jobs })
+}
+
+// The completion times where the longest jobs go last on each machine.
+fn by_ranks<A: Allocator + Copy, B: Allocator>(
+    alloc: A,
+    task: &ProblemTask<B>,
+) -> Result<Option<Found<A>>, OutOfMemory>
+    ensures { IfOk result (λ best. IfSome best (IsFoundOn task.now)) }
+{
+    let jobs = jobs_by_rank(alloc, task, Rank::LongerThan(0))?;
+    judged(alloc, task, BoundCertificate::Ranks { jobs })
 }
 
 // The strongest bound of a sum that needs no multipliers of the arcs.
@@ -232,7 +320,7 @@ fn by_windows<A: Allocator + Copy, B: Allocator>(
     let problem = task.problem();
     match problem.goal {
         Goal::Lmax if problem.release => by_dates(alloc, task),
-        Goal::Lmax => by_front(alloc, task, Rank::FirstDue),
+        Goal::Lmax => by_front(alloc, task, Rank::FirstDue(0)),
         _ => by_front(alloc, task, Rank::LastReleased),
     }
 }
