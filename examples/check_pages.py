@@ -18,7 +18,7 @@ import tempfile
 PAGES = ["README.md", "docs/usage.md", "docs/answers.md", "docs/evaluating.md", "docs/plan.md", "docs/bounds.md", "docs/pictures.md", "docs/random.md",
          "examples/README.md", "examples/certificates/README.md", "examples/lecture/README.md", "examples/rules/README.md"]
 # The problems of a row of docs/border.md, and what its last column says of them.
-BORDER = re.compile(r"^\| (`.*?) \| .* \| (`solve`|`bound`, met|`bound`|no) \|$", re.M)
+BORDER = re.compile(r"^\| (`.*?) \| .* \| (`solve`|`plan`|`bound`, met|`bound`|no) \|$", re.M)
 # The NP-hard problems of a row, what is said of them, and by whom.
 HARD = re.compile(r"^\| (`[^|]*) \|([^|]*)\| ([A-Z][^|]*) \|$", re.M)
 LEFT_OUT = re.compile(r"^(export |bash \.ci/run|node |.*\brt (try|run|ci)\b)")
@@ -59,7 +59,7 @@ def has_method(command, problem):
 
 
 def at_border():
-    """The polynomial problems of docs/border.md, each with `solve`, `bound` or `no`."""
+    """The polynomial problems of docs/border.md, each with `solve`, `plan`, `bound` or `no`."""
     with open("docs/border.md", encoding="utf-8") as file:
         for names, here in BORDER.findall(file.read()):
             for name in re.findall(r"`(.*?)`", names):
@@ -73,6 +73,8 @@ def misplaced():
     yield from {line.split()[0] for line in listed} ^ {problem for problem, here in placed if here == "solve"}
     for problem, here in placed:
         known = [command for command in ("solve", "bound") if has_method(command, problem)]
+        if known[:1] == ["bound"] and any('"threefield plan" gives an optimal' in line for line in told(problem)):
+            known = ["plan"]
         if known[:1] != [here] and (known or here != "no"):
             yield problem
 

@@ -1,8 +1,11 @@
 -- What the text of a bound says.
-use Rattle.std.specs.Prelude.{◌≡◌, ℕ, ℤ, List, Option}
+use Rattle.std.specs.Prelude.{◌≡◌, ℕ, ℤ, pos, List, Option}
 use Rattle.tf_model.specs.declared.problem.Problem.{Problem}
 use Rattle.tf_problem.specs.ProblemData.{ProblemData}
 use Rattle.tf_problem.specs.ProblemBounds.{machine_value, window_value, crowd_value, one_job_value, any_multiplier_value}
+use Rattle.tf_problem.specs.Kept.{kept_value}
+use Rattle.tf_problem.specs.Shortest.{shortest_value}
+use Rattle.tf_problem.specs.Ranks.{rank_value}
 use Rattle.tf_bound.specs.Certified.{IsAloneBound}
 use Rattle.tf_bound.specs.Prices.{IsPricesBound}
 use Rattle.tf_bound.specs.Faulted.{machine_fault, window_fault, crowd_fault, one_job_fault, multipliers_fault, prices_fault, alone_fault, kept_fault, shortest_fault, ranks_fault}

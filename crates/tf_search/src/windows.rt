@@ -110,7 +110,7 @@ pub(crate) fn strongest_window<A: Allocator + Copy, B: Allocator>(
 ) -> Result<Option<Window>, OutOfMemory> {
     let places = places_in(alloc, &jobs_by_rank(alloc, task, Rank::LastReleased)?)?;
     let mut halves = Halves::new(alloc, task.len())?;
-    let order = jobs_by_rank(alloc, task, Rank::FirstDue)?;
+    let order = jobs_by_rank(alloc, task, Rank::FirstDue(0))?;
     Ok(window_along(task, &order, &places, &mut halves))
 }
 
