@@ -45,6 +45,7 @@ def checks(program):
         ("words without a session", [python, "bench/unseen_words.py"], None),
         ("damaged command lines and texts", [python, "bench/fuzz.py", program, "1", "9000"], None),
         ("plans of every problem that has bounds", [python, "bench/plans.py", program, "11"], None),
+        ("bounds that are optima", [python, "bench/optima.py", program], None),
         ("an independent checker", [python, "bench/compare_verify.py", program, "1", "1500"], None),
         ("the same status with --explain", [python, "bench/same_status.py", program], None),
         ("LaTeX of the traces", [python, "bench/latex.py", program], ("pdflatex pdftotext", "texlive-latex-base poppler-utils")),

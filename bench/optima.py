@@ -67,7 +67,7 @@ def drawn(rng, count):
 
 
 def main(program, seed="1"):
-    failed = 0
+    passed = failed = 0
     print("| Problem | Jobs | Tables | Optimal by plan | Seconds of bound | of plan |\n|---|---|---|---|---|---|")
     for problem, machines, optimum in PROBLEMS:
         for count, number in SIZES:
@@ -81,9 +81,10 @@ def main(program, seed="1"):
                 seconds = [sum(pair) for pair in zip(seconds, [run.seconds / number for run in runs])]
                 if not is_right:
                     print(f"{problem}: the optimum is {least}, the bound {runs[0].value}, the plan {runs[1].value}\n{table(jobs)}")
-            failed += number - optimal
+            passed, failed = passed + optimal, failed + number - optimal
             shown = problem.replace("|", "\\|")
             print(f"| `{shown}` | {count:,} | {number} | {optimal} | {seconds[0]:.2f} | {seconds[1]:.2f} |", flush=True)
+    print(f"{passed} passed, {failed} failed")
     return failed > 0
 
 
