@@ -36,6 +36,12 @@ const RELEASED_COMPLETIONS: Problem = Problem {
     ..PLAIN
 };
 
+// `1||sumU`
+const LATE_JOBS: Problem = Problem {
+    goal: Goal::SumU,
+    ..PLAIN
+};
+
 // `1||sumwU`
 const LATE_WEIGHT: Problem = Problem {
     goal: Goal::SumWU,
@@ -57,6 +63,12 @@ const PREEMPTED_COMPLETIONS: Problem = Problem {
     ..PLAIN
 };
 
+// `1|rj,prmp|sumC`
+const SHORTEST_FIRST: Problem = Problem {
+    prmp: true,
+    ..RELEASED_COMPLETIONS
+};
+
 // `P2||Cmax`
 const PARALLEL_MAKESPAN: Problem = Problem {
     env: Env::Parallel,
@@ -68,6 +80,13 @@ const PARALLEL_MAKESPAN: Problem = Problem {
 const PARALLEL_COMPLETIONS: Problem = Problem {
     env: Env::Parallel,
     goal: Goal::SumWC,
+    ..PLAIN
+};
+
+// `P2|prmp|sumC`
+const PREEMPTED_PARALLEL: Problem = Problem {
+    env: Env::Parallel,
+    prmp: true,
     ..PLAIN
 };
 
@@ -156,12 +175,15 @@ const ONE_MACHINE: &[Case] = &[
     (LATE_WEIGHT, FOUR_JOBS, 2_400, 95),
     (ORDERED_COMPLETIONS, FOUR_JOBS, 2_400, 41),
     (PREEMPTED_COMPLETIONS, THREE_JOBS, 13_824, 28),
+    (LATE_JOBS, FOUR_JOBS, 2_400, 100),
+    (SHORTEST_FIRST, THREE_JOBS, 13_824, 100),
 ];
 
 const PARALLEL_MACHINES: &[Case] = &[
     (PARALLEL_MAKESPAN, FOUR_JOBS_ON_TWO, 38_400, 100),
     (PARALLEL_COMPLETIONS, FOUR_JOBS_ON_TWO, 38_400, 95),
     (PARALLEL_LATENESS, FOUR_JOBS_ON_TWO, 38_400, 96),
+    (PREEMPTED_PARALLEL, THREE_JOBS_ON_TWO, 110_592, 100),
 ];
 
 const SHOPS: &[Case] = &[
