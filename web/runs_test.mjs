@@ -45,6 +45,14 @@ test("multipliers of the precedence constraints belong to the certificate", () =
     { value: "1", certificate: "multipliers 1 1 1 1 1\narcs 1 0" });
 });
 
+test("a certificate that lists jobs stands behind the bound", () => {
+  for (const line of ["kept 1 2", "shortest 2 1", "ranks 2 1", "window 1", "alone"]) {
+    const found = readEvaluation(bytes(ASSESSED.replace("multipliers 1 1 0 1", line)), 2);
+    assert.equal(found.certificate, line);
+    assert.deepEqual([[...found.start], [...found.completion]], [[3, 0], [5, 4]]);
+  }
+});
+
 test("a certificate of one job is not the line of a job", () => {
   const text = "evaluation 1\nproblem P2|prec|Cmax\njobs 2\nmachines 2\nfits\nclaimed 9\nvalue 9\n"
     + "gap 1\nbound 8\njob 1\njob 1 0 4 4\njob 2 4 9 9\nend\n";

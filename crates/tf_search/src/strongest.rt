@@ -117,7 +117,8 @@ fn by_rule<A: Allocator + Copy, B: Allocator>(
     }
 }
 
-// Whether the rule gives the optimum, and no other bound is known to do so.
+// Whether its bound is the optimum, so that nothing else is searched. On one machine without release
+// dates the multipliers of completion times are so too.
 fn is_met_by_rule(problem: Problem) -> bool {
     let is_single = matches!(problem.env, Env::Single);
     if problem.prec || problem.prmu || problem.nwt {
