@@ -47,6 +47,7 @@ def checks(program):
         ("plans of every problem that has bounds", [python, "bench/plans.py", program, "11"], None),
         ("bounds that are optima", [python, "bench/optima.py", program], None),
         ("an independent checker", [python, "bench/compare_verify.py", program, "1", "1500"], None),
+        ("an independent checker of bounds", [python, "bench/compare_bounds.py", program], None),
         ("the same status with --explain", [python, "bench/same_status.py", program], None),
         ("LaTeX of the traces", [python, "bench/latex.py", program], ("pdflatex pdftotext", "texlive-latex-base poppler-utils")),
         ("the page's modules", ["node", "--test", *sorted(glob.glob("web/*_test.mjs", root_dir=TOP))], ("node", "nodejs")),

@@ -1,0 +1,198 @@
+#!/usr/bin/env python3
+"""Judges the text of a lower bound by the definitions alone, without a line of threefield's code (docs/bounds.md has them in words).
+
+    python3 examples/verify_bound.py PROBLEM TABLE BOUND [MACHINES]
+
+Prints what `threefield evaluate --bound` says behind `offered`: the certificate's value (status 0) or the first reason why it bounds
+nothing (1); or in its own words why a text is refused (2). Numbers of more than 128 bits are no reason here.
+"""
+import heapq
+import re
+import sys
+from fractions import Fraction
+from types import SimpleNamespace as Record
+
+from verify import LIMIT, MOST_JOBS, MOST_MACHINES, Refused, Rejected, demand, lines_of, notation, number, reject, table
+
+MOST_VALUE = 2**63 - 1
+
+def task_of(problem, machines, jobs, arcs, own):
+    """The task of a problem, whatever it is: what the problem does not name is 0, a weight 1."""
+    goal, is_shop = re.sub("_?j", "", problem.goal), problem.env in "FO"
+    demand(problem.env in "1PFO" and goal != "hmax" and not {"block", "rcrc"} & set(problem.conditions), "a problem without bounds")
+    given = {1} if problem.env == "1" else {problem.count, machines, own} - {None}
+    demand(given == {2} if is_shop else len(given) == 1, "the number of machines")
+    needed = ["p"] + ["r"] * ("rj" in problem.conditions) + ["w"] * ("w" in goal) + ["d"] * (goal == "Lmax" or goal[-1] in "TU")
+    for job in jobs.values():
+        demand(len(job["p"]) == 1 + is_shop and sum(job["p"]) > 0 and all(key in job for key in needed), "times, or a field is missing")
+    picked = {key: {j: job[key] if key in needed else other for j, job in jobs.items()} for key, other in (("r", 0), ("w", 1), ("d", 0))}
+    return Record(env=problem.env, goal=goal, conditions=problem.conditions, machines=given.pop(), jobs=list(jobs), **picked,
+                  arcs=arcs if "prec" in problem.conditions else [], times={j: job["p"] for j, job in jobs.items()}, p={j: sum(job["p"]) for j, job in jobs.items()})
+
+def along_arcs(task, moves_dues):
+    """The task with the dates that follow by its precedence constraints, itself where they form a cycle or a date is beyond the limit."""
+    r, d = dict(task.r), dict(task.d)
+    for _ in task.jobs:
+        for i, j in task.arcs:
+            r[j] = max(r[j], r[i] + task.p[i])
+            d[i] = min(d[i], d[j] - task.p[j])
+    is_cycle = any(r[j] < r[i] + task.p[i] for i, j in task.arcs)
+    is_far = max(r.values()) + sum(task.p.values()) > LIMIT or moves_dues and min(d.values()) < -LIMIT
+    return task if is_cycle or is_far else Record(**{**vars(task), "r": r, "d": d if moves_dues else task.d})
+
+def penalty(task, j, end):
+    late = max(end - task.d[j], 0)
+    return task.w[j] * (late > 0 if task.goal[-1] == "U" else late)
+def head(task, j, i):
+    return task.r[j] + (sum(task.times[j][:i]) if task.env == "F" else 0)
+def tail(task, j, i):
+    return sum(task.times[j][i + 1:]) if task.env == "F" else 0
+def share(amount, parts):
+    return max(-(-amount // parts), 0)
+
+def listed(task, jobs, few=0):
+    """The jobs, each of the task and none twice, more than so many."""
+    for k, j in enumerate(jobs):
+        j in task.jobs or reject("BadJob", j)
+        j not in jobs[:k] or reject("Repeated", j)
+    len(jobs) > few or reject("TooFew")
+    return jobs
+def in_order(jobs, key):
+    """Jobs of which the key rises."""
+    for before, j in zip(jobs, jobs[1:]):
+        key(before) <= key(j) or reject("Condition", j)
+    return jobs
+def within(value):
+    return value if value <= LIMIT else reject("TooLarge")
+
+def machine(task, i, *jobs):
+    1 <= i <= task.machines or reject("BadMachine", i)
+    jobs, i = listed(task, jobs), i - 1
+    return min(head(task, j, i) for j in jobs) + sum(task.times[j][i] for j in jobs) + min(tail(task, j, i) - task.d[j] for j in jobs)
+def window(task, *jobs):
+    jobs = listed(task, jobs)
+    return min(task.r[j] for j in jobs) - (-sum(task.p[j] for j in jobs) // task.machines) - max(task.d[j] for j in jobs)
+def crowd(task, h, *jobs):
+    jobs = listed(task, jobs, h * task.machines)
+    return min(task.r[j] for j in jobs) + (h + 1) * min(task.p[j] for j in jobs) - max(task.d[j] for j in jobs)
+def one_job(task, j):
+    j in task.jobs or reject("BadJob", j)
+    return task.r[j] + task.p[j] - task.d[j]
+
+def multipliers(task, i, q, *v, arcs=()):
+    q > 0 or reject("NoDenominator")
+    1 <= i <= task.machines or reject("BadMachine", i)
+    len(v) == len(task.jobs) and len(arcs) in (0, len(task.arcs)) or reject("Numerators")
+    v, u, i, m = dict(zip(task.jobs, v)), dict(zip(task.jobs, v)), 0 if task.env == "P" else i - 1, task.machines
+    gain = 0
+    for (before, after), moved in zip(task.arcs, arcs):
+        u[before], u[after], gain = u[before] + moved, u[after] - moved, gain + moved * task.p[after]
+    for is_wrong in (lambda j: v[j] > q * task.w[j], lambda j: u[j] < 0, lambda j: task.times[j][i] == 0):
+        wrong = [j for j in task.jobs if is_wrong(j)]
+        not wrong or reject("Condition", wrong[0])
+    smith, now = 0, 0
+    for j in sorted(task.jobs, key=lambda j: Fraction(-u[j], task.times[j][i])):
+        now += task.times[j][i]
+        smith += u[j] * now
+    owed = sum(v[j] * task.d[j] for j in task.jobs)
+    if task.env == "P":  # one machine as fast as all of them, and (m - 1) / (2 m) of each time
+        waits = sum(u[j] * ((m - 1) * task.p[j] + 2 * m * min(task.r.values())) for j in task.jobs)
+        return share(2 * smith + waits + 2 * m * (gain - owed), 2 * m * q)
+    first = min(head(task, j, i) for j in task.jobs)
+    return share(smith + sum(u[j] * (first + tail(task, j, i)) for j in task.jobs) + gain - owed, q)
+
+def prices(task, q, *rows):
+    q > 0 or reject("NoDenominator")
+    within(sum(rows))
+    total = -task.machines * sum(rows)
+    for j in task.jobs:
+        last = max(task.r[j], len(rows))
+        within(max(last + task.p[j], q * penalty(task, j, last + task.p[j])))
+        total += min(q * penalty(task, j, s + task.p[j]) + sum(rows[s:s + task.p[j]]) for s in range(task.r[j], last + 1))
+    return share(total, q)
+
+def alone(task):
+    task = along_arcs(task, False)
+    return min(sum(penalty(task, j, task.r[j] + task.p[j]) for j in task.jobs), MOST_VALUE)
+
+def kept(task, *jobs):
+    first, times, total = min((task.r[j] for j in listed(task, jobs)), default=0), [], 0
+    for j in in_order(jobs, lambda j: max(task.d[j], 0)):
+        heapq.heappush(times, -task.p[j])
+        total += task.p[j]
+        if total > task.machines * max(max(task.d[j], 0) - first, 0):
+            total += heapq.heappop(times)
+    return len(jobs) - len(times)
+def shortest(task, *jobs):
+    now, value, left = 0, 0, []
+    for until, time in [(task.r[j], task.p[j]) for j in in_order(listed(task, jobs), task.r.get)] + [(LIMIT * MOST_JOBS, 0)]:
+        while left and now + left[0] <= until:
+            now += heapq.heappop(left)
+            value += now
+        if left:
+            heapq.heapreplace(left, left[0] - (until - now))
+        heapq.heappush(left, time)
+        now = until
+    return within(value)
+def ranks(task, *jobs):
+    in_order(listed(task, jobs), lambda j: -task.p[j])
+    return within(sum(-(-k // task.machines) * task.p[j] for k, j in enumerate(jobs, 1)))
+
+MAXIMA, SUMS, TARDY = "Cmax Lmax", "sumC sumwC sumT sumwT sumU sumwU", "sumC sumwC sumT sumwT"
+# Of each kind its value, and for which environments and objectives it is; `prmp` is left out of some.
+KINDS = {"machine": (machine, "1FO", MAXIMA), "window": (window, "1P", MAXIMA), "crowd": (crowd, "1P", MAXIMA, "prmp"),
+         "job": (one_job, "1PFO", MAXIMA), "multipliers": (multipliers, "1PFO", TARDY), "prices": (prices, "1P", SUMS, "prmp"),
+         "alone": (alone, "1PFO", SUMS), "kept": (kept, "1P", "sumU"), "shortest": (shortest, "1", "sumC"), "ranks": (ranks, "1P", "sumC")}
+def kinds_for(task):
+    return [kind for kind, (_, environments, goals, *left_out) in KINDS.items()
+            if task.env in environments and task.goal in goals.split() and not set(left_out) & set(task.conditions)]
+
+# How many numbers a kind has before its list, with the range of each, and what stands in the list.
+MACHINE, COUNT, ANY, JOB = (1, MOST_MACHINES), (0, MOST_JOBS), (0, LIMIT), (1, MOST_JOBS)
+FORMS = {"machine": ([MACHINE], JOB), "crowd": ([COUNT], JOB), "job": ([JOB], None), "multipliers": ([MACHINE, ANY], ANY),
+         "prices": ([ANY], ANY), "alone": ([], None)}
+
+def bound_of(text):
+    lines = lines_of(text)
+    words = [words for words, _ in lines]
+    demand(len(lines) in (7, 8) and words[0] == [b"bound", b"1"] and words[1][0] == b"problem" and words[-1] == [b"end"], "no bound")
+    problem = lines[1][1].lstrip(b" \t\r")[len(b"problem"):].removesuffix(b"\r")
+    keys = (b"jobs", 1, MOST_JOBS), (b"machines", 1, MOST_MACHINES), (b"value", -2**63, MOST_VALUE)
+    demand([(line[0], len(line)) for line in words[2:5]] == [(key, 2) for key, _, _ in keys], "no sizes, or no value")
+    jobs, machines, value = (number(line[1], least, most) for line, (_, least, most) in zip(words[2:5], keys))
+    kind, given = words[5][0].decode("latin-1"), words[5][1:]
+    demand(kind in KINDS, "no such kind")
+    ranges, rest = FORMS.get(kind, ([], JOB))
+    demand(len(given) >= len(ranges) and (rest or len(given) == len(ranges)), "the words behind the kind")
+    numbers = [number(word, *bounds) for word, bounds in zip(given, ranges + [rest] * len(given))]
+    demand(len(lines) == 7 or kind == "multipliers" and words[6][0] == b"arcs" and len(words[6]) > 1, "a line before the end")
+    arcs = {"arcs": [number(word, *ANY) for word in words[6][1:]]} if len(lines) == 8 else {}
+    return Record(problem=notation(problem), jobs=jobs, machines=machines, value=value, kind=kind, numbers=numbers, arcs=arcs)
+
+def same(one, other):
+    return (one.env, set(one.conditions), re.sub("_?j", "", one.goal)) == (other.env, set(other.conditions), re.sub("_?j", "", other.goal))
+
+def judge(problem, table_text, bound_text, machines=None):
+    try:
+        problem, bound = notation(problem), bound_of(bound_text)
+        task = task_of(problem, machines, *table(table_text))
+        fits = (bound.jobs, bound.machines) == (len(task.jobs), task.machines) and bound.problem.count in (None, task.machines)
+        same(bound.problem, problem) and fits or reject("OtherTask")
+        bound.kind in kinds_for(task) or reject("OtherKind")
+        value = KINDS[bound.kind][0](along_arcs(task, True) if task.goal in MAXIMA.split() else task, *bound.numbers, **bound.arcs)
+        value == bound.value or reject("WrongValue", value)
+    except (Refused, Rejected) as why:
+        return (f"refused: {why}", 2) if isinstance(why, Refused) else (str(why), 1)
+    return str(value), 0
+
+def main(asked, table_name, bound_name, machines=None):
+    texts = [open(name, "rb").read() for name in (table_name, bound_name)]
+    return judge(asked.encode("utf-8", "surrogateescape"), *texts, machines and int(machines))
+
+if __name__ == "__main__":
+    try:
+        line, status = main(*sys.argv[1:])
+    except (OSError, TypeError, ValueError) as fault:
+        line, status = f"refused: {fault}", 2
+    print(line, file=sys.stderr if status == 2 else sys.stdout)
+    sys.exit(status)
