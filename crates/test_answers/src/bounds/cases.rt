@@ -76,7 +76,18 @@ const CHAIN: Case = Case {
     assessed: Assessed::Best,
 };
 
-pub const CASES: [Case; 4] = [TWO_MACHINES, THREE_MACHINES, TARDINESS, CHAIN];
+/// By due date the times come to 2, and then to 5, which is more than 4.
+const LATE_JOBS: Case = Case {
+    problem: "1||sumU",
+    given: Given::Table,
+    instance: b"table 1\njob 1 p=2 d=2\njob 2 p=3 d=4\n",
+    bound: b"bound 1\nproblem 1||sumU\njobs 2\nmachines 1\nvalue 1\nkept 1 2\nend\n",
+    answer: b"answer 1\nproblem 1||sumU\njobs 2\nmachines 1\nvalue 1\npiece 1 1 0 2\n\
+        piece 2 1 2 5\ncert load\nend\n",
+    assessed: Assessed::Best,
+};
+
+pub const CASES: [Case; 5] = [TWO_MACHINES, THREE_MACHINES, TARDINESS, CHAIN, LATE_JOBS];
 
 /// What is asked for.
 pub fn request_of(rt: &HostRuntime, case: &Case) -> Result<Request, AllocError> {
