@@ -38,7 +38,7 @@ _threefield() {
     evaluate) COMPREPLY=($(compgen -W "$instance --certificate --measures --bound --steps --order --orders --grade --schedule --json --csv" -- "$word")) ;;
     gantt) COMPREPLY=($(compgen -W "--columns --svg --fold --from --to --width --height --size --input --format --jobs --index --name --pair --explain --help" -- "$word")) ;;
     random) COMPREPLY=($(compgen -W "--problem --jobs --machines --seed --max --help" -- "$word")) ;;
-    problems) COMPREPLY=($(compgen -W "--bounds --json --help" -- "$word")) ;;
+    problems) COMPREPLY=($(compgen -W "--bounds --border --json --help" -- "$word")) ;;
     esac
 }
 complete -o filenames -F _threefield threefield

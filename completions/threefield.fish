@@ -27,6 +27,7 @@ complete -c threefield -n "__fish_seen_subcommand_from $instance gantt" -l expla
 complete -c threefield -n "__fish_seen_subcommand_from solve" -l answer -x -a "1 2" -d "Version of the answer text"
 complete -c threefield -n "__fish_seen_subcommand_from solve plan bound check evaluate problems" -l json -d "Write a JSON object"
 complete -c threefield -n "__fish_seen_subcommand_from problems" -l bounds -d "List problems that have lower bounds and no solver"
+complete -c threefield -n "__fish_seen_subcommand_from problems" -l border -d "List which problems are polynomial, which NP-hard"
 complete -c threefield -n "__fish_seen_subcommand_from solve plan evaluate" -l csv -d "Write a table for spreadsheets"
 complete -c threefield -n "__fish_seen_subcommand_from plan bound evaluate" -l steps -x -d "Steps of the search for prices"
 complete -c threefield -n "__fish_seen_subcommand_from trace" -l tex -d "Write it for LaTeX"

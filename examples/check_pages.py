@@ -58,11 +58,11 @@ def has_method(command, problem):
     return ran.stderr.strip() != "threefield: refused: NoSolver"
 
 
-def at_border():
-    """The polynomial problems of docs/border.md, each with `solve`, `plan`, `bound` or `no`."""
+def at_border(special=True):
+    """The polynomial problems of docs/border.md, each with `solve`, `plan`, `bound` or `no`; not those of special instances unless asked."""
     with open("docs/border.md", encoding="utf-8") as file:
         for names, here in BORDER.findall(file.read()):
-            for name in re.findall(r"`(.*?)`", names):
+            for name in re.findall(r"`(.*?)`", names) if special or ", if " not in names else ():
                 yield name.replace("\\|", "|"), here.split(",")[0].strip("`")
 
 
@@ -76,6 +76,20 @@ def misplaced():
         if known[:1] == ["bound"] and any('"threefield plan" gives an optimal' in line for line in told(problem)):
             known = ["plan"]
         if known[:1] != [here] and (known or here != "no"):
+            yield problem
+
+
+def mislisted():
+    """The rows of `problems --border` that docs/border.md contradicts."""
+    with open("docs/border.md", encoding="utf-8") as file:
+        hard = {name for names, _, _ in HARD.findall(file.read().replace("\\|", "!")) for name in re.findall(r"`(.*?)`", names)}
+    commands = {"solve": "solve", "plan": "plan", "bound": "plan", "no": "-"}
+    placed = {problem: commands[here] for problem, here in at_border(special=False)}
+    listed = subprocess.run(["threefield", "problems", "--border"], capture_output=True, text=True, check=True).stdout.splitlines()[1:]
+    for problem, complexity, command in (line.split()[:3] for line in listed):
+        if complexity == "polynomial" and (problem.replace("|", "!") in hard or placed.get(problem, command) != command):
+            yield problem
+        if complexity == "NP-hard" and problem in placed:
             yield problem
 
 
@@ -115,7 +129,7 @@ def main(pages, folder):
                 failed += 1
                 print(f"{page}: $ {command}\n{fault}")
     ran += 1
-    wrong_rows = [*misplaced(), *mistold()]
+    wrong_rows = [*misplaced(), *mislisted(), *mistold()]
     if wrong_rows:
         failed += 1
         print(f"docs/border.md: {', '.join(wrong_rows)}: the program does otherwise")

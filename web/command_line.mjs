@@ -62,7 +62,9 @@ const COMMANDS = {
   random: [PROBLEM, { name: "--jobs", value: "N", allowed: NEGATIVE, isRequired: true }, MACHINES,
     { name: "--seed", value: "S", allowed: NEGATIVE },
     { name: "--max", value: "T", allowed: NEGATIVE }],
-  problems: [{ name: "--bounds", isBuiltOnly: true }, JSON_TEXT, { name: "FILE", isPlace: true }],
+  problems: [{ name: "--bounds", isBuiltOnly: true },
+    { name: "--border", rivals: ["--bounds", "--json", "FILE"], isBuiltOnly: true },
+    JSON_TEXT, { name: "FILE", isPlace: true }],
 };
 
 /** The commands that the module does not have. */

@@ -15,7 +15,7 @@ pub(crate) enum Hard {
 }
 
 /// Polynomial problems without a solver here.
-static EASY: [Known; 17] = [
+pub(crate) static EASY: [Known; 17] = [
     (
         "1|rj,prec,prmp|Lmax",
         "by the dates that the arcs imply, Horn 1974",
@@ -51,7 +51,7 @@ static EASY: [Known; 17] = [
 static PLANNED: [&str; 4] = ["1|rj,prmp|sumC", "1||sumU", "1|prmp|sumU", "P|prmp|sumC"];
 
 /// NP-hard problems with as few conditions as possible.
-static HARD: [Known; 38] = [
+pub(crate) static HARD: [Known; 38] = [
     ("1|rj|Lmax", "Lenstra, Rinnooy Kan and Brucker 1977"),
     ("1|rj|sumC", "Lenstra, Rinnooy Kan and Brucker 1977"),
     (

@@ -4,6 +4,7 @@
 
 pub mod advice;
 mod border;
+pub mod border_list;
 pub mod cycle;
 mod field;
 pub mod notation;

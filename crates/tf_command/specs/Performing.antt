@@ -12,7 +12,7 @@ use Rattle.tf_text.specs.declared.answer.layout.Layout.TheVariants.{Two}
 use Rattle.tf_orders.specs.declared.run_orders.OrderForm.{OrderForm}
 use Rattle.tf_orders.specs.declared.run_orders.OrderForm.TheVariants.{Single, Lines, Pieces}
 use Rattle.tf_options.specs.declared.options.Work.{Work as Asking}
-use Rattle.tf_options.specs.declared.options.Work.TheVariants.{Solve, Bound, Plan, Trace, Check, Evaluate, Assess, Rate, Gantt, Random, Problems, Picture}
+use Rattle.tf_options.specs.declared.options.Work.TheVariants.{Solve, Bound, Plan, Trace, Check, Evaluate, Assess, Rate, Gantt, Random, Problems, Border, Picture}
 use Rattle.tf_options.specs.declared.options.OrderSource.TheVariants.{Given, Named, Drawn}
 use Rattle.tf_options.specs.declared.options.Options.{Options}
 use Rattle.tf_options.specs.Asking.{requested, form_asked}
@@ -73,6 +73,12 @@ abbrev pub EndsListing : Listed → Option InstanceData → DeviceUse → (List 
     → Type 0
 EndsListing listed instance writer says status =
     EndsWriting (listing listed instance) writer says status
+    ⊎ ((status ≡ 3) × Keeps writer.before writer.after × says (codes "threefield: want of memory\n"))
+
+-- a text was written, of which nothing is said; or there was no memory, as above
+abbrev pub EndsTelling : DeviceUse → (List ℕ → Type 0) → ℕ → Type 0
+EndsTelling writer says status =
+    ((text : List ℕ) × EndsWriting text writer says status)
     ⊎ ((status ≡ 3) × Keeps writer.before writer.after × says (codes "threefield: want of memory\n"))
 
 -- all the bytes that a reader gives are a job table of this instance
@@ -180,3 +186,4 @@ Performs texts (Problems listed None) writer says status =
 Performs texts (Problems listed (Some table)) writer says status =
     EndsOver texts table.now writer (says true) status
     (λ reader. EndsListingFor listed reader writer (says false) status)
+Performs texts Border writer says status = EndsTelling writer (says false) status

@@ -18,7 +18,7 @@ use crate::bounding::{assess_over, bound_over, plan_over, rate_over};
 use crate::console::Console;
 use crate::explained::{Ended, Rated, tell, tell_drawn};
 use crate::picturing::picture_named;
-use crate::problems::list_problems;
+use crate::problems::{list_border, list_problems};
 use crate::recorded::{MOST_BESIDE, MOST_KEPT, Recorded, room};
 use crate::report::{
     end_check, end_evaluation, end_plan, end_rating, end_run, report_bound, say_device, say_memory,
@@ -89,6 +89,7 @@ pub fn perform<S: Sources, W: Write, E: Write>(
         Work::Picture(picturing) => picture_named(console, sources, picturing),
         Work::Random(wanted) => random(console, wanted),
         Work::Problems(listed, name) => list_problems(console, sources, *listed, *name),
+        Work::Border => list_border(console),
     }
 }
 

@@ -2,7 +2,7 @@
 ghost use Rattle.tf_command.specs.Ending.{SaysLine};
 ghost use Rattle.tf_command.specs.FaultLine.{fault_line};
 ghost use Rattle.tf_command.specs.Performing.{EndsListing, EndsListingFor, EndsOver, IsInTable};
-ghost use Rattle.tf_command.specs.Performing.{Performs};
+ghost use Rattle.tf_command.specs.Performing.{EndsTelling, Performs};
 ghost use Rattle.tf_command.specs.Recorded.{bytes_left};
 ghost use Rattle.tf_command.specs.Statuses.{status_of};
 ghost use Rattle.tf_command.specs.Wrote.{Wrote};
@@ -20,6 +20,7 @@ use crate::report::{report, say_memory};
 use crate::source::Sources;
 use std::alloc::Allocator;
 use std::io::{Read, Write};
+use tf_advice::border_list::border_list;
 use tf_bounding::instance_read::instance_read;
 use tf_engine::fault::RunFault;
 use tf_engine::request::Form;
@@ -44,6 +45,17 @@ pub(crate) fn list_problems<S: Sources, W: Write, E: Write>(
     match name {
         None => list(console, listed, None),
         Some(name) => list_named(console, sources, listed, name),
+    }
+}
+
+/// Lists which problems are polynomial and which are NP-hard.
+pub(crate) fn list_border<W: Write, E: Write>(console: &mut Console<W, E>) -> u8
+    ensures { EndsTelling (use_of W.contents console.old.writer console.new.writer)
+        (SaysLine E.contents false console.old.errors console.new.errors) result }
+{
+    match border_list(console.alloc) {
+        Ok(text) => write_out(console, text.as_bytes()),
+        Err(_) => say_memory(&mut console.errors),
     }
 }
 

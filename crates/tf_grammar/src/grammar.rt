@@ -77,6 +77,7 @@ Exit status: 0 written, 2 refused, 3 want of memory,
 const ABOUT_PROBLEMS: &str = "\
 Example: threefield problems examples/all_fields.txt
          threefield problems --bounds
+         threefield problems --border
 
 --bounds lists one problem for each machine environment and objective.
 Conditions may be added: rj, prec, prmp, prmu and nwt.
@@ -109,6 +110,8 @@ static AGAINST_GRADE: [&str; 3] = ["order", "schedule", "ANSWER"];
 static AGAINST_SCHEDULE: [&str; 4] = ["order", "orders", "certificate", "ANSWER"];
 
 static AGAINST_SIZE: [&str; 2] = ["width", "height"];
+
+static AGAINST_BORDER: [&str; 3] = ["bounds", "json", "FILE"];
 
 static VERSION: [&str; 1] = ["answer"];
 
@@ -394,6 +397,11 @@ fn problems_command<'a>(alloc: Global) -> Result<Command<'a>, AllocError>
             "bounds",
             "Lists problems that have lower bounds and no solver",
         ),
+        flag(
+            "border",
+            "Lists which problems are polynomial, which NP-hard, by whom",
+        )
+        .without(AGAINST_BORDER.as_slice()),
         json(),
         place("FILE", "A job table: lists what it has the fields for"),
     ];

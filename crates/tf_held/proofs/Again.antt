@@ -38,7 +38,7 @@ use Rattle.tf_options.specs.declared.options.Evaluating.{Evaluating}
 use Rattle.tf_options.specs.declared.options.FormOption.TheVariants.{Wt}
 use Rattle.tf_options.specs.declared.options.Options.{Options}
 use Rattle.tf_options.specs.declared.options.Work.{Work as Asking}
-use Rattle.tf_options.specs.declared.options.Work.TheVariants.{Solve, Bound, Plan, Trace, Check, Evaluate, Assess, Rate, Gantt, Random, Problems, Picture}
+use Rattle.tf_options.specs.declared.options.Work.TheVariants.{Solve, Bound, Plan, Trace, Check, Evaluate, Assess, Rate, Gantt, Random, Problems, Border, Picture}
 use Rattle.tf_options.specs.declared.series.Series.{Series}
 use Rattle.tf_options.specs.declared.series.Told.{Told}
 use Rattle.tf_options.specs.declared.series.Told.TheVariants as kinds
@@ -394,6 +394,7 @@ work_for series m k (Gantt answer drawing explain) is = absurd is
 work_for series m k (Picture picturing) is = absurd is
 work_for series m k (Random wanted) is = absurd is
 work_for series m k (Problems listed name) is = absurd is
+work_for series m k Border is = absurd is
 
 -- ---- what was told
 
@@ -513,6 +514,7 @@ module _ (series : Series) (m : ℕ) (own answer : List ℕ) (writer : DeviceUse
   ran_has (Picture picturing) is done = absurd is
   ran_has (Random wanted) is done = absurd is
   ran_has (Problems listed name) is done = absurd is
+  ran_has Border is done = absurd is
 
   -- and it tells the same of an instance that another text has
   module _ (k : ℕ) (file : List ℕ) (apart : IsNamedApart input series.told)
@@ -597,6 +599,7 @@ module _ (series : Series) (m : ℕ) (own answer : List ℕ) (writer : DeviceUse
     ran_again (Picture picturing) is done = absurd is
     ran_again (Random wanted) is done = absurd is
     ran_again (Problems listed name) is done = absurd is
+    ran_again Border is done = absurd is
 
 -- ---- a run in memory
 

@@ -170,8 +170,12 @@ fn push_meaning<A: Allocator>(text: &mut String<A>, problem: &Problem) -> Result
     writeln!(text, "{meaning}, {environment}{machines}{breaks}")
 }
 
-// Adds a word and blanks up to the width of its column.
-fn push_column<A: Allocator>(
+/// Adds a word and blanks up to the width of its column.
+///
+/// # Errors
+///
+/// There was no memory.
+pub fn push_column<A: Allocator>(
     text: &mut String<A>,
     word: &str,
     width: usize,

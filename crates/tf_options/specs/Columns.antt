@@ -4,7 +4,7 @@ use Rattle.tf_text.specs.Chart.{most_columns}
 use Rattle.tf_options.specs.declared.options.Drawing.{Drawing}
 use Rattle.tf_options.specs.declared.options.Drawing.TheVariants.{Chart, Picture}
 use Rattle.tf_options.specs.declared.options.Work.{Work as Asking}
-use Rattle.tf_options.specs.declared.options.Work.TheVariants.{Solve, Bound, Plan, Trace, Check, Evaluate, Assess, Rate, Gantt, Random, Problems, Picture as Dated}
+use Rattle.tf_options.specs.declared.options.Work.TheVariants.{Solve, Bound, Plan, Trace, Check, Evaluate, Assess, Rate, Gantt, Random, Problems, Border, Picture as Dated}
 use Rattle.tf_options.specs.declared.options.Asked.{Asked}
 use Rattle.tf_options.specs.declared.options.Asked.TheVariants.{Work, Formatted}
 
@@ -27,6 +27,7 @@ IsSized (Gantt answer drawing explain) = HasWidth drawing
 IsSized (Dated picturing) = Unit {0}
 IsSized (Random wanted) = Unit {0}
 IsSized (Problems listed table) = Unit {0}
+IsSized Border = Unit {0}
 
 -- and of what a command line asks for
 abbrev pub HasColumns : Asked → Type 0

@@ -12,7 +12,7 @@ use Rattle.tf_options.specs.declared.options.Asked.TheVariants.{Work, Unfit, NoM
 use Rattle.tf_options.specs.declared.options.OrderSource.{OrderSource}
 use Rattle.tf_options.specs.declared.options.OrderSource.TheVariants.{Given as Written, Named, Drawn}
 use Rattle.tf_options.specs.declared.options.Work.{Work as Asking}
-use Rattle.tf_options.specs.declared.options.Work.TheVariants.{Solve, Bound, Plan, Trace, Check, Evaluate, Assess, Rate, Gantt, Random, Problems, Picture}
+use Rattle.tf_options.specs.declared.options.Work.TheVariants.{Solve, Bound, Plan, Trace, Check, Evaluate, Assess, Rate, Gantt, Random, Problems, Border, Picture}
 
 -- the orders that are evaluated: that of `--order`, or those of the text that `--orders` names; or the
 -- pieces of the text that `--schedule` names
@@ -125,8 +125,11 @@ IsWorkBy name given on_terminal (Picture picturing) =
 IsWorkBy name given on_terminal (Random wanted) = (name ≡ codes "random") × IsWantedBy given wanted
 IsWorkBy name given on_terminal (Problems listed table) =
     (name ≡ codes "problems")
+    × IsFlagBy (given.flag (codes "border")) false
     × IsFlagBy (given.flag (codes "bounds")) (lists_bounded listed)
     × (option_map (λ file. file.now) table ≡ given.value (codes "FILE"))
+IsWorkBy name given on_terminal Border =
+    (name ≡ codes "problems") × IsFlagBy (given.flag (codes "border")) true
 
 -- the commands that search for prices
 abbrev pub has_steps : List ℕ → Bool

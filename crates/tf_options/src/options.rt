@@ -215,6 +215,8 @@ pub enum Work<'a> {
     /// List the problems that are solved or bounded, with a job table those that it has the fields
     /// for.
     Problems(Listed, Option<&'a str>),
+    /// List which problems are polynomial and which are NP-hard.
+    Border,
 }
 
 /// What the command line asks for.
@@ -388,6 +390,9 @@ fn work_by<'a>(name: &str, given: &ArgMatches<'a>, on_terminal: bool) -> Result<
         return gantt_in(given, on_terminal);
     }
     if name == "problems" {
+        if given.get_flag("border") {
+            return Ok(Work::Border);
+        }
         return Ok(Work::Problems(listed_in(given), given.get_str("FILE")));
     }
     if name == "random" {
