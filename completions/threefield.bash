@@ -9,6 +9,7 @@ _threefield() {
     case $before in
     --format | -f) COMPREPLY=($(compgen -W "table wt flow" -- "$word")); return ;;
     --size) COMPREPLY=($(compgen -W "a4 a3 16:9" -- "$word")); return ;;
+    --rule) COMPREPLY=($(compgen -W "EDD SPT LPT WSPT ERD" -- "$word")); return ;;
     --answer) COMPREPLY=($(compgen -W "1 2" -- "$word")); return ;;
     --problem | -p)
         mapfile -t COMPREPLY < <(compgen -W "$(threefield problems 2>/dev/null | sed -n '2,$s/ .*//p')" -- "$word")
@@ -35,7 +36,7 @@ _threefield() {
     bound) COMPREPLY=($(compgen -W "$instance --steps --json" -- "$word")) ;;
     trace) COMPREPLY=($(compgen -W "$instance --tex" -- "$word")) ;;
     check) COMPREPLY=($(compgen -W "$instance --json" -- "$word")) ;;
-    evaluate) COMPREPLY=($(compgen -W "$instance --certificate --measures --bound --steps --order --orders --grade --schedule --json --csv" -- "$word")) ;;
+    evaluate) COMPREPLY=($(compgen -W "$instance --certificate --measures --bound --steps --order --rule --orders --grade --schedule --json --csv" -- "$word")) ;;
     gantt) COMPREPLY=($(compgen -W "--columns --svg --fold --from --to --width --height --size --input --format --jobs --index --name --pair --explain --help" -- "$word")) ;;
     random) COMPREPLY=($(compgen -W "--problem --jobs --machines --seed --max --help" -- "$word")) ;;
     problems) COMPREPLY=($(compgen -W "--bounds --border --json --help" -- "$word")) ;;

@@ -36,6 +36,7 @@ complete -c threefield -n "__fish_seen_subcommand_from evaluate" -l measures -d 
 complete -c threefield -n "__fish_seen_subcommand_from solve" -l values -d "With several instances: the minimum costs alone"
 complete -c threefield -n "__fish_seen_subcommand_from evaluate" -l bound -r -d "File of a lower bound"
 complete -c threefield -n "__fish_seen_subcommand_from evaluate" -l order -x -d "An order of the jobs"
+complete -c threefield -n "__fish_seen_subcommand_from evaluate" -l rule -x -a "EDD SPT LPT WSPT ERD" -d "A rule for the order"
 complete -c threefield -n "__fish_seen_subcommand_from evaluate" -l orders -r -d "File with an order in each line"
 complete -c threefield -n "__fish_seen_subcommand_from evaluate" -l grade -d "Go on behind a line that is no order"
 complete -c threefield -n "__fish_seen_subcommand_from evaluate" -l schedule -r -d "File of the pieces of a schedule"

@@ -3,7 +3,7 @@
 // `examples/check_options.py` compares these rows with the program's own help.
 
 const FORMATS = ["table", "wt", "flow"];
-const SCHEDULES = ["--order", "--orders", "--schedule"];
+const SCHEDULES = ["--order", "--rule", "--orders", "--schedule"];
 
 const NEGATIVE = /^-\d+(\.\d*)?(e\d+)?$/;
 
@@ -45,9 +45,11 @@ const COMMANDS = {
     { name: "--bound", value: "FILE", rivals: [...SCHEDULES, "--certificate"], isBuiltOnly: true },
     { ...STEPS, rivals: SCHEDULES, isBuiltOnly: true }, JSON_TEXT, CSV,
     { name: "--measures", rivals: [...SCHEDULES, "--bound", "--json", "--csv"], isBuiltOnly: true },
-    inPlaceOfAnswer("--order", "JOBS", ["--orders"]),
+    inPlaceOfAnswer("--order", "JOBS", ["--rule", "--orders"]),
+    { ...inPlaceOfAnswer("--rule", "RULE", ["--orders", "--schedule"]),
+      choices: ["EDD", "SPT", "LPT", "WSPT", "ERD"] },
     inPlaceOfAnswer("--orders", "FILE", ["--json", "--csv"]),
-    { name: "--grade", needs: "--orders", rivals: ["--order", "--schedule", "ANSWER"],
+    { name: "--grade", needs: "--orders", rivals: ["--order", "--rule", "--schedule", "ANSWER"],
       isBuiltOnly: true },
     inPlaceOfAnswer("--schedule", "FILE", ["--order", "--orders"]),
     { ...ANSWER, substitutes: SCHEDULES }],

@@ -10,10 +10,10 @@ use Rattle.tf_text.specs.Counted.{DeviceUse, AppendsPrefix}
 use Rattle.tf_text.specs.Input.{IsTextOf}
 use Rattle.tf_text.specs.declared.answer.layout.Layout.TheVariants.{Two}
 use Rattle.tf_orders.specs.declared.run_orders.OrderForm.{OrderForm}
-use Rattle.tf_orders.specs.declared.run_orders.OrderForm.TheVariants.{Single, Lines, Pieces}
+use Rattle.tf_orders.specs.declared.run_orders.OrderForm.TheVariants.{Single, Lines, Ruled as ByRule, Pieces}
 use Rattle.tf_options.specs.declared.options.Work.{Work as Asking}
 use Rattle.tf_options.specs.declared.options.Work.TheVariants.{Solve, Bound, Plan, Trace, Check, Evaluate, Assess, Rate, Gantt, Random, Problems, Border, Picture}
-use Rattle.tf_options.specs.declared.options.OrderSource.TheVariants.{Given, Named, Drawn}
+use Rattle.tf_options.specs.declared.options.OrderSource.TheVariants.{Given, Ruled, Named, Drawn}
 use Rattle.tf_options.specs.declared.options.Options.{Options}
 use Rattle.tf_options.specs.Asking.{requested, form_asked}
 use Rattle.tf_random.specs.Asked.{IsTableFor, IsFaultOf}
@@ -167,6 +167,11 @@ Performs texts (Rate options (Given order)) writer says status =
     EndsOver texts options.input.now writer said status
     (λ instance. (reader : DeviceUse) × (reader.before ≡ Some order.now)
     × EndsRating Global Single (requested options Two) instance reader writer said status)
+Performs texts (Rate options (Ruled rule)) writer says status =
+    let said = says options.telling.explain in
+    EndsOver texts options.input.now writer said status
+    (λ instance. (reader : DeviceUse) × (reader.before ≡ Some [])
+    × EndsRating Global (ByRule rule) (requested options Two) instance reader writer said status)
 Performs texts (Rate options (Named name goes_on)) writer says status =
     RatesNamed texts options name.now (Lines goes_on) writer says status
 Performs texts (Rate options (Drawn name)) writer says status =

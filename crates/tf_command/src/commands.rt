@@ -3,26 +3,25 @@ ghost use Rattle.std.specs.declared.alloc.Global.{Global};
 ghost use Rattle.tf_options.specs.Asking.{requested};
 ghost use Rattle.tf_options.specs.Columns.{HasWidth, IsSized};
 ghost use Rattle.tf_command.specs.Ending.{EndsSolving, EndsBounding, EndsTracing, EndsChecking};
-ghost use Rattle.tf_command.specs.Ending.{EndsEvaluating, EndsRating, EndsDrawing, SaysLine};
+ghost use Rattle.tf_command.specs.Ending.{EndsEvaluating, EndsDrawing, SaysLine};
 ghost use Rattle.tf_command.specs.Ending.{drawn_as};
 ghost use Rattle.tf_command.specs.Assessing.{EndsAssessed, EndsAssessing};
 ghost use Rattle.tf_command.specs.Planning.{EndsPlanning};
 ghost use Rattle.tf_engine.specs.Drawing.{IsDrawingOf};
 ghost use Rattle.std.specs.Prelude.{◌≡◌, ◌⊎◌, None, Some, IfSome, IfOk, IfErr, false, codes};
 ghost use Rattle.tf_command.specs.Performing.{EndsOver, EndsRandom, EndsWriting, Performs};
-ghost use Rattle.tf_command.specs.Performing.{RatesNamed};
 ghost use Rattle.tf_command.specs.Recorded.{bytes_left};
 ghost use Rattle.tf_text.specs.Counted.{inner_of, use_of};
 
 use crate::bounding::{assess_over, bound_over, plan_over, rate_over};
 use crate::console::Console;
-use crate::explained::{Ended, Rated, tell, tell_drawn};
+use crate::explained::{Ended, tell, tell_drawn};
 use crate::picturing::picture_named;
 use crate::problems::{list_border, list_problems};
+use crate::rating::{rate_given, rate_named, rate_ruled};
 use crate::recorded::{MOST_BESIDE, MOST_KEPT, Recorded, room};
 use crate::report::{
-    end_check, end_evaluation, end_plan, end_rating, end_run, report_bound, say_device, say_memory,
-    say_no_table,
+    end_check, end_evaluation, end_plan, end_run, report_bound, say_device, say_memory, say_no_table,
 };
 use crate::source::Sources;
 use std::alloc::{Allocator, Global};
@@ -38,7 +37,7 @@ use tf_engine::run_gantt::run_gantt;
 use tf_engine::run_solve::run_solve;
 use tf_explain::explain;
 use tf_options::options::{Assessing, Drawing, Evaluating, Options, OrderSource, Work};
-use tf_orders::run_orders::{OrderForm, OrdersRequest, run_orders};
+use tf_orders::run_orders::OrderForm;
 use tf_picture::run_picture::run_picture;
 use tf_random::run_random::{Wanted, run_random};
 use tf_search::effort::{Effort, Nobody};
@@ -73,6 +72,9 @@ pub fn perform<S: Sources, W: Write, E: Write>(
         Work::Assess(assessing) => assess_named(console, sources, assessing),
         Work::Rate(options, OrderSource::Given(order)) => {
             rate_given(console, sources, options, order)
+        }
+        Work::Rate(options, OrderSource::Ruled(rule)) => {
+            rate_ruled(console, sources, options, *rule)
         }
         Work::Rate(options, OrderSource::Named { name, goes_on }) => {
             let form = OrderForm::Lines { goes_on: *goes_on };
@@ -265,53 +267,6 @@ fn assess_beside<S: Sources, R: Read, T: Read, W: Write, E: Write>(
     }
 }
 
-/// Evaluates the schedule of an order that the command line gives.
-fn rate_given<S: Sources, W: Write, E: Write>(
-    console: &mut Console<W, E>,
-    sources: &S,
-    options: &Options<'_>,
-    order: &str,
-) -> u8
-    ensures { Performs (S.text_of sources.now) (Work.Rate options.now (OrderSource.Given order.entry))
-        (use_of W.contents console.old.writer console.new.writer)
-        (λ explain. SaysLine E.contents explain console.old.errors console.new.errors) result }
-{
-    let explain = options.telling.explain;
-    match open(console, sources, options.input, MOST_KEPT, explain) {
-        Ok(mut instance) => {
-            let mut order = Counted::new(Recorded::new("--order", order.as_bytes(), 0, None));
-            rate(
-                console,
-                options,
-                OrderForm::Single,
-                &mut instance,
-                &mut order,
-            )
-        }
-        Err(status) => status,
-    }
-}
-
-/// Rates the orders or the pieces of the text of that name.
-fn rate_named<S: Sources, W: Write, E: Write>(
-    console: &mut Console<W, E>,
-    sources: &S,
-    options: &Options<'_>,
-    name: &str,
-    form: OrderForm,
-) -> u8
-    ensures { RatesNamed (S.text_of sources.now) options.now name.now form
-        (use_of W.contents console.old.writer console.new.writer)
-        (λ explain. SaysLine E.contents explain console.old.errors console.new.errors) result }
-{
-    match open_both(console, sources, options, name) {
-        Ok((mut instance, mut orders)) => {
-            rate(console, options, form, &mut instance, &mut orders)
-        }
-        Err(status) => status,
-    }
-}
-
 /// Draws the answer of that name.
 fn draw_named<S: Sources, W: Write, E: Write>(
     console: &mut Console<W, E>,
@@ -335,7 +290,7 @@ fn draw_named<S: Sources, W: Write, E: Write>(
 }
 
 /// Opens an instance and an answer, the instance first.
-fn open_both<'a, S: Sources, W: Write, E: Write>(
+pub(crate) fn open_both<'a, S: Sources, W: Write, E: Write>(
     console: &mut Console<W, E>,
     sources: &S,
     options: &Options<'a>,
@@ -668,43 +623,6 @@ fn assess_offered<R: Read, S: Read, W: Write, E: Write>(
             request: &request,
         };
         ended.tell_evaluated(&run, instance.inner(), answer.inner(), &mut console.errors);
-    }
-    status
-}
-
-/// Tells how good the schedules of orders are, and the exit status.
-fn rate<R: Read, S: Read, W: Write, E: Write>(
-    console: &mut Console<W, E>,
-    options: &Options<'_>,
-    form: OrderForm,
-    instance: &mut Counted<Recorded<'_, R>>,
-    orders: &mut Counted<Recorded<'_, S>>,
-) -> u8
-    ensures { EndsRating Global form (requested options.now Layout.Two)
-        (use_of (bytes_left R.remaining) instance.old instance.new)
-        (use_of (bytes_left S.remaining) orders.old orders.new)
-        (use_of W.contents console.old.writer console.new.writer)
-        (SaysLine E.contents options.now.telling.explain console.old.errors console.new.errors)
-        result }
-{
-    let alloc = console.alloc;
-    let Ok(request) = options.request(alloc, Layout::Two) else {
-        return say_memory(&mut console.errors);
-    };
-    let asked = OrdersRequest {
-        request: &request,
-        form,
-    };
-    let run = run_orders(alloc, asked, instance, orders, &mut console.writer);
-    let status = end_rating(&run, &mut console.errors);
-    if options.telling.explain {
-        let ended = Ended {
-            alloc,
-            telling: options.telling,
-            request: &request,
-        };
-        let rated = Rated { form, run: &run };
-        ended.tell_rated(rated, instance.inner(), orders.inner(), &mut console.errors);
     }
     status
 }

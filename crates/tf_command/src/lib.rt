@@ -12,6 +12,7 @@ pub mod misuse;
 mod picturing;
 pub mod planning;
 pub mod problems;
+mod rating;
 mod recorded;
 pub mod report;
 pub mod source;

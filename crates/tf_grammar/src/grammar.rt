@@ -53,6 +53,7 @@ const ABOUT_EVALUATE: &str = "\
 Example: threefield evaluate -p \"P2|prmp|Cmax\" examples/table.txt answer.txt
          threefield evaluate -p \"1||sumC\" --certificate table.txt answer.txt
          threefield evaluate -p \"1||sumC\" --order \"2 1 3\" table.txt
+         threefield evaluate -p \"1||sumU\" --rule EDD table.txt
          threefield evaluate -p \"P2||Cmax\" --bound b.txt table.txt answer.txt
          threefield evaluate -p \"1||sumwT\" --steps 1000 table.txt answer.txt
 
@@ -95,17 +96,22 @@ static EXPLAINED: [&str; 3] = ["auto", "always", "never"];
 static SIZES: [&str; 3] = ["a4", "a3", "16:9"];
 
 // What `evaluate` takes in place of an answer.
-static SCHEDULES: [&str; 3] = ["order", "orders", "schedule"];
+static SCHEDULES: [&str; 4] = ["order", "rule", "orders", "schedule"];
 
-static AGAINST_MEASURES: [&str; 6] = ["order", "orders", "schedule", "bound", "json", "csv"];
+static RULES: [&str; 5] = ["EDD", "SPT", "LPT", "WSPT", "ERD"];
 
-static AGAINST_BOUND: [&str; 4] = ["order", "orders", "schedule", "certificate"];
+static AGAINST_MEASURES: [&str; 7] =
+    ["order", "rule", "orders", "schedule", "bound", "json", "csv"];
 
-static AGAINST_ORDER: [&str; 3] = ["orders", "certificate", "ANSWER"];
+static AGAINST_BOUND: [&str; 5] = ["order", "rule", "orders", "schedule", "certificate"];
+
+static AGAINST_ORDER: [&str; 4] = ["rule", "orders", "certificate", "ANSWER"];
+
+static AGAINST_RULE: [&str; 4] = ["orders", "schedule", "certificate", "ANSWER"];
 
 static AGAINST_ORDERS: [&str; 4] = ["certificate", "json", "csv", "ANSWER"];
 
-static AGAINST_GRADE: [&str; 3] = ["order", "schedule", "ANSWER"];
+static AGAINST_GRADE: [&str; 4] = ["order", "rule", "schedule", "ANSWER"];
 
 static AGAINST_SCHEDULE: [&str; 4] = ["order", "orders", "certificate", "ANSWER"];
 
@@ -266,7 +272,7 @@ fn reported() -> [Row; 6] {
 }
 
 // The schedules that are evaluated.
-fn schedules() -> [Row; 5] {
+fn schedules() -> [Row; 6] {
     [
         text(
             "order",
@@ -274,6 +280,9 @@ fn schedules() -> [Row; 5] {
             "Evaluates an order of the jobs: \"3 1 2\", or \"1 3 / 2\"",
         )
         .without(AGAINST_ORDER.as_slice()),
+        text("rule", "RULE", "Evaluates the order that a rule gives")
+            .one_of(RULES.as_slice())
+            .without(AGAINST_RULE.as_slice()),
         text(
             "orders",
             "FILE",

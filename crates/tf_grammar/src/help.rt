@@ -136,8 +136,12 @@ lower bound, the gap, and when each job starts and is completed.
 The schedule is an answer, whose certificate need not show anything; with
 --schedule the lines \"piece JOB MACHINE START STOP\" of a file, which need no
 other lines; with --order that of jobs one after another as early as possible;
-with --orders that of each line of a file, for which one line is printed, with
-its cost and its gap; with --grade also where a line is no order.
+with --rule that of the order of a rule: EDD (earliest due date first), SPT
+(shortest time first), LPT (longest time first), WSPT (largest ratio of weight to
+time first) or ERD (earliest release date first), on machines in parallel each
+job on the machine that is free first; with --orders that of each line of a file,
+for which one line is printed, with its cost and its gap; with --grade also where
+a line is no order.
 
 --bound takes a lower bound as \"bound\" prints it, or one of your own. It is
 judged, and used where it is stronger than the one that is found. --steps lets
@@ -150,6 +154,7 @@ Example: threefield evaluate -p \"P2|prmp|Cmax\" examples/table.txt answer.txt
          threefield evaluate -p \"1||sumC\" --certificate table.txt answer.txt
          threefield evaluate -p \"1||sumC\" --order \"2 1 3\" table.txt
          threefield evaluate -p \"P2||sumC\" --order \"2 1 / 3\" table.txt
+         threefield evaluate -p \"1||sumU\" --rule EDD table.txt
          threefield evaluate -p \"1||sumwT\" --orders orders.txt table.txt
          threefield evaluate -p \"1|rj|Lmax\" --schedule pieces.txt table.txt
          threefield evaluate -p \"P2||Cmax\" --bound b.txt table.txt answer.txt

@@ -3,6 +3,8 @@ use Rattle.std.specs.Prelude.{◌≡◌, ℕ, Bool, not, ◌&&◌, ◌||◌, Lis
 use Rattle.std.specs.Str.{bytes_eq}
 use Rattle.tf_model.specs.Limit.{most_jobs, most_machines}
 use Rattle.tf_random.specs.declared.run_random.Wanted.{Wanted}
+use Rattle.tf_sequencing.specs.declared.rule.Rule.{Rule}
+use Rattle.tf_sequencing.specs.declared.rule.Rule.TheVariants.{Edd, Spt, Lpt, Wspt, Erd}
 use Rattle.tf_options.specs.Matched.{Given, AreOptionsBy, IsFlagBy, IsNumberBy, explains_by, first_fault, has_arithmetic, is_latex, is_word, lacks, lists_bounded, machines_fault, most_steps, number_by, options_fault, steps_fault, unless_some}
 use Rattle.tf_options.specs.Viewing.{IsDrawingBy, IsPicturingBy, gantt_fault}
 use Rattle.tf_options.specs.FormatAsked.{IsSolvedLayoutBy}
@@ -10,31 +12,46 @@ use Rattle.tf_options.specs.declared.options.Aids.{Aids}
 use Rattle.tf_options.specs.declared.options.Asked.{Asked}
 use Rattle.tf_options.specs.declared.options.Asked.TheVariants.{Work, Unfit, NoMemory}
 use Rattle.tf_options.specs.declared.options.OrderSource.{OrderSource}
-use Rattle.tf_options.specs.declared.options.OrderSource.TheVariants.{Given as Written, Named, Drawn}
+use Rattle.tf_options.specs.declared.options.OrderSource.TheVariants.{Given as Written, Ruled, Named, Drawn}
 use Rattle.tf_options.specs.declared.options.Work.{Work as Asking}
 use Rattle.tf_options.specs.declared.options.Work.TheVariants.{Solve, Bound, Plan, Trace, Check, Evaluate, Assess, Rate, Gantt, Random, Problems, Border, Picture}
 
--- the orders that are evaluated: that of `--order`, or those of the text that `--orders` names; or the
--- pieces of the text that `--schedule` names
+-- the rule of a name
+abbrev pub rule_by : List ℕ → Rule
+rule_by name =
+    if bytes_eq name (codes "EDD") then Edd
+    else (if bytes_eq name (codes "SPT") then Spt
+    else (if bytes_eq name (codes "LPT") then Lpt
+    else (if bytes_eq name (codes "WSPT") then Wspt else Erd)))
+
+-- the orders that are evaluated: that of `--order` or of the rule that `--rule` names, or those of the text
+-- that `--orders` names; or the pieces of the text that `--schedule` names
 abbrev pub IsOrderBy : Given → OrderSource → Type 0
 IsOrderBy given (Written order) = given.value (codes "order") ≡ Some order.now
+IsOrderBy given (Ruled rule) =
+    (given.value (codes "order") ≡ None)
+    × (option_map rule_by (given.value (codes "rule")) ≡ Some rule)
 IsOrderBy given (Named name goes_on) =
-    (given.value (codes "order") ≡ None) × (given.value (codes "orders") ≡ Some name.now)
+    (given.value (codes "order") ≡ None) × (given.value (codes "rule") ≡ None)
+    × (given.value (codes "orders") ≡ Some name.now)
     × IsFlagBy (given.flag (codes "grade")) goes_on
 IsOrderBy given (Drawn name) =
-    (given.value (codes "order") ≡ None) × (given.value (codes "orders") ≡ None)
+    (given.value (codes "order") ≡ None) × (given.value (codes "rule") ≡ None)
+    × (given.value (codes "orders") ≡ None)
     × (given.value (codes "schedule") ≡ Some name.now)
 
 -- none of them is given
 pub record HasNoOrder (given : Given) : Type 0 where
   pub order : given.value (codes "order") ≡ None
+  pub rule : given.value (codes "rule") ≡ None
   pub orders : given.value (codes "orders") ≡ None
   pub schedule : given.value (codes "schedule") ≡ None
 
 abbrev pub has_order : Given → Bool
 has_order given =
     is_some (given.value (codes "order"))
-    || (is_some (given.value (codes "orders")) || is_some (given.value (codes "schedule")))
+    || (is_some (given.value (codes "rule"))
+    || (is_some (given.value (codes "orders")) || is_some (given.value (codes "schedule"))))
 
 -- the fault of a text that is standard input, where the instance is that too
 abbrev pub fault_if : Bool → List ℕ → Option (List ℕ)
@@ -42,6 +59,7 @@ fault_if twice fault = if twice then Some fault else None
 
 abbrev pub input_fault : OrderSource → Option (List ℕ)
 input_fault (Written order) = None
+input_fault (Ruled rule) = None
 input_fault (Named name goes_on) =
     fault_if (bytes_eq name.now (codes "-")) (codes "INPUT and --orders cannot both be standard input")
 input_fault (Drawn name) =
@@ -176,7 +194,7 @@ is_rating name given = bytes_eq name (codes "evaluate") && has_order given
 -- both the instance and the orders or the pieces are standard input
 abbrev pub named_fault : Given → Option (List ℕ)
 named_fault given =
-    if is_some (given.value (codes "order")) then None
+    if is_some (given.value (codes "order")) || is_some (given.value (codes "rule")) then None
     else (if is_some (given.value (codes "orders"))
     then fault_if (is_word (given.value (codes "orders")) (codes "-"))
     (codes "INPUT and --orders cannot both be standard input")

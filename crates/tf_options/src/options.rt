@@ -21,6 +21,7 @@ ghost use Rattle.tf_options.specs.Understanding.{IsFormattedBy, IsUnderstood, Is
 ghost use Rattle.tf_options.specs.Understood.{AreAidsBy, HasNoOrder, IsAskedBy, IsOrderBy, IsWorkBy};
 ghost use Rattle.tf_options.specs.Understood.{aids_fault, fault_by, input_fault, is_incomplete};
 ghost use Rattle.tf_options.specs.Understood.{is_standard_input, lacks_options, lacks_own, own_fault};
+ghost use Rattle.tf_options.specs.Understood.{rule_by};
 
 use crate::format::Format;
 use crate::series::{Series, series_asked, span_for};
@@ -39,6 +40,7 @@ use tf_listing::listing::Listed;
 use tf_model::limit::{MOST_JOBS, MOST_MACHINES};
 use tf_picture::view::View;
 use tf_random::run_random::Wanted;
+use tf_sequencing::rule::Rule;
 use tf_text::answer::layout::Layout;
 use tf_trace::board::Style;
 use tf_words::digits::is_numeral;
@@ -154,6 +156,8 @@ struct Aids<'a> {
 pub enum OrderSource<'a> {
     /// One order, on the command line.
     Given(&'a str),
+    /// The order of a rule.
+    Ruled(Rule),
     /// The name of a text with an order in each line, and whether a line that is none is told
     /// and the others are gone on with.
     Named { name: &'a str, goes_on: bool },
@@ -532,6 +536,9 @@ fn orders_in<'a>(given: &ArgMatches<'a>) -> Option<OrderSource<'a>>
     if let Some(order) = given.get_str("order") {
         return Some(OrderSource::Given(order));
     }
+    if let Some(name) = given.get_str("rule") {
+        return Some(OrderSource::Ruled(rule_by(name)));
+    }
     if let Some(name) = given.get_str("orders") {
         return Some(OrderSource::Named {
             name,
@@ -542,6 +549,25 @@ fn orders_in<'a>(given: &ArgMatches<'a>) -> Option<OrderSource<'a>>
         Some(name) => Some(OrderSource::Drawn(name)),
         None => None,
     }
+}
+
+// The rule of this name, of the five that clap lets through.
+fn rule_by(name: &str) -> Rule
+    ensures { result ≡ rule_by name.now }
+{
+    if name == "EDD" {
+        return Rule::Edd;
+    }
+    if name == "SPT" {
+        return Rule::Spt;
+    }
+    if name == "LPT" {
+        return Rule::Lpt;
+    }
+    if name == "WSPT" {
+        return Rule::Wspt;
+    }
+    Rule::Erd
 }
 
 // The fault of a text of orders or pieces that is standard input, where the instance is that too.

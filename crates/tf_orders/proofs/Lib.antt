@@ -1,6 +1,7 @@
 mod Turns
 mod Distinct
 mod Added
+mod Listing
 mod Reading
 mod Rated
 mod Rows

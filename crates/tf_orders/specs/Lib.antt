@@ -1,6 +1,8 @@
 -- what a caller has to believe
 pub mod Orders
 pub mod Laying
+pub mod Listed
+pub mod Ruled
 pub mod Measuring
 pub mod Pieces
 pub mod OrderText

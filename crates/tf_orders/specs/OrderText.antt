@@ -27,7 +27,7 @@ use Rattle.tf_assess.specs.RunRating.{standing_as}
 use Rattle.tf_orders.specs.declared.measure.Measure.{Measure}
 use Rattle.tf_orders.specs.declared.measure.Measure.TheVariants.{Optimum, Bound}
 use Rattle.tf_orders.specs.declared.run_orders.OrderForm.{OrderForm}
-use Rattle.tf_orders.specs.declared.run_orders.OrderForm.TheVariants.{Single, Lines, Pieces}
+use Rattle.tf_orders.specs.declared.run_orders.OrderForm.TheVariants.{Single, Lines, Ruled, Pieces}
 use Rattle.tf_orders.specs.declared.run_orders.OrdersRated.{OrdersRated}
 use Rattle.tf_orders.specs.declared.run_orders.OrdersRated.TheVariants as rateds
 use Rattle.tf_orders.specs.declared.flaw.Flaw.{Flaw}
@@ -35,6 +35,7 @@ use Rattle.tf_orders.specs.declared.flaw.Flaw.TheVariants as flaws
 use Rattle.tf_orders.specs.Orders.{IsFlaw}
 use Rattle.tf_orders.specs.Measuring.{IsScheduled, IsUnordered, jobs_in, orders_in}
 use Rattle.tf_orders.specs.Pieces.{pieces_of}
+use Rattle.tf_orders.specs.Ruled.{IsRuled}
 
 -- ---- one order, evaluated
 
@@ -158,11 +159,14 @@ IsFirstBad m (line ∷ more) k =
 abbrev pub AreRated : {A : Type 0} → OrderForm → Measure A → List ℕ → List ℕ → OrdersRated → Type 0
 AreRated Single m text out (rateds.Single standing) =
     (ps : List Piece) × IsScheduled m text ps × IsEvaluated m ps out standing
+AreRated (Ruled rule) m text out (rateds.Single standing) =
+    (ps : List Piece) × IsRuled rule m ps × IsEvaluated m ps out standing
 AreRated Pieces m text out (rateds.Single standing) =
     (ps : List Piece) × (pieces_of (kept_lines 1 (lines text)) ≡ Ok ps)
     × IsEvaluated m ps out standing
 AreRated (Lines goes_on) m text out rateds.Lines = AreRows goes_on m (kept_lines 1 (lines text)) out
 AreRated Single m text out rateds.Lines = ⊥
+AreRated (Ruled rule) m text out rateds.Lines = ⊥
 AreRated Pieces m text out rateds.Lines = ⊥
 AreRated (Lines goes_on) m text out (rateds.Single standing) = ⊥
 
@@ -171,4 +175,5 @@ abbrev pub IsMalformed : {A : Type 0} → OrderForm → Measure A → List ℕ �
 IsMalformed Single m text fault = IsUnordered m text × (fault ≡ answers.BadLine 1)
 IsMalformed (Lines goes_on) m text fault =
     (goes_on ≡ false) × (k : ℕ) × IsFirstBad m (kept_lines 1 (lines text)) k × (fault ≡ answers.BadLine k)
+IsMalformed (Ruled rule) m text fault = ⊥
 IsMalformed Pieces m text fault = pieces_of (kept_lines 1 (lines text)) ≡ Err fault

@@ -1,7 +1,8 @@
 //! Semi-active schedules of jobs with release dates.
-ghost use Rattle.std.specs.Prelude.{◌≡◌, ◌+◌, ◌≤◌, min};
+ghost use Rattle.std.specs.Prelude.{◌≡◌, ◌+◌, ◌≤◌, length, min};
 ghost use Rattle.tf_model.specs.Limit.{limit};
 ghost use Rattle.tf_schedule.specs.Piece.{piece_of};
+ghost use Rattle.tf_orders.specs.Listed.{IsFirstLeast};
 
 use std::alloc::Allocator;
 use std::marker::Model;
@@ -41,6 +42,7 @@ impl<A: Allocator + Copy> Laying<A> {
     ghost use Rattle.std.specs.List.{All};
     ghost use Rattle.tf_model.specs.Limit.{limit};
     ghost use Rattle.tf_orders.specs.Laying.{stop_on, with_operation, with_job};
+    ghost use Rattle.tf_orders.specs.Listed.{IsFirstFree};
 
     /// No piece yet, with room for so many pieces. Only want of memory is an error.
     pub(crate) fn new(alloc: A, room: usize, machines: usize) -> Result<Self, OutOfMemory>
@@ -106,12 +108,35 @@ impl<A: Allocator + Copy> Laying<A> {
         Ok(stop)
     }
 
+    /// The first of so many machines to be free, the smallest number among equals.
+    pub(crate) fn first_free(&self, machines: u32) -> MachineId
+        requires some { (1 ≤ machines) × (machines ≤ self.now.machines) }
+        requires few { machines < 2 ^ 31 }
+        ensures { IsFirstFree self.now.pieces machines result }
+    {
+        MachineId::at(place_of_least(&self.free, machines as usize))
+    }
+
     /// The pieces, in the order in which they were added.
     pub(crate) fn into_pieces(self) -> Vec<Piece, A>
         ensures { result.items ≡ self.pieces }
     {
         self.pieces
     }
+}
+
+// The first place of the least of the first so many numbers.
+fn place_of_least(numbers: &[u64], count: usize) -> usize
+    requires { (1 ≤ count) × (count ≤ length numbers.now) }
+    ensures { IsFirstLeast numbers.now count result }
+{
+    let mut place: usize = 0;
+    for k in 1..count {
+        if numbers[k] < numbers[place] {
+            place = k;
+        }
+    }
+    place
 }
 
 // When an operation is completed that starts then, cut to the limit.

@@ -8,6 +8,7 @@ pub mod measure;
 pub mod order;
 mod pieces;
 mod rating;
+mod ruled;
 pub mod run_orders;
 mod schedules;
 mod writing;

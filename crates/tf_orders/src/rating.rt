@@ -10,6 +10,7 @@ ghost use Rattle.tf_orders.specs.OrderText.{IsScheduleAssessment, IsScheduleEval
 
 use crate::measure::Measure;
 use crate::pieces::pieces_in;
+use crate::ruled::ruled;
 use crate::run_orders::{OrderForm, OrdersRated};
 use crate::schedules::{flaw_of, scheduled};
 use crate::writing::{push_flaw, push_problem_row, push_row};
@@ -31,6 +32,7 @@ use tf_model::problem::Problem;
 use tf_model::task::Task;
 use tf_schedule::piece::Piece;
 use tf_search::strongest::Found;
+use tf_sequencing::rule::Rule;
 use tf_text::answer::fault::AnswerFault;
 use tf_words::line::{Line, Lines};
 
@@ -54,6 +56,7 @@ pub(crate) fn rating_of<A: Allocator + Copy>(
 {
     match form {
         OrderForm::Single => single_rating(alloc, measure, text),
+        OrderForm::Ruled(rule) => ruled_rating(alloc, measure, rule, text),
         OrderForm::Pieces => pieces_rating(alloc, measure, text),
         OrderForm::Lines { goes_on } => {
             let text = rows_of(alloc, &measure, goes_on, text)?;
@@ -78,6 +81,22 @@ fn single_rating<A: Allocator + Copy>(
     let Some(pieces) = scheduled(alloc, &measure, text)? else {
         return Err(RunFault::Answer(AnswerFault::BadLine(1)));
     };
+    let rating = evaluated(alloc, measure, pieces)?;
+    Ok(rating)
+}
+
+// Evaluates the schedule of the order that a rule gives, whatever the text is.
+fn ruled_rating<A: Allocator + Copy>(
+    alloc: A,
+    measure: Measure<A>,
+    rule: Rule,
+    text: &[u8],
+) -> Result<Rating<A>, RunFault<A>>
+    ensures { MatchResult result
+        (λ r. AreRated (OrderForm.Ruled rule) measure text.now r.text.items r.rated)
+        (λ e. IsUnrated (OrderForm.Ruled rule) measure text.now (stop_of e)) }
+{
+    let pieces = ruled(alloc, &measure, rule)?;
     let rating = evaluated(alloc, measure, pieces)?;
     Ok(rating)
 }

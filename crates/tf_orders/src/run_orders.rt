@@ -13,6 +13,7 @@ use std::io::{Read, Write};
 use tf_engine::fault::RunFault;
 use tf_engine::request::Request;
 use tf_evaluate::evaluation::Standing;
+use tf_sequencing::rule::Rule;
 use tf_text::counted::Counted;
 
 /// What a text of orders is, and what is written of it.
@@ -24,6 +25,8 @@ pub enum OrderForm {
     /// of the schedule and its gap to the optimum or to the lower bound, or the misfit. Of a line
     /// that is no order it is `wrong` and why, if the others are gone on with.
     Lines { goes_on: bool },
+    /// It isn't looked at: the order is that of a rule. The schedule is evaluated in the same way.
+    Ruled(Rule),
     /// It is no order, but the pieces of a schedule, which is evaluated in the same way. The other
     /// lines of an answer may stand before and after them, and aren't looked at.
     Pieces,

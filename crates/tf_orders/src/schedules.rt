@@ -68,8 +68,8 @@ pub(crate) fn flaw_of<A: Allocator, B: Allocator>(
     }
 }
 
-// How many machines have an order of their own.
-fn orders_of<A: Allocator>(task: &Task<A>) -> u32
+/// How many machines have an order of their own.
+pub(crate) fn orders_of<A: Allocator>(task: &Task<A>) -> u32
     ensures value { result ≡ orders_of task.now }
     ensures few { (1 ≤ result) × (result ≤ most_machines) }
 {
@@ -80,7 +80,8 @@ fn orders_of<A: Allocator>(task: &Task<A>) -> u32
     }
 }
 
-fn problem_orders_of<A: Allocator>(task: &ProblemTask<A>) -> u32
+/// The same of any problem.
+pub(crate) fn problem_orders_of<A: Allocator>(task: &ProblemTask<A>) -> u32
     ensures value { result ≡ problem_orders_of task.now }
     ensures few { (1 ≤ result) × (result ≤ most_machines) }
 {
@@ -106,8 +107,8 @@ fn schedule_of<A: Allocator + Copy, B: Allocator>(
     Ok(laying.into_pieces())
 }
 
-// Adds the job of a turn.
-fn add_turn<A: Allocator + Copy, B: Allocator>(
+/// Adds the job of a turn.
+pub(crate) fn add_turn<A: Allocator + Copy, B: Allocator>(
     laying: &mut Laying<A>,
     task: &Task<B>,
     turn: Turn,
@@ -140,8 +141,8 @@ fn problem_schedule_of<A: Allocator + Copy, B: Allocator>(
     Ok(laying.into_pieces())
 }
 
-// Adds the job of a turn.
-fn add_problem_turn<A: Allocator + Copy, B: Allocator>(
+/// The same of any problem.
+pub(crate) fn add_problem_turn<A: Allocator + Copy, B: Allocator>(
     laying: &mut Laying<A>,
     task: &ProblemTask<B>,
     turn: Turn,

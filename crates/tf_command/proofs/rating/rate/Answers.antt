@@ -4,7 +4,7 @@ use Rattle.tf_text.specs.Counted.{inner_of}
 use Rattle.tf_engine.specs.declared.fault.RunFault.TheVariants.{OutOfMemory}
 use Rattle.tf_engine.proofs.Unread.{text_for}
 use Rattle.tf_command.specs.Recorded.{bytes_left}
-use Rattle.tf_command.proofs.commands.rate.Goals as goal
+use Rattle.tf_command.proofs.rating.rate.Goals as goal
 
 pub returns-in_default : goal.returns-in_default
 returns-in_default g c =

@@ -1,0 +1,27 @@
+use Rattle.std.proofs.Common.{length, ap, subst}
+use Rattle.tf_orders.specs.Laying.{problem_orders_of, problem_schedule_of}
+use Rattle.tf_orders.specs.Ruled.{IsListedSchedule, IsSeenOfProblem, numbers_of}
+use Rattle.tf_orders.proofs.Listing.{all_jobs_there, all_seen}
+use Rattle.tf_orders.proofs.ruled.ruled_problem.Goals as goal
+
+pub listed_problem_schedule-requires : goal.listed_problem_schedule-requires
+listed_problem_schedule-requires g c =
+    let k = c.args.task.now in
+    rw c.deref.ensures.value
+    (all_jobs_there (IsSeenOfProblem k) (length k.jobs) c.in_ok-jobs.jobs.items c.sort_by_rule.new.jobs.items
+    c.in_ok-jobs.ensures c.sort_by_rule.ensures.moved)
+
+pub returns : goal.returns
+returns g c =
+    let k = c.args.task.now in
+    let listed = subst (λ xs. IsListedSchedule (problem_schedule_of k) (problem_orders_of k) (numbers_of xs)
+    c.in_ok-pieces.pieces.items) c.deref.ensures.value c.in_ok-pieces.ensures in
+    record {
+      jobs = c.sort_by_rule.new.jobs.items;
+      are_all = all_seen (IsSeenOfProblem k) (length k.jobs) c.in_ok-jobs.jobs.items
+          c.sort_by_rule.new.jobs.items c.in_ok-jobs.ensures c.sort_by_rule.ensures.moved;
+      sorted = c.sort_by_rule.ensures.sorted;
+      turns = listed.turns;
+      listed = listed.listed;
+      pieces = listed.pieces;
+    }
