@@ -21,7 +21,8 @@ use crate::problems::{list_border, list_problems};
 use crate::rating::{rate_given, rate_named, rate_ruled};
 use crate::recorded::{MOST_BESIDE, MOST_KEPT, Recorded, room};
 use crate::report::{
-    end_check, end_evaluation, end_plan, end_run, report_bound, say_device, say_memory, say_no_table,
+    end_check, end_evaluation, end_plan, end_run, report_bound, say_device, say_memory,
+    say_no_table,
 };
 use crate::source::Sources;
 use std::alloc::{Allocator, Global};

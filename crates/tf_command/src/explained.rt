@@ -17,7 +17,8 @@ use tf_explain::explain;
 use tf_model::limit::LIMIT;
 use tf_model::prepare::Refusal;
 use tf_options::options::{Drawing, Idle, Telling};
-use tf_orders::run_orders::{OrderForm, OrdersRated};
+use tf_orders::again::pieces_again;
+use tf_orders::run_orders::{OrderForm, OrdersRated, OrdersRequest};
 use tf_planning::writing::Planned;
 use tf_text::answer::fault::AnswerFault;
 use tf_text::counted::Counted;
@@ -256,6 +257,26 @@ impl Ended<'_> {
         }
     }
 
+    // What is said of a schedule that does not fit, which is made again.
+    fn unfit_rated(&self, form: OrderForm, told: &Told<'_>) -> Result<String, AllocError> {
+        let Some(orders) = &told.answer else {
+            return Ok(String::new(self.alloc));
+        };
+        let asked = OrdersRequest {
+            request: self.request,
+            form,
+        };
+        let Some(pieces) = pieces_again(self.alloc, asked, told.instance.text, orders.text) else {
+            return Ok(String::new(self.alloc));
+        };
+        let schedule = if form == OrderForm::Pieces {
+            Some(orders)
+        } else {
+            None
+        };
+        explain::unfit_pieces(self.alloc, self.request, &told.instance, pieces, schedule)
+    }
+
     // What is said of a line that is malformed, which is shown where it is a text's.
     fn malformed(
         &self,
@@ -286,6 +307,7 @@ impl Ended<'_> {
     ) {
         if let Some(told) = Told::of_both(instance, orders) {
             let explanation = match rated.run {
+                Ok(OrdersRated::Single(Standing::Unfit)) => self.unfit_rated(rated.form, &told),
                 Ok(_) => Ok(String::new(self.alloc)),
                 Err(RunFault::Answer(AnswerFault::BadLine(line))) => {
                     self.malformed(rated.form, told.answer.as_ref(), *line)

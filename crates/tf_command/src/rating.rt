@@ -10,9 +10,10 @@ ghost use Rattle.tf_text.specs.Counted.{use_of};
 use crate::commands::{open, open_both};
 use crate::console::Console;
 use crate::explained::{Ended, Rated};
-use crate::recorded::{MOST_KEPT, Recorded};
+use crate::recorded::{MOST_KEPT, Recorded, room};
 use crate::report::{end_rating, say_memory};
 use crate::source::Sources;
+use std::alloc::Global;
 use std::io::{Read, Write};
 use tf_options::options::{Options, OrderSource};
 use tf_orders::run_orders::{OrderForm, OrdersRequest, run_orders};
@@ -34,7 +35,10 @@ pub(crate) fn rate_given<S: Sources, W: Write, E: Write>(
     let explain = options.telling.explain;
     match open(console, sources, options.input, MOST_KEPT, explain) {
         Ok(mut instance) => {
-            let mut order = Counted::new(Recorded::new("--order", order.as_bytes(), 0, None));
+            let most = order.len();
+            let kept = kept_if(console.alloc, explain, most);
+            let order = Recorded::new("--order", order.as_bytes(), most, kept);
+            let mut order = Counted::new(order);
             rate(
                 console,
                 options,
@@ -44,6 +48,15 @@ pub(crate) fn rate_given<S: Sources, W: Write, E: Write>(
             )
         }
         Err(status) => status,
+    }
+}
+
+// Room for what is kept of a text of so many bytes, where it is to be explained.
+fn kept_if(alloc: Global, explain: bool, most: usize) -> Option<Vec<u8>> {
+    if explain {
+        room(alloc, Some(most), most)
+    } else {
+        None
     }
 }
 
@@ -61,7 +74,8 @@ pub(crate) fn rate_ruled<S: Sources, W: Write, E: Write>(
     let explain = options.telling.explain;
     match open(console, sources, options.input, MOST_KEPT, explain) {
         Ok(mut instance) => {
-            let mut order = Counted::new(Recorded::new("--rule", b"".as_slice(), 0, None));
+            let kept = kept_if(console.alloc, explain, 0);
+            let mut order = Counted::new(Recorded::new("--rule", b"".as_slice(), 0, kept));
             rate(
                 console,
                 options,

@@ -3,7 +3,7 @@ use crate::answer::{explain_answer, explain_pieces};
 use crate::instance::instance_in;
 use crate::refusal::{class_in, explain_refusal};
 use crate::text::explain_text;
-use crate::verdict::{Case, explain_unfit, explain_verdict};
+use crate::verdict::{Case, explain_fit, explain_unfit, explain_verdict};
 use std::alloc::{AllocError, Global};
 use std::io;
 use tf_advice::cycle::explain_cycle;
@@ -16,6 +16,7 @@ use tf_engine::fault::RunFault;
 use tf_engine::request::{Form, Request};
 use tf_engine::run_check::Checked;
 use tf_read::fault::ReadFault;
+use tf_schedule::piece::Piece;
 use tf_text::answer::fault::AnswerFault;
 
 /// What is said of an answer at fault whose text was not kept.
@@ -238,6 +239,45 @@ pub fn unfit(
         }
     }
     Ok(page.text)
+}
+
+/// Why the schedule of an order does not fit, or that of a text with these pieces.
+///
+/// # Errors
+///
+/// There was no memory.
+pub fn unfit_pieces(
+    alloc: Global,
+    request: &Request,
+    instance: &Source<'_>,
+    pieces: Vec<Piece>,
+    schedule: Option<&Source<'_>>,
+) -> Result<String, AllocError> {
+    let mut page = Page::new(alloc);
+    let text = piece_lines(alloc, &pieces)?;
+    let of_order = Source {
+        name: "the schedule of the order",
+        text: text.as_bytes(),
+    };
+    let case = Case {
+        alloc,
+        request,
+        instance: *instance,
+        answer: *schedule.unwrap_or(&of_order),
+    };
+    explain_fit(&mut page, &case, pieces)?;
+    Ok(page.text)
+}
+
+// A line for each piece.
+fn piece_lines(alloc: Global, pieces: &[Piece]) -> Result<String, AllocError> {
+    let mut text = String::new(alloc);
+    for piece in pieces {
+        let (job, machine) = (piece.job.get(), piece.machine.get());
+        let (start, stop) = (piece.start, piece.stop);
+        writeln!(text, "piece {job} {machine} {start} {stop}")?;
+    }
+    Ok(text)
 }
 
 /// Which source failed, and the system's reason.

@@ -6,12 +6,19 @@ use std::alloc::{AllocError, Global};
 use tf_advice::page::{Page, push_name};
 use tf_advice::piece_lines::{Pieces, quote_pieces, steps_of};
 use tf_advice::source::Source;
+use tf_assess::assess::judged;
+use tf_assess::assessment::ProblemFit;
+use tf_bound::task::ProblemTask;
+use tf_bounding::instance_read::task_read;
 use tf_check::answer::Answer;
+use tf_check::certificate::Certificate;
 use tf_check::fault::BoundFault;
 use tf_check::judgement::{Fit, Judgement, judge_answer};
+use tf_check::load::Load;
 use tf_check::verdict::Reason;
 use tf_engine::request::{Form, Request};
 use tf_engine::run_check::{Checked, is_for};
+use tf_fit::misfit::ProblemMisfit;
 use tf_model::prepare::prepare;
 use tf_model::problem::Problem;
 use tf_model::task::Task;
@@ -19,8 +26,10 @@ use tf_notation::reading::read;
 use tf_notation::writing::notation_text;
 use tf_read::table_task::table_task;
 use tf_schedule::fit::Misfit;
+use tf_schedule::piece::Piece;
 use tf_text::answer::reading::read_answer;
 use tf_text::answer::sheet::Sheet;
+use tf_text::counted::Counted;
 
 /// The texts and what was asked for.
 #[derive(Clone, Copy)]
@@ -50,24 +59,43 @@ impl Case<'_> {
     fn judged(&self) -> Option<Judged> {
         let task = self.task()?;
         let sheet = self.sheet()?;
-        let is_its = is_for(&task, &sheet);
         let Answer {
             pieces,
             value,
             certificate,
         } = sheet.into_answer();
         let judgement = judge_answer(self.alloc, &task, pieces.into_vec(), &certificate).ok()?;
-        Some(Judged {
-            is_its,
-            value,
-            judgement,
-        })
+        Some(Judged { value, judgement })
+    }
+
+    // The task of a problem without a solver.
+    fn problem_task(&self) -> Option<ProblemTask> {
+        task_read(
+            self.alloc,
+            self.request,
+            &mut Counted::new(self.instance.text),
+        )
+        .ok()
     }
 
     // The numbers of jobs and of machines of the task.
     fn sizes(&self) -> Option<(usize, u32)> {
-        let task = self.task()?;
+        if let Some(task) = self.task() {
+            return Some((task.len(), task.machines()));
+        }
+        let task = self.problem_task()?;
         Some((task.len(), task.machines()))
+    }
+
+    // Whether an answer is for the task, where that is known.
+    fn is_its(&self, sheet: &Sheet) -> Option<bool> {
+        if let Some(task) = self.task() {
+            return Some(is_for(&task, sheet));
+        }
+        let task = self.problem_task()?;
+        let is_same = without_count(sheet.problem) == without_count(task.problem());
+        let (jobs, machines) = (sheet.jobs as usize, sheet.machines);
+        Some(is_same && jobs == task.len() && machines == task.machines())
     }
 
     // The problem and the numbers of jobs and of machines that the answer is for.
@@ -132,10 +160,17 @@ impl Case<'_> {
     }
 }
 
-/// Whether an answer is for its task, the value that it claims, and how it stands to the task.
+// The problem on any number of machines.
+fn without_count(problem: Problem) -> Problem {
+    Problem {
+        count: None,
+        ..problem
+    }
+}
+
+/// The value that an answer claims, and how it stands to the task.
 #[derive(Drop)]
 struct Judged {
-    is_its: bool,
     value: i64,
     judgement: Judgement,
 }
@@ -162,25 +197,73 @@ pub(crate) fn explain_verdict(
 
 /// Why the pieces of an answer do not fit, or which task the answer is for.
 pub(crate) fn explain_unfit(page: &mut Page, case: &Case<'_>) -> Result<(), AllocError> {
-    let Some(
-        Judged {
-            is_its,
-            judgement,
-            ..
-        },
-    ) = case.judged()
-    else {
+    let Some(sheet) = case.sheet() else {
         return Ok(());
     };
-    if !is_its {
+    if case.is_its(&sheet) == Some(false) {
         return say_other_task(page, case);
     }
-    match &judgement.fit {
-        Fit::NoSchedule(fault) => explain_pieces(page, &case.answer, fault),
-        Fit::Misfit(misfit) => say_misfit(page, case, misfit),
-        Fit::Fits(_) => Ok(()),
+    explain_fit(page, case, sheet.into_answer().pieces.into_vec())
+}
+
+/// Why pieces do not fit, which are those that the answer's text says.
+pub(crate) fn explain_fit(
+    page: &mut Page,
+    case: &Case<'_>,
+    pieces: Vec<Piece>,
+) -> Result<(), AllocError> {
+    let alloc = case.alloc;
+    if let Some(task) = case.task() {
+        let load: Certificate = Certificate::Load(Load);
+        let Ok(judgement) = judge_answer(alloc, &task, pieces, &load) else {
+            return Ok(());
+        };
+        return match &judgement.fit {
+            Fit::NoSchedule(fault) => explain_pieces(page, &case.answer, fault),
+            Fit::Misfit(misfit) => say_misfit(page, case, misfit),
+            Fit::Fits(_) => Ok(()),
+        };
+    }
+    let Some(task) = case.problem_task() else {
+        return Ok(());
+    };
+    match judged(alloc, &task, pieces) {
+        Ok(ProblemFit::NoSchedule(fault)) => explain_pieces(page, &case.answer, &fault),
+        Ok(ProblemFit::Misfit(misfit)) => say_problem_misfit(page, case, &misfit),
+        _ => Ok(()),
     }
 }
+
+fn say_problem_misfit(
+    page: &mut Page,
+    case: &Case<'_>,
+    misfit: &ProblemMisfit,
+) -> Result<(), AllocError> {
+    match misfit {
+        ProblemMisfit::Plain(misfit) => say_misfit(page, case, misfit),
+        ProblemMisfit::OffRoute(job) => {
+            let job = job.get();
+            writeln!(
+                page.text,
+                "Job {job} is on a machine before it is completed on an earlier one:"
+            )?;
+            case.quote_pieces_of(page, job)
+        }
+        ProblemMisfit::NoOneOrder => page.say(NO_ONE_ORDER),
+        ProblemMisfit::Waits(job) => {
+            let job = job.get();
+            writeln!(
+                page.text,
+                "Job {job} waits between two operations, and the problem has \"nwt\":"
+            )?;
+            case.quote_pieces_of(page, job)
+        }
+    }
+}
+
+/// What is wrong with a schedule that is no permutation schedule.
+const NO_ONE_ORDER: &str = "\
+The problem has \"prmu\", and the jobs pass the machines in different orders.";
 
 fn say_other_task(page: &mut Page, case: &Case<'_>) -> Result<(), AllocError> {
     let Some((problem, jobs, machines)) = case.answered() else {

@@ -100,8 +100,9 @@ static SCHEDULES: [&str; 4] = ["order", "rule", "orders", "schedule"];
 
 static RULES: [&str; 5] = ["EDD", "SPT", "LPT", "WSPT", "ERD"];
 
-static AGAINST_MEASURES: [&str; 7] =
-    ["order", "rule", "orders", "schedule", "bound", "json", "csv"];
+static AGAINST_MEASURES: [&str; 7] = [
+    "order", "rule", "orders", "schedule", "bound", "json", "csv",
+];
 
 static AGAINST_BOUND: [&str; 5] = ["order", "rule", "orders", "schedule", "certificate"];
 

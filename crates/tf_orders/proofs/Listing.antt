@@ -32,12 +32,18 @@ listed_more laid m js turns t listed free = record {
     by : (k : ℕ) (d : Turn) → k < length (turns ++ t ∷ []) → (k < length turns) ⊎ (length turns ≤ k)
         → IsFirstFree (laid (take k (turns ++ t ∷ []))) m (get_or (turns ++ t ∷ []) k d).machine
     by k d lt (inl before) =
-        rw (take-append-le k turns (t ∷ []) (omega (arith, before)),
-        get_or_append_left turns (t ∷ []) d k before) (listed.free k d before)
+        rw (
+          take-append-le k turns (t ∷ []) (omega (arith, before)),
+          get_or_append_left turns (t ∷ []) d k before,
+        ) (listed.free k d before)
     by k d lt (inr at) =
         let is : k ≡ length turns = omega (arith, lt, at, length-append turns (t ∷ [])) in
-        rw (is, take-append-le (length turns) turns (t ∷ []) (omega arith), take_all (length turns) turns (omega arith),
-        get_or-append_seam turns t [] d) free
+        rw (
+          is,
+          take-append-le (length turns) turns (t ∷ []) (omega arith),
+          take_all (length turns) turns (omega arith),
+          get_or-append_seam turns t [] d,
+        ) free
 
 -- the same of the schedule, where it is laid turn by turn
 pub listed_step : (step : List Piece → Turn → List Piece) (m : ℕ) (js more : List ℕ) (t : Turn)

@@ -1,6 +1,7 @@
 //! Orders of jobs, their semi-active schedules, and how good these are, from bytes to bytes.
 #![tactic(auto)]
 
+pub mod again;
 mod case_read;
 pub mod flaw;
 mod laying;

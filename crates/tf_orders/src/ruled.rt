@@ -36,7 +36,8 @@ pub(crate) fn ruled<A: Allocator + Copy, B: Allocator>(
     }
 }
 
-fn ruled_of<A: Allocator + Copy, B: Allocator>(
+/// The same of a task of a class.
+pub(crate) fn ruled_of<A: Allocator + Copy, B: Allocator>(
     alloc: A,
     task: &Task<B>,
     rule: Rule,
@@ -101,9 +102,8 @@ fn listed_schedule<A: Allocator + Copy, B: Allocator>(
     Ok(laying.into_pieces())
 }
 
-// ---- the same of any problem
-
-fn ruled_problem<A: Allocator + Copy, B: Allocator>(
+/// The same of a task of any problem.
+pub(crate) fn ruled_problem<A: Allocator + Copy, B: Allocator>(
     alloc: A,
     task: &ProblemTask<B>,
     rule: Rule,

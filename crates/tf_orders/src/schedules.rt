@@ -92,7 +92,8 @@ pub(crate) fn problem_orders_of<A: Allocator>(task: &ProblemTask<A>) -> u32
     }
 }
 
-fn schedule_of<A: Allocator + Copy, B: Allocator>(
+/// The schedule of an order.
+pub(crate) fn schedule_of<A: Allocator + Copy, B: Allocator>(
     alloc: A,
     task: &Task<B>,
     turns: &[Turn],
@@ -125,7 +126,8 @@ pub(crate) fn add_turn<A: Allocator + Copy, B: Allocator>(
     laying.add_job(turn.job, turn.machine, job.release, &times[..count])
 }
 
-fn problem_schedule_of<A: Allocator + Copy, B: Allocator>(
+/// The same of any problem.
+pub(crate) fn problem_schedule_of<A: Allocator + Copy, B: Allocator>(
     alloc: A,
     task: &ProblemTask<B>,
     turns: &[Turn],

@@ -1,0 +1,84 @@
+//! The schedules of orders that were rated, made again so that they can be explained.
+ghost use Rattle.std.specs.Prelude.{◌≤◌, length};
+ghost use Rattle.tf_model.specs.Limit.{most_bytes};
+
+use crate::case_read::{OrderCase, Posed, order_case_read};
+use crate::order::order_in;
+use crate::pieces::pieces_in;
+use crate::ruled::{ruled_of, ruled_problem};
+use crate::run_orders::{OrderForm, OrdersRequest};
+use crate::schedules::{orders_of, problem_orders_of, problem_schedule_of, schedule_of};
+use std::alloc::Global;
+use tf_bound::task::ProblemTask;
+use tf_model::limit::MOST_BYTES;
+use tf_model::task::Task;
+use tf_schedule::piece::Piece;
+use tf_text::counted::Counted;
+
+/// The pieces of the one schedule that a run over these texts evaluates, where it does and there is
+/// memory for them.
+pub fn pieces_again(
+    alloc: Global,
+    asked: OrdersRequest<'_>,
+    instance: &[u8],
+    orders: &[u8],
+) -> Option<Vec<Piece>> {
+    let mut instance = Counted::new(instance);
+    let mut orders = Counted::new(orders);
+    let case = order_case_read(alloc, asked.request, &mut instance, &mut orders).ok()?;
+    let OrderCase { posed, text } = case;
+    if text.len() > MOST_BYTES {
+        return None;
+    }
+    match posed {
+        Posed::Solved(asked_for) => task_pieces(alloc, &asked_for.task, asked.form, &text),
+        Posed::Unsolved(task) => problem_pieces(alloc, &task, asked.form, &text),
+    }
+}
+
+fn task_pieces(alloc: Global, task: &Task, form: OrderForm, text: &[u8]) -> Option<Vec<Piece>>
+    requires { length text.now ≤ most_bytes }
+{
+    match form {
+        OrderForm::Single => order_pieces(alloc, task, text),
+        OrderForm::Ruled(rule) => ruled_of(alloc, task, rule).ok(),
+        OrderForm::Pieces => pieces_in(alloc, text).ok(),
+        OrderForm::Lines { .. } => None,
+    }
+}
+
+fn order_pieces(alloc: Global, task: &Task, text: &[u8]) -> Option<Vec<Piece>> {
+    let Ok(found) = order_in(alloc, task.len() as u32, orders_of(task), text) else {
+        return None;
+    };
+    let Some(turns) = found else {
+        return None;
+    };
+    schedule_of(alloc, task, &turns).ok()
+}
+
+fn problem_pieces(
+    alloc: Global,
+    task: &ProblemTask,
+    form: OrderForm,
+    text: &[u8],
+) -> Option<Vec<Piece>>
+    requires { length text.now ≤ most_bytes }
+{
+    match form {
+        OrderForm::Single => problem_order_pieces(alloc, task, text),
+        OrderForm::Ruled(rule) => ruled_problem(alloc, task, rule).ok(),
+        OrderForm::Pieces => pieces_in(alloc, text).ok(),
+        OrderForm::Lines { .. } => None,
+    }
+}
+
+fn problem_order_pieces(alloc: Global, task: &ProblemTask, text: &[u8]) -> Option<Vec<Piece>> {
+    let Ok(found) = order_in(alloc, task.len() as u32, problem_orders_of(task), text) else {
+        return None;
+    };
+    let Some(turns) = found else {
+        return None;
+    };
+    problem_schedule_of(alloc, task, &turns).ok()
+}
