@@ -141,7 +141,7 @@ with --rule that of the order of a rule: EDD (earliest due date first), SPT
 time first) or ERD (earliest release date first), on machines in parallel each
 job on the machine that is free first; with --orders that of each line of a file,
 for which one line is printed, with its cost and its gap; with --grade also where
-a line is no order.
+a line is no order, and a line may begin with a label, as in \"anna: 3,1,2\".
 
 --bound takes a lower bound as \"bound\" prints it, or one of your own. It is
 judged, and used where it is stronger than the one that is found. --steps lets

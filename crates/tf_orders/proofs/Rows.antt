@@ -18,8 +18,8 @@ pub record AreRowsSoFar {A : Type 0} (goes_on : Bool) (m : Measure A) (all rest 
 -- where the others are not gone on with, the line is that of an order
 ordered : {A : Type 0} (goes_on : Bool) (m : Measure A) (text row : List ℕ)
     → IsLineOf goes_on m text row → goes_on ≡ false → IsRow m text row
-ordered goes_on m text row (inl is) stops = is
-ordered goes_on m text row (inr (goes, wrong)) stops = let both : true ≡ false = sym goes ∙ stops in cc
+ordered goes_on m text row (inl (stopping, is)) stops = is
+ordered goes_on m text row (inr (goes, graded)) stops = let both : true ≡ false = sym goes ∙ stops in cc
 
 module _ (A : Type 0) (goes_on : Bool) (m : Measure A) where
   pub rows_start : (all : List KeptLine) → AreRowsSoFar goes_on m all all []

@@ -1,5 +1,6 @@
 -- What is written of orders: of one a whole evaluation, and of many a line each.
-use Rattle.std.specs.Prelude.{◌≡◌, Bool, true, false, ℕ, ℤ, ◌-ℤ◌, ◌⊎◌, unsigned_abs, List, [], ◌∷◌, ◌++◌, length, codes, Option, None, Some, IfSome, Ok, Err}
+use Rattle.std.specs.Prelude.{◌≡◌, Bool, true, false, ℕ, ◌+◌, ◌==◌, ℤ, ◌-ℤ◌, ◌⊎◌, unsigned_abs, List, [], ◌∷◌, ◌++◌, length, map, take, drop, codes, Option, None, Some, IfSome, Ok, Err, if◌then◌else◌}
+use Rattle.std.specs.List.{position}
 use Rattle.std.specs.Fmt.{decimal, signed_decimal}
 use Rattle.tf_words.specs.Words.{KeptLine, lines, kept_lines}
 use Rattle.tf_model.specs.declared.problem.Problem.{Problem}
@@ -135,9 +136,38 @@ pub record IsWrongRow {A : Type 0} (m : Measure A) (text row : List ℕ) : Type 
   pub flaw : IfSome found (IsFlaw (jobs_in m) (orders_in m) text)
   pub says : row ≡ line_text (wrong_words found)
 
--- the line of a text; where it says no order there is one only if the others are gone on with
+-- ---- a line of a hand-in
+
+abbrev pub is_colon : ℕ → Bool
+is_colon byte = byte == 58
+
+-- with a blank in place of each comma
+abbrev pub spaced : List ℕ → List ℕ
+spaced text = map (λ byte. if byte == 44 then 32 else byte) text
+
+-- what is written before the line of an order: the label, which ends with the first colon, and a blank
+abbrev pub label_by : Option ℕ → List ℕ → List ℕ
+label_by None text = []
+label_by (Some place) text = take (place + 1) text ++ 32 ∷ []
+
+-- and the order itself
+abbrev pub order_by : Option ℕ → List ℕ → List ℕ
+order_by None text = spaced text
+order_by (Some place) text = spaced (drop (place + 1) text)
+
+-- the line of an order, or what is wrong with it
+abbrev pub IsGradedOrder : {A : Type 0} → Measure A → List ℕ → List ℕ → Type 0
+IsGradedOrder m text row = IsRow m text row ⊎ IsWrongRow m text row
+
+pub record IsGraded {A : Type 0} (m : Measure A) (text row : List ℕ) : Type 0 where
+  pub order : List ℕ
+  pub graded : IsGradedOrder m (order_by (position is_colon text) text) order
+  pub labelled : row ≡ label_by (position is_colon text) text ++ order
+
+-- the line of a text, which is that of a hand-in if the others are gone on with
 abbrev pub IsLineOf : {A : Type 0} → Bool → Measure A → List ℕ → List ℕ → Type 0
-IsLineOf goes_on m text row = IsRow m text row ⊎ ((goes_on ≡ true) × IsWrongRow m text row)
+IsLineOf goes_on m text row =
+    ((goes_on ≡ false) × IsRow m text row) ⊎ ((goes_on ≡ true) × IsGraded m text row)
 
 -- the lines of all lines
 abbrev pub AreRows : {A : Type 0} → Bool → Measure A → List KeptLine → List ℕ → Type 0

@@ -4,6 +4,7 @@
 pub mod again;
 mod case_read;
 pub mod flaw;
+mod grading;
 mod laying;
 pub mod measure;
 pub mod order;

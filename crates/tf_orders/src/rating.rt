@@ -8,12 +8,13 @@ ghost use Rattle.tf_orders.specs.OrderParts.{IsUnrated, IsWithoutRow};
 ghost use Rattle.tf_orders.specs.OrderText.{AreRated, AreRows, IsEvaluatedAs, IsLineOf, IsRowOf};
 ghost use Rattle.tf_orders.specs.OrderText.{IsScheduleAssessment, IsScheduleEvaluation};
 
+use crate::grading::push_graded;
 use crate::measure::Measure;
 use crate::pieces::pieces_in;
 use crate::ruled::ruled;
 use crate::run_orders::{OrderForm, OrdersRated};
-use crate::schedules::{flaw_of, scheduled};
-use crate::writing::{push_flaw, push_problem_row, push_row};
+use crate::schedules::scheduled;
+use crate::writing::{push_problem_row, push_row};
 use std::alloc::Allocator;
 use tf_assess::assess::{judge_problem_pieces, judged};
 use tf_assess::assessment::Assessment;
@@ -224,20 +225,19 @@ fn push_line<A: Allocator + Copy, B: Allocator>(
         × (out.new.items ≡ out.old.items ++ row))
         (λ e. IsWithoutRow goes_on measure.now line.now.number line.now.bytes.now (stop_of e)) }
 {
-    if let Some(pieces) = scheduled(alloc, measure, line.bytes)? {
-        push_rated(out, measure, alloc, pieces)?;
+    if goes_on {
+        push_graded(out, measure, alloc, line.bytes)?;
         return Ok(());
     }
-    if !goes_on {
+    let Some(pieces) = scheduled(alloc, measure, line.bytes)? else {
         return Err(RunFault::Answer(AnswerFault::BadLine(line.number)));
-    }
-    let flaw = flaw_of(alloc, measure, line.bytes)?;
-    push_flaw(out, flaw)?;
+    };
+    push_rated(out, measure, alloc, pieces)?;
     Ok(())
 }
 
-// Adds the line of a schedule.
-fn push_rated<A: Allocator + Copy, B: Allocator>(
+/// Adds the line of a schedule.
+pub(crate) fn push_rated<A: Allocator + Copy, B: Allocator>(
     out: &mut Vec<u8, A>,
     measure: &Measure<B>,
     alloc: A,

@@ -23,7 +23,8 @@ pub enum OrderForm {
     Single,
     /// Each line that has a word and is no comment is an order. A line is written of each: the cost
     /// of the schedule and its gap to the optimum or to the lower bound, or the misfit. Of a line
-    /// that is no order it is `wrong` and why, if the others are gone on with.
+    /// that is no order it is `wrong` and why, if the others are gone on with; then a line may begin
+    /// with a label and a colon, which are kept, and commas divide jobs.
     Lines { goes_on: bool },
     /// It isn't looked at: the order is that of a rule. The schedule is evaluated in the same way.
     Ruled(Rule),
