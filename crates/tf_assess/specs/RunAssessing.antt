@@ -14,6 +14,8 @@ use Rattle.tf_engine.specs.Checking.{IsOfAnswer}
 use Rattle.tf_engine.specs.RequestData.{RequestData}
 use Rattle.tf_engine.specs.Runs.{Leaves}
 use Rattle.tf_engine.specs.Devices.{LeavesBoth}
+use Rattle.tf_plan.specs.Order.{IsFeasible}
+use Rattle.tf_bounding.specs.Feasible.{IsCyclicTask}
 use Rattle.tf_bounding.specs.RunBounding.{problem_in, problem_task_for, IsRefusedBound}
 use Rattle.tf_bound_text.specs.BoundSheetData.{BoundSheetData}
 use Rattle.tf_assess.specs.declared.assessment.Assessed.{Assessed}
@@ -23,11 +25,12 @@ use Rattle.tf_assess.specs.Assessing.{assessed_of, IsAssessment}
 use Rattle.tf_assess.specs.AssessmentText.{assessment_text}
 
 -- the request and the instance text mean a task, the answer text says a sheet, and this is how it
--- stands to the task, beside the bound that is offered, if any is
+-- stands to the task, which some timetable fits, beside the bound that is offered, if any is
 pub record IsAssessed {A : Type 0} (offer : Option BoundSheetData) (request : RequestData)
     (instance answer out : List ℕ) (a : Assessment A) : Type 0 where
   pub task : ProblemData
   pub meant : problem_task_for request instance ≡ Ok task
+  pub feasible : IsFeasible task
   pub sheet : SheetData
   pub said : answer_in answer ≡ Ok sheet
   pub is : IsAssessment task offer sheet a
@@ -45,6 +48,13 @@ IsRefusedAssessment request instance answer refused =
     IsRefusedBound request instance refused
     ⊎ (IsOk (problem_task_for request instance) × IsOfAnswer answer refused)
 
+-- or both texts are read, and the arcs of the task form the cycle that is named
+abbrev pub IsRefusedAssessing : RequestData → List ℕ → List ℕ → Refused → Type 0
+IsRefusedAssessing request instance answer refused =
+    IsRefusedAssessment request instance answer refused
+    ⊎ (IsOk (answer_in answer) × ((task : ProblemData)
+    × (problem_task_for request instance ≡ Ok task) × IsCyclicTask task refused))
+
 -- the instance's reader failed, or there is a task and the answer's reader failed
 abbrev pub HasProblemReaderFailed : RequestData → List ℕ → DeviceUse → DeviceUse → Type 0
 HasProblemReaderFailed request text instance answer =
@@ -60,7 +70,7 @@ AssessingOutcome {A = A} offer request text answer_text instance answer writer (
     × (assessed ≡ assessed_of a.fit a.bound.value) × Appends writer.before writer.after out
 AssessingOutcome {A = A} offer request text answer_text instance answer writer (Err e) =
     Leaves (SaysAssessment A offer request text answer_text)
-    (IsRefusedAssessment request text answer_text)
+    (IsRefusedAssessing request text answer_text)
     (HasProblemReaderFailed request text instance answer) writer (stop_of e)
 
 -- The outcome is that of two texts, which are all bytes of the readers up to their ends where they

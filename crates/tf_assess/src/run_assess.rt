@@ -12,6 +12,7 @@ use crate::offered::Aids;
 use crate::writing::assessment_bytes;
 use std::alloc::{Allocator, Global};
 use std::io::{Read, Write};
+use tf_bounding::feasible::check_feasible;
 use tf_engine::fault::RunFault;
 use tf_engine::request::Request;
 use tf_search::effort::Progress;
@@ -30,8 +31,8 @@ pub struct AssessmentRequest<'a, P, A: Allocator = Global, B: Allocator = Global
 ///
 /// The refusals come in the order of [`tf_engine::run_check::run_check`]: notation, a problem that
 /// no kind of certificate bounds, reading the instance, its text, the rest of what makes no task,
-/// reading the answer and its first fault. After a refusal nothing was written, unless it is
-/// [`RunFault::Device`], after which a prefix of the assessment may have been.
+/// reading the answer and its first fault, a cycle of the task's arcs. After a refusal nothing was
+/// written, unless it is [`RunFault::Device`], after which a prefix of the assessment may have been.
 pub fn run_assess<
     A: Allocator + Copy,
     B: Allocator,
@@ -57,6 +58,7 @@ pub fn run_assess<
     let AssessmentRequest { request, aids } = asked;
     let case = problem_case_read(alloc, request, instance, answer)?;
     let ProblemCase { task, sheet } = case;
+    check_feasible(alloc, &task)?;
     let assessment = assess(alloc, &task, sheet, aids)?;
     let text = assessment_bytes(alloc, &task, &assessment)?;
     writer.push_all(text.as_slice())?;

@@ -21,8 +21,10 @@ use Rattle.tf_engine.specs.Runs.{Leaves}
 use Rattle.tf_engine.specs.Devices.{LeavesInstance}
 use Rattle.tf_search.specs.declared.strongest.Found.{Found}
 use Rattle.tf_search.specs.Strongest.{IsFound}
+use Rattle.tf_plan.specs.Order.{IsFeasible}
 use Rattle.tf_prepare.specs.Preparing.{prepared_in}
 use Rattle.tf_bounding.specs.BoundText.{bound_text}
+use Rattle.tf_bounding.specs.Feasible.{IsCyclicTask}
 use Rattle.tf_bounding.specs.ShopTimes.{timed_said}
 
 -- the problem, of which some kind of certificate bounds the tasks
@@ -44,11 +46,12 @@ problem_task_for request text =
     problem_in request.problem >>= λ problem. problem_task_in request problem text
 
 -- `out` is the text of a certificate and its value for the task that the request and the text mean;
--- no timetable that fits the task costs less
+-- some timetable fits the task, and none that does costs less
 pub record Bounds {A : Type 0} (request : RequestData) (text out : List ℕ) (found : Found A)
     : Type 0 where
   pub task : ProblemData
   pub meant : problem_task_for request text ≡ Ok task
+  pub feasible : IsFeasible task
   pub is : IsFound task found
   pub written : out ≡ bound_text task (length task.jobs) found.value found.certificate
 
@@ -62,6 +65,13 @@ IsRefusedBound request text refused =
     (problem_task_for request text ≡ Err refused)
     ⊎ ((refused ≡ ByTask TotalTooLarge)
     × ((task : ProblemData) × (problem_task_for request text ≡ Ok task) × (¬ (IsSized task))))
+
+-- or the arcs of the task form the cycle that is named
+abbrev pub IsRefusedBounding : RequestData → List ℕ → Refused → Type 0
+IsRefusedBounding request text refused =
+    IsRefusedBound request text refused
+    ⊎ ((task : ProblemData) × (problem_task_for request text ≡ Ok task)
+    × IsCyclicTask task refused)
 
 -- A part that reads an instance gives the task that its text means, which is all bytes of the reader
 -- up to its end where they are known, or the one refusal.
@@ -81,8 +91,8 @@ abbrev pub BoundingOutcome : {A : Type 0} → RequestData → List ℕ → Devic
 BoundingOutcome {A = A} request text reader writer (Ok _) =
     (out : List ℕ) × SaysBound A request text out × Appends writer.before writer.after out
 BoundingOutcome {A = A} request text reader writer (Err e) =
-    Leaves (SaysBound A request text) (IsRefusedBound request text) (reader.failed ≡ true) writer
-    (stop_of e)
+    Leaves (SaysBound A request text) (IsRefusedBounding request text) (reader.failed ≡ true)
+    writer (stop_of e)
 
 -- The outcome is that of a text, which is all bytes of the reader up to its end where they are
 -- known.

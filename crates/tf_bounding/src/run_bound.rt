@@ -4,6 +4,7 @@ ghost use Rattle.tf_engine.specs.Devices.{LeavesRun};
 ghost use Rattle.tf_engine.specs.Faults.{end_of};
 ghost use Rattle.tf_bounding.specs.RunBounding.{IsBoundingOf, problem_in};
 
+use crate::feasible::check_feasible;
 use crate::instance_read::task_read;
 use crate::writing::bound_bytes;
 use std::alloc::Allocator;
@@ -18,7 +19,8 @@ use tf_text::counted::Counted;
 /// bound with its certificate.
 ///
 /// The refusals come in the order of [`tf_engine::run_solve::run_solve`]: notation, a problem that
-/// no kind of certificate bounds, reading the input, its text, the rest of what makes no task.
+/// no kind of certificate bounds, reading the input, its text, the rest of what makes no task, a
+/// cycle of its arcs.
 /// After a refusal nothing was written, unless it is [`RunFault::Device`], after which a prefix of
 /// the bound may have been.
 pub fn run_bound<A: Allocator + Copy, B: Allocator, P: Progress + Drop, R: Read, W: Write>(
@@ -34,6 +36,7 @@ pub fn run_bound<A: Allocator + Copy, B: Allocator, P: Progress + Drop, R: Read,
         writer.old writer.new (end_of result) }
 {
     let task = task_read(alloc, request, reader)?;
+    check_feasible(alloc, &task)?;
     let found = strongest(alloc, &task, effort)?;
     let text = bound_bytes(alloc, &task, &found)?;
     writer.push_all(text.as_slice())?;

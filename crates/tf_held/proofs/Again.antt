@@ -168,6 +168,7 @@ module _ (problem : List ℕ) (machines : Option ℕ) (layout : Layout) (jobs : 
                   task = bounds.task;
                   meant = problem_same ∙ ap (problem_task_for (asked (InWt jobs m)))
                       (sym (text_is r.text r.is_all)) ∙ bounds.meant;
+                  feasible = bounds.feasible;
                   is = bounds.is;
                   written = bounds.written;
                 },
@@ -223,6 +224,7 @@ module _ (problem : List ℕ) (machines : Option ℕ) (layout : Layout) (jobs : 
                 task = a.task;
                 meant = problem_same ∙ ap (problem_task_for (asked (InWt jobs m)))
                     (sym (text_is r.text r.is_all)) ∙ a.meant;
+                feasible = a.feasible;
                 sheet = a.sheet;
                 said = a.said;
                 is = a.is;

@@ -38,8 +38,8 @@ pub measure_is : {A : Type 0} (request : RequestData) (text : List ℕ) (posed :
     (m : Measure A) → Means request text posed → Measures posed m → IsMeasure request text m
 measure_is request text (Solved asked) m (solved, is) (best, same, least) =
     subst (IsMeasure request text) (sym same) (solved, is.problem, is.meant, least)
-measure_is request text (Unsolved task) m (unsolved, meant) (found, same, bound) =
-    subst (IsMeasure request text) (sym same) (unsolved, meant, bound)
+measure_is request text (Unsolved task) m (unsolved, meant) (found, same, feasible, bound) =
+    subst (IsMeasure request text) (sym same) (unsolved, meant, feasible, bound)
 
 cyclic : {A : Type 0} (form : OrderForm) (request : RequestData) (text orders jobs : List ℕ)
     (refused : Refused) (posed : Posed A) → Means request text posed → refused ≡ ByCycle jobs
@@ -50,7 +50,8 @@ cyclic form request text orders jobs refused (Solved asked) (solved, meant) is c
       is,
       record { task = asked.task; meant = meant.meant; cycle = cycle },
     )))
-cyclic form request text orders jobs refused (Unsolved task) means is cycle = absurd cycle
+cyclic form request text orders jobs refused (Unsolved task) (unsolved, meant) is cycle =
+    inr (inr (inr (inl (task, meant, (jobs, is, cycle)))))
 
 module _ (A T U : Type 0) (form : OrderForm) (request : RequestData)
     (remaining : T → Option (List ℕ)) (old new : Counted T) (giving : U → Option (List ℕ))
@@ -130,10 +131,10 @@ module _ (A T U : Type 0) (form : OrderForm) (request : RequestData)
             (HasOrderReaderFailed request had.text (use_of remaining old new)
             (use_of giving before after))
             held writer
-            (λ refused r. inr (inr (inr (
+            (λ refused r. inr (inr (inr (inr (
               m,
               record { measure = is_measure; fault = r.0; is = r.1; malformed = r.2 },
-            ))))
+            )))))
             (stop_of e) (subst (λ (bs : List ℕ). IsUnrated form m bs (stop_of e)) whole h);
       }
 

@@ -3,6 +3,7 @@
 use Rattle.std.specs.Prelude.{◌≡◌, ℕ, List, length, IsTrue, IsFalse, Ok}
 use Rattle.tf_engine.specs.RequestData.{RequestData}
 use Rattle.tf_engine.specs.Refusal.{problem_for, task_for}
+use Rattle.tf_plan.specs.Order.{IsFeasible}
 use Rattle.tf_search.specs.Strongest.{IsFound}
 use Rattle.tf_bounding.specs.RunBounding.{problem_task_for}
 use Rattle.tf_evaluate.specs.Evaluating.{IsLeastCost}
@@ -21,7 +22,7 @@ IsMeasure request text (Optimum problem task best) =
     × (task_for request text ≡ Ok task) × IsLeastCost task best
 IsMeasure request text (Bound task found) =
     IsFalse (is_solved request.problem) × (problem_task_for request text ≡ Ok task)
-    × IsFound task found
+    × IsFeasible task × IsFound task found
 
 -- the jobs of the task
 abbrev pub jobs_in : {A : Type 0} → Measure A → ℕ

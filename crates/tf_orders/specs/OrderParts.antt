@@ -14,6 +14,7 @@ use Rattle.tf_engine.specs.Faults.{Refused, ByCycle, ByAnswer, Stop, stop_of, en
 use Rattle.tf_engine.specs.Parts.{StopsBy, StopsReading}
 use Rattle.tf_engine.specs.RequestData.{RequestData}
 use Rattle.tf_engine.specs.Solvers.{IsNamedCycle}
+use Rattle.tf_plan.specs.Order.{IsFeasible, IsProblemCycle}
 use Rattle.tf_bounding.specs.RunBounding.{problem_task_for}
 use Rattle.tf_search.specs.declared.strongest.Found.{Found}
 use Rattle.tf_search.specs.Strongest.{IsFound}
@@ -93,12 +94,12 @@ abbrev pub Measures : {A : Type 0} → Posed A → Measure A → Type 0
 Measures (Solved asked) m =
     (best : ℤ) × (m ≡ Optimum asked.problem asked.task best) × IsLeastCost asked.task best
 Measures {A = A} (Unsolved task) m =
-    (found : Found A) × (m ≡ Bound task found) × IsFound task found
+    (found : Found A) × (m ≡ Bound task found) × IsFeasible task × IsFound task found
 
 -- the arcs of the task have a cycle, and the jobs are the one that is named
 abbrev pub IsCycleOf : {A : Type 0} → Posed A → List ℕ → Type 0
 IsCycleOf (Solved asked) jobs = IsNamedCycle asked.task jobs
-IsCycleOf (Unsolved task) jobs = ⊥
+IsCycleOf (Unsolved task) jobs = IsProblemCycle task jobs
 
 -- why a task has no measure
 abbrev pub IsUnmeasured : {A : Type 0} → Posed A → Stop → Type 0

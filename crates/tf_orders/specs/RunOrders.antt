@@ -12,6 +12,8 @@ use Rattle.tf_engine.specs.Headline.{IsCyclic}
 use Rattle.tf_engine.specs.RequestData.{RequestData}
 use Rattle.tf_engine.specs.Refusal.{task_for}
 use Rattle.tf_engine.specs.Runs.{Leaves}
+use Rattle.tf_problem.specs.ProblemData.{ProblemData}
+use Rattle.tf_bounding.specs.Feasible.{IsCyclicTask}
 use Rattle.tf_bounding.specs.RunBounding.{problem_task_for, IsRefusedBound}
 use Rattle.tf_assess.specs.RunRating.{is_solved}
 use Rattle.tf_orders.specs.declared.measure.Measure.{Measure}
@@ -62,6 +64,8 @@ IsRefusedOrders A form request text orders refused =
     IsRefusedInstance request text refused
     ⊎ IsTooLong request text orders refused
     ⊎ ((jobs : List ℕ) × (refused ≡ ByCycle jobs) × IsCyclic request text jobs)
+    ⊎ ((task : ProblemData) × (problem_task_for request text ≡ Ok task)
+    × IsCyclicTask task refused)
     ⊎ ((m : Measure A) × IsBadLine form request text orders refused m)
 
 -- the instance's reader failed, or there is a task and the orders' reader failed

@@ -6,6 +6,7 @@ ghost use Rattle.tf_orders.specs.OrderParts.{IsUnmeasured, Measures};
 use crate::case_read::Posed;
 use std::alloc::{Allocator, Global};
 use tf_bound::task::ProblemTask;
+use tf_bounding::feasible::check_feasible;
 use tf_engine::case::Asked;
 use tf_engine::fault::RunFault;
 use tf_evaluate::evaluate::least_cost;
@@ -48,6 +49,7 @@ pub(crate) fn measured<A: Allocator + Copy>(
             })
         }
         Posed::Unsolved(task) => {
+            check_feasible(alloc, &task)?;
             let effort: Effort<Nobody> = Effort::untold(None);
             let found = strongest(alloc, &task, effort)?;
             Ok(Measure::Bound { task, found })

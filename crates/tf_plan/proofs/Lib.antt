@@ -2,7 +2,8 @@ mod Cheaper
 mod Judged
 mod Steps
 mod Fitting
+pub mod Laid
 mod Complete
 mod Orders
-mod Named
+pub mod Named
 mod Forbidden

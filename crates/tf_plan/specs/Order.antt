@@ -5,7 +5,7 @@ use Rattle.tf_model.specs.Timetable.{Timetable}
 use Rattle.tf_problem.specs.FitsProblem.{FitsProblem}
 use Rattle.tf_problem.specs.ProblemData.{ProblemData}
 use Rattle.tf_plan.specs.declared.order.OrderFault.{OrderFault}
-use Rattle.tf_plan.specs.declared.order.OrderFault.TheVariants.{Cycle, Refused, OutOfMemory}
+use Rattle.tf_plan.specs.declared.order.OrderFault.TheVariants.{Cycle, OutOfMemory}
 
 -- job j precedes the first of the list, each of the list the next, and the last precedes `end`
 abbrev pub LeadsBy : List (ℕ × ℕ) → ℕ → List ℕ → ℕ → Type 0
@@ -23,8 +23,11 @@ pub record IsProblemCycle (k : ProblemData) (jobs : List ℕ) : Type 0 where
   pub cycle : IsCycleOf k.arcs jobs
   pub infeasible : (rows : Timetable) → FitsProblem k rows → ⊥
 
+-- some timetable fits the task
+abbrev pub IsFeasible : ProblemData → Type 0
+IsFeasible k = (rows : Timetable) × FitsProblem k rows
+
 -- why there is no order
 abbrev pub IsNoOrder : {A : Type 0} → ProblemData → OrderFault A → Type 0
 IsNoOrder k (Cycle jobs) = IsProblemCycle k jobs
-IsNoOrder k Refused = Unit {0}
 IsNoOrder k OutOfMemory = Unit {0}

@@ -17,7 +17,7 @@ use tf_model::instance::Instance;
 use tf_model::job::{Job, Times};
 use tf_model::job_list::JobList;
 use tf_model::memory::OutOfMemory;
-use tf_model::prepare::{Refusal, prepare};
+use tf_model::prepare::prepare;
 use tf_model::problem::{Env, Goal, Problem};
 use tf_model::task::Task;
 use tf_schedule::piece::Piece;
@@ -29,8 +29,6 @@ use tf_single::lawler_fault::LawlerFault;
 pub enum OrderFault<A: Allocator = Global> {
     /// Each of these jobs precedes the next by an arc, and the last precedes the first.
     Cycle(JobList<A>),
-    /// There are more arcs than an instance may have. (Of this nothing is proved.)
-    Refused,
     OutOfMemory,
 }
 
@@ -100,7 +98,8 @@ fn jobs_of<A: Allocator>(alloc: A, pieces: &[Piece]) -> Result<Vec<JobId, A>, Ou
     Ok(jobs)
 }
 
-// A task of `1|prec|Lmax` with as many jobs, of unit time, and the same arcs.
+// A task of `1|prec|Lmax` with as many jobs, of unit time, and the same arcs. A task that was read
+// has no more arcs than an instance may have, so that memory alone can be wanting.
 fn bare_task<A: Allocator + Copy, B: Allocator>(
     alloc: A,
     task: &ProblemTask<B>,
@@ -110,12 +109,11 @@ fn bare_task<A: Allocator + Copy, B: Allocator>(
     let jobs = unit_jobs(alloc, task.len())?;
     let arcs = copied(alloc, task.arcs())?;
     let Ok(instance) = Instance::new(jobs, arcs, None) else {
-        return Err(OrderFault::Refused);
+        return Err(OrderFault::OutOfMemory);
     };
     match prepare(alloc, &instance, &bare_problem(), None) {
         Ok(bare) if is_bare(&bare, task) => Ok(bare),
-        Err(Refusal::OutOfMemory) => Err(OrderFault::OutOfMemory),
-        _ => Err(OrderFault::Refused),
+        _ => Err(OrderFault::OutOfMemory),
     }
 }
 

@@ -6,9 +6,11 @@ use Rattle.tf_text.specs.declared.counted.Counted.{Counted}
 use Rattle.tf_text.specs.Counted.{AppendsPrefix, DeviceUse, has_failed, use_of, unused}
 use Rattle.tf_engine.specs.declared.fault.RunFault.{RunFault}
 use Rattle.tf_engine.specs.declared.fault.RunFault.TheVariants.{Device}
-use Rattle.tf_engine.specs.Faults.{Refused, stop_of}
+use Rattle.tf_engine.specs.Faults.{Refused, Stop, Refuses, Fails, Wants, stop_of}
+use Rattle.tf_engine.specs.Parts.{StopsBy}
 use Rattle.tf_engine.specs.RequestData.{RequestData}
 use Rattle.tf_engine.proofs.Unread.{part_stops, reading_stops}
+use Rattle.tf_bounding.specs.Feasible.{IsCyclicTask}
 use Rattle.tf_bounding.specs.RunBounding.{IsRefusedBound, ReadsProblemTask}
 use Rattle.tf_planning.specs.Planning.{IsUnplannable, StopsPlanning}
 use Rattle.tf_planning.specs.RunPlanning.{IsPlanOf, IsPlanningOf, IsRefusedPlan, Plans, SaysPlan}
@@ -19,6 +21,12 @@ untasked : (request : RequestData) (text : List ℕ) (refused : Refused)
     → IsRefusedBound request text refused → IsRefusedPlan request text refused
 untasked request text refused (inl h) = inl h
 untasked request text refused (inr (same, (task, is, large))) = inr (task, is, inr same)
+
+-- a cycle of the arcs is why there is no plan
+pub cyclic_stops : (k : ProblemData) (s : Stop) → StopsBy (IsCyclicTask k) s → StopsPlanning k s
+cyclic_stops k (Refuses refused) h = inl h
+cyclic_stops k Fails h = h
+cyclic_stops k Wants h = h
 
 module _ (A T : Type 0) (request : RequestData) (remaining : T → Option (List ℕ))
     (old new : Counted T) where

@@ -2,7 +2,6 @@
 ghost use Rattle.std.specs.Prelude.{MatchResult};
 ghost use Rattle.tf_engine.specs.Faults.{stop_of};
 ghost use Rattle.tf_plan.specs.NoPlan.{HasNoPlan};
-ghost use Rattle.tf_plan.specs.Order.{IsNoOrder};
 ghost use Rattle.tf_plan.specs.Plan.{IsPlan};
 ghost use Rattle.tf_plan.specs.SerialOrder.{IsSerialOrder};
 ghost use Rattle.tf_problem.specs.ProblemData.{ProblemData};
@@ -11,11 +10,12 @@ ghost use Rattle.tf_planning.specs.Planning.{IsMade, StopsPlanning};
 use crate::candidate::{Given, best_pieces};
 use std::alloc::{Allocator, Global};
 use tf_bound::task::ProblemTask;
+use tf_bounding::feasible::unordered;
 use tf_engine::fault::RunFault;
 use tf_model::ids::JobId;
 use tf_model::prepare::Refusal;
 use tf_plan::make_plan::{NoPlan, make_plan};
-use tf_plan::order::{OrderFault, order_of};
+use tf_plan::order::order_of;
 use tf_plan::plan::Plan;
 use tf_schedule::piece::Piece;
 use tf_search::effort::{Effort, Progress};
@@ -60,17 +60,6 @@ fn order_for<A: Allocator + Copy, B: Allocator>(
     match order_of(alloc, task) {
         Ok(order) => Ok(order),
         Err(fault) => Err(unordered(fault)),
-    }
-}
-
-// There are never more arcs than an instance may have, since it is read.
-fn unordered<A: Allocator>(fault: OrderFault<A>) -> RunFault<A>
-    ensures { (k : ProblemData) → IsNoOrder k fault → StopsPlanning k (stop_of result) }
-{
-    match fault {
-        OrderFault::Cycle(jobs) => RunFault::Cycle(jobs),
-        OrderFault::Refused => RunFault::Task(Refusal::TotalTooLarge),
-        OrderFault::OutOfMemory => RunFault::OutOfMemory,
     }
 }
 

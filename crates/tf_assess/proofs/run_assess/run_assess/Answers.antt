@@ -7,8 +7,9 @@ use Rattle.tf_engine.specs.Devices.{LeavesCase}
 use Rattle.tf_engine.specs.Faults.{Fails, Wants, stop_of}
 use Rattle.tf_engine.proofs.Devices.{both_sound, both_later, stopped, cut, wrote}
 use Rattle.tf_engine.proofs.Unread.{err_is, err_ends}
+use Rattle.tf_bounding.proofs.Cyclic.{cyclic_later}
 use Rattle.tf_assess.specs.RunAssessing.{IsAssessmentOf}
-use Rattle.tf_assess.proofs.Running.{unread, wanting, cut_off, said}
+use Rattle.tf_assess.proofs.Running.{unread, cyclic, wanting, cut_off, said}
 use Rattle.tf_assess.proofs.run_assess.run_assess.Goals as goal
 
 pub returns-in_err-case-clause-outcome : goal.returns-in_err-case-clause-outcome
@@ -23,6 +24,21 @@ pub returns-in_err-case-clause-devices : goal.returns-in_err-case-clause-devices
 returns-in_err-case-clause-devices g c =
     err_ends (LeavesCase _ _ _ _ _ _ _ _ _) c.in_err-case.field-0.0 _ c.from_residual.ensures.1
     (stopped _ _ _ (stop_of c.in_err-case.field-0.0) c.in_err-case.ensures.readers)
+
+pub returns-in_err-check_feasible-clause-outcome : goal.returns-in_err-check_feasible-clause-outcome
+returns-in_err-check_feasible-clause-outcome g c =
+    err_is (IsAssessmentOf c.args.asked.aids.offered c.args.asked.request.now _ _ _)
+    c.in_err-check_feasible.field-0.0 _ c.from_residual-in_err-check_feasible.ensures.1
+    (cyclic g.row.A.Denot _ _ c.args.asked.aids.offered c.args.asked.request.now _ _ _ _ _ _ _
+    c.in_ok-case.ensures _ _ c.in_err-check_feasible.field-0.0 c.in_err-check_feasible.ensures)
+
+pub returns-in_err-check_feasible-clause-devices : goal.returns-in_err-check_feasible-clause-devices
+returns-in_err-check_feasible-clause-devices g c =
+    let stop = stop_of c.in_err-check_feasible.field-0.0 in
+    err_ends (LeavesCase _ _ _ _ _ _ _ _ _) c.in_err-check_feasible.field-0.0 _
+    c.from_residual-in_err-check_feasible.ensures.1
+    (stopped _ _ _ stop (both_later c.in_ok-case.ensures.readers stop
+    (cyclic_later c.in_ok-case.case.task stop c.in_err-check_feasible.ensures)))
 
 pub returns-in_err-assessment-clause-outcome : goal.returns-in_err-assessment-clause-outcome
 returns-in_err-assessment-clause-outcome g c =
@@ -57,7 +73,8 @@ returns-in_err-push_all-clause-outcome g c =
     c.from_residual-in_err-push_all.ensures.1
     (cut_off g.row.A.Denot _ _ c.args.asked.aids.offered c.args.asked.request.now
     _ _ _ _ _ _ _ c.in_ok-case.ensures _
-    c.in_ok-assessment.assessment c.in_ok-assessment.ensures c.in_err-push_all.ensures.device
+    c.in_ok-check_feasible.ensures c.in_ok-assessment.assessment c.in_ok-assessment.ensures
+    c.in_err-push_all.ensures.device
     (subst (AppendsPrefix (g.W.Write.contents (inner_of c.args.writer.now))
     (g.W.Write.contents (inner_of c.push_all.new.self)))
     (c.as_slice.ensures.value ∙ c.in_ok-text.ensures) c.in_err-push_all.ensures.prefix))
@@ -72,7 +89,8 @@ pub returns-clause-outcome : goal.returns-clause-outcome
 returns-clause-outcome g c =
     said g.row.A.Denot _ _ c.args.asked.aids.offered c.args.asked.request.now
     _ _ _ _ _ _ _ c.in_ok-case.ensures _
-    c.in_ok-assessment.assessment c.in_ok-assessment.ensures _ c.assessed.ensures
+    c.in_ok-check_feasible.ensures c.in_ok-assessment.assessment c.in_ok-assessment.ensures _
+    c.assessed.ensures
     (subst (Appends (g.W.Write.contents (inner_of c.args.writer.now))
     (g.W.Write.contents (inner_of c.push_all.new.self)))
     (c.as_slice.ensures.value ∙ c.in_ok-text.ensures) c.in_ok-push_all.ensures.written)

@@ -7,7 +7,7 @@ use Rattle.tf_engine.specs.Faults.{Wants, stop_of}
 use Rattle.tf_engine.proofs.Devices.{instance_sound, instance_later, stopped, cut, wrote}
 use Rattle.tf_engine.proofs.Unread.{err_is, err_ends}
 use Rattle.tf_bounding.specs.RunBounding.{IsBoundingOf}
-use Rattle.tf_bounding.proofs.Running.{unasked, wanting, cut_off, said}
+use Rattle.tf_bounding.proofs.Running.{unasked, cyclic, wanting, cut_off, said}
 use Rattle.tf_bounding.proofs.run_bound.run_bound.Goals as goal
 
 pub returns-in_err-task-clause-outcome : goal.returns-in_err-task-clause-outcome
@@ -20,6 +20,20 @@ pub returns-in_err-task-clause-devices : goal.returns-in_err-task-clause-devices
 returns-in_err-task-clause-devices g c =
     err_ends (LeavesRun _ _ _ _ _ _) c.in_err-task.field-0.0 _ c.from_residual.ensures.1
     (stopped _ _ _ (stop_of c.in_err-task.field-0.0) c.in_err-task.ensures.reader)
+
+pub returns-in_err-check_feasible-clause-outcome : goal.returns-in_err-check_feasible-clause-outcome
+returns-in_err-check_feasible-clause-outcome g c =
+    err_is (IsBoundingOf c.args.request.now _ _) c.in_err-check_feasible.field-0.0 _
+    c.from_residual-in_err-check_feasible.ensures.1
+    (cyclic g.row.A.Denot _ c.args.request.now _ _ _ _ c.in_ok-task.ensures _ _
+    c.in_err-check_feasible.field-0.0 c.in_err-check_feasible.ensures)
+
+pub returns-in_err-check_feasible-clause-devices : goal.returns-in_err-check_feasible-clause-devices
+returns-in_err-check_feasible-clause-devices g c =
+    err_ends (LeavesRun _ _ _ _ _ _) c.in_err-check_feasible.field-0.0 _
+    c.from_residual-in_err-check_feasible.ensures.1
+    (stopped _ _ _ (stop_of c.in_err-check_feasible.field-0.0)
+    (instance_later c.in_ok-task.ensures.reader _))
 
 pub returns-in_err-found-clause-outcome : goal.returns-in_err-found-clause-outcome
 returns-in_err-found-clause-outcome g c =
@@ -48,7 +62,7 @@ returns-in_err-push_all-clause-outcome g c =
     err_is (IsBoundingOf c.args.request.now _ _) Device _
     c.from_residual-in_err-push_all.ensures.1
     (cut_off g.row.A.Denot _ c.args.request.now _ _ _ _ c.in_ok-task.ensures _
-    c.in_ok-found.found c.in_ok-found.ensures c.in_err-push_all.ensures.device
+    c.in_ok-check_feasible.ensures c.in_ok-found.found c.in_ok-found.ensures c.in_err-push_all.ensures.device
     (subst (AppendsPrefix (g.W.Write.contents (inner_of c.args.writer.now))
     (g.W.Write.contents (inner_of c.push_all.new.self)))
     (c.as_slice.ensures.value ∙ c.in_ok-text.ensures) c.in_err-push_all.ensures.prefix))
@@ -61,8 +75,8 @@ returns-in_err-push_all-clause-devices g c =
 
 pub returns-clause-outcome : goal.returns-clause-outcome
 returns-clause-outcome g c =
-    said g.row.A.Denot _ c.args.request.now _ _ _ _ c.in_ok-task.ensures _ c.in_ok-found.found
-    c.in_ok-found.ensures
+    said g.row.A.Denot _ c.args.request.now _ _ _ _ c.in_ok-task.ensures _
+    c.in_ok-check_feasible.ensures c.in_ok-found.found c.in_ok-found.ensures
     (subst (Appends (g.W.Write.contents (inner_of c.args.writer.now))
     (g.W.Write.contents (inner_of c.push_all.new.self)))
     (c.as_slice.ensures.value ∙ c.in_ok-text.ensures) c.in_ok-push_all.ensures.written)
