@@ -1,5 +1,9 @@
-pub mod PairsSaid
+pub mod Cyclic
+pub mod PlacedWords
 pub mod Reading
 pub mod Running
+pub mod ShopPlaces
+pub mod ShopSaid
 pub mod ShopTimes
+pub mod ShopTimesSaid
 pub mod Written

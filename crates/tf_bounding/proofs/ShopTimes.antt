@@ -23,58 +23,6 @@ use Rattle.tf_engine.specs.Refusal.{refused_by, instance_in}
 use Rattle.tf_prepare.specs.TimedData.{TimedData, self_timed}
 use Rattle.tf_prepare.specs.Preparing.{first_of}
 use Rattle.tf_bounding.specs.ShopTimes.{machines_of, is_too_much, pair_for, first_times, times_on, times_by_machine, with_times, shop_said, timed_said}
-use Rattle.tf_bounding.proofs.PairsSaid.{pair_said}
-
--- ---- on one machine
-
--- only want of memory keeps what a text says from being read
-pub only_memory : {X : Type 0} (e : ReadFault) (r : Result X ReadFault) → IsOk r → Fails e r
-    → e ≡ OutOfMemory
-only_memory OutOfMemory r ok h = refl
-only_memory e (Ok x) ok h = cc
-only_memory e (Err f) ok h = cc
-
-pub read_on : (name : List ℕ) (machines : ℕ) (text : List ℕ) (i : ℕ) (pair : Option (ℕ × ℕ))
-    (instance : InstanceData) (jobs : List JobFields) (times : List ℕ)
-    → pair ≡ pair_for machines i → flow_shop name pair text ≡ Ok instance → jobs ≡ instance.jobs
-    → times ≡ map first_of jobs → times ≡ times_on name machines text i
-read_on name machines text i pair instance jobs times is h same first =
-    first ∙ ap (map first_of) same ∙ ap first_times (sym h)
-    ∙ ap (λ p. first_times (flow_shop name p text)) is
-
--- ---- on each machine
-
-module _ (name text : List ℕ) (instance : InstanceData) (h : flow_shop name None text ≡ Ok instance)
-  where
-    other_there : (machines i : ℕ) (first : Bool) → i < machines → eqb machines 1 ≡ false
-        → eqb i 0 ≡ first
-        → are_machines machines (Some (i, cond first 1 0)) ≡ true
-    other_there machines i true less many e =
-        let zero_is : i ≡ 0 = eqb-true i 0 e in
-        let not_one : machines ≢ 1 = eqb-false machines 1 many in
-        let more : 1 < machines = omega arith in
-        let some : ltb i machines ≡ true = lt-ltb i machines less in
-        let two : ltb 1 machines ≡ true = lt-ltb 1 machines more in
-        rw (two, some) rw zero_is refl
-    other_there machines i false less many e =
-        let not_zero : i ≢ 0 = eqb-false i 0 e in
-        let more : 0 < machines = omega arith in
-        let some : ltb i machines ≡ true = lt-ltb i machines less in
-        let one : ltb 0 machines ≡ true = lt-ltb 0 machines more in
-        rw (e, some, one) refl
-
-    said_by : (machines i : ℕ) (one : Bool) → machines_of instance ≡ machines → i < machines
-        → eqb machines 1 ≡ one
-        → IsOk (flow_shop name (cond one None (Some (i, cond (eqb i 0) 1 0))) text)
-    said_by machines i true is less e = rw h refl
-    said_by machines i false is less e =
-        pair_said name text instance (i, cond (eqb i 0) 1 0) h
-        (ap (λ m. are_machines m (Some (i, cond (eqb i 0) 1 0))) is
-        ∙ other_there machines i (eqb i 0) less e refl)
-
-    pub said_on : (machines : ℕ) → machines ≡ machines_of instance → (i : ℕ) → i < machines
-        → IsOk (flow_shop name (pair_for machines i) text)
-    said_on machines is i less = said_by machines i (eqb machines 1) (sym is) less refl
 
 -- ---- the instance of a text
 
@@ -106,11 +54,11 @@ module _ (A : Type 0) (name text : List ℕ) where
     abbrev after_test : Bool → Result TimedData Refused
     after_test many = cond many (Err (ByTask TotalTooLarge)) (Ok (timed_by name text instance))
 
-    pub shop_too_large : is_too_much instance (length text) ≡ true
+    pub shop_too_large : is_too_much instance ≡ true
         → shop_said name text ≡ Err (ByTask TotalTooLarge)
     shop_too_large many = meant ∙ ap after_test many
 
-    pub shop_timed : is_too_much instance (length text) ≡ false → (machines : ℕ)
+    pub shop_timed : is_too_much instance ≡ false → (machines : ℕ)
         → machines ≡ machines_of instance → (times : List (List ℕ))
         → times ≡ times_by_machine name machines text
         → shop_said name text ≡ Ok (record { instance = instance; by_machine = Some times })
@@ -209,7 +157,7 @@ module _ (name text : List ℕ) (refused : Refused) where
 
   by_shop : (r : Result InstanceData ReadFault)
       → (refused_by ByText r >>= λ i. with_times name text i) ≡ Err refused → IsFirst refused
-  by_shop (Ok instance) e = by_size instance (is_too_much instance (length text)) e
+  by_shop (Ok instance) e = by_size instance (is_too_much instance) e
   by_shop (Err fault) e = let is : refused ≡ ByText fault = cc in rw is refl
 
 by_self : (refused : Refused) (r : Result InstanceData ReadFault)

@@ -1,5 +1,5 @@
 -- The processing times of a shop on all machines of a flow shop file.
-use Rattle.std.specs.Prelude.{ℕ, ◌*◌, Bool, ◌||◌, ◌==◌, nat_lt, List, [], length, map, Option, None, Some, Result, Ok, Err, unwrap_or, if◌then◌else◌}
+use Rattle.std.specs.Prelude.{ℕ, ◌*◌, Bool, ◌==◌, nat_lt, List, [], length, map, Option, None, Some, Result, Ok, Err, unwrap_or, if◌then◌else◌}
 use Rattle.std.specs.List.{range_with_len}
 use Rattle.tf_model.specs.InstanceData.{InstanceData}
 use Rattle.tf_model.specs.Outcome.{◌>>=◌}
@@ -15,10 +15,6 @@ use Rattle.tf_prepare.specs.Preparing.{first_of}
 -- the most processing times: jobs times machines
 abbrev pub most_times : ℕ
 most_times = 2000000
-
--- the most bytes of a file times its machines
-abbrev pub most_read : ℕ
-most_read = 2000000000
 
 -- Machine i of so many, counted from 0, and another one: of the two times that a job then has in a
 -- flow shop text, the first is that on machine i. Where there is one machine alone, a job has one
@@ -44,16 +40,14 @@ times_by_machine name machines text =
 abbrev pub machines_of : InstanceData → ℕ
 machines_of instance = unwrap_or instance.machines 0
 
--- there are too many times, or the text has too many bytes for so many machines
-abbrev pub is_too_much : InstanceData → ℕ → Bool
-is_too_much instance bytes =
-    nat_lt most_times (length instance.jobs * machines_of instance)
-    || nat_lt most_read (bytes * machines_of instance)
+-- there are too many times
+abbrev pub is_too_much : InstanceData → Bool
+is_too_much instance = nat_lt most_times (length instance.jobs * machines_of instance)
 
 -- an instance of a text, with the times on all its machines, where that is not too much
 abbrev pub with_times : List ℕ → List ℕ → InstanceData → Result TimedData Refused
 with_times name text instance =
-    if is_too_much instance (length text) then Err (ByTask TotalTooLarge)
+    if is_too_much instance then Err (ByTask TotalTooLarge)
     else Ok (record {
       instance = instance;
       by_machine = Some (times_by_machine name (machines_of instance) text);

@@ -1,32 +1,27 @@
 //! From a reader of an instance to the times of its jobs, in a shop on all machines of its file.
-ghost use Rattle.std.specs.Prelude.{◌≡◌, ℕ, ◌<◌, ◌≤◌, length, Ok, Err, IsOk, MatchResult};
+ghost use Rattle.std.specs.Prelude.{◌≡◌, ◌≤◌, length, Ok, Err, MatchResult};
 ghost use Rattle.tf_model.specs.Limit.{most_bytes, most_machines};
-ghost use Rattle.tf_read.specs.FlowShop.{flow_shop};
 ghost use Rattle.tf_engine.specs.Faults.{stop_of};
 ghost use Rattle.tf_engine.specs.FormData.{form_of};
 ghost use Rattle.tf_engine.specs.Parts.{ReadsTo, StopsBy, instance_said};
-ghost use Rattle.tf_bounding.specs.ShopTimes.{machines_of, is_too_much, pair_for, times_on};
-ghost use Rattle.tf_bounding.specs.ShopTimes.{times_by_machine, shop_said, self_timed_said};
-ghost use Rattle.tf_bounding.specs.ShopTimes.{timed_said};
+ghost use Rattle.tf_bounding.specs.ShopTimes.{machines_of, is_too_much, shop_said};
+ghost use Rattle.tf_bounding.specs.ShopTimes.{self_timed_said, timed_said};
 
 use crate::instance_read::instance_read;
+use crate::shop_words::times_by_machine;
 use std::alloc::Allocator;
 use std::io::Read;
 use tf_engine::fault::RunFault;
 use tf_engine::request::Form;
 use tf_model::instance::Instance;
 use tf_model::prepare::Refusal;
-use tf_prepare::timed::{MachineTimes, TimedInstance};
-use tf_read::fault::ReadFault;
+use tf_prepare::timed::TimedInstance;
 use tf_read::flow_shop::read_flowshop;
 use tf_text::counted::Counted;
 use tf_text::input::read_all;
 
 /// The most processing times of a shop: its jobs times its machines.
 pub const MOST_TIMES: u64 = 2_000_000;
-
-/// The most bytes that are read of a flow shop file, which is read once for each machine.
-pub const MOST_READ: u64 = 2_000_000_000;
 
 /// The instance that the reader's text of this form holds, with the times of its jobs. Where it is
 /// for a shop, and a flow shop file is read of which no pair of machines is named, the times are
@@ -90,10 +85,11 @@ fn shop_in<A: Allocator + Copy>(
         (λ e. StopsBy (λ refused. shop_said name.now text.now ≡ Err refused) (stop_of e)) }
 {
     let instance = read_flowshop(alloc, text, name, None)?;
-    if is_too_much(&instance, text.len()) {
+    if is_too_much(&instance) {
         return Err(RunFault::Task(Refusal::TotalTooLarge));
     }
-    let times = times_by_machine(alloc, name, machines_of(&instance), text)?;
+    let sizes = (instance.len(), machines_of(&instance) as usize);
+    let times = times_by_machine(alloc, name, sizes, text)?;
     Ok(TimedInstance::by_machine(instance, times))
 }
 
@@ -105,57 +101,9 @@ fn machines_of<A: Allocator>(instance: &Instance<A>) -> u32
     instance.machines().unwrap_or(0)
 }
 
-// Whether the processing times on all machines are too many, or to read them takes too long.
-fn is_too_much<A: Allocator>(instance: &Instance<A>, bytes: usize) -> bool
-    requires { bytes ≤ most_bytes }
-    ensures { result ≡ is_too_much instance.now bytes }
+// Whether the processing times on all machines are too many.
+fn is_too_much<A: Allocator>(instance: &Instance<A>) -> bool
+    ensures { result ≡ is_too_much instance.now }
 {
-    let machines = u64::from(machines_of(instance));
-    instance.len() as u64 * machines > MOST_TIMES || bytes as u64 * machines > MOST_READ
-}
-
-// Machine i of so many, counted from 0, and another one.
-fn pair_for(machines: u32, i: u32) -> Option<(u32, u32)>
-    ensures { result ≡ pair_for machines i }
-{
-    if machines == 1 {
-        return None;
-    }
-    Some((i, if i == 0 { 1 } else { 0 }))
-}
-
-// The times of all jobs on machine i of so many. Only want of memory is an error.
-fn times_on<A: Allocator + Copy>(
-    alloc: A,
-    name: &[u8],
-    machines: u32,
-    text: &[u8],
-    i: u32,
-) -> Result<MachineTimes<A>, ReadFault>
-    requires { IsOk (flow_shop name.now (pair_for machines i) text.now) }
-    ensures { MatchResult result (λ times. times ≡ times_on name.now machines text.now i)
-        (λ e. e ≡ ReadFault.OutOfMemory) }
-{
-    let instance = read_flowshop(alloc, text, name, pair_for(machines, i))?;
-    Ok(MachineTimes::first_of(alloc, instance.jobs())?)
-}
-
-// The times of all jobs on each machine of so many.
-fn times_by_machine<A: Allocator + Copy>(
-    alloc: A,
-    name: &[u8],
-    machines: u32,
-    text: &[u8],
-) -> Result<Vec<MachineTimes<A>, A>, ReadFault>
-    requires { (i : ℕ) → i < machines →
-        IsOk (flow_shop name.now (pair_for machines i) text.now) }
-    ensures { MatchResult result
-        (λ all. all.items ≡ times_by_machine name.now machines text.now)
-        (λ e. e ≡ ReadFault.OutOfMemory) }
-{
-    let mut all = Vec::new(alloc);
-    for i in 0..machines {
-        all.push(times_on(alloc, name, machines, text, i)?)?;
-    }
-    Ok(all)
+    instance.len() as u64 * u64::from(machines_of(instance)) > MOST_TIMES
 }

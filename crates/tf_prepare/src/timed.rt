@@ -3,7 +3,7 @@ ghost use Rattle.std.specs.Prelude.{◌≡◌, ◌==◌, slice_index, map, IfOk}
 ghost use Rattle.std.specs.List.{list_all};
 ghost use Rattle.tf_model.specs.Whole.{as_time};
 ghost use Rattle.tf_bound.specs.JobTimes.{listed};
-ghost use Rattle.tf_prepare.specs.Preparing.{times_of, first_of, is_idle};
+ghost use Rattle.tf_prepare.specs.Preparing.{times_of, is_idle};
 
 use std::alloc::{AllocError, Allocator, Global};
 use std::marker::Model;
@@ -27,18 +27,13 @@ impl<A: Allocator> Model for MachineTimes<A> {
 }
 
 impl<A: Allocator> MachineTimes<A> {
-    ghost use Rattle.std.specs.Prelude.{◌≡◌, map, slice_index, IfOk};
-    ghost use Rattle.tf_prepare.specs.Preparing.{first_of};
+    ghost use Rattle.std.specs.Prelude.{◌≡◌, slice_index};
 
-    /// The times of jobs of which each has its time on the machine first.
-    pub fn first_of<B: Allocator>(alloc: A, jobs: &[Job<B>]) -> Result<Self, AllocError>
-        ensures { IfOk result (λ times. times ≡ map first_of jobs.now) }
+    /// These times of the jobs on the machine.
+    pub fn new(times: Vec<u64, A>) -> Self
+        ensures { result ≡ times.items }
     {
-        let mut times = Vec::with_capacity(alloc, jobs.len())?;
-        for job in jobs {
-            times.push(first_of(job))?;
-        }
-        Ok(MachineTimes { times })
+        MachineTimes { times }
     }
 
     /// The time of the job at a place, counted from 0, and 0 past the end.
@@ -141,16 +136,6 @@ pub(crate) fn as_time(number: i64) -> u64
     ensures { result ≡ as_time number }
 {
     number.max(0) as u64
-}
-
-// The time of a job, or the first of its two.
-fn first_of<A: Allocator>(job: &Job<A>) -> u64
-    ensures { result ≡ first_of job.now }
-{
-    match job.times {
-        Times::One(time) => as_time(time),
-        Times::Two(first, _) => as_time(first),
-    }
 }
 
 fn times_of<A: Allocator>(alloc: A, times: Times) -> Result<JobTimes<A>, AllocError>

@@ -1,7 +1,7 @@
 use Rattle.std.proofs.Common.{◌≡◌, map}
 use Rattle.std.specs.List.{range_with_len}
 use Rattle.tf_bounding.specs.ShopTimes.{times_on}
-use Rattle.tf_bounding.proofs.timed_read.times_by_machine.Given as goal
+use Rattle.tf_bounding.proofs.shop_words.times_by_machine.Given as goal
 
 -- the times on the machines so far
 abbrev pub invariant-loop-i : goal.invariant-loop-i

@@ -1,0 +1,12 @@
+use Rattle.std.proofs.Common.{◌≡◌, length}
+use Rattle.tf_words.specs.Words.{lines}
+use Rattle.tf_read.specs.FlowShop.{is_name_line}
+use Rattle.tf_bounding.specs.ShopWords.{behind}
+use Rattle.tf_bounding.proofs.shop_words.behind_heading.Given as goal
+
+abbrev pub invariant-loop-rest : goal.invariant-loop-rest
+invariant-loop-rest l =
+    behind (is_name_line l.name) (lines l.rest) ≡ behind (is_name_line l.name) (lines l.fn.text)
+
+abbrev pub decreases-loop-rest : goal.decreases-loop-rest
+decreases-loop-rest l = length l.rest
