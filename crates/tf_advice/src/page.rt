@@ -92,7 +92,8 @@ impl Page {
 }
 
 /// A name or an argument as it is printed: each byte that is no printable ASCII is escaped, as
-/// those of a text are, so that it can neither steer a terminal nor begin a line.
+/// those of a text are, so that it can neither steer a terminal nor begin a line, and a backslash is
+/// doubled, so that it looks like no escape.
 pub fn escape(alloc: Global, text: &str) -> Result<String, AllocError> {
     let mut escaped = String::new(alloc);
     push_name(&mut escaped, text)?;
@@ -117,9 +118,17 @@ fn front_of(bytes: &[u8]) -> &[u8] {
 fn width_of(bytes: &[u8]) -> usize {
     let mut columns: usize = 0;
     for byte in bytes {
-        columns = columns.saturating_add(if is_plain(*byte) { 1 } else { 4 });
+        columns = columns.saturating_add(columns_of(*byte));
     }
     columns
+}
+
+fn columns_of(byte: u8) -> usize {
+    match byte {
+        b'\\' => 2,
+        _ if is_plain(byte) => 1,
+        _ => 4,
+    }
 }
 
 fn push_bytes(text: &mut String, bytes: &[u8]) -> Result<(), AllocError> {
@@ -130,12 +139,11 @@ fn push_bytes(text: &mut String, bytes: &[u8]) -> Result<(), AllocError> {
 }
 
 fn push_byte(text: &mut String, byte: u8) -> Result<(), AllocError> {
-    if byte == b'\t' {
-        text.push(' ')
-    } else if is_plain(byte) {
-        text.push(char::from(byte))
-    } else {
-        write!(text, "\\x{byte:02x}")
+    match byte {
+        b'\t' => text.push(' '),
+        b'\\' => text.push_str("\\\\"),
+        _ if is_plain(byte) => text.push(char::from(byte)),
+        _ => write!(text, "\\x{byte:02x}"),
     }
 }
 
