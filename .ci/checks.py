@@ -51,6 +51,7 @@ def checks(program):
         ("the same status with --explain", [python, "bench/same_status.py", program], None),
         ("LaTeX of the traces", [python, "bench/latex.py", program], ("pdflatex pdftotext", "texlive-latex-base poppler-utils")),
         ("the page's modules", ["node", "--test", *sorted(glob.glob("web/*_test.mjs", root_dir=TOP))], ("node", "nodejs")),
+        ("the page and LibreOffice", ["node", "--test", "web/office.mjs"], ("node soffice", "nodejs libreoffice-calc-nogui")),
         ("the page in a browser", [python, "web/test.py", f"--program={program}"], ("chromium", "chromium")),
     ]
 

@@ -16,6 +16,7 @@ class Firefox:
 
     def __init__(self, program="firefox-esr"):
         self.folder = tempfile.TemporaryDirectory(prefix="threefield-firefox-")
+        Path(self.folder.name, "user.js").write_text('user_pref("intl.accept_languages", "en-GB");\n')
         words = [program, "--headless", "--marionette", "--profile", self.folder.name, "about:blank"]
         self.process = subprocess.Popen(words, stdout=subprocess.DEVNULL, stderr=subprocess.DEVNULL)
         self.last, self.buffer, self.problems, self.requests = 0, b"", [], []

@@ -32,6 +32,13 @@ const WEEK = new RegExp(`^(?:${WEEK_WORDS}\\.?\\s*(\\d{1,2})`
   + "|(\\d{1,2})\\.?\\s*(?:kw|cw|kalenderwoche))(?:\\s*[/.,-]?\\s*(\\d{4}|\\d{2}))?$");
 const ISO_WEEK = /^(\d{4})-?w(\d{1,2})$/;
 
+/** Whether dates in this language, such as "en-US", begin with the month. */
+export function isMonthFirst(language) {
+  const [first, ...others] = new Intl.DateTimeFormat(language).formatToParts(new Date())
+    .map(({ type }) => type).filter((type) => type !== "literal");
+  return first === "month" && others[0] === "day";
+}
+
 /** The number of a day. */
 export function dayNumber(year, month, date) {
   return Math.round(Date.UTC(year, month - 1, date) / 86400000);

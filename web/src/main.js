@@ -37,7 +37,7 @@ const WELCOME = "Paste your jobs from a spreadsheet, type them into the table, o
 
 class Page {
   constructor() {
-    this.store = new Store(emptyState());
+    this.store = new Store(emptyState(navigator.language));
     this.version = 0;
     this.now = null;
     this.shown = null;

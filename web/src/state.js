@@ -1,6 +1,7 @@
 // The whole state of the page as a text: in a file, or packed into a link.
 
 import { STEPS, defaultSettings } from "./calendar.js";
+import { isMonthFirst } from "./dates.js";
 import { FIELDS, newRow } from "./table.js";
 
 const MOST_ROWS = 200000;
@@ -18,10 +19,14 @@ export const LONGEST_LINK = 16000;
  *   identities of their rows
  */
 
-/** @returns {State} */
-export function emptyState() {
-  return { title: "", problem: "1||Lmax", machines: "", machineNames: "",
-    settings: defaultSettings(), rows: [], kept: null, own: null };
+/**
+ * @param {string} language of the browser, by which dates begin with the day or the month
+ * @returns {State}
+ */
+export function emptyState(language = "en-GB") {
+  const settings = { ...defaultSettings(), dayFirst: !isMonthFirst(language) };
+  return { title: "", problem: "1||Lmax", machines: "", machineNames: "", settings, rows: [],
+    kept: null, own: null };
 }
 
 /** Writes a state as JSON; rows are lists of texts in the order of FIELDS, after their identity. */
