@@ -10,6 +10,14 @@ use tf_notation::writing::notation_text;
 
 const HEADING: &str = "PROBLEM             COMPLEXITY  HERE   BY WHOM\n";
 
+// What a line says of a problem: its complexity, the command that serves it, and who has shown it.
+#[derive(Drop)]
+struct Entry {
+    complexity: &'static str,
+    command: &'static str,
+    known: &'static str,
+}
+
 // The environments of the rows.
 static ENVIRONMENTS: [Env; 4] = [Env::Single, Env::Parallel, Env::Flow, Env::OpenShop];
 
@@ -38,12 +46,12 @@ fn push_solved(alloc: Global, text: &mut String, env: Env) -> Result<(), AllocEr
     for class in CLASSES {
         let problem = class.notation();
         if problem.env == env {
-            push_row(
-                alloc,
-                text,
-                &problem,
-                ["polynomial", "solve", method_of(class)],
-            )?;
+            let entry = Entry {
+                complexity: "polynomial",
+                command: "solve",
+                known: method_of(class),
+            };
+            push_row(alloc, text, &problem, &entry)?;
         }
     }
     Ok(())
@@ -54,17 +62,17 @@ fn push_known(
     alloc: Global,
     text: &mut String,
     env: Env,
-    complexity: &str,
+    complexity: &'static str,
     row: &(&'static str, &'static str),
 ) -> Result<(), AllocError> {
     match read(row.0.as_bytes()) {
         Ok(problem) if problem.env == env => {
-            push_row(
-                alloc,
-                text,
-                &problem,
-                [complexity, command_for(&problem), row.1],
-            )
+            let entry = Entry {
+                complexity,
+                command: command_for(&problem),
+                known: row.1,
+            };
+            push_row(alloc, text, &problem, &entry)
         }
         _ => Ok(()),
     }
@@ -74,16 +82,16 @@ fn push_row(
     alloc: Global,
     text: &mut String,
     problem: &Problem,
-    columns: [&str; 3],
+    entry: &Entry,
 ) -> Result<(), AllocError> {
     let Ok(notation) = notation_text(alloc, problem) else {
         return Err(AllocError);
     };
-    let [complexity, command, known] = columns;
     push_column(text, notation.as_str(), 20)?;
-    push_column(text, complexity, 12)?;
-    push_column(text, command, 7)?;
-    writeln!(text, "{known}")
+    push_column(text, entry.complexity, 12)?;
+    push_column(text, entry.command, 7)?;
+    text.push_str(entry.known)?;
+    text.push('\n')
 }
 
 // The command that has schedules for a problem without a solver.
