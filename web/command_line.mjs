@@ -199,7 +199,8 @@ class Reader {
 
   #conflict(row, rival) {
     this.#given.delete(rival.name);
-    const text = `the argument '${shown(row)}' cannot be used with '${shown(rival)}'`;
+    const other = rival.isPlace && !rival.isRequired ? `[${rival.name}]` : shown(rival);
+    const text = `the argument '${shown(row)}' cannot be used with '${other}'`;
     throw new Misuse(text + usage(this.#command, this.#given));
   }
 }

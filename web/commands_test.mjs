@@ -12,9 +12,9 @@ const STEPS = /\rstep \d+ of \d+|\r\x1b\[K/g;
 const ABSENT = /^threefield: (\S+).* is not in the page's module/;
 
 // What no module has.
-const ABSENCES = ["--bound", "--bounds", "--csv", "--explain", "--fold", "--from", "--height",
-  "--index", "--input", "--json", "--measures", "--order", "--orders", "--schedule", "--steps",
-  "--to", "--width", "random", "trace"];
+const ABSENCES = ["--border", "--bound", "--bounds", "--csv", "--explain", "--fold", "--from",
+  "--height", "--index", "--input", "--json", "--measures", "--order", "--orders", "--rule",
+  "--schedule", "--steps", "--to", "--width", "random", "trace"];
 
 /** Opens the texts of a session in place of files. */
 const opening = (texts) => (name) => {
