@@ -53,7 +53,7 @@ def gap(cost, bound, text, problem):
 
 
 def words_for(program, command, problem, text, steps):
-    """The words of a command line, but for the file."""
+    """The words of a command line without the file."""
     asked = ["--steps", steps] if steps else []
     if text.startswith("instance"):
         return [program, command, "-p", problem, "-f", "flow", "--name", "shop", *asked]

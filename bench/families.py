@@ -2,7 +2,7 @@
 
 Weighted tardiness by the published recipe of OR-Library's files: processing times 1 to 100, weights 1 to 10, due dates from
 P(1 - TF - RDD/2) to P(1 - TF + RDD/2), where P is the work of one machine. Flow shops by the generator that Taillard published
-(1993), from seeds of our own but for his ten of 20 jobs on five machines.
+(1993), from seeds of our own except his ten of 20 jobs on five machines.
 """
 import random
 
