@@ -16,7 +16,8 @@ numbers of jobs and machines, two numbers alone.";
 
 const NOT_A_FLOW_SHOP: &str = "\
 In each job the machines stand in the order 0, 1, 2, .., each with its time.
-A file in which they do not is one of a job shop, which is not solved.";
+A file in which they do not is one of a job shop: \"threefield plan\" reads it with
+--format jobshop, for a problem such as J||Cmax.";
 
 const BAD_NUMBER: &str = "After the sizes come whole numbers only: machine and time in turn.";
 

@@ -3,7 +3,6 @@ use Rattle.std.proofs.Common.{◌≡◌, ℕ, true, false, List, Option, Some, R
 use Rattle.tf_model.specs.declared.problem.Problem.{Problem}
 use Rattle.tf_model.specs.declared.prepare.Refusal.{Refusal}
 use Rattle.tf_model.specs.declared.prepare.Refusal.TheVariants.{NoSolver}
-use Rattle.tf_model.specs.ClassTable.{is_shop_env}
 use Rattle.tf_model.specs.Outcome.{◌>>=◌}
 use Rattle.tf_notation.specs.Reading.{notation}
 use Rattle.tf_text.specs.declared.counted.Counted.{Counted}
@@ -51,8 +50,8 @@ refusal_first request text refused h = by_notation (notation request.problem) h
         → is_on_answer (Refuses refused) ≡ false
     by_bounded problem false e = let is : refused ≡ ByTask NoSolver = cc in rw is refl
     by_bounded problem true e =
-        by_timed problem (timed_said request.form (is_shop_env problem.env) text)
-        (timed_first request.form (is_shop_env problem.env) text) e
+        by_timed problem (timed_said request.form problem.env text)
+        (timed_first request.form problem.env text) e
 
     by_notation : (r : Result Problem ℕ)
         → ((refused_by ByNotation r

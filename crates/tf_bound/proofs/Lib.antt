@@ -1,10 +1,13 @@
 pub mod RowSums
 pub mod Cheapest
 pub mod Steps
+pub mod Seen
+pub mod RouteTime
 pub mod Sound
 pub mod Refused
 pub mod Marks
 pub mod Routes
+pub mod StepsOf
 pub mod Weighed
 pub mod RaisedDates
 pub mod Dates

@@ -12,7 +12,6 @@ use Rattle.tf_problem.specs.ProblemData.{ProblemData, IsProblemJob, no_problem_j
 use Rattle.tf_problem.specs.ProblemBounds.{is_max_goal, problem_work}
 use Rattle.tf_problem.specs.Pushed.{release_in, due_in, pushed, pushed_job, serving_by, AreServingDues}
 use Rattle.tf_bound.specs.declared.pushed.Number.TheVariants.{Tail}
-use Rattle.tf_model.specs.ClassTable.{is_shop_env}
 use Rattle.std.proofs.lemmas.List.FromFn.{get_or-map-range_with_len, length-map-range_with_len}
 use Rattle.tf_bound.specs.Along.{AreAlong, AreAmong, AreDated, AreTimes, AreWithin}
 use Rattle.tf_bound.specs.JobNumbers.{number_by}
@@ -322,7 +321,7 @@ module _ (k : ProblemData) (sized : IsSized k) where
     its_job j job =
         let at = get_or-map-range_with_len (pushed_job k r d) 1 (length k.jobs) (j - 1) j
         no_problem_job (omega (arith, job.0, job.1)) (omega (arith, job.0)) in
-        let one = subst (IsSizedJob (is_shop_env k.problem.env) k.machines) at
+        let one = subst (IsSizedJob k.problem.env k.machines) at
         (its.jobs (j - 1) no_problem_job (omega (
           arith,
           job.0,

@@ -1,70 +1,60 @@
 -- A task that is refused breaks what every task satisfies; the faults of its jobs by themselves.
-use Rattle.std.proofs.Common.{◌≡◌, ⊎_elim, ℕ, ◌+◌, ◌≤◌, ◌<◌, Bool, true, false, not, ◌&&◌, List, length, get_or, take, refl, sym, ap, ◌∙◌, subst, inl, inr, All, sum_by, arith}
+use Rattle.std.proofs.Common.{◌≡◌, ⊎_elim, ℕ, ◌+◌, ◌≤◌, ◌<◌, true, List, [], length, get_or, take, sym, ap, ◌∙◌, subst, inl, inr, All, sum_by, arith}
 use Rattle.std.proofs.lemmas.Bool.{false≢true}
 use Rattle.std.proofs.lemmas.List.{get_or_default, take_all}
 use Rattle.std.proofs.lemmas.List.Sums.{sum_by-take-le, get_or-le-sum_by}
-use Rattle.std.specs.Prelude.{IsTrue, IsFalse}
-use Rattle.tf_model.specs.ClassTable.{is_shop_env}
+use Rattle.tf_model.specs.declared.problem.Env.{Env}
 use Rattle.tf_model.specs.declared.problem.Problem.{Problem}
-use Rattle.tf_problem.specs.ProblemData.{ProblemData, ProblemJobData, is_covered, is_job_shop, no_problem_job}
+use Rattle.tf_problem.specs.ProblemData.{ProblemData, ProblemJobData, is_job_shop, no_problem_job}
+use Rattle.tf_bound.specs.Route.{IsRouted}
 use Rattle.tf_bound.specs.Sized.{IsSized, IsSizedJob, task_of, work, all_work}
+use Rattle.tf_bound.proofs.Routes.{shop_of_routes}
+use Rattle.tf_bound.proofs.RouteTime.{no_route}
 use Rattle.tf_model.specs.Limit.{limit}
-use Rattle.tf_bound.specs.Refused.{is_taken_problem, IsFitJob, AreFit, IsUnfitAt, IsTooMuchAt, IsJobsFault, IsCounted, IsInHorizon, AreArcsIn, IsTaskFault}
+use Rattle.tf_bound.specs.Refused.{IsFitJob, AreFit, IsUnfitAt, IsTooMuchAt, IsJobsFault, IsCounted, IsInHorizon, AreArcsIn, IsTaskFault}
 use Rattle.tf_bound.proofs.Steps.{sum_next}
 use Rattle.tf_bound.specs.declared.fault.TaskFault.{TaskFault}
 use Rattle.tf_bound.specs.declared.fault.TaskFault.TheVariants.{NotCovered, Jobs, Machines, Times, TooLarge, Arc}
 
--- ---- the problem
-
-is_taken : (p : Problem) → IsTrue (is_taken_problem p)
-    → IsTrue (is_covered p) × IsFalse (is_job_shop p.env)
-is_taken p taken = parts (is_covered p) (is_job_shop p.env) taken
-  where
-    parts : (a b : Bool) → (a && not b) ≡ true → (a ≡ true) × (b ≡ false)
-    parts true false h = (refl, refl)
-    parts true true h = absurd (false≢true h)
-    parts false b h = absurd (false≢true h)
-
-not_taken : (p : Problem) → IsFalse (is_taken_problem p) → IsTrue (is_covered p)
-    → IsFalse (is_job_shop p.env) → ⊥
-not_taken p none covered no_routes = parts (is_covered p) (is_job_shop p.env) none covered no_routes
-  where
-    parts : (a b : Bool) → (a && not b) ≡ false → a ≡ true → b ≡ false → ⊥
-    parts true false h one other = false≢true (sym h)
-    parts true true h one other = false≢true (sym other)
-    parts false b h one other = false≢true one
-
 -- ---- the jobs
 
+-- a job of a job shop without a route is not as the problem asks
+pub unrouted_unfit : (env : Env) → is_job_shop env ≡ true → (x : ProblemJobData) → x.route ≡ []
+    → (machines : ℕ) → IsFitJob env machines x → ⊥
+unrouted_unfit env shop x none machines fit =
+    no_route x.times fit.0.some_time
+    (subst (λ m. IsRouted m x.times []) (sym (fit.0.shop_times (shop_of_routes env shop)))
+    (subst (IsRouted machines x.times) none (fit.0.routed shop)))
+
 -- the time of the jobs before one, and the job
-module _ (shop : Bool) (machines : ℕ) (jobs : List ProblemJobData) (i all : ℕ)
-    (sized : All (IsSizedJob shop machines) (take i jobs)) (value : all ≡ sum_by work (take i jobs))
+module _ (env : Env) (machines : ℕ) (jobs : List ProblemJobData) (i all : ℕ)
+    (sized : All (IsSizedJob env machines) (take i jobs)) (value : all ≡ sum_by work (take i jobs))
     (small : all ≤ limit) (x : ProblemJobData) (lt : i < length jobs) (at : x ≡ get_or jobs i x) where
-  fit_before : AreFit shop machines jobs i
+  fit_before : AreFit env machines jobs i
   fit_before = record { sized = sized; total = omega (arith, value, small) }
 
   is_there : x ≡ get_or jobs i no_problem_job
   is_there = at ∙ get_or_default jobs i x no_problem_job lt
 
-  pub unfit_at : (IsFitJob shop machines x → ⊥) → IsUnfitAt shop machines jobs i
+  pub unfit_at : (IsFitJob env machines x → ⊥) → IsUnfitAt env machines jobs i
   unfit_at unfit = record {
     before = fit_before;
     place = lt;
-    unfit = subst (λ (y : ProblemJobData). IsFitJob shop machines y → ⊥) is_there unfit;
+    unfit = subst (λ (y : ProblemJobData). IsFitJob env machines y → ⊥) is_there unfit;
   }
 
-  pub too_much_at : IsSizedJob shop machines x → work x ≤ limit → limit < all + work x
-      → IsTooMuchAt shop machines jobs i
+  pub too_much_at : IsSizedJob env machines x → work x ≤ limit → limit < all + work x
+      → IsTooMuchAt env machines jobs i
   too_much_at its its_work much = record {
     before = fit_before;
     place = lt;
-    fit = subst (λ (y : ProblemJobData). IsFitJob shop machines y) is_there (its, its_work);
+    fit = subst (λ (y : ProblemJobData). IsFitJob env machines y) is_there (its, its_work);
     beyond = omega (arith, much, value, sum_next work jobs i x lt at);
   }
 
 module _ (k : ProblemData) (sized : IsSized k) where
   jobs_fault_not_sized : (f : TaskFault)
-      → IsJobsFault (is_shop_env k.problem.env) k.machines k.jobs f → ⊥
+      → IsJobsFault k.problem.env k.machines k.jobs f → ⊥
   jobs_fault_not_sized (Times i) fault =
       fault.unfit (
         sized.jobs i no_problem_job fault.place,
@@ -85,7 +75,7 @@ module _ (k : ProblemData) (sized : IsSized k) where
   -- ---- the task
 
   pub not_sized : (f : TaskFault) → IsTaskFault k f → ⊥
-  not_sized NotCovered fault = not_taken k.problem fault sized.covered sized.no_routes
+  not_sized NotCovered fault = false≢true (sym fault ∙ sized.covered)
   not_sized Jobs fault = fault.1 (sized.some_job, sized.few_jobs)
   not_sized Machines fault =
       fault.2 (record {
@@ -100,7 +90,7 @@ module _ (k : ProblemData) (sized : IsSized k) where
 
 -- what is wrong with the jobs, where all before is right
 pub jobs_fault : (k : ProblemData) → IsCounted k → (f : TaskFault)
-    → IsJobsFault (is_shop_env k.problem.env) k.machines k.jobs f → IsTaskFault k f
+    → IsJobsFault k.problem.env k.machines k.jobs f → IsTaskFault k f
 jobs_fault k counted (Times i) fault = (counted, fault)
 jobs_fault k counted TooLarge fault = (counted, inl fault)
 jobs_fault k counted NotCovered fault = absurd fault
@@ -111,17 +101,13 @@ jobs_fault k counted Arc fault = absurd fault
 -- ---- the parts of a task
 
 module _ (k : ProblemData) (counted : IsCounted k) (all : ℕ) (value : all ≡ all_work k)
-    (small : all ≤ limit) (shop : Bool) (is_shop : shop ≡ is_shop_env k.problem.env)
-    (sized : All (IsSizedJob shop k.machines) k.jobs) where
-  its : All (IsSizedJob (is_shop_env k.problem.env) k.machines) k.jobs
-  its = subst (λ (b : Bool). All (IsSizedJob b k.machines) k.jobs) is_shop sized
-
-  all_fit : AreFit (is_shop_env k.problem.env) k.machines k.jobs (length k.jobs)
+    (small : all ≤ limit) (its : All (IsSizedJob k.problem.env k.machines) k.jobs) where
+  all_fit : AreFit k.problem.env k.machines k.jobs (length k.jobs)
   all_fit =
       let whole : take (length k.jobs) k.jobs ≡ k.jobs =
       take_all (length k.jobs) k.jobs (omega arith) in
       record {
-        sized = subst (λ (ys : List ProblemJobData). All (IsSizedJob (is_shop_env k.problem.env) k.machines) ys)
+        sized = subst (λ (ys : List ProblemJobData). All (IsSizedJob k.problem.env k.machines) ys)
             (sym whole) its;
         total = omega (arith, small, value, ap (sum_by work) whole);
       }
@@ -148,8 +134,7 @@ module _ (k : ProblemData) (counted : IsCounted k) (all : ℕ) (value : all ≡ 
 
     pub sized_task : AreArcsIn k → IsSized k
     sized_task arcs = record {
-      covered = (is_taken k.problem counted.taken).0;
-      no_routes = (is_taken k.problem counted.taken).1;
+      covered = counted.taken;
       some_job = counted.jobs.0;
       few_jobs = counted.jobs.1;
       some_machine = counted.machines.some;

@@ -1,5 +1,5 @@
--- Heads and tails of jobs without routes of their own.
-use Rattle.std.proofs.Common.{◌≡◌, true, false, ℕ, zero, suc, ◌+◌, ◌-◌, ◌≤◌, ◌<◌, List, [], length, sum, sum_by, take, drop, slice_index, refl, sym, ap, ◌∙◌, arith}
+-- Heads and tails of jobs.
+use Rattle.std.proofs.Common.{◌≡◌, true, false, ℕ, zero, suc, ◌+◌, ◌-◌, ◌≤◌, ◌<◌, List, [], length, sum, sum_by, take, drop, slice_index, refl, sym, ap, ◌∙◌, subst, arith}
 use Rattle.std.specs.List.{range_with_len}
 use Rattle.std.proofs.lemmas.Bool.{false≢true}
 use Rattle.std.proofs.lemmas.List.{drop_more}
@@ -11,6 +11,7 @@ use Rattle.tf_model.specs.Limit.{limit}
 use Rattle.tf_problem.specs.ProblemData.{ProblemData, IsProblemJob, problem_job, problem_release, route_by, no_problem_job, is_job_shop}
 use Rattle.tf_problem.specs.ProblemBounds.{before, behind, head, tail}
 use Rattle.tf_problem.proofs.RouteLists.{before-range, behind-range}
+use Rattle.tf_bound.specs.Route.{IsRouted}
 use Rattle.tf_bound.specs.Sized.{IsSized, work}
 use Rattle.tf_bound.proofs.Sound.{sized_job}
 
@@ -64,6 +65,24 @@ flow_route Unrelated h k j = absurd (false≢true h)
 flow_route OpenShop h k j = absurd (false≢true h)
 flow_route JobShop h k j = absurd (false≢true h)
 
+job_route : (e : Env) → is_job_shop e ≡ true → (k : ProblemData) (j : ℕ)
+    → route_by e k j ≡ (problem_job k j).route
+job_route JobShop h k j = refl
+job_route _ h k j = absurd (false≢true h)
+
+pub shop_of_routes : (e : Env) → is_job_shop e ≡ true → is_shop_env e ≡ true
+shop_of_routes JobShop h = refl
+shop_of_routes _ h = absurd (false≢true h)
+
+-- in a job shop a job has a route
+pub has_route : (k : ProblemData) → IsSized k → is_job_shop k.problem.env ≡ true → (j : ℕ)
+    → IsProblemJob k j
+    → IsRouted (length (problem_job k j).times) (problem_job k j).times (problem_job k j).route
+has_route k sized routed j job =
+    let its = sized_job k sized j job in
+    subst (λ m. IsRouted m (problem_job k j).times (problem_job k j).route)
+    (sym (its.shop_times (shop_of_routes k.problem.env routed))) (its.routed routed)
+
 -- elsewhere a job has no route
 pub no_route : (e : Env) → is_flow_env e ≡ false → is_job_shop e ≡ false → (k : ProblemData) (j : ℕ)
     → route_by e k j ≡ []
@@ -116,3 +135,17 @@ module _ (k : ProblemData) (not_flow : is_flow_env k.problem.env ≡ false)
   tail_elsewhere =
       ap (λ r. sum_by (slice_index (problem_job k j).times) (behind a r))
       (no_route k.problem.env not_flow no_routes k j)
+
+module _ (k : ProblemData) (routed : is_job_shop k.problem.env ≡ true) (a j : ℕ) where
+  pub head_in_job_shop : head k a j
+      ≡ problem_release k j
+      + sum_by (slice_index (problem_job k j).times) (before a (problem_job k j).route)
+  head_in_job_shop =
+      ap (λ r. problem_release k j + sum_by (slice_index (problem_job k j).times) (before a r))
+      (job_route k.problem.env routed k j)
+
+  pub tail_in_job_shop : tail k a j
+      ≡ sum_by (slice_index (problem_job k j).times) (behind a (problem_job k j).route)
+  tail_in_job_shop =
+      ap (λ r. sum_by (slice_index (problem_job k j).times) (behind a r))
+      (job_route k.problem.env routed k j)

@@ -1,7 +1,7 @@
 -- A task within the limits is sound.
 use Rattle.std.proofs.Common.{◌≡◌, Bool, true, false, not, ◌&&◌, ◌||◌, IsTrue, ℕ, ◌+◌, ◌-◌, ◌≤◌, List, [], ◌∷◌, length, sum, sum_by, slice_index, cond, refl, sym, ap, ◌∙◌, arith}
 use Rattle.std.specs.List.{range_with_len}
-use Rattle.std.proofs.lemmas.Bool.{false≢true, and_parts}
+use Rattle.std.proofs.lemmas.Bool.{and_parts}
 use Rattle.std.proofs.lemmas.List.Sums.{sum_by-cons, get_or-le-sum_by}
 use Rattle.tf_model.specs.Limit.{limit}
 use Rattle.tf_model.specs.ClassTable.{is_shop_env}
@@ -15,7 +15,7 @@ use Rattle.tf_bound.specs.Sized.{IsSized, IsSizedJob, all_work, work}
 
 -- what is known of a job that is there
 pub sized_job : (k : ProblemData) → IsSized k → (j : ℕ) → IsProblemJob k j
-    → IsSizedJob (is_shop_env k.problem.env) k.machines (problem_job k j)
+    → IsSizedJob k.problem.env k.machines (problem_job k j)
 sized_job k sized j job = sized.jobs (j - 1) no_problem_job (omega (arith, job.0, job.1))
 
 one_sum : (xs : List ℕ) → length xs ≡ 1 → sum xs ≡ slice_index xs 0
@@ -53,7 +53,13 @@ sound k sized = record {
       let its = sized_job k sized j job in
       let as_many = its.shop_times shop in
       (as_many, omega (arith, its.some_time, all_times k j as_many));
-  routes = λ routed. absurd (false≢true (sym sized.no_routes ∙ routed));
+  routes = λ job_shop j job.
+      let its = (sized_job k sized j job).routed job_shop in
+      record {
+        of_machines = its.of_machines;
+        no_twice = its.no_twice;
+        has_all = its.has_all;
+      };
   arcs_in = sized.arcs_in;
 }
 

@@ -1,5 +1,7 @@
+pub mod Route
 pub mod JobTimes
 pub mod Sized
+pub mod Steps
 pub mod Refused
 pub mod RowSums
 pub mod Prices

@@ -1,18 +1,19 @@
 -- For what a task of a problem is refused: the first of these conditions that it does not satisfy,
 -- in this order. All of them together are `IsSized`.
-use Rattle.std.specs.Prelude.{◌≡◌, ◌⊎◌, ℕ, ◌+◌, ◌≤◌, ◌<◌, Bool, not, ◌&&◌, List, length, take, slice_index_or, IsTrue, IsFalse}
+use Rattle.std.specs.Prelude.{◌≡◌, ◌⊎◌, ℕ, ◌+◌, ◌≤◌, ◌<◌, Bool, List, length, take, slice_index_or, IsTrue, IsFalse}
 use Rattle.std.specs.List.{All, sum_by}
+use Rattle.tf_model.specs.declared.problem.Env.{Env}
 use Rattle.tf_model.specs.declared.problem.Problem.{Problem}
-use Rattle.tf_model.specs.ClassTable.{is_single_env, is_shop_env}
+use Rattle.tf_model.specs.ClassTable.{is_single_env}
 use Rattle.tf_model.specs.Limit.{limit, most_jobs, most_machines}
-use Rattle.tf_problem.specs.ProblemData.{ProblemData, ProblemJobData, IsProblemJob, is_covered, is_job_shop, no_problem_job}
+use Rattle.tf_problem.specs.ProblemData.{ProblemData, ProblemJobData, IsProblemJob, is_covered, no_problem_job}
 use Rattle.tf_bound.specs.Sized.{IsSizedJob, work, all_work}
 use Rattle.tf_bound.specs.declared.fault.TaskFault.{TaskFault}
 use Rattle.tf_bound.specs.declared.fault.TaskFault.TheVariants.{NotCovered, Jobs, Machines, Times, TooLarge, Arc}
 
--- the definitions speak of the problem, and its jobs have no routes to name
+-- the definitions speak of the problem
 abbrev pub is_taken_problem : Problem → Bool
-is_taken_problem p = is_covered p && not (is_job_shop p.env)
+is_taken_problem p = is_covered p
 
 -- at least one job, and no more than the most
 abbrev pub HasJobs : ProblemData → Type 0
@@ -27,34 +28,34 @@ pub record HasMachines (k : ProblemData) : Type 0 where
 -- ---- the jobs and their time
 
 -- the job is as the problem asks, and its time is within the limit
-abbrev pub IsFitJob : Bool → ℕ → ProblemJobData → Type 0
-IsFitJob shop machines x = IsSizedJob shop machines x × (work x ≤ limit)
+abbrev pub IsFitJob : Env → ℕ → ProblemJobData → Type 0
+IsFitJob env machines x = IsSizedJob env machines x × (work x ≤ limit)
 
 -- the first n jobs are as the problem asks, and their time together is within the limit
-pub record AreFit (shop : Bool) (machines : ℕ) (jobs : List ProblemJobData) (n : ℕ) : Type 0 where
-  pub sized : All (IsSizedJob shop machines) (take n jobs)
+pub record AreFit (env : Env) (machines : ℕ) (jobs : List ProblemJobData) (n : ℕ) : Type 0 where
+  pub sized : All (IsSizedJob env machines) (take n jobs)
   pub total : sum_by work (take n jobs) ≤ limit
 
 -- those before this place, counted from 0, are so, and the job there is not, by itself
-pub record IsUnfitAt (shop : Bool) (machines : ℕ) (jobs : List ProblemJobData) (i : ℕ)
+pub record IsUnfitAt (env : Env) (machines : ℕ) (jobs : List ProblemJobData) (i : ℕ)
     : Type 0 where
-  pub before : AreFit shop machines jobs i
+  pub before : AreFit env machines jobs i
   pub place : i < length jobs
-  pub unfit : ¬ (IsFitJob shop machines (slice_index_or jobs i no_problem_job))
+  pub unfit : ¬ (IsFitJob env machines (slice_index_or jobs i no_problem_job))
 
 -- the job there is too, but its time and that of those before it are together beyond the limit
-pub record IsTooMuchAt (shop : Bool) (machines : ℕ) (jobs : List ProblemJobData) (i : ℕ)
+pub record IsTooMuchAt (env : Env) (machines : ℕ) (jobs : List ProblemJobData) (i : ℕ)
     : Type 0 where
-  pub before : AreFit shop machines jobs i
+  pub before : AreFit env machines jobs i
   pub place : i < length jobs
-  pub fit : IsFitJob shop machines (slice_index_or jobs i no_problem_job)
+  pub fit : IsFitJob env machines (slice_index_or jobs i no_problem_job)
   pub beyond : limit < sum_by work (take (i + 1) jobs)
 
 -- what is wrong with the jobs by themselves
-abbrev pub IsJobsFault : Bool → ℕ → List ProblemJobData → TaskFault → Type 0
-IsJobsFault shop machines jobs (Times i) = IsUnfitAt shop machines jobs i
-IsJobsFault shop machines jobs TooLarge = (i : ℕ) × IsTooMuchAt shop machines jobs i
-IsJobsFault shop machines jobs _ = ⊥
+abbrev pub IsJobsFault : Env → ℕ → List ProblemJobData → TaskFault → Type 0
+IsJobsFault env machines jobs (Times i) = IsUnfitAt env machines jobs i
+IsJobsFault env machines jobs TooLarge = (i : ℕ) × IsTooMuchAt env machines jobs i
+IsJobsFault env machines jobs _ = ⊥
 
 -- ---- the task
 
@@ -71,7 +72,7 @@ IsInHorizon k = All (λ x. x.release + all_work k ≤ limit) k.jobs
 -- the conditions before that on the arcs
 pub record IsFilled (k : ProblemData) : Type 0 where
   pub counted : IsCounted k
-  pub fit : AreFit (is_shop_env k.problem.env) k.machines k.jobs (length k.jobs)
+  pub fit : AreFit k.problem.env k.machines k.jobs (length k.jobs)
   pub horizon : IsInHorizon k
 
 abbrev pub AreArcsIn : ProblemData → Type 0
@@ -79,7 +80,7 @@ AreArcsIn k = All (λ arc. IsProblemJob k arc.0 × IsProblemJob k arc.1) k.arcs
 
 -- the work of all jobs is within the limit, but not after some release date
 pub record IsTooLate (k : ProblemData) : Type 0 where
-  pub fit : AreFit (is_shop_env k.problem.env) k.machines k.jobs (length k.jobs)
+  pub fit : AreFit k.problem.env k.machines k.jobs (length k.jobs)
   pub late : ¬ (IsInHorizon k)
 
 -- A fault is of one condition, and all before it are satisfied; so a task has one fault at most.
@@ -88,8 +89,8 @@ IsTaskFault k NotCovered = IsFalse (is_taken_problem k.problem)
 IsTaskFault k Jobs = IsTrue (is_taken_problem k.problem) × (¬ (HasJobs k))
 IsTaskFault k Machines = IsTrue (is_taken_problem k.problem) × HasJobs k × (¬ (HasMachines k))
 IsTaskFault k (Times i) =
-    IsCounted k × IsJobsFault (is_shop_env k.problem.env) k.machines k.jobs (Times i)
+    IsCounted k × IsJobsFault k.problem.env k.machines k.jobs (Times i)
 IsTaskFault k TooLarge =
     IsCounted k
-    × (IsJobsFault (is_shop_env k.problem.env) k.machines k.jobs TooLarge ⊎ IsTooLate k)
+    × (IsJobsFault k.problem.env k.machines k.jobs TooLarge ⊎ IsTooLate k)
 IsTaskFault k Arc = IsFilled k × (¬ (AreArcsIn k))

@@ -15,6 +15,8 @@ pub mod multipliers;
 pub mod prices;
 pub mod pushed;
 pub mod ranks;
+mod route_time;
+pub mod routed_times;
 pub mod row_sums;
 pub mod shortest;
 pub mod task;

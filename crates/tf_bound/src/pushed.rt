@@ -241,7 +241,10 @@ fn with_dates<A: Allocator + Copy, B: Allocator>(
         goal: dated_goal(task.problem().goal),
         ..task.problem()
     };
-    Ok(ProblemTask::new(problem, task.machines(), jobs, arcs).ok())
+    match ProblemTask::new(problem, task.machines(), jobs, arcs) {
+        Ok(other) => Ok(Some(other)),
+        Err(_) => Ok(None),
+    }
 }
 
 // The makespan of jobs with due dates is their maximum lateness.
@@ -274,7 +277,7 @@ fn jobs_with<A: Allocator + Copy, B: Allocator>(
     Ok(jobs)
 }
 
-fn with_date<A: Allocator, B: Allocator>(
+fn with_date<A: Allocator + Copy, B: Allocator>(
     alloc: A,
     job: &ProblemJob<B>,
     release: u64,

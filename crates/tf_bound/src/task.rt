@@ -1,23 +1,25 @@
 //! A task of any problem, as it is written.
 ghost use Rattle.std.specs.Prelude.{◌≡◌, ◌↔◌, ◌+◌, ◌≤◌, ◌<◌, sum, IfOk, IfErr, IfSome, IfNone};
-ghost use Rattle.std.specs.Prelude.{length, IsTrue, MatchResult};
+ghost use Rattle.std.specs.Prelude.{ℕ, length, IsTrue, IsFalse, MatchResult};
 ghost use Rattle.std.specs.List.{All, sum_by};
 ghost use Rattle.tf_model.specs.ClassTable.{is_single_env, is_flow_env};
 ghost use Rattle.tf_model.specs.Limit.{limit};
-ghost use Rattle.tf_problem.specs.ProblemData.{ProblemData};
+ghost use Rattle.tf_problem.specs.ProblemData.{ProblemData, is_job_shop};
 ghost use Rattle.tf_bound.specs.Refused.{is_taken_problem, IsCounted, IsFitJob, IsJobsFault};
 ghost use Rattle.tf_bound.specs.Refused.{IsTaskFault};
+ghost use Rattle.tf_bound.specs.Route.{IsRouted};
 ghost use Rattle.tf_bound.specs.Sized.{IsSized, IsSizedJob, task_of, work};
 
 use crate::fault::TaskFault;
 use crate::job_times::JobTimes;
+use crate::route_time::{time_before, time_behind};
 use std::alloc::{Allocator, Global};
 use std::marker::Model;
 use tf_model::ids::JobId;
 use tf_model::limit::{LIMIT, MOST_JOBS, MOST_MACHINES};
 use tf_model::problem::{Env, Goal, Problem};
 
-/// A job: one time, or in a shop one for each machine, from the first on.
+/// A job: one time, or in a shop one for each machine, from the first on, and in a job shop a route.
 #[derive(Drop)]
 pub struct ProblemJob<A: Allocator = Global> {
     pub times: JobTimes<A>,
@@ -29,16 +31,15 @@ pub struct ProblemJob<A: Allocator = Global> {
 }
 
 impl<A: Allocator> Model for ProblemJob<A> {
-    ghost use Rattle.std.specs.Prelude.{[]};
     ghost use Rattle.tf_problem.specs.ProblemData.{ProblemJobData};
-    ghost use Rattle.tf_bound.specs.JobTimes.{listed};
+    ghost use Rattle.tf_bound.specs.JobTimes.{listed, route_in};
 
     ghost Value = { ProblemJobData };
 
     ghost view = { λ j.
         record {
           times = listed j.times;
-          route = [];
+          route = route_in j.times;
           weight = j.weight;
           release = j.release;
           due = j.due;
@@ -78,12 +79,12 @@ impl<A: Allocator> Model for ProblemTask<A> {
         }) };
 }
 
-/// Whether the definitions speak of the problem; job shops, whose routes a job would have to name,
-/// are left out. Some kind of certificate bounds the tasks of each such problem.
+/// Whether the definitions speak of the problem. Some kind of certificate bounds the tasks of each
+/// such problem.
 pub fn is_taken(problem: &Problem) -> bool
     ensures { result ≡ is_taken_problem problem.now }
 {
-    let env = !matches!(problem.env, Env::Uniform | Env::Unrelated | Env::JobShop);
+    let env = !matches!(problem.env, Env::Uniform | Env::Unrelated);
     let goal = !matches!(problem.goal, Goal::Hmax);
     env && goal && !problem.block && !problem.rcrc
 }
@@ -98,6 +99,12 @@ fn is_flow(env: Env) -> bool
     ensures { result ≡ is_flow_env env }
 {
     matches!(env, Env::Flow)
+}
+
+fn is_job_shop(env: Env) -> bool
+    ensures { result ≡ is_job_shop env }
+{
+    matches!(env, Env::JobShop)
 }
 
 // The sum of times that is within the limit.
@@ -124,15 +131,24 @@ fn work_of(times: &[u64]) -> Option<u64>
     Some(work)
 }
 
+// Whether the job is of a job shop and has no route.
+fn is_unrouted<A: Allocator>(env: Env, job: &ProblemJob<A>) -> bool
+    ensures routed { IsFalse result → IsTrue (is_job_shop env) →
+        IsRouted (length job.now.times) job.now.times job.now.route }
+    ensures unfit { IsTrue result → (machines : ℕ) → ¬ (IsFitJob env machines job.now) }
+{
+    is_job_shop(env) && !job.times.is_routed()
+}
+
 // The time of a job that is as the problem asks. None where it is not, or its time is beyond the
 // limit.
-fn sized_work<A: Allocator>(shop: bool, machines: u32, job: &ProblemJob<A>) -> Option<u64>
-    ensures sized { IfSome result (λ _. IsSizedJob shop machines job.now) }
+fn sized_work<A: Allocator>(env: Env, machines: u32, job: &ProblemJob<A>) -> Option<u64>
+    ensures sized { IfSome result (λ _. IsSizedJob env machines job.now) }
     ensures value { IfSome result (λ time. time ≡ work job.now) }
     ensures small { IfSome result (λ time. time ≤ limit) }
-    ensures unfit { IfNone result (¬ (IsFitJob shop machines job.now)) }
+    ensures unfit { IfNone result (¬ (IsFitJob env machines job.now)) }
 {
-    let asked = if shop { machines as usize } else { 1 };
+    let asked = if env.is_shop() { machines as usize } else { 1 };
     let times = job.times.as_slice();
     if times.len() != asked {
         return None;
@@ -145,24 +161,23 @@ fn sized_work<A: Allocator>(shop: bool, machines: u32, job: &ProblemJob<A>) -> O
     if work == 0 {
         return None;
     }
+    if is_unrouted(env, job) {
+        return None;
+    }
     Some(work)
 }
 
 // The time of all jobs, each of which is as the problem asks; or what is wrong with the first that
 // is not, or with the first time of the jobs up to one.
-fn all_work<A: Allocator>(
-    shop: bool,
-    machines: u32,
-    jobs: &[ProblemJob<A>],
-) -> Result<u64, TaskFault>
-    ensures sized { IfOk result (λ _. All (IsSizedJob shop machines) jobs.now) }
+fn all_work<A: Allocator>(env: Env, machines: u32, jobs: &[ProblemJob<A>]) -> Result<u64, TaskFault>
+    ensures sized { IfOk result (λ _. All (IsSizedJob env machines) jobs.now) }
     ensures value { IfOk result (λ all. all ≡ sum_by work jobs.now) }
     ensures small { IfOk result (λ all. all ≤ limit) }
-    ensures fault { IfErr result (IsJobsFault shop machines jobs.now) }
+    ensures fault { IfErr result (IsJobsFault env machines jobs.now) }
 {
     let mut all: u64 = 0;
     for (place, job) in jobs.iter().enumerate() {
-        let Some(work) = sized_work(shop, machines, job) else {
+        let Some(work) = sized_work(env, machines, job) else {
             return Err(TaskFault::Times(place));
         };
         if work > LIMIT as u64 - all {
@@ -231,7 +246,7 @@ fn judge_parts<A: Allocator>(
         (IsTaskFault (task_of problem.now machines jobs.now arcs.now)) }
 {
     judge_counts(problem, machines, jobs.len())?;
-    let all = all_work(problem.env.is_shop(), machines, jobs)?;
+    let all = all_work(problem.env, machines, jobs)?;
     if !is_within(jobs, all) {
         return Err(TaskFault::TooLarge);
     }
@@ -242,7 +257,7 @@ fn judge_parts<A: Allocator>(
 }
 
 impl<A: Allocator> ProblemTask<A> {
-    ghost use Rattle.std.specs.Prelude.{◌≡◌, ◌*◌, ◌-◌, ◌<◌, ◌≤◌, length, IfOk, IfErr};
+    ghost use Rattle.std.specs.Prelude.{◌≡◌, ◌*◌, ◌-◌, ◌<◌, ◌≤◌, length, slice_index, IfOk, IfErr};
     ghost use Rattle.std.specs.Prelude.{IsTrue, IsFalse};
     ghost use Rattle.tf_model.specs.ClassTable.{is_shop_env};
     ghost use Rattle.tf_model.specs.Limit.{limit};
@@ -252,6 +267,7 @@ impl<A: Allocator> ProblemTask<A> {
     ghost use Rattle.tf_problem.specs.ProblemData.{problem_weight, problem_due};
     ghost use Rattle.tf_problem.specs.ProblemBounds.{is_by_machine, head, problem_work, tail};
     ghost use Rattle.tf_bound.specs.Sized.{IsSized, task_of};
+    ghost use Rattle.tf_bound.specs.Steps.{steps_of};
     ghost use Rattle.tf_bound.specs.Refused.{IsTaskFault};
 
     /// The task of these parts, or the first fault: of the problem, the number of jobs, that of
@@ -397,8 +413,50 @@ impl<A: Allocator> ProblemTask<A> {
         self.times(job)[machine]
     }
 
+    /// The machines in the order in which a job that is there visits them, counted from 0, in a job
+    /// shop.
+    pub fn route(&self, job: JobId) -> &[u32]
+        requires { IsProblemJob self.now job }
+        ensures value { result.now ≡ (problem_job self.now job).route }
+        ensures sized { IsSized self.now }
+    {
+        match self.job(job).times.route() {
+            Some(route) => route,
+            None => &[],
+        }
+    }
+
+    /// The number of steps of a job that is there: in a job shop of its route, elsewhere one for
+    /// each of its times.
+    pub fn steps(&self, job: JobId) -> usize
+        requires { IsProblemJob self.now job }
+        ensures value { result ≡ length (steps_of self.now job) }
+        ensures sized { IsSized self.now }
+    {
+        if is_job_shop(self.problem().env) {
+            self.route(job).len()
+        } else {
+            self.times(job).len()
+        }
+    }
+
+    /// The machine of a step, both counted from 0.
+    pub fn step(&self, job: JobId, place: usize) -> usize
+        requires job { IsProblemJob self.now job }
+        requires place { place < length (steps_of self.now job) }
+        ensures value { result ≡ slice_index (steps_of self.now job) place }
+        ensures timed { result < length (problem_job self.now job).times }
+        ensures within { result < self.now.machines }
+    {
+        if is_job_shop(self.problem().env) {
+            self.route(job)[place] as usize
+        } else {
+            place
+        }
+    }
+
     /// Before this time the job is not on the machine, counted from 0: its release date, and in a
-    /// flow shop its time on the machines before.
+    /// flow shop or a job shop its time on the machines before.
     pub fn head(&self, machine: usize, job: JobId) -> u64
         requires machine { machine < self.now.machines }
         requires env { IsTrue (is_by_machine self.now.problem.env) }
@@ -407,15 +465,18 @@ impl<A: Allocator> ProblemTask<A> {
         ensures small { result ≤ 2 * limit }
     {
         let release = self.release(job);
-        if is_flow(self.problem().env) {
+        let env = self.problem().env;
+        if is_flow(env) {
             release + total_of(&self.times(job)[..machine])
+        } else if is_job_shop(env) {
+            release + time_before(self.times(job), self.route(job), machine)
         } else {
             release
         }
     }
 
     /// So much later than on the machine, counted from 0, a job completes at least: in a flow shop
-    /// its time on the machines after.
+    /// or a job shop its time on the machines after.
     pub fn tail(&self, machine: usize, job: JobId) -> u64
         requires machine { machine < self.now.machines }
         requires env { IsTrue (is_by_machine self.now.problem.env) }
@@ -423,8 +484,11 @@ impl<A: Allocator> ProblemTask<A> {
         ensures value { result ≡ tail self.now machine job }
         ensures small { result ≤ limit }
     {
-        if is_flow(self.problem().env) {
+        let env = self.problem().env;
+        if is_flow(env) {
             total_of(&self.times(job)[machine + 1..])
+        } else if is_job_shop(env) {
+            time_behind(self.times(job), self.route(job), machine)
         } else {
             0
         }

@@ -1,7 +1,6 @@
 -- Reading the task of a problem.
-use Rattle.std.proofs.Common.{◌≡◌, ℕ, ◌⊎◌, Bool, true, List, Option, Some, Result, Ok, Err, refl, sym, ap, subst, ◌∙◌, inl, inr}
+use Rattle.std.proofs.Common.{◌≡◌, ℕ, ◌⊎◌, true, List, Option, Some, Result, Ok, Err, refl, sym, ap, subst, ◌∙◌, inl, inr}
 use Rattle.tf_model.specs.Outcome.{◌>>=◌}
-use Rattle.tf_model.specs.ClassTable.{is_shop_env}
 use Rattle.tf_model.specs.declared.problem.Problem.{Problem}
 use Rattle.tf_model.specs.declared.prepare.Refusal.{Refusal}
 use Rattle.tf_model.specs.declared.prepare.Refusal.TheVariants as refusals
@@ -70,7 +69,7 @@ module _ (A T : Type 0) (request : RequestData) (remaining : T → Option (List 
         (line : problem_in request.problem ≡ Ok problem) where
       -- what a text says of the instance
       abbrev says : List ℕ → Result TimedData Refused
-      says = timed_said request.form (is_shop_env problem.env)
+      says = timed_said request.form problem.env
 
       -- what the text means, once the problem is known
       meant : (text : List ℕ) → problem_task_for request text ≡ problem_task_in request problem text
@@ -149,27 +148,25 @@ module _ (A T : Type 0) (request : RequestData) (remaining : T → Option (List 
               new (Ok timed) line had;
         }
 
--- ---- the same of a form, a kind of environment and a number of machines that are the request's
+-- ---- the same of a form and a number of machines that are the request's
 
 module _ (A T : Type 0) (request : RequestData) (remaining : T → Option (List ℕ))
     (old new : Counted T) (problem : Problem) (line : problem_in request.problem ≡ Ok problem)
-    (form : FormData) (is : form ≡ request.form) (shop : Bool)
-    (known : shop ≡ is_shop_env problem.env) where
+    (form : FormData) (is : form ≡ request.form) where
   same_reads : (r : Result TimedData (RunFault A))
-      → ReadsTo (timed_said form shop) remaining old new r
-      → ReadsTo (timed_said request.form (is_shop_env problem.env)) remaining old new r
+      → ReadsTo (timed_said form problem.env) remaining old new r
+      → ReadsTo (timed_said request.form problem.env) remaining old new r
   same_reads r had =
-      subst (λ (b : Bool). ReadsTo (timed_said request.form b) remaining old new r) known
-      (subst (λ (f : FormData). ReadsTo (timed_said f shop) remaining old new r) is had)
+      subst (λ (f : FormData). ReadsTo (timed_said f problem.env) remaining old new r) is had
 
   pub uninstanced_by : (e : RunFault A)
-      → ReadsTo (timed_said form shop) remaining old new (Err e)
+      → ReadsTo (timed_said form problem.env) remaining old new (Err e)
       → ReadsProblemTask request remaining old new (Err e)
   uninstanced_by e had =
       uninstanced A T request remaining old new problem line e (same_reads (Err e) had)
 
   module _ (machines : Option ℕ) (same : machines ≡ request.machines) (timed : TimedData)
-      (had : ReadsTo {A = A} (timed_said form shop) remaining old new (Ok timed)) where
+      (had : ReadsTo {A = A} (timed_said form problem.env) remaining old new (Ok timed)) where
     pub untasked_by : (refusal : Refusal)
         → PreparesIn (Err refusal) (prepared_in timed problem machines)
         → ReadsProblemTask {A = A} request remaining old new (Err (of_refusal refusal))

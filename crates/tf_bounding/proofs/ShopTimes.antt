@@ -2,15 +2,21 @@
 use Rattle.std.proofs.Common.{◌≡◌, ◌≢◌, ℕ, ◌+◌, ◌≤◌, ◌<◌, Bool, true, false, cond, eqb, ltb, List, length, map, Option, None, Some, Result, Ok, Err, IsOk, MatchResult, ap, ◌∙◌, refl, sym, inr, arith}
 use Rattle.std.proofs.lemmas.Bool.{lt-ltb, eqb-true, eqb-false}
 use Rattle.std.specs.Io.KnownBytes.{IsAtEnd}
+use Rattle.tf_model.specs.ClassTable.{is_shop_env}
 use Rattle.tf_model.specs.InstanceData.{InstanceData}
 use Rattle.tf_model.specs.JobFields.{JobFields}
 use Rattle.tf_model.specs.Limit.{most_bytes}
 use Rattle.tf_model.specs.Outcome.{◌>>=◌}
 use Rattle.tf_model.specs.declared.prepare.Refusal.TheVariants.{TotalTooLarge}
+use Rattle.tf_model.specs.declared.problem.Env.{Env}
+use Rattle.tf_problem.specs.ProblemData.{is_job_shop}
 use Rattle.tf_read.specs.declared.fault.ReadFault.{ReadFault}
-use Rattle.tf_read.specs.declared.fault.ReadFault.TheVariants.{OutOfMemory}
+use Rattle.tf_read.specs.declared.fault.ReadFault.TheVariants.{OutOfMemory, TooLong}
 use Rattle.tf_read.specs.Faults.{Fails}
 use Rattle.tf_read.specs.FlowShop.{are_machines, flow_shop}
+use Rattle.tf_routes.specs.JobShop.{job_shop}
+use Rattle.tf_routes.specs.RoutedData.{IsRouted, RoutedData}
+use Rattle.tf_routes.specs.RoutedTable.{routed_table}
 use Rattle.tf_text.specs.declared.counted.Counted.{Counted}
 use Rattle.tf_text.specs.Counted.{inner_of, pulled_of, has_failed, ConsumesAtMost}
 use Rattle.tf_text.specs.Input.{IsTextOf}
@@ -20,7 +26,7 @@ use Rattle.tf_engine.specs.FormData.{FormData, InTable, InWt, InFlow}
 use Rattle.tf_engine.specs.Passed.{of_read}
 use Rattle.tf_engine.specs.Parts.{ReadsTo, StopsBy, StopsReading}
 use Rattle.tf_engine.specs.Refusal.{refused_by, instance_in}
-use Rattle.tf_prepare.specs.TimedData.{TimedData, self_timed}
+use Rattle.tf_prepare.specs.TimedData.{TimedData, self_timed, with_routes}
 use Rattle.tf_prepare.specs.Preparing.{first_of}
 use Rattle.tf_bounding.specs.ShopTimes.{machines_of, is_too_much, pair_for, first_times, times_on, times_by_machine, with_times, shop_said, timed_said}
 
@@ -30,6 +36,7 @@ abbrev timed_by : List ℕ → List ℕ → InstanceData → TimedData
 timed_by name text instance = record {
   instance = instance;
   by_machine = Some (times_by_machine name (machines_of instance) text);
+  routes = None;
 }
 
 module _ (A : Type 0) (name text : List ℕ) where
@@ -61,15 +68,19 @@ module _ (A : Type 0) (name text : List ℕ) where
     pub shop_timed : is_too_much instance ≡ false → (machines : ℕ)
         → machines ≡ machines_of instance → (times : List (List ℕ))
         → times ≡ times_by_machine name machines text
-        → shop_said name text ≡ Ok (record { instance = instance; by_machine = Some times })
+        → shop_said name text ≡ Ok (record { instance = instance; by_machine = Some times; routes = None })
     shop_timed few machines is times are =
         meant ∙ ap after_test few
         ∙ ap (λ (m : ℕ). Ok (record {
           instance = instance;
           by_machine = Some (times_by_machine name m text);
+          routes = None;
         })) (sym is)
-        ∙ ap (λ (ts : List (List ℕ)). Ok (record { instance = instance; by_machine = Some ts }))
-        (sym are)
+        ∙ ap (λ (ts : List (List ℕ)). Ok (record {
+          instance = instance;
+          by_machine = Some ts;
+          routes = None;
+        })) (sym are)
 
 -- want of memory stops the reading
 pub shop_wanting : (A : Type 0) (name text : List ℕ) (e : ReadFault) → e ≡ OutOfMemory
@@ -165,14 +176,52 @@ by_self : (refused : Refused) (r : Result InstanceData ReadFault)
 by_self refused (Ok instance) e = cc
 by_self refused (Err fault) e = let is : refused ≡ ByText fault = cc in rw is refl
 
-pub timed_first : (form : FormData) (is_shop : Bool) (text : List ℕ) (refused : Refused)
-    → timed_said form is_shop text ≡ Err refused → is_on_answer (Refuses refused) ≡ false
-timed_first InTable is_shop text refused h = by_self refused (instance_in InTable text) h
-timed_first (InWt jobs index) is_shop text refused h =
+by_routes : (refused : Refused) (r : Result RoutedData ReadFault)
+    → (refused_by ByText r >>= λ i. Ok (with_routes i)) ≡ Err refused → IsFirst refused
+by_routes refused (Ok routed) e = cc
+by_routes refused (Err fault) e = let is : refused ≡ ByText fault = cc in rw is refl
+
+-- where the environment decides how the text is read
+either : (b : Bool) (x y : Result TimedData Refused) (refused : Refused)
+    → (x ≡ Err refused → IsFirst refused) → (y ≡ Err refused → IsFirst refused)
+    → cond b x y ≡ Err refused → IsFirst refused
+either true x y refused first second e = first e
+either false x y refused first second e = second e
+
+pub timed_first : (form : FormData) (env : Env) (text : List ℕ) (refused : Refused)
+    → timed_said form env text ≡ Err refused → is_on_answer (Refuses refused) ≡ false
+timed_first InTable env text refused h =
+    either (is_job_shop env) _ _ refused (by_routes refused (routed_table text))
+    (by_self refused (instance_in InTable text)) h
+timed_first (InWt jobs index) env text refused h =
     by_self refused (instance_in (InWt jobs index) text) h
-timed_first (InFlow name (Some pair)) is_shop text refused h =
+timed_first (InFlow name (Some pair)) env text refused h =
     by_self refused (instance_in (InFlow name (Some pair)) text) h
-timed_first (InFlow name None) false text refused h =
-    by_self refused (instance_in (InFlow name None) text) h
-timed_first (InFlow name None) true text refused h =
-    by_shop name text refused (instance_in (InFlow name None) text) h
+timed_first (InFlow name None) env text refused h =
+    either (is_job_shop env) _ _ refused (by_routes refused (job_shop name text))
+    (λ e. either (is_shop_env env) _ _ refused
+    (by_shop name text refused (instance_in (InFlow name None) text))
+    (by_self refused (instance_in (InFlow name None) text)) e) h
+
+-- ---- job shops
+
+-- a text that is too long is refused as such
+pub table_too_long : (text : List ℕ) → most_bytes < length text → routed_table text ≡ Err TooLong
+unfolding routed_table
+table_too_long text h = rw (lt-ltb most_bytes (length text) h) refl
+
+pub job_shop_too_long : (name text : List ℕ) → most_bytes < length text
+    → job_shop name text ≡ Err TooLong
+unfolding job_shop
+job_shop_too_long name text h = rw (lt-ltb most_bytes (length text) h) refl
+
+-- routes over so many machines are routes over more
+pub routed_more : (m most : ℕ) (r : RoutedData) → m ≤ most → IsRouted m r → IsRouted most r
+routed_more m most r few is = record {
+  count = is.count;
+  routes = λ k d lt. let route = is.routes k d lt in record {
+    once = route.once;
+    within = λ i e h. let below = route.within i e h in omega (arith, below, few);
+    short = route.short;
+  };
+}

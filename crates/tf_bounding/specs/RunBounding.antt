@@ -1,7 +1,6 @@
 -- What a run that bounds a problem leaves behind.
 use Rattle.std.specs.Prelude.{◌≡◌, ℕ, ◌⊎◌, true, List, length, Option, Result, Ok, Err, MatchResult, if◌then◌else◌}
 use Rattle.std.specs.Io.KnownBytes.{Appends}
-use Rattle.tf_model.specs.ClassTable.{is_shop_env}
 use Rattle.tf_model.specs.Outcome.{◌>>=◌}
 use Rattle.tf_model.specs.declared.problem.Problem.{Problem}
 use Rattle.tf_model.specs.declared.prepare.Refusal.TheVariants.{NoSolver, TotalTooLarge}
@@ -36,7 +35,7 @@ problem_in text =
 -- the task of a problem and a text, or the first refusal but that of totals
 abbrev pub problem_task_in : RequestData → Problem → List ℕ → Result ProblemData Refused
 problem_task_in request problem text =
-    timed_said request.form (is_shop_env problem.env) text
+    timed_said request.form problem.env text
     >>= λ timed. refused_by ByTask (prepared_in timed problem request.machines)
 
 -- the task of a request and a text: notation, problem, the text's first fault, and then the first

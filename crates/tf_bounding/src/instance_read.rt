@@ -29,7 +29,7 @@ pub fn task_read<A: Allocator + Copy, B: Allocator, R: Read>(
     ensures { ReadsProblemTask request.now R.remaining reader.old reader.new result }
 {
     let problem = problem_in(request.problem.as_str())?;
-    let timed = timed_read(alloc, &request.form, problem.env.is_shop(), reader)?;
+    let timed = timed_read(alloc, &request.form, problem.env, reader)?;
     let task = prepare_problem(alloc, &timed, &problem, request.machines)?;
     Ok(task)
 }

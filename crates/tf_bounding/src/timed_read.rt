@@ -1,11 +1,15 @@
-//! From a reader of an instance to the times of its jobs, in a shop on all machines of its file.
-ghost use Rattle.std.specs.Prelude.{◌≡◌, ◌≤◌, length, Ok, Err, MatchResult};
+//! From a reader of an instance to the times of its jobs, in a shop on all machines of its file, in
+//! a job shop along their routes.
+ghost use Rattle.std.specs.Prelude.{◌≡◌, ◌≤◌, length, Ok, Err, IfOk, MatchResult};
 ghost use Rattle.tf_model.specs.Limit.{most_bytes, most_machines};
+ghost use Rattle.tf_problem.specs.ProblemData.{is_job_shop};
+ghost use Rattle.tf_routes.specs.RoutedData.{IsRouted};
 ghost use Rattle.tf_engine.specs.Faults.{stop_of};
 ghost use Rattle.tf_engine.specs.FormData.{form_of};
 ghost use Rattle.tf_engine.specs.Parts.{ReadsTo, StopsBy, instance_said};
 ghost use Rattle.tf_bounding.specs.ShopTimes.{machines_of, is_too_much, shop_said};
-ghost use Rattle.tf_bounding.specs.ShopTimes.{self_timed_said, timed_said};
+ghost use Rattle.tf_bounding.specs.ShopTimes.{job_shop_said, self_timed_said};
+ghost use Rattle.tf_bounding.specs.ShopTimes.{table_said, timed_said, with_routes_said};
 
 use crate::instance_read::instance_read;
 use crate::shop_words::times_by_machine;
@@ -15,40 +19,109 @@ use tf_engine::fault::RunFault;
 use tf_engine::request::Form;
 use tf_model::instance::Instance;
 use tf_model::prepare::Refusal;
+use tf_model::problem::Env;
+use tf_prepare::routed::MOST_TIMES;
 use tf_prepare::timed::TimedInstance;
 use tf_read::flow_shop::read_flowshop;
+use tf_routes::job_shop::read_job_shop;
+use tf_routes::routed::RoutedInstance;
+use tf_routes::routed_table::read_routed_table;
 use tf_text::counted::Counted;
 use tf_text::input::read_all;
 
-/// The most processing times of a shop: its jobs times its machines.
-pub const MOST_TIMES: u64 = 2_000_000;
-
 /// The instance that the reader's text of this form holds, with the times of its jobs. Where it is
 /// for a shop, and a flow shop file is read of which no pair of machines is named, the times are
-/// those on all machines of the file.
+/// those on all machines of the file. For a job shop a job table has routes, and in place of a flow
+/// shop file a job shop file is read.
 pub fn timed_read<A: Allocator + Copy, B: Allocator, R: Read>(
     alloc: A,
     form: &Form<B>,
-    is_shop: bool,
+    env: Env,
     reader: &mut Counted<R>,
 ) -> Result<TimedInstance<A>, RunFault<A>>
-    ensures { ReadsTo (timed_said (form_of form.now) is_shop) R.remaining reader.old reader.new
-        result }
+    ensures { ReadsTo (timed_said (form_of form.now) env) R.remaining reader.old reader.new result }
 {
     match form {
-        Form::Table => self_timed_read(alloc, form, reader),
+        Form::Table => {
+            if is_job_shop(env) {
+                table_timed(alloc, reader)
+            } else {
+                self_timed_read(alloc, form, reader)
+            }
+        }
         Form::Wt { .. } => self_timed_read(alloc, form, reader),
         Form::Flow { name, pair } => match pair {
             Some(_) => self_timed_read(alloc, form, reader),
             None => {
-                if is_shop {
-                    shop_read(alloc, name.as_str().as_bytes(), reader)
+                let name = name.as_str().as_bytes();
+                if is_job_shop(env) {
+                    job_shop_timed(alloc, name, reader)
+                } else if env.is_shop() {
+                    shop_read(alloc, name, reader)
                 } else {
                     self_timed_read(alloc, form, reader)
                 }
             }
         },
     }
+}
+
+fn is_job_shop(env: Env) -> bool
+    ensures { result ≡ is_job_shop env }
+{
+    matches!(env, Env::JobShop)
+}
+
+// A job table with the routes of its jobs, as times.
+fn table_timed<A: Allocator + Copy, R: Read>(
+    alloc: A,
+    reader: &mut Counted<R>,
+) -> Result<TimedInstance<A>, RunFault<A>>
+    ensures { ReadsTo (λ text. with_routes_said (table_said text)) R.remaining reader.old
+        reader.new result }
+{
+    let routed = routed_table_read(alloc, reader)?;
+    Ok(TimedInstance::routed(routed))
+}
+
+// The instance of this name of a job shop file, as times.
+fn job_shop_timed<A: Allocator + Copy, R: Read>(
+    alloc: A,
+    name: &[u8],
+    reader: &mut Counted<R>,
+) -> Result<TimedInstance<A>, RunFault<A>>
+    ensures { ReadsTo (λ text. with_routes_said (job_shop_said name.now text)) R.remaining
+        reader.old reader.new result }
+{
+    let routed = job_shop_read(alloc, name, reader)?;
+    Ok(TimedInstance::routed(routed))
+}
+
+// A job table with the routes of its jobs.
+fn routed_table_read<A: Allocator + Copy, R: Read>(
+    alloc: A,
+    reader: &mut Counted<R>,
+) -> Result<RoutedInstance<A>, RunFault<A>>
+    ensures said { ReadsTo table_said R.remaining reader.old reader.new result }
+    ensures routed { IfOk result (λ r. IsRouted most_machines r) }
+{
+    let text = read_all(alloc, reader)?;
+    Ok(read_routed_table(alloc, text.as_slice())?)
+}
+
+// The instance of this name of a job shop file, with the routes of its jobs.
+fn job_shop_read<A: Allocator + Copy, R: Read>(
+    alloc: A,
+    name: &[u8],
+    reader: &mut Counted<R>,
+) -> Result<RoutedInstance<A>, RunFault<A>>
+    ensures said { ReadsTo (job_shop_said name.now) R.remaining reader.old reader.new result }
+    ensures routed { IfOk result (λ r. IsRouted most_machines r) }
+{
+    let text = read_all(alloc, reader)?;
+    let routed = read_job_shop(alloc, text.as_slice(), name)?;
+    let _machines = machines_of(&routed.instance);
+    Ok(routed)
 }
 
 // With the times that the jobs have themselves.

@@ -2,6 +2,8 @@
 ghost use Rattle.std.specs.Prelude.{◌≡◌, ◌<◌, length};
 
 use crate::measure::{LATE, Measure};
+use crate::routes::Operation;
+use crate::slots::{number_at, set_number};
 use crate::table::{Decoder, TaskTable};
 use std::alloc::Allocator;
 
@@ -54,6 +56,10 @@ impl<A: Allocator> TaskTable<A> {
             _ if times.len() != before.len() => 0,
             Decoder::Flow => append_flow(times, ready, before, after),
             Decoder::FlowWithoutWait => append_without_wait(times, ready, before, after),
+            Decoder::JobOrder => {
+                let route = self.routes.of(job);
+                append_route(route, self.is_without_wait, ready, before, after)
+            }
             _ => append_open(times, self.is_without_wait, ready, before, after),
         }
     }
@@ -134,6 +140,41 @@ fn append_without_wait(times: &[u64], ready: u64, before: &[u64], after: &mut [u
         }
     }
     end
+}
+
+// The machines of the job in the order of its route, without a wait if that is asked for.
+fn append_route(
+    route: &[Operation],
+    is_without_wait: bool,
+    ready: u64,
+    before: &[u64],
+    after: &mut [u64],
+) -> u64
+    requires after { length after.old ≡ length before.now }
+{
+    after.copy_from_slice(before);
+    let mut end = ready;
+    if is_without_wait {
+        end = start_on_route(route, ready, before);
+    }
+    for operation in route {
+        let free = number_at(before, operation.machine());
+        end = end.max(free).wrapping_add(operation.time);
+        set_number(after, operation.machine(), end);
+    }
+    end
+}
+
+// From when on a job finds each machine of its route free.
+fn start_on_route(route: &[Operation], ready: u64, before: &[u64]) -> u64 {
+    let mut start = ready;
+    let mut work: u64 = 0;
+    for operation in route {
+        let free = number_at(before, operation.machine());
+        start = start.max(free.saturating_sub(work));
+        work = work.wrapping_add(operation.time);
+    }
+    start
 }
 
 // The machines of the job by when they are free, the one of the longest time first among equals;

@@ -1,4 +1,5 @@
 //! The pieces of the schedule of a list.
+use crate::gaps::Gaps;
 use crate::measure::{LATE, Measure};
 use crate::preemption::Preemption;
 use crate::slots::{number_at, set_item, set_number};
@@ -18,6 +19,7 @@ struct Laid<A: Allocator = Global> {
     next: Vec<u64, A>,
     // When each job is completed.
     ends: Vec<u64, A>,
+    gaps: Gaps<A>,
 }
 
 /// The pieces of the schedule of a list. Nothing is promised of them: where a number is beyond its
@@ -35,6 +37,10 @@ pub fn lay<A: Allocator + Copy, B: Allocator>(
         free: vec![in alloc; 0_u64; table.machines]?,
         next: vec![in alloc; 0_u64; table.machines]?,
         ends: vec![in alloc; 0_u64; table.jobs.len()]?,
+        gaps: match table.decoder {
+            Decoder::JobGaps => Gaps::new(alloc, table)?,
+            _ => Gaps::none(alloc),
+        },
     };
     for item in list {
         laid.add(table, *item as usize, false)?;
@@ -70,14 +76,15 @@ impl<A: Allocator> Laid<A> {
     ) -> Result<(), OutOfMemory> {
         let job = table.job_of(item);
         match table.decoder {
-            Decoder::OpenOperations => self.add_operation(table, item, job),
+            Decoder::OpenOperations => self.add_open_operation(table, item, job),
+            Decoder::JobOperations => self.add_job_operation(table, item),
+            Decoder::JobGaps => self.add_in_gaps(table, job, is_late),
             Decoder::Parallel => self.add_parallel(table, job, is_late),
             _ => self.add_job(table, job, is_late),
         }
     }
 
-    // An operation starts when its job and its machine are free.
-    fn add_operation<B: Allocator>(
+    fn add_open_operation<B: Allocator>(
         &mut self,
         table: &TaskTable<B>,
         item: usize,
@@ -85,15 +92,63 @@ impl<A: Allocator> Laid<A> {
     ) -> Result<(), OutOfMemory> {
         let machine = item.checked_rem(table.machines).unwrap_or(0);
         let time = number_at(&table.times, item);
+        let ready = table.job(job).release;
+        self.add_operation(job, machine, time, ready)
+    }
+
+    fn add_job_operation<B: Allocator>(
+        &mut self,
+        table: &TaskTable<B>,
+        item: usize,
+    ) -> Result<(), OutOfMemory> {
+        let operation = table.routes.at(item);
+        let job = operation.job();
+        let ready = table.ready(job, &self.ends);
+        self.add_operation(job, operation.machine(), operation.time, ready)
+    }
+
+    // An operation starts when its job and its machine are free, and it is ready.
+    fn add_operation(
+        &mut self,
+        job: usize,
+        machine: usize,
+        time: u64,
+        ready: u64,
+    ) -> Result<(), OutOfMemory> {
         if time == 0 {
             return Ok(());
         }
-        let ready = number_at(&self.ends, job).max(table.job(job).release);
+        let ready = number_at(&self.ends, job).max(ready);
         let start = number_at(&self.free, machine).max(ready);
         let end = start.wrapping_add(time);
         set_number(&mut self.free, machine, end);
         set_number(&mut self.ends, job, end);
         self.push(job, machine, start, end)
+    }
+
+    // The operations of the job go into gaps.
+    fn add_in_gaps<B: Allocator>(
+        &mut self,
+        table: &TaskTable<B>,
+        job: usize,
+        is_late: bool,
+    ) -> Result<(), OutOfMemory> {
+        let ready = table.ready(job, &self.ends);
+        let end = if is_late {
+            self.gaps.insert_late(table, job, ready)
+        } else {
+            self.gaps.insert(table, job, ready)
+        };
+        set_number(&mut self.ends, job, end);
+        if end == LATE {
+            return Ok(());
+        }
+        for (step, operation) in table.routes.of(job).iter().enumerate() {
+            let start = self.gaps.start(step);
+            let stop = start.wrapping_add(operation.time);
+            self.push(job, operation.machine(), start, stop)?;
+        }
+        Ok(())
     }
 
     // The job runs on the machine that is free last among those that are free when it is ready,
@@ -199,6 +254,7 @@ fn lay_runs<A: Allocator + Copy, B: Allocator>(
         free: Vec::new(alloc),
         next: Vec::new(alloc),
         ends: Vec::new(alloc),
+        gaps: Gaps::none(alloc),
     };
     let mut last: Option<(usize, u64, u64)> = None;
     for _ in 0..list.len().saturating_mul(2).saturating_add(1) {

@@ -7,8 +7,10 @@
 
 pub mod append;
 pub mod arcs;
+pub mod gaps;
 pub mod lay;
 pub mod measure;
 pub mod preemption;
+pub mod routes;
 pub mod slots;
 pub mod table;

@@ -1,6 +1,7 @@
 //! The numbers of a task that a search for a schedule reads at each step.
 use crate::arcs::{Neighbours, Side};
 use crate::measure::Measure;
+use crate::routes::Routes;
 use crate::slots::{item_at, number_at};
 use std::alloc::{Allocator, Global};
 use tf_model::ids::JobId;
@@ -45,11 +46,21 @@ pub enum Decoder {
     OpenJobs,
     /// An open shop whose items are operations: number of the job times machines, and the machine.
     OpenOperations,
+    /// A job shop whose items are operations, counted over all jobs. No operation stands before
+    /// those that it has to wait for.
+    JobOperations,
+    /// A job shop, one order for all machines.
+    JobOrder,
+    /// A job shop: of each job the operations into the first gaps of their machines.
+    JobGaps,
 }
 
+// The most operations of a job shop whose jobs go into gaps, since these are searched for.
+const MOST_IN_GAPS: usize = 20_000;
+
 impl Decoder {
-    /// The decoder of a problem.
-    pub fn of(problem: &Problem) -> Decoder {
+    /// The decoder of a problem with so many operations.
+    pub fn of(problem: &Problem, operations: usize) -> Decoder {
         let is_plain = !problem.nwt && !problem.prmu;
         match problem.env {
             Env::Parallel => Decoder::Parallel,
@@ -57,9 +68,24 @@ impl Decoder {
             Env::Flow => Decoder::Flow,
             Env::OpenShop if is_plain && !problem.prec => Decoder::OpenOperations,
             Env::OpenShop => Decoder::OpenJobs,
+            Env::JobShop => job_shop_decoder(problem, operations),
             _ if problem.prmp && is_plain => Decoder::Priorities,
             _ => Decoder::Machine,
         }
+    }
+}
+
+// Where no job may wait its machines are looked for together. Sums gain more by whole jobs than by
+// single operations.
+fn job_shop_decoder(problem: &Problem, operations: usize) -> Decoder {
+    let is_maximum = matches!(Measure::of(problem.goal), Measure::MaximumLateness);
+    let is_small = operations <= MOST_IN_GAPS;
+    if problem.prmu || (problem.nwt && !is_small) {
+        Decoder::JobOrder
+    } else if problem.nwt || (!is_maximum && is_small) {
+        Decoder::JobGaps
+    } else {
+        Decoder::JobOperations
     }
 }
 
@@ -76,6 +102,8 @@ pub struct TaskTable<A: Allocator = Global> {
     pub jobs: Vec<JobNumbers, A>,
     /// The times of each job: in a shop one for each machine, else one.
     pub times: Vec<u64, A>,
+    /// The operations of each job of a job shop.
+    pub routes: Routes<A>,
     /// The jobs that precede each job by an arc.
     pub before: Neighbours<A>,
     /// The jobs that follow each job by an arc.
@@ -90,6 +118,8 @@ pub struct TaskNumbers<A: Allocator = Global> {
     pub jobs: Vec<JobNumbers, A>,
     /// The times of each job: in a shop one for each machine, else one.
     pub times: Vec<u64, A>,
+    /// The operations of each job of a job shop.
+    pub routes: Routes<A>,
     pub machines: usize,
 }
 
@@ -104,7 +134,7 @@ impl<A: Allocator + Copy> TaskTable<A> {
     ) -> Result<Self, OutOfMemory> {
         let arcs = if problem.prec { arcs } else { &[] };
         let count = numbers.jobs.len();
-        let decoder = Decoder::of(problem);
+        let decoder = Decoder::of(problem, numbers.routes.all().len());
         let mut table = TaskTable {
             decoder,
             measure: Measure::of(problem.goal),
@@ -114,6 +144,7 @@ impl<A: Allocator + Copy> TaskTable<A> {
             machines: numbers.machines,
             jobs: numbers.jobs,
             times: numbers.times,
+            routes: numbers.routes,
             before: Neighbours::new(alloc, count, arcs, Side::Second)?,
             after: Neighbours::new(alloc, count, arcs, Side::First)?,
             order: places_of(alloc, order)?,
@@ -156,6 +187,7 @@ impl<A: Allocator> TaskTable<A> {
     pub fn job_of(&self, item: usize) -> usize {
         match self.decoder {
             Decoder::OpenOperations => item.checked_div(self.machines).unwrap_or(0),
+            Decoder::JobOperations => self.routes.at(item).job(),
             _ => item,
         }
     }
@@ -164,6 +196,7 @@ impl<A: Allocator> TaskTable<A> {
     pub fn items(&self) -> usize {
         match self.decoder {
             Decoder::OpenOperations => self.times.len(),
+            Decoder::JobOperations => self.routes.all().len(),
             _ => self.jobs.len(),
         }
     }

@@ -11,7 +11,7 @@ use tf_model::ids::JobId;
 use tf_model::instance::Instance;
 use tf_model::limit::{LIMIT, MOST_COSTED_JOBS};
 use tf_model::prepare::{Field, Refusal};
-use tf_model::problem::Problem;
+use tf_model::problem::{Env, Problem};
 use tf_notation::reading::read;
 use tf_notation::writing::notation_text;
 
@@ -188,6 +188,14 @@ fn is_shop(request: &Request) -> bool {
     read(request.problem.as_str().as_bytes()).is_ok_and(|problem| problem.env.is_shop())
 }
 
+// Whether the problem is one of a job shop.
+fn is_job_shop(request: &Request) -> bool {
+    read(request.problem.as_str().as_bytes()).is_ok_and(|problem| matches!(
+        problem.env,
+        Env::JobShop
+    ))
+}
+
 // Whether the problem is of a class of shops, which have two machines.
 fn is_solved_shop(request: &Request) -> bool {
     read(request.problem.as_str().as_bytes()).is_ok_and(|problem| problem.env.is_shop()
@@ -201,7 +209,9 @@ fn say_times(
     job: JobId,
 ) -> Result<(), AllocError> {
     quote_job(page, request, source, job)?;
-    let sentence = if is_shop(request) {
+    let sentence = if is_job_shop(request) {
+        ROUTE
+    } else if is_shop(request) {
         " is a shop: a job has two times, as in p=3,4."
     } else if matches!(request.form, Form::Table) {
         TWO_TIMES
@@ -210,6 +220,10 @@ fn say_times(
     };
     page.say_of(request.problem.as_str(), sentence)
 }
+
+const ROUTE: &str = " is a job shop: a job has a route, as in p=3@2,5@1.
+It is for 3 time steps on machine 2 and then for 5 on machine 1, and no machine
+is beyond the number of machines.";
 
 const ONE_TIME: &str = " is no shop: a job has one time, as in p=3.";
 

@@ -1,12 +1,13 @@
 -- The conditions on jobs, from the tables of extents to the timetable that the pieces draw and back,
 -- and the misfits that they find.
-use Rattle.std.proofs.Common.{◌≡◌, ℕ, ◌+◌, ◌-◌, ◌<◌, ◌≤◌, min, ℤ, pos, ◌≤ℤ◌, Bool, true, false, not, List, length, get_or, Option, None, Some, Result, Ok, Err, IfOk, MatchOption, refl, sym, ap, subst, ◌∙◌, arith, IsTrue}
+use Rattle.std.proofs.Common.{◌≡◌, ℕ, ◌+◌, ◌-◌, ◌<◌, ◌≤◌, min, ℤ, pos, ◌≤ℤ◌, Bool, true, false, not, List, length, get_or, slice_index, Option, None, Some, Result, Ok, Err, IfOk, MatchOption, refl, sym, ap, subst, ◌∙◌, arith, IsTrue}
 use mir.Val.{SFits, to_z, of_z}
 use mir.Syntax.{w64}
 use Rattle.std.specs.Bool.{IsFalse}
 use Rattle.std.specs.List.{All, AllPairs, range_with_len}
 use Rattle.std.proofs.lemmas.Bool.{false≢true}
 use Rattle.std.proofs.lemmas.Int.{to_z-of_z}
+use Rattle.std.proofs.lemmas.List.{get_or_default}
 use Rattle.std.proofs.lemmas.List.FromFn.{length-range_with_len, get_or-range_with_len}
 use Rattle.tf_model.specs.Limit.{limit}
 use Rattle.tf_model.specs.ClassTable.{is_shop_env, is_flow_env}
@@ -18,6 +19,8 @@ use Rattle.tf_model.specs.Feasible.{EachJob, IsKept}
 use Rattle.tf_problem.specs.ProblemData.{ProblemData, IsProblemJob, problem_job, no_problem_job, is_job_shop, route_by}
 use Rattle.tf_problem.specs.FitsProblem.{FitsProblem, HasProblemTime, IsProblemUnbroken, IsOnRoute, VisitsFirst, IsInOneOrder}
 use Rattle.tf_bound.specs.Sized.{IsSized}
+use Rattle.tf_bound.specs.Steps.{steps_of}
+use Rattle.tf_bound.proofs.StepsOf.{route_steps, without_route, shop_of_route, steps_below}
 use Rattle.tf_schedule.specs.declared.piece.Piece.{Piece}
 use Rattle.tf_schedule.specs.declared.extent.Extent.{Extent}
 use Rattle.tf_schedule.specs.declared.fit.Misfit.TheVariants.{JobTwice, WrongAmount, Broken, TooEarly, OutOfOrder}
@@ -54,15 +57,6 @@ not_true : (b : Bool) → not b ≡ true → b ≡ false
 not_true true e = cc
 not_true false e = refl
 
--- only a flow shop has the routes of one
-is_flow : (e : Env) → is_flow_env e ≡ true → e ≡ Flow
-is_flow Flow h = refl
-is_flow _ h = absurd (false≢true h)
-
-flow_shop : (e : Env) → is_flow_env e ≡ true → is_shop_env e ≡ true
-flow_shop Flow h = refl
-flow_shop _ h = absurd (false≢true h)
-
 module _ (k : ProblemData) (sized : IsSized k) (ps : List Piece) (schedule : IsSchedule ps)
     (known : All (IsKnownTo k) ps) (once : JobsOnce ps) where
   abbrev n : ℕ
@@ -88,13 +82,10 @@ module _ (k : ProblemData) (sized : IsSized k) (ps : List Piece) (schedule : IsS
       single_place-drawing m ps schedule.none_twice (on_machines n m ps schedule within) once j low
 
   -- where there are no routes, all are kept
-  no_route : IsFalse (is_flow_env k.problem.env) → (j : ℕ) → IsOnRoute k rows j
-  no_route other j = by k.problem.env refl
-    where
-      by : (e : Env) → k.problem.env ≡ e → AllPairs (VisitsFirst rows j) (route_by e k j)
-      by Flow e = absurd (false≢true (sym other ∙ ap is_flow_env e))
-      by JobShop e = absurd (false≢true (sym sized.no_routes ∙ ap is_job_shop e))
-      by _ e = λ a b d lt in'. absurd (omega arith)
+  no_route : IsFalse (is_asked OnRoute k.problem) → (j : ℕ) → IsOnRoute k rows j
+  no_route none j =
+      subst (AllPairs (VisitsFirst rows j)) (sym (without_route k none j))
+      (λ a b d lt in'. absurd (omega arith))
 
   module _ (jobs operations : LanesData) (has : HasLanes false (length k.jobs) ps jobs)
       (keeps : KeepsMachines k jobs) (has_each : IsTrue (is_shop_env k.problem.env)
@@ -192,54 +183,48 @@ module _ (k : ProblemData) (sized : IsSized k) (ps : List Piece) (schedule : IsS
 
       -- ---- routes
 
-      route_to : IsTrue (is_flow_env k.problem.env) → IsMet OnRoute k jobs operations j
+      route_to : IsTrue (is_asked OnRoute k.problem) → IsMet OnRoute k jobs operations j
           → IsOnRoute k rows j
-      route_to flow met =
-          subst (λ e. AllPairs (VisitsFirst rows j) (route_by e k j))
-          (sym (is_flow k.problem.env flow)) pairs
+      route_to asked met =
+          subst (AllPairs (VisitsFirst rows j)) (sym (route_steps k sized asked j (low, high))) pairs
         where
           shop : IsTrue (is_shop_env k.problem.env)
-          shop = flow_shop k.problem.env flow
+          shop = shop_of_route k.problem.env asked
 
-          visits : (a b : ℕ) → a < b → b < k.machines → VisitsFirst rows j a b
-          visits a b lt on =
-              let first = has_each shop j a low high (omega (arith, lt, on)) in
-              let second = has_each shop j b low high on in
-              visits_to n m ps schedule within once j low a b
-              (omega (arith, met a b lt on, first.stop, second.start))
+          visits : (a b : ℕ) → a < b → b < length (steps_of k j)
+              → VisitsFirst rows j (slice_index (steps_of k j) a) (slice_index (steps_of k j) b)
+          visits a b lt in' =
+              let first = has_each shop j (slice_index (steps_of k j) a) low high
+              (steps_below k sized j (low, high) a 0 (omega (arith, lt, in'))) in
+              let second = has_each shop j (slice_index (steps_of k j) b) low high
+              (steps_below k sized j (low, high) b 0 in') in
+              visits_to n m ps schedule within once j low (slice_index (steps_of k j) a)
+              (slice_index (steps_of k j) b)
+              (omega (arith, met a b lt in', first.stop, second.start))
 
-          pairs : AllPairs (VisitsFirst rows j) (range_with_len 0 k.machines)
+          pairs : AllPairs (VisitsFirst rows j) (steps_of k j)
           pairs a b d lt in' =
-              let on : b < k.machines = omega (arith, in', length-range_with_len 0 k.machines) in
-              let at_a : get_or (range_with_len 0 k.machines) a d ≡ a =
-              get_or-range_with_len 0 k.machines a d (omega (arith, lt, on)) ∙ omega arith in
-              let at_b : get_or (range_with_len 0 k.machines) b d ≡ b =
-              get_or-range_with_len 0 k.machines b d on ∙ omega arith in
-              subst (λ x. VisitsFirst rows j x (get_or (range_with_len 0 k.machines) b d)) (sym at_a)
-              (subst (λ y. VisitsFirst rows j a y) (sym at_b) (visits a b lt on))
+              subst (λ x. VisitsFirst rows j x (get_or (steps_of k j) b d))
+              (get_or_default (steps_of k j) a 0 d (omega (arith, lt, in')))
+              (subst (λ y. VisitsFirst rows j (slice_index (steps_of k j) a) y)
+              (get_or_default (steps_of k j) b 0 d in') (visits a b lt in'))
 
-      route_from : IsTrue (is_flow_env k.problem.env) → IsOnRoute k rows j
+      route_from : IsTrue (is_asked OnRoute k.problem) → IsOnRoute k rows j
           → IsMet OnRoute k jobs operations j
-      route_from flow on_route a b lt on =
-          let shop = flow_shop k.problem.env flow in
-          let pairs : AllPairs (VisitsFirst rows j) (range_with_len 0 k.machines) =
-          subst (λ e. AllPairs (VisitsFirst rows j) (route_by e k j))
-          (is_flow k.problem.env flow) on_route in
-          let at_a : get_or (range_with_len 0 k.machines) a 0 ≡ a =
-          get_or-range_with_len 0 k.machines a 0 (omega (arith, lt, on)) ∙ omega arith in
-          let at_b : get_or (range_with_len 0 k.machines) b 0 ≡ b =
-          get_or-range_with_len 0 k.machines b 0 on ∙ omega arith in
-          let visits : VisitsFirst rows j a b =
-          subst (λ y. VisitsFirst rows j a y) at_b
-          (subst (λ x. VisitsFirst rows j x (get_or (range_with_len 0 k.machines) b 0)) at_a
-          (pairs a b 0 lt (omega (arith, on, length-range_with_len 0 k.machines)))) in
-          let first = has_each shop j a low high (omega (arith, lt, on)) in
-          let second = has_each shop j b low high on in
+      route_from asked on_route a b lt in' =
+          let shop = shop_of_route k.problem.env asked in
+          let pairs : AllPairs (VisitsFirst rows j) (steps_of k j) =
+          subst (AllPairs (VisitsFirst rows j)) (route_steps k sized asked j (low, high)) on_route in
+          let on_a = steps_below k sized j (low, high) a 0 (omega (arith, lt, in')) in
+          let on_b = steps_below k sized j (low, high) b 0 in' in
+          let first = has_each shop j (slice_index (steps_of k j) a) low high on_a in
+          let second = has_each shop j (slice_index (steps_of k j) b) low high on_b in
           omega (
             arith,
             first.stop,
             second.start,
-            visits_from n m ps schedule within once j low a b (omega (arith, lt, on)) on visits,
+            visits_from n m ps schedule within once j low (slice_index (steps_of k j) a)
+                (slice_index (steps_of k j) b) on_a on_b (pairs a b 0 lt in'),
           )
 
       -- ---- every condition
@@ -350,10 +335,10 @@ module _ (k : ProblemData) (sized : IsSized k) (ps : List Piece) (schedule : IsS
 
       module _ (routes : AllMet OnRoute) where
         all_routes : EachJob (length k.jobs) (IsOnRoute k rows)
-        all_routes j low high = by (is_flow_env k.problem.env) refl
+        all_routes j low high = by (is_asked OnRoute k.problem) refl
           where
-            by : (b : Bool) → is_flow_env k.problem.env ≡ b → IsOnRoute k rows j
-            by true flow = each OnRoute routes flow j low high
+            by : (b : Bool) → is_asked OnRoute k.problem ≡ b → IsOnRoute k rows j
+            by true asked = each OnRoute routes asked j low high
             by false other = no_route other j
 
         pub no_one_order : IsTrue k.problem.prmu → (¬ (IsInOneOrder k rows))

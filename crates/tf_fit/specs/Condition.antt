@@ -1,11 +1,12 @@
 -- What is asked of each job of a problem, told in the tables of extents and in the rows of a
 -- timetable.
-use Rattle.std.specs.Prelude.{◌≡◌, ℕ, ◌<◌, ◌≤◌, Bool, true, not, List, length, slice_index, IsTrue, IsFalse}
+use Rattle.std.specs.Prelude.{◌≡◌, ℕ, ◌<◌, ◌≤◌, Bool, true, not, ◌||◌, List, length, slice_index, IsTrue, IsFalse}
 use Rattle.tf_model.specs.declared.problem.Problem.{Problem}
 use Rattle.tf_model.specs.ClassTable.{is_shop_env, is_flow_env}
 use Rattle.tf_model.specs.Timetable.{Timetable}
-use Rattle.tf_problem.specs.ProblemData.{ProblemData, problem_job, problem_time}
+use Rattle.tf_problem.specs.ProblemData.{ProblemData, problem_job, problem_time, is_job_shop}
 use Rattle.tf_problem.specs.FitsProblem.{HasProblemTime, IsProblemUnbroken, IsProblemReleased, IsOnRoute, IsWithoutWait}
+use Rattle.tf_bound.specs.Steps.{steps_of}
 use Rattle.tf_schedule.specs.Extent.{extent_at, IsGapless}
 use Rattle.tf_schedule.specs.Lanes.{LanesData, IsOnOne}
 use Rattle.tf_fit.specs.Operation.{first_operation, extent_behind}
@@ -17,7 +18,7 @@ abbrev pub is_asked : Condition → Problem → Bool
 is_asked Amount p = true
 is_asked Unbroken p = not p.prmp
 is_asked Released p = p.release
-is_asked OnRoute p = is_flow_env p.env
+is_asked OnRoute p = is_flow_env p.env || is_job_shop p.env
 is_asked WithoutWait p = p.nwt
 
 -- ---- by the extents of job j
@@ -31,10 +32,11 @@ HaveTimes l first times =
 abbrev pub AreGapless : LanesData → ℕ → ℕ → Type 0
 AreGapless l first count = (i : ℕ) → i < count → IsGapless (extent_behind l first i)
 
--- and each starts after those before it are over
-abbrev pub AreInOrder : LanesData → ℕ → ℕ → Type 0
-AreInOrder l first count = (a b : ℕ) → a < b → b < count
-    → (extent_behind l first a).stop ≤ (extent_behind l first b).start
+-- and of those on the machines of these steps each starts after those before it are over
+abbrev pub AreInOrder : LanesData → ℕ → List ℕ → Type 0
+AreInOrder l first steps = (a b : ℕ) → a < b → b < length steps
+    → (extent_behind l first (slice_index steps a)).stop
+    ≤ (extent_behind l first (slice_index steps b)).start
 
 -- the table has the machines of the jobs, where they are judged by them
 abbrev pub KeepsMachines : ProblemData → LanesData → Type 0
@@ -55,7 +57,7 @@ IsMet Unbroken k jobs operations j =
     (AreGapless operations (first_operation k.machines j) k.machines)
 IsMet Released k jobs operations j = (problem_job k j).release ≤ (extent_at jobs.first j).start
 IsMet OnRoute k jobs operations j =
-    AreInOrder operations (first_operation k.machines j) k.machines
+    AreInOrder operations (first_operation k.machines j) (steps_of k j)
 IsMet WithoutWait k jobs operations j = IsGapless (extent_at jobs.first j)
 
 -- ---- by the rows

@@ -5,6 +5,8 @@ ghost use Rattle.tf_problem.specs.ProblemData.{IsProblemJob};
 ghost use Rattle.tf_schedule.specs.Condition.{FindsSmallestNot};
 ghost use Rattle.tf_fit.specs.Condition.{HaveTimes, AreGapless, AreInOrder, IsMet};
 ghost use Rattle.tf_fit.specs.Condition.{is_asked};
+ghost use Rattle.tf_fit.specs.Operation.{first_operation};
+ghost use Rattle.tf_bound.specs.Steps.{steps_of};
 
 use crate::operations::first_operation;
 use std::alloc::Allocator;
@@ -22,7 +24,7 @@ pub(crate) enum Condition {
     Unbroken,
     /// It does not start before its release date.
     Released,
-    /// It visits the machines in their order; in a flow shop.
+    /// It visits the machines of its route in their order; in a flow shop and in a job shop.
     OnRoute,
     /// It does not wait between its first start and its completion.
     WithoutWait,
@@ -54,14 +56,20 @@ fn are_gapless<A: Allocator>(operations: &Lanes<A>, first: usize, count: usize) 
     true
 }
 
-// Whether of `count` operations from `first` on each starts after those before it are over.
-fn are_in_order<A: Allocator>(operations: &Lanes<A>, first: usize, count: usize) -> bool
-    requires { first + count < 2 ^ 32 }
-    ensures { IsTrue result ↔ AreInOrder operations.now first count }
+// Whether each operation of a job starts after those of its steps before are over.
+fn are_in_order<A: Allocator, B: Allocator>(
+    task: &ProblemTask<A>,
+    operations: &Lanes<B>,
+    job: JobId,
+) -> bool
+    requires { IsProblemJob task.now job }
+    ensures { IsTrue result ↔ AreInOrder operations.now (first_operation task.now.machines job)
+        (steps_of task.now job) }
 {
+    let first = first_operation(task.machines(), job);
     let mut latest: u64 = 0;
-    for i in 0..count {
-        let extent = operations.first(JobId::at(first + i));
+    for i in 0..task.steps(job) {
+        let extent = operations.first(JobId::at(first + task.step(job, i)));
         if extent.start < latest {
             return false;
         }
@@ -85,7 +93,7 @@ impl Condition {
             Condition::Amount => true,
             Condition::Unbroken => !problem.prmp,
             Condition::Released => problem.release,
-            Condition::OnRoute => matches!(problem.env, Env::Flow),
+            Condition::OnRoute => matches!(problem.env, Env::Flow | Env::JobShop),
             Condition::WithoutWait => problem.nwt,
         }
     }
@@ -121,7 +129,7 @@ impl Condition {
                 }
             }
             Condition::Released => task.job(job).release <= extent.start,
-            Condition::OnRoute => are_in_order(operations, first, machines as usize),
+            Condition::OnRoute => are_in_order(task, operations, job),
             Condition::WithoutWait => extent.is_gapless(),
         }
     }

@@ -86,7 +86,7 @@ Conditions may be added: rj, prec, prmp, prmu and nwt.
 Exit status: 0 listed, 2 the table is refused, 3 want of memory,
              4 a file or a device failed, 5 the command line is wrong.";
 
-static FORMATS: [&str; 3] = ["table", "wt", "flow"];
+static FORMATS: [&str; 4] = ["table", "wt", "flow", "jobshop"];
 
 static VERSIONS: [&str; 2] = ["1", "2"];
 
@@ -441,7 +441,11 @@ fn form_options() -> [Row; 4] {
             "With wt: the jobs of each instance, 1 to 100000",
         ),
         number("index", "K", "With wt: which instance, from 1").or("1"),
-        text("name", "NAME", "With flow: the name of the instance"),
+        text(
+            "name",
+            "NAME",
+            "With flow or jobshop: the name of the instance",
+        ),
         numbers("pair", "I,K", "With flow: the two machines to use, from 0"),
     ]
 }
@@ -457,10 +461,14 @@ fn problem() -> Row {
 }
 
 fn format() -> Row {
-    text("format", "FORM", "Format of INPUT: table, wt or flow")
-        .short('f')
-        .one_of(FORMATS.as_slice())
-        .or("table")
+    text(
+        "format",
+        "FORM",
+        "Format of INPUT: table, wt, flow or jobshop",
+    )
+    .short('f')
+    .one_of(FORMATS.as_slice())
+    .or("table")
 }
 
 fn machines() -> Row {

@@ -51,6 +51,7 @@ Example: threefield solve -p \"P2|prmp|Cmax\" examples/table.txt
 Formats: table  a job table (threefield --help)
          wt     the weighted tardiness files of OR-Library
          flow   the flow shop files of OR-Library
+         jobshop  their job shop files, for \"bound\", \"plan\" and \"evaluate\"
 
 A problem without a solver is refused: \"plan\" prints a schedule for many of them,
 and how far it can be from an optimal one.
@@ -80,6 +81,7 @@ more time, or less; about 1000 are usual.
 Example: threefield plan -p \"1|prec|sumwT\" examples/workshop.txt
          threefield plan -p \"P3|prec|Cmax\" table.txt | threefield gantt
          threefield plan -p \"F3||sumC\" -f flow --name t01 shop.txt
+         threefield plan -p \"J||Cmax\" -f jobshop --name ft06 jobs.txt
 
 Exit status: 0 optimal, 2 refused, 3 want of memory,
              4 a file or a device failed, 5 the command line is wrong,
@@ -89,9 +91,9 @@ Exit status: 0 optimal, 2 refused, 3 want of memory,
 pub(crate) const OF_BOUND: &str = "\
 Prints the strongest lower bound that is found for the cost of any schedule, and
 a certificate of it. It is proved that no schedule that fits costs less. It
-takes problems without a solver: one machine, machines in parallel, flow and
-open shops, with the conditions rj, prec, prmp, prmu and nwt and any of the
-objectives Cmax, Lmax, sumC, sumwC, sumT, sumwT, sumU and sumwU.
+takes problems without a solver: one machine, machines in parallel, flow shops,
+open shops and job shops, with the conditions rj, prec, prmp, prmu and nwt and any
+of the objectives Cmax, Lmax, sumC, sumwC, sumT, sumwT, sumU and sumwU.
 
 --index A-B and --index all print a line with the bound of each of several
 instances of a weighted tardiness file.

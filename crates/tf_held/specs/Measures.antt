@@ -1,7 +1,6 @@
 -- What a schedule comes to by each objective that its instance has the fields for.
 use Rattle.std.specs.Prelude.{◌≡◌, ◌≢◌, ◌⊎◌, ℕ, ◌-◌, ◌<◌, ℤ, pos, int_lt, List, [], ◌∷◌, ◌++◌, length, take, codes, Option, None, Some, Ok, Err, IsErr, if◌then◌else◌}
 use Rattle.std.specs.Fmt.{signed_decimal}
-use Rattle.tf_model.specs.ClassTable.{is_shop_env}
 use Rattle.tf_model.specs.declared.prepare.Refusal.{Refusal}
 use Rattle.tf_model.specs.declared.prepare.Refusal.TheVariants.{OutOfMemory}
 use Rattle.tf_model.specs.declared.problem.Problem.{Problem}
@@ -97,7 +96,7 @@ all_goals =
 -- what the request and the instance mean
 pub record IsPosed (request : RequestData) (instance : List ℕ) (posed : PosedData) : Type 0 where
   pub problem : notation request.problem ≡ Ok posed.problem
-  pub timed : timed_said request.form (is_shop_env posed.problem.env) instance ≡ Ok posed.timed
+  pub timed : timed_said request.form posed.problem.env instance ≡ Ok posed.timed
   pub machines : posed.machines ≡ request.machines
 
 -- the problem line or the instance is at fault
@@ -105,7 +104,7 @@ abbrev pub IsUnposed : RequestData → List ℕ → Type 0
 IsUnposed request instance =
     IsErr (notation request.problem)
     ⊎ ((problem : Problem) × (notation request.problem ≡ Ok problem)
-    × IsErr (timed_said request.form (is_shop_env problem.env) instance))
+    × IsErr (timed_said request.form problem.env instance))
 
 -- the lines of the answer's pieces, where all texts are well formed
 abbrev pub AddsLines : RequestData → List ℕ → List ℕ → List ℕ → List ℕ → Type 0

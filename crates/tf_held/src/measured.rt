@@ -30,6 +30,7 @@ use tf_command::source::Sources;
 use tf_engine::fault::RunFault;
 use tf_engine::request::{Form, Request};
 use tf_model::memory::OutOfMemory;
+use tf_model::problem::Env;
 use tf_notation::reading::read;
 use tf_options::options::Evaluating;
 use tf_prepare::timed::TimedInstance;
@@ -182,7 +183,7 @@ fn posed_in(alloc: Global, request: &Request, text: &[u8]) -> Result<Option<Pose
     let Ok(problem) = read(request.problem.as_str().as_bytes()) else {
         return Ok(None);
     };
-    let Some(timed) = timed_in(alloc, &request.form, problem.env.is_shop(), text)? else {
+    let Some(timed) = timed_in(alloc, &request.form, problem.env, text)? else {
         return Ok(None);
     };
     Ok(Some(Posed {
@@ -192,19 +193,20 @@ fn posed_in(alloc: Global, request: &Request, text: &[u8]) -> Result<Option<Pose
     }))
 }
 
-/// The instance of a text of this form, for a shop on all machines, if the text is well formed.
+/// The instance of a text of this form, with the times or routes that the environment asks for, if
+/// the text is well formed.
 fn timed_in(
     alloc: Global,
     form: &Form,
-    is_shop: bool,
+    env: Env,
     text: &[u8],
 ) -> Result<Option<TimedInstance<Global>>, OutOfMemory>
     ensures { IfOk result (λ found. MatchOption found
-        (IsErr (timed_said (form_of form.now) is_shop text.now))
-        (λ timed. timed_said (form_of form.now) is_shop text.now ≡ Ok timed)) }
+        (IsErr (timed_said (form_of form.now) env text.now))
+        (λ timed. timed_said (form_of form.now) env text.now ≡ Ok timed)) }
 {
     let mut reader = Counted::new(text);
-    match timed_read(alloc, form, is_shop, &mut reader) {
+    match timed_read(alloc, form, env, &mut reader) {
         Ok(timed) => Ok(Some(timed)),
         Err(fault) => {
             refused(&fault)?;

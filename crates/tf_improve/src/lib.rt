@@ -8,7 +8,7 @@ mod change;
 mod greedy;
 pub mod improve;
 mod pass;
-mod random;
+pub mod random;
 mod search;
 mod states;
 mod whole;

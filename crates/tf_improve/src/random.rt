@@ -8,14 +8,14 @@ const SECOND: u64 = 10_723_151_780_598_845_931;
 
 /// A generator, which gives the same numbers on each machine.
 #[derive(Clone, Copy)]
-pub(crate) struct Random {
-    pub(crate) state: u64,
+pub struct Random {
+    pub state: u64,
 }
 
 impl Random {
     /// The next number, from 0 to 2^64 - 1.
     #[inline(always)]
-    pub(crate) fn number(&mut self) -> u64 {
+    pub fn number(&mut self) -> u64 {
         let state = self.state.wrapping_add(GOLDEN);
         self.state = state;
         let first = (state ^ (state >> 30)).wrapping_mul(FIRST);
@@ -25,19 +25,19 @@ impl Random {
 
     /// A number below `count`; 0 where that is 0.
     #[inline(always)]
-    pub(crate) fn below(&mut self, count: usize) -> usize {
+    pub fn below(&mut self, count: usize) -> usize {
         let product = u128::from(self.number()).wrapping_mul(count as u128);
         usize::try_from(product >> 64).unwrap_or(0)
     }
 
     /// True or false with equal chance.
-    pub(crate) fn coin(&mut self) -> bool {
+    pub fn coin(&mut self) -> bool {
         self.number() % 2 == 0
     }
 
     /// The negative binary logarithm of a random number between 0 and 1, in units of 1/1,024.
     #[inline(always)]
-    pub(crate) fn logarithm(&mut self) -> i128 {
+    pub fn logarithm(&mut self) -> i128 {
         let number = self.number() | 1;
         let zeros = number.leading_zeros();
         let mantissa = i128::from(number.wrapping_shl(zeros) >> 53);

@@ -3,6 +3,7 @@ use crate::change::{Change, Window};
 use crate::random::Random;
 use crate::states::States;
 use std::alloc::Allocator;
+use tf_decode::gaps::Gaps;
 use tf_decode::measure::Measure;
 use tf_decode::preemption::Preemption;
 use tf_decode::slots::{item_at, number_at, set_item};
@@ -32,11 +33,15 @@ pub(crate) struct Search<A: Allocator> {
     // What the jobs from each place on cost, where the cost is a maximum.
     rest: Vec<i128, A>,
     pub(crate) preemption: Preemption<A>,
+    pub(crate) gaps: Gaps<A>,
 }
 
 // Whether the cost of a change follows from the states before its first place.
 fn is_by_places<B: Allocator>(table: &TaskTable<B>) -> bool {
-    !matches!(table.decoder, Decoder::Priorities | Decoder::OpenOperations)
+    !matches!(
+        table.decoder,
+        Decoder::Priorities | Decoder::OpenOperations | Decoder::JobGaps
+    )
 }
 
 impl<A: Allocator + Copy> Search<A> {
@@ -69,6 +74,10 @@ impl<A: Allocator + Copy> Search<A> {
             preemption: match table.decoder {
                 Decoder::Priorities => Preemption::new(alloc, table)?,
                 _ => Preemption::idle(alloc),
+            },
+            gaps: match table.decoder {
+                Decoder::JobGaps => Gaps::new(alloc, table)?,
+                _ => Gaps::none(alloc),
             },
         })
     }
@@ -118,6 +127,7 @@ impl<A: Allocator> Search<A> {
         match table.decoder {
             Decoder::OpenOperations => self.cost_of_operations(table, limit),
             Decoder::Priorities => self.cost_of_runs(table, limit),
+            Decoder::JobGaps => self.cost_in_gaps(table, limit),
             _ => self.cost_by_places(table, window, limit),
         }
     }

@@ -28,6 +28,31 @@ impl<A: Allocator> Search<A> {
         Some(cost)
     }
 
+    /// What a list of jobs costs that go into gaps, if that is at most a limit.
+    pub(crate) fn cost_in_gaps<B: Allocator>(
+        &mut self,
+        table: &TaskTable<B>,
+        limit: i128,
+    ) -> Option<i128> {
+        self.gaps.clear();
+        let before = self.gaps.steps;
+        let mut cost = table.measure.nothing();
+        for place in 0..self.list.len() {
+            let job = item_at(&self.list, place);
+            let ready = table.ready(job, &self.tried.ends);
+            let end = self.gaps.insert(table, job, ready);
+            set_number(&mut self.tried.ends, job, end);
+            let price = table.measure.price(table.job(job), end);
+            cost = table.measure.joined(cost, price);
+            if cost > limit {
+                break;
+            }
+        }
+        let looked = self.gaps.steps.wrapping_sub(before);
+        self.steps = self.steps.wrapping_add(looked);
+        if cost > limit { None } else { Some(cost) }
+    }
+
     /// What a list of priorities costs, if that is at most a limit. Where memory runs out the cost
     /// is not known.
     pub(crate) fn cost_of_runs<B: Allocator>(

@@ -10,6 +10,7 @@ use Rattle.tf_model.specs.declared.job.Times.{Times}
 use Rattle.tf_model.specs.declared.job.Times.TheVariants.{One, Two}
 use Rattle.tf_model.specs.declared.problem.Goal.{Goal}
 use Rattle.tf_model.specs.declared.problem.Problem.{Problem}
+use Rattle.tf_problem.specs.ProblemData.{is_job_shop}
 use Rattle.tf_prepare.specs.Preparing.{uses_weight, uses_due}
 use Rattle.tf_listing.specs.declared.listing.Listed.{Listed}
 use Rattle.tf_listing.specs.declared.listing.Listed.TheVariants.{Solved, Bounded}
@@ -18,10 +19,11 @@ use Rattle.tf_listing.specs.declared.listing.Listed.TheVariants.{Solved, Bounded
 abbrev pub uses_cost : Goal → Bool
 uses_cost goal = is_dearest (objective_by goal)
 
--- the job has as many times as the problem has machines for it; the only one is positive
+-- the job has as many times as the problem has machines for it; the only one is positive. A job shop
+-- wants a route, which these times are not
 abbrev pub has_times : Problem → Times → Bool
 has_times p (One time) = not (is_shop_env p.env) && int_lt (pos 0) time
-has_times p (Two first second) = is_shop_env p.env
+has_times p (Two first second) = is_shop_env p.env && not (is_job_shop p.env)
 
 -- the job has each field that the problem uses
 abbrev pub has_job_fields : Problem → JobFields → Bool

@@ -11,6 +11,7 @@ use Rattle.tf_model.specs.declared.problem.Goal.{Goal}
 use Rattle.tf_model.specs.declared.problem.Goal.TheVariants.{Cmax, Lmax, Hmax, SumC, SumWC, SumT, SumWT, SumU, SumWU}
 use Rattle.tf_model.specs.declared.problem.Problem.{Problem}
 use Rattle.tf_notation.specs.Canonical.{canonical}
+use Rattle.tf_problem.specs.ProblemData.{is_job_shop}
 use Rattle.tf_prepare.specs.Preparing.{uses_weight, uses_due}
 use Rattle.tf_listing.specs.Fields.{is_listed, uses_cost}
 use Rattle.tf_listing.specs.Unsolved.{unsolved_problems}
@@ -33,7 +34,8 @@ part is_there text = if is_there then text else []
 -- the fields of a job that the problem uses, and whether precedence constraints count
 abbrev pub needs : Problem → List ℕ
 needs p =
-    (if is_shop_env p.env then codes "p=A,B" else codes "p=")
+    (if is_job_shop p.env then codes "p=A@I"
+    else if is_shop_env p.env then codes "p=A,B" else codes "p=")
     ++ part (uses_weight p.goal) (codes " w=") ++ part p.release (codes " r=")
     ++ part (uses_due p.goal) (codes " d=") ++ part (uses_cost p.goal) (codes " h=")
     ++ part p.prec (codes ", arcs")

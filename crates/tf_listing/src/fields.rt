@@ -11,7 +11,7 @@ use std::alloc::Allocator;
 use tf_model::instance::Instance;
 use tf_model::job::{Job, Times};
 use tf_model::limit::MOST_COSTED_JOBS;
-use tf_model::problem::{Goal, Problem};
+use tf_model::problem::{Env, Goal, Problem};
 use tf_prepare::prepare::uses_due;
 
 /// Whether a problem is listed for an instance, or at all where there is none.
@@ -52,7 +52,7 @@ fn has_job_fields<A: Allocator>(problem: &Problem, job: &Job<A>) -> bool
     let is_shop = problem.env.is_shop();
     let has_times = match job.times {
         Times::One(time) => !is_shop && time > 0,
-        Times::Two(_, _) => is_shop,
+        Times::Two(_, _) => is_shop && !matches!(problem.env, Env::JobShop),
     };
     has_times
         && (job.weight.is_some() || !uses_weight(problem.goal))

@@ -6,7 +6,7 @@ use tf_model::class::class_of;
 use tf_model::problem::{Env, Goal, Problem};
 
 /// The environment and the objective of each, in the order of the list.
-pub(crate) const UNSOLVED: [(Env, Goal); 32] = [
+pub(crate) const UNSOLVED: [(Env, Goal); 40] = [
     (Env::Single, Goal::Cmax),
     (Env::Single, Goal::Lmax),
     (Env::Single, Goal::SumC),
@@ -39,6 +39,14 @@ pub(crate) const UNSOLVED: [(Env, Goal); 32] = [
     (Env::OpenShop, Goal::SumWT),
     (Env::OpenShop, Goal::SumU),
     (Env::OpenShop, Goal::SumWU),
+    (Env::JobShop, Goal::Cmax),
+    (Env::JobShop, Goal::Lmax),
+    (Env::JobShop, Goal::SumC),
+    (Env::JobShop, Goal::SumWC),
+    (Env::JobShop, Goal::SumT),
+    (Env::JobShop, Goal::SumWT),
+    (Env::JobShop, Goal::SumU),
+    (Env::JobShop, Goal::SumWU),
 ];
 
 /// The problem without conditions, or where that is solved, with release dates.

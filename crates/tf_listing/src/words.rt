@@ -15,7 +15,11 @@ use tf_prepare::prepare::uses_due;
 pub(crate) fn needs_of<A: Allocator>(alloc: A, problem: &Problem) -> Result<String<A>, AllocError>
     ensures { IfOk result (λ text. string_bytes text ≡ needs problem.now) }
 {
-    let times = if problem.env.is_shop() { "p=A,B" } else { "p=" };
+    let times = match problem.env {
+        Env::JobShop => "p=A@I",
+        _ if problem.env.is_shop() => "p=A,B",
+        _ => "p=",
+    };
     let mut text = String::from_str(alloc, times)?;
     text.push_str(part(uses_weight(problem.goal), " w="))?;
     text.push_str(part(problem.release, " r="))?;

@@ -1,5 +1,5 @@
 -- What the options of a command ask for, by what clap found of them.
-use Rattle.std.specs.Prelude.{◌≡◌, ℕ, Bool, true, false, not, ◌&&◌, ◌==◌, List, Option, None, Some, IsSome, IsTrue, is_some, option_map, codes, if◌then◌else◌}
+use Rattle.std.specs.Prelude.{◌⊎◌, ◌≡◌, ℕ, Bool, true, false, not, ◌&&◌, ◌==◌, List, Option, None, Some, IsSome, IsTrue, is_some, option_map, codes, if◌then◌else◌}
 use Rattle.std.specs.List.{before_first, after_first}
 use Rattle.std.specs.Option.{option_and_then}
 use Rattle.std.specs.Str.{bytes_eq}
@@ -101,19 +101,21 @@ most_steps = 1000000
 -- ---- the options of a command
 
 -- what is wanted of each form: of a weighted tardiness file `--jobs` and `--index`, of a flow shop
--- file `--name` and `--pair`
+-- file `--name` and `--pair`, of a job shop file, which has the layout of one, `--name`
 abbrev pub IsFormBy : Given → FormOption → Type 0
 IsFormBy given Table =
     (is_word (given.value (codes "format")) (codes "wt") ≡ false)
     × (is_word (given.value (codes "format")) (codes "flow") ≡ false)
+    × (is_word (given.value (codes "format")) (codes "jobshop") ≡ false)
 IsFormBy given (Wt jobs index) =
     (given.value (codes "format") ≡ Some (codes "wt"))
     × (number_by given (codes "jobs") 1 most_jobs ≡ Some jobs)
     × (number_by given (codes "index") 1 4294967295 ≡ Some index)
 IsFormBy given (Flow name pair) =
-    (given.value (codes "format") ≡ Some (codes "flow"))
-    × (given.value (codes "name") ≡ Some name.now)
-    × IsPairBy (given.value (codes "pair")) pair
+    (given.value (codes "name") ≡ Some name.now)
+    × (((given.value (codes "format") ≡ Some (codes "flow"))
+    × IsPairBy (given.value (codes "pair")) pair)
+    ⊎ ((given.value (codes "format") ≡ Some (codes "jobshop")) × (pair ≡ None)))
 
 abbrev pub is_wt : FormOption → Bool
 is_wt Table = false
@@ -129,7 +131,9 @@ is_flow (Flow name pair) = true
 pub record AreIdleBy (given : Given) (form : FormOption) (idle : Idle) : Type 0 where
   pub jobs : idle.jobs ≡ (given.is_there (codes "jobs") && not (is_wt form))
   pub name : idle.name ≡ (given.is_there (codes "name") && not (is_flow form))
-  pub pair : idle.pair ≡ (given.is_there (codes "pair") && not (is_flow form))
+  pub pair : idle.pair
+      ≡ (given.is_there (codes "pair")
+      && not (is_word (given.value (codes "format")) (codes "flow")))
 
 pub record AreOptionsBy (given : Given) (on_terminal : Bool) (options : Options) : Type 0 where
   pub problem : given.value (codes "problem") ≡ Some options.problem.now
@@ -172,10 +176,16 @@ flow_fault given = first_fault
     (codes "--pair takes two numbers up to 1000 with a comma between them") (pair_in word))
     (given.value (codes "pair")))
 
+abbrev pub job_shop_fault : Given → Option (List ℕ)
+job_shop_fault given =
+    unless_some (codes "--format jobshop needs --name") (given.value (codes "name"))
+
 abbrev pub form_fault : Given → Option (List ℕ)
 form_fault given =
     if is_word (given.value (codes "format")) (codes "wt") then wt_fault given
-    else (if is_word (given.value (codes "format")) (codes "flow") then flow_fault given else None)
+    else if is_word (given.value (codes "format")) (codes "flow") then flow_fault given
+    else if is_word (given.value (codes "format")) (codes "jobshop") then job_shop_fault given
+    else None
 
 abbrev pub options_fault : Given → Option (List ℕ)
 options_fault given = first_fault (machines_fault given) (form_fault given)

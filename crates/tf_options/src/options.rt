@@ -10,7 +10,7 @@ ghost use Rattle.tf_options.specs.FormatAsked.{IsFormatBy, IsSolvedLayoutBy, ask
 ghost use Rattle.tf_options.specs.FormatAsked.{csv_format, json_format};
 ghost use Rattle.tf_options.specs.Matched.{AreIdleBy, AreOptionsBy, IsFlagBy};
 ghost use Rattle.tf_options.specs.Matched.{IsFormBy, IsNumberBy, IsToldInstead};
-ghost use Rattle.tf_options.specs.Matched.{explains_by, flow_fault, form_fault, given_of};
+ghost use Rattle.tf_options.specs.Matched.{explains_by, flow_fault, form_fault, given_of, job_shop_fault};
 ghost use Rattle.tf_options.specs.Matched.{has_arithmetic, is_latex, lacks, layout_by};
 ghost use Rattle.tf_options.specs.Matched.{lists_bounded};
 ghost use Rattle.tf_options.specs.Matched.{machines_fault, most_steps, options_fault, pair_in};
@@ -684,7 +684,7 @@ pub(crate) fn idle_in(given: &ArgMatches<'_>, form: &FormOption<'_>) -> Idle
     Idle {
         jobs: given.contains_id("jobs") && !is_wt,
         name: given.contains_id("name") && !is_flow,
-        pair: given.contains_id("pair") && !is_flow,
+        pair: given.contains_id("pair") && given.get_str("format") != Some("flow"),
     }
 }
 
@@ -704,7 +704,21 @@ pub(crate) fn form_in<'a>(given: &ArgMatches<'a>) -> Result<FormOption<'a>, Wron
     if format == "flow" {
         return flow_in(given);
     }
+    if format == "jobshop" {
+        return job_shop_in(given);
+    }
     Ok(FormOption::Table)
+}
+
+fn job_shop_in<'a>(given: &ArgMatches<'a>) -> Result<FormOption<'a>, Wrong>
+    requires { (given_of given.now).value (codes "format") ≡ Some (codes "jobshop") }
+    ensures given { IfOk result (IsFormBy (given_of given.now)) }
+    ensures fault { IfErr result (IsToldInstead false (job_shop_fault (given_of given.now))) }
+{
+    match given.get_str("name") {
+        Some(name) => Ok(FormOption::Flow { name, pair: None }),
+        None => Err(Wrong::Unfit("--format jobshop needs --name")),
+    }
 }
 
 fn wt_in<'a>(given: &ArgMatches<'a>) -> Result<FormOption<'a>, Wrong>

@@ -1,12 +1,12 @@
 -- The semi-active schedule of an order (Pinedo, chapter 2): each operation starts as soon as its job
 -- is released, the operation before it of its job is completed, and its machine has completed the
 -- jobs before it. An operation of time 0 has no piece and holds up none.
-use Rattle.std.specs.Prelude.{ℕ, zero, suc, ◌+◌, max, min, List, [], ◌∷◌, ◌++◌, if◌then◌else◌}
+use Rattle.std.specs.Prelude.{ℕ, zero, suc, ◌+◌, max, min, List, [], ◌∷◌, ◌++◌, slice_index, if◌then◌else◌}
 use Rattle.std.specs.List.{fold}
 use Rattle.tf_model.specs.Limit.{limit}
 use Rattle.tf_model.specs.ClassTable.{is_shop, is_shop_env}
 use Rattle.tf_model.specs.SchedulingTask.{SchedulingTask, job_data}
-use Rattle.tf_problem.specs.ProblemData.{ProblemData, problem_job, problem_release}
+use Rattle.tf_problem.specs.ProblemData.{ProblemData, problem_job, problem_release, is_job_shop}
 use Rattle.tf_schedule.specs.declared.piece.Piece.{Piece}
 use Rattle.tf_schedule.specs.Piece.{piece_of}
 use Rattle.tf_schedule.specs.SemiActive.{machine_stop}
@@ -38,6 +38,13 @@ with_job ps j i free [] = ps
 with_job ps j i free (time ∷ times) =
     with_job (with_operation ps j i free time) j (i + 1) (stop_on ps i free time) times
 
+-- and along a route, where these are the times on the machines, counted from 0
+abbrev pub with_route : List Piece → ℕ → ℕ → List ℕ → List ℕ → List Piece
+with_route ps j free times [] = ps
+with_route ps j free times (a ∷ route) =
+    with_route (with_operation ps j (a + 1) free (slice_index times a)) j
+    (stop_on ps (a + 1) free (slice_index times a)) times route
+
 -- ---- by a task of a class
 
 -- the times of a job on its machines: one, or in a shop two
@@ -58,9 +65,13 @@ orders_of k = if is_shop k.class then 1 else k.machines
 
 -- ---- by a task of any problem
 
+-- in a job shop along the job's route
 abbrev pub with_problem_turn : ProblemData → List Piece → Turn → List Piece
 with_problem_turn k ps t =
-    with_job ps t.job t.machine (problem_release k t.job) (problem_job k t.job).times
+    if is_job_shop k.problem.env
+    then with_route ps t.job (problem_release k t.job) (problem_job k t.job).times
+    (problem_job k t.job).route
+    else with_job ps t.job t.machine (problem_release k t.job) (problem_job k t.job).times
 
 abbrev pub problem_schedule_of : ProblemData → List Turn → List Piece
 problem_schedule_of k turns = fold (with_problem_turn k) [] turns

@@ -41,7 +41,7 @@ impl<A: Allocator + Copy> Laying<A> {
     ghost use Rattle.std.specs.Prelude.{◌≡◌, [], ◌+◌, ◌^◌, ◌<◌, ◌≤◌, length, IfOk};
     ghost use Rattle.std.specs.List.{All};
     ghost use Rattle.tf_model.specs.Limit.{limit};
-    ghost use Rattle.tf_orders.specs.Laying.{stop_on, with_operation, with_job};
+    ghost use Rattle.tf_orders.specs.Laying.{stop_on, with_operation, with_job, with_route};
     ghost use Rattle.tf_orders.specs.Listed.{IsFirstFree};
 
     /// No piece yet, with room for so many pieces. Only want of memory is an error.
@@ -76,6 +76,32 @@ impl<A: Allocator + Copy> Laying<A> {
         for time in times {
             free = self.add(job, machine, free, *time)?;
             machine = machine.next();
+        }
+        Ok(())
+    }
+
+    /// Adds all operations of a job, one after another along its route. Only want of memory is an
+    /// error.
+    pub(crate) fn add_route(
+        &mut self,
+        job: JobId,
+        release: u64,
+        times: &[u64],
+        route: &[u32],
+    ) -> Result<(), OutOfMemory>
+        requires machines { All (λ a. a < length times.now) route.now }
+        requires times { All (λ time. time ≤ limit) times.now }
+        requires all { length times.now ≤ self.old.machines }
+        requires few { self.old.machines < 2 ^ 31 }
+        requires release { release ≤ limit }
+        ensures pieces { IfOk result (λ _. self.new.pieces
+            ≡ with_route self.old.pieces job release times.now route.now) }
+        ensures machines { self.new.machines ≡ self.old.machines }
+    {
+        let mut free = release;
+        for place in route {
+            let place = *place as usize;
+            free = self.add(job, MachineId::at(place), free, times[place])?;
         }
         Ok(())
     }

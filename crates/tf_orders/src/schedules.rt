@@ -14,6 +14,7 @@ use crate::order::{Turn, order_in};
 use std::alloc::Allocator;
 use tf_bound::task::ProblemTask;
 use tf_model::memory::OutOfMemory;
+use tf_model::problem::Env;
 use tf_model::task::Task;
 use tf_schedule::piece::Piece;
 
@@ -156,5 +157,10 @@ pub(crate) fn add_problem_turn<A: Allocator + Copy, B: Allocator>(
     ensures machines { laying.new.machines ≡ laying.old.machines }
 {
     let release = task.release(turn.job);
-    laying.add_job(turn.job, turn.machine, release, task.times(turn.job))
+    let times = task.times(turn.job);
+    if matches!(task.problem().env, Env::JobShop) {
+        laying.add_route(turn.job, release, times, task.route(turn.job))
+    } else {
+        laying.add_job(turn.job, turn.machine, release, times)
+    }
 }

@@ -1,21 +1,20 @@
 -- What is laid fits the task, whatever its environment and conditions are.
-use Rattle.std.proofs.Common.{◌≡◌, ◌⊎◌, ℕ, ◌+◌, ◌-◌, ◌<◌, ◌≤◌, pos, Bool, true, false, cond, List, [], ◌∷◌, length, get_or, sum, refl, sym, ap, subst, ◌∙◌, arith, inl, inr, IsTrue}
+use Rattle.std.proofs.Common.{◌≡◌, ◌≢◌, ◌⊎◌, ◌||◌, ℕ, ◌+◌, ◌-◌, ◌<◌, ◌≤◌, pos, Bool, true, false, cond, List, [], ◌∷◌, length, get_or, sum, refl, sym, ap, subst, ◌∙◌, arith, inl, inr, IsTrue}
 use Rattle.std.specs.Bool.{IsFalse}
-use Rattle.std.specs.List.{All, AllPairs, range_with_len}
+use Rattle.std.specs.List.{All, AllPairs}
 use Rattle.std.proofs.lemmas.Int.{ints}
-use Rattle.std.proofs.lemmas.Bool.{cases_lt, false≢true}
+use Rattle.std.proofs.lemmas.Bool.{cases_lt}
 use Rattle.std.proofs.lemmas.List.{get_or_default}
-use Rattle.std.proofs.lemmas.List.FromFn.{length-range_with_len, get_or-range_with_len}
 use Rattle.std.proofs.lemmas.List.Sorted.{Contains-permutation}
 use Rattle.tf_model.specs.Limit.{limit}
-use Rattle.tf_model.specs.ClassTable.{is_shop_env}
-use Rattle.tf_model.specs.declared.problem.Env.{Env}
-use Rattle.tf_model.specs.declared.problem.Env.TheVariants.{Flow, JobShop}
+use Rattle.tf_model.specs.ClassTable.{is_shop_env, is_flow_env}
 use Rattle.tf_model.specs.Timetable.{Timetable, cell}
-use Rattle.tf_problem.specs.ProblemData.{ProblemData, IsProblemJob, problem_job, no_problem_job, problem_jobs, problem_release, is_job_shop, route_by}
+use Rattle.tf_problem.specs.ProblemData.{ProblemData, IsProblemJob, problem_job, no_problem_job, problem_jobs, problem_release, is_job_shop}
 use Rattle.tf_problem.specs.FitsProblem.{FitsProblem, HasProblemTime, VisitsFirst, IsOnRoute, IsWithoutWait}
 use Rattle.tf_problem.proofs.Least.{Contains-problem_jobs}
 use Rattle.tf_bound.specs.Sized.{IsSized}
+use Rattle.tf_bound.specs.Steps.{steps_of}
+use Rattle.tf_bound.proofs.StepsOf.{route_steps, without_route, steps_routed}
 use Rattle.tf_schedule.specs.declared.piece.Piece.{Piece}
 use Rattle.tf_schedule.specs.Amounts.{start_of}
 use Rattle.tf_schedule.specs.Claims.{JobsOnce}
@@ -30,7 +29,7 @@ use Rattle.tf_schedule.proofs.Times.{time_le_back}
 use Rattle.tf_fit.specs.ProblemMisfit.{IsKnownTo}
 use Rattle.tf_plan.proofs.Steps.{all_room}
 use Rattle.tf_plan.specs.Plan.{FitsAsLaid}
-use Rattle.tf_plan.specs.Serial.{Precedes, IsServed, IsSerialPiece, IsSerial}
+use Rattle.tf_plan.specs.Serial.{Follows, Precedes, IsServed, IsSerialPiece, IsSerial}
 use Rattle.tf_plan.specs.SerialOrder.{IsSerialOrder, StandsBefore}
 
 -- ---- how many times a job has
@@ -45,6 +44,32 @@ one_sum [] one = absurd (omega arith)
 one_sum (x ∷ []) one = omega arith
 one_sum (x ∷ (y ∷ xs)) one = absurd (omega arith)
 
+-- ---- what stands before what
+
+-- a list with none twice: nothing stands before itself
+not_itself : (l : List ℕ) → AllPairs (λ a b. a ≢ b) l → (a : ℕ) → ¬ (StandsBefore l a a)
+not_itself l apart a before =
+    apart before.x before.y 0 before.lt before.within (before.first ∙ sym before.second)
+
+-- and of two one before the other
+not_both : (l : List ℕ) → AllPairs (λ a b. a ≢ b) l → (a b : ℕ) → StandsBefore l a b
+    → ¬ (StandsBefore l b a)
+not_both l apart a b stands back =
+    let one = place back.x stands.y (omega (arith, back.lt, back.within)) stands.within
+    (back.first ∙ sym stands.second) in
+    let other = place back.y stands.x back.within (omega (arith, stands.lt, stands.within))
+    (back.second ∙ sym stands.first) in
+    omega (arith, one, other, back.lt, stands.lt)
+  where
+    place : (x y : ℕ) → x < length l → y < length l → get_or l x 0 ≡ get_or l y 0 → x ≡ y
+    place x y in_x in_y same = elim (cases_lt x y) [
+      | inl lt ↦ absurd (apart x y 0 lt in_y same)
+      | inr ge ↦ elim (cases_lt y x) [
+        | inl lt ↦ absurd (apart y x 0 lt in_x (sym same))
+        | inr le ↦ omega arith
+      ]
+    ]
+
 -- ---- the pieces
 
 module _ (k : ProblemData) (sized : IsSized k) (order : List ℕ) (sound : IsSerialOrder k order)
@@ -57,14 +82,19 @@ module _ (k : ProblemData) (sized : IsSized k) (order : List ℕ) (sound : IsSer
 
   -- what holds of the job and the machine of a piece and those of each later one
   abbrev S : ℕ → ℕ → ℕ → ℕ → Type 0
-  S j i h l = ((j ≡ h) × (i < l)) ⊎ StandsBefore order j h
+  S j i h l = ((j ≡ h) × IsProblemJob k h × StandsBefore (steps_of k h) (i - 1) (l - 1))
+      ⊎ StandsBefore order j h
 
   never_before : (a : ℕ) → ¬ (StandsBefore order a a)
-  never_before a before =
-      sound.once before.x before.y 0 before.lt before.within (before.first ∙ sym before.second)
+  never_before a before = not_itself order sound.once a before
+
+  -- no step of a job stands before itself
+  never_step : (j a : ℕ) → IsProblemJob k j → ¬ (StandsBefore (steps_of k j) a a)
+  never_step j a job before =
+      not_itself (steps_of k j) (steps_routed k sized j job).no_twice a before
 
   never : (j i : ℕ) → ¬ (S j i j i)
-  never j i (inl (same, lt)) = omega arith
+  never j i (inl own) = never_step j (i - 1) own.1 own.2
   never j i (inr before) = never_before j before
 
   few : (j : ℕ) → IsProblemJob k j → length (problem_job k j).times ≤ m
@@ -93,7 +123,14 @@ module _ (k : ProblemData) (sized : IsSized k) (order : List ℕ) (sound : IsSer
   apart : AllPairs (IsApart S) ps
   apart a b d lt in' =
       let e = is.pairs a b d lt in' in
-      record { on_machine = λ _. e.over; of_job = λ _. e.over; kept = e.follows }
+      record {
+        on_machine = λ _. e.over;
+        of_job = λ _. e.over;
+        kept = elim e.follows [
+          | inl own ↦ inl (own.0, (is.each b d in').job, own.1)
+          | inr before ↦ inr before
+        ];
+      }
 
   pub none_twice : NoneTwice ps
   none_twice = apart_none_twice S ps apart
@@ -104,16 +141,16 @@ module _ (k : ProblemData) (sized : IsSized k) (order : List ℕ) (sound : IsSer
   -- ---- of two cells with jobs
 
   pieces_in_order : (a c : ℕ) (p q : Piece) → a < length ps → c < length ps → get_or ps a p ≡ p
-      → get_or ps c q ≡ q → Precedes order p q ⊎ (Precedes order q p ⊎ (p ≡ q))
+      → get_or ps c q ≡ q → Precedes k order p q ⊎ (Precedes k order q p ⊎ (p ≡ q))
   pieces_in_order a c p q in_a in_c read_p read_q =
       let at_c : get_or ps c p ≡ q = get_or_default ps c p q in_c ∙ read_q in
       elim (cases_lt a c) [
-        | inl lt ↦ inl (subst (λ z. Precedes order z q) read_p
-            (subst (λ z. Precedes order (get_or ps a p) z) at_c (is.pairs a c p lt in_c)))
+        | inl lt ↦ inl (subst (λ z. Precedes k order z q) read_p
+            (subst (λ z. Precedes k order (get_or ps a p) z) at_c (is.pairs a c p lt in_c)))
         | inr le ↦ elim (cases_lt c a) [
           | inl lt ↦ inr (inl
-              (subst (λ z. Precedes order z p) at_c
-              (subst (λ z. Precedes order (get_or ps c p) z) read_p (is.pairs c a p lt in_a))))
+              (subst (λ z. Precedes k order z p) at_c
+              (subst (λ z. Precedes k order (get_or ps c p) z) read_p (is.pairs c a p lt in_a))))
           | inr ge ↦ let same : a ≡ c = omega arith in inr
               (inr (sym read_p ∙ ap (λ n. get_or ps n p) same ∙ at_c))
         ]
@@ -126,7 +163,7 @@ module _ (k : ProblemData) (sized : IsSized k) (order : List ℕ) (sound : IsSer
     pub second : IsGoing (b + 1) t h q
     pub p_is : IsSerialPiece k now p
     pub q_is : IsSerialPiece k now q
-    pub either : Precedes order p q ⊎ (Precedes order q p ⊎ (p ≡ q))
+    pub either : Precedes k order p q ⊎ (Precedes k order q p ⊎ (p ≡ q))
 
   two : (s t a b j h : ℕ) → 0 < j → 0 < h → cell rows s a ≡ j → cell rows t b ≡ h
       → AreTwo s t a b j h
@@ -161,26 +198,13 @@ module _ (k : ProblemData) (sized : IsSized k) (order : List ℕ) (sound : IsSer
         ]
       ]
     where
-      place : (x y : ℕ) → x < length order → y < length order
-          → get_or order x 0 ≡ get_or order y 0 → x ≡ y
-      place x y in_x in_y same = elim (cases_lt x y) [
-        | inl lt ↦ absurd (sound.once x y 0 lt in_y same)
-        | inr ge ↦ elim (cases_lt y x) [
-          | inl lt ↦ absurd (sound.once y x 0 lt in_x (sym same))
-          | inr le ↦ omega arith
-        ]
-      ]
-
-      wrong : (p q : Piece) → ((q.job ≡ p.job) × (q.machine < p.machine)) ⊎ StandsBefore order q.job p.job
-          → p.job ≡ j → q.job ≡ h → ⊥
-      wrong p q (inl (same, lt)) pj qh =
-          never_before j (subst (λ z. StandsBefore order j z) (sym qh ∙ same ∙ pj) stands)
+      wrong : (p q : Piece) → Follows k order q p → p.job ≡ j → q.job ≡ h → ⊥
+      wrong p q (inl own) pj qh =
+          never_before j (subst (λ z. StandsBefore order j z) (sym qh ∙ own.0 ∙ pj) stands)
       wrong p q (inr back) pj qh =
-          let one = place back.x stands.y (omega (arith, back.lt, back.within)) stands.within
-          (back.first ∙ qh ∙ sym stands.second) in
-          let other = place back.y stands.x back.within (omega (arith, stands.lt, stands.within))
-          (back.second ∙ pj ∙ sym stands.first) in
-          omega (arith, one, other, back.lt, stands.lt)
+          not_both order sound.once j h stands
+          (subst (λ z. StandsBefore order z j) qh
+          (subst (λ z. StandsBefore order q.job z) pj back))
 
   -- ---- each job
 
@@ -241,43 +265,58 @@ module _ (k : ProblemData) (sized : IsSized k) (order : List ℕ) (sound : IsSer
 
   -- ---- routes
 
-  visits : (j a b : ℕ) → 0 < j → a < b → VisitsFirst rows j a b
-  visits j a b some lt s t at_s at_t =
-      let w = two s t a b j j some some at_s at_t in
+  visits : (j a b : ℕ) → IsProblemJob k j → StandsBefore (steps_of k j) a b → VisitsFirst rows j a b
+  visits j a b job stands s t at_s at_t =
+      let w = two s t a b j j job.0 job.0 at_s at_t in
       elim w.either [
         | inl e ↦ omega (arith, e.over, w.first.going, w.second.started)
         | inr rest ↦ elim rest [
           | inl e ↦ absurd (wrong w.p w.q e.follows w.first.job w.second.job w.first.machine w.second.machine)
-          | inr one ↦ absurd
-              (omega (arith, w.first.machine, w.second.machine, ap (λ (z : Piece). z.machine) one))
+          | inr one ↦
+              let same : a ≡ b =
+              omega (arith, w.first.machine, w.second.machine, ap (λ (z : Piece). z.machine) one) in
+              absurd
+              (never_step j b job (subst (λ z. StandsBefore (steps_of k j) z b) same stands))
         ]
       ]
     where
-      wrong : (p q : Piece) → ((q.job ≡ p.job) × (q.machine < p.machine)) ⊎ StandsBefore order q.job p.job
-          → p.job ≡ j → q.job ≡ j → p.machine ≡ a + 1 → q.machine ≡ b + 1 → ⊥
-      wrong p q (inl (same, less)) pj qj pa qb = omega (arith, less, pa, qb)
+      less_one : (n m : ℕ) → n ≡ m + 1 → n - 1 ≡ m
+      less_one n m e = omega (arith, e)
+
+      wrong : (p q : Piece) → Follows k order q p → p.job ≡ j → q.job ≡ j → p.machine ≡ a + 1
+          → q.machine ≡ b + 1 → ⊥
+      wrong p q (inl own) pj qj pa qb =
+          not_both (steps_of k j) (steps_routed k sized j job).no_twice a b stands
+          (subst (λ z. StandsBefore (steps_of k j) z a) (less_one q.machine b qb)
+          (subst (λ z. StandsBefore (steps_of k j) (q.machine - 1) z) (less_one p.machine a pa)
+          (subst (λ z. StandsBefore (steps_of k z) (q.machine - 1) (p.machine - 1)) pj own.1)))
       wrong p q (inr back) pj qj pa qb =
           never_before j
           (subst (λ z. StandsBefore order z j) qj
           (subst (λ z. StandsBefore order q.job z) pj back))
 
-  on_route : (j : ℕ) → 0 < j → IsOnRoute k rows j
-  on_route j some = by k.problem.env refl
+  on_route : (j : ℕ) → IsProblemJob k j → IsOnRoute k rows j
+  on_route j job = by (is_flow_env k.problem.env || is_job_shop k.problem.env) refl
     where
-      pairs : AllPairs (VisitsFirst rows j) (range_with_len 0 k.machines)
+      pairs : AllPairs (VisitsFirst rows j) (steps_of k j)
       pairs a b d lt in' =
-          let on : b < k.machines = omega (arith, in', length-range_with_len 0 k.machines) in
-          let at_a : get_or (range_with_len 0 k.machines) a d ≡ a =
-          get_or-range_with_len 0 k.machines a d (omega (arith, lt, on)) ∙ omega arith in
-          let at_b : get_or (range_with_len 0 k.machines) b d ≡ b =
-          get_or-range_with_len 0 k.machines b d on ∙ omega arith in
-          subst (λ x. VisitsFirst rows j x (get_or (range_with_len 0 k.machines) b d)) (sym at_a)
-          (subst (λ y. VisitsFirst rows j a y) (sym at_b) (visits j a b some lt))
+          visits j (get_or (steps_of k j) a d) (get_or (steps_of k j) b d) job
+          (record {
+            x = a;
+            y = b;
+            lt = lt;
+            within = in';
+            first = get_or_default (steps_of k j) a 0 d (omega (arith, lt, in'));
+            second = get_or_default (steps_of k j) b 0 d in';
+          })
 
-      by : (e : Env) → k.problem.env ≡ e → AllPairs (VisitsFirst rows j) (route_by e k j)
-      by Flow e = pairs
-      by JobShop e = absurd (false≢true (sym sized.no_routes ∙ ap is_job_shop e))
-      by _ e = λ a b d lt in'. absurd (omega arith)
+      by : (routed : Bool) → (is_flow_env k.problem.env || is_job_shop k.problem.env) ≡ routed
+          → IsOnRoute k rows j
+      by true e =
+          subst (AllPairs (VisitsFirst rows j)) (sym (route_steps k sized e j job)) pairs
+      by false e =
+          subst (AllPairs (VisitsFirst rows j)) (sym (without_route k e j))
+          (λ a b d lt in'. absurd (omega arith))
 
   -- ---- waiting
 
@@ -326,7 +365,7 @@ module _ (k : ProblemData) (sized : IsSized k) (order : List ℕ) (sound : IsSer
         let arc = sized.arcs_in n d h in
         before_rows s t a b (get_or k.arcs n d).0 (get_or k.arcs n d).1 arc.0.0 arc.1.0
         (sound.keeps asked n d h);
-    on_route = λ j low high. on_route j low;
+    on_route = λ j low high. on_route j (low, high);
     one_order = λ asked. (
       order,
       sound.all,

@@ -1,7 +1,7 @@
 -- Where an order keeps the arcs, some timetable fits the task: all jobs one after another.
-use Rattle.std.proofs.Common.{◌≡◌, ℕ, zero, suc, ◌+◌, ◌<◌, ◌≤◌, max, List, [], ◌++◌, length, get_or, take, sum, refl, sym, ap, subst, ◌∙◌, arith}
-use Rattle.std.proofs.lemmas.List.{take_more, take_all, length-take-le}
+use Rattle.std.proofs.Common.{◌≡◌, ℕ, zero, suc, ◌+◌, ◌<◌, ◌≤◌, max, List, [], ◌++◌, length, get_or, refl, subst, arith}
 use Rattle.tf_bound.specs.Sized.{IsSized}
+use Rattle.tf_bound.specs.Steps.{steps_of}
 use Rattle.tf_problem.specs.ProblemData.{ProblemData, problem_job, problem_release}
 use Rattle.tf_schedule.specs.declared.piece.Piece.{Piece}
 use Rattle.tf_schedule.specs.Drawing.{drawing}
@@ -10,45 +10,43 @@ use Rattle.tf_plan.specs.Order.{IsFeasible}
 use Rattle.tf_plan.specs.Serial.{IsSerial, IsPartly}
 use Rattle.tf_plan.specs.SerialOrder.{IsSerialOrder}
 use Rattle.tf_plan.proofs.Fitting.{serial_fits, serial_none}
-use Rattle.tf_plan.proofs.Steps.{partly_start, partly_more, serial_more, sum_take}
+use Rattle.tf_plan.proofs.Steps.{partly_start, partly_more, serial_more}
 
 module _ (k : ProblemData) (sized : IsSized k) (order : List ℕ) (sound : IsSerialOrder k order)
   where
     module _ (x : ℕ) (within : x < length order) (ps : List Piece) (now : ℕ)
         (is : IsSerial k order x ps now) where
-      abbrev times : List ℕ
-      times = (problem_job k (get_or order x 0)).times
+      abbrev j : ℕ
+      j = get_or order x 0
+
+      abbrev steps : List ℕ
+      steps = steps_of k j
 
       abbrev start : ℕ
-      start = max now (problem_release k (get_or order x 0))
+      start = max now (problem_release k j)
 
-      -- the first operations of the next job
-      laid_times : (i : ℕ) → i ≤ length times
-          → (qs : List Piece) × (end : ℕ) × IsPartly k order x (take i times) qs end
-      laid_times zero le =
-          (ps, start, partly_start k order sound x within ps now start sized is refl)
-      laid_times (suc i) le =
-          let (qs, end, part) = laid_times i (omega arith) in
-          let t : ℕ = get_or times i 0 in
-          let step : suc i ≡ i + 1 = omega arith in
-          let taken : length (take i times) ≡ i = length-take-le i times (omega (arith, le)) in (
-            qs ++ stretch (get_or order x 0) (i + 1) end t,
+      -- the first steps of the next job
+      laid_steps : (done : ℕ) → done ≤ length steps
+          → (qs : List Piece) × (end : ℕ) × IsPartly k order x done qs end
+      laid_steps zero le =
+          (ps, start, partly_start k sized order sound x within ps now start is refl)
+      laid_steps (suc done) le =
+          let (qs, end, part) = laid_steps done (omega (arith, le)) in
+          let a : ℕ = get_or steps done 0 in
+          let t : ℕ = get_or (problem_job k j).times a 0 in
+          let step : done + 1 ≡ suc done = omega arith in (
+            qs ++ stretch j (a + 1) end t,
             end + t,
-            partly_more k order sound x within (take i times) (take (suc i) times) t (i + 1)
-                (get_or order x 0) (end + t) qs (qs ++ stretch (get_or order x 0) (i + 1) end t) end
-                part (omega (arith, taken, le)) (sum_take (suc i) times) refl
-                (omega (arith, taken)) refl refl (ap (λ n. take n times) step ∙ take_more times i 0 (omega (arith, le))),
+            subst (λ n. IsPartly k order x n (qs ++ stretch j (a + 1) end t) (end + t)) step
+                (partly_more k sized order sound x within done (omega (arith, le)) t (a + 1) j (end + t)
+                qs (qs ++ stretch j (a + 1) end t) end part refl refl refl refl refl),
           )
 
       -- all of them
       laid_job : (qs : List Piece) × (end : ℕ) × IsSerial k order (x + 1) qs end
       laid_job =
-          let (qs, end, part) = laid_times (length times) (omega arith) in (
-            qs,
-            end,
-            serial_more k order sound x within (take (length times) times) qs end part
-                (take_all (length times) times (omega arith)),
-          )
+          let (qs, end, part) = laid_steps (length steps) (omega arith) in
+          (qs, end, serial_more k sized order sound x within (length steps) qs end part (omega arith))
 
     -- the first jobs of the order
     laid : (count : ℕ) → count ≤ length order

@@ -1,18 +1,22 @@
 -- What one more operation does to what is laid.
 use Rattle.std.proofs.Common.{◌≡◌, ◌≢◌, ◌⊎◌, ℕ, zero, suc, ◌+◌, ◌-◌, ◌<◌, ◌≤◌, max, min, Bool, true, false, cond, ◌&&◌, eqb, List, [], ◌∷◌, ◌++◌, length, get_or, sum, refl, sym, ap, subst, ◌∙◌, arith, inl, inr, length-append, append_assoc, take}
-use Rattle.std.specs.List.{sum_by, range_with_len, fold}
+use Rattle.std.specs.List.{sum_by, range_with_len}
 use Rattle.std.proofs.lemmas.Int.{ints}
-use Rattle.std.proofs.lemmas.List.{append-nil, get_or_append_left, get_or-append_right, get_or_past}
+use Rattle.std.proofs.lemmas.List.{append-nil, get_or_default, take_all}
 use Rattle.std.proofs.lemmas.List.Elements.{All-push}
 use Rattle.std.proofs.lemmas.List.Quantifiers.{all_pairs_push}
-use Rattle.std.proofs.lemmas.List.Sums.{sum_by_push, fold_push, sum_by-cons, sum_by-drop_more, sum_by-take-drop}
+use Rattle.std.proofs.lemmas.List.Sums.{sum_by_push, sum_by-cons, sum_by-drop_more, sum_by-take-drop, sum_by-take-le}
 use Rattle.std.proofs.lemmas.List.Sorted.{sum_by-IsPermutation}
 use Rattle.std.proofs.Math.Seq.{get_or-append_seam}
-use Rattle.std.proofs.lemmas.Bool.{cases_eq, cases_lt}
+use Rattle.std.proofs.lemmas.Bool.{cases_eq}
 use Rattle.std.proofs.lemmas.Bool.Decides.{nat_tests}
 use Rattle.tf_model.specs.Limit.{limit, most_machines}
 use Rattle.tf_model.specs.ClassTable.{is_shop_env}
 use Rattle.tf_bound.specs.Sized.{IsSized, all_work}
+use Rattle.tf_bound.specs.Steps.{steps_of}
+use Rattle.tf_bound.proofs.RouteTime.{share, share_same, share_other, each_time, whole_time}
+use Rattle.tf_bound.proofs.Steps.{sum_next}
+use Rattle.tf_bound.proofs.StepsOf.{steps_timed, steps_routed}
 use Rattle.tf_problem.specs.ProblemData.{ProblemData, ProblemJobData, IsProblemJob, problem_job, no_problem_job, problem_jobs, problem_release}
 use Rattle.tf_schedule.specs.declared.piece.Piece.{Piece}
 use Rattle.tf_schedule.specs.Piece.{piece_of}
@@ -21,7 +25,7 @@ use Rattle.tf_schedule.specs.Drawing.{duration, stop_of}
 use Rattle.tf_schedule.specs.SemiActive.{stretch}
 use Rattle.tf_schedule.proofs.Extents.{greatest_push, least_push}
 use Rattle.tf_plan.specs.SerialOrder.{IsSerialOrder}
-use Rattle.tf_plan.specs.Serial.{Precedes, IsUntouched, IsServed, IsTouching, IsSerialPiece, IsOfFirst, IsSerial, IsPartly, rest_work}
+use Rattle.tf_plan.specs.Serial.{Precedes, IsUntouched, IsServed, IsTouching, IsSerialPiece, IsOfFirst, IsSerial, IsPartly, rest_work, time_done}
 
 -- ---- what a piece does to the sums of a job
 
@@ -135,42 +139,36 @@ touching_more ps j i now t small (inr (stop, least, gapless)) = inr (
 
 -- ---- one more time
 
-work_on_more : (ts : List ℕ) (t : ℕ) (old new : ℕ → ℕ)
-    → ((i : ℕ) → old (i + 1) ≡ get_or ts i 0)
-    → new (length ts + 1) ≡ old (length ts + 1) + t
-    → ((a : ℕ) → length ts + 1 ≢ a → new a ≡ old a)
-    → (i : ℕ) → new (i + 1) ≡ get_or (ts ++ t ∷ []) i 0
-work_on_more ts t old new has own off i = elim (cases_eq i (length ts)) [
-  | inl same ↦
-      let here : get_or (ts ++ t ∷ []) i 0 ≡ t =
-      get_or-append_right ts (t ∷ []) (length ts) i 0 refl (omega arith)
-      ∙ (let e : i - length ts ≡ 0 = omega (arith, same) in ap (λ n. get_or (t ∷ []) n 0) e) in
-      let before : old (length ts + 1) ≡ 0 =
-      has (length ts) ∙ get_or_past ts (length ts) 0 (omega arith) in
-      let at : new (i + 1) ≡ new (length ts + 1) = ap (λ n. new (n + 1)) same in
-      omega (arith, here, before, at, own)
-  | inr differ ↦
-      off (i + 1) (λ e. differ (omega arith)) ∙ has i ∙ elim (cases_lt i (length ts)) [
-        | inl less ↦ sym (get_or_append_left ts (t ∷ []) 0 i less)
-        | inr ge ↦ get_or_past ts i 0 ge
-            ∙ sym (get_or_past (ts ++ t ∷ []) i 0 (omega (arith, length-append ts (t ∷ []))))
-      ]
+work_on_more : (f : ℕ → ℕ) (steps : List ℕ) (done : ℕ) → done < length steps
+    → (old new : ℕ → ℕ)
+    → ((i : ℕ) → old (i + 1) ≡ sum_by (share f i) (take done steps))
+    → new (get_or steps done 0 + 1) ≡ old (get_or steps done 0 + 1) + f (get_or steps done 0)
+    → ((a : ℕ) → get_or steps done 0 + 1 ≢ a → new a ≡ old a)
+    → (i : ℕ) → new (i + 1) ≡ sum_by (share f i) (take (done + 1) steps)
+work_on_more f steps done lt old new has own off i = elim (cases_eq (get_or steps done 0) i) [
+  | inl same ↦ omega (
+    arith,
+    ap (λ n. new (n + 1)) same,
+    ap (λ n. old (n + 1)) same,
+    own,
+    has i,
+    next,
+    share_same f i (get_or steps done 0) same,
+    ap f same,
+  )
+  | inr differ ↦ omega (
+    arith,
+    off (i + 1) (λ e. differ (omega (arith, e))),
+    has i,
+    next,
+    share_other f i (get_or steps done 0) differ,
+  )
 ]
-
-pub sum_push : (ts : List ℕ) (t : ℕ) → sum (ts ++ t ∷ []) ≡ sum ts + t
-sum_push ts t = fold_push (λ a b. a + b) 0 ts t
-
-sum_from : (a : ℕ) (xs : List ℕ) → fold (λ x y. x + y) a xs ≡ a + fold (λ x y. x + y) 0 xs
-sum_from a [] = omega arith
-sum_from a (x ∷ xs) = omega (arith, sum_from (a + x) xs, sum_from (0 + x) xs)
-
-sum_head : (x : ℕ) (xs : List ℕ) → sum (x ∷ xs) ≡ x + sum xs
-sum_head x xs = sum_from (0 + x) xs ∙ (let e : 0 + x ≡ x = omega arith in ap (λ y. y + sum xs) e)
-
-pub sum_take : (i : ℕ) (xs : List ℕ) → sum (take i xs) ≤ sum xs
-sum_take zero xs = omega arith
-sum_take (suc i) [] = omega arith
-sum_take (suc i) (x ∷ xs) = omega (arith, sum_head x (take i xs), sum_head x xs, sum_take i xs)
+  where
+    next : sum_by (share f i) (take (done + 1) steps)
+        ≡ sum_by (share f i) (take done steps) + share f i (get_or steps done 0)
+    next = sum_next (share f i) steps done (get_or steps done 0) lt
+        (get_or_default steps done 0 (get_or steps done 0) lt)
 
 piece_later : (k : ProblemData) (now end : ℕ) (p : Piece) → now ≤ end → IsSerialPiece k now p
     → IsSerialPiece k end p
@@ -234,30 +232,47 @@ released_room k order sound sized j job x =
       sum_by-take-drop (λ h. sum (problem_job k h).times) order x,
     )
 
-module _ (k : ProblemData) (order : List ℕ) (sound : IsSerialOrder k order) (x : ℕ)
-    (within : x < length order) where
+module _ (k : ProblemData) (sized : IsSized k) (order : List ℕ) (sound : IsSerialOrder k order)
+    (x : ℕ) (within : x < length order) where
   abbrev j : ℕ
   j = get_or order x 0
+
+  abbrev times : List ℕ
+  times = (problem_job k j).times
+
+  abbrev steps : List ℕ
+  steps = steps_of k j
 
   differ : (y : ℕ) → y < x → j ≢ get_or order y 0
   differ y lt e = sound.once y x 0 lt within (sym e)
 
+  job : IsProblemJob k j
+  job = sound.jobs x 0 within
+
+  pub next_time : (done : ℕ) → done < length steps
+      → time_done k j (take (done + 1) steps)
+      ≡ time_done k j (take done steps) + get_or times (get_or steps done 0) 0
+  next_time done lt =
+      sum_next (λ a. get_or times a 0) steps done (get_or steps done 0) lt
+      (get_or_default steps done 0 (get_or steps done 0) lt)
+
+  pub front_small : (done : ℕ) → time_done k j (take done steps) ≤ sum times
+  front_small done =
+      omega (
+        arith,
+        sum_by-take-le (λ a. get_or times a 0) steps done,
+        whole_time times steps (steps_routed k sized j job),
+      )
+
   -- before the first operation of a job
-  pub partly_start : (ps : List Piece) (now end : ℕ) → IsSized k → IsSerial k order x ps now
-      → end ≡ max now (problem_release k j) → IsPartly k order x [] ps end
-  partly_start ps now end sized is at =
+  pub partly_start : (ps : List Piece) (now end : ℕ) → IsSerial k order x ps now
+      → end ≡ max now (problem_release k j) → IsPartly k order x 0 ps end
+  partly_start ps now end is at =
       let more : rest_work k order x ≡ sum (problem_job k j).times + rest_work k order (x + 1) =
       sum_by-drop_more (λ h. sum (problem_job k h).times) order x 0 within in
       let bare = is.rest j (λ y lt e. differ y lt (sym e)) in
       record {
-        room = omega (
-          arith,
-          is.room,
-          at,
-          more,
-          released_room k order sound sized j
-              (sound.jobs x 0 within) x,
-        );
+        room = omega (arith, is.room, at, more, released_room k order sound sized j job x);
         front = omega arith;
         released = omega (arith, at);
         each = λ n d h. piece_later k now end (get_or ps n d) (omega (arith, at)) (is.each n d h);
@@ -270,107 +285,120 @@ module _ (k : ProblemData) (order : List ℕ) (sound : IsSerialOrder k order) (x
         work_on = bare.work_on;
       }
 
-  -- an operation of time 0
-  partly_idle : (ts : List ℕ) (ps : List Piece) (now : ℕ) → IsPartly k order x ts ps now
-      → IsPartly k order x (ts ++ zero ∷ []) ps now
-  partly_idle ts ps now is = record {
-    room = omega (arith, is.room, sum_push ts zero);
-    front = omega (arith, is.front, sum_push ts zero);
-    released = is.released;
-    each = is.each;
-    pairs = is.pairs;
-    jobs = λ n d h. elim (is.jobs n d h) [
-      | inl before ↦ inl before
-      | inr own ↦ inr (own.0, omega (arith, own.1, length-append ts (zero ∷ [])))
-    ];
-    served = is.served;
-    rest = is.rest;
-    touching = is.touching;
-    work = omega (arith, is.work, sum_push ts zero);
-    work_on = work_on_more ts zero (work_on ps j) (work_on ps j) is.work_on (omega arith)
-        (λ a off. refl);
-  }
+  module _ (done : ℕ) (lt : done < length steps) where
+    abbrev a : ℕ
+    a = get_or steps done 0
 
-  -- an operation
-  partly_piece : (ts : List ℕ) (t : ℕ) (ps : List Piece) (now : ℕ) → IsPartly k order x ts ps now
-      → length ts < length (problem_job k j).times
-      → sum (ts ++ suc t ∷ []) ≤ sum (problem_job k j).times
-      → IsPartly k order x (ts ++ suc t ∷ [])
-      (ps ++ piece_of j (length ts + 1) now (now + suc t) ∷ []) (now + suc t)
-  partly_piece ts t ps now is len fits =
-      let i : ℕ = length ts + 1 in
-      let q : Piece = piece_of j (length ts + 1) now (now + suc t) in
-      record {
-        room = omega (arith, is.room, sum_push ts (suc t));
-        front = fits;
-        released = omega (arith, is.released);
-        each = All-push (IsSerialPiece k (now + suc t)) ps q
-            (λ n d h. piece_later k now (now + suc t) (get_or ps n d) (omega arith) (is.each n d h))
-            (record {
-              job = sound.jobs x 0 within;
-              machine = (omega arith, omega (arith, len));
-              low = omega (arith, ints);
-              full = omega (arith, ints);
-              released = is.released;
-              ended = omega arith;
-            });
-        pairs = all_pairs_push (Precedes order) ps q is.pairs (λ n d h. record {
-          over = (is.each n d h).ended;
-          follows = elim (is.jobs n d h) [
-            | inl before ↦ inr (record {
-              x = before.0;
-              y = x;
-              lt = before.1;
-              within = within;
-              first = before.2;
-              second = refl;
-            })
-            | inr own ↦ inl (own.0, omega (arith, own.1))
-          ];
-        });
-        jobs = All-push (λ p. IsOfFirst order x p.job
-            ⊎ ((p.job ≡ get_or order x 0) × (p.machine ≤ length (ts ++ suc t ∷ [])))) ps q
-            (λ n d h. elim (is.jobs n d h) [
-              | inl before ↦ inl before
-              | inr own ↦ inr (own.0, omega (arith, own.1, length-append ts (suc t ∷ [])))
-            ])
-            (inr (refl, omega (arith, length-append ts (suc t ∷ []))));
-        served = λ y lt. served_same (problem_job k (get_or order y 0)).times ps (ps ++ q ∷ [])
-            (get_or order y 0)
-            (other ps j (length ts + 1) now t (get_or order y 0) (differ y lt)) (is.served y lt);
-        rest = λ h away. untouched_same ps (ps ++ q ∷ []) h
-            (other ps j (length ts + 1) now t h (away x (omega arith))) (is.rest h away);
-        touching = touching_more ps j (length ts + 1) now t (omega (arith, is.room, is.front)) is.touching;
-        work = omega
-            (arith, own_work ps j (length ts + 1) now t, is.work, sum_push ts (suc t));
-        work_on = work_on_more ts (suc t) (work_on ps j) (work_on (ps ++ q ∷ []) j) is.work_on
-            (own_on ps j (length ts + 1) now t) (own_off ps j (length ts + 1) now t);
-      }
+    -- an operation of time 0
+    partly_idle : (ps : List Piece) (now : ℕ) → get_or times a 0 ≡ 0 → IsPartly k order x done ps now
+        → IsPartly k order x (done + 1) ps now
+    partly_idle ps now none is = record {
+      room = omega (arith, is.room, next_time done lt);
+      front = front_small (done + 1);
+      released = is.released;
+      each = is.each;
+      pairs = is.pairs;
+      jobs = λ n d h. elim (is.jobs n d h) [
+        | inl before ↦ inl before
+        | inr own ↦ inr (own.0, (own.1.0, omega (arith, own.1.1), own.1.2))
+      ];
+      served = is.served;
+      rest = is.rest;
+      touching = is.touching;
+      work = omega (arith, is.work, next_time done lt, none);
+      work_on = work_on_more (λ b. get_or times b 0) steps done lt (work_on ps j) (work_on ps j)
+          is.work_on (omega (arith, none)) (λ b off. refl);
+    }
 
-  partly_stretch : (ts : List ℕ) (t : ℕ) (ps : List Piece) (now : ℕ) → IsPartly k order x ts ps now
-      → length ts < length (problem_job k j).times → sum (ts ++ t ∷ []) ≤ sum (problem_job k j).times
-      → IsPartly k order x (ts ++ t ∷ []) (ps ++ stretch j (length ts + 1) now t) (now + t)
-  partly_stretch ts zero ps now is len fits =
-      let same : now + zero ≡ now = omega arith in
-      subst (λ end. IsPartly k order x (ts ++ zero ∷ []) (ps ++ []) end) (sym same)
-      (subst (λ qs. IsPartly k order x (ts ++ zero ∷ []) qs now) (sym (append-nil ps))
-      (partly_idle ts ps now is))
-  partly_stretch ts (suc t) ps now is len fits = partly_piece ts t ps now is len fits
+    -- an operation
+    partly_piece : (t : ℕ) (ps : List Piece) (now : ℕ) → get_or times a 0 ≡ suc t
+        → IsPartly k order x done ps now
+        → IsPartly k order x (done + 1) (ps ++ piece_of j (a + 1) now (now + suc t) ∷ [])
+        (now + suc t)
+    partly_piece t ps now is_time is =
+        let q : Piece = piece_of j (a + 1) now (now + suc t) in
+        let timed : a < length times = steps_timed k sized j job done 0 lt in
+        record {
+          room = omega (arith, is.room, next_time done lt, is_time);
+          front = front_small (done + 1);
+          released = omega (arith, is.released);
+          each = All-push (IsSerialPiece k (now + suc t)) ps q
+              (λ n d h. piece_later k now (now + suc t) (get_or ps n d) (omega arith) (is.each n d h))
+              (record {
+                job = job;
+                machine = (omega arith, omega (arith, timed));
+                low = omega (arith, ints);
+                full = omega (arith, ints);
+                released = is.released;
+                ended = omega arith;
+              });
+          pairs = all_pairs_push (Precedes k order) ps q is.pairs (λ n d h. record {
+            over = (is.each n d h).ended;
+            follows = elim (is.jobs n d h) [
+              | inl before ↦ inr (record {
+                x = before.0;
+                y = x;
+                lt = before.1;
+                within = within;
+                first = before.2;
+                second = refl;
+              })
+              | inr own ↦ inl (
+                own.0,
+                record {
+                  x = own.1.0;
+                  y = done;
+                  lt = own.1.1;
+                  within = lt;
+                  first = own.1.2;
+                  second = less_one a;
+                },
+              )
+            ];
+          });
+          jobs = All-push (λ p. IsOfFirst order x p.job
+              ⊎ ((p.job ≡ get_or order x 0) × IsOfFirst steps (done + 1) (p.machine - 1))) ps q
+              (λ n d h. elim (is.jobs n d h) [
+                | inl before ↦ inl before
+                | inr own ↦ inr (own.0, (own.1.0, omega (arith, own.1.1), own.1.2))
+              ])
+              (inr (refl, (done, omega arith, less_one a)));
+          served = λ y lt. served_same (problem_job k (get_or order y 0)).times ps (ps ++ q ∷ [])
+              (get_or order y 0) (other ps j (a + 1) now t (get_or order y 0) (differ y lt))
+              (is.served y lt);
+          rest = λ h away. untouched_same ps (ps ++ q ∷ []) h
+              (other ps j (a + 1) now t h (away x (omega arith))) (is.rest h away);
+          touching = touching_more ps j (a + 1) now t (omega (arith, is.room, is.front)) is.touching;
+          work = omega (arith, own_work ps j (a + 1) now t, is.work, next_time done lt, is_time);
+          work_on = work_on_more (λ b. get_or times b 0) steps done lt (work_on ps j)
+              (work_on (ps ++ q ∷ []) j) is.work_on
+              (omega (arith, own_on ps j (a + 1) now t, is_time)) (own_off ps j (a + 1) now t);
+        }
+      where
+        less_one : (n : ℕ) → n ≡ n + 1 - 1
+        less_one n = omega arith
 
-  pub partly_more : (ts us : List ℕ) (t i job end : ℕ) (ps more : List Piece) (now : ℕ)
-      → IsPartly k order x ts ps now → length ts < length (problem_job k j).times
-      → sum us ≤ sum (problem_job k j).times
-      → job ≡ j → i ≡ length ts + 1 → more ≡ ps ++ stretch job i now t → end ≡ now + t
-      → us ≡ ts ++ t ∷ []
-      → IsPartly k order x us more end
-  partly_more ts us t i job end ps more now is len fits own on added at times =
-      let done = partly_stretch ts t ps now is len (subst (λ vs. sum vs ≤ sum (problem_job k j).times) times fits) in
-      let laid : ps ++ stretch j (length ts + 1) now t ≡ more =
-      ap (λ a. ps ++ stretch a (length ts + 1) now t) (sym own)
-      ∙ ap (λ a. ps ++ stretch job a now t) (sym on) ∙ sym added in
-      subst (λ vs. IsPartly k order x vs more end) (sym times)
-      (subst (λ e. IsPartly k order x (ts ++ t ∷ []) more e) (sym at)
-      (subst (λ qs. IsPartly k order x (ts ++ t ∷ []) qs (now + t)) laid done))
+    partly_stretch : (t : ℕ) (ps : List Piece) (now : ℕ) → get_or times a 0 ≡ t
+        → IsPartly k order x done ps now
+        → IsPartly k order x (done + 1) (ps ++ stretch j (a + 1) now t) (now + t)
+    partly_stretch zero ps now is_time is =
+        let same : now + zero ≡ now = omega arith in
+        subst (λ end. IsPartly k order x (done + 1) (ps ++ []) end) (sym same)
+        (subst (λ qs. IsPartly k order x (done + 1) qs now) (sym (append-nil ps))
+        (partly_idle ps now is_time is))
+    partly_stretch (suc t) ps now is_time is = partly_piece t ps now is_time is
+
+    pub partly_more : (t i own end : ℕ) (ps more : List Piece) (now : ℕ)
+        → IsPartly k order x done ps now → t ≡ get_or times a 0 → own ≡ j → i ≡ a + 1
+        → more ≡ ps ++ stretch own i now t → end ≡ now + t
+        → IsPartly k order x (done + 1) more end
+    partly_more t i own end ps more now is is_time owned on added at =
+        let laid : ps ++ stretch j (a + 1) now t ≡ more =
+        ap (λ h. ps ++ stretch h (a + 1) now t) (sym owned)
+        ∙ ap (λ h. ps ++ stretch own h now t) (sym on) ∙ sym added in
+        subst (λ e. IsPartly k order x (done + 1) more e) (sym at)
+        (subst (λ qs. IsPartly k order x (done + 1) qs (now + t)) laid
+        (partly_stretch t ps now (sym is_time) is))
 
   -- behind the last
   gapless : (ps : List Piece) (now : ℕ) → IsTouching ps j now
@@ -378,26 +406,36 @@ module _ (k : ProblemData) (order : List ℕ) (sound : IsSerialOrder k order) (x
   gapless ps now (inl (none, least, idle)) = omega (arith, none, least, idle)
   gapless ps now (inr (stop, least, whole)) = whole
 
-  pub serial_more : (times : List ℕ) (ps : List Piece) (now : ℕ) → IsPartly k order x times ps now
-      → times ≡ (problem_job k j).times → IsSerial k order (x + 1) ps now
-  serial_more times ps now is all = record {
-    room = omega (arith, is.room, ap (λ ts. sum ts) all);
-    each = is.each;
-    pairs = is.pairs;
-    jobs = λ n d h. elim (is.jobs n d h) [
-      | inl before ↦ (before.0, omega (arith, before.1), before.2)
-      | inr own ↦ (x, omega arith, sym own.0)
-    ];
-    served = λ y lt. elim (cases_eq y x) [
-      | inl same ↦
-          subst (λ z. IsServed (problem_job k (get_or order z 0)).times ps (get_or order z 0))
-          (sym same)
-          (subst (λ ts. IsServed ts ps j) all
-          (record { gapless = gapless ps now is.touching; work = is.work; work_on = is.work_on }))
-      | inr differ ↦ is.served y (omega arith)
-    ];
-    rest = is.rest;
-  }
+  pub serial_more : (done : ℕ) (ps : List Piece) (now : ℕ) → IsPartly k order x done ps now
+      → length steps ≤ done → IsSerial k order (x + 1) ps now
+  serial_more done ps now is all =
+      let taken : take done steps ≡ steps = take_all done steps all in
+      let routed = steps_routed k sized j job in
+      let whole : time_done k j (take done steps) ≡ sum times =
+      ap (time_done k j) taken ∙ whole_time times steps routed in
+      record {
+        room = omega (arith, is.room, whole);
+        each = is.each;
+        pairs = is.pairs;
+        jobs = λ n d h. elim (is.jobs n d h) [
+          | inl before ↦ (before.0, omega (arith, before.1), before.2)
+          | inr own ↦ (x, omega arith, sym own.0)
+        ];
+        served = λ y lt. elim (cases_eq y x) [
+          | inl same ↦
+              subst (λ z. IsServed (problem_job k (get_or order z 0)).times ps (get_or order z 0))
+              (sym same)
+              (record {
+                gapless = gapless ps now is.touching;
+                work = is.work ∙ whole;
+                work_on = λ i. is.work_on i
+                    ∙ ap (λ l. sum_by (share (λ b. get_or times b 0) i) l) taken
+                    ∙ each_time times steps routed i;
+              })
+          | inr differ ↦ is.served y (omega arith)
+        ];
+        rest = is.rest;
+      }
 
 -- a job has few times
 few : (b : Bool) (m : ℕ) (xs : List ℕ) → (b ≡ false → length xs ≡ 1) → (b ≡ true → length xs ≡ m)

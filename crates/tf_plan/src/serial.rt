@@ -13,7 +13,7 @@ use tf_schedule::piece::Piece;
 use tf_schedule::semi_active::{Operation, push_stretch};
 
 // The pieces of all jobs one after another in this order, each when the job before it is completed
-// and it is released, on the machines from the first on, without a gap.
+// and it is released, on the machines of its steps, without a gap.
 fn one_after_another<A: Allocator, B: Allocator>(
     alloc: A,
     task: &ProblemTask<B>,
@@ -47,12 +47,12 @@ fn push_job<A: Allocator, B: Allocator>(
     let job = order[place];
     let times = task.times(job);
     let mut end = now.max(task.release(job));
-    for i in 0..times.len() {
-        let time = times[i];
+    for i in 0..task.steps(job) {
+        let machine = task.step(job, i);
         let operation = Operation {
             job,
-            machine: MachineId::at(i),
-            time,
+            machine: MachineId::at(machine),
+            time: times[machine],
         };
         end = push_stretch(pieces, operation, end)?;
     }

@@ -2,13 +2,17 @@
 use std::alloc::Allocator;
 use tf_bound::task::ProblemTask;
 use tf_decode::lay::lay;
-use tf_decode::table::{JobNumbers, TaskNumbers, TaskTable};
+use tf_decode::measure::Measure;
+use tf_decode::routes::Routes;
+use tf_decode::table::{Decoder, JobNumbers, TaskNumbers, TaskTable};
 use tf_improve::improve::{SearchEffort, improved};
 use tf_model::ids::JobId;
 use tf_model::memory::OutOfMemory;
+use tf_model::problem::Env;
 use tf_plan::plan::plan_of_pieces;
 use tf_rules::rule::{list_by, rules_for};
 use tf_schedule::piece::Piece;
+use tf_shops::tabu;
 
 // How many operations all rules together may place. The first rules are tried in any case.
 const MOST_PLACED: usize = 20_000_000;
@@ -26,6 +30,9 @@ const MOST_STEPS: u64 = 100_000_000;
 // The most jobs of which a schedule is searched, since each change may move as many costs.
 const MOST_SEARCHED: usize = 5_000;
 
+// A job shop is harder: so many times the usual steps.
+const JOB_SHOP_FACTOR: u64 = 5;
+
 // How many steps a search takes for each one that the caller grants.
 const STEPS_GRANTED: u64 = 10_000;
 
@@ -39,9 +46,12 @@ pub(crate) struct Given {
 }
 
 impl Given {
-    // The effort of a search over so many jobs.
-    fn effort(self, jobs: usize) -> SearchEffort {
-        let usual = USUAL_STEPS.saturating_mul(jobs as u64);
+    // The effort of a search over so many jobs, in a job shop or not.
+    fn effort(self, jobs: usize, is_job_shop: bool) -> SearchEffort {
+        let factor = if is_job_shop { JOB_SHOP_FACTOR } else { 1 };
+        let usual = USUAL_STEPS
+            .saturating_mul(factor)
+            .saturating_mul(jobs as u64);
         let steps = match self.steps {
             Some(steps) => STEPS_GRANTED.saturating_mul(u64::from(steps)),
             None => usual.clamp(LEAST_STEPS, MOST_STEPS),
@@ -66,8 +76,25 @@ pub(crate) fn best_pieces<A: Allocator + Copy, B: Allocator>(
     if task.len() > MOST_SEARCHED {
         return lay(alloc, &table, &first);
     }
-    let list = improved(alloc, &table, first, given.effort(task.len()))?;
+    let is_job_shop = matches!(task.problem().env, Env::JobShop);
+    let list = searched(alloc, &table, first, given.effort(task.len(), is_job_shop))?;
     lay(alloc, &table, &list)
+}
+
+// A list that costs no more than the first. Large job shops with sums keep it.
+fn searched<A: Allocator + Copy>(
+    alloc: A,
+    table: &TaskTable<A>,
+    first: Vec<u32, A>,
+    effort: SearchEffort,
+) -> Result<Vec<u32, A>, OutOfMemory> {
+    match (table.decoder, table.measure) {
+        (Decoder::JobOperations, Measure::MaximumLateness) => {
+            tabu::improved(alloc, table, first, effort)
+        }
+        (Decoder::JobOperations, _) => Ok(first),
+        _ => improved(alloc, table, first, effort),
+    }
 }
 
 // The numbers of a task as a search reads them.
@@ -79,6 +106,7 @@ fn table_of<A: Allocator + Copy, B: Allocator>(
     let numbers = TaskNumbers {
         jobs: jobs_of(alloc, task)?,
         times: times_of(alloc, task)?,
+        routes: routes_of(alloc, task)?,
         machines: task.machines() as usize,
     };
     TaskTable::new(alloc, &task.problem(), numbers, task.arcs(), order)
@@ -110,6 +138,22 @@ fn times_of<A: Allocator, B: Allocator>(
         times.extend_from_slice(task.times(JobId::at(k)))?;
     }
     Ok(times)
+}
+
+// The operations of each job of a job shop.
+fn routes_of<A: Allocator + Copy, B: Allocator>(
+    alloc: A,
+    task: &ProblemTask<B>,
+) -> Result<Routes<A>, OutOfMemory> {
+    let mut routes = Routes::none(alloc);
+    if !matches!(task.problem().env, Env::JobShop) {
+        return Ok(routes);
+    }
+    for k in 0..task.len() {
+        let job = JobId::at(k);
+        routes.push_job(task.route(job), task.times(job))?;
+    }
+    Ok(routes)
 }
 
 // The list of the rule whose schedule costs least, or of the first that costs as much as the bound.

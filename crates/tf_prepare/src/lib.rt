@@ -2,4 +2,5 @@
 #![tactic(auto)]
 
 pub mod prepare;
+pub mod routed;
 pub mod timed;

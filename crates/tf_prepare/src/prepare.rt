@@ -3,12 +3,13 @@ ghost use Rattle.std.specs.Prelude.{◌≡◌, ◌<◌, ◌≤◌, [], if◌then
 ghost use Rattle.std.specs.Prelude.{IfOk, IfErr};
 ghost use Rattle.std.specs.Option.{ForSome};
 ghost use Rattle.tf_model.specs.Prepare.{agreed};
-ghost use Rattle.tf_bound.specs.JobTimes.{listed};
-ghost use Rattle.tf_prepare.specs.Preparing.{uses_weight, uses_due, machines_in};
+ghost use Rattle.tf_bound.specs.JobTimes.{listed, route_in};
+ghost use Rattle.tf_prepare.specs.Preparing.{uses_weight, uses_due, count_in, machines_in};
 ghost use Rattle.tf_prepare.specs.Preparing.{has_wrong_times_in, wrong_times_in, lacking_in};
-ghost use Rattle.tf_prepare.specs.Preparing.{missing_in, idle_in, jobs_refusal_in, job_in, jobs_in};
+ghost use Rattle.tf_prepare.specs.Preparing.{missing_in, idle_in, jobs_refusal_in, job_in, jobs_in, plain_in};
 ghost use Rattle.tf_prepare.specs.Preparing.{task_in, prepared_in, PreparesIn, IsOfSize};
 
+use crate::routed::prepare_routed;
 use crate::timed::{TimedInstance, as_time};
 use std::alloc::{AllocError, Allocator};
 use tf_bound::job_times::JobTimes;
@@ -21,8 +22,9 @@ use tf_model::problem::{Env, Goal, Problem};
 
 /// The task of an instance and a problem: the fields that the problem uses, with the number of
 /// machines that the notation, the argument or the instance gives. A shop has two machines, or as
-/// many as the instance has times for. Otherwise the first refusal, each kind over all jobs before
-/// the next kind, with the smallest job; totals come last.
+/// many as the instance has times for; a job shop without such a number as many as its routes
+/// name. Otherwise the first refusal, each kind over all jobs before the next kind, with the
+/// smallest job; totals come last.
 pub fn prepare_problem<A: Allocator + Copy, B: Allocator>(
     alloc: A,
     timed: &TimedInstance<B>,
@@ -30,6 +32,22 @@ pub fn prepare_problem<A: Allocator + Copy, B: Allocator>(
     machines: Option<u32>,
 ) -> Result<ProblemTask<A>, Refusal>
     ensures { PreparesIn result (prepared_in timed.now problem.now machines) }
+{
+    match timed.routes() {
+        Some(routes) => prepare_routed(alloc, timed.instance(), routes, problem, machines),
+        None if matches!(problem.env, Env::JobShop) => Err(Refusal::WrongTimes(JobId::at(0))),
+        None => prepare_plain(alloc, timed, problem, machines),
+    }
+}
+
+// The task of an instance without routes.
+fn prepare_plain<A: Allocator + Copy, B: Allocator>(
+    alloc: A,
+    timed: &TimedInstance<B>,
+    problem: &Problem,
+    machines: Option<u32>,
+) -> Result<ProblemTask<A>, Refusal>
+    ensures { PreparesIn result (plain_in timed.now problem.now machines) }
 {
     let given = timed.instance().machines();
     let machines = machines_in(problem, timed.is_by_machine(), machines, given)?;
@@ -57,7 +75,7 @@ pub fn uses_due(goal: Goal) -> bool
 }
 
 // The machine count that two places give, each perhaps none.
-fn agreed(one: Option<u32>, other: Option<u32>) -> Result<Option<u32>, Refusal>
+pub(crate) fn agreed(one: Option<u32>, other: Option<u32>) -> Result<Option<u32>, Refusal>
     ensures { result ≡ agreed one other }
 {
     match (one, other) {
@@ -84,7 +102,14 @@ fn machines_in(
     let Some(m) = agreed(count, instance)? else {
         return Err(Refusal::MachinesMissing);
     };
-    let wants_two = problem.env.is_shop() && !is_by_machine;
+    count_in(problem, is_by_machine, m)
+}
+
+// A number of machines that is one: a shop whose jobs have times of their own has two.
+pub(crate) fn count_in(problem: &Problem, is_listed: bool, m: u32) -> Result<u32, Refusal>
+    ensures { result ≡ count_in problem.now is_listed m }
+{
+    let wants_two = problem.env.is_shop() && !is_listed;
     if m == 0 || m > MOST_MACHINES || (wants_two && m != 2) {
         return Err(Refusal::MachineCount(m));
     }
@@ -142,7 +167,7 @@ fn lacking<A: Allocator>(problem: &Problem, job: &Job<A>) -> Option<Field>
     None
 }
 
-fn first_missing<A: Allocator>(problem: &Problem, jobs: &[Job<A>]) -> Option<Refusal>
+pub(crate) fn first_missing<A: Allocator>(problem: &Problem, jobs: &[Job<A>]) -> Option<Refusal>
     requires { length jobs.now ≤ MOST_JOBS }
     ensures { result ≡ missing_in problem.now 1 jobs.now }
 {
@@ -181,12 +206,12 @@ fn jobs_refusal<A: Allocator>(problem: &Problem, timed: &TimedInstance<A>) -> Op
 }
 
 // What the problem uses of a job with these times, and what is neutral for the rest.
-fn job_in<A: Allocator, B: Allocator>(
+pub(crate) fn job_in<A: Allocator, B: Allocator>(
     problem: &Problem,
     times: JobTimes<A>,
     job: &Job<B>,
 ) -> ProblemJob<A>
-    ensures { result ≡ job_in problem.now (listed times) job.now }
+    ensures { result ≡ job_in problem.now (listed times) (route_in times) job.now }
 {
     ProblemJob {
         times,
@@ -226,7 +251,7 @@ fn jobs_in<A: Allocator + Copy, B: Allocator>(
 }
 
 // The arcs, where the problem uses them.
-fn arcs_in<A: Allocator>(
+pub(crate) fn arcs_in<A: Allocator>(
     alloc: A,
     problem: &Problem,
     arcs: &[(JobId, JobId)],

@@ -1,8 +1,8 @@
 //! An instance with the processing times of its jobs.
-ghost use Rattle.std.specs.Prelude.{◌≡◌, ◌==◌, slice_index, map, IfOk};
+ghost use Rattle.std.specs.Prelude.{◌≡◌, ◌==◌, [], slice_index, map, IfOk};
 ghost use Rattle.std.specs.List.{list_all};
 ghost use Rattle.tf_model.specs.Whole.{as_time};
-ghost use Rattle.tf_bound.specs.JobTimes.{listed};
+ghost use Rattle.tf_bound.specs.JobTimes.{listed, route_in};
 ghost use Rattle.tf_prepare.specs.Preparing.{times_of, is_idle};
 
 use std::alloc::{AllocError, Allocator, Global};
@@ -10,6 +10,8 @@ use std::marker::Model;
 use tf_bound::job_times::JobTimes;
 use tf_model::instance::Instance;
 use tf_model::job::{Job, Times};
+use tf_routes::route::Route;
+use tf_routes::routed::RoutedInstance;
 
 /// The processing times of all jobs on one machine, in the order of the jobs.
 #[derive(Drop)]
@@ -45,16 +47,17 @@ impl<A: Allocator> MachineTimes<A> {
 }
 
 /// An instance, and the processing times of its jobs: those that the jobs have themselves, or for a
-/// shop those on each of its machines.
+/// shop those on each of its machines, or for a job shop those of the steps of each job's route.
 #[derive(Drop)]
 pub struct TimedInstance<A: Allocator = Global> {
     instance: Instance<A>,
     by_machine: Option<Vec<MachineTimes<A>, A>>,
+    routes: Option<Vec<Route<A>, A>>,
 }
 
 impl<A: Allocator> Model for TimedInstance<A> {
     ghost use Rattle.std.specs.Option.{option_map};
-    ghost use Rattle.tf_prepare.specs.TimedData.{TimedData};
+    ghost use Rattle.tf_prepare.specs.TimedData.{HaveRoutes, TimedData};
 
     ghost Value = { TimedData };
 
@@ -62,13 +65,19 @@ impl<A: Allocator> Model for TimedInstance<A> {
         record {
           instance = t.instance;
           by_machine = option_map (λ machines. machines.items) t.by_machine;
+          routes = option_map (λ routes. routes.items) t.routes;
         } };
+
+    ghost invariant = { λ t.
+        HaveRoutes t.instance (option_map (λ routes. routes.items) t.routes) };
 }
 
 impl<A: Allocator> TimedInstance<A> {
-    ghost use Rattle.std.specs.Prelude.{◌≡◌, Some, is_some, IfOk};
-    ghost use Rattle.tf_bound.specs.JobTimes.{listed};
-    ghost use Rattle.tf_prepare.specs.TimedData.{TimedData, self_timed};
+    ghost use Rattle.std.specs.Prelude.{◌≡◌, None, Some, [], is_some, IfOk, IfSome, IfNone};
+    ghost use Rattle.tf_bound.specs.JobTimes.{listed, route_in};
+    ghost use Rattle.tf_model.specs.Limit.{most_machines};
+    ghost use Rattle.tf_routes.specs.RoutedData.{IsRouted};
+    ghost use Rattle.tf_prepare.specs.TimedData.{self_timed, with_routes};
     ghost use Rattle.tf_prepare.specs.Preparing.{times_in, is_idle};
 
     /// With the times of the jobs themselves.
@@ -78,16 +87,47 @@ impl<A: Allocator> TimedInstance<A> {
         TimedInstance {
             instance,
             by_machine: None,
+            routes: None,
         }
     }
 
     /// With the times on each machine of a shop, from the first on.
     pub fn by_machine(instance: Instance<A>, machines: Vec<MachineTimes<A>, A>) -> Self
-        ensures { result ≡ record { instance = instance; by_machine = Some machines.items } }
+        ensures { result ≡ record {
+          instance = instance;
+          by_machine = Some machines.items;
+          routes = None;
+        } }
     {
         TimedInstance {
             instance,
             by_machine: Some(machines),
+            routes: None,
+        }
+    }
+
+    /// With the routes of the jobs, of which none visits a machine twice.
+    pub fn routed(routed: RoutedInstance<A>) -> Self
+        requires { IsRouted most_machines routed }
+        ensures { result ≡ with_routes routed }
+    {
+        TimedInstance {
+            instance: routed.instance,
+            by_machine: None,
+            routes: Some(routed.routes),
+        }
+    }
+
+    /// The routes of the jobs, where they have some.
+    pub(crate) fn routes(&self) -> Option<&[Route<A>]>
+        ensures none { IfNone result (self.now.routes ≡ None) }
+        ensures some { IfSome result (λ routes. self.now.routes ≡ Some routes.now) }
+        ensures routed { IfSome result (λ routes. IsRouted most_machines
+            (record { instance = self.now.instance; routes = routes.now })) }
+    {
+        match &self.routes {
+            Some(routes) => Some(routes),
+            None => None,
         }
     }
 
@@ -112,7 +152,9 @@ impl<A: Allocator> TimedInstance<A> {
         place: usize,
         job: &Job<A>,
     ) -> Result<JobTimes<B>, AllocError>
-        ensures { IfOk result (λ all. listed all ≡ times_in self.now.by_machine place job.now) }
+        ensures times { IfOk result
+            (λ all. listed all ≡ times_in self.now.by_machine place job.now) }
+        ensures unrouted { IfOk result (λ all. route_in all ≡ []) }
     {
         match &self.by_machine {
             Some(machines) => Ok(JobTimes::Each(times_at(alloc, machines, place)?)),
@@ -139,7 +181,8 @@ pub(crate) fn as_time(number: i64) -> u64
 }
 
 fn times_of<A: Allocator>(alloc: A, times: Times) -> Result<JobTimes<A>, AllocError>
-    ensures { IfOk result (λ all. listed all ≡ times_of times) }
+    ensures times { IfOk result (λ all. listed all ≡ times_of times) }
+    ensures unrouted { IfOk result (λ all. route_in all ≡ []) }
 {
     match times {
         Times::One(time) => Ok(JobTimes::One(as_time(time))),

@@ -3,6 +3,7 @@
 //! Nothing is promised of the lists: a search tries them all and begins with the best.
 #![tactic(auto)]
 
+mod dispatch;
 mod due_dates;
 mod keys;
 mod listing;

@@ -1,4 +1,5 @@
 //! The rules, and the list of each.
+use crate::dispatch::dispatched;
 use crate::due_dates::few_late;
 use crate::keys::keys_of;
 use crate::listing::listed;
@@ -41,6 +42,7 @@ pub fn rules_for<A: Allocator + Copy, B: Allocator>(
     alloc: A,
     table: &TaskTable<B>,
 ) -> Result<Vec<Rule, A>, OutOfMemory> {
+    let is_dispatched = matches!(table.decoder, Decoder::JobOperations);
     let mut rules = Vec::new(alloc);
     rules.push(Rule::LongestTail)?;
     rules.push(Rule::EarliestDue)?;
@@ -51,7 +53,8 @@ pub fn rules_for<A: Allocator + Copy, B: Allocator>(
             rules.push(Rule::Johnson(count))?;
         }
     }
-    if matches!(table.measure, Measure::LateWeight) && !table.has_arcs {
+    let is_late_weight = matches!(table.measure, Measure::LateWeight);
+    if is_late_weight && !table.has_arcs && !is_dispatched {
         rules.push(Rule::FewLate)?;
     }
     let is_preempted = matches!(table.decoder, Decoder::Priorities);
@@ -59,7 +62,7 @@ pub fn rules_for<A: Allocator + Copy, B: Allocator>(
         rules.push(Rule::ShortestRemaining)?;
     }
     let is_sum = !matches!(table.measure, Measure::MaximumLateness);
-    if is_sum && table.jobs.len() <= MOST_URGENT {
+    if is_sum && table.jobs.len() <= MOST_URGENT && !is_dispatched {
         for look in [5_u64, 12, 19, 26, 33, 40] {
             rules.push(Rule::Urgency(look))?;
         }
@@ -73,6 +76,9 @@ pub fn list_by<A: Allocator + Copy, B: Allocator>(
     table: &TaskTable<B>,
     rule: Rule,
 ) -> Result<Vec<u32, A>, OutOfMemory> {
+    if matches!(table.decoder, Decoder::JobOperations) {
+        return dispatched(alloc, table, rule);
+    }
     let jobs = match rule {
         Rule::FewLate => few_late(alloc, table)?,
         Rule::ShortestRemaining => shortest_remaining(alloc, table)?,

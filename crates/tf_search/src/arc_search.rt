@@ -97,15 +97,56 @@ fn sum_of(times: Option<&[u64]>) -> i128 {
     sum
 }
 
+// The sum of the times on these machines.
+fn sum_on(times: &[u64], machines: Option<&[u32]>) -> i128 {
+    let mut sum: i128 = 0;
+    for machine in machines.unwrap_or(&[]) {
+        let time = times.get(*machine as usize).copied().unwrap_or(0);
+        sum = sum.saturating_add(i128::from(time));
+    }
+    sum
+}
+
+// At which place of a route a machine stands, counted from 0; its length where it stands nowhere.
+fn place_on(route: &[u32], machine: usize) -> usize {
+    for (place, stop) in route.iter().enumerate() {
+        if *stop as usize == machine {
+            return place;
+        }
+    }
+    route.len()
+}
+
 // Before this time a job is not on the machine.
 fn head_of<B: Allocator>(task: &ProblemTask<B>, machine: usize, job: JobId) -> i128
     requires { IsProblemJob task.now job }
 {
-    let release = i128::from(task.release(job));
-    if matches!(task.problem().env, Env::Flow) {
-        return release.saturating_add(sum_of(task.times(job).get(..machine)));
+    let times = task.times(job);
+    let before = match task.problem().env {
+        Env::Flow => sum_of(times.get(..machine)),
+        Env::JobShop => {
+            let route = task.route(job);
+            sum_on(times, route.get(..place_on(route, machine)))
+        }
+        _ => 0,
+    };
+    i128::from(task.release(job)).saturating_add(before)
+}
+
+// So much later than on the machine a job completes at least.
+fn tail_of<B: Allocator>(task: &ProblemTask<B>, machine: usize, job: JobId) -> i128
+    requires { IsProblemJob task.now job }
+{
+    let times = task.times(job);
+    match task.problem().env {
+        Env::Flow => sum_of(times.get(machine.saturating_add(1)..)),
+        Env::JobShop => {
+            let route = task.route(job);
+            let next = place_on(route, machine).saturating_add(1);
+            sum_on(times, route.get(next..))
+        }
+        _ => 0,
     }
-    release
 }
 
 fn least_head<B: Allocator>(task: &ProblemTask<B>, machine: usize) -> i128 {
@@ -131,8 +172,7 @@ fn item_of<B: Allocator>(task: &ProblemTask<B>, machine: usize, least: i128, job
                 .saturating_mul(i128::from(time))
                 .saturating_add(least.saturating_mul(scale))
         }
-        Env::Flow => least.saturating_add(sum_of(times.get(machine.saturating_add(1)..))),
-        _ => least,
+        _ => least.saturating_add(tail_of(task, machine, job)),
     };
     Item {
         time,

@@ -22,8 +22,7 @@ returns-in_err-timed g c =
     err_is (ReadsProblemTask c.args.request.now _ _ _) c.in_err-timed.field-0.0 _
     c.from_residual-in_err-timed.ensures.1
     (uninstanced_by g.row.A.Denot _ c.args.request.now _ _ _ c.in_ok-problem.problem line _
-    (ap (λ r. r.form) c.request.view_is) _ c.is_shop.ensures c.in_err-timed.field-0.0
-    c.in_err-timed.ensures)
+    (ap (λ r. r.form) c.request.view_is) c.in_err-timed.field-0.0 c.in_err-timed.ensures)
 
 pub returns-in_err-task : goal.returns-in_err-task
 returns-in_err-task g c =
@@ -33,7 +32,7 @@ returns-in_err-task g c =
     err_is (ReadsProblemTask c.args.request.now _ _ _) (of_refusal c.in_err-task.field-0.0) _
     c.from_residual-in_err-task.ensures.1
     (untasked_by g.row.A.Denot _ c.args.request.now _ _ _ c.in_ok-problem.problem line _
-    (ap (λ r. r.form) c.request.view_is) _ c.is_shop.ensures _
+    (ap (λ r. r.form) c.request.view_is) _
     (ap (λ r. r.machines) c.request.view_is) c.in_ok-timed.timed c.in_ok-timed.ensures
     c.in_err-task.field-0.0 c.in_err-task.ensures)
 
@@ -43,6 +42,6 @@ returns g c =
     ap problem_in (ap (λ r. r.problem) (sym c.request.view_is) ∙ sym c.as_str.ensures)
     ∙ c.in_ok-problem.ensures in
     tasked_by g.row.A.Denot _ c.args.request.now _ _ _ c.in_ok-problem.problem line _
-    (ap (λ r. r.form) c.request.view_is) _ c.is_shop.ensures _
+    (ap (λ r. r.form) c.request.view_is) _
     (ap (λ r. r.machines) c.request.view_is) c.in_ok-timed.timed c.in_ok-timed.ensures
     c.in_ok-task.task c.in_ok-task.ensures

@@ -1,6 +1,5 @@
-use Rattle.std.proofs.Common.{take}
 use Rattle.tf_plan.specs.Serial.{IsPartly}
 use Rattle.tf_plan.proofs.serial.push_job.Given as goal
 
 abbrev pub invariant-loop-i : goal.invariant-loop-i
-invariant-loop-i g l = IsPartly l.task l.order l.place (take l.i l.times) l.pieces.items l.end
+invariant-loop-i g l = IsPartly l.task l.order l.place l.i l.pieces.items l.end

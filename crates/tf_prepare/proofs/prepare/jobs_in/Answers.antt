@@ -9,17 +9,19 @@ use Rattle.tf_prepare.proofs.prepare.jobs_in.Goals as goal
 
 module _ (p : Problem) (by : Option (List (List ℕ))) (jobs : List JobFields) where
   -- with one row more what is left begins a job later
-  more : (k : ℕ) (job : JobFields) (times : List ℕ) (row : ProblemJobData)
+  more : (k : ℕ) (job : JobFields) (times route : List ℕ) (row : ProblemJobData)
       (rows after : List ProblemJobData) → k < length jobs → job ≡ get_or jobs k job
-      → times ≡ times_in by k job → row ≡ job_in p times job → after ≡ rows ++ row ∷ []
+      → times ≡ times_in by k job → route ≡ [] → row ≡ job_in p times route job
+      → after ≡ rows ++ row ∷ []
       → after ++ jobs_in p by (k + 1) (drop (k + 1) jobs)
       ≡ rows ++ jobs_in p by k (drop k jobs)
-  more k job times row rows after h is timed made pushed =
+  more k job times route row rows after h is timed no_route made pushed =
       let next : suc k ≡ k + 1 = omega arith in
       let rest : List ProblemJobData = jobs_in p by (k + 1) (drop (k + 1) jobs) in
-      let same : row ≡ job_in p (times_in by k (get_or jobs k job)) (get_or jobs k job) =
-      made ∙ ap (λ ts. job_in p ts job) timed
-      ∙ ap (λ x. job_in p (times_in by k x) x) is in
+      let same : row ≡ job_in p (times_in by k (get_or jobs k job)) [] (get_or jobs k job) =
+      made ∙ ap (λ ts. job_in p ts route job) timed
+      ∙ ap (λ r. job_in p (times_in by k job) r job) no_route
+      ∙ ap (λ x. job_in p (times_in by k x) [] x) is in
       ap (λ xs. xs ++ rest) pushed ∙ append_assoc rows (row ∷ []) rest
       ∙ ap (λ x. rows ++ x ∷ rest) same
       ∙ sym (ap (λ xs. rows ++ jobs_in p by k xs) (drop-cons jobs k job h
@@ -35,8 +37,8 @@ module _ (p : Problem) (by : Option (List (List ℕ))) (jobs : List JobFields) w
 pub loop-k-preserved : goal.loop-k-preserved
 loop-k-preserved g c =
     more c.args.problem.now c.args.timed.now.by_machine c.args.jobs.now c.loop-k.k
-    c.index-jobs-k.result _ _ _ _ c.loop-k-test.true c.index-jobs-k.is c.in_ok-times.ensures
-    c.job_in.ensures c.in_ok-push.ensures.items
+    c.index-jobs-k.result _ _ _ _ _ c.loop-k-test.true c.index-jobs-k.is
+    c.in_ok-times.ensures.times c.in_ok-times.ensures.unrouted c.job_in.ensures c.in_ok-push.ensures.items
     ∙ c.loop-k.invariant
 
 pub returns : goal.returns

@@ -1,0 +1,2 @@
+pub mod RouteTimes
+pub mod RoutesOf

@@ -1,0 +1,16 @@
+pub mod Routes
+pub mod Words
+pub mod Headings
+pub mod Marked
+pub mod ShopSteps
+pub mod ShopJobs
+pub mod TableSteps
+pub mod Bytes
+pub mod Cut
+pub mod JobCount
+pub mod TableRouted
+pub mod FirstLine
+pub mod ShopWords
+pub mod TableWords
+pub mod TableRead
+pub mod ShopSized
