@@ -46,6 +46,7 @@ def checks(program):
         ("damaged command lines and texts", [python, "bench/fuzz.py", program, "1", "9000"], None),
         ("plans of every problem that has bounds", [python, "bench/plans.py", program, "11"], None),
         ("bounds that are optima", [python, "bench/optima.py", program], None),
+        ("all timetables of small job shops", [python, "bench/small_job_shops.py", program], None),
         ("an independent checker", [python, "bench/compare_verify.py", program, "1", "1500"], None),
         ("an independent checker of bounds", [python, "bench/compare_bounds.py", program], None),
         ("the same status with --explain", [python, "bench/same_status.py", program], None),

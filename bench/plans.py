@@ -3,9 +3,9 @@
 
     python3 bench/plans.py PROGRAM [SEED [JOBS [ENVIRONMENTS]]]
 
-The problems are those of the environments 1, P, F and O (or those that are named, as FO), any of the five conditions and any
-objective. Each has a job table of JOBS jobs (12 if it is not given), and a shop whose objective and conditions need times alone a
-flow shop file of three machines too. The numbers are drawn from SEED. What is looked for:
+The problems are those of the environments 1, P, F, O and J (or those that are named, as FO), any of the five conditions and any
+objective. Each has a job table of JOBS jobs (12 if it is not given), in a job shop with routes over three machines; a flow shop or
+open shop whose objective and conditions need times alone has a flow shop file of three machines too. The numbers are drawn from SEED. What is looked for:
 
 - `plan` ends with 0 or 6, and as `evaluate` of its plan does;
 - by `evaluate` the plan fits, has its value, and is as far from the same bound as the plan's own comments say;
@@ -51,7 +51,7 @@ def cases(seed, jobs, environments):
     for env, named, goal in problems(environments):
         problem = f"{env}|{','.join(named)}|{goal}"
         rng = random.Random(f"{seed} {problem}")
-        machines = {"1": [], "P": ["-m", str(MACHINES)]}.get(env, ["-m", "2"])
+        machines = {"1": [], "P": ["-m", str(MACHINES)], "J": []}.get(env, ["-m", "2"])
         yield Case(["-p", problem, *machines], drawn_table(rng, env, jobs))
         if env in "FO" and goal in ("Cmax", "sumC") and not {"rj", "prec"} & set(named):
             text = flow_file(taillard(rng.randrange(1, 2**31 - 1), jobs, MACHINES))
@@ -70,7 +70,16 @@ def drawn_table(rng, env, count):
 def drawn_job(rng, env, span):
     times = [rng.randint(1, MOST_TIME), *(rng.randint(0, MOST_TIME) for _ in range(env in "FO"))]
     rng.shuffle(times)
+    if env == "J":
+        return {"p": drawn_route(rng), "w": rng.randint(1, 9), "r": rng.randrange(span // 2), "d": rng.randrange(span)}
     return {"p": ",".join(map(str, times)), "w": rng.randint(1, 9), "r": rng.randrange(span // 2), "d": rng.randrange(span)}
+
+
+def drawn_route(rng):
+    """A route over some of the machines, of which one takes time."""
+    machines = rng.sample(range(1, MACHINES + 1), rng.randint(1, MACHINES))
+    times = [rng.randint(1, MOST_TIME), *(rng.randint(0, MOST_TIME) for _ in machines[1:])]
+    return ",".join(f"{time}@{machine}" for time, machine in zip(times, machines))
 
 
 class Player:
@@ -180,7 +189,7 @@ def faults_in_folder(task):
         return case, *faults(Player(program, folder), case)
 
 
-def main(program, seed="1", jobs="12", environments="1PFO"):
+def main(program, seed="1", jobs="12", environments="1PFOJ"):
     tasks = [(os.path.abspath(program), case) for case in cases(seed, int(jobs), environments)]
     failed = optimal = 0
     with multiprocessing.Pool(PROCESSES) as pool:

@@ -7,7 +7,7 @@ _threefield() {
         return
     fi
     case $before in
-    --format | -f) COMPREPLY=($(compgen -W "table wt flow" -- "$word")); return ;;
+    --format | -f) COMPREPLY=($(compgen -W "table wt flow jobshop" -- "$word")); return ;;
     --size) COMPREPLY=($(compgen -W "a4 a3 16:9" -- "$word")); return ;;
     --rule) COMPREPLY=($(compgen -W "EDD SPT LPT WSPT ERD" -- "$word")); return ;;
     --answer) COMPREPLY=($(compgen -W "1 2" -- "$word")); return ;;

@@ -17,7 +17,7 @@ complete -c threefield -n "__fish_seen_subcommand_from help" -f -a "$commands"
 complete -c threefield -s h -l help -d "Print help"
 
 complete -c threefield -n "__fish_seen_subcommand_from $instance" -s p -l problem -x -a "(threefield problems 2>/dev/null | tail -n +2 | string replace -r ' .*' '')" -d "The problem in three-field notation"
-complete -c threefield -n "__fish_seen_subcommand_from $instance gantt" -s f -l format -x -a "table wt flow" -d "Format of the instance"
+complete -c threefield -n "__fish_seen_subcommand_from $instance gantt" -s f -l format -x -a "table wt flow jobshop" -d "Format of the instance"
 complete -c threefield -n "__fish_seen_subcommand_from $instance gantt" -l jobs -x -d "With wt: jobs of each instance"
 complete -c threefield -n "__fish_seen_subcommand_from $instance gantt" -l index -x -d "With wt: which instance, from 1"
 complete -c threefield -n "__fish_seen_subcommand_from $instance gantt" -l name -x -d "With flow: name of the instance"

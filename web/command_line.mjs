@@ -2,7 +2,7 @@
 //
 // `examples/check_options.py` compares these rows with the program's own help.
 
-const FORMATS = ["table", "wt", "flow"];
+const FORMATS = ["table", "wt", "flow", "jobshop"];
 const SCHEDULES = ["--order", "--rule", "--orders", "--schedule"];
 
 const NEGATIVE = /^-\d+(\.\d*)?(e\d+)?$/;

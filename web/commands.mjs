@@ -31,6 +31,8 @@ function formatOf(given) {
     return { kind, jobs: perhaps(given.get("--jobs")), index };
   }
   if (kind === "table") return { kind };
+  // A job shop file has the layout of a flow shop file, and no pair of machines.
+  if (kind === "jobshop") return { kind: "flow", word: kind, name: given.get("--name"), pair: null };
   const [first, ...others] = (given.get("--pair") ?? "").split(",");
   const pair = given.has("--pair") ? [numeral(first), numeral(others.join(","))] : null;
   return { kind, name: given.get("--name"), pair };
@@ -78,7 +80,7 @@ function fault(solver, request, names) {
   const reply = solver.run({ ...request, instance: NONE, answer: NONE });
   if (reply.status === 5) return reply;
   if (request.format.kind === "flow" && request.format.name === undefined) {
-    return refused("--format flow needs --name");
+    return refused(`--format ${request.format.word ?? "flow"} needs --name`);
   }
   return names.instance === "-" && names.answer === "-"
     ? refused("INPUT and ANSWER cannot both be standard input") : null;
