@@ -3,7 +3,7 @@
 
     python3 bench/compare_bounds.py PROGRAM SEED [JOBS]
 
-First verify_bound.py judges the bounds of the sessions over job tables, whose outcome is worked by hand there. Then each problem
+First verify_bound.py judges the bounds of the sessions over job tables without routes, whose outcome is worked by hand there. Then each problem
 that has bounds gets a random job table of JOBS jobs (6 if it is not given). The bound that `bound` prints has to have its value, and
 of damaged ones and of certificates of every kind `evaluate --bound` and verify_bound.py have to say the same behind `offered`.
 """
@@ -31,6 +31,8 @@ def in_sessions():
         for command in sessions.commands(path):
             words, place = command.words(), f"{os.path.basename(path)}:{command.number}"
             kind, named, rest = words[:1], dict(zip(words[1::2], words[2::2])), words[-1:]
+            if named.get("-p", "").startswith("J"):
+                continue  # verify_bound.py reads no routes
             offered = OFFERED.search(command.output)
             if kind == ["evaluate"] and offered and set(named) <= {"-p", "--bound", "-m", *words[-2:]} and "--bound" in named:
                 texts, shown = [command.texts[name].encode() for name in (words[-2], named["--bound"])], offered[1]
