@@ -1555,7 +1555,7 @@ def like_the_program(page, program):
     tables = [line.split(" ") for line in (examples / "nineteen.txt").read_text().splitlines() if line]
     asked = [{"problem": problem, "instance": (examples / name).read_text()} for problem, name in tables]
     asked += [{"problem": problem, "instance": (examples / "all_fields.txt").read_text()}
-              for problem in ("1||sumwT", "1|rj|Lmax", "P2||Cmax", "P2||sumwC", "J2||Cmax", "1||", "P||sumC")]
+              for problem in ("1||sumwT", "1|rj|Lmax", "P2||Cmax", "P2||sumwC", "R2||Cmax", "1||", "P||sumC")]
     asked += [{"problem": "1||Lmax", "instance": (examples / "slips.txt").read_text()}]
     commands = ("solve", "bound", "plan") if has_plans(page) else ("solve", "bound")
     requests = [{"command": command, **each} for each in asked for command in commands]
