@@ -1,18 +1,19 @@
 -- What an offered certificate is worth.
-use Rattle.std.proofs.Common.{◌≡◌, ℤ, SFits, to_z, of_z, None, inl, inr, refl, sym, ap, subst, ◌∙◌}
+use Rattle.std.proofs.Common.{◌≡◌, ℤ, Option, SFits, to_z, of_z, None, inl, inr, refl, sym, ap, subst, ◌∙◌}
 use Rattle.std.specs.Int.{w128}
 use Rattle.std.proofs.lemmas.Int.{to_z-of_z}
 use Rattle.tf_problem.specs.ProblemData.{ProblemData}
 use Rattle.tf_problem.specs.ProblemCost.{IsLowerBound}
-use Rattle.tf_bound.specs.Certified.{IsBoundBy, IsValueOn}
+use Rattle.tf_bound.specs.Certified.{IsBoundBy, IsFaultBy, IsValueOn}
 use Rattle.tf_bound.specs.Faulted.{certificate_fault}
+use Rattle.tf_bound.specs.declared.fault.BoundFault.{BoundFault}
 use Rattle.tf_bound.specs.declared.certificate.BoundCertificate.{BoundCertificate}
-use Rattle.tf_bound.specs.declared.certificate.BoundCertificate.TheVariants.{Machine, Window, Crowd, OneJob, Multipliers, Prices, Alone, Kept, Shortest, Ranks}
+use Rattle.tf_bound.specs.declared.certificate.BoundCertificate.TheVariants.{Machine, Window, Crowd, OneJob, Multipliers, Prices, Alone, Kept, Shortest, Ranks, Parts}
 use Rattle.tf_search.specs.declared.strongest.Found.{Found}
 use Rattle.tf_search.specs.Strongest.{IsFound}
 use Rattle.tf_bound_text.specs.BoundSheetData.{Basis, BoundSheetData, basis_of, fault_by, IsValueBy}
 use Rattle.tf_assess.specs.declared.assessment.Offered.{Offered}
-use Rattle.tf_assess.specs.Assessing.{HasValue, IsJudgedValue, IsOffer, IsOfferFor, IsUsed}
+use Rattle.tf_assess.specs.Assessing.{HasValue, IsJudgedFault, IsJudgedValue, IsOffer, IsOfferFor, IsUsed}
 
 -- the value of a certificate is that of what it names
 value_on : {A : Type 0} (k : ProblemData) (c : BoundCertificate A) (b : ℤ) → IsValueOn k c b
@@ -27,6 +28,7 @@ value_on k Alone b h = h
 value_on k (Kept jobs) b h = h
 value_on k (Shortest jobs) b h = h
 value_on k (Ranks jobs) b h = h
+value_on k (Parts from until late jobs) b h = h
 
 value_by : {A : Type 0} (k : ProblemData) (c : BoundCertificate A) (b : ℤ) → IsBoundBy k c b
     → IsJudgedValue k (basis_of c) b
@@ -45,6 +47,7 @@ on_value k Alone b h = h
 on_value k (Kept jobs) b h = h
 on_value k (Shortest jobs) b h = h
 on_value k (Ranks jobs) b h = h
+on_value k (Parts from until late jobs) b h = h
 
 pub bound_by : {A : Type 0} (k : ProblemData) (c : BoundCertificate A) (b : ℤ)
     → IsJudgedValue k (basis_of c) b → IsBoundBy k c b
@@ -63,20 +66,24 @@ fault_is k Alone = refl
 fault_is k (Kept jobs) = refl
 fault_is k (Shortest jobs) = refl
 fault_is k (Ranks jobs) = refl
+fault_is k (Parts from until late jobs) = refl
 
-faultless_by : {A : Type 0} (k : ProblemData) (c : BoundCertificate A) (basis : Basis)
-    → basis_of c ≡ basis → certificate_fault k c ≡ None → fault_by k basis ≡ None
-faultless_by k c basis same none = ap (fault_by k) (sym same) ∙ sym (fault_is k c) ∙ none
+-- and so on the task on which it is judged
+pub judged_fault : {A : Type 0} (k : ProblemData) (c : BoundCertificate A) (basis : Basis)
+    (fault : Option BoundFault) → basis_of c ≡ basis → IsFaultBy k c fault
+    → IsJudgedFault k basis fault
+judged_fault k c basis fault same (other, judged, is) =
+    (other, judged, ap (fault_by other) (sym same) ∙ sym (fault_is other c) ∙ is)
 
 -- a certificate without a fault has a value, as a number of 128 bits too
 pub has_value : {A : Type 0} (k : ProblemData) (sheet : BoundSheetData) (c : BoundCertificate A)
     (b : ℤ) → SFits w128 b → basis_of c ≡ sheet.basis → IsOfferFor k sheet
-    → certificate_fault k c ≡ None → IsBoundBy k c b → IsLowerBound k b
+    → IsFaultBy k c None → IsBoundBy k c b → IsLowerBound k b
     → HasValue k sheet (to_z w128 (of_z w128 b))
 has_value k sheet c b fits same meant none by bound =
     subst (λ (z : ℤ). HasValue k sheet z) (sym (to_z-of_z w128 b fits)) (record {
       meant = meant;
-      faultless = faultless_by k c sheet.basis same none;
+      faultless = judged_fault k c sheet.basis None same none;
       value = subst (λ (basis : Basis). IsJudgedValue k basis b) same (value_by k c b by);
       bound = bound;
     })

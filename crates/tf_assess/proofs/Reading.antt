@@ -7,8 +7,7 @@ use Rattle.tf_model.specs.Outcome.{◌>>=◌}
 use Rattle.tf_notation.specs.Reading.{notation}
 use Rattle.tf_text.specs.declared.counted.Counted.{Counted}
 use Rattle.tf_text.specs.Counted.{inner_of, has_failed, use_of}
-use Rattle.tf_problem.specs.ProblemData.{ProblemData}
-use Rattle.tf_bound.specs.Refused.{is_taken_problem}
+use Rattle.tf_problem.specs.ProblemData.{ProblemData, is_covered}
 use Rattle.tf_prepare.specs.Preparing.{prepared_in}
 use Rattle.tf_prepare.specs.TimedData.{TimedData}
 use Rattle.tf_engine.specs.declared.fault.RunFault.{RunFault}
@@ -55,10 +54,10 @@ refusal_first request text refused h = by_notation (notation request.problem) h
 
     by_notation : (r : Result Problem ℕ)
         → ((refused_by ByNotation r
-        >>= λ problem. cond (is_taken_problem problem) (Ok problem) (Err (ByTask NoSolver)))
+        >>= λ problem. cond (is_covered problem) (Ok problem) (Err (ByTask NoSolver)))
         >>= λ problem. problem_task_in request problem text) ≡ Err refused
         → is_on_answer (Refuses refused) ≡ false
-    by_notation (Ok problem) e = by_bounded problem (is_taken_problem problem) e
+    by_notation (Ok problem) e = by_bounded problem (is_covered problem) e
     by_notation (Err byte) e = let is : refused ≡ ByNotation byte = cc in rw is refl
 
 pub bound_first : (request : RequestData) (text : List ℕ) (refused : Refused)

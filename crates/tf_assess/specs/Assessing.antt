@@ -24,6 +24,7 @@ use Rattle.tf_evaluate.specs.Outcomes.{outcome_by}
 use Rattle.tf_problem.specs.ProblemCost.{IsLowerBound}
 use Rattle.tf_bound.specs.declared.certificate.BoundCertificate.{BoundCertificate}
 use Rattle.tf_bound.specs.Judged.{IsJudgedTask}
+use Rattle.tf_bound.specs.declared.fault.BoundFault.{BoundFault}
 use Rattle.tf_bound_text.specs.BoundSheetData.{Basis, BoundSheetData, IsValueBy, fault_by}
 use Rattle.tf_assess.specs.declared.assessment.Offered.{Offered}
 use Rattle.tf_assess.specs.declared.assessment.Offered.TheVariants.{Bounds, OtherTask, WrongValue, Faulty}
@@ -135,10 +136,15 @@ IsOfferFor k sheet = IsOfTask k sheet.problem sheet.jobs sheet.machines
 abbrev pub IsJudgedValue : ProblemData → Basis → ℤ → Type 0
 IsJudgedValue k basis b = (other : ProblemData) × IsJudgedTask k other × IsValueBy other basis b
 
+-- what the text names has this fault there, or none
+abbrev pub IsJudgedFault : ProblemData → Basis → Option BoundFault → Type 0
+IsJudgedFault k basis fault =
+    (other : ProblemData) × IsJudgedTask k other × (fault_by other basis ≡ fault)
+
 -- the certificate has no fault and this value, and no timetable that fits costs less
 pub record HasValue (k : ProblemData) (sheet : BoundSheetData) (b : ℤ) : Type 0 where
   pub meant : IsOfferFor k sheet
-  pub faultless : fault_by k sheet.basis ≡ None
+  pub faultless : IsJudgedFault k sheet.basis None
   pub value : IsJudgedValue k sheet.basis b
   pub bound : IsLowerBound k b
 
@@ -147,7 +153,7 @@ abbrev pub IsOffer : ProblemData → BoundSheetData → Offered → Type 0
 IsOffer k sheet (Bounds value) = HasValue k sheet value × (value ≡ sheet.value)
 IsOffer k sheet OtherTask = ¬ (IsOfferFor k sheet)
 IsOffer k sheet (WrongValue value) = HasValue k sheet value × ¬ (value ≡ sheet.value)
-IsOffer k sheet (Faulty fault) = IsOfferFor k sheet × (fault_by k sheet.basis ≡ Some fault)
+IsOffer k sheet (Faulty fault) = IsOfferFor k sheet × IsJudgedFault k sheet.basis (Some fault)
 
 abbrev pub HasOffered : ProblemData → Option BoundSheetData → Option Offered → Type 0
 HasOffered k None None = Unit {0}

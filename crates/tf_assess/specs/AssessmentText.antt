@@ -56,6 +56,7 @@ certificate_fault_words (faults.Repeated job) = codes "Repeated" ∷ decimal job
 certificate_fault_words faults.TooFew = codes "TooFew" ∷ []
 certificate_fault_words faults.Numerators = codes "Numerators" ∷ []
 certificate_fault_words (faults.Condition job) = codes "Condition" ∷ decimal job ∷ []
+certificate_fault_words faults.HasRoom = codes "HasRoom" ∷ []
 certificate_fault_words faults.TooLarge = codes "TooLarge" ∷ []
 certificate_fault_words faults.OutOfMemory = codes "OutOfMemory" ∷ []
 

@@ -15,7 +15,6 @@ pub mod PushedDates
 pub mod Faults
 pub mod Firsts
 pub mod Conditions
-pub mod FaultsAlong
 pub mod ArcSums
 pub mod ArcValues
 pub mod InOrder

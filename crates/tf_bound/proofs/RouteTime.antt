@@ -1,5 +1,5 @@
 -- The time of a job along its route.
-use Rattle.std.proofs.Common.{◌≡◌, ◌≢◌, true, false, ℕ, zero, suc, ◌+◌, ◌-◌, ◌≤◌, ◌<◌, ◌==◌, List, [], ◌∷◌, length, sum, sum_by, take, drop, cond, slice_index, slice_index_or, refl, sym, ap, ◌∙◌, subst, arith, inl, inr, All, Contains}
+use Rattle.std.proofs.Common.{◌≡◌, ◌≢◌, ◌⊎◌, true, false, ℕ, zero, suc, ◌+◌, ◌-◌, ◌≤◌, ◌<◌, ◌==◌, List, [], ◌∷◌, length, sum, sum_by, take, drop, cond, slice_index, slice_index_or, refl, sym, ap, ◌∙◌, subst, arith, inl, inr, All, Contains}
 use Rattle.std.specs.List.{AllPairs, range_with_len}
 use Rattle.std.proofs.lemmas.Bool.{cases_eq, cases_lt, eq-eqb, ne_eqb}
 use Rattle.std.proofs.lemmas.List.{drop_all, get_or_past, take_all}
@@ -148,42 +148,19 @@ there f a (b ∷ route) zero lt is =
 there f a (b ∷ route) (suc i) lt is =
     omega (arith, sum_by-cons (share f a) b route, there f a route i (omega arith) is)
 
-away : (f : ℕ → ℕ) (b : ℕ) (all : List ℕ) → All (λ a. b ≢ a) all
-    → sum_by (λ a. share f a b) all ≡ 0
-away f b [] none = refl
-away f b (a ∷ all) none =
-    omega (
-      arith,
-      sum_by-cons (λ c. share f c b) a all,
-      share_other f a b (All-head (λ c. b ≢ c) a all none),
-      away f b all (All-tail (λ c. b ≢ c) a all none),
-    )
-
+-- of machines that differ, one at most is that of the route
 one_of : (f : ℕ → ℕ) (b : ℕ) (all : List ℕ) → AllPairs (λ a c. a ≢ c) all
     → sum_by (λ a. share f a b) all ≤ f b
-one_of f b [] apart = omega arith
-one_of f b (a ∷ all) apart =
-    let rest : AllPairs (λ a c. a ≢ c) all =
-    λ i j d lt h. apart (suc i) (suc j) d (omega arith) (omega arith) in
-    elim (cases_eq b a) [
-      | inl same ↦
-          let others : All (λ c. b ≢ c) all =
-          λ i d h. subst (λ x. x ≢ slice_index_or all i d) (sym same)
-          (apart 0 (suc i) d (omega arith) (omega arith)) in
-          omega (
-            arith,
-            sum_by-cons (λ c. share f c b) a all,
-            share_same f a b same,
-            ap f same,
-            away f b all others,
-          )
-      | inr other ↦ omega (
-        arith,
-        sum_by-cons (λ c. share f c b) a all,
-        share_other f a b other,
-        one_of f b all rest,
-      )
-    ]
+one_of f b all apart =
+    omega (
+      arith,
+      sum_by-same (λ a. share f a b) (share f b) all (λ a. swapped a (cases_eq b a)),
+      once f b all apart,
+    )
+  where
+    swapped : (a : ℕ) → (b ≡ a) ⊎ (b ≢ a) → share f a b ≡ share f b a
+    swapped a (inl same) = share_same f a b same ∙ ap f (sym same) ∙ sym (share_same f b a (sym same))
+    swapped a (inr other) = share_other f a b other ∙ sym (share_other f b a (λ e. other (sym e)))
 
 -- a route has the time on each machine
 pub each_time : (times route : List ℕ) → IsRouted (length times) times route → (i : ℕ)

@@ -1,5 +1,5 @@
 -- What a certificate of each kind bounds a task by.
-use Rattle.std.specs.Prelude.{◌≡◌, ℕ, ℤ, pos, min}
+use Rattle.std.specs.Prelude.{◌≡◌, ◌⊎◌, ℕ, ℤ, pos, min, Option, Some, None, Result, MatchResult}
 use Rattle.tf_problem.specs.ProblemData.{ProblemData}
 use Rattle.tf_problem.specs.ProblemBounds.{machine_value, window_value, crowd_value, one_job_value, any_multiplier_value, alone_cost}
 use Rattle.tf_problem.specs.Kept.{kept_value}
@@ -7,8 +7,11 @@ use Rattle.tf_problem.specs.Shortest.{shortest_value}
 use Rattle.tf_problem.specs.Ranks.{rank_value}
 use Rattle.tf_bound.specs.Prices.{IsPricesBound}
 use Rattle.tf_bound.specs.Judged.{IsDatedTask, IsJudgedTask}
+use Rattle.tf_bound.specs.Faulted.{certificate_fault}
+use Rattle.tf_bound.specs.declared.fault.BoundFault.{BoundFault}
+use Rattle.tf_bound.specs.declared.fault.BoundFault.TheVariants.{OutOfMemory}
 use Rattle.tf_bound.specs.declared.certificate.BoundCertificate.{BoundCertificate}
-use Rattle.tf_bound.specs.declared.certificate.BoundCertificate.TheVariants.{Machine, Window, Crowd, OneJob, Multipliers, Prices, Alone, Kept, Shortest, Ranks}
+use Rattle.tf_bound.specs.declared.certificate.BoundCertificate.TheVariants.{Machine, Window, Crowd, OneJob, Multipliers, Prices, Alone, Kept, Shortest, Ranks, Parts}
 
 -- the greatest value that the text of a bound can say
 abbrev pub most_value : ℕ
@@ -32,7 +35,18 @@ IsValueOn k Alone b = IsAloneBound k b
 IsValueOn k (Kept jobs) b = b ≡ pos (kept_value k jobs.items)
 IsValueOn k (Shortest jobs) b = b ≡ pos (shortest_value k jobs.items)
 IsValueOn k (Ranks jobs) b = b ≡ pos (rank_value k jobs.items)
+IsValueOn k (Parts from until late jobs) b = b ≡ late
 
 -- the number is that value on the task on which the certificate is judged
 abbrev pub IsBoundBy : {A : Type 0} → ProblemData → BoundCertificate A → ℤ → Type 0
 IsBoundBy k c b = (other : ProblemData) × IsJudgedTask k other × IsValueOn other c b
+
+-- on that task it has this fault, or none
+abbrev pub IsFaultBy : {A : Type 0} → ProblemData → BoundCertificate A → Option BoundFault → Type 0
+IsFaultBy k c fault = (other : ProblemData) × IsJudgedTask k other × (certificate_fault other c ≡ fault)
+
+-- A value where it has none. Otherwise the fault, or that an allocation failed.
+abbrev pub NamesFaultBy : {A X : Type 0} → ProblemData → BoundCertificate A → Result X BoundFault
+    → Type 0
+NamesFaultBy k c result =
+    MatchResult result (λ _. IsFaultBy k c None) (λ fault. (fault ≡ OutOfMemory) ⊎ IsFaultBy k c (Some fault))

@@ -14,9 +14,10 @@ use Rattle.tf_problem.specs.Relaxed.{weighed_task}
 use Rattle.tf_problem.specs.Kept.{due_time}
 use Rattle.tf_problem.specs.Shortest.{shortest_value}
 use Rattle.tf_problem.specs.Ranks.{rank_value}
+use Rattle.tf_problem.specs.Parts.{part_of}
 use Rattle.tf_bound.specs.Kinds.{takes_machine, takes_windows, takes_crowds, takes_one_job, takes_multipliers, takes_prices, takes_alone, takes_kept, takes_shortest, takes_ranks}
 use Rattle.tf_bound.specs.declared.fault.BoundFault.{BoundFault}
-use Rattle.tf_bound.specs.declared.fault.BoundFault.TheVariants.{OtherKind, NoDenominator, BadMachine, BadJob, Repeated, TooFew, Numerators, Condition, TooLarge, OutOfMemory}
+use Rattle.tf_bound.specs.declared.fault.BoundFault.TheVariants.{OtherKind, NoDenominator, BadMachine, BadJob, Repeated, TooFew, Numerators, Condition, HasRoom, TooLarge, OutOfMemory}
 use Rattle.tf_bound.specs.declared.certificate.BoundCertificate.{BoundCertificate}
 use Rattle.tf_bound.specs.declared.certificate.BoundCertificate.TheVariants as kinds
 
@@ -268,6 +269,20 @@ ranks_fault k jobs =
     (option_or (rises_fault (problem_time k) limit jobs)
     (too_large (nat_lt limit (rank_value k jobs))))))
 
+-- ---- work in an interval
+
+-- the machines have room for the parts of the jobs
+abbrev pub has_room : ProblemData → ℕ → ℕ → ℤ → List ℕ → Option BoundFault
+has_room k from until late jobs =
+    if nat_lt (k.machines * (until - from)) (sum_by (part_of k from until late) jobs) then None
+    else Some HasRoom
+
+abbrev pub parts_fault : ProblemData → ℕ → ℕ → ℤ → List ℕ → Option BoundFault
+parts_fault k from until late jobs =
+    option_or (other_kind (takes_windows k.problem))
+    (option_or (list_fault k [] jobs)
+    (has_room k from until late jobs))
+
 -- ---- any kind
 
 abbrev pub certificate_fault : {A : Type 0} → ProblemData → BoundCertificate A → Option BoundFault
@@ -282,3 +297,4 @@ certificate_fault k kinds.Alone = alone_fault k
 certificate_fault k (kinds.Kept jobs) = kept_fault k jobs.items
 certificate_fault k (kinds.Shortest jobs) = shortest_fault k jobs.items
 certificate_fault k (kinds.Ranks jobs) = ranks_fault k jobs.items
+certificate_fault k (kinds.Parts from until late jobs) = parts_fault k from until late jobs.items

@@ -1,19 +1,14 @@
 -- For what a task of a problem is refused: the first of these conditions that it does not satisfy,
 -- in this order. All of them together are `IsSized`.
-use Rattle.std.specs.Prelude.{◌≡◌, ◌⊎◌, ℕ, ◌+◌, ◌≤◌, ◌<◌, Bool, List, length, take, slice_index_or, IsTrue, IsFalse}
+use Rattle.std.specs.Prelude.{◌≡◌, ◌⊎◌, ℕ, ◌+◌, ◌≤◌, ◌<◌, List, length, take, slice_index_or, IsTrue, IsFalse}
 use Rattle.std.specs.List.{All, sum_by}
 use Rattle.tf_model.specs.declared.problem.Env.{Env}
-use Rattle.tf_model.specs.declared.problem.Problem.{Problem}
 use Rattle.tf_model.specs.ClassTable.{is_single_env}
 use Rattle.tf_model.specs.Limit.{limit, most_jobs, most_machines}
 use Rattle.tf_problem.specs.ProblemData.{ProblemData, ProblemJobData, IsProblemJob, is_covered, no_problem_job}
 use Rattle.tf_bound.specs.Sized.{IsSizedJob, work, all_work}
 use Rattle.tf_bound.specs.declared.fault.TaskFault.{TaskFault}
 use Rattle.tf_bound.specs.declared.fault.TaskFault.TheVariants.{NotCovered, Jobs, Machines, Times, TooLarge, Arc}
-
--- the definitions speak of the problem
-abbrev pub is_taken_problem : Problem → Bool
-is_taken_problem p = is_covered p
 
 -- at least one job, and no more than the most
 abbrev pub HasJobs : ProblemData → Type 0
@@ -61,7 +56,7 @@ IsJobsFault env machines jobs _ = ⊥
 
 -- the conditions before those on the jobs
 pub record IsCounted (k : ProblemData) : Type 0 where
-  pub taken : IsTrue (is_taken_problem k.problem)
+  pub taken : IsTrue (is_covered k.problem)
   pub jobs : HasJobs k
   pub machines : HasMachines k
 
@@ -85,9 +80,9 @@ pub record IsTooLate (k : ProblemData) : Type 0 where
 
 -- A fault is of one condition, and all before it are satisfied; so a task has one fault at most.
 abbrev pub IsTaskFault : ProblemData → TaskFault → Type 0
-IsTaskFault k NotCovered = IsFalse (is_taken_problem k.problem)
-IsTaskFault k Jobs = IsTrue (is_taken_problem k.problem) × (¬ (HasJobs k))
-IsTaskFault k Machines = IsTrue (is_taken_problem k.problem) × HasJobs k × (¬ (HasMachines k))
+IsTaskFault k NotCovered = IsFalse (is_covered k.problem)
+IsTaskFault k Jobs = IsTrue (is_covered k.problem) × (¬ (HasJobs k))
+IsTaskFault k Machines = IsTrue (is_covered k.problem) × HasJobs k × (¬ (HasMachines k))
 IsTaskFault k (Times i) =
     IsCounted k × IsJobsFault k.problem.env k.machines k.jobs (Times i)
 IsTaskFault k TooLarge =

@@ -2,7 +2,7 @@
 ghost use Rattle.std.specs.Prelude.{IfOk};
 ghost use Rattle.tf_problem.specs.ProblemCost.{IsLowerBound};
 ghost use Rattle.tf_bound.specs.Faulted.{certificate_fault, NamesFault};
-ghost use Rattle.tf_bound.specs.Certified.{IsBoundBy, IsValueOn};
+ghost use Rattle.tf_bound.specs.Certified.{IsBoundBy, IsValueOn, NamesFaultBy};
 
 use crate::alike::{crowd_bound, one_job_bound, window_bound};
 use crate::alone::alone_bound;
@@ -10,6 +10,7 @@ use crate::fault::BoundFault;
 use crate::kept::kept_bound;
 use crate::machine::machine_bound;
 use crate::multipliers::multipliers_bound;
+use crate::parts::{Interval, parts_bound};
 use crate::prices::prices_bound;
 use crate::pushed::judged_task;
 use crate::ranks::ranks_bound;
@@ -65,6 +66,14 @@ pub enum BoundCertificate<A: Allocator = Global> {
     Ranks {
         jobs: Vec<JobId, A>,
     },
+    /// Some jobs that have more to do in an interval than there is room for, if each is to be less
+    /// late than `late`.
+    Parts {
+        from: u64,
+        until: u64,
+        late: i64,
+        jobs: Vec<JobId, A>,
+    },
 }
 
 impl<A: Allocator> BoundCertificate<A> {
@@ -75,7 +84,7 @@ impl<A: Allocator> BoundCertificate<A> {
         alloc: B,
         task: &ProblemTask<C>,
     ) -> Result<i128, BoundFault>
-        ensures fault { NamesFault (certificate_fault task.now self.now) result }
+        ensures fault { NamesFaultBy task.now self.now result }
         ensures value { IfOk result (IsBoundBy task.now self.now) }
         ensures bound { IfOk result (IsLowerBound task.now) }
     {
@@ -113,6 +122,19 @@ impl<A: Allocator> BoundCertificate<A> {
             BoundCertificate::Kept { jobs } => kept_bound(alloc, task, jobs),
             BoundCertificate::Shortest { jobs } => shortest_bound(alloc, task, jobs),
             BoundCertificate::Ranks { jobs } => ranks_bound(alloc, task, jobs),
+            BoundCertificate::Parts {
+                from,
+                until,
+                late,
+                jobs,
+            } => {
+                let interval = Interval {
+                    from: *from,
+                    until: *until,
+                    late: *late,
+                };
+                parts_bound(alloc, task, interval, jobs)
+            }
         }
     }
 }

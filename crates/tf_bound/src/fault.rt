@@ -70,6 +70,10 @@ pub enum BoundFault {
     #[error("job {} breaks the certificate's condition", .0.get())]
     Condition(JobId),
 
+    /// The machines have room for all that the jobs have to do in the interval.
+    #[error("the machines have room for the work in the interval")]
+    HasRoom,
+
     /// A number of the certificate is beyond the limit.
     #[error("a number of the certificate is beyond the limit")]
     TooLarge,

@@ -12,6 +12,7 @@ mod jobs;
 pub mod kept;
 pub mod machine;
 pub mod multipliers;
+pub mod parts;
 pub mod prices;
 pub mod pushed;
 pub mod ranks;

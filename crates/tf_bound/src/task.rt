@@ -4,8 +4,8 @@ ghost use Rattle.std.specs.Prelude.{ℕ, length, IsTrue, IsFalse, MatchResult};
 ghost use Rattle.std.specs.List.{All, sum_by};
 ghost use Rattle.tf_model.specs.ClassTable.{is_single_env, is_flow_env};
 ghost use Rattle.tf_model.specs.Limit.{limit};
-ghost use Rattle.tf_problem.specs.ProblemData.{ProblemData, is_job_shop};
-ghost use Rattle.tf_bound.specs.Refused.{is_taken_problem, IsCounted, IsFitJob, IsJobsFault};
+ghost use Rattle.tf_problem.specs.ProblemData.{ProblemData, is_covered, is_job_shop};
+ghost use Rattle.tf_bound.specs.Refused.{IsCounted, IsFitJob, IsJobsFault};
 ghost use Rattle.tf_bound.specs.Refused.{IsTaskFault};
 ghost use Rattle.tf_bound.specs.Route.{IsRouted};
 ghost use Rattle.tf_bound.specs.Sized.{IsSized, IsSizedJob, task_of, work};
@@ -82,7 +82,7 @@ impl<A: Allocator> Model for ProblemTask<A> {
 /// Whether the definitions speak of the problem. Some kind of certificate bounds the tasks of each
 /// such problem.
 pub fn is_taken(problem: &Problem) -> bool
-    ensures { result ≡ is_taken_problem problem.now }
+    ensures { result ≡ is_covered problem.now }
 {
     let env = !matches!(problem.env, Env::Uniform | Env::Unrelated);
     let goal = !matches!(problem.goal, Goal::Hmax);

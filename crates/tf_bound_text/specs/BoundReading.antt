@@ -13,7 +13,7 @@ use Rattle.tf_words.specs.Ranged.{number_in}
 use Rattle.tf_words.specs.declared.ranged.Ranged.{Ranged}
 use Rattle.tf_words.specs.declared.ranged.Ranged.TheVariants.{NotANumber, Below, Above, Within}
 use Rattle.tf_notation.specs.Reading.{notation}
-use Rattle.tf_bound_text.specs.BoundSheetData.{Basis, ByMachine, ByWindow, ByCrowd, ByOneJob, ByMultipliers, ByPrices, ByAlone, ByKept, ByShortest, ByRanks, BoundSheetData}
+use Rattle.tf_bound_text.specs.BoundSheetData.{Basis, ByMachine, ByWindow, ByCrowd, ByOneJob, ByMultipliers, ByPrices, ByAlone, ByKept, ByShortest, ByRanks, ByParts, BoundSheetData}
 use Rattle.tf_bound_text.specs.declared.fault.BoundTextFault.{BoundTextFault}
 use Rattle.tf_bound_text.specs.declared.fault.BoundTextFault.TheVariants.{TooLong, BadLine, OutOfRange, BadNotation, EndsEarly, OutOfMemory}
 
@@ -61,6 +61,11 @@ abbrev pub first_number : ℕ → ℕ → ℕ → List (List ℕ) → Result (�
 first_number line least most [] = Err (BadLine line)
 first_number line least most (word ∷ more) =
     natural line least most word >>= λ number. Ok (number, more)
+
+-- the first word as such a value, and the other words
+abbrev pub first_value : ℕ → List (List ℕ) → Result (ℤ × List (List ℕ)) BoundTextFault
+first_value line [] = Err (BadLine line)
+first_value line (word ∷ more) = value_in line word >>= λ value. Ok (value, more)
 
 -- exactly one word
 abbrev pub only : ℕ → List (List ℕ) → Result (List ℕ) BoundTextFault
@@ -129,6 +134,15 @@ ranks_basis line words = do
   jobs ← naturals line 1 most_jobs words
   Ok (ByRanks jobs)
 
+-- an interval, a lateness, and jobs
+unfoldable pub parts_basis : ℕ → List (List ℕ) → Result Basis BoundTextFault
+parts_basis line words = do
+  (from, more) ← first_number line 0 limit words
+  (until, last) ← first_number line 0 limit more
+  (late, rest) ← first_value line last
+  jobs ← naturals line 1 most_jobs rest
+  Ok (ByParts from until late jobs)
+
 -- a kind, and the words behind it
 unfoldable pub kind_in : ℕ → List ℕ → List (List ℕ) → Result Basis BoundTextFault
 kind_in line kind words =
@@ -142,6 +156,7 @@ kind_in line kind words =
     else if bytes_eq kind (codes "kept") then kept_basis line words
     else if bytes_eq kind (codes "shortest") then shortest_basis line words
     else if bytes_eq kind (codes "ranks") then ranks_basis line words
+    else if bytes_eq kind (codes "parts") then parts_basis line words
     else Err (BadLine line)
 
 abbrev pub basis_in : ℕ → List (List ℕ) → Result Basis BoundTextFault
@@ -248,6 +263,7 @@ with_arcs ByAlone all = Ok (ByAlone, all)
 with_arcs (ByKept jobs) all = Ok (ByKept jobs, all)
 with_arcs (ByShortest jobs) all = Ok (ByShortest jobs, all)
 with_arcs (ByRanks jobs) all = Ok (ByRanks jobs, all)
+with_arcs (ByParts from until late jobs) all = Ok (ByParts from until late jobs, all)
 
 -- the lines of the certificate, and those behind them
 unfoldable pub certificate_at : List KeptLine → Result (Basis × List KeptLine) BoundTextFault

@@ -8,15 +8,16 @@ use Rattle.tf_problem.specs.Shortest.{shortest_value}
 use Rattle.tf_problem.specs.Ranks.{rank_value}
 use Rattle.tf_bound.specs.Certified.{IsAloneBound}
 use Rattle.tf_bound.specs.Prices.{IsPricesBound}
-use Rattle.tf_bound.specs.Faulted.{machine_fault, window_fault, crowd_fault, one_job_fault, multipliers_fault, prices_fault, alone_fault, kept_fault, shortest_fault, ranks_fault}
+use Rattle.tf_bound.specs.Faulted.{machine_fault, window_fault, crowd_fault, one_job_fault, multipliers_fault, prices_fault, alone_fault, kept_fault, shortest_fault, ranks_fault, parts_fault}
 use Rattle.tf_bound.specs.declared.fault.BoundFault.{BoundFault}
 use Rattle.tf_bound.specs.declared.certificate.BoundCertificate.{BoundCertificate}
-use Rattle.tf_bound.specs.declared.certificate.BoundCertificate.TheVariants.{Machine, Window, Crowd, OneJob, Multipliers, Prices, Alone, Kept, Shortest, Ranks}
+use Rattle.tf_bound.specs.declared.certificate.BoundCertificate.TheVariants.{Machine, Window, Crowd, OneJob, Multipliers, Prices, Alone, Kept, Shortest, Ranks, Parts}
 
 -- what a certificate names: a machine, counted from 0, or how many jobs each machine takes, and jobs;
 -- or a machine, a denominator and numerators, job by job and arc by arc; or a denominator and prices,
 -- row by row;
--- or nothing; or jobs by due date, by release date, or by falling time
+-- or nothing; or jobs by due date, by release date, or by falling time; or an interval, a lateness,
+-- and jobs
 pub data Basis : Type 0 where
   ByMachine : ℕ → List ℕ → Basis
   ByWindow : List ℕ → Basis
@@ -28,6 +29,7 @@ pub data Basis : Type 0 where
   ByKept : List ℕ → Basis
   ByShortest : List ℕ → Basis
   ByRanks : List ℕ → Basis
+  ByParts : ℕ → ℕ → ℤ → List ℕ → Basis
 
 abbrev pub basis_of : {A : Type 0} → BoundCertificate A → Basis
 basis_of (Machine machine jobs) = ByMachine machine jobs.items
@@ -41,6 +43,7 @@ basis_of Alone = ByAlone
 basis_of (Kept jobs) = ByKept jobs.items
 basis_of (Shortest jobs) = ByShortest jobs.items
 basis_of (Ranks jobs) = ByRanks jobs.items
+basis_of (Parts from until late jobs) = ByParts from until late jobs.items
 
 -- the number is what a certificate that names this bounds a task by
 abbrev pub IsValueBy : ProblemData → Basis → ℤ → Type 0
@@ -54,6 +57,7 @@ IsValueBy k ByAlone b = IsAloneBound k b
 IsValueBy k (ByKept jobs) b = b ≡ pos (kept_value k jobs)
 IsValueBy k (ByShortest jobs) b = b ≡ pos (shortest_value k jobs)
 IsValueBy k (ByRanks jobs) b = b ≡ pos (rank_value k jobs)
+IsValueBy k (ByParts from until late jobs) b = b ≡ late
 
 -- the first fault that a certificate that names this has on a task, if it has one
 abbrev pub fault_by : ProblemData → Basis → Option BoundFault
@@ -67,6 +71,7 @@ fault_by k ByAlone = alone_fault k
 fault_by k (ByKept jobs) = kept_fault k jobs
 fault_by k (ByShortest jobs) = shortest_fault k jobs
 fault_by k (ByRanks jobs) = ranks_fault k jobs
+fault_by k (ByParts from until late jobs) = parts_fault k from until late jobs
 
 -- a certificate, and the problem, the sizes and the value that are stated beside it
 pub record BoundSheetData : Type 0 where

@@ -6,9 +6,10 @@ ghost use Rattle.tf_bound_text.specs.BoundReading.{Gives, machine_basis, crowd_b
 ghost use Rattle.tf_bound_text.specs.BoundReading.{multiplier_basis, price_basis, one_job_basis};
 ghost use Rattle.tf_bound_text.specs.BoundReading.{window_basis, alone_basis, kind_in, basis_in};
 ghost use Rattle.tf_bound_text.specs.BoundReading.{kept_basis, shortest_basis, ranks_basis};
+ghost use Rattle.tf_bound_text.specs.BoundReading.{parts_basis};
 
 use crate::fault::BoundTextFault;
-use crate::number::{first_number, jobs_from, natural, numbers_from, only};
+use crate::number::{first_number, first_value, jobs_from, natural, numbers_from, only};
 use std::alloc::Allocator;
 use tf_bound::certificate::BoundCertificate;
 use tf_model::ids::JobId;
@@ -154,6 +155,27 @@ fn ranks_in<A: Allocator>(
     Ok(BoundCertificate::Ranks { jobs })
 }
 
+/// Reads an interval, a lateness, and jobs.
+#[tactic(auto, unfolding(crate::specs::BoundReading::parts_basis))]
+fn parts_in<A: Allocator>(
+    alloc: A,
+    line: u32,
+    text: &[u8],
+) -> Result<BoundCertificate<A>, BoundTextFault>
+    ensures { Gives basis_of result (parts_basis line (words text.now)) }
+{
+    let (from, rest) = first_number(line, 0, LIMIT as u64, text)?;
+    let (until, rest) = first_number(line, 0, LIMIT as u64, rest)?;
+    let (late, rest) = first_value(line, rest)?;
+    let jobs = jobs_from(alloc, line, rest)?;
+    Ok(BoundCertificate::Parts {
+        from,
+        until,
+        late,
+        jobs,
+    })
+}
+
 /// Reads a certificate of this kind from the words that follow it.
 #[tactic(auto, unfolding(crate::specs::BoundReading::kind_in))]
 fn kind_in<A: Allocator + Copy>(
@@ -184,6 +206,8 @@ fn kind_in<A: Allocator + Copy>(
         shortest_in(alloc, line, text)
     } else if is(kind, b"ranks") {
         ranks_in(alloc, line, text)
+    } else if is(kind, b"parts") {
+        parts_in(alloc, line, text)
     } else {
         Err(BoundTextFault::BadLine(line))
     }

@@ -3,7 +3,7 @@ ghost use Rattle.std.specs.Prelude.{◌≤◌, IfOk};
 ghost use Rattle.tf_model.specs.Limit.{limit, most_jobs};
 ghost use Rattle.tf_words.specs.Words.{words};
 ghost use Rattle.tf_bound_text.specs.BoundReading.{Gives, natural, value_in, only, first_number};
-ghost use Rattle.tf_bound_text.specs.BoundReading.{naturals};
+ghost use Rattle.tf_bound_text.specs.BoundReading.{first_value, naturals};
 
 use crate::fault::BoundTextFault;
 use std::alloc::Allocator;
@@ -67,6 +67,19 @@ pub(crate) fn first_number<'a>(
         Some((word, after)) => {
             let number = natural(line, least, most, word)?;
             Ok((number, after))
+        }
+    }
+}
+
+/// Reads the first word as a value, and returns the text after it.
+pub(crate) fn first_value(line: u32, text: &[u8]) -> Result<(i64, &[u8]), BoundTextFault>
+    ensures { Gives (λ x. (x.0, words x.1.now)) result (first_value line (words text.now)) }
+{
+    match first_word(text) {
+        None => Err(BoundTextFault::BadLine(line)),
+        Some((word, after)) => {
+            let value = value_in(line, word)?;
+            Ok((value, after))
         }
     }
 }

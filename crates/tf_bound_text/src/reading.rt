@@ -193,6 +193,20 @@ fn with_arcs<'a, A: Allocator>(
         BoundCertificate::Kept { jobs } => Ok((BoundCertificate::Kept { jobs }, lines)),
         BoundCertificate::Shortest { jobs } => Ok((BoundCertificate::Shortest { jobs }, lines)),
         BoundCertificate::Ranks { jobs } => Ok((BoundCertificate::Ranks { jobs }, lines)),
+        BoundCertificate::Parts {
+            from,
+            until,
+            late,
+            jobs,
+        } => {
+            let parts = BoundCertificate::Parts {
+                from,
+                until,
+                late,
+                jobs,
+            };
+            Ok((parts, lines))
+        }
     }
 }
 

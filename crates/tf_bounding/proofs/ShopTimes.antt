@@ -15,7 +15,7 @@ use Rattle.tf_read.specs.declared.fault.ReadFault.TheVariants.{OutOfMemory, TooL
 use Rattle.tf_read.specs.Faults.{Fails}
 use Rattle.tf_read.specs.FlowShop.{are_machines, flow_shop}
 use Rattle.tf_routes.specs.JobShop.{job_shop}
-use Rattle.tf_routes.specs.RoutedData.{IsRouted, RoutedData}
+use Rattle.tf_routes.specs.RoutedData.{HasRoutes, RoutedData}
 use Rattle.tf_routes.specs.RoutedTable.{routed_table}
 use Rattle.tf_text.specs.declared.counted.Counted.{Counted}
 use Rattle.tf_text.specs.Counted.{inner_of, pulled_of, has_failed, ConsumesAtMost}
@@ -216,7 +216,7 @@ unfolding job_shop
 job_shop_too_long name text h = rw (lt-ltb most_bytes (length text) h) refl
 
 -- routes over so many machines are routes over more
-pub routed_more : (m most : ℕ) (r : RoutedData) → m ≤ most → IsRouted m r → IsRouted most r
+pub routed_more : (m most : ℕ) (r : RoutedData) → m ≤ most → HasRoutes m r → HasRoutes most r
 routed_more m most r few is = record {
   count = is.count;
   routes = λ k d lt. let route = is.routes k d lt in record {

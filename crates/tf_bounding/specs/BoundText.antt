@@ -6,7 +6,7 @@ use Rattle.tf_notation.specs.Canonical.{canonical}
 use Rattle.tf_text.specs.AnswerText.{line_text}
 use Rattle.tf_problem.specs.ProblemData.{ProblemData}
 use Rattle.tf_bound.specs.declared.certificate.BoundCertificate.{BoundCertificate}
-use Rattle.tf_bound.specs.declared.certificate.BoundCertificate.TheVariants.{Machine, Window, Crowd, OneJob, Multipliers, Prices, Alone, Kept, Shortest, Ranks}
+use Rattle.tf_bound.specs.declared.certificate.BoundCertificate.TheVariants.{Machine, Window, Crowd, OneJob, Multipliers, Prices, Alone, Kept, Shortest, Ranks, Parts}
 
 -- the line of the arcs' multipliers, if there are any
 abbrev pub arc_lines : List ℕ → List (List (List ℕ))
@@ -29,6 +29,8 @@ certificate_lines Alone = (codes "alone" ∷ []) ∷ []
 certificate_lines (Kept jobs) = (codes "kept" ∷ map decimal jobs.items) ∷ []
 certificate_lines (Shortest jobs) = (codes "shortest" ∷ map decimal jobs.items) ∷ []
 certificate_lines (Ranks jobs) = (codes "ranks" ∷ map decimal jobs.items) ∷ []
+certificate_lines (Parts from until late jobs) =
+    (codes "parts" ∷ decimal from ∷ decimal until ∷ signed_decimal late ∷ map decimal jobs.items) ∷ []
 
 -- all lines: a heading, the problem, the sizes of the task, the value and the certificate
 abbrev pub bound_lines : {A : Type 0} → ProblemData → ℕ → ℤ → BoundCertificate A

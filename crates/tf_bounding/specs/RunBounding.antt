@@ -8,8 +8,7 @@ use Rattle.tf_notation.specs.Reading.{notation}
 use Rattle.tf_text.specs.declared.counted.Counted.{Counted}
 use Rattle.tf_text.specs.Counted.{DeviceUse, inner_of, has_failed}
 use Rattle.tf_text.specs.Input.{IsTextOf}
-use Rattle.tf_problem.specs.ProblemData.{ProblemData}
-use Rattle.tf_bound.specs.Refused.{is_taken_problem}
+use Rattle.tf_problem.specs.ProblemData.{ProblemData, is_covered}
 use Rattle.tf_bound.specs.Sized.{IsSized}
 use Rattle.tf_engine.specs.declared.fault.RunFault.{RunFault}
 use Rattle.tf_engine.specs.Faults.{Refused, ByNotation, ByTask, Stop, stop_of, end_of}
@@ -30,7 +29,7 @@ use Rattle.tf_bounding.specs.ShopTimes.{timed_said}
 abbrev pub problem_in : List ℕ → Result Problem Refused
 problem_in text =
     refused_by ByNotation (notation text)
-    >>= λ problem. if is_taken_problem problem then Ok problem else Err (ByTask NoSolver)
+    >>= λ problem. if is_covered problem then Ok problem else Err (ByTask NoSolver)
 
 -- the task of a problem and a text, or the first refusal but that of totals
 abbrev pub problem_task_in : RequestData → Problem → List ℕ → Result ProblemData Refused

@@ -3,7 +3,7 @@
 ghost use Rattle.std.specs.Prelude.{◌≡◌, ◌≤◌, length, Ok, Err, IfOk, MatchResult};
 ghost use Rattle.tf_model.specs.Limit.{most_bytes, most_machines};
 ghost use Rattle.tf_problem.specs.ProblemData.{is_job_shop};
-ghost use Rattle.tf_routes.specs.RoutedData.{IsRouted};
+ghost use Rattle.tf_routes.specs.RoutedData.{HasRoutes};
 ghost use Rattle.tf_engine.specs.Faults.{stop_of};
 ghost use Rattle.tf_engine.specs.FormData.{form_of};
 ghost use Rattle.tf_engine.specs.Parts.{ReadsTo, StopsBy, instance_said};
@@ -103,7 +103,7 @@ fn routed_table_read<A: Allocator + Copy, R: Read>(
     reader: &mut Counted<R>,
 ) -> Result<RoutedInstance<A>, RunFault<A>>
     ensures said { ReadsTo table_said R.remaining reader.old reader.new result }
-    ensures routed { IfOk result (λ r. IsRouted most_machines r) }
+    ensures routed { IfOk result (λ r. HasRoutes most_machines r) }
 {
     let text = read_all(alloc, reader)?;
     Ok(read_routed_table(alloc, text.as_slice())?)
@@ -116,7 +116,7 @@ fn job_shop_read<A: Allocator + Copy, R: Read>(
     reader: &mut Counted<R>,
 ) -> Result<RoutedInstance<A>, RunFault<A>>
     ensures said { ReadsTo (job_shop_said name.now) R.remaining reader.old reader.new result }
-    ensures routed { IfOk result (λ r. IsRouted most_machines r) }
+    ensures routed { IfOk result (λ r. HasRoutes most_machines r) }
 {
     let text = read_all(alloc, reader)?;
     let routed = read_job_shop(alloc, text.as_slice(), name)?;

@@ -2,7 +2,7 @@
 ghost use Rattle.std.specs.Prelude.{◌≡◌, [], ◌∷◌, ◌++◌, codes, length, map, IfOk, OnOk};
 ghost use Rattle.std.specs.List.{flat_map};
 ghost use Rattle.tf_text.specs.AnswerText.{line_text};
-ghost use Rattle.std.specs.Fmt.{decimal};
+ghost use Rattle.std.specs.Fmt.{decimal, signed_decimal};
 ghost use Rattle.tf_bounding.specs.BoundText.{arc_lines, certificate_lines, bound_text};
 
 use std::alloc::Allocator;
@@ -153,6 +153,27 @@ fn push_alone<A: Allocator>(text: &mut Vec<u8, A>) -> Result<(), OutOfMemory>
     Ok(())
 }
 
+// Adds the line of the parts of jobs in an interval.
+fn push_parts<A: Allocator>(
+    text: &mut Vec<u8, A>,
+    from: u64,
+    until: u64,
+    late: i64,
+    jobs: &[JobId],
+) -> Result<(), OutOfMemory>
+    ensures { OnOk result (text.new.items ≡ text.old.items ++ flat_map line_text
+        ((codes "parts" ∷ decimal from ∷ decimal until ∷ signed_decimal late
+        ∷ map decimal jobs.now) ∷ [])) }
+{
+    text.extend_from_slice(b"parts")?;
+    push_number(text, from)?;
+    push_number(text, until)?;
+    push_number(text, late)?;
+    push_jobs(text, jobs)?;
+    text.push(b'\n')?;
+    Ok(())
+}
+
 /// Adds the lines of a certificate.
 pub fn push_certificate<A: Allocator, C: Allocator>(
     text: &mut Vec<u8, A>,
@@ -179,5 +200,11 @@ pub fn push_certificate<A: Allocator, C: Allocator>(
         BoundCertificate::Kept { jobs } => push_listed(text, b"kept", jobs),
         BoundCertificate::Shortest { jobs } => push_listed(text, b"shortest", jobs),
         BoundCertificate::Ranks { jobs } => push_listed(text, b"ranks", jobs),
+        BoundCertificate::Parts {
+            from,
+            until,
+            late,
+            jobs,
+        } => push_parts(text, *from, *until, *late, jobs),
     }
 }

@@ -7,7 +7,7 @@ use Rattle.tf_model.specs.declared.problem.Env.TheVariants.{Single, Parallel, Un
 use Rattle.tf_model.specs.declared.problem.Goal.{Goal}
 use Rattle.tf_model.specs.declared.problem.Goal.TheVariants.{Cmax, Lmax, Hmax, SumC, SumWC, SumT, SumWT, SumU, SumWU}
 use Rattle.tf_model.specs.declared.problem.Problem.{Problem}
-use Rattle.tf_bound.specs.Refused.{is_taken_problem}
+use Rattle.tf_problem.specs.ProblemData.{is_covered}
 
 -- all environments, in the order of the list
 abbrev pub environments : List Env
@@ -26,4 +26,4 @@ unsolved env goal =
 -- these problems, where some kind of certificate bounds their tasks
 abbrev pub unsolved_problems : List Problem
 unsolved_problems =
-    filter is_taken_problem (flat_map (λ env. map (unsolved env) objectives) environments)
+    filter is_covered (flat_map (λ env. map (unsolved env) objectives) environments)

@@ -7,7 +7,7 @@ use Rattle.std.proofs.lemmas.List.Elements.{All-map}
 use Rattle.std.proofs.lemmas.List.Sums.{sum_by-cons}
 use Rattle.tf_bound.specs.Route.{IsRouted}
 use Rattle.tf_routes.specs.declared.route.Step.{Step}
-use Rattle.tf_routes.specs.RoutedData.{IsRoute}
+use Rattle.tf_routes.specs.RoutedData.{AreSteps}
 use Rattle.tf_prepare.specs.Preparing.{machines_of, times_by}
 
 -- ---- times
@@ -90,7 +90,7 @@ apart (step ∷ route) once (suc i) (suc j) d lt h =
 
 -- ---- both
 
-pub is_routed : (machines : ℕ) (route : List Step) → IsRoute machines route
+pub is_routed : (machines : ℕ) (route : List Step) → AreSteps machines route
     → IsRouted machines (times_by machines route) (machines_of route)
 is_routed machines route is = record {
   of_machines = All-map (λ (a : ℕ). a < machines) (λ (step : Step). step.machine) route is.within;
@@ -106,7 +106,7 @@ is_routed machines route is = record {
 
 -- the same of the times and the machines that were found
 pub found_routed : (machines : ℕ) (route : List Step) (times visited : List ℕ)
-    → IsRoute machines route → times ≡ times_by machines route → visited ≡ machines_of route
+    → AreSteps machines route → times ≡ times_by machines route → visited ≡ machines_of route
     → IsRouted (length times) times visited
 found_routed machines route times visited is t v =
     let n : machines ≡ length times = sym (ap length t ∙ times_length machines route) in

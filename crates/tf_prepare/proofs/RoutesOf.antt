@@ -13,7 +13,7 @@ use Rattle.tf_model.specs.declared.problem.Problem.{Problem}
 use Rattle.tf_model.specs.Limit.{most_machines}
 use Rattle.tf_problem.specs.ProblemData.{ProblemData, ProblemJobData}
 use Rattle.tf_routes.specs.declared.route.Step.{Step}
-use Rattle.tf_routes.specs.RoutedData.{IsRoute}
+use Rattle.tf_routes.specs.RoutedData.{AreSteps}
 use Rattle.tf_prepare.specs.Preparing.{is_beyond, is_idle_route, job_in, machines_of, missing_in, much_in, routed_jobs_in, routed_task_in, routes_refusal_in, times_by}
 
 -- what holds of each route holds of one of them
@@ -81,8 +81,8 @@ none_at p xs e k d h =
 
 -- where the routes are not refused, each is of the machines
 pub routes_within : (p : Problem) (m : ℕ) (jobs : List JobFields) (routes : List (List Step))
-    → None ≡ routes_refusal_in p m jobs routes → All (IsRoute most_machines) routes
-    → All (IsRoute m) routes
+    → None ≡ routes_refusal_in p m jobs routes → All (AreSteps most_machines) routes
+    → All (AreSteps m) routes
 routes_within p m jobs routes none each k d lt =
     let parts = none_of_two (option_map WrongTimes (first_with (is_beyond m) routes))
     (option_or (missing_in p 1 jobs)
@@ -91,7 +91,7 @@ routes_within p m jobs routes none each k d lt =
     let fits : All (λ route. is_beyond m route ≡ false) routes =
     none_at (is_beyond m) routes (none_mapped _ _ (none_mapped _ _ parts.0)) in
     let route : List Step = get_or routes k d in
-    let is : IsRoute most_machines route = each k d lt in
+    let is : AreSteps most_machines route = each k d lt in
     record {
       once = is.once;
       within = λ i e h. steps_within m route (fits k d lt) i e h;

@@ -4,7 +4,7 @@ use Rattle.std.specs.Option.{ForSome}
 use Rattle.tf_model.specs.Limit.{most_machines}
 use Rattle.tf_model.specs.InstanceData.{InstanceData}
 use Rattle.tf_routes.specs.declared.route.Step.{Step}
-use Rattle.tf_routes.specs.RoutedData.{RoutedData, IsRouted}
+use Rattle.tf_routes.specs.RoutedData.{RoutedData, HasRoutes}
 
 -- The times are those of the jobs themselves, one or two each; or for a shop on any number of
 -- machines there is a list for each machine, of the times of all jobs on it; or for a job shop a
@@ -26,4 +26,4 @@ with_routes r = record { instance = r.instance; by_machine = None; routes = Some
 -- greatest
 abbrev pub HaveRoutes : InstanceData → Option (List (List Step)) → Type 0
 HaveRoutes i routes =
-    ForSome routes (λ all. IsRouted most_machines (record { instance = i; routes = all }))
+    ForSome routes (λ all. HasRoutes most_machines (record { instance = i; routes = all }))

@@ -5,7 +5,7 @@ ghost use Rattle.std.specs.Option.{ForSome, option_map};
 ghost use Rattle.tf_model.specs.InstanceData.{first_with};
 ghost use Rattle.tf_model.specs.Limit.{most_jobs, most_machines};
 ghost use Rattle.tf_model.specs.declared.prepare.Refusal.TheVariants.{WrongTimes, ZeroTime};
-ghost use Rattle.tf_routes.specs.RoutedData.{IsRoute, IsRouted};
+ghost use Rattle.tf_routes.specs.RoutedData.{AreSteps, HasRoutes};
 ghost use Rattle.tf_prepare.specs.Preparing.{greatest_named, greatest_on, is_beyond, is_idle_route};
 ghost use Rattle.tf_prepare.specs.Preparing.{is_unrouted, job_in, machines_of, much_in, PreparesIn};
 ghost use Rattle.tf_prepare.specs.Preparing.{routed_in, routed_jobs_in, routed_machines_in};
@@ -34,7 +34,7 @@ pub(crate) fn prepare_routed<A: Allocator + Copy, B: Allocator>(
     problem: &Problem,
     argument: Option<u32>,
 ) -> Result<ProblemTask<A>, Refusal>
-    requires { IsRouted most_machines
+    requires { HasRoutes most_machines
         (record { instance = instance.now; routes = routes.now }) }
     ensures { PreparesIn result (routed_in routes.now instance.now problem.now argument) }
 {
@@ -132,7 +132,7 @@ fn routed_machines<A: Allocator>(
     instance: Option<u32>,
     routes: &[Route<A>],
 ) -> Result<u32, Refusal>
-    requires { All (IsRoute most_machines) routes.now }
+    requires { All (AreSteps most_machines) routes.now }
     ensures { result ≡ routed_machines_in problem.now argument instance routes.now }
 {
     let count = agreed(problem.count, argument)?;
@@ -144,7 +144,7 @@ fn routed_machines<A: Allocator>(
 
 // The greatest machine that the routes name, counted from 1.
 fn greatest_named<A: Allocator>(routes: &[Route<A>]) -> u32
-    requires { All (IsRoute most_machines) routes.now }
+    requires { All (AreSteps most_machines) routes.now }
     ensures { result ≡ greatest_named routes.now }
 {
     let mut greatest = 0;
@@ -156,7 +156,7 @@ fn greatest_named<A: Allocator>(routes: &[Route<A>]) -> u32
 
 // The greatest of a number and of the machines that a route names, counted from 1.
 fn greatest_on<A: Allocator>(most: u32, route: &Route<A>) -> u32
-    requires { IsRoute most_machines route.now }
+    requires { AreSteps most_machines route.now }
     ensures { result ≡ greatest_on most route.now }
 {
     let mut greatest = most;
@@ -207,7 +207,7 @@ fn times_by<A: Allocator, B: Allocator>(
     machines: u32,
     route: &Route<B>,
 ) -> Result<Vec<u64, A>, AllocError>
-    requires { IsRoute machines route.now }
+    requires { AreSteps machines route.now }
     ensures { IfOk result (λ times. times.items ≡ times_by machines route.now) }
 {
     let mut times = vec![in alloc; 0; machines as usize]?;
@@ -238,7 +238,7 @@ fn routed_times<A: Allocator + Copy, B: Allocator>(
     machines: u32,
     route: &Route<B>,
 ) -> Result<RoutedTimes<A>, AllocError>
-    requires { IsRoute machines route.now }
+    requires { AreSteps machines route.now }
     ensures times { IfOk result (λ routed. routed.times ≡ times_by machines route.now) }
     ensures route { IfOk result (λ routed. routed.route ≡ machines_of route.now) }
 {
@@ -258,7 +258,7 @@ fn routed_jobs<A: Allocator + Copy, B: Allocator>(
     jobs: &[Job<B>],
 ) -> Result<Vec<ProblemJob<A>, A>, AllocError>
     requires count { length routes.now ≡ length jobs.now }
-    requires routes { All (IsRoute machines) routes.now }
+    requires routes { All (AreSteps machines) routes.now }
     ensures { IfOk result (λ rows. rows.items
         ≡ routed_jobs_in problem.now machines routes.now jobs.now) }
 {
@@ -278,7 +278,7 @@ fn assemble<A: Allocator + Copy, B: Allocator>(
     instance: &Instance<B>,
     routes: &[Route<B>],
 ) -> Result<ProblemTask<A>, Refusal>
-    requires { IsRouted machines (record { instance = instance.now; routes = routes.now }) }
+    requires { HasRoutes machines (record { instance = instance.now; routes = routes.now }) }
     ensures ok { IfOk result (λ task. task
         ≡ routed_task_in problem.now machines instance.now routes.now) }
     ensures err { IfErr result (IsOfSize

@@ -76,7 +76,7 @@ impl<A: Allocator> TimedInstance<A> {
     ghost use Rattle.std.specs.Prelude.{◌≡◌, None, Some, [], is_some, IfOk, IfSome, IfNone};
     ghost use Rattle.tf_bound.specs.JobTimes.{listed, route_in};
     ghost use Rattle.tf_model.specs.Limit.{most_machines};
-    ghost use Rattle.tf_routes.specs.RoutedData.{IsRouted};
+    ghost use Rattle.tf_routes.specs.RoutedData.{HasRoutes};
     ghost use Rattle.tf_prepare.specs.TimedData.{self_timed, with_routes};
     ghost use Rattle.tf_prepare.specs.Preparing.{times_in, is_idle};
 
@@ -108,7 +108,7 @@ impl<A: Allocator> TimedInstance<A> {
 
     /// With the routes of the jobs, of which none visits a machine twice.
     pub fn routed(routed: RoutedInstance<A>) -> Self
-        requires { IsRouted most_machines routed }
+        requires { HasRoutes most_machines routed }
         ensures { result ≡ with_routes routed }
     {
         TimedInstance {
@@ -122,7 +122,7 @@ impl<A: Allocator> TimedInstance<A> {
     pub(crate) fn routes(&self) -> Option<&[Route<A>]>
         ensures none { IfNone result (self.now.routes ≡ None) }
         ensures some { IfSome result (λ routes. self.now.routes ≡ Some routes.now) }
-        ensures routed { IfSome result (λ routes. IsRouted most_machines
+        ensures routed { IfSome result (λ routes. HasRoutes most_machines
             (record { instance = self.now.instance; routes = routes.now })) }
     {
         match &self.routes {

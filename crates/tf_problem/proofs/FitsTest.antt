@@ -116,7 +116,8 @@ abbrev whole_test : Timetable → ℕ → ℕ → ℕ → ℕ → ℕ → ℕ �
 whole_test rows s a i u b j = imp (a == b) (imp (i == j) (goes_on rows a i s u))
 
 abbrev place_test : ProblemData → ℕ → ℕ → ℕ → ℕ → ℕ → ℕ → Bool
-place_test k s a i t b j = imp (not (is_shop_env k.problem.env)) (imp (i == j) (a == b))
+place_test k s a i t b j =
+    imp (not k.problem.prmp) (imp (not (is_shop_env k.problem.env)) (imp (i == j) (a == b)))
 
 abbrev visit_test : ℕ → ℕ → ℕ → ℕ → ℕ → ℕ → ℕ → ℕ → ℕ → Bool
 visit_test l c d s a i t b j =
@@ -214,7 +215,10 @@ fits-passed k rows passes = record {
     no_gap = λ i s t u le1 le2 p q. no_gap whole j low i s t u le1 le2 p q;
     one_machine = λ plain s t a b p q.
         let asked : imp (not (is_shop_env k.problem.env)) (imp (j == j) (a == b)) ≡ true =
-        each_pair-says (place_test k) rows passes.one_place s a j t b j low low p q in
+        imp-says (not k.problem.prmp)
+        (imp (not (is_shop_env k.problem.env)) (imp (j == j) (a == b)))
+        (each_pair-says (place_test k) rows passes.one_place s a j t b j low low p q)
+        (ap not whole) in
         eqb-true a b
         (imp-says (j == j) (a == b)
         (imp-says (not (is_shop_env k.problem.env)) (imp (j == j) (a == b)) asked (ap not plain))

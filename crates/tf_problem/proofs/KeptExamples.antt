@@ -142,48 +142,22 @@ broken_falls =
     (All-cons (R 2) 3 (4 ∷ []) (omega arith) (All-cons (R 2) 4 [] (omega arith) (All-nil (R 2))))
     (AllPairs-cons R 3 (4 ∷ []) (All-cons (R 3) 4 [] (omega arith) (All-nil (R 3))) (none 4)))
 
-list_all-says : {X : Type 0} (test : X → Bool) (xs : List X) → list_all test xs ≡ true
-    → All (λ x. test x ≡ true) xs
-list_all-says test [] h = All-nil (λ x. test x ≡ true)
-list_all-says test (x ∷ xs) h =
-    let p = and_parts (test x) (list_all test xs) h in
-    All-cons (λ y. test y ≡ true) x xs p.0 (list_all-says test xs p.1)
-
--- the tests of tf_problem's examples ask that a job stays on its machine
-broken_fits : FitsProblem broken broken_rows
-broken_fits = record {
-  width = λ t d h.
-      eqb-true (length (slice_index_or broken_rows t d)) 2
-      (list_all-says (λ row. length row == 2) broken_rows refl t d h);
-  jobs_only = λ t d h i e in'.
-      leb-true (slice_index_or (slice_index_or broken_rows t d) i e) 4
-      (list_all-says (λ j. nat_le j 4) (slice_index_or broken_rows t d)
-      (list_all-says (λ row. list_all (λ j. nat_le j 4) row) broken_rows refl t d h) i e in');
-  single_place = λ j low high.
-      each_four (IsOnce broken_rows) (once_in 1 refl) (once_in 2 refl) (once_in 3 refl)
-      (once_in 4 refl) j (low, high);
-  amount = λ j low high. record {
-    in_all = λ _. each_four (λ j. all_units broken_rows j ≡ problem_time broken j) refl refl refl refl j
-        (low, high);
-    on_each = λ e. absurd (false≢true e);
-  };
-  unbroken = λ e. absurd (true≢false e);
-  released = λ e. absurd (false≢true e);
-  in_order = λ e. absurd (false≢true e);
-  on_route = λ j low high i n d lt h. absurd (omega arith);
-  one_order = λ e. absurd (false≢true e);
-  without_wait = λ e. absurd (false≢true e);
-}
-  where
-    once_in : (j : ℕ) → list_all (λ row. nat_le (cells_of j row) 1) broken_rows ≡ true
-        → IsOnce broken_rows j
-    once_in j h t d lt =
-        leb-true (cells_of j (slice_index_or broken_rows t d)) 1
-        (list_all-says (λ row. nat_le (cells_of j row) 1) broken_rows h t d lt)
-
 broken_best : IsProblemBest broken broken_rows (pos 11)
 broken_best = record {
-  fits = broken_fits;
+  fits = fits-passed broken broken_rows
+      (record {
+        width = refl;
+        jobs_only = refl;
+        once = refl;
+        amount = refl;
+        released = refl;
+        whole = refl;
+        one_place = refl;
+        route = refl;
+        order = refl;
+        arcs = refl;
+        may_wait = refl;
+      });
   value = refl;
   least = rank-bound broken broken_sound refl refl (1 ∷ 2 ∷ 3 ∷ 4 ∷ []) (once 1 4)
       (All-problem_jobs broken (IsProblemJob broken) (λ j h. h)) broken_falls;

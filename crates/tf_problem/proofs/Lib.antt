@@ -14,6 +14,7 @@ pub mod Prices
 pub mod FitsTest
 pub mod ProblemExamples
 pub mod Agreement
+pub mod FlowAgreement
 pub mod Crowds
 pub mod Pushed
 pub mod PushedBounds
@@ -35,3 +36,5 @@ pub mod ShortestBest
 pub mod Ranks
 pub mod RankBest
 pub mod KeptExamples
+pub mod Parts
+pub mod PartsExamples

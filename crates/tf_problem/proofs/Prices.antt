@@ -92,7 +92,7 @@ pays j (suc n) (suc s) (x ∷ prices) (row ∷ rows) stands =
 module _ (k : ProblemData) (sound : IsProblemSound k) (alike : IsTrue (is_alike k.problem.env))
     (whole : IsFalse k.problem.prmp) (rows : Timetable) (fits : FitsProblem k rows) where
   -- it stands in all rows of its time before its completion
-  stands-in : (j : ℕ) → IsProblemJob k j → (t : ℕ) → completion rows j - problem_time k j ≤ t
+  pub stands-in : (j : ℕ) → IsProblemJob k j → (t : ℕ) → completion rows j - problem_time k j ≤ t
       → t < completion rows j → 1 ≤ cells_of j (slice_index_or rows t [])
   stands-in j h t low high =
       ⊎_elim

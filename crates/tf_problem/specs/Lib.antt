@@ -9,4 +9,5 @@ pub mod Pushed
 pub mod Kept
 pub mod Shortest
 pub mod Ranks
+pub mod Parts
 pub mod ProblemLaws

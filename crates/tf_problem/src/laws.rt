@@ -7,7 +7,8 @@ ghost use Rattle.tf_problem.specs.ProblemLaws.{MultiplierLaw, PricesLaw, Cheapes
 ghost use Rattle.tf_problem.specs.Kept.{KeptBestLaw, KeptLaw};
 ghost use Rattle.tf_problem.specs.Shortest.{ShortestBestLaw, ShortestLaw};
 ghost use Rattle.tf_problem.specs.Ranks.{RankBestLaw, RankLaw};
-ghost use Rattle.tf_problem.specs.Agreement.{AgreementLaw};
+ghost use Rattle.tf_problem.specs.Parts.{PartsLaw};
+ghost use Rattle.tf_problem.specs.Agreement.{AgreementLaw, FlowAgreementLaw};
 
 /// A lower bound that a certificate gives of a relaxed task is one of the task.
 pub fn certificate_law()
@@ -104,7 +105,18 @@ pub fn rank_best_law()
     ensures { RankBestLaw }
 {}
 
+/// A lower bound of the makespan or the maximum lateness by the work that some jobs have to do in one
+/// interval (energetic reasoning: Erschler, Lopez and Thuriot 1991).
+pub fn parts_law()
+    ensures { PartsLaw }
+{}
+
 /// On a problem of a class the task of the problem means what the class's task means.
 pub fn agreement_law()
     ensures { AgreementLaw }
+{}
+
+/// A job shop where all jobs visit all machines in the order of their numbers is a flow shop.
+pub fn flow_agreement_law()
+    ensures { FlowAgreementLaw }
 {}

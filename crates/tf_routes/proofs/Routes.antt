@@ -12,7 +12,7 @@ use Rattle.tf_read.specs.Faults.{natural}
 use Rattle.tf_read.proofs.Judged.{same_ok, natural_within, value_within}
 use Rattle.tf_routes.specs.declared.route.Step.{Step}
 use Rattle.tf_routes.specs.Routes.{time_in, visits}
-use Rattle.tf_routes.specs.RoutedData.{IsRoute}
+use Rattle.tf_routes.specs.RoutedData.{AreSteps}
 
 -- ---- times
 
@@ -65,7 +65,7 @@ count_more : (machine : ℕ) (steps : List Step) (step : Step)
     ≡ count_by (on machine) steps + more_on machine step
 count_more machine steps step = sum_by_push (more_on machine) steps step
 
-pub no_step : (machines : ℕ) → IsRoute machines []
+pub no_step : (machines : ℕ) → AreSteps machines []
 no_step machines = record {
   once = λ machine. omega arith;
   within = λ k d lt. absurd (omega (arith, lt));
@@ -73,9 +73,9 @@ no_step machines = record {
 }
 
 -- a step more, on a machine that was not visited
-pub step_more : (machines : ℕ) (steps : List Step) (step : Step) → IsRoute machines steps
+pub step_more : (machines : ℕ) (steps : List Step) (step : Step) → AreSteps machines steps
     → step.machine < machines → visits step.machine steps ≡ false → step.time ≤ limit
-    → IsRoute machines (steps ++ step ∷ [])
+    → AreSteps machines (steps ++ step ∷ [])
 step_more machines steps step is within new short = record {
   once = λ machine. elim (cases_Bool (on machine step)) [
     | inl e ↦

@@ -16,7 +16,7 @@ use Rattle.tf_model.proofs.Outcomes.{bind_ok}
 use Rattle.tf_read.proofs.Judged.{same_ok, then_ok}
 use Rattle.tf_routes.specs.declared.route.Step.{Step}
 use Rattle.tf_routes.specs.Routes.{time_in, visits}
-use Rattle.tf_routes.specs.RoutedData.{IsRoute, IsRouted}
+use Rattle.tf_routes.specs.RoutedData.{AreSteps, HasRoutes}
 use Rattle.tf_routes.proofs.Routes.{is_false, no_step, one, step_more, time_small}
 use Rattle.tf_routes.specs.JobShop.{first_time, machine_first, machine_in, route_first, routed_job, routes_in, shop_of, step_first, time_first}
 
@@ -76,11 +76,11 @@ step_new machines before words x h =
 
 route_is : (machines count : ℕ) (before : List Step) (words : List Word)
     (x : List Step × List Word)
-    → IsRoute machines before → route_first machines count before words ≡ Ok x
-    → IsRoute machines x.0
+    → AreSteps machines before → route_first machines count before words ≡ Ok x
+    → AreSteps machines x.0
 unfolding route_first
 route_is machines zero before words x is h =
-    subst (IsRoute machines)
+    subst (AreSteps machines)
     (ap (λ (p : List Step × List Word). p.0) (same_ok (Ok (before, words)) refl h)) is
 route_is machines (suc count) before words x is h =
     let a = bind_ok (step_first machines before words)
@@ -90,28 +90,28 @@ route_is machines (suc count) before words x is h =
     (step_more machines before a.0.0 is new.0.0 new.0.1 new.1) a.2
 
 routes_are : (machines jobs : ℕ) (before routes : List (List Step)) (words : List Word)
-    → All (IsRoute machines) before → routes_in machines jobs before words ≡ Ok routes
-    → All (IsRoute machines) routes
+    → All (AreSteps machines) before → routes_in machines jobs before words ≡ Ok routes
+    → All (AreSteps machines) routes
 unfolding routes_in
 routes_are machines zero before routes words are h =
-    subst (λ rs. All (IsRoute machines) rs) (same_ok (Ok before) refl h) are
+    subst (λ rs. All (AreSteps machines) rs) (same_ok (Ok before) refl h) are
 routes_are machines (suc jobs) before routes words are h =
     let a = bind_ok (route_first machines machines [] words)
     (λ r. routes_in machines jobs (before ++ r.0 ∷ []) r.1) routes h in
     routes_are machines jobs (before ++ a.0.0 ∷ []) routes a.0.1
-    (All-append (IsRoute machines) before (a.0.0 ∷ []) are
-    (one (IsRoute machines) a.0.0 (route_is machines machines [] words a.0 (no_step machines) a.1)))
+    (All-append (AreSteps machines) before (a.0.0 ∷ []) are
+    (one (AreSteps machines) a.0.0 (route_is machines machines [] words a.0 (no_step machines) a.1)))
     a.2
 
 pub all_routes : (machines jobs : ℕ) (routes : List (List Step)) (words : List Word)
-    → routes_in machines jobs [] words ≡ Ok routes → All (IsRoute machines) routes
+    → routes_in machines jobs [] words ≡ Ok routes → All (AreSteps machines) routes
 all_routes machines jobs routes words h =
     routes_are machines jobs [] routes words (λ k d lt. absurd (omega (arith, lt))) h
 
 abbrev BeginsShort : List Step → Type 0
 BeginsShort route = first_time route ≤ limit
 
-first_short : (machines : ℕ) (route : List Step) → IsRoute machines route → BeginsShort route
+first_short : (machines : ℕ) (route : List Step) → AreSteps machines route → BeginsShort route
 first_short machines [] is = omega arith
 first_short machines (step ∷ steps) is = is.short 0 step (omega arith)
 
@@ -181,7 +181,7 @@ shop_instance machines jobs routes words read some few one_machine few_machines 
 
 -- and each job has a route
 pub shop_routed : (machines jobs : ℕ) (routes : List (List Step)) (words : List Word)
-    → routes_in machines jobs [] words ≡ Ok routes → IsRouted machines (shop_of machines routes)
+    → routes_in machines jobs [] words ≡ Ok routes → HasRoutes machines (shop_of machines routes)
 shop_routed machines jobs routes words read = record {
   count = sym (length-map routes routed_job);
   routes = all_routes machines jobs routes words read;

@@ -18,7 +18,7 @@ use Rattle.tf_read.specs.JobTable.{table_of}
 use Rattle.tf_read.proofs.Judged.{each_cons, each_none, else_ok, same_ok, then_ok}
 use Rattle.tf_routes.specs.declared.route.Step.{Step}
 use Rattle.tf_routes.specs.Routes.{time_in, visits}
-use Rattle.tf_routes.specs.RoutedData.{IsRoute, IsRouted}
+use Rattle.tf_routes.specs.RoutedData.{AreSteps, HasRoutes}
 use Rattle.tf_routes.specs.RoutedTable.{is_job, job_route, machine_named, route_at, routes_on, step_at, step_of, steps_at, times_in, unrouted_line}
 use Rattle.tf_routes.proofs.JobCount.{routes_count}
 use Rattle.tf_routes.proofs.Routes.{is_false, no_step, one, step_more, time_small}
@@ -57,10 +57,10 @@ step_new before line (Some sides) step h =
     )
 
 steps_are : (line : ℕ) (before : List Step) (all : List (List ℕ)) (steps : List Step)
-    → IsRoute most_machines before → steps_at before line all ≡ Ok steps
-    → IsRoute most_machines steps
+    → AreSteps most_machines before → steps_at before line all ≡ Ok steps
+    → AreSteps most_machines steps
 unfolding steps_at step_at
-steps_are line before [] steps is h = subst (IsRoute most_machines) (same_ok (Ok before) refl h) is
+steps_are line before [] steps is h = subst (AreSteps most_machines) (same_ok (Ok before) refl h) is
 steps_are line before (part ∷ all) steps is h =
     let a = bind_ok (step_at before line part) (λ s. steps_at (before ++ s ∷ []) line all) steps
     h in
@@ -70,28 +70,28 @@ steps_are line before (part ∷ all) steps is h =
 
 route_is : (line : ℕ) (value : List ℕ) (has : Bool) (route : List Step)
     → is_some (divided 64 value) ≡ has → route_at line value ≡ Ok route
-    → IsRoute most_machines route
+    → AreSteps most_machines route
 unfolding route_at
 route_is line value true route is h = steps_are line [] (parts value) route (no_step most_machines)
     (rw is at h)
 route_is line value false route is h =
-    subst (IsRoute most_machines) (same_ok (Ok []) refl (rw is at h)) (no_step most_machines)
+    subst (AreSteps most_machines) (same_ok (Ok []) refl (rw is at h)) (no_step most_machines)
 
 routes_are : (k : ℕ) (all : List Line) (routes : List (List Step))
     → each_from (λ k. job_route) k all ≡ Ok routes
-    → (length routes ≡ length all) × All (IsRoute most_machines) routes
+    → (length routes ≡ length all) × All (AreSteps most_machines) routes
 routes_are k [] routes h =
     let none = each_none (λ k. job_route) k routes h in (
       sym (ap length none),
-      subst (λ rs. All (IsRoute most_machines) rs) none (λ k d lt. absurd (omega (arith, lt))),
+      subst (λ rs. All (AreSteps most_machines) rs) none (λ k d lt. absurd (omega (arith, lt))),
     )
 routes_are k (line ∷ all) routes h =
     let r = each_cons (λ k. job_route) k line all routes h in
     let more = routes_are (k + 1) all r.1 r.3 in (
       omega (arith, more.0, ap length r.4),
-      subst (λ rs. All (IsRoute most_machines) rs) r.4
-          (All-append (IsRoute most_machines) (r.0 ∷ []) r.1
-          (one (IsRoute most_machines) r.0
+      subst (λ rs. All (AreSteps most_machines) rs) r.4
+          (All-append (AreSteps most_machines) (r.0 ∷ []) r.1
+          (one (AreSteps most_machines) r.0
           (route_is line.number (times_in line.words) _ r.0 refl r.2))
           more.1),
     )
@@ -99,7 +99,7 @@ routes_are k (line ∷ all) routes h =
 -- a route for each job
 pub table_routed_is : (all : List Line) (i : InstanceData) (routes : List (List Step))
     → table_of (map unrouted_line all) ≡ Ok i → routes_on all ≡ Ok routes
-    → IsRouted most_machines (record { instance = i; routes = routes })
+    → HasRoutes most_machines (record { instance = i; routes = routes })
 table_routed_is all i routes table read =
     let are = routes_are 1 (filter is_job all) routes read in
     record { count = are.0 ∙ routes_count all i table; routes = are.1 }

@@ -10,13 +10,13 @@ pub record RoutedData : Type 0 where
   pub instance : InstanceData
   pub routes : List (List Step)
 
--- a route over so many machines that visits none twice
-pub record IsRoute (machines : ℕ) (route : List Step) : Type 0 where
+-- the steps of a route over so many machines that visits none twice
+pub record AreSteps (machines : ℕ) (route : List Step) : Type 0 where
   pub once : (machine : ℕ) → count_by (λ (step : Step). step.machine == machine) route ≤ 1
   pub within : All (λ (step : Step). step.machine < machines) route
   pub short : All (λ (step : Step). step.time ≤ limit) route
 
 -- each job has such a route
-pub record IsRouted (machines : ℕ) (r : RoutedData) : Type 0 where
+pub record HasRoutes (machines : ℕ) (r : RoutedData) : Type 0 where
   pub count : length r.routes ≡ length r.instance.jobs
-  pub routes : All (IsRoute machines) r.routes
+  pub routes : All (AreSteps machines) r.routes

@@ -9,7 +9,7 @@ ghost use Rattle.tf_read.specs.Faults.{Gives};
 ghost use Rattle.tf_read.specs.FlowShop.{is_name_line, size, sizes_in};
 ghost use Rattle.tf_routes.specs.JobShop.{first_time, routed_job, shop_sized, from_sizes};
 ghost use Rattle.tf_routes.specs.JobShop.{from_heading, job_shop};
-ghost use Rattle.tf_routes.specs.RoutedData.{IsRouted};
+ghost use Rattle.tf_routes.specs.RoutedData.{HasRoutes};
 ghost use Rattle.tf_routes.specs.TextLeft.{lines_of, words_of};
 
 use crate::route::{Route, Step};
@@ -46,7 +46,7 @@ pub fn read_job_shop<A: Allocator + Copy>(
     name: &[u8],
 ) -> Result<RoutedInstance<A>, ReadFault>
     ensures gives { Gives (λ i. i) result (job_shop name.now text.now) }
-    ensures routed { IfOk result (λ r. IsRouted (unwrap_or r.instance.machines 0) r) }
+    ensures routed { IfOk result (λ r. HasRoutes (unwrap_or r.instance.machines 0) r) }
 {
     if text.len() > MOST_BYTES {
         return Err(ReadFault::TooLong);
@@ -150,7 +150,7 @@ fn shop_sized<A: Allocator + Copy>(
 ) -> Result<RoutedInstance<A>, ReadFault>
     ensures gives { Gives (λ i. i) result (shop_sized sizes.now.line sizes.now.jobs
         sizes.now.machines (words_of sizes.now.words)) }
-    ensures routed { IfOk result (λ r. IsRouted (unwrap_or r.instance.machines 0) r) }
+    ensures routed { IfOk result (λ r. HasRoutes (unwrap_or r.instance.machines 0) r) }
 {
     if sizes.jobs == 0 {
         return Err(ReadFault::NoJobs);

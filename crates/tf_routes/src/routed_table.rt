@@ -8,7 +8,7 @@ ghost use Rattle.tf_words.specs.WordParts.{divided};
 ghost use Rattle.tf_model.specs.Limit.{most_bytes, most_machines};
 ghost use Rattle.tf_read.specs.Faults.{Gives};
 ghost use Rattle.tf_routes.specs.Marks.{AreMarks};
-ghost use Rattle.tf_routes.specs.RoutedData.{IsRouted};
+ghost use Rattle.tf_routes.specs.RoutedData.{HasRoutes};
 ghost use Rattle.tf_routes.specs.RoutedTable.{machine_named, step_at, route_at, times_in, is_job};
 ghost use Rattle.tf_routes.specs.RoutedTable.{job_route, routes_on, table_routed, routed_table};
 ghost use Rattle.tf_routes.specs.declared.route.Step.{Step};
@@ -36,7 +36,7 @@ pub fn read_routed_table<A: Allocator + Copy>(
     text: &[u8],
 ) -> Result<RoutedInstance<A>, ReadFault>
     ensures gives { Gives (λ i. i) result (routed_table text.now) }
-    ensures routed { IfOk result (λ r. IsRouted most_machines r) }
+    ensures routed { IfOk result (λ r. HasRoutes most_machines r) }
 {
     if text.len() > MOST_BYTES {
         return Err(ReadFault::TooLong);
@@ -47,7 +47,7 @@ pub fn read_routed_table<A: Allocator + Copy>(
 fn table_routed<A: Allocator + Copy>(alloc: A, text: &[u8]) -> Result<RoutedInstance<A>, ReadFault>
     requires { length text.now ≤ most_bytes }
     ensures gives { Gives (λ i. i) result (table_routed (kept_from 1 (lines text.now))) }
-    ensures routed { IfOk result (λ r. IsRouted most_machines r) }
+    ensures routed { IfOk result (λ r. HasRoutes most_machines r) }
 {
     let table = unrouted(alloc, text)?;
     let instance = read_table(alloc, &table)?;

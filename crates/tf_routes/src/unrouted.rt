@@ -62,7 +62,7 @@ impl Place {
     }
 }
 
-/// The bytes of a table but for those of each word that begins with `p=` from its first `@` on.
+/// The bytes of a table without those of each word that begins with `p=` from its first `@` on.
 pub(crate) fn unrouted<A: Allocator>(alloc: A, text: &[u8]) -> Result<Vec<u8, A>, AllocError>
     ensures { IfOk result (λ bytes. bytes.items ≡ unrouted text.now) }
 {

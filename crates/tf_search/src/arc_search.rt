@@ -1,7 +1,9 @@
 //! Multipliers of the jobs and of the arcs, improved step by step along subgradients.
 //!
 //! Nothing is promised of them: the judge computes what they bound.
+ghost use Rattle.std.specs.Prelude.{◌<◌, IsTrue};
 ghost use Rattle.tf_problem.specs.ProblemData.{IsProblemJob};
+ghost use Rattle.tf_problem.specs.ProblemBounds.{is_by_machine};
 
 use crate::arc_links::Link;
 use std::alloc::{Allocator, Global};
@@ -11,7 +13,7 @@ use tf_model::limit::LIMIT;
 use tf_model::memory::OutOfMemory;
 use tf_model::problem::Env;
 
-// How many jobs and arcs the steps on all machines visit at most, but for a first step on each.
+// How many jobs and arcs the steps on all machines visit at most, without the first step on each.
 const MOST_VISITS: usize = 1_000_000;
 
 const MOST_STEPS: usize = 1_000;
@@ -88,64 +90,37 @@ pub(crate) fn arc_multipliers<A: Allocator + Copy, B: Allocator>(
     network.result(alloc, q)
 }
 
-// The sum of times, of none where there are none.
-fn sum_of(times: Option<&[u64]>) -> i128 {
-    let mut sum: i128 = 0;
-    for time in times.unwrap_or(&[]) {
-        sum = sum.saturating_add(i128::from(*time));
-    }
-    sum
-}
-
-// The sum of the times on these machines.
-fn sum_on(times: &[u64], machines: Option<&[u32]>) -> i128 {
-    let mut sum: i128 = 0;
-    for machine in machines.unwrap_or(&[]) {
-        let time = times.get(*machine as usize).copied().unwrap_or(0);
-        sum = sum.saturating_add(i128::from(time));
-    }
-    sum
-}
-
-// At which place of a route a machine stands, counted from 0; its length where it stands nowhere.
-fn place_on(route: &[u32], machine: usize) -> usize {
-    for (place, stop) in route.iter().enumerate() {
-        if *stop as usize == machine {
-            return place;
-        }
-    }
-    route.len()
+// Whether the jobs have heads and tails: on one machine, and on each of a shop.
+fn has_heads<B: Allocator>(task: &ProblemTask<B>, machine: usize) -> bool
+    ensures env { IsTrue result → IsTrue (is_by_machine task.now.problem.env) }
+    ensures machine { IsTrue result → machine < task.now.machines }
+{
+    let is_by_machine = match task.problem().env {
+        Env::Single | Env::Flow | Env::OpenShop | Env::JobShop => true,
+        Env::Parallel | Env::Uniform | Env::Unrelated => false,
+    };
+    is_by_machine && machine < task.machines() as usize
 }
 
 // Before this time a job is not on the machine.
 fn head_of<B: Allocator>(task: &ProblemTask<B>, machine: usize, job: JobId) -> i128
     requires { IsProblemJob task.now job }
 {
-    let times = task.times(job);
-    let before = match task.problem().env {
-        Env::Flow => sum_of(times.get(..machine)),
-        Env::JobShop => {
-            let route = task.route(job);
-            sum_on(times, route.get(..place_on(route, machine)))
-        }
-        _ => 0,
-    };
-    i128::from(task.release(job)).saturating_add(before)
+    if has_heads(task, machine) {
+        i128::from(task.head(machine, job))
+    } else {
+        i128::from(task.release(job))
+    }
 }
 
 // So much later than on the machine a job completes at least.
 fn tail_of<B: Allocator>(task: &ProblemTask<B>, machine: usize, job: JobId) -> i128
     requires { IsProblemJob task.now job }
 {
-    let times = task.times(job);
-    match task.problem().env {
-        Env::Flow => sum_of(times.get(machine.saturating_add(1)..)),
-        Env::JobShop => {
-            let route = task.route(job);
-            let next = place_on(route, machine).saturating_add(1);
-            sum_on(times, route.get(next..))
-        }
-        _ => 0,
+    if has_heads(task, machine) {
+        i128::from(task.tail(machine, job))
+    } else {
+        0
     }
 }
 

@@ -7,6 +7,7 @@ mod arc_links;
 mod arc_search;
 mod due_prices;
 pub mod effort;
+mod intervals;
 mod job_starts;
 pub mod machine_search;
 pub mod multiplier_search;

@@ -9,6 +9,7 @@ use crate::arc_links::{Link, links_of};
 use crate::arc_search::arc_multipliers;
 use crate::due_prices::crossed_out_cost;
 use crate::effort::{Effort, Progress};
+use crate::intervals::{crammed_interval, jobs_at_work};
 use crate::machine_search::search_machines;
 use crate::multiplier_search::multiplier_bound;
 use crate::price_search::{Steps, hasty_search, patient_search};
@@ -17,11 +18,12 @@ use crate::ranked::{Rank, crowd_front, crowded_above, jobs_by_rank, release_date
 use crate::sequence::best_order;
 use crate::windows::{jobs_within, strongest_window};
 use std::alloc::{Allocator, Global};
-use tf_bound::alike::one_job_value;
+use tf_bound::alike::{one_job_value, takes_windows};
 use tf_bound::alone::alone_value;
 use tf_bound::certificate::BoundCertificate;
 use tf_bound::fault::BoundFault;
 use tf_bound::multipliers::takes_multipliers;
+use tf_bound::parts::Interval;
 use tf_bound::prices::is_by_unit;
 use tf_bound::pushed::{is_of_maximum, judged_task};
 use tf_bound::task::ProblemTask;
@@ -276,8 +278,8 @@ fn searched<T: Drop>(outcome: Result<T, BoundFault>) -> Result<Option<T>, OutOfM
     }
 }
 
-// The makespan or the maximum lateness: one job, one machine, and on parallel machines windows and
-// crowds.
+// The makespan or the maximum lateness: one job, one machine, on parallel machines windows and
+// crowds, and on both the parts of jobs in one interval.
 fn of_maximum<A: Allocator + Copy, B: Allocator>(
     alloc: A,
     task: &ProblemTask<B>,
@@ -286,12 +288,43 @@ fn of_maximum<A: Allocator + Copy, B: Allocator>(
     ensures { IfOk result (IsFoundOn task.now) }
 {
     let alone = by_longest_job(task);
-    if !matches!(task.problem().env, Env::Parallel) {
-        return Ok(stronger(alone, by_machine(alloc, task)?));
-    }
-    let best = stronger(alone, by_windows(alloc, task)?);
+    let best = if matches!(task.problem().env, Env::Parallel) {
+        let best = stronger(alone, by_windows(alloc, task)?);
+        let value = best.value;
+        stronger(best, by_crowd(alloc, task, value)?)
+    } else {
+        stronger(alone, by_machine(alloc, task)?)
+    };
     let value = best.value;
-    Ok(stronger(best, by_crowd(alloc, task, value)?))
+    Ok(stronger(best, by_parts(alloc, task, value)?))
+}
+
+// An interval in which jobs have too much to do, where it shows more than this value.
+fn by_parts<A: Allocator + Copy, B: Allocator>(
+    alloc: A,
+    task: &ProblemTask<B>,
+    value: i128,
+) -> Result<Option<Found<A>>, OutOfMemory>
+    ensures { IfOk result (λ best. IfSome best (IsFoundOn task.now)) }
+{
+    let Ok(above) = i64::try_from(value) else {
+        return Ok(None);
+    };
+    if !takes_windows(task) {
+        return Ok(None);
+    }
+    let Some(interval) = crammed_interval(alloc, task, above)? else {
+        return Ok(None);
+    };
+    let jobs = jobs_at_work(alloc, task, interval)?;
+    let Interval { from, until, late } = interval;
+    let certificate = BoundCertificate::Parts {
+        from,
+        until,
+        late,
+        jobs,
+    };
+    judged(alloc, task, certificate)
 }
 
 // The job that completes latest after its due date, if it runs alone.

@@ -18,6 +18,7 @@ enum Kind {
     Kept,
     Shortest,
     Ranks,
+    Parts(u64, u64, i64),
 }
 
 // A task, a kind with its numbers or jobs, and the bound, if it is not refused.
@@ -104,6 +105,18 @@ const IN_ORDER: &[Case] = &[
     (Sample::Dealt, Kind::Shortest, &[1, 2, 3, 4], None),
 ];
 
+// Of three jobs of 4 on two machines. To be over before 6 they have 4 each from 0 to 5; to be over
+// before 8, each runs from 3 to 4.
+const IN_INTERVALS: &[Case] = &[
+    (Sample::Fours, Kind::Parts(0, 5, 6), &[1, 2, 3], Some(6)),
+    (Sample::Fours, Kind::Parts(0, 6, 7), &[1, 2, 3], None),
+    (Sample::Fours, Kind::Parts(3, 4, 8), &[3, 1, 2], Some(8)),
+    (Sample::Fours, Kind::Parts(3, 4, 9), &[1, 2, 3], None),
+    (Sample::Fours, Kind::Parts(3, 4, 8), &[1, 2], None),
+    (Sample::Fours, Kind::Parts(3, 4, 8), &[1, 2, 2], None),
+    (Sample::Flow, Kind::Parts(0, 1, 2), &[2, 3], None),
+];
+
 // The jobs of these numbers.
 fn jobs_of(alloc: Global, values: &[u64]) -> Result<Vec<JobId>, AllocError> {
     let mut jobs = Vec::new(alloc);
@@ -131,6 +144,12 @@ fn certificate(alloc: Global, kind: Kind, values: &[u64]) -> Result<BoundCertifi
         Kind::Kept => BoundCertificate::Kept { jobs },
         Kind::Shortest => BoundCertificate::Shortest { jobs },
         Kind::Ranks => BoundCertificate::Ranks { jobs },
+        Kind::Parts(from, until, late) => BoundCertificate::Parts {
+            from,
+            until,
+            late,
+            jobs,
+        },
     })
 }
 
@@ -159,5 +178,6 @@ fn are_bounded(alloc: Global, cases: &[Case]) -> Result<bool, Fail> {
 fn each_kind_bounds_what_was_worked_by_hand(rt: HostRuntime) -> Result<(), Fail> {
     assert!(rt; are_bounded(rt.alloc(), CASES)?);
     assert!(rt; are_bounded(rt.alloc(), IN_ORDER)?);
+    assert!(rt; are_bounded(rt.alloc(), IN_INTERVALS)?);
     Ok(())
 }

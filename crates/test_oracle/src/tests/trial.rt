@@ -313,7 +313,7 @@ pub struct Row {
     pub own: [u64; 4],
     /// Of small tasks with all timetables.
     pub any: [u64; 4],
-    /// How many of either fit where jobs may be preempted. All else is the same then.
+    /// How many of either fit where jobs may be preempted. The other numbers are the same then.
     pub broken: [u64; 2],
 }
 

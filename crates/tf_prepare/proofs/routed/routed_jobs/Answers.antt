@@ -1,5 +1,5 @@
 use Rattle.std.proofs.Common.{◌<◌, length, ◌∙◌, arith}
-use Rattle.tf_routes.specs.RoutedData.{IsRoute}
+use Rattle.tf_routes.specs.RoutedData.{AreSteps}
 use Rattle.tf_prepare.proofs.RoutesOf.{of_each, row_more}
 use Rattle.tf_prepare.proofs.routed.routed_jobs.Goals as goal
 
@@ -7,7 +7,7 @@ pub routed_times-requires : goal.routed_times-requires
 routed_times-requires g c =
     let lt : c.loop-k.k < length c.args.routes.now =
     omega (arith, c.requires.count, c.loop-k-test.true) in
-    of_each (IsRoute c.args.machines) c.args.routes.now c.loop-k.k c.index-routes-k.result
+    of_each (AreSteps c.args.machines) c.args.routes.now c.loop-k.k c.index-routes-k.result
     c.requires.routes lt c.index-routes-k.is
 
 pub loop-k-preserved : goal.loop-k-preserved

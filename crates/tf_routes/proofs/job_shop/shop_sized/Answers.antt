@@ -4,7 +4,7 @@ use Rattle.std.proofs.lemmas.Result.{err_from_is_err_and}
 use Rattle.tf_model.specs.InstanceData.{InstanceData, IsInstance}
 use Rattle.tf_model.specs.Limit.{limit}
 use Rattle.tf_routes.specs.JobShop.{first_time}
-use Rattle.tf_routes.specs.RoutedData.{IsRouted}
+use Rattle.tf_routes.specs.RoutedData.{HasRoutes}
 use Rattle.tf_routes.proofs.ShopJobs.{routes_short, shop_instance, shop_routed}
 use Rattle.tf_routes.proofs.ShopSized.{AreSizes, made, many_jobs, many_machines, no_jobs, no_machines, sized_fails, sized_read}
 use Rattle.tf_routes.proofs.job_shop.shop_sized.Goals as goal
@@ -50,7 +50,7 @@ pub returns-clause-routed : goal.returns-clause-routed
 returns-clause-routed g c =
     let is = made c.args.sizes.now.machines c.in_ok-routes.routes.items _ _ _ c.in_ok-jobs.ensures
     c.deref.ensures.value c.new.ensures.items ∙ sym c.of-instance.ensures in
-    subst (λ (i : InstanceData). IsRouted (unwrap_or i.machines 0)
+    subst (λ (i : InstanceData). HasRoutes (unwrap_or i.machines 0)
     (record { instance = i; routes = c.in_ok-routes.routes.items })) is
     (shop_routed _ _ _ _ c.in_ok-routes.ensures)
 

@@ -1,7 +1,8 @@
-use Rattle.std.proofs.Common.{IfOk, ◌≡◌, ℤ, pos, List, ℕ, subst}
+use Rattle.std.proofs.Common.{IfOk, ◌≡◌, ℤ, SFits, w64, pos, List, ℕ, subst, rules}
+use Rattle.std.proofs.lemmas.Int.{to_z-of_z}
 use Rattle.tf_problem.specs.ProblemBounds.{any_multiplier_value}
 use Rattle.tf_problem.specs.Ranks.{rank_value}
-use Rattle.tf_bound.specs.Faulted.{multipliers_fault, prices_fault, ranks_fault, NamesFault}
+use Rattle.tf_bound.specs.Faulted.{multipliers_fault, parts_fault, prices_fault, ranks_fault, NamesFault}
 use Rattle.tf_bound.proofs.certificate.BoundCertificate.bound_on.Goals as goal
 
 pub returns-in-Multipliers-clause-fault : goal.returns-in-Multipliers-clause-fault
@@ -47,3 +48,17 @@ returns-in-Ranks-clause-value g c =
     (λ (b : ℤ). b ≡ pos (rank_value c.args.task.now jobs)))
     c.deref-in-Ranks.ensures.value c.ranks_bound.ensures.value in
     rw c.in-Ranks.is by_items
+
+pub returns-in-Parts-clause-fault : goal.returns-in-Parts-clause-fault
+returns-in-Parts-clause-fault g c =
+    let k = c.args.task.now in
+    let from : ℕ = c.in-Parts.from in
+    let until : ℕ = c.in-Parts.until in
+    let fits : SFits w64 c.in-Parts.late = search rules in
+    let by_late = subst (λ (late : ℤ). NamesFault
+    (parts_fault k from until late c.deref-in-Parts.result.now) c.parts_bound.result)
+    (to_z-of_z w64 c.in-Parts.late fits) c.parts_bound.ensures.fault in
+    let by_items = subst (λ (jobs : List ℕ). NamesFault
+    (parts_fault k from until c.in-Parts.late jobs) c.parts_bound.result)
+    c.deref-in-Parts.ensures.value by_late in
+    rw c.in-Parts.is by_items
