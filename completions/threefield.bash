@@ -1,7 +1,7 @@
 # Completions of threefield for bash: source this file, or put it into a folder that bash-completion reads.
 _threefield() {
     local word=${COMP_WORDS[COMP_CWORD]} before=${COMP_WORDS[COMP_CWORD - 1]} command=${COMP_WORDS[1]}
-    local instance="--problem --format --jobs --index --name --pair --machines --explain --help"
+    local instance="--problem --format --jobs --index --name --pair --machines --explain --output --help"
     if [ "$COMP_CWORD" -eq 1 ]; then
         COMPREPLY=($(compgen -W "solve plan bound trace check evaluate gantt random problems help --help --version" -- "$word"))
         return
@@ -9,10 +9,11 @@ _threefield() {
     case $before in
     --format | -f) COMPREPLY=($(compgen -W "table wt flow jobshop" -- "$word")); return ;;
     --size) COMPREPLY=($(compgen -W "a4 a3 16:9" -- "$word")); return ;;
+    --output | -o) mapfile -t COMPREPLY < <(compgen -f -- "$word"); return ;;
     --rule) COMPREPLY=($(compgen -W "EDD SPT LPT WSPT ERD" -- "$word")); return ;;
     --answer) COMPREPLY=($(compgen -W "1 2" -- "$word")); return ;;
     --problem | -p)
-        mapfile -t COMPREPLY < <(compgen -W "$(threefield problems 2>/dev/null | sed -n '2,$s/ .*//p')" -- "$word")
+        mapfile -t COMPREPLY < <(compgen -W "$({ threefield problems; threefield problems --bounds; } 2>/dev/null | sed -n '/^PROBLEM/!s/ .*//p')" -- "$word")
         return
         ;;
     =) COMPREPLY=($(compgen -W "auto always never" -- "$word")); return ;;
@@ -36,10 +37,10 @@ _threefield() {
     bound) COMPREPLY=($(compgen -W "$instance --steps --json" -- "$word")) ;;
     trace) COMPREPLY=($(compgen -W "$instance --tex" -- "$word")) ;;
     check) COMPREPLY=($(compgen -W "$instance --json" -- "$word")) ;;
-    evaluate) COMPREPLY=($(compgen -W "$instance --certificate --measures --bound --steps --order --rule --orders --grade --schedule --json --csv" -- "$word")) ;;
-    gantt) COMPREPLY=($(compgen -W "--columns --svg --fold --from --to --width --height --size --input --format --jobs --index --name --pair --explain --help" -- "$word")) ;;
-    random) COMPREPLY=($(compgen -W "--problem --jobs --machines --seed --max --help" -- "$word")) ;;
-    problems) COMPREPLY=($(compgen -W "--bounds --border --json --help" -- "$word")) ;;
+    evaluate) COMPREPLY=($(compgen -W "$instance --certificate --measures --bound --steps --order --rule --orders --grade --summary --schedule --json --csv" -- "$word")) ;;
+    gantt) COMPREPLY=($(compgen -W "--columns --svg --fold --from --to --width --height --size --input --format --jobs --index --name --pair --explain --output --help" -- "$word")) ;;
+    random) COMPREPLY=($(compgen -W "--problem --jobs --machines --seed --max --output --help" -- "$word")) ;;
+    problems) COMPREPLY=($(compgen -W "--bounds --border --json --output --help" -- "$word")) ;;
     esac
 }
 complete -o filenames -F _threefield threefield

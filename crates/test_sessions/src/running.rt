@@ -4,7 +4,7 @@ use std::alloc::{AllocError, Global};
 use tf_command::console::Console;
 use tf_grammar::grammar::command;
 use tf_held::program::perform_asked;
-use tf_options::options::understand;
+use tf_options::command_line::understand;
 use tf_text::counted::Counted;
 
 /// What a command line gives: its status, and the bytes on standard output and standard error.
@@ -40,8 +40,8 @@ pub fn run(alloc: Global, line: &str, texts: Texts<'_>) -> Result<Ended, AllocEr
 
 /// Runs the command line, and gives its status.
 fn perform(console: &mut Kept<'_>, words: &[String], texts: Texts<'_>) -> Result<u8, AllocError> {
-    let asked = understand(command(console.alloc)?, words, false);
-    Ok(perform_asked(console, &texts, asked, words))
+    let line = understand(command(console.alloc)?, words, false);
+    Ok(perform_asked(console, &texts, line.asked, words))
 }
 
 /// The program's name and the words of a line: parted by blanks, or between double quotes.

@@ -15,7 +15,7 @@ pub(crate) enum Hard {
 }
 
 /// Polynomial problems without a solver here.
-pub(crate) static EASY: [Known; 17] = [
+pub(crate) static EASY: [Known; 18] = [
     (
         "1|rj,prec,prmp|Lmax",
         "by the dates that the arcs imply, Horn 1974",
@@ -45,13 +45,14 @@ pub(crate) static EASY: [Known; 17] = [
     ("O|rj,prmp|Cmax", "Cho and Sahni 1981"),
     ("O|rj,prmp|Lmax", "Cho and Sahni 1981"),
     ("P2|prec,prmp|Cmax", "Muntz and Coffman 1969"),
+    ("J2||Cmax", "Jackson 1956"),
 ];
 
 /// Of these the ones whose plans are optimal, and proved to be.
 static PLANNED: [&str; 4] = ["1|rj,prmp|sumC", "1||sumU", "1|prmp|sumU", "P|prmp|sumC"];
 
 /// NP-hard problems with as few conditions as possible.
-pub(crate) static HARD: [Known; 38] = [
+pub(crate) static HARD: [Known; 44] = [
     ("1|rj|Lmax", "Lenstra, Rinnooy Kan and Brucker 1977"),
     ("1|rj|sumC", "Lenstra, Rinnooy Kan and Brucker 1977"),
     (
@@ -93,6 +94,12 @@ pub(crate) static HARD: [Known; 38] = [
     ("O2||sumC", "Achugbue and Chin 1982"),
     ("O2|prmp|sumC", "Du and Leung 1993"),
     ("O2|nwt|Cmax", "Sahni and Cho 1979"),
+    ("J3||Cmax", "Garey, Johnson and Sethi 1976"),
+    ("J2|rcrc|Cmax", "Garey, Johnson and Sethi 1976"),
+    ("J2||sumC", "Garey, Johnson and Sethi 1976"),
+    ("J3|prmp|Cmax", "Gonzalez and Sahni 1978"),
+    ("J2|rj|Cmax", "Lenstra, Rinnooy Kan and Brucker 1977"),
+    ("J2||Lmax", "Lenstra, Rinnooy Kan and Brucker 1977"),
 ];
 
 /// The row that says that a problem is polynomial, if there is one.
@@ -149,12 +156,18 @@ fn is_same(asked: &Problem, known: &Problem) -> bool {
 
 // Whether the known problem is a special case of the one that is asked for.
 fn contains(asked: &Problem, known: &Problem) -> bool {
-    asked.env == known.env
+    has_machines_of(asked.env, known.env)
         && has_as_many(asked, known)
         && leads_to(known.goal, asked.goal)
         && (asked.release || !known.release)
         && (asked.prec || !known.prec)
         && are_alike(asked, known)
+}
+
+// Whether the machines are of the same kind, or a flow shop and a job shop, of which it is a special
+// case.
+fn has_machines_of(asked: Env, known: Env) -> bool {
+    asked == known || (asked == Env::JobShop && known == Env::Flow)
 }
 
 // Whether the conditions are the same that make no problem a special case of another.

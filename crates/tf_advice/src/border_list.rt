@@ -19,7 +19,13 @@ struct Entry {
 }
 
 // The environments of the rows.
-static ENVIRONMENTS: [Env; 4] = [Env::Single, Env::Parallel, Env::Flow, Env::OpenShop];
+static ENVIRONMENTS: [Env; 5] = [
+    Env::Single,
+    Env::Parallel,
+    Env::Flow,
+    Env::OpenShop,
+    Env::JobShop,
+];
 
 /// A line for each problem whose complexity is listed: its notation, whether it is polynomial or
 /// NP-hard, the command that serves it, and who has shown what is known of it.

@@ -303,7 +303,8 @@ fn least_distance(asked: &Problem) -> usize {
 
 // Why such a problem is not solved, where it is one that is often asked for.
 fn reason_of(asked: &Problem) -> Option<&'static str> {
-    if asked.env.is_shop() && asked.count.is_some_and(|m| m != 2) {
+    let is_job_shop = asked.env == Env::JobShop;
+    if asked.env.is_shop() && !is_job_shop && asked.count.is_some_and(|m| m != 2) {
         return Some("Shops are solved on two machines.");
     }
     match asked.env {

@@ -7,31 +7,43 @@ use Rattle.tf_text.specs.Counted.{DeviceUse, AppendsPrefix, inner_of, has_failed
 use Rattle.tf_export.specs.Csv.{csv_of}
 use Rattle.tf_export.specs.Documents.{json_of}
 use Rattle.tf_export.specs.Faults.{fault_json}
+use Rattle.tf_export.specs.OrderRows.{orders_csv}
+use Rattle.tf_export.specs.Tally.{summarized}
 use Rattle.tf_command.specs.Ending.{SaysLine}
 use Rattle.tf_command.specs.declared.console.Console.{Console}
 use Rattle.tf_options.specs.declared.format.Format.{Format}
-use Rattle.tf_options.specs.declared.format.Format.TheVariants.{Json, Csv}
+use Rattle.tf_options.specs.declared.format.Format.TheVariants.{Json, Csv, OrderRows, Summary}
 
 -- a text that a command printed, in a format, and nothing where it printed nothing
 abbrev pub formatted : Format → List ℕ → List ℕ
 formatted (Json document) [] = []
 formatted (Csv table) [] = []
+formatted OrderRows [] = []
+formatted Summary [] = []
 formatted (Json document) (byte ∷ bytes) = json_of document (byte ∷ bytes)
 formatted (Csv table) (byte ∷ bytes) = csv_of table (byte ∷ bytes)
+formatted OrderRows (byte ∷ bytes) = orders_csv (byte ∷ bytes)
+formatted Summary (byte ∷ bytes) = summarized (byte ∷ bytes)
 
--- what a command said on standard error, in a format, which CSV leaves as it is
+-- what a command said on standard error, in a format, which all but JSON leave as it is
 abbrev pub said_in : Format → List ℕ → List ℕ
 said_in (Json document) text = fault_json text
 said_in (Csv table) text = text
+said_in OrderRows text = text
+said_in Summary text = text
 
 -- what is said where there was no memory, and where standard output failed
 abbrev pub memory_line : Format → List ℕ
-memory_line (Json document) = codes "{\"fault\":\"want of memory\"}\n"
+memory_line (Json document) = codes "{\"version\":1,\"fault\":\"want of memory\"}\n"
 memory_line (Csv table) = codes "threefield: want of memory\n"
+memory_line OrderRows = codes "threefield: want of memory\n"
+memory_line Summary = codes "threefield: want of memory\n"
 
 abbrev pub device_line : Format → List ℕ
-device_line (Json document) = codes "{\"fault\":\"device fault\"}\n"
+device_line (Json document) = codes "{\"version\":1,\"fault\":\"device fault\"}\n"
 device_line (Csv table) = codes "threefield: device fault\n"
+device_line OrderRows = codes "threefield: device fault\n"
+device_line Summary = codes "threefield: device fault\n"
 
 -- where texts are kept in memory
 abbrev pub Memory : Type 0

@@ -1,5 +1,5 @@
 -- What the program does of what is asked for: which run over which texts ends how.
-use Rattle.std.specs.Prelude.{◌≡◌, ◌⊎◌, ◌++◌, ℕ, Bool, false, true, List, [], Option, None, Some, Ok, Err, IfSome, codes}
+use Rattle.std.specs.Prelude.{◌≡◌, ◌⊎◌, ◌++◌, ℕ, Bool, false, true, List, [], Option, None, Some, Ok, Err, IfSome, codes, if◌then◌else◌}
 use Rattle.std.specs.declared.alloc.Global.{Global}
 use Rattle.std.specs.Io.KnownBytes.{Appends, Keeps}
 use Rattle.tf_listing.specs.Listing.{listing}
@@ -10,7 +10,7 @@ use Rattle.tf_text.specs.Counted.{DeviceUse, AppendsPrefix}
 use Rattle.tf_text.specs.Input.{IsTextOf}
 use Rattle.tf_text.specs.declared.answer.layout.Layout.TheVariants.{Two}
 use Rattle.tf_orders.specs.declared.run_orders.OrderForm.{OrderForm}
-use Rattle.tf_orders.specs.declared.run_orders.OrderForm.TheVariants.{Single, Lines, Ruled as ByRule, Pieces}
+use Rattle.tf_orders.specs.declared.run_orders.OrderForm.TheVariants.{Single, Lines, Numbered, Ruled as ByRule, Pieces}
 use Rattle.tf_options.specs.declared.options.Work.{Work as Asking}
 use Rattle.tf_options.specs.declared.options.Work.TheVariants.{Solve, Bound, Plan, Trace, Check, Evaluate, Assess, Rate, Gantt, Random, Problems, Border, Picture}
 use Rattle.tf_options.specs.declared.options.OrderSource.TheVariants.{Given, Ruled, Named, Drawn}
@@ -112,6 +112,10 @@ EndsListingFor listed table writer says status =
     × EndsListing listed (Some instance) writer says status)
     ⊎ EndsUnlisted table writer says status
 
+-- how the orders of a text are told
+abbrev pub lines_form : Bool → Bool → OrderForm
+lines_form goes_on is_numbered = if is_numbered then Numbered goes_on else Lines goes_on
+
 -- the orders or the pieces of the text of this name are rated
 abbrev pub RatesNamed : Texts → Options → List ℕ → OrderForm → DeviceUse → (Bool → List ℕ → Type 0)
     → ℕ → Type 0
@@ -172,8 +176,8 @@ Performs texts (Rate options (Ruled rule)) writer says status =
     EndsOver texts options.input.now writer said status
     (λ instance. (reader : DeviceUse) × (reader.before ≡ Some [])
     × EndsRating Global (ByRule rule) (requested options Two) instance reader writer said status)
-Performs texts (Rate options (Named name goes_on)) writer says status =
-    RatesNamed texts options name.now (Lines goes_on) writer says status
+Performs texts (Rate options (Named name goes_on is_numbered)) writer says status =
+    RatesNamed texts options name.now (lines_form goes_on is_numbered) writer says status
 Performs texts (Rate options (Drawn name)) writer says status =
     RatesNamed texts options name.now Pieces writer says status
 Performs texts (Gantt answer drawing explain) writer says status =

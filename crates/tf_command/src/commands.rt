@@ -10,6 +10,7 @@ ghost use Rattle.tf_command.specs.Planning.{EndsPlanning};
 ghost use Rattle.tf_engine.specs.Drawing.{IsDrawingOf};
 ghost use Rattle.std.specs.Prelude.{◌≡◌, ◌⊎◌, None, Some, IfSome, IfOk, IfErr, false, codes};
 ghost use Rattle.tf_command.specs.Performing.{EndsOver, EndsRandom, EndsWriting, Performs};
+ghost use Rattle.tf_command.specs.Performing.{lines_form};
 ghost use Rattle.tf_command.specs.Recorded.{bytes_left};
 ghost use Rattle.tf_text.specs.Counted.{inner_of, use_of};
 
@@ -77,10 +78,20 @@ pub fn perform<S: Sources, W: Write, E: Write>(
         Work::Rate(options, OrderSource::Ruled(rule)) => {
             rate_ruled(console, sources, options, *rule)
         }
-        Work::Rate(options, OrderSource::Named { name, goes_on }) => {
-            let form = OrderForm::Lines { goes_on: *goes_on };
-            rate_named(console, sources, options, name, form)
-        }
+        Work::Rate(
+            options,
+            OrderSource::Named {
+                name,
+                goes_on,
+                is_numbered,
+            },
+        ) => rate_named(
+            console,
+            sources,
+            options,
+            name,
+            lines_form(*goes_on, *is_numbered),
+        ),
         Work::Rate(options, OrderSource::Drawn(name)) => {
             rate_named(console, sources, options, name, OrderForm::Pieces)
         }
@@ -93,6 +104,17 @@ pub fn perform<S: Sources, W: Write, E: Write>(
         Work::Random(wanted) => random(console, wanted),
         Work::Problems(listed, name) => list_problems(console, sources, *listed, *name),
         Work::Border => list_border(console),
+    }
+}
+
+/// How the orders of a text are told.
+fn lines_form(goes_on: bool, is_numbered: bool) -> OrderForm
+    ensures { result ≡ lines_form goes_on is_numbered }
+{
+    if is_numbered {
+        OrderForm::Numbered { goes_on }
+    } else {
+        OrderForm::Lines { goes_on }
     }
 }
 

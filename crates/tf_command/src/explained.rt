@@ -20,6 +20,7 @@ use tf_options::options::{Drawing, Idle, Telling};
 use tf_orders::again::pieces_again;
 use tf_orders::run_orders::{OrderForm, OrdersRated, OrdersRequest};
 use tf_planning::writing::Planned;
+use tf_schedule::piece::Piece;
 use tf_text::answer::fault::AnswerFault;
 use tf_text::counted::Counted;
 use tf_words::ranged::{Ranged, number_in};
@@ -53,6 +54,7 @@ sign. \"threefield gantt --svg\" shows the numbers.
 const WHAT_AN_ORDER_IS: &str = "\
 An order names each job once, by its number, with spaces between: \"3 1 2\". On
 parallel machines it has one list for each machine, with / between: \"1 3 / 2\".
+In a job shop it may also name each job once for each of its operations.
 ";
 
 /// What is said of a line that is malformed among the pieces of a schedule.
@@ -250,31 +252,47 @@ impl Ended<'_> {
                     let answer = told.answer.as_ref();
                     explain::unfit(self.alloc, self.request, &told.instance, answer)
                 }
-                Ok(_) => Ok(String::new(self.alloc)),
+                Ok(_) => {
+                    let answer = told.answer.as_ref();
+                    explain::fit(self.alloc, self.request, &told.instance, answer)
+                }
                 Err(fault) => told.refused(self.alloc, fault, self.request),
             };
             tell_behind(self.telling, explanation, errors);
         }
     }
 
-    // What is said of a schedule that does not fit, which is made again.
-    fn unfit_rated(&self, form: OrderForm, told: &Told<'_>) -> Result<String, AllocError> {
-        let Some(orders) = &told.answer else {
-            return Ok(String::new(self.alloc));
-        };
+    // The pieces of a schedule that was rated, which are made again, where it was one.
+    fn rated_pieces(&self, form: OrderForm, told: &Told<'_>) -> Option<Vec<Piece>> {
+        let orders = told.answer.as_ref()?;
         let asked = OrdersRequest {
             request: self.request,
             form,
         };
-        let Some(pieces) = pieces_again(self.alloc, asked, told.instance.text, orders.text) else {
+        pieces_again(self.alloc, asked, told.instance.text, orders.text)
+    }
+
+    // What is said of a schedule that does not fit.
+    fn unfit_rated(&self, form: OrderForm, told: &Told<'_>) -> Result<String, AllocError> {
+        let Some(pieces) = self.rated_pieces(form, told) else {
             return Ok(String::new(self.alloc));
         };
         let schedule = if form == OrderForm::Pieces {
-            Some(orders)
+            told.answer.as_ref()
         } else {
             None
         };
         explain::unfit_pieces(self.alloc, self.request, &told.instance, pieces, schedule)
+    }
+
+    // What is said of one that fits.
+    fn fit_rated(&self, form: OrderForm, told: &Told<'_>) -> Result<String, AllocError> {
+        match self.rated_pieces(form, told) {
+            Some(pieces) => {
+                explain::fit_pieces(self.alloc, self.request, &told.instance, pieces)
+            }
+            None => Ok(String::new(self.alloc)),
+        }
     }
 
     // What is said of a line that is malformed, which is shown where it is a text's.
@@ -285,7 +303,7 @@ impl Ended<'_> {
         line: u32,
     ) -> Result<String, AllocError> {
         match (form, text) {
-            (OrderForm::Lines { .. }, Some(text)) => {
+            (OrderForm::Lines { .. } | OrderForm::Numbered { .. }, Some(text)) => {
                 explain::not_a_line(self.alloc, text, line, WHAT_AN_ORDER_IS)
             }
             (OrderForm::Pieces, Some(text)) => {
@@ -308,7 +326,8 @@ impl Ended<'_> {
         if let Some(told) = Told::of_both(instance, orders) {
             let explanation = match rated.run {
                 Ok(OrdersRated::Single(Standing::Unfit)) => self.unfit_rated(rated.form, &told),
-                Ok(_) => Ok(String::new(self.alloc)),
+                Ok(OrdersRated::Single(_)) => self.fit_rated(rated.form, &told),
+                Ok(OrdersRated::Lines) => Ok(String::new(self.alloc)),
                 Err(RunFault::Answer(AnswerFault::BadLine(line))) => {
                     self.malformed(rated.form, told.answer.as_ref(), *line)
                 }

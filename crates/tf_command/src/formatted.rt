@@ -13,9 +13,14 @@ use std::io::Write;
 use tf_export::csv::csv;
 use tf_export::documents::json;
 use tf_export::faults::fault_json;
+use tf_export::order_rows::orders_csv;
+use tf_export::tally::summarized;
 use tf_model::memory::OutOfMemory;
 use tf_options::format::Format;
 use tf_text::counted::Counted;
+
+/// What is said as JSON where there was no memory.
+pub const JSON_MEMORY: &[u8] = b"{\"version\":1,\"fault\":\"want of memory\"}\n";
 
 /// Texts in a format: that of standard output, and that of standard error.
 #[derive(Drop)]
@@ -34,6 +39,8 @@ fn formatted(alloc: Global, format: Format, text: &[u8]) -> Result<Vec<u8>, OutO
     match format {
         Format::Json(document) => json(alloc, document, text),
         Format::Csv(table) => csv(alloc, table, text),
+        Format::OrderRows => orders_csv(alloc, text),
+        Format::Summary => summarized(alloc, text),
     }
 }
 
@@ -43,7 +50,7 @@ fn said_in(alloc: Global, format: Format, text: &[u8]) -> Result<Vec<u8>, OutOfM
 {
     match format {
         Format::Json(_) => fault_json(alloc, text),
-        Format::Csv(_) => Ok(Vec::from_slice(alloc, text)?),
+        _ => Ok(Vec::from_slice(alloc, text)?),
     }
 }
 
@@ -52,8 +59,8 @@ fn memory_line(format: Format) -> &'static [u8]
     ensures { result.now ≡ memory_line format }
 {
     match format {
-        Format::Json(_) => b"{\"fault\":\"want of memory\"}\n",
-        Format::Csv(_) => b"threefield: want of memory\n",
+        Format::Json(_) => JSON_MEMORY,
+        _ => b"threefield: want of memory\n",
     }
 }
 
@@ -62,8 +69,8 @@ fn device_line(format: Format) -> &'static [u8]
     ensures { result.now ≡ device_line format }
 {
     match format {
-        Format::Json(_) => b"{\"fault\":\"device fault\"}\n",
-        Format::Csv(_) => b"threefield: device fault\n",
+        Format::Json(_) => b"{\"version\":1,\"fault\":\"device fault\"}\n",
+        _ => b"threefield: device fault\n",
     }
 }
 

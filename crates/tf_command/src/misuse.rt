@@ -7,7 +7,8 @@ use std::alloc::{AllocError, Global};
 use std::io::Write;
 use tf_advice::page::escape;
 use tf_grammar::grammar::command;
-use tf_options::options::{Asked, understand};
+use tf_options::command_line::understand;
+use tf_options::options::Asked;
 use tf_text::counted::Counted;
 
 /// Says what is wrong with a command line that is none of the program's, and gives the exit status.
@@ -30,7 +31,8 @@ fn misuse(alloc: Global, words: &[String]) -> Result<String, AllocError> {
     for word in words {
         shown.push(escape(alloc, word.as_str())?)?;
     }
-    let mut text = match understand(command(alloc)?, shown.as_slice(), false) {
+    let asked = understand(command(alloc)?, shown.as_slice(), false).asked;
+    let mut text = match asked {
         Asked::Misused(error) => error.to_string(alloc)?,
         _ => String::from_str(alloc, "error: an argument is not valid\n")?,
     };

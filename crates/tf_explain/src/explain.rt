@@ -1,5 +1,6 @@
 //! What may be said of a run that is over.
 use crate::answer::{explain_answer, explain_pieces};
+use crate::critical::explain_critical;
 use crate::instance::instance_in;
 use crate::refusal::{class_in, explain_refusal};
 use crate::text::explain_text;
@@ -12,12 +13,17 @@ use tf_advice::page::{Page, escape};
 use tf_advice::source::Source;
 use tf_advice::tardiness::explain_rest;
 use tf_advice::unused::explain_unused;
+use tf_bounding::instance_read::task_read;
 use tf_engine::fault::RunFault;
 use tf_engine::request::{Form, Request};
 use tf_engine::run_check::Checked;
+use tf_model::problem::Env;
+use tf_notation::reading::read;
 use tf_read::fault::ReadFault;
 use tf_schedule::piece::Piece;
 use tf_text::answer::fault::AnswerFault;
+use tf_text::answer::reading::read_answer;
+use tf_text::counted::Counted;
 
 /// What is said of an answer at fault whose text was not kept.
 const NOT_KEPT: &str = "\
@@ -239,6 +245,58 @@ pub fn unfit(
         }
     }
     Ok(page.text)
+}
+
+/// A critical path of an answer that was evaluated and fits, where the problem is one of a job shop and
+/// the answer's text was kept.
+///
+/// # Errors
+///
+/// There was no memory.
+pub fn fit(
+    alloc: Global,
+    request: &Request,
+    instance: &Source<'_>,
+    answer: Option<&Source<'_>>,
+) -> Result<String, AllocError> {
+    let Some(answer) = answer else {
+        return Ok(String::new(alloc));
+    };
+    match read_answer(alloc, answer.text) {
+        Ok(sheet) => {
+            let pieces = sheet.into_answer().pieces.into_vec();
+            fit_pieces(alloc, request, instance, pieces)
+        }
+        Err(_) => Ok(String::new(alloc)),
+    }
+}
+
+/// The same of the schedule of an order, or of a text with these pieces.
+///
+/// # Errors
+///
+/// There was no memory.
+pub fn fit_pieces(
+    alloc: Global,
+    request: &Request,
+    instance: &Source<'_>,
+    pieces: Vec<Piece>,
+) -> Result<String, AllocError> {
+    let mut page = Page::new(alloc);
+    if !is_job_shop(request) {
+        return Ok(page.text);
+    }
+    if let Ok(task) = task_read(alloc, request, &mut Counted::new(instance.text)) {
+        explain_critical(&mut page, &task, pieces)?;
+    }
+    Ok(page.text)
+}
+
+fn is_job_shop(request: &Request) -> bool {
+    match read(request.problem.as_str().as_bytes()) {
+        Ok(problem) => matches!(problem.env, Env::JobShop),
+        Err(_) => false,
+    }
 }
 
 /// Why the schedule of an order does not fit, or that of a text with these pieces.

@@ -4,6 +4,7 @@
 #![tactic(auto)]
 
 mod answer;
+mod critical;
 pub mod explain;
 mod instance;
 mod refusal;

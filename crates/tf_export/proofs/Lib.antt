@@ -1,3 +1,4 @@
 pub mod Adding
 pub mod Texts
 pub mod Saying
+pub mod Listing

@@ -8,9 +8,10 @@ use Rattle.tf_words.specs.Words.{words, lines, first_is}
 use Rattle.tf_words.proofs.Lines.{line_none}
 use Rattle.tf_export.specs.Csv.{csv_line, column_names, row_key}
 use Rattle.tf_export.specs.declared.csv.Table.{Table}
-use Rattle.tf_export.specs.Json.{array, scalar, member, object}
+use Rattle.tf_export.specs.Json.{array, scalar, member, object, version}
 use Rattle.tf_export.specs.Members.{arc_members, phrase, fields, line_members, rest_members, row_in, rows, verdict_members}
-use Rattle.tf_export.specs.Documents.{first_of, part_in, parts, step_in, distance_in, bound_members, bounded_in}
+use Rattle.tf_export.specs.Lines.{first_of}
+use Rattle.tf_export.specs.Documents.{part_in, parts, step_in, distance_in, bound_members, bounded_in}
 use Rattle.tf_export.specs.declared.documents.Part.{Part}
 use Rattle.tf_export.specs.Faults.{explanation, fault, first_line, behind_line, fault_members, fault_json}
 
@@ -159,7 +160,7 @@ unsaid [] is = refl
 unsaid (byte ∷ bytes) is = absurd (omega (arith, is))
 
 pub is_said : (text : List ℕ) → eqb (length text) 0 ≡ false
-    → fault_json text ≡ object (fault_members text) ++ 10 ∷ []
+    → fault_json text ≡ object (version ∷ fault_members text) ++ 10 ∷ []
 unfolding fault_json
 is_said [] is = absurd (true≢false is)
 is_said (byte ∷ bytes) is = refl

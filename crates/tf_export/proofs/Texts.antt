@@ -5,7 +5,7 @@ use Rattle.std.proofs.lemmas.Bool.{lt-ltb, le-ltb}
 use Rattle.std.proofs.lemmas.List.{drop-drop}
 use Rattle.tf_words.specs.Words.{lines}
 use Rattle.tf_words.proofs.Lines.{line_last, line_none, line_then}
-use Rattle.tf_export.specs.Documents.{first_of}
+use Rattle.tf_export.specs.Lines.{first_of}
 use Rattle.tf_export.specs.Faults.{line_end, behind_line}
 
 -- the last line

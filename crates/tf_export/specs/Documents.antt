@@ -1,14 +1,17 @@
 -- What the commands print, as JSON.
 use Rattle.std.specs.Prelude.{ℕ, List, [], ◌∷◌, ◌++◌, codes, drop, take, length, map, if◌then◌else◌}
 use Rattle.tf_words.specs.Words.{words, lines, first_is}
-use Rattle.tf_export.specs.Json.{array, member, object}
+use Rattle.tf_export.specs.Json.{array, member, object, version}
+use Rattle.tf_export.specs.Lines.{first_of}
+use Rattle.tf_export.specs.Orders.{order_in}
+use Rattle.tf_export.specs.Tally.{summary_of}
 use Rattle.tf_export.specs.Members.{phrase, record_of, row_in, line_members}
 use Rattle.tf_export.specs.Csv.{column_names, row_key}
 use Rattle.tf_export.specs.declared.csv.Table.TheVariants.{Pieces, Outcomes}
 use Rattle.tf_export.specs.declared.documents.Part.{Part}
-use Rattle.tf_export.specs.declared.documents.Part.TheVariants.{Members, Step, Problem, Row, Distance, Bounded}
+use Rattle.tf_export.specs.declared.documents.Part.TheVariants.{Members, Step, Problem, Row, Distance, Bounded, Known, Order, Mark}
 use Rattle.tf_export.specs.declared.documents.Document.{Document}
-use Rattle.tf_export.specs.declared.documents.Document.TheVariants.{Answer, Bound, Evaluation, Verdict, Problems, Plan}
+use Rattle.tf_export.specs.declared.documents.Document.TheVariants.{Answer, Bound, Evaluation, Verdict, Problems, Plan, Border, Orders}
 
 -- a step of a certificate's arithmetic, as a string
 abbrev pub step_in : List (List ℕ) → List (List ℕ)
@@ -22,6 +25,30 @@ problem_in line = object (
     member (codes "problem") (phrase (words (take 17 line)))
     ∷ member (codes "needs") (phrase (words (take 13 (drop 17 line))))
     ∷ member (codes "objective") (phrase (words (drop 13 (drop 17 line)))) ∷ [])
+
+-- the command that has schedules, if one does
+abbrev pub command_member : List (List ℕ) → List ℕ
+command_member command =
+    if first_is (codes "-") command then member (codes "command") (codes "null")
+    else member (codes "command") (phrase command)
+
+-- A problem whose complexity is known, the command that has schedules, and who has shown it. The columns
+-- have 20, 12 and 7 bytes.
+abbrev pub known_in : List ℕ → List ℕ
+known_in line = object (
+    member (codes "problem") (phrase (words (take 20 line)))
+    ∷ member (codes "complexity") (phrase (words (take 12 (drop 20 line))))
+    ∷ command_member (words (take 7 (drop 12 (drop 20 line))))
+    ∷ member (codes "source") (phrase (words (drop 7 (drop 12 (drop 20 line))))) ∷ [])
+
+-- a count of a summary, in a comment of its own
+abbrev pub mark_members : List (List ℕ) → List (List ℕ)
+mark_members [] = []
+mark_members (name ∷ []) = []
+mark_members (name ∷ value ∷ more) = member name value ∷ []
+
+abbrev pub mark_in : List (List ℕ) → List (List ℕ)
+mark_in line = if first_is (codes "#") line then mark_members (drop 1 line) else []
 
 -- how far a plan is from its bound, in a comment of its own
 abbrev pub distance_in : List (List ℕ) → List (List ℕ)
@@ -45,11 +72,9 @@ part_in (Row table) line next = map (record_of (column_names table))
     (row_in (row_key table) (length (words (column_names table))) (words line))
 part_in Distance line next = distance_in (words line)
 part_in Bounded line next = bounded_in (words line) (words next)
-
--- the first line, and an empty one where there is none
-abbrev pub first_of : List (List ℕ) → List ℕ
-first_of [] = []
-first_of (line ∷ more) = line
+part_in Known line next = known_in line ∷ []
+part_in Order line next = order_in line ∷ []
+part_in Mark line next = mark_in (words line)
 
 -- and of all lines
 unfoldable pub parts : Part → List (List ℕ) → List (List ℕ)
@@ -84,6 +109,13 @@ plan_members text =
     answer_members text
     ++ (parts Distance (lines text) ++ parts_object (codes "bound") Bounded (lines text) ∷ [])
 
+-- orders: the optimum or the bound, the summary, and what each comes to
+abbrev pub orders_members : List ℕ → List (List ℕ)
+orders_members text =
+    line_members (words (first_of (lines text))) (words [])
+    ++ (parts_object (codes "summary") Mark (lines (summary_of text))
+    ∷ parts_array (codes "orders") Order (drop 1 (lines text)) ∷ [])
+
 -- the members of each document, of which all but a verdict have a heading
 unfoldable pub document_members : Document → List ℕ → List (List ℕ)
 document_members Answer text = answer_members text
@@ -93,7 +125,10 @@ document_members Verdict text = parts Members (lines text)
 document_members Problems text =
     parts_array (codes "problems") Problem (drop 1 (lines text)) ∷ []
 document_members Plan text = plan_members text
+document_members Border text =
+    parts_array (codes "problems") Known (drop 1 (lines text)) ∷ []
+document_members Orders text = orders_members text
 
--- one object, on a line of its own
+-- one object, on a line of its own, whose first member is the version
 unfoldable pub json_of : Document → List ℕ → List ℕ
-json_of document text = object (document_members document text) ++ 10 ∷ []
+json_of document text = object (version ∷ document_members document text) ++ 10 ∷ []

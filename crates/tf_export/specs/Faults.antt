@@ -2,7 +2,7 @@
 use Rattle.std.specs.Prelude.{ℕ, ◌+◌, List, [], ◌∷◌, ◌++◌, codes, take, drop, ◌==◌, if◌then◌else◌}
 use Rattle.std.specs.List.{position_or_len}
 use Rattle.tf_words.specs.Words.{words, first_is}
-use Rattle.tf_export.specs.Json.{string, member, object}
+use Rattle.tf_export.specs.Json.{string, member, object, version}
 use Rattle.tf_export.specs.Members.{phrase, fields}
 
 -- the first line of a text, and the text behind its line feed
@@ -47,7 +47,7 @@ fault_members text =
     then fault (drop 1 (words (first_line text))) ++ explanation (behind_line text)
     else explanation text
 
--- one object, on a line of its own, unless there is nothing to say
+-- one object, on a line of its own, whose first member is the version, unless there is nothing to say
 unfoldable pub fault_json : List ℕ → List ℕ
 fault_json [] = []
-fault_json (byte ∷ bytes) = object (fault_members (byte ∷ bytes)) ++ 10 ∷ []
+fault_json (byte ∷ bytes) = object (version ∷ fault_members (byte ∷ bytes)) ++ 10 ∷ []

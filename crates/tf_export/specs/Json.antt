@@ -1,5 +1,5 @@
 -- JSON (RFC 8259): strings of ASCII, whole numbers, arrays and objects, without white space.
-use Rattle.std.specs.Prelude.{ℕ, ◌+◌, ◌/◌, ◌%◌, Bool, ◌&&◌, ◌||◌, not, List, [], ◌∷◌, ◌++◌, length, drop, nat_lt, ◌==◌, slice_index, if◌then◌else◌}
+use Rattle.std.specs.Prelude.{ℕ, ◌+◌, ◌/◌, ◌%◌, Bool, ◌&&◌, ◌||◌, not, List, [], ◌∷◌, ◌++◌, length, drop, codes, nat_lt, ◌==◌, slice_index, if◌then◌else◌}
 use Rattle.std.specs.List.{flat_map, join_with_byte}
 use Rattle.tf_words.specs.Digits.{is_numeral}
 
@@ -48,3 +48,7 @@ member name value = string name ++ 58 ∷ value
 -- members with a comma between each two, in braces
 abbrev pub object : List (List ℕ) → List ℕ
 object members = 123 ∷ (join_with_byte 44 members ++ 125 ∷ [])
+
+-- the first member of each object that a command prints
+abbrev pub version : List ℕ
+version = member (codes "version") (codes "1")

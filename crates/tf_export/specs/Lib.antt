@@ -5,3 +5,7 @@ pub mod Faults
 pub mod Csv
 pub mod Entry
 pub mod Adds
+pub mod Lines
+pub mod Orders
+pub mod OrderRows
+pub mod Tally

@@ -47,7 +47,8 @@ certificate_names kind =
     else (if bytes_eq kind (codes "job") then codes "job"
     else (if bytes_eq kind (codes "crowd") then codes "jobs_per_machine"
     else (if bytes_eq kind (codes "multipliers") then codes "machine denominator"
-    else (if bytes_eq kind (codes "prices") then codes "denominator" else [])))))
+    else (if bytes_eq kind (codes "prices") then codes "denominator"
+    else (if bytes_eq kind (codes "parts") then codes "from until late" else []))))))
 
 -- the name of its list: that of an answer's certificate, and that of a bound's
 abbrev pub answer_list : List ℕ → List ℕ
@@ -84,7 +85,7 @@ is_bound_kind key row =
     bytes_eq key (codes "machine") || bytes_eq key (codes "window") || bytes_eq key (codes "crowd")
     || bytes_eq key (codes "multipliers") || bytes_eq key (codes "prices")
     || bytes_eq key (codes "kept") || bytes_eq key (codes "shortest") || bytes_eq key (codes "ranks")
-    || (bytes_eq key (codes "job") && (length row == 1))
+    || bytes_eq key (codes "parts") || (bytes_eq key (codes "job") && (length row == 1))
     || (bytes_eq key (codes "alone") && (length row == 0))
 
 -- the key of a line that says one thing

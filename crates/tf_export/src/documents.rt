@@ -1,20 +1,23 @@
 //! What the commands print, as JSON.
-ghost use Rattle.std.specs.Prelude.{◌≡◌, ◌∷◌, ◌++◌, [], codes, drop, take, length, map, IfOk, OnOk};
+ghost use Rattle.std.specs.Prelude.{◌≡◌, ◌∷◌, ◌++◌, [], drop, take, length, map, IfOk, OnOk};
 ghost use Rattle.tf_words.specs.Words.{words, lines};
 ghost use Rattle.tf_export.specs.Members.{record_of, row_in};
 ghost use Rattle.tf_export.specs.Csv.{column_names, row_key};
 ghost use Rattle.tf_export.specs.Documents.{document_members, json_of, part_in, parts, parts_array};
 ghost use Rattle.tf_export.specs.Documents.{step_in, problem_in};
 ghost use Rattle.tf_export.specs.Documents.{members_behind, answer_members, evaluation_members};
+ghost use Rattle.tf_export.specs.Documents.{command_member, known_in, mark_in, orders_members};
+ghost use Rattle.tf_export.specs.Orders.{order_in};
 ghost use Rattle.tf_export.specs.Documents.{bound_members, bounded_in, distance_in, parts_object};
 ghost use Rattle.tf_export.specs.Documents.{plan_members};
 
 use crate::csv::Table;
-use crate::json::Json;
-use crate::line::{behind_first, count_words, first_of, next_line, row_in};
+use crate::json::{Json, VERSION};
+use crate::line::{behind_first, behind_heading, count_words, first_of, next_line, row_in};
+use crate::tally::summary_of;
 use std::alloc::Global;
 use tf_model::memory::OutOfMemory;
-use tf_words::word::behind_key;
+use tf_words::word::{behind_key, first_word};
 
 /// What a command prints.
 #[derive(Clone, Copy, Debug, PartialEq, Eq)]
@@ -31,6 +34,10 @@ pub enum Document {
     Problems,
     /// A plan: an answer, and in comments how far it is from a lower bound, and the bound.
     Plan,
+    /// The list of which problems are polynomial and which NP-hard.
+    Border,
+    /// Lines of orders with their numbers, behind a line of the optimum or the lower bound.
+    Orders,
 }
 
 /// What is taken of each line of a text.
@@ -48,6 +55,12 @@ pub(crate) enum Part {
     Distance,
     /// What the bound of a plan says, as members.
     Bounded,
+    /// A problem of the list of which are polynomial.
+    Known,
+    /// What an order comes to.
+    Order,
+    /// A count of a summary, as a member.
+    Mark,
 }
 
 /// The names of what stands in a line of a piece.
@@ -55,17 +68,6 @@ pub(crate) const PIECE_NAMES: &[u8] = b"job machine start stop";
 
 /// The names of what stands in a line of a job in an evaluation.
 pub(crate) const OUTCOME_NAMES: &[u8] = b"job start completion cost";
-
-/// What follows the first line of a text.
-fn behind_heading(text: &[u8]) -> &[u8]
-    ensures { lines result.now ≡ drop 1 (lines text.now) }
-{
-    if text.is_empty() {
-        return text;
-    }
-    let (_, rest) = next_line(text);
-    rest
-}
 
 /// The first bytes of a line, at most so many, and those behind them.
 fn cut(line: &[u8], width: usize) -> (&[u8], &[u8])
@@ -149,6 +151,49 @@ impl Json {
         }
     }
 
+    /// Adds a line of the list of which problems are polynomial as an object.
+    fn known_in(&mut self, alloc: Global, line: &[u8]) -> Result<(), OutOfMemory>
+        ensures { OnOk result (Adds self.old self.new (known_in line.now ∷ [])) }
+    {
+        let (notation, behind) = cut(line, 20);
+        let (complexity, more) = cut(behind, 12);
+        let (command, source) = cut(more, 7);
+        self.begin()?;
+        self.enter(b'{')?;
+        self.phrase_member(alloc, b"problem", notation)?;
+        self.phrase_member(alloc, b"complexity", complexity)?;
+        self.command_member(alloc, command)?;
+        self.phrase_member(alloc, b"source", source)?;
+        self.leave(b'}')?;
+        Ok(())
+    }
+
+    /// Adds the command that has schedules, if one does.
+    fn command_member(&mut self, alloc: Global, command: &[u8]) -> Result<(), OutOfMemory>
+        ensures { OnOk result (Adds self.old self.new (command_member (words command.now) ∷ [])) }
+    {
+        match behind_key(command, b"-") {
+            None => self.phrase_member(alloc, b"command", command),
+            Some(_) => self.member(b"command", b"null"),
+        }
+    }
+
+    /// Adds a count of a summary, if the line is one.
+    fn mark_in(&mut self, line: &[u8]) -> Result<(), OutOfMemory>
+        ensures { OnOk result (Adds self.old self.new (mark_in (words line.now))) }
+    {
+        let Some(row) = behind_key(line, b"#") else {
+            return Ok(());
+        };
+        let Some((name, more)) = first_word(row) else {
+            return Ok(());
+        };
+        let Some((value, _)) = first_word(more) else {
+            return Ok(());
+        };
+        self.member(name, value)
+    }
+
     /// Adds what is taken of a line and of the next one.
     fn part(
         &mut self,
@@ -166,6 +211,9 @@ impl Json {
             Part::Row(table) => self.row_in(table, line),
             Part::Distance => self.distance_in(alloc, line),
             Part::Bounded => self.bounded_in(alloc, line, next),
+            Part::Known => self.known_in(alloc, line),
+            Part::Order => self.order_in(alloc, line),
+            Part::Mark => self.mark_in(line),
         }
     }
 
@@ -254,6 +302,18 @@ impl Json {
         Ok(())
     }
 
+    /// Adds orders: the optimum or the bound, how many are optimal and how many are wrong, and
+    /// what each comes to.
+    fn orders_members(&mut self, alloc: Global, text: &[u8]) -> Result<(), OutOfMemory>
+        ensures { OnOk result (Adds self.old self.new (orders_members text.now)) }
+    {
+        let summary = summary_of(alloc, text)?;
+        self.line_members(alloc, first_of(text), b"")?;
+        self.parts_object(alloc, b"summary", Part::Mark, summary.as_slice())?;
+        self.parts_array(alloc, b"orders", Part::Order, behind_heading(text))?;
+        Ok(())
+    }
+
     /// Adds the members of a document.
     fn document_members(
         &mut self,
@@ -272,6 +332,10 @@ impl Json {
                 self.parts_array(alloc, b"problems", Part::Problem, behind_heading(text))
             }
             Document::Plan => self.plan_members(alloc, text),
+            Document::Border => {
+                self.parts_array(alloc, b"problems", Part::Known, behind_heading(text))
+            }
+            Document::Orders => self.orders_members(alloc, text),
         }
     }
 }
@@ -286,6 +350,7 @@ pub fn json(alloc: Global, document: Document, text: &[u8]) -> Result<Vec<u8>, O
 {
     let mut json = Json::new(alloc);
     json.enter(b'{')?;
+    json.member(b"version", VERSION)?;
     json.document_members(alloc, document, text)?;
     json.push(b"}\n")?;
     Ok(json.into_text())

@@ -5,7 +5,7 @@ ghost use Rattle.tf_words.specs.Words.{words};
 ghost use Rattle.tf_export.specs.Faults.{refused, refusal, fault, explanation, fault_members};
 ghost use Rattle.tf_export.specs.Faults.{fault_json};
 
-use crate::json::Json;
+use crate::json::{Json, VERSION};
 use crate::line::next_line;
 use std::alloc::Global;
 use tf_model::memory::OutOfMemory;
@@ -90,6 +90,7 @@ pub fn fault_json(alloc: Global, text: &[u8]) -> Result<Vec<u8>, OutOfMemory>
         return Ok(json.into_text());
     }
     json.enter(b'{')?;
+    json.member(b"version", VERSION)?;
     json.fault_members(alloc, text)?;
     json.push(b"}\n")?;
     Ok(json.into_text())

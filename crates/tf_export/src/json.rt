@@ -9,6 +9,9 @@ use std::alloc::Global;
 use tf_model::memory::OutOfMemory;
 use tf_words::word::first_word;
 
+/// The version of what is written, the value of the first member of each object.
+pub(crate) const VERSION: &[u8] = b"1";
+
 /// A text, and whether what is added next is the first value or member of its array or object.
 #[derive(Drop)]
 pub(crate) struct Json {

@@ -10,4 +10,7 @@ pub mod faults;
 mod json;
 pub mod line;
 mod members;
+pub mod order_rows;
+mod orders;
+pub mod tally;
 mod value;

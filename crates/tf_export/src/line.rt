@@ -2,7 +2,7 @@
 ghost use Rattle.std.specs.Prelude.{◌≡◌, ◌<◌, ◌∷◌, [], drop, length, MatchOption};
 ghost use Rattle.tf_words.specs.Words.{words, lines};
 ghost use Rattle.tf_export.specs.Members.{row_in};
-ghost use Rattle.tf_export.specs.Documents.{first_of};
+ghost use Rattle.tf_export.specs.Lines.{first_of};
 ghost use Rattle.tf_export.specs.Faults.{first_line, behind_line};
 
 use tf_words::line::line_len;
@@ -34,6 +34,17 @@ pub(crate) fn first_of(text: &[u8]) -> &[u8]
     }
     let (line, _) = next_line(text);
     line
+}
+
+/// What follows the first line of a text.
+pub(crate) fn behind_heading(text: &[u8]) -> &[u8]
+    ensures { lines result.now ≡ drop 1 (lines text.now) }
+{
+    if text.is_empty() {
+        return text;
+    }
+    let (_, rest) = next_line(text);
+    rest
 }
 
 /// What stands behind the first word of a line.

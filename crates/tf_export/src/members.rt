@@ -34,6 +34,9 @@ fn certificate_names(kind: &[u8]) -> &'static [u8]
     if is(kind, b"prices") {
         return b"denominator";
     }
+    if is(kind, b"parts") {
+        return b"from until late";
+    }
     b""
 }
 
@@ -72,6 +75,7 @@ fn is_bound_kind(key: &[u8], row: &[u8]) -> bool
         || is(key, b"kept")
         || is(key, b"shortest")
         || is(key, b"ranks")
+        || is(key, b"parts")
         || (is(key, b"job") && count_words(row) == 1)
         || (is(key, b"alone") && count_words(row) == 0)
 }

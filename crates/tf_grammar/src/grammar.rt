@@ -71,6 +71,7 @@ Exit status: 0 drawn, 2 refused, 3 want of memory,
 
 const ABOUT_RANDOM: &str = "\
 Example: threefield random -p \"1|rj,prmp|Lmax\" --jobs 20 --seed 7 > table.txt
+         threefield random -p \"J||Cmax\" -m 5 --jobs 10 > routes.txt
 
 Exit status: 0 written, 2 refused, 3 want of memory,
              4 a file or a device failed, 5 the command line is wrong.";
@@ -110,7 +111,7 @@ static AGAINST_ORDER: [&str; 4] = ["rule", "orders", "certificate", "ANSWER"];
 
 static AGAINST_RULE: [&str; 4] = ["orders", "schedule", "certificate", "ANSWER"];
 
-static AGAINST_ORDERS: [&str; 4] = ["certificate", "json", "csv", "ANSWER"];
+static AGAINST_ORDERS: [&str; 2] = ["certificate", "ANSWER"];
 
 static AGAINST_GRADE: [&str; 4] = ["order", "rule", "schedule", "ANSWER"];
 
@@ -118,7 +119,9 @@ static AGAINST_SCHEDULE: [&str; 4] = ["order", "orders", "certificate", "ANSWER"
 
 static AGAINST_SIZE: [&str; 2] = ["width", "height"];
 
-static AGAINST_BORDER: [&str; 3] = ["bounds", "json", "FILE"];
+static AGAINST_BORDER: [&str; 2] = ["bounds", "FILE"];
+
+static AGAINST_SUMMARY: [&str; 5] = ["csv", "order", "rule", "schedule", "ANSWER"];
 
 static VERSION: [&str; 1] = ["answer"];
 
@@ -273,7 +276,7 @@ fn reported() -> [Row; 6] {
 }
 
 // The schedules that are evaluated.
-fn schedules() -> [Row; 6] {
+fn schedules() -> [Row; 7] {
     [
         text(
             "order",
@@ -296,6 +299,12 @@ fn schedules() -> [Row; 6] {
         )
         .with("orders")
         .without(AGAINST_GRADE.as_slice()),
+        flag(
+            "summary",
+            "With orders: counts the optimal and the wrong at the end",
+        )
+        .with("orders")
+        .without(AGAINST_SUMMARY.as_slice()),
         text(
             "schedule",
             "FILE",
@@ -320,7 +329,7 @@ fn gantt_command<'a>(alloc: Global) -> Result<Command<'a>, AllocError>
         &view_options(),
         &dated(),
         &form_options(),
-        &[explain(), answer().or("-")],
+        &[explain(), output(), answer().or("-")],
     ];
     with_groups(alloc, page.command(alloc), &groups)
 }
@@ -379,7 +388,7 @@ fn random_command<'a>(alloc: Global) -> Result<Command<'a>, AllocError>
 {
     let page = Page {
         name: "random",
-        about: "Writes a random job table for a problem",
+        about: "Writes a random instance of a problem",
         after: ABOUT_RANDOM,
         long: None,
     };
@@ -389,6 +398,7 @@ fn random_command<'a>(alloc: Global) -> Result<Command<'a>, AllocError>
         machines(),
         number("seed", "S", "Which of 4294967296 tables, from 0").or("1"),
         number("max", "T", "The longest processing time, 1 to 1000000").or("100"),
+        output(),
     ];
     with_rows(alloc, page.command(alloc), &rows)
 }
@@ -413,6 +423,7 @@ fn problems_command<'a>(alloc: Global) -> Result<Command<'a>, AllocError>
         )
         .without(AGAINST_BORDER.as_slice()),
         json(),
+        output(),
         place("FILE", "A job table: lists what it has the fields for"),
     ];
     with_rows(alloc, page.command(alloc), &rows)
@@ -426,7 +437,7 @@ fn with_options<'a>(alloc: Global, page: Page, rows: &[Row]) -> Result<Command<'
     let groups: [&[Row]; 4] = [
         &[problem(), format()],
         &form_options(),
-        &[machines(), explain(), input],
+        &[machines(), explain(), output(), input],
         rows,
     ];
     with_groups(alloc, page.command(alloc), &groups)
@@ -484,6 +495,15 @@ fn explain() -> Row {
     )
     .one_of(EXPLAINED.as_slice())
     .or("auto")
+}
+
+fn output() -> Row {
+    text(
+        "output",
+        "FILE",
+        "Writes to FILE in place of standard output",
+    )
+    .short('o')
 }
 
 fn steps() -> Row {

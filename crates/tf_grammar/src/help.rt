@@ -137,13 +137,14 @@ lower bound, the gap, and when each job starts and is completed.
 
 The schedule is an answer, whose certificate need not show anything; with
 --schedule the lines \"piece JOB MACHINE START STOP\" of a file, which need no
-other lines; with --order that of jobs one after another as early as possible;
-with --rule that of the order of a rule: EDD (earliest due date first), SPT
-(shortest time first), LPT (longest time first), WSPT (largest ratio of weight to
-time first) or ERD (earliest release date first), on machines in parallel each
-job on the machine that is free first; with --orders that of each line of a file,
-for which one line is printed, with its cost and its gap; with --grade also where
-a line is no order, and a line may begin with a label, as in \"anna: 3,1,2\".
+other lines; with --order that of jobs one after another as early as possible, in
+a job shop also of operations, each by its job (\"1 2 2 1\"); with --rule that of
+the order of a rule: EDD (earliest due date first), SPT (shortest time first), LPT
+(longest time first), WSPT (largest ratio of weight to time first) or ERD (earliest
+release date first), on machines in parallel each job on the machine that is free
+first; with --orders that of each line of a file, for which one line is printed,
+with its cost and its gap; with --grade also where a line is no order, and a line
+may begin with a label, as in \"anna: 3,1,2\".
 
 --bound takes a lower bound as \"bound\" prints it, or one of your own. It is
 judged, and used where it is stronger than the one that is found. --steps lets

@@ -1,5 +1,6 @@
 -- What the words of a command line ask for.
-use Rattle.std.proofs.Common.{ℕ, Bool, List}
+use Rattle.std.proofs.Common.{◌≡◌, ℕ, Bool, Bor, List, Option, None, Some, sym}
+use Rattle.std.specs.Option.{IfSome, option_map}
 use Rattle.clap.specs.Words.{App}
 use Rattle.tf_options.specs.Understanding.{IsOfWords, IsUnderstood}
 use Rattle.tf_options.specs.declared.options.Asked.{Asked}
@@ -16,3 +17,10 @@ of_words app words on_terminal (asking.Help error) h = tt
 of_words app words on_terminal (asking.Misused error) h = tt
 of_words app words on_terminal (asking.Unfit message) h = h
 of_words app words on_terminal asking.NoMemory h = tt
+
+-- what holds of the value of an option holds of the text that is given for it
+pub named_if : (result : Option (Bor (List ℕ))) (value : Option (List ℕ)) (P : List ℕ → Type 0)
+    → option_map (λ name. name.now) result ≡ value
+    → ((name : List ℕ) → value ≡ Some name → P name) → IfSome result (λ name. P name.now)
+named_if None value P is holds = tt
+named_if (Some name) value P is holds = holds name.now (sym is)

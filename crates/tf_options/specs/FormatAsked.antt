@@ -1,15 +1,22 @@
 -- The format of the output that a command line names.
-use Rattle.std.specs.Prelude.{◌≡◌, ◌⊎◌, ℕ, ◌||◌, List, Option, None, Some, codes, if◌then◌else◌}
+use Rattle.std.specs.Prelude.{◌≡◌, ◌⊎◌, ℕ, ◌||◌, true, List, Option, None, Some, codes, if◌then◌else◌}
 use Rattle.std.specs.Str.{bytes_eq}
 use Rattle.tf_text.specs.declared.answer.layout.Layout.{Layout}
 use Rattle.tf_text.specs.declared.answer.layout.Layout.TheVariants.{One}
 use Rattle.tf_export.specs.declared.csv.Table.TheVariants.{Pieces, Outcomes}
-use Rattle.tf_export.specs.declared.documents.Document.TheVariants.{Answer, Bound, Evaluation, Verdict, Problems, Plan}
+use Rattle.tf_export.specs.declared.documents.Document.TheVariants.{Answer, Bound, Evaluation, Verdict, Problems, Plan, Border, Orders}
 use Rattle.tf_options.specs.Matched.{layout_by}
 use Rattle.tf_options.specs.declared.format.Format.{Format}
-use Rattle.tf_options.specs.declared.format.Format.TheVariants.{Json, Csv}
+use Rattle.tf_options.specs.declared.format.Format.TheVariants.{Json, Csv, OrderRows, Summary}
 use Rattle.tf_options.specs.declared.options.Asked.{Asked}
-use Rattle.tf_options.specs.declared.options.Asked.TheVariants.{Work, Formatted, Series, Measured, Help, Misused, Unfit, NoMemory}
+use Rattle.tf_options.specs.declared.options.Asked.TheVariants as asking
+use Rattle.tf_options.specs.declared.options.Asked.TheVariants.{Formatted}
+use Rattle.tf_options.specs.declared.options.OrderSource.{OrderSource}
+use Rattle.tf_options.specs.declared.options.OrderSource.TheVariants.{Given, Ruled, Named, Drawn}
+use Rattle.tf_options.specs.declared.options.Options.{Options}
+use Rattle.tf_options.specs.declared.options.Work.{Work}
+use Rattle.tf_options.specs.declared.options.Work.TheVariants as works
+use Rattle.tf_options.specs.declared.options.Work.TheVariants.{Solve, Trace, Check, Evaluate, Assess, Rate, Gantt, Picture, Random}
 
 -- the value of each option that has one, by the option's name
 abbrev pub Values : Type 0
@@ -38,11 +45,15 @@ IsGiven given id = given id ≡ Some (codes "true")
 abbrev pub IsMissing : Values → List ℕ → Type 0
 IsMissing given id = (given id ≡ Some (codes "false")) ⊎ (given id ≡ None)
 
--- the format of a command's output: with `--json` its document, with `--csv` its table
+-- the format of a command's output: with `--json` its document, with `--csv` its table, and with
+-- `--summary` a summary behind its lines
 pub record IsFormatBy (given : Values) (name : List ℕ) (format : Option Format) : Type 0 where
   pub json : IsGiven given (codes "json") → format ≡ json_format name
   pub csv : IsMissing given (codes "json") → IsGiven given (codes "csv") → format ≡ csv_format name
-  pub text : IsMissing given (codes "json") → IsMissing given (codes "csv") → format ≡ None
+  pub summary : IsMissing given (codes "json") → IsMissing given (codes "csv")
+      → IsGiven given (codes "summary") → format ≡ Some Summary
+  pub text : IsMissing given (codes "json") → IsMissing given (codes "csv")
+      → IsMissing given (codes "summary") → format ≡ None
 
 -- the version of the answer text: 1 with `--json`, which names each job of a certificate
 pub record IsSolvedLayoutBy (given : Values) (version : Option (List ℕ)) (layout : Layout) : Type 0
@@ -50,18 +61,56 @@ pub record IsSolvedLayoutBy (given : Values) (version : Option (List ℕ)) (layo
     pub json : IsGiven given (codes "json") → layout ≡ One
     pub text : IsMissing given (codes "json") → layout ≡ layout_by version
 
+-- the format of a list of orders
+abbrev pub orders_format : Format → Format
+orders_format (Json document) = Json Orders
+orders_format (Csv table) = OrderRows
+orders_format OrderRows = OrderRows
+orders_format Summary = Summary
+
+-- and of the list of which problems are polynomial
+abbrev pub border_format : Format → Format
+border_format (Json document) = Json Border
+border_format (Csv table) = Csv table
+border_format OrderRows = OrderRows
+border_format Summary = Summary
+
+-- orders with the numbers of their lines
+abbrev pub source_in_format : Options → OrderSource → Format → Asked
+source_in_format options (Named name goes_on is_numbered) format =
+    Formatted (Rate options (Named name goes_on true)) (orders_format format)
+source_in_format options (Given order) format = Formatted (Rate options (Given order)) format
+source_in_format options (Ruled rule) format = Formatted (Rate options (Ruled rule)) format
+source_in_format options (Drawn name) format = Formatted (Rate options (Drawn name)) format
+
 -- work is done with its output in this format
-abbrev pub work_in_format : Asked → Format → Asked
-work_in_format (Work work) format = Formatted work format
-work_in_format (Formatted work other) format = Formatted work other
-work_in_format (Series series) format = Series series
-work_in_format (Measured evaluating) format = Measured evaluating
-work_in_format (Help error) format = Help error
-work_in_format (Misused error) format = Misused error
-work_in_format (Unfit text) format = Unfit text
-work_in_format NoMemory format = NoMemory
+abbrev pub work_in_format : Work → Format → Asked
+work_in_format (Rate options source) format = source_in_format options source format
+work_in_format works.Border format = Formatted works.Border (border_format format)
+work_in_format (Solve options layout) format = Formatted (Solve options layout) format
+work_in_format (works.Bound options steps) format = Formatted (works.Bound options steps) format
+work_in_format (works.Plan options layout steps) format =
+    Formatted (works.Plan options layout steps) format
+work_in_format (Trace options style) format = Formatted (Trace options style) format
+work_in_format (Check options answer) format = Formatted (Check options answer) format
+work_in_format (Evaluate evaluating) format = Formatted (Evaluate evaluating) format
+work_in_format (Assess assessing) format = Formatted (Assess assessing) format
+work_in_format (Gantt answer drawing explain) format = Formatted (Gantt answer drawing explain) format
+work_in_format (Picture picturing) format = Formatted (Picture picturing) format
+work_in_format (Random wanted) format = Formatted (Random wanted) format
+work_in_format (works.Problems listed name) format = Formatted (works.Problems listed name) format
+
+abbrev pub one_in_format : Asked → Format → Asked
+one_in_format (asking.Work work) format = work_in_format work format
+one_in_format (Formatted work other) format = Formatted work other
+one_in_format (asking.Series series) format = asking.Series series
+one_in_format (asking.Measured evaluating) format = asking.Measured evaluating
+one_in_format (asking.Help error) format = asking.Help error
+one_in_format (asking.Misused error) format = asking.Misused error
+one_in_format (asking.Unfit text) format = asking.Unfit text
+one_in_format asking.NoMemory format = asking.NoMemory
 
 -- or as text, where no format is named
 abbrev pub asked_in_format : Asked → Option Format → Asked
 asked_in_format asked None = asked
-asked_in_format asked (Some format) = work_in_format asked format
+asked_in_format asked (Some format) = one_in_format asked format

@@ -48,6 +48,16 @@ pub record IsOfWords (app : App) (words : List (List ℕ)) (on_terminal : Bool) 
         ≡ Some (rows_of (found_of given))
     pub understood : IsUnderstoodBy name (given_of given) on_terminal asked
 
+-- clap made the matches of the words, and its matches of a command have this value of `output`
+pub record IsOutputIn (app : App) (words : List (List ℕ)) (output : List ℕ) : Type 0
+  where
+    pub matches : ArgMatches
+    pub is_made : HasMatchesOf app words matches
+    pub given : ArgMatches
+    pub is_given : option_map (λ p. p.1) (subcommand_rows (out-ArgMatches matches).subcommand)
+        ≡ Some (rows_of (found_of given))
+    pub is_output : (given_of given).value (codes "output") ≡ Some output
+
 -- help, a command line that is none of the program's, and want of memory are told by clap
 abbrev pub IsUnderstood : App → List (List ℕ) → Bool → Asked → Type 0
 IsUnderstood app words on_terminal (asking.Help error) = Unit {0}

@@ -31,10 +31,10 @@ IsOrderBy given (Written order) = given.value (codes "order") ≡ Some order.now
 IsOrderBy given (Ruled rule) =
     (given.value (codes "order") ≡ None)
     × (option_map rule_by (given.value (codes "rule")) ≡ Some rule)
-IsOrderBy given (Named name goes_on) =
+IsOrderBy given (Named name goes_on is_numbered) =
     (given.value (codes "order") ≡ None) × (given.value (codes "rule") ≡ None)
     × (given.value (codes "orders") ≡ Some name.now)
-    × IsFlagBy (given.flag (codes "grade")) goes_on
+    × IsFlagBy (given.flag (codes "grade")) goes_on × (is_numbered ≡ false)
 IsOrderBy given (Drawn name) =
     (given.value (codes "order") ≡ None) × (given.value (codes "rule") ≡ None)
     × (given.value (codes "orders") ≡ None)
@@ -60,7 +60,7 @@ fault_if twice fault = if twice then Some fault else None
 abbrev pub input_fault : OrderSource → Option (List ℕ)
 input_fault (Written order) = None
 input_fault (Ruled rule) = None
-input_fault (Named name goes_on) =
+input_fault (Named name goes_on is_numbered) =
     fault_if (bytes_eq name.now (codes "-")) (codes "INPUT and --orders cannot both be standard input")
 input_fault (Drawn name) =
     fault_if (bytes_eq name.now (codes "-"))

@@ -9,4 +9,8 @@ pub enum Format {
     Json(Document),
     /// The rows of this table, with commas between the values of each.
     Csv(Table),
+    /// A row of each order of a list, with commas between its values.
+    OrderRows,
+    /// A list of orders as text, and a summary of it.
+    Summary,
 }

@@ -2,7 +2,9 @@
 //! of them mean.
 #![tactic(auto)]
 
+pub mod command_line;
 pub mod format;
+mod formatting;
 pub mod options;
 pub mod series;
 mod viewing;

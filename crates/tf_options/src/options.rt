@@ -1,7 +1,6 @@
 //! The command line.
-ghost use Rattle.std.specs.Prelude.{◌≡◌, ◌≤◌, ℕ, Bool, List, None, Some, false, codes, map};
-ghost use Rattle.std.specs.Prelude.{option_map, string_bytes, IfOk, IfErr, MatchOption};
-ghost use Rattle.clap.specs.Words.{App, app_of};
+ghost use Rattle.std.specs.Prelude.{◌≡◌, ◌≤◌, None, Some, false, codes};
+ghost use Rattle.std.specs.Prelude.{option_map, IfOk, IfErr, MatchOption};
 ghost use Rattle.tf_engine.specs.FormData.{form_of};
 ghost use Rattle.tf_model.specs.Limit.{most_machines};
 ghost use Rattle.tf_options.specs.Asking.{form_asked, requested};
@@ -17,19 +16,19 @@ ghost use Rattle.tf_options.specs.Matched.{machines_fault, most_steps, options_f
 ghost use Rattle.tf_options.specs.Matched.{number_by, steps_fault, wt_fault};
 ghost use Rattle.tf_options.specs.MeasuresAsked.{IsMeasuredBy};
 ghost use Rattle.tf_options.specs.OptionNumber.{numeral_in};
-ghost use Rattle.tf_options.specs.Understanding.{IsFormattedBy, IsUnderstood, IsUnderstoodBy};
+ghost use Rattle.tf_options.specs.Understanding.{IsFormattedBy, IsUnderstoodBy};
 ghost use Rattle.tf_options.specs.Understood.{AreAidsBy, HasNoOrder, IsAskedBy, IsOrderBy, IsWorkBy};
 ghost use Rattle.tf_options.specs.Understood.{aids_fault, fault_by, input_fault, is_incomplete};
 ghost use Rattle.tf_options.specs.Understood.{is_standard_input, lacks_options, lacks_own, own_fault};
 ghost use Rattle.tf_options.specs.Understood.{rule_by};
 
 use crate::format::Format;
+use crate::formatting::work_in_format;
 use crate::series::{Series, series_asked, span_for};
 use crate::viewing::gantt_in;
 use crate::wanting::wanted_in;
 use crate::wrong::Wrong;
-use clap::error::ErrorKind;
-use clap::{ArgMatches, Command, Error};
+use clap::{ArgMatches, Error};
 use std::alloc::{AllocError, Allocator, Global};
 use tf_engine::request::{Form, Request};
 use tf_engine::text::Text;
@@ -158,9 +157,13 @@ pub enum OrderSource<'a> {
     Given(&'a str),
     /// The order of a rule.
     Ruled(Rule),
-    /// The name of a text with an order in each line, and whether a line that is none is told
-    /// and the others are gone on with.
-    Named { name: &'a str, goes_on: bool },
+    /// The name of a text with an order in each line, whether a line that is none is told and the
+    /// others are gone on with, and whether each is told with the number of its line.
+    Named {
+        name: &'a str,
+        goes_on: bool,
+        is_numbered: bool,
+    },
     /// The name of a text with the pieces of a schedule.
     Drawn(&'a str),
 }
@@ -247,24 +250,12 @@ pub const MOST_STEPS: u32 = 1_000_000;
 const ONE_INSTANCE: &str = "\
 --json, --csv, --measures and --certificate take one instance, and --index names several";
 
-/// What the words ask for. With `--explain=auto`, the default, it is explained on a terminal.
-pub fn understand<'a>(command: Command<'a>, words: &'a [String], on_terminal: bool) -> Asked<'a>
-    ensures columns { HasColumns result }
-    ensures understood { IsUnderstood (app_of command.entry) (map string_bytes words.now) on_terminal
-        result }
-{
-    let matches = match command.try_get_matches_from(words) {
-        Ok(matches) => matches,
-        Err(error) => return refused(error),
-    };
-    match matches.subcommand() {
-        None => Asked::NoMemory,
-        Some((name, given)) => understand_given(name, given, on_terminal),
-    }
-}
-
 // What the command of this name asks for, by what clap found of it.
-fn understand_given<'a>(name: &str, given: &ArgMatches<'a>, on_terminal: bool) -> Asked<'a>
+pub(crate) fn understand_given<'a>(
+    name: &str,
+    given: &ArgMatches<'a>,
+    on_terminal: bool,
+) -> Asked<'a>
     ensures columns { HasColumns result }
     ensures understood { IsUnderstoodBy name.now (given_of given.now) on_terminal result }
 {
@@ -314,7 +305,7 @@ fn in_format<'a>(asked: Asked<'a>, format: Option<Format>) -> Asked<'a>
         return asked;
     };
     match asked {
-        Asked::Work(work) => Asked::Formatted(work, format),
+        Asked::Work(work) => work_in_format(work, format),
         other => other,
     }
 }
@@ -328,6 +319,9 @@ fn format_in(name: &str, given: &ArgMatches<'_>) -> Option<Format>
     }
     if given.get_flag("csv") {
         return csv_format(name);
+    }
+    if given.get_flag("summary") {
+        return Some(Format::Summary);
     }
     None
 }
@@ -543,6 +537,7 @@ fn orders_in<'a>(given: &ArgMatches<'a>) -> Option<OrderSource<'a>>
         return Some(OrderSource::Named {
             name,
             goes_on: given.get_flag("grade"),
+            is_numbered: false,
         });
     }
     match given.get_str("schedule") {
@@ -780,20 +775,5 @@ pub(crate) fn number_within(word: &str, least: u32, most: u32) -> Option<u32>
     match number_in(digits, i64::from(least), i64::from(most)) {
         Ranged::Within(n) => Some(n as u32),
         _ => None,
-    }
-}
-
-fn refused<'a>(error: Error) -> Asked<'a>
-    ensures columns { HasColumns result }
-    ensures told { (app : App) (words : List (List ℕ)) (on_terminal : Bool) →
-        IsUnderstood app words on_terminal result }
-{
-    if error.kind() == ErrorKind::OutOfMemory {
-        return Asked::NoMemory;
-    }
-    if error.use_stderr() {
-        Asked::Misused(error)
-    } else {
-        Asked::Help(error)
     }
 }

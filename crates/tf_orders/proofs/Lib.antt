@@ -1,6 +1,7 @@
 mod Turns
 mod Distinct
 mod Added
+mod Operating
 mod Listing
 mod Reading
 mod Rated
@@ -8,3 +9,4 @@ mod Graded
 mod Rows
 mod Running
 pub mod Past
+mod NumberedRows

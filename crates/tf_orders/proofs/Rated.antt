@@ -2,24 +2,24 @@
 use Rattle.std.proofs.Common.{◌≡◌, ℕ, ◌++◌, List, sym, subst}
 use Rattle.tf_schedule.specs.declared.piece.Piece.{Piece}
 use Rattle.tf_orders.specs.declared.order.Turn.{Turn}
-use Rattle.tf_orders.specs.declared.measure.Measure.{Measure}
 use Rattle.tf_orders.specs.Orders.{IsOrder, IsNoOrder}
-use Rattle.tf_orders.specs.Measuring.{jobs_in, orders_in, schedule_in, IsScheduled, IsUnordered}
+use Rattle.tf_orders.specs.declared.measure.Measure.{Measure}
+use Rattle.tf_orders.specs.Measuring.{IsLaid, IsScheduled}
 use Rattle.tf_orders.specs.OrderText.{IsRow, IsRowOf}
 
-module _ {A : Type 0} (m : Measure A) (text : List ℕ) (n g : ℕ) (jobs : n ≡ jobs_in m)
-    (orders : g ≡ orders_in m) where
-  pub unordered_by : IsNoOrder n g text → IsUnordered m text
+-- where the numbers of jobs and of orders are read
+module _ (text : List ℕ) (n m g h : ℕ) (jobs : n ≡ m) (orders : g ≡ h) where
+  pub unordered_by : IsNoOrder n g text → IsNoOrder m h text
   unordered_by none turns order =
       none turns
       (subst (λ (n : ℕ). IsOrder n g text turns) (sym jobs)
-      (subst (λ (g : ℕ). IsOrder (jobs_in m) g text turns) (sym orders) order))
+      (subst (λ (g : ℕ). IsOrder m g text turns) (sym orders) order))
 
-  pub scheduled_by : (turns : List Turn) (ps : List Piece) → IsOrder n g text turns
-      → ps ≡ schedule_in m turns → IsScheduled m text ps
-  scheduled_by turns ps order is = record {
+  pub laid_by : (laid : List Turn → List Piece) (turns : List Turn) (ps : List Piece)
+      → IsOrder n g text turns → ps ≡ laid turns → IsLaid m h laid text ps
+  laid_by laid turns ps order is = record {
     turns = turns;
-    order = subst (λ (g : ℕ). IsOrder (jobs_in m) g text turns) orders
+    order = subst (λ (g : ℕ). IsOrder m g text turns) orders
         (subst (λ (n : ℕ). IsOrder n g text turns) jobs order);
     pieces = is;
   }

@@ -1,6 +1,7 @@
 -- what a caller has to believe
 pub mod Orders
 pub mod Laying
+pub mod Operations
 pub mod Listed
 pub mod Ruled
 pub mod Measuring

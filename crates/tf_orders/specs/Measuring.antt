@@ -1,9 +1,10 @@
 -- What the schedules of orders are measured by: in a class the optimum, and otherwise the strongest
 -- lower bound that is found.
-use Rattle.std.specs.Prelude.{◌≡◌, ℕ, List, length, IsTrue, IsFalse, Ok}
+use Rattle.std.specs.Prelude.{◌≡◌, ◌⊎◌, ℕ, List, length, IsTrue, IsFalse, Ok}
 use Rattle.tf_engine.specs.RequestData.{RequestData}
 use Rattle.tf_engine.specs.Refusal.{problem_for, task_for}
 use Rattle.tf_plan.specs.Order.{IsFeasible}
+use Rattle.tf_problem.specs.ProblemData.{ProblemData, is_job_shop}
 use Rattle.tf_search.specs.Strongest.{IsFound}
 use Rattle.tf_bounding.specs.RunBounding.{problem_task_for}
 use Rattle.tf_evaluate.specs.Evaluating.{IsLeastCost}
@@ -12,8 +13,10 @@ use Rattle.tf_schedule.specs.declared.piece.Piece.{Piece}
 use Rattle.tf_orders.specs.declared.order.Turn.{Turn}
 use Rattle.tf_orders.specs.declared.measure.Measure.{Measure}
 use Rattle.tf_orders.specs.declared.measure.Measure.TheVariants.{Optimum, Bound}
-use Rattle.tf_orders.specs.Orders.{IsOrder, IsNoOrder}
+use Rattle.tf_orders.specs.declared.flaw.Flaw.{Flaw}
+use Rattle.tf_orders.specs.Orders.{IsFlaw, IsOrder, IsNoOrder}
 use Rattle.tf_orders.specs.Laying.{schedule_of, orders_of, problem_schedule_of, problem_orders_of}
+use Rattle.tf_orders.specs.Operations.{IsOperationFlaw, IsOperationOrder, IsNoOperationOrder, operation_schedule_of}
 
 -- the request and the instance text mean a task, and this is its optimum or a lower bound
 abbrev pub IsMeasure : {A : Type 0} → RequestData → List ℕ → Measure A → Type 0
@@ -39,12 +42,49 @@ abbrev pub schedule_in : {A : Type 0} → Measure A → List Turn → List Piece
 schedule_in (Optimum problem task best) turns = schedule_of task turns
 schedule_in (Bound task found) turns = problem_schedule_of task turns
 
--- the text says an order, and the pieces are its semi-active schedule
-pub record IsScheduled {A : Type 0} (m : Measure A) (text : List ℕ) (ps : List Piece) : Type 0 where
+-- the text says an order of the jobs 1 to n, and the pieces are its semi-active schedule
+pub record IsLaid (n g : ℕ) (laid : List Turn → List Piece) (text : List ℕ) (ps : List Piece) : Type 0
+  where
+    pub turns : List Turn
+    pub order : IsOrder n g text turns
+    pub pieces : ps ≡ laid turns
+
+-- it says an order of the operations of a job shop, and the pieces are its semi-active schedule
+pub record IsOperated (k : ProblemData) (text : List ℕ) (ps : List Piece) : Type 0 where
   pub turns : List Turn
-  pub order : IsOrder (jobs_in m) (orders_in m) text turns
-  pub pieces : ps ≡ schedule_in m turns
+  pub order : IsOperationOrder k text turns
+  pub pieces : ps ≡ operation_schedule_of k turns
+
+-- one of the two
+abbrev pub IsProblemScheduled : ProblemData → List ℕ → List Piece → Type 0
+IsProblemScheduled k text ps =
+    IsLaid (length k.jobs) (problem_orders_of k) (problem_schedule_of k) text ps
+    ⊎ IsOperated k text ps
+
+-- the text says neither
+pub record IsProblemUnordered (k : ProblemData) (text : List ℕ) : Type 0 where
+  pub jobs : IsNoOrder (length k.jobs) (problem_orders_of k) text
+  pub operations : IsNoOperationOrder k text
+
+-- ---- by a measure
+
+-- the text says an order, and the pieces are its semi-active schedule
+abbrev pub IsScheduled : {A : Type 0} → Measure A → List ℕ → List Piece → Type 0
+IsScheduled (Optimum problem task best) text ps =
+    IsLaid (length task.jobs) (orders_of task) (schedule_of task) text ps
+IsScheduled (Bound task found) text ps = IsProblemScheduled task text ps
 
 -- it says none
 abbrev pub IsUnordered : {A : Type 0} → Measure A → List ℕ → Type 0
-IsUnordered m text = IsNoOrder (jobs_in m) (orders_in m) text
+IsUnordered (Optimum problem task best) text = IsNoOrder (length task.jobs) (orders_of task) text
+IsUnordered (Bound task found) text = IsProblemUnordered task text
+
+-- this is wrong with it
+abbrev pub IsProblemFlaw : ProblemData → List ℕ → Flaw → Type 0
+IsProblemFlaw k text flaw =
+    (IsTrue (is_job_shop k.problem.env) × IsOperationFlaw k text flaw)
+    ⊎ (IsFalse (is_job_shop k.problem.env) × IsFlaw (length k.jobs) (problem_orders_of k) text flaw)
+
+abbrev pub IsFlawOf : {A : Type 0} → Measure A → List ℕ → Flaw → Type 0
+IsFlawOf (Optimum problem task best) text flaw = IsFlaw (length task.jobs) (orders_of task) text flaw
+IsFlawOf (Bound task found) text flaw = IsProblemFlaw task text flaw

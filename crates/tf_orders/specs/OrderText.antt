@@ -28,13 +28,12 @@ use Rattle.tf_assess.specs.RunRating.{standing_as}
 use Rattle.tf_orders.specs.declared.measure.Measure.{Measure}
 use Rattle.tf_orders.specs.declared.measure.Measure.TheVariants.{Optimum, Bound}
 use Rattle.tf_orders.specs.declared.run_orders.OrderForm.{OrderForm}
-use Rattle.tf_orders.specs.declared.run_orders.OrderForm.TheVariants.{Single, Lines, Ruled, Pieces}
+use Rattle.tf_orders.specs.declared.run_orders.OrderForm.TheVariants.{Single, Lines, Numbered, Ruled, Pieces}
 use Rattle.tf_orders.specs.declared.run_orders.OrdersRated.{OrdersRated}
 use Rattle.tf_orders.specs.declared.run_orders.OrdersRated.TheVariants as rateds
 use Rattle.tf_orders.specs.declared.flaw.Flaw.{Flaw}
 use Rattle.tf_orders.specs.declared.flaw.Flaw.TheVariants as flaws
-use Rattle.tf_orders.specs.Orders.{IsFlaw}
-use Rattle.tf_orders.specs.Measuring.{IsScheduled, IsUnordered, jobs_in, orders_in}
+use Rattle.tf_orders.specs.Measuring.{IsFlawOf, IsScheduled, IsUnordered}
 use Rattle.tf_orders.specs.Pieces.{pieces_of}
 use Rattle.tf_orders.specs.Ruled.{IsRuled}
 
@@ -123,6 +122,8 @@ flaw_words (flaws.Word k) = codes "wrong word" ∷ decimal k ∷ []
 flaw_words flaws.Lists = codes "wrong lists" ∷ []
 flaw_words (flaws.Twice j) = codes "wrong twice" ∷ decimal j ∷ []
 flaw_words (flaws.Missing j) = codes "wrong missing" ∷ decimal j ∷ []
+flaw_words (flaws.Seldom j) = codes "wrong seldom" ∷ decimal j ∷ []
+flaw_words (flaws.Often j) = codes "wrong often" ∷ decimal j ∷ []
 
 -- the same where it may not be found
 abbrev pub wrong_words : Option Flaw → List (List ℕ)
@@ -133,7 +134,7 @@ wrong_words (Some flaw) = flaw_words flaw
 pub record IsWrongRow {A : Type 0} (m : Measure A) (text row : List ℕ) : Type 0 where
   pub unordered : IsUnordered m text
   pub found : Option Flaw
-  pub flaw : IfSome found (IsFlaw (jobs_in m) (orders_in m) text)
+  pub flaw : IfSome found (IsFlawOf m text)
   pub says : row ≡ line_text (wrong_words found)
 
 -- ---- a line of a hand-in
@@ -176,6 +177,27 @@ AreRows goes_on m (line ∷ more) out =
     (row : List ℕ) × (rest : List ℕ) × IsLineOf goes_on m line.bytes row
     × AreRows goes_on m more rest × (out ≡ row ++ rest)
 
+-- a line of what the orders are measured by: the optimum, or the lower bound
+abbrev pub measure_line : {A : Type 0} → Measure A → List ℕ
+measure_line (Optimum problem task best) = line_text (codes "best" ∷ signed_decimal best ∷ [])
+measure_line (Bound task found) = line_text (codes "bound" ∷ signed_decimal found.value ∷ [])
+
+-- a row behind the number of its line
+abbrev pub numbered_row : ℕ → List ℕ → List ℕ
+numbered_row number row = decimal number ++ 32 ∷ (row ++ 10 ∷ [])
+
+-- each row behind the number of its line
+unfoldable pub numbered : List KeptLine → List (List ℕ) → List ℕ
+numbered [] rows = []
+numbered (line ∷ more) [] = []
+numbered (line ∷ more) (row ∷ rows) = numbered_row line.number row ++ numbered more rows
+
+-- the lines of all lines with their numbers, behind a line of what they are measured by
+abbrev pub AreNumberedRows : {A : Type 0} → Bool → Measure A → List KeptLine → List ℕ → Type 0
+AreNumberedRows goes_on m all out =
+    (rows : List ℕ) × AreRows goes_on m all rows
+    × (out ≡ measure_line m ++ numbered all (lines rows))
+
 -- the line of this number says no order, and each before it says one
 abbrev pub IsFirstBad : {A : Type 0} → Measure A → List KeptLine → ℕ → Type 0
 IsFirstBad m [] k = ⊥
@@ -195,15 +217,23 @@ AreRated Pieces m text out (rateds.Single standing) =
     (ps : List Piece) × (pieces_of (kept_lines 1 (lines text)) ≡ Ok ps)
     × IsEvaluated m ps out standing
 AreRated (Lines goes_on) m text out rateds.Lines = AreRows goes_on m (kept_lines 1 (lines text)) out
+AreRated (Numbered goes_on) m text out rateds.Lines =
+    AreNumberedRows goes_on m (kept_lines 1 (lines text)) out
 AreRated Single m text out rateds.Lines = ⊥
 AreRated (Ruled rule) m text out rateds.Lines = ⊥
 AreRated Pieces m text out rateds.Lines = ⊥
 AreRated (Lines goes_on) m text out (rateds.Single standing) = ⊥
+AreRated (Numbered goes_on) m text out (rateds.Single standing) = ⊥
+
+-- a line of the text says no order, and the first such is the fault
+abbrev pub IsBadText : {A : Type 0} → Bool → Measure A → List ℕ → AnswerFault → Type 0
+IsBadText goes_on m text fault =
+    (goes_on ≡ false) × (k : ℕ) × IsFirstBad m (kept_lines 1 (lines text)) k × (fault ≡ answers.BadLine k)
 
 -- this is the text's first fault
 abbrev pub IsMalformed : {A : Type 0} → OrderForm → Measure A → List ℕ → AnswerFault → Type 0
 IsMalformed Single m text fault = IsUnordered m text × (fault ≡ answers.BadLine 1)
-IsMalformed (Lines goes_on) m text fault =
-    (goes_on ≡ false) × (k : ℕ) × IsFirstBad m (kept_lines 1 (lines text)) k × (fault ≡ answers.BadLine k)
+IsMalformed (Lines goes_on) m text fault = IsBadText goes_on m text fault
+IsMalformed (Numbered goes_on) m text fault = IsBadText goes_on m text fault
 IsMalformed (Ruled rule) m text fault = ⊥
 IsMalformed Pieces m text fault = pieces_of (kept_lines 1 (lines text)) ≡ Err fault

@@ -11,7 +11,7 @@ use Rattle.tf_words.specs.declared.ranged.Ranged.TheVariants.{NotANumber, Below,
 use Rattle.tf_model.specs.Distinct.{IsDistinct}
 use Rattle.tf_model.specs.Whole.{as_time}
 use Rattle.tf_orders.specs.declared.flaw.Flaw.{Flaw}
-use Rattle.tf_orders.specs.declared.flaw.Flaw.TheVariants.{Word, Lists, Twice, Missing}
+use Rattle.tf_orders.specs.declared.flaw.Flaw.TheVariants.{Word, Lists, Twice, Missing, Seldom, Often}
 use Rattle.tf_orders.specs.declared.flaw.Named.{Named}
 use Rattle.tf_orders.specs.declared.flaw.Named.TheVariants.{Slash, Job}
 use Rattle.tf_orders.specs.declared.order.Turn.{Turn}
@@ -90,3 +90,5 @@ IsFlaw n g text (Word k) = IsOtherWord n text k
 IsFlaw n g text Lists = times_named n Slash text + 1 ≢ g
 IsFlaw n g text (Twice j) = 2 ≤ times_named n (Job j) text
 IsFlaw n g text (Missing j) = (1 ≤ j) × (j ≤ n) × (times_named n (Job j) text ≡ 0)
+IsFlaw n g text (Seldom j) = ⊥
+IsFlaw n g text (Often j) = ⊥

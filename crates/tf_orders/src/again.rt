@@ -3,11 +3,10 @@ ghost use Rattle.std.specs.Prelude.{◌≤◌, length};
 ghost use Rattle.tf_model.specs.Limit.{most_bytes};
 
 use crate::case_read::{OrderCase, Posed, order_case_read};
-use crate::order::order_in;
 use crate::pieces::pieces_in;
 use crate::ruled::{ruled_of, ruled_problem};
 use crate::run_orders::{OrderForm, OrdersRequest};
-use crate::schedules::{orders_of, problem_orders_of, problem_schedule_of, schedule_of};
+use crate::schedules::{problem_scheduled, task_scheduled};
 use std::alloc::Global;
 use tf_bound::task::ProblemTask;
 use tf_model::limit::MOST_BYTES;
@@ -40,21 +39,11 @@ fn task_pieces(alloc: Global, task: &Task, form: OrderForm, text: &[u8]) -> Opti
     requires { length text.now ≤ most_bytes }
 {
     match form {
-        OrderForm::Single => order_pieces(alloc, task, text),
+        OrderForm::Single => task_scheduled(alloc, task, text).ok().flatten(),
         OrderForm::Ruled(rule) => ruled_of(alloc, task, rule).ok(),
         OrderForm::Pieces => pieces_in(alloc, text).ok(),
-        OrderForm::Lines { .. } => None,
+        OrderForm::Lines { .. } | OrderForm::Numbered { .. } => None,
     }
-}
-
-fn order_pieces(alloc: Global, task: &Task, text: &[u8]) -> Option<Vec<Piece>> {
-    let Ok(found) = order_in(alloc, task.len() as u32, orders_of(task), text) else {
-        return None;
-    };
-    let Some(turns) = found else {
-        return None;
-    };
-    schedule_of(alloc, task, &turns).ok()
 }
 
 fn problem_pieces(
@@ -66,19 +55,9 @@ fn problem_pieces(
     requires { length text.now ≤ most_bytes }
 {
     match form {
-        OrderForm::Single => problem_order_pieces(alloc, task, text),
+        OrderForm::Single => problem_scheduled(alloc, task, text).ok().flatten(),
         OrderForm::Ruled(rule) => ruled_problem(alloc, task, rule).ok(),
         OrderForm::Pieces => pieces_in(alloc, text).ok(),
-        OrderForm::Lines { .. } => None,
+        OrderForm::Lines { .. } | OrderForm::Numbered { .. } => None,
     }
-}
-
-fn problem_order_pieces(alloc: Global, task: &ProblemTask, text: &[u8]) -> Option<Vec<Piece>> {
-    let Ok(found) = order_in(alloc, task.len() as u32, problem_orders_of(task), text) else {
-        return None;
-    };
-    let Some(turns) = found else {
-        return None;
-    };
-    problem_schedule_of(alloc, task, &turns).ok()
 }

@@ -21,6 +21,10 @@ pub enum Flaw {
     Twice(JobId),
     /// This job is missing.
     Missing(JobId),
+    /// In a job shop, this job stands, but not as often as its route has operations.
+    Seldom(JobId),
+    /// In a job shop, this job stands more often than its route has operations.
+    Often(JobId),
 }
 
 /// What a word may stand for.
@@ -88,8 +92,8 @@ fn other_word(jobs: u32, text: &[u8]) -> Option<usize>
     None
 }
 
-// How many words of the text stand for this.
-fn count(jobs: u32, text: &[u8], named: &Named) -> usize
+/// How many words of the text stand for this.
+pub(crate) fn count(jobs: u32, text: &[u8], named: &Named) -> usize
     ensures value { result ≡ count_by (is_named jobs named.now) (words text.now) }
     ensures small { result ≤ length text.now }
 {

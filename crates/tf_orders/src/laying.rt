@@ -106,8 +106,9 @@ impl<A: Allocator + Copy> Laying<A> {
         Ok(())
     }
 
-    // Adds an operation, and gives the time at which the job is free again.
-    fn add(
+    /// Adds an operation, and gives the time at which the job is free again. Only want of memory is
+    /// an error.
+    pub(crate) fn add(
         &mut self,
         job: JobId,
         machine: MachineId,

@@ -7,6 +7,8 @@ pub mod flaw;
 mod grading;
 mod laying;
 pub mod measure;
+mod numbering;
+mod operations;
 pub mod order;
 mod pieces;
 mod rating;

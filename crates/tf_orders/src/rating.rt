@@ -6,10 +6,12 @@ ghost use Rattle.tf_engine.specs.Faults.{stop_of};
 ghost use Rattle.tf_check.specs.Judgement.{IsJudged};
 ghost use Rattle.tf_orders.specs.OrderParts.{IsUnrated, IsWithoutRow};
 ghost use Rattle.tf_orders.specs.OrderText.{AreRated, AreRows, IsEvaluatedAs, IsLineOf, IsRowOf};
-ghost use Rattle.tf_orders.specs.OrderText.{IsScheduleAssessment, IsScheduleEvaluation};
+ghost use Rattle.tf_orders.specs.OrderText.{AreNumberedRows, IsScheduleAssessment};
+ghost use Rattle.tf_orders.specs.OrderText.{IsScheduleEvaluation};
 
 use crate::grading::push_graded;
 use crate::measure::Measure;
+use crate::numbering::with_numbers;
 use crate::pieces::pieces_in;
 use crate::ruled::ruled;
 use crate::run_orders::{OrderForm, OrdersRated};
@@ -61,6 +63,13 @@ pub(crate) fn rating_of<A: Allocator + Copy>(
         OrderForm::Pieces => pieces_rating(alloc, measure, text),
         OrderForm::Lines { goes_on } => {
             let text = rows_of(alloc, &measure, goes_on, text)?;
+            Ok(Rating {
+                text,
+                rated: OrdersRated::Lines,
+            })
+        }
+        OrderForm::Numbered { goes_on } => {
+            let text = numbered_rows_of(alloc, &measure, goes_on, text)?;
             Ok(Rating {
                 text,
                 rated: OrdersRated::Lines,
@@ -210,6 +219,23 @@ fn rows_of<A: Allocator + Copy, B: Allocator>(
         lines = more;
     }
     Ok(out)
+}
+
+// The same with their numbers, behind a line of the optimum or the lower bound.
+fn numbered_rows_of<A: Allocator + Copy, B: Allocator>(
+    alloc: A,
+    measure: &Measure<B>,
+    goes_on: bool,
+    text: &[u8],
+) -> Result<Vec<u8, A>, RunFault<A>>
+    requires { length text.now ≤ most_bytes }
+    ensures { MatchResult result
+        (λ out. AreNumberedRows goes_on measure.now (kept_lines 1 (lines text.now)) out.items)
+        (λ e. IsUnrated (OrderForm.Numbered goes_on) measure.now text.now (stop_of e)) }
+{
+    let rows = rows_of(alloc, measure, goes_on, text)?;
+    let numbered = with_numbers(alloc, measure, &rows, text)?;
+    Ok(numbered)
 }
 
 // Adds the line of the order that a line says, or what is wrong with it.

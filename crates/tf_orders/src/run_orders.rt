@@ -26,6 +26,9 @@ pub enum OrderForm {
     /// that is no order it is `wrong` and why, if the others are gone on with; then a line may begin
     /// with a label and a colon, which are kept, and commas divide jobs.
     Lines { goes_on: bool },
+    /// The same, with the number of its line before what is written of each, and behind a line of
+    /// the optimum, `best`, or of the lower bound, `bound`.
+    Numbered { goes_on: bool },
     /// It isn't looked at: the order is that of a rule. The schedule is evaluated in the same way.
     Ruled(Rule),
     /// It is no order, but the pieces of a schedule, which is evaluated in the same way. The other

@@ -4,12 +4,14 @@ ghost use Rattle.std.specs.List.{All};
 ghost use Rattle.tf_model.specs.Limit.{most_machines};
 ghost use Rattle.tf_orders.specs.Laying.{orders_of, problem_orders_of, problem_schedule_of};
 ghost use Rattle.tf_orders.specs.Laying.{schedule_of, with_problem_turn, with_turn_of};
-ghost use Rattle.tf_orders.specs.Measuring.{IsScheduled, IsUnordered, jobs_in, orders_in};
-ghost use Rattle.tf_orders.specs.Orders.{IsFlaw, IsTurn};
+ghost use Rattle.tf_orders.specs.Measuring.{IsFlawOf, IsLaid, IsProblemFlaw, IsProblemScheduled};
+ghost use Rattle.tf_orders.specs.Measuring.{IsProblemUnordered, IsScheduled, IsUnordered};
+ghost use Rattle.tf_orders.specs.Orders.{IsNoOrder, IsTurn};
 
 use crate::flaw::{Flaw, flaw_in};
 use crate::laying::Laying;
 use crate::measure::Measure;
+use crate::operations::{operation_flaw, operation_schedule_of, operations_in};
 use crate::order::{Turn, order_in};
 use std::alloc::Allocator;
 use tf_bound::task::ProblemTask;
@@ -29,44 +31,80 @@ pub(crate) fn scheduled<A: Allocator + Copy, B: Allocator>(
         (λ pieces. IsScheduled measure.now text.now pieces.items)) }
 {
     match measure {
-        Measure::Optimum { task, .. } => {
-            let Some(turns) = order_in(alloc, task.len() as u32, orders_of(task), text)? else {
-                return Ok(None);
-            };
-            let pieces = schedule_of(alloc, task, &turns)?;
-            Ok(Some(pieces))
-        }
-        Measure::Bound { task, .. } => {
-            let jobs = task.len() as u32;
-            let Some(turns) = order_in(alloc, jobs, problem_orders_of(task), text)? else {
-                return Ok(None);
-            };
-            let pieces = problem_schedule_of(alloc, task, &turns)?;
-            Ok(Some(pieces))
-        }
+        Measure::Optimum { task, .. } => task_scheduled(alloc, task, text),
+        Measure::Bound { task, .. } => problem_scheduled(alloc, task, text),
     }
+}
+
+/// The same of a task of a class.
+pub(crate) fn task_scheduled<A: Allocator + Copy, B: Allocator>(
+    alloc: A,
+    task: &Task<B>,
+    text: &[u8],
+) -> Result<Option<Vec<Piece, A>>, OutOfMemory>
+    ensures { IfOk result (λ found. MatchOption found
+        (IsNoOrder (length task.now.jobs) (orders_of task.now) text.now)
+        (λ pieces. IsLaid (length task.now.jobs) (orders_of task.now) (schedule_of task.now)
+        text.now pieces.items)) }
+{
+    let Some(turns) = order_in(alloc, task.len() as u32, orders_of(task), text)? else {
+        return Ok(None);
+    };
+    let pieces = schedule_of(alloc, task, &turns)?;
+    Ok(Some(pieces))
+}
+
+/// The same of any problem, where in a job shop the text may also say an order of operations.
+pub(crate) fn problem_scheduled<A: Allocator + Copy, B: Allocator>(
+    alloc: A,
+    task: &ProblemTask<B>,
+    text: &[u8],
+) -> Result<Option<Vec<Piece, A>>, OutOfMemory>
+    ensures { IfOk result (λ found. MatchOption found (IsProblemUnordered task.now text.now)
+        (λ pieces. IsProblemScheduled task.now text.now pieces.items)) }
+{
+    if let Some(turns) = order_in(alloc, task.len() as u32, problem_orders_of(task), text)? {
+        let pieces = problem_schedule_of(alloc, task, &turns)?;
+        return Ok(Some(pieces));
+    }
+    let Some(turns) = operations_in(alloc, task, text)? else {
+        return Ok(None);
+    };
+    let pieces = operation_schedule_of(alloc, task, &turns)?;
+    Ok(Some(pieces))
 }
 
 /// What is wrong with a text that says no order, as far as it is found. Only want of memory is an
 /// error.
-pub(crate) fn flaw_of<A: Allocator, B: Allocator>(
+pub(crate) fn flaw_of<A: Allocator + Copy, B: Allocator>(
     alloc: A,
     measure: &Measure<B>,
     text: &[u8],
 ) -> Result<Option<Flaw>, OutOfMemory>
-    ensures { IfOk result (λ found. IfSome found
-        (IsFlaw (jobs_in measure.now) (orders_in measure.now) text.now)) }
+    ensures { IfOk result (λ found. IfSome found (IsFlawOf measure.now text.now)) }
 {
     match measure {
         Measure::Optimum { task, .. } => {
             let found = flaw_in(alloc, task.len() as u32, orders_of(task), text)?;
             Ok(found)
         }
-        Measure::Bound { task, .. } => {
-            let found = flaw_in(alloc, task.len() as u32, problem_orders_of(task), text)?;
-            Ok(found)
-        }
+        Measure::Bound { task, .. } => problem_flaw(alloc, task, text),
     }
+}
+
+// The same of any problem.
+fn problem_flaw<A: Allocator + Copy, B: Allocator>(
+    alloc: A,
+    task: &ProblemTask<B>,
+    text: &[u8],
+) -> Result<Option<Flaw>, OutOfMemory>
+    ensures { IfOk result (λ found. IfSome found (IsProblemFlaw task.now text.now)) }
+{
+    if matches!(task.problem().env, Env::JobShop) {
+        return operation_flaw(alloc, task, text);
+    }
+    let found = flaw_in(alloc, task.len() as u32, problem_orders_of(task), text)?;
+    Ok(found)
 }
 
 /// How many machines have an order of their own.

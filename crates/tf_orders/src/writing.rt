@@ -79,6 +79,8 @@ pub(crate) fn push_flaw<A: Allocator>(
         Flaw::Word(place) => push_number_line(text, b"wrong word", place),
         Flaw::Twice(job) => push_number_line(text, b"wrong twice", job.get()),
         Flaw::Missing(job) => push_number_line(text, b"wrong missing", job.get()),
+        Flaw::Seldom(job) => push_number_line(text, b"wrong seldom", job.get()),
+        Flaw::Often(job) => push_number_line(text, b"wrong often", job.get()),
         Flaw::Lists => {
             text.extend_from_slice(b"wrong lists\n")?;
             Ok(())

@@ -1,7 +1,5 @@
 -- What a problem uses of a job table.
-use Rattle.std.specs.Prelude.{ℕ, Bool, true, false, ◌==◌, Option, None, Some}
-use Rattle.tf_model.specs.declared.problem.Env.{Env}
-use Rattle.tf_model.specs.declared.problem.Env.TheVariants.{Single, Parallel, Uniform, Unrelated, Flow, OpenShop, JobShop}
+use Rattle.std.specs.Prelude.{Bool, true, false, ◌||◌, not}
 use Rattle.tf_model.specs.declared.problem.Goal.{Goal}
 use Rattle.tf_model.specs.declared.problem.Goal.TheVariants.{Cmax, Lmax, Hmax, SumC, SumWC, SumT, SumWT, SumU, SumWU}
 use Rattle.tf_model.specs.declared.problem.Problem.{Problem}
@@ -39,20 +37,8 @@ has_cost SumWT = false
 has_cost SumU = false
 has_cost SumWU = false
 
--- no number of machines, or two
-abbrev pub is_two : Option ℕ → Bool
-is_two None = true
-is_two (Some machines) = machines == 2
-
--- the machines are alike, or they are two, of a flow shop or an open shop
-abbrev pub is_written_env : Env → Option ℕ → Bool
-is_written_env Single count = true
-is_written_env Parallel count = true
-is_written_env Uniform count = false
-is_written_env Unrelated count = false
-is_written_env Flow count = is_two count
-is_written_env OpenShop count = is_two count
-is_written_env JobShop count = false
-
-abbrev pub is_written : Problem → Bool
-is_written problem = is_written_env problem.env problem.count
+-- nothing of a job is used but its processing times
+abbrev pub has_times_alone : Problem → Bool
+has_times_alone problem =
+    not ((has_weight problem.goal || (has_due problem.goal || has_cost problem.goal))
+    || (problem.release || problem.prec))

@@ -1,8 +1,8 @@
 //! What a problem uses of a job table.
 ghost use Rattle.std.specs.Prelude.{◌≡◌};
-ghost use Rattle.tf_random.specs.Fields.{has_cost, has_due, has_weight, is_written};
+ghost use Rattle.tf_random.specs.Fields.{has_cost, has_due, has_times_alone, has_weight};
 
-use tf_model::problem::{Env, Goal, Problem};
+use tf_model::problem::{Goal, Problem};
 
 /// Whether the objective uses weights.
 pub fn has_weight(goal: Goal) -> bool
@@ -28,14 +28,10 @@ pub fn has_cost(goal: Goal) -> bool
     matches!(goal, Goal::Hmax)
 }
 
-/// Whether a job table has what the problem needs: the machines are alike, or they are two, of a
-/// flow shop or an open shop.
-pub fn is_written(problem: &Problem) -> bool
-    ensures { result ≡ is_written problem.now }
+/// Whether the problem uses nothing of a job but its processing times.
+pub fn has_times_alone(problem: &Problem) -> bool
+    ensures { result ≡ has_times_alone problem.now }
 {
-    match problem.env {
-        Env::Single | Env::Parallel => true,
-        Env::Flow | Env::OpenShop => matches!(problem.count, None | Some(2)),
-        Env::Uniform | Env::Unrelated | Env::JobShop => false,
-    }
+    let fields = has_weight(problem.goal) || has_due(problem.goal) || has_cost(problem.goal);
+    !(fields || problem.release || problem.prec)
 }

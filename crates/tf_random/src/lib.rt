@@ -1,4 +1,4 @@
-//! Random job tables for a problem: the same seed gives the same table everywhere.
+//! Random job tables and flow shop files for a problem: the same seed gives the same text everywhere.
 //!
 //! Number n of a seed is output n of the generator SplitMix64 (Steele, Lea and Flood 2014).
 #![tactic(auto)]
@@ -9,4 +9,5 @@ mod line;
 mod plan;
 pub mod run_random;
 mod table;
+mod times;
 mod writing;

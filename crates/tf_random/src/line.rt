@@ -1,34 +1,25 @@
 //! The lines of jobs and arcs.
 ghost use Rattle.std.specs.Prelude.{◌≡◌, ◌++◌, ◌<◌, ◌≤◌, OnOk};
 ghost use Rattle.tf_random.specs.Table.{arc, arc_line, cost, cost_if, due, fields, job_line};
-ghost use Rattle.tf_random.specs.Table.{release, rise, times};
+ghost use Rattle.tf_random.specs.Table.{release, rise};
 
 use crate::plan::Plan;
+use crate::times::push_times;
 use crate::writing::{push_part, push_part_if};
+use std::alloc::Global;
 use tf_model::memory::OutOfMemory;
 
 /// Adds the line of job k, k from 1.
 #[tactic(auto, unfolding(crate::specs::Table::job_line))]
-pub fn push_job(text: &mut Vec<u8>, plan: &Plan, k: u32) -> Result<(), OutOfMemory>
+pub fn push_job(alloc: Global, text: &mut Vec<u8>, plan: &Plan, k: u32) -> Result<(), OutOfMemory>
     requires { 0 < k }
     ensures { OnOk result (text.new.items ≡ text.old.items ++ job_line plan.now k) }
 {
-    push_times(text, plan, k)?;
+    push_times(alloc, text, plan, k)?;
     push_fields(text, plan, k)?;
     push_cost_if(text, plan, k)?;
     text.extend_from_slice(b"\n")?;
     Ok(())
-}
-
-// The job's number and its processing times.
-fn push_times(text: &mut Vec<u8>, plan: &Plan, k: u32) -> Result<(), OutOfMemory>
-    requires { 0 < k }
-    ensures { OnOk result (text.new.items ≡ text.old.items ++ times plan.now k) }
-{
-    let most = u64::from(plan.most.max(1));
-    push_part(text, b"job ", u64::from(k))?;
-    push_part(text, b" p=", plan.value(k, 1, most) + 1)?;
-    push_part_if(text, plan.second, b",", plan.value(k, 2, most) + 1)
 }
 
 // The fields that are numbers.

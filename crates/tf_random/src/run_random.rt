@@ -1,4 +1,4 @@
-//! A random job table for a problem in three-field notation.
+//! A random job table, or flow shop file, for a problem in three-field notation.
 ghost use Rattle.std.specs.Prelude.{◌≡◌, MatchResult};
 ghost use Rattle.tf_random.specs.Asked.{IsFaultOf, IsTableFor};
 
@@ -15,7 +15,7 @@ pub struct Wanted<'a> {
     pub problem: &'a str,
     /// The number of jobs, from 1.
     pub jobs: u32,
-    /// The number of machines, where they are parallel and the problem names none.
+    /// The number of machines, where there may be several and the problem names none.
     pub machines: Option<u32>,
     /// The longest processing time, from 1.
     pub most: u32,
@@ -27,12 +27,12 @@ pub struct Wanted<'a> {
 pub enum RandomFault {
     /// The problem is not in three-field notation.
     Notation(NotationFault),
-    /// A job table has no place for what the problem needs.
+    /// Neither a job table nor a flow shop file has a place for what the problem needs.
     NotInATable,
     OutOfMemory,
 }
 
-/// The random table that is wanted.
+/// The random table or flow shop file that is wanted.
 pub fn run_random(alloc: Global, wanted: &Wanted<'_>) -> Result<Vec<u8>, RandomFault>
     ensures { MatchResult result (λ text. IsTableFor wanted.now text.items) (IsFaultOf wanted.now) }
 {

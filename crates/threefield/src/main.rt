@@ -2,17 +2,22 @@
 #![tactic(auto)]
 
 mod files;
+mod output;
 
 use files::Files;
+use output::Output;
 use std::alloc::AllocError;
 use std::io;
-use std::io::{IsTerminal, Stdout, Write};
+use std::io::{IsTerminal, Write};
 use std::process::ExitCode;
 use tf_command::console::Console;
-use tf_command::report::{say_memory, say_usage};
+use tf_command::formatted::JSON_MEMORY;
+use tf_command::gathered::send;
+use tf_command::report::{say_device, say_memory, say_usage};
 use tf_grammar::grammar::command;
 use tf_held::program::perform_asked;
-use tf_options::options::understand;
+use tf_options::command_line::understand;
+use tf_options::options::Asked;
 use tf_text::counted::Counted;
 
 /// The largest freed block, in bytes, that the allocator keeps. A table of 100,000 jobs is seldom
@@ -44,20 +49,48 @@ fn program(rt: &HostRuntime) -> u8 {
     let Ok(words) = words else {
         return say_memory(&mut errors);
     };
-    let Ok(command) = command(rt.alloc()) else {
-        return say_memory(&mut errors);
-    };
     let words = words.as_slice();
-    let asked = understand(command, words, rt.stderr().is_terminal());
-    perform_asked(&mut console(rt, errors), &Files { rt }, asked, words)
+    let Ok(command) = command(rt.alloc()) else {
+        return say_early_memory(&mut errors, words);
+    };
+    let line = understand(command, words, rt.stderr().is_terminal());
+    if let Asked::NoMemory = line.asked {
+        return say_early_memory(&mut errors, words);
+    }
+    let mut console = console(rt, errors, Output::of(rt, line.output));
+    let status = perform_asked(&mut console, &Files { rt }, line.asked, words);
+    end_output(&mut console, status)
 }
 
-/// Standard output, standard error and the memory of the process.
-fn console<E: Write + Drop>(rt: &HostRuntime, errors: Counted<E>) -> Console<Stdout, E> {
+/// Says that there was no memory before a command ran, as JSON where that is asked for, and gives the
+/// exit status.
+fn say_early_memory<E: Write>(errors: &mut Counted<E>, words: &[String]) -> u8 {
+    if words.iter().any(|word| word.as_str() == "--json") {
+        send(errors, JSON_MEMORY);
+        return 3;
+    }
+    say_memory(errors)
+}
+
+/// Where the output goes, standard error and the memory of the process.
+fn console<'a, E: Write + Drop>(
+    rt: &'a HostRuntime,
+    errors: Counted<E>,
+    output: Output<'a>,
+) -> Console<Output<'a>, E> {
     Console {
         alloc: rt.alloc(),
-        writer: Counted::new(rt.stdout()),
+        writer: Counted::new(output),
         errors,
         is_terminal: rt.stderr().is_terminal(),
     }
+}
+
+/// Makes the file of an output that is empty where a command ended well, and gives the exit status.
+fn end_output<E: Write>(console: &mut Console<Output<'_>, E>, status: u8) -> u8 {
+    let is_answered = matches!(status, 0 | 1 | 6);
+    if is_answered && console.writer.inner().make_if_unwritten().is_err() {
+        return say_device(&mut console.errors);
+    }
+    status
 }

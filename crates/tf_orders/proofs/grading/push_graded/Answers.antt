@@ -1,8 +1,8 @@
-use Rattle.std.proofs.Common.{◌≡◌, ◌+◌, ◌-◌, ◌≤◌, ◌∷◌, ◌++◌, [], Some, ap, append_assoc, arith, drop, length, subst, sym, take, ◌∙◌}
+use Rattle.std.proofs.Common.{◌≡◌, ◌+◌, ◌-◌, ◌≤◌, ◌∷◌, ◌++◌, [], None, Some, ap, append_assoc, arith, drop, length, subst, sym, take, ◌∙◌}
 use Rattle.std.specs.List.{position}
 use Rattle.std.proofs.lemmas.List.{length-drop, take_all}
 use Rattle.tf_orders.specs.OrderText.{IsGradedOrder, is_colon, spaced}
-use Rattle.tf_orders.proofs.Graded.{graded_labelled}
+use Rattle.tf_orders.proofs.Graded.{graded_labelled, graded_plain}
 use Rattle.tf_orders.proofs.grading.push_graded.Goals as goal
 
 pub returns : goal.returns
@@ -24,3 +24,11 @@ returns g c =
           ∙ append_assoc out label (32 ∷ []))
           ∙ append_assoc out (label ++ 32 ∷ []) row,
     )
+
+-- without a colon
+pub returns-in_default : goal.returns-in_default
+returns-in_default g c =
+    let text = c.args.text.now in
+    let (row, graded, written) = c.in_ok-push_order.ensures in
+    let none : position is_colon text ≡ None = sym c.colon_in.ensures ∙ c.in_default.is in
+    (row, graded_plain c.args.measure.now text row none graded, written)

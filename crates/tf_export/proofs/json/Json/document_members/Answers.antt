@@ -1,7 +1,7 @@
 use Rattle.std.proofs.Common.{OnOk, [], ◌∷◌, codes, sym, subst}
 use Rattle.tf_export.specs.Adds.{Adds}
 use Rattle.tf_export.specs.Documents.{document_members, parts_array}
-use Rattle.tf_export.specs.declared.documents.Part.TheVariants.{Problem}
+use Rattle.tf_export.specs.declared.documents.Part.TheVariants.{Problem, Known}
 use Rattle.tf_export.proofs.json.Json.document_members.Goals as goal
 
 pub returns-in-Answer : goal.returns-in-Answer
@@ -48,3 +48,20 @@ returns-in-Plan c =
     subst (λ document. OnOk c.plan_members.result
     (Adds c.args.self.now c.plan_members.new.self (document_members document c.args.text.now)))
     (sym c.in-Plan.is) c.plan_members.ensures
+
+pub returns-in-Border : goal.returns-in-Border
+unfolding document_members
+returns-in-Border c =
+    subst (λ document. OnOk c.parts_array-in-Border.result
+    (Adds c.args.self.now c.parts_array-in-Border.new.self (document_members document c.args.text.now)))
+    (sym c.in-Border.is)
+    (subst (λ all. OnOk c.parts_array-in-Border.result (Adds c.args.self.now c.parts_array-in-Border.new.self
+    (parts_array (codes "problems") Known all ∷ []))) c.behind_heading-in-Border.ensures
+    c.parts_array-in-Border.ensures)
+
+pub returns-in-Orders : goal.returns-in-Orders
+unfolding document_members
+returns-in-Orders c =
+    subst (λ document. OnOk c.orders_members.result
+    (Adds c.args.self.now c.orders_members.new.self (document_members document c.args.text.now)))
+    (sym c.in-Orders.is) c.orders_members.ensures

@@ -38,3 +38,21 @@ returns-in-Bounded c =
     subst (λ part. OnOk c.bounded_in.result
     (Adds c.args.self.now c.bounded_in.new.self (part_in part c.args.line.now c.args.next.now)))
     (sym c.in-Bounded.is) c.bounded_in.ensures
+
+pub returns-in-Known : goal.returns-in-Known
+returns-in-Known c =
+    subst (λ part. OnOk c.known_in.result
+    (Adds c.args.self.now c.known_in.new.self (part_in part c.args.line.now c.args.next.now)))
+    (sym c.in-Known.is) c.known_in.ensures
+
+pub returns-in-Order : goal.returns-in-Order
+returns-in-Order c =
+    subst (λ part. OnOk c.order_in.result
+    (Adds c.args.self.now c.order_in.new.self (part_in part c.args.line.now c.args.next.now)))
+    (sym c.in-Order.is) c.order_in.ensures
+
+pub returns-in-Mark : goal.returns-in-Mark
+returns-in-Mark c =
+    subst (λ part. OnOk c.mark_in.result
+    (Adds c.args.self.now c.mark_in.new.self (part_in part c.args.line.now c.args.next.now)))
+    (sym c.in-Mark.is) c.mark_in.ensures

@@ -2,7 +2,8 @@ use Rattle.std.proofs.Common.{ℕ, List, sym, subst, ◌∙◌}
 use Rattle.std.proofs.lemmas.Bool.{eqb-true}
 use Rattle.tf_words.specs.Words.{lines}
 use Rattle.tf_export.specs.Adds.{Adds}
-use Rattle.tf_export.specs.Documents.{first_of, part_in, parts}
+use Rattle.tf_export.specs.Lines.{first_of}
+use Rattle.tf_export.specs.Documents.{part_in, parts}
 use Rattle.tf_export.proofs.Saying.{parts_next, parts_none}
 use Rattle.tf_export.proofs.Adding.{next, done}
 use Rattle.tf_export.proofs.json.Json.parts.Goals as goal

@@ -1,7 +1,7 @@
 use Rattle.std.proofs.Common.{drop, sym, ap, ◌∙◌}
 use Rattle.std.proofs.lemmas.Bool.{eqb-true}
 use Rattle.tf_words.proofs.Lines.{line_none}
-use Rattle.tf_export.proofs.documents.behind_heading.Goals as goal
+use Rattle.tf_export.proofs.line.behind_heading.Goals as goal
 
 pub returns-then-is_empty : goal.returns-then-is_empty
 returns-then-is_empty c =

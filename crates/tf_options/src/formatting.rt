@@ -1,0 +1,62 @@
+//! Work whose output is written in a format.
+ghost use Rattle.std.specs.Prelude.{◌≡◌};
+ghost use Rattle.tf_options.specs.Columns.{HasColumns, IsSized};
+ghost use Rattle.tf_options.specs.FormatAsked.{border_format, orders_format, source_in_format};
+ghost use Rattle.tf_options.specs.FormatAsked.{work_in_format};
+
+use crate::format::Format;
+use crate::options::{Asked, Options, OrderSource, Work};
+use tf_export::documents::Document;
+
+/// Work with its output in this format: a list of orders with the numbers of their lines, from which
+/// each format of such a list is made.
+pub(crate) fn work_in_format(work: Work<'_>, format: Format) -> Asked<'_>
+    requires { IsSized work }
+    ensures columns { HasColumns result }
+    ensures format { result ≡ work_in_format work.entry format }
+{
+    match work {
+        Work::Rate(options, source) => source_in_format(options, source, format),
+        Work::Border => Asked::Formatted(Work::Border, border_format(format)),
+        other => Asked::Formatted(other, format),
+    }
+}
+
+// Evaluations of orders or pieces with their output in this format.
+fn source_in_format<'a>(options: Options<'a>, source: OrderSource<'a>, format: Format) -> Asked<'a>
+    ensures columns { HasColumns result }
+    ensures format { result ≡ source_in_format options.entry source.entry format }
+{
+    match source {
+        OrderSource::Named { name, goes_on, .. } => {
+            let orders = OrderSource::Named {
+                name,
+                goes_on,
+                is_numbered: true,
+            };
+            Asked::Formatted(Work::Rate(options, orders), orders_format(format))
+        }
+        other => Asked::Formatted(Work::Rate(options, other), format),
+    }
+}
+
+// The format of a list of orders.
+fn orders_format(format: Format) -> Format
+    ensures { result ≡ orders_format format }
+{
+    match format {
+        Format::Json(_) => Format::Json(Document::Orders),
+        Format::Csv(_) | Format::OrderRows => Format::OrderRows,
+        Format::Summary => Format::Summary,
+    }
+}
+
+// The format of the list of which problems are polynomial.
+fn border_format(format: Format) -> Format
+    ensures { result ≡ border_format format }
+{
+    match format {
+        Format::Json(_) => Format::Json(Document::Border),
+        other => other,
+    }
+}
