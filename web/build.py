@@ -13,27 +13,25 @@ one script, this one style and a worker, no network, and no script or markup mad
 """
 import base64
 import hashlib
+import lzma
 import re
-import shutil
-import subprocess
 import sys
-import tempfile
-import zlib
 from pathlib import Path
 
 from lower import has_64_bit_memory, lowered, version
+from spaces import script_without_spaces, style_without_spaces
 
 HERE = Path(__file__).resolve().parent
 SOURCES = HERE / "src"
 PAGE = HERE / "threefield.html"
-MOST_BYTES = 700_000
-# The letters of the packed module, as solver.js reads them: ASCII from # to ~ without <, which could end it in the page.
+MOST_BYTES = 650_000
+# The letters of the packed module, as unpacking.js reads them: ASCII from # to ~ without <, which could end it in the page.
 LETTERS = "".join(map(chr, [*range(35, 60), *range(61, 127)]))
+# As unpacking.js decodes it.
+PACKING = [{"id": lzma.FILTER_LZMA1, "lc": 3, "lp": 0, "pb": 0, "dict_size": 1 << 24, "nice_len": 273, "depth": 2000}]
 
 IMPORT = re.compile(r'^import (\{[^}]*\}|\* as \w+) from "\./(\w+)\.js";\n', re.MULTILINE)
 EXPORT = re.compile(r"^export (?=(?:async )?(?:function\*?|const|class) (\w+))", re.MULTILINE)
-COMMENT = re.compile(r"^ *(?://.*|/\*\*(?:[^*]|\*(?!/))*\*/)\n", re.MULTILINE)
-STYLE_COMMENT = re.compile(r"^ *//.*\n|^ */\*[^*]*\*/\n|^ *\n", re.MULTILINE)
 INDENT = re.compile(r"^[ \n]+", re.MULTILINE)
 MODULE_IN_PAGE = re.compile(r'(<script type="text/plain" id="module-bytes">)([^<]*)(</script>)')
 
@@ -63,7 +61,7 @@ def modules_of(folder, entry):
 
 def wrapped(folder, name):
     """A module as a function that is called at once and returns the exports."""
-    text = COMMENT.sub("", read(folder, f"{name}.js"))
+    text = read(folder, f"{name}.js")
     imports = []
     for what, other in IMPORT.findall(text):
         target = what.removeprefix("* as ")
@@ -79,10 +77,15 @@ def wrapped(folder, name):
     return f"const ${name} = (() => {{\n{''.join(imports)}{body}{returned}}})();\n"
 
 
+def whole_script(folder, entry):
+    """The script of `entry` and all that it imports, with its comments and spaces."""
+    parts = [wrapped(folder, name) for name in modules_of(folder, entry)]
+    return '"use strict";\n(() => {\n' + "\n".join(parts) + "})();\n"
+
+
 def script(folder, entry):
     """The script of `entry` and all that it imports."""
-    parts = [wrapped(folder, name) for name in modules_of(folder, entry)]
-    text = INDENT.sub("", '"use strict";\n(() => {\n' + "\n".join(parts) + "})();\n")
+    text = script_without_spaces(whole_script(folder, entry))
     for mark in ("</script", "<!--"):
         if mark in text:
             sys.exit(f"build.py: {mark} stands in a source of {entry}.js, and would end the script in the page")
@@ -107,20 +110,9 @@ def policy(main, style):
     ])
 
 
-def deflated(module):
-    """Deflated by Debian's zopfli where it is installed, which packs a twentieth smaller, and else by zlib."""
-    if shutil.which("zopfli") is None:
-        deflate = zlib.compressobj(9, zlib.DEFLATED, -15)
-        return deflate.compress(module) + deflate.flush()
-    with tempfile.NamedTemporaryFile() as file:
-        file.write(module)
-        file.flush()
-        return subprocess.run(["zopfli", "--deflate", "-c", file.name], capture_output=True, check=True).stdout
-
-
 def packed(module):
-    """The module deflated, as text: how many bytes that are, and two letters for each 13 bits of them, the lowest first."""
-    data = deflated(module)
+    """The module in LZMA as text: how many bytes it has, and two letters for each 13 bits, the lowest first."""
+    data = lzma.compress(module, lzma.FORMAT_RAW, filters=PACKING)
     bits, held, letters = 0, 0, []
     for byte in [*data, 0, 0]:
         bits |= byte << held
@@ -129,7 +121,7 @@ def packed(module):
             letters += [LETTERS[bits % 8192 % 91], LETTERS[bits % 8192 // 91]]
             bits >>= 13
             held -= 13
-    return f"{len(data)} {''.join(letters)}"
+    return f"{len(module)} {''.join(letters)}"
 
 
 def unpacked(text):
@@ -143,12 +135,12 @@ def unpacked(text):
             data.append(bits & 255)
             bits >>= 8
             held -= 8
-    return zlib.decompress(bytes(data[:int(count)]), -15)
+    return lzma.LZMADecompressor(lzma.FORMAT_RAW, filters=PACKING).decompress(bytes(data), int(count))
 
 
 def page(folder, module_text):
     """The whole page, with the packed module as it is given."""
-    main, style = script(folder, "main"), INDENT.sub("", STYLE_COMMENT.sub("", read(folder, "style.css")))
+    main, style = script(folder, "main"), style_without_spaces(read(folder, "style.css"))
     text = INDENT.sub("", read(folder, "index.html"))
     for mark, value in (
         ("/*POLICY*/", policy(main, style)),
@@ -174,7 +166,7 @@ def module_in(text):
 def check(module, is_lowered):
     """Whether the page in the repository is what the sources and the module give.
 
-    Versions of zlib pack differently, so the module is compared unpacked, and all the rest byte for byte.
+    Versions of Python may pack differently, so the module is compared unpacked, and all the rest byte for byte.
     """
     there = PAGE.read_text(encoding="utf-8")
     kept = module_in(there)

@@ -20,12 +20,13 @@ const FORMS = [
 const MACHINES = { name: "--machines", letter: "-m", value: "M", allowed: NEGATIVE };
 const EXPLAIN = { name: "--explain", value: "WHEN", choices: ["auto", "always", "never"],
   missing: "always", isBuiltOnly: true };
+const OUTPUT = { name: "--output", letter: "-o", value: "FILE", isBuiltOnly: true };
 const INPUT = { name: "INPUT", isPlace: true, isRequired: true };
 const ANSWER = { name: "ANSWER", isPlace: true };
 const STEPS = { name: "--steps", value: "N", allowed: NEGATIVE };
 const JSON_TEXT = { name: "--json", isBuiltOnly: true };
 const CSV = { name: "--csv", rivals: ["--json"], isBuiltOnly: true };
-const INSTANCE = [PROBLEM, FORMAT, ...FORMS, MACHINES, EXPLAIN, INPUT];
+const INSTANCE = [PROBLEM, FORMAT, ...FORMS, MACHINES, EXPLAIN, OUTPUT, INPUT];
 
 const ofPicture = (name, value) =>
   ({ name, value, allowed: NEGATIVE, needs: "--svg", isBuiltOnly: true });
@@ -48,8 +49,10 @@ const COMMANDS = {
     inPlaceOfAnswer("--order", "JOBS", ["--rule", "--orders"]),
     { ...inPlaceOfAnswer("--rule", "RULE", ["--orders", "--schedule"]),
       choices: ["EDD", "SPT", "LPT", "WSPT", "ERD"] },
-    inPlaceOfAnswer("--orders", "FILE", ["--json", "--csv"]),
+    inPlaceOfAnswer("--orders", "FILE", []),
     { name: "--grade", needs: "--orders", rivals: ["--order", "--rule", "--schedule", "ANSWER"],
+      isBuiltOnly: true },
+    { name: "--summary", needs: "--orders", rivals: ["--csv", "--order", "--rule", "--schedule", "ANSWER"],
       isBuiltOnly: true },
     inPlaceOfAnswer("--schedule", "FILE", ["--order", "--orders"]),
     { ...ANSWER, substitutes: SCHEDULES }],
@@ -60,13 +63,13 @@ const COMMANDS = {
     { ...ofPicture("--size", "SIZE"), choices: ["a4", "a3", "16:9"],
       rivals: ["--width", "--height"] },
     { name: "--input", value: "INPUT", needs: "--svg", isBuiltOnly: true },
-    { ...FORMAT, needs: "--input" }, ...FORMS, EXPLAIN, ANSWER],
+    { ...FORMAT, needs: "--input" }, ...FORMS, EXPLAIN, OUTPUT, ANSWER],
   random: [PROBLEM, { name: "--jobs", value: "N", allowed: NEGATIVE, isRequired: true }, MACHINES,
     { name: "--seed", value: "S", allowed: NEGATIVE },
-    { name: "--max", value: "T", allowed: NEGATIVE }],
+    { name: "--max", value: "T", allowed: NEGATIVE }, OUTPUT],
   problems: [{ name: "--bounds", isBuiltOnly: true },
-    { name: "--border", rivals: ["--bounds", "--json", "FILE"], isBuiltOnly: true },
-    JSON_TEXT, { name: "FILE", isPlace: true }],
+    { name: "--border", rivals: ["--bounds", "FILE"], isBuiltOnly: true },
+    JSON_TEXT, OUTPUT, { name: "FILE", isPlace: true }],
 };
 
 /** The commands that the module does not have. */

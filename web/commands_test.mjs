@@ -13,8 +13,8 @@ const ABSENT = /^threefield: (\S+).* is not in the page's module/;
 
 // What no module has.
 const ABSENCES = ["--border", "--bound", "--bounds", "--csv", "--explain", "--fold", "--from",
-  "--height", "--index", "--input", "--json", "--measures", "--order", "--orders", "--rule",
-  "--schedule", "--steps", "--to", "--width", "random", "trace"];
+  "--height", "--index", "--input", "--json", "--measures", "--order", "--orders", "--output",
+  "--rule", "--schedule", "--steps", "--to", "--width", "random", "trace"];
 
 /** Opens the texts of a session in place of files. */
 const opening = (texts) => (name) => {
@@ -53,9 +53,7 @@ test("sessions give the program's bytes and status, or what is not in the module
   const sessions = JSON.parse(execFileSync("python3", words, { maxBuffer: MOST_BYTES }));
   const solver = await load();
   const places = {};
-  const known = takesJobShops(solver) ? sessions
-    : sessions.filter((session) => !session.place.startsWith("job-shops.txt:"));
-  for (const session of known) {
+  for (const session of sessions) {
     const given = await perform(session.words, async () => solver, opening(session.texts));
     (places[compared(session, given)] ??= []).push(session.place);
   }
@@ -66,13 +64,6 @@ test("sessions give the program's bytes and status, or what is not in the module
   const absences = solver.can("plan") ? ABSENCES : [...ABSENCES, "plan"].sort();
   assert.deepEqual(Object.keys(places).filter((what) => !others.includes(what)).sort(), absences);
 });
-
-/** Whether the module takes job shops: one that was built before the program took them refuses them. */
-function takesJobShops(solver) {
-  const instance = new TextEncoder().encode("table 1\njob 1 p=1@1\n");
-  const format = { kind: "table" };
-  return solver.run({ command: "bound", problem: "J||Cmax", machines: null, format, instance }).status === 0;
-}
 
 /** Runs the command as a process. */
 function run(words, input = "") {

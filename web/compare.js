@@ -28,8 +28,9 @@ const SOLVED = ["1||sumC", "1|prmp|sumC", "1||sumwC", "1|prmp|sumwC", "1||Lmax",
   "1|prec,prmp|Lmax", "1|rj,prmp|Lmax", "1||hmax", "1|prmp|hmax", "1|prec|hmax", "1|prec,prmp|hmax", "P2||sumC",
   "P||sumC", "P3|prmp|Cmax", "P|prmp|Cmax", "F2||Cmax", "F2|prmp|Cmax", "O2||Cmax", "O2|prmp|Cmax"];
 const HARD = ["P2||Cmax", "P||Cmax", "1|rj|Lmax", "1|rj|sumwC", "1||sumwT", "1||sumU", "1||sumwU", "1||sumT", "P2||sumwC",
-  "P2|rj|Lmax", "F2||sumC", "F2|rj|Lmax", "O2||sumwC", "O2||Lmax", "1|rj,prec|sumC", "F2|nwt|Cmax"];
-const ODD = ["", "1||", "1||Lmaxx", "F3||Cmax", "J2||Cmax", "é||Lmax", "1|prec,prec|Lmax", "P0||Cmax", "R||Cmax"];
+  "P2|rj|Lmax", "F2||sumC", "F2|rj|Lmax", "O2||sumwC", "O2||Lmax", "1|rj,prec|sumC", "F2|nwt|Cmax", "J||Cmax", "J3||Cmax",
+  "J||Lmax", "Jm|rj|Lmax", "J||sumwC", "J|prec|sumT", "J||sumwU", "J|nwt|Cmax"];
+const ODD = ["", "1||", "1||Lmaxx", "F3||Cmax", "J2|rcrc|Cmax", "J0||Cmax", "J||hmax", "R2||Cmax", "é||Lmax", "1|prec,prec|Lmax", "P0||Cmax", "R||Cmax"];
 const problem = command => {
   if (once(30)) return pick(ODD);
   return pick(once(10) === ["plan", "bound"].includes(command) ? SOLVED : HARD);
@@ -57,10 +58,13 @@ function moved(answer) {
 
 function table(of) {
   const jobs = 1 + random(once(8) ? 40 : 7), two = /^[FO]/.test(of) !== once(20), long = once(30) ? 10 ** 12 : 1, odd = once(8);
+  const isRouted = /^J/.test(of) !== once(20);
   const lines = ["table 1"];
   if (once(15)) lines.push(`machines ${1 + random(4)}`);
   for (let k = 1; k <= jobs; k++) {
-    const fields = [`p=${(odd && once(9) ? 0 : 1 + random(9)) * long}${two ? "," + random(9) * long : ""}`];
+    const time = () => (odd && once(9) ? 0 : 1 + random(9)) * long;
+    const fields = [isRouted && !(odd && once(9)) ? `p=${route(time, odd)}`
+      : `p=${time()}${two ? "," + random(9) * long : ""}`];
     if (!(odd && once(9))) fields.push(`w=${random(9)}`);
     if (!(odd && once(9))) fields.push(`d=${random(40) - 5}`);
     if (!(odd && once(9))) fields.push(`r=${random(15)}`);
@@ -75,6 +79,19 @@ function table(of) {
     }
   }
   return lines.join("\n") + (once(9) ? "" : "\n");
+}
+// Some of four machines in a random order, and oddly one of them twice or one that there isn't.
+function route(time, odd) {
+  const machines = [1, 2, 3, 4].sort(() => random(3) - 1).slice(0, 1 + random(4));
+  if (odd && once(6)) machines.push(pick([machines[0], 0, 9, 1001]));
+  return machines.map(machine => `${time()}@${machine}`).join(odd && once(20) ? ", " : ",");
+}
+function jobShop() {
+  const jobs = 1 + random(5), machines = 1 + random(4), name = pick(["demo", "a"]);
+  const row = () => Array.from({ length: machines }, (_, k) => k).sort(() => random(3) - 1)
+    .map(k => `${once(40) ? random(5) : k} ${random(9)}`).join(" ");
+  const text = ` instance ${name}\n +++\n ${jobs} ${machines}\n${Array.from({ length: jobs }, row).join("\n")}\n`;
+  return [text, { kind: "flow", word: pick(["flow", "jobshop"]), name: once(12) ? "other" : name, pair: null }];
 }
 function tardiness() {
   const jobs = 1 + random(6), row = () => Array.from({ length: jobs }, () => random(20)).join(pick([" ", "  ", "\t"]));
@@ -91,6 +108,7 @@ function flowShop() {
 function instance(of) {
   if (once(40) || (/^1\|(prmp)?\|/.test(of) && once(5))) return tardiness();
   if (once(40) || (/^F/.test(of) && once(3))) return flowShop();
+  if (once(60) || (/^J/.test(of) && once(3))) return jobShop();
   return [table(of), { kind: "table" }];
 }
 
@@ -100,7 +118,7 @@ function words(request) {
   if (request.command === "gantt") return ["gantt", "-c", String(request.columns), "ANSWER"];
   if (request.command === "picture") return ["gantt", "--svg", "ANSWER"];
   return [
-    request.command, "-p", request.problem, "-f", format.kind,
+    request.command, "-p", request.problem, "-f", format.word ?? format.kind,
     ...(format.kind === "wt" ? ["--jobs", String(format.jobs), "--index", String(format.index)] : []),
     ...(format.kind === "flow" ? ["--name", format.name] : []),
     ...(format.kind === "flow" && format.pair ? ["--pair", format.pair.join(",")] : []),
@@ -118,7 +136,7 @@ function requestOf(solver, command) {
   const machines = once(15) || /^P\|/.test(of) && !once(8) ? random(once(9) ? 3000 : 5) : null;
   const asked = { problem: of, machines, format, instance: bytes, answerVersion: 1 + random(2) };
   const request = { command, certificate: command === "evaluate" && once(2), columns: random(once(9) ? 2000 : 120),
-    steps: once(2) ? null : random(once(9) ? 3 : 300), answer: new Uint8Array(0), ...asked };
+    steps: /^J/.test(of) ? random(4) : once(2) ? null : random(once(9) ? 3 : 300), answer: new Uint8Array(0), ...asked };
   if (["solve", "plan", "bound", "problems"].includes(command)) return request;
   const solved = solver.run({ command: "solve", ...asked });
   const example = "answer 2\nproblem 1||sumC\njobs 1\nmachines 1\nvalue 3\npiece 1 1 0 3\ncert pairs\nend\n";

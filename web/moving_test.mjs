@@ -135,3 +135,50 @@ test("a state has the own plan, whatever somebody wrote there", () => {
   const [first] = own([[0, 0, "1", -1, 1.5, 7, null, [1], "length"]]);
   assert.equal(first.length, 1);
 });
+
+test("a step of a job shop goes before or behind its neighbour on its own machine", () => {
+  const plan = planOf("J||Cmax", 2, [[1, 1, 0, 3], [2, 1, 3, 6], [2, 2, 0, 2], [1, 2, 3, 7]]);
+  assert.equal(whyFixed(plan), "");
+  assert.match(whyFixed({ ...plan, problem: "J|nwt|Cmax" }), /^Bars of a job shop without waiting/);
+  const rows = rowsOf(plan);
+  assert.deepEqual(rows, [[0, 1], [1, 0]]);
+  const step = (job, way, machine) => {
+    const target = targetBeside(plan, job, way, machine);
+    return target && movedRows(rows, job, target, true);
+  };
+  assert.deepEqual(step(0, "left", 2), [[0, 1], [0, 1]]);
+  assert.deepEqual(step(0, "right", 1), [[1, 0], [1, 0]]);
+  assert.deepEqual([step(0, "left", 1), step(0, "down", 1), step(0, "up", 2)], [null, null, null]);
+});
+
+test("an own plan of a job shop follows its routes, whatever becomes of the jobs", () => {
+  const problem = readNotation("J||Cmax");
+  const job = (id, ...machines) => ({ id, time: 1, steps: machines.map((machine) => ({ machine,
+    time: 1 })) });
+  const own = [[20, 10], [10, 30]];
+  const places = (...jobs) => placesOf(own, jobs, 2, problem);
+  assert.deepEqual(places(job(10, 1, 2), job(20, 1), job(30, 2)), [[1, 0], [0, 2]]);
+  assert.deepEqual(places(job(20, 2), job(40, 2, 1), job(10, 1)), [[2, 1], [0, 1]]);
+  assert.equal(places(job(50, 1)), null);
+  assert.equal(placesOf(own, [job(10, 1, 3)], 3, problem), null);
+  const rows = ["A", "B"].map((name) => newRow({ name, route: "1@1,1@2" }));
+  const ids = rows.map(({ id }) => id);
+  const state = { ...emptyState(), problem: "J||Cmax", rows, own: [ids, [ids[1], ids[0], ids[0]]] };
+  const read = readState(writeState(state));
+  const again = read.rows.map(({ id }) => id);
+  assert.deepEqual(read.own, [again, [again[1], again[0]]]);
+});
+
+test("steps start as early as their routes and machines allow, and a circle leaves a route", async () => {
+  const fields = ["name", "route", "release", "after"];
+  const now = await asked("J|rj,prec|Cmax", [{ name: "A", route: "3@1,4@2" },
+    { name: "B", route: "2@2,3@1", release: "1" }, { name: "C", route: "1@2", after: "B" }], fields);
+  const pieces = (rows) => piecesOf(answerOfRows(rows, now, 2));
+  assert.deepEqual(pieces([[0, 1], [1, 0, 2]]),
+    ["1 1 0 3", "2 2 1 3", "2 1 3 6", "1 2 3 7", "3 2 7 8"]);
+  assert.deepEqual(pieces([[1, 0], [1, 2, 0]]),
+    ["2 2 1 3", "2 1 3 6", "1 1 6 9", "3 2 6 7", "1 2 9 13"]);
+  const circle = pieces([[1, 0], [0, 1, 2]]);
+  assert.equal(circle.length, 5);
+  assert.deepEqual(circle[0], "2 1 1 4", "B is on machine 1 before machine 2");
+});

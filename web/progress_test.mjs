@@ -122,3 +122,59 @@ test("of a shop the work on one machine is ticked off", async () => {
     .rows[0].left;
   assert.deepEqual([left(0), left(1), left(null)], ["0 h; 1 h", "3 h; 0 h", "done"]);
 });
+
+/** A plan of pieces: job, machine, start and stop; its state, and what is ticked off next. */
+async function plainPlan(problem, cells, columns, pieces, start = "") {
+  const rows = cells.map((row) => newRow(row));
+  const state = { ...emptyState(), problem, rows, settings: { ...defaultSettings(), start } };
+  const { calendar: of } = makeCalendar(state.settings);
+  const table = await tableOf(rows, of, columns);
+  const list = (k) => Float64Array.from(pieces, (piece) => piece[k]);
+  const plan = makePlan(table, { problem, jobs: table.jobs.length, machines: 2, value: "0",
+    certificate: "", bound: null, job: list(0), machine: list(1), start: list(2), stop: list(3) },
+  null, of, []);
+  const tick = (job, piece = null) => {
+    const { rows: after, settings } = tickedOff(state, of, plan, job, piece, new Date());
+    return [settings.start, ...after.map(({ left }) => left)];
+  };
+  return { table, plan, tick };
+}
+
+test("plain numbers have no clock: the plan says what time it is when a job is done", async () => {
+  const cells = [{ name: "A", time: "5" }, { name: "B", time: "3" }, { name: "C", time: "4" }];
+  const { tick } = await plainPlan("P2||sumC", cells, ["name", "time"],
+    [[2, 1, 0, 3], [1, 1, 3, 8], [3, 2, 0, 4]]);
+  assert.deepEqual(tick(1), ["3", "", "done", "1"], "C is under way");
+  assert.deepEqual(tick(2), ["4", "4", "", "done"], "so is A, and B was not ticked");
+  assert.deepEqual(tick(0), ["5", "done", "", ""], "A before B");
+});
+
+test("a plan in plain numbers goes on from where it is, in its own numbers", async () => {
+  const { calendar: later } = makeCalendar({ ...defaultSettings(), start: "6" });
+  const rows = [{ name: "A", time: "2", due: "9", release: "7", cost: "0,5:10,9:20", left: "1" },
+    { name: "B", time: "3", due: "4", release: "2", cost: "-1,8:3" }].map((row) => newRow(row));
+  const table = await tableOf(rows, later, ["name", "time", "due", "release", "cost"]);
+  assert.equal(textOf(table),
+    "table 1\njob 1 p=1 d=3 r=1 h=10,3:20\njob 2 p=3 d=-2 r=0 h=-1,2:3\n");
+  assert.deepEqual(table.notes.map(({ row, field }) => `${row} ${field}`).sort(),
+    ["0 left", "1 due", "1 release"]);
+  assert.equal(momentField(later, 3, true), "9");
+  assert.deepEqual(["", "0", "2026-11-30"].map((start) =>
+    makeCalendar({ ...defaultSettings(), start }).calendar), [null, null, null]);
+  assert.match(makeCalendar({ ...defaultSettings(), start: "soon" }).faults[0].message,
+    /starts at a whole number; “soon” is none/);
+});
+
+test("a shop in plain numbers: the work on one machine is ticked, and the kept plan is compared", async () => {
+  const cells = [{ name: "A", time: "2", time2: "3" }, { name: "B", time: "4", time2: "1" }];
+  const columns = ["name", "time", "time2"];
+  const pieces = [[1, 1, 0, 2], [2, 1, 2, 6], [1, 2, 2, 5], [2, 2, 6, 7]];
+  const { plan, tick } = await plainPlan("F2||Cmax", cells, columns, pieces);
+  assert.deepEqual(tick(0, 0), ["2", "0; 3", ""]);
+  assert.deepEqual(tick(0, 2), ["5", "2; 0", "1; 1"]);
+  const kept = keepPlan(plan);
+  const rest = await plainPlan("F2||Cmax", cells, columns,
+    [[1, 2, 0, 3], [2, 1, 0, 4], [2, 2, 4, 5]], "2");
+  const named = { ...kept, ids: rest.plan.jobs.map(({ id }) => id) };
+  assert.deepEqual([...comparePlans(named, rest.plan).moved.values()].filter((by) => by !== 0), []);
+});

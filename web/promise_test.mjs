@@ -1,21 +1,16 @@
 // What can be promised for a new order, by the module of the page: node --test web/*_test.mjs
 import assert from "node:assert/strict";
-import { readFileSync } from "node:fs";
-import { createRequire } from "node:module";
 import { test } from "node:test";
-import { inflateRawSync } from "node:zlib";
 import { load, tableOf } from "./modules.mjs";
+import { load as loadSolver } from "./solver.mjs";
 
-const { loadSolver, packedBytes } = createRequire(import.meta.url)("./src/solver.js");
 const { newRow } = await load("table");
 const { makePlan } = await load("plan");
 const { columnsUsed, readNotation } = await load("problems");
 const { plan, promise } = await load("runs");
 const { canPromise, promiseReason, promiseRequest } = await load("promise");
 
-const page = readFileSync(new URL("./threefield.html", import.meta.url), "utf8");
-const packed = /id="module-bytes">([^<]*)</.exec(page)[1];
-const solver = await loadSolver(inflateRawSync(packedBytes(packed)));
+const solver = await loadSolver();
 
 async function planned(problem, rows) {
   const table = await tableOf(rows.map((row) => newRow(row)), null,

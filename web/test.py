@@ -219,7 +219,7 @@ def headings_of_other_languages(page):
 
 @way
 def examples(page):
-    values = ["11 h", "1", "20", "24", "−1", "69"]
+    values = ["11 h", "1", "20", "24", "−1", "69", "17"]
     for number, wanted in enumerate(values):
         page.example(number)
         expect(page.plan_value(), wanted, f"example {number}")
@@ -391,12 +391,12 @@ def bound(page):
     page.click("#problem-notes button")
     page.settle()
     expect(page.text("#headline .proved"), "proved optimal")
-    page.notation("J2||Cmax")
+    page.notation("R2||Cmax")
     expect_in("neither an exact method nor a lower bound", page.text("#headline"))
 
 
 STUB = """
-        solver = await loadSolver(await unpack(data.module));
+        solver = await loadSolver(unpack(data.module));
         const { run } = solver, replies = REPLIES;
         solver = { ...solver, can: () => true, run: (request) => {
           const { command, problem, steps } = request;
@@ -418,8 +418,7 @@ def planned(problem, value, pieces, bound=None, status=6):
 def open_stubbed(page, replies):
     """The page with a module whose command `plan` gives these replies, by the problem."""
     text = Path(page.address.removeprefix("file://")).read_text(encoding="utf-8")
-    whole = "\n    solver = await loadSolver(await unpack(data.module));"
-    loading = "solver = await loadSolver(await unpack(data.module));"
+    loading = "solver=await loadSolver(unpack(data.module));"
     expect(text.count(loading), 1, "the loading of the module")
     path = Path(page.browser.folder.name) / "stubbed.html"
     path.write_text(text.replace(loading, STUB.replace("REPLIES", json.dumps(replies)).strip()), encoding="utf-8")
@@ -544,7 +543,7 @@ def judging_by_a_bound(page):
     page.type("#order", "A; B; C")
     page.click("#order-to-answer")
     page.wait("/it is optimal/.test(document.getElementById('judgement').innerText)")
-    page.notation("J2||Cmax")
+    page.notation("R2||Cmax")
     page.click("#judge-run")
     page.wait("/neither an exact method/.test(document.getElementById('judgement').innerText)")
 
@@ -611,6 +610,152 @@ def weeks(page):
     page.example(1)
     expect(page.run("document.querySelector('#lines [value=weeks]').disabled"), True, "plain numbers have no weeks")
     expect(page.run("document.querySelectorAll('.chart .bar').length"), 4)
+
+
+# ---- job shops ----
+
+ROUTES = ("Order;Route;Due\nShelf;3@Sawing, 4@Milling, 2@Painting;14\nDesk;2@Milling, 3@Sawing, 4@Painting;12\n"
+          "Frame;4@Sawing, 3@Painting;9\nCabinet;5@Milling, 2@Painting, 1@Sawing;16\nDoor;6@Painting;10\n")
+ROUTED = ("table 1\njob 1 p=3@1,4@2,2@3 d=14\njob 2 p=2@2,3@1,4@3 d=12\njob 3 p=4@1,3@3 d=9\n"
+          "job 4 p=5@2,2@3,1@1 d=16\njob 5 p=6@3 d=10\n")
+
+
+def table_text(page):
+    return page.run("document.getElementById('table-text').textContent")
+
+
+def labels(page):
+    return page.run("[...document.querySelectorAll('.chart .label')].map((each) => each.textContent)")
+
+
+@way
+def job_shop(page):
+    """A job shop is chosen, its routes are typed, and what is wrong with one is said at its row."""
+    page.open_problem()
+    page.browser.choose("#environment", "J")
+    page.browser.choose("#objective", "Cmax")
+    expect([page.value("#notation"), page.run("document.getElementById('machines-label').hidden")], ["J||Cmax", True])
+    expect(page.texts("#jobs-table thead th")[1:3], ["Name", "Route"])
+    for row, name, route in ((1, "Shelf", "3@1, 4@2"), (2, "Desk", "2@2, 3@1")):
+        page.put(row, "name", name)
+        page.put(row, "route", route)
+    expect(table_text(page), "table 1\njob 1 p=3@1,4@2\njob 2 p=2@2,3@1\n")
+    expect([page.plan_value(), page.text("#headline .proved")], ["7", "proved optimal"])
+    page.put(2, "route", "2@2, 3")
+    expect_in("“3” is not a step of a route. Write each as its time, @ and its machine", page.found_at(2, "route"))
+    page.put(2, "route", "2@2, 3@2")
+    expect_in("The route comes to “2” twice", page.found_at(2, "route"))
+    page.put(2, "route", "")
+    expect_in("This job has no route.", page.found_at(2, "route"))
+    page.put(2, "route", "2@Mill, 3@Saw")
+    expect(table_text(page), "table 1\njob 1 p=3@1,4@2\njob 2 p=2@3,3@4\n")
+    page.put(1, "route", "3@Saw, 4@Mill")
+    expect(labels(page), ["Saw", "Mill"])
+    page.type("#machine-names", "Mill; Saw")
+    page.settle()
+    expect([labels(page), table_text(page)], [["Mill", "Saw"], "table 1\njob 1 p=3@2,4@1\njob 2 p=2@1,3@2\n"])
+    page.notation("J1||Cmax")
+    expect_in("beyond the number of machines of J1||Cmax", page.found_at(1, "route"))
+
+
+@way
+def job_shop_from_a_spreadsheet(page):
+    """Routes are pasted, with the names of their machines: in the chart, the lists, the files and a link."""
+    page.import_cells(ROUTES)
+    expect([page.value("#notation"), page.value("#machine-names")], ["J||Lmax", "Sawing; Milling; Painting"])
+    expect_in("Jobs have routes, so the problem is a job shop now.", page.text("#notice"))
+    page.browser.choose("#objective", "Cmax")
+    page.settle()
+    expect([table_text(page), page.plan_value(), page.text("#headline .proved")], [ROUTED, "17", "proved optimal"])
+    expect(labels(page), ["Sawing", "Milling", "Painting"])
+    expect(page.run("document.querySelectorAll('.chart .bar').length"), 12)
+    page.click("#list tbody th button")
+    page.wait("/Painting \\d/.test(document.getElementById('chart-details').innerText)")
+    page.browser.choose("#sort", "row")
+    expect(page.texts("#list tbody td[data-head=Machine]")[::4], ["Sawing, Milling, Painting", "Painting"])
+    page.browser.choose("#sort", "machine")
+    expect(sorted(set(page.texts("#list tbody td:first-child"))), ["Milling", "Painting", "Sawing"])
+    page.run("document.querySelector('[data-save=csv]').click()")
+    saved = page.browser.downloaded("plan.csv").decode("utf-8-sig").split("\r\n")
+    expect([len(saved), {line.split(";")[1] for line in saved[1:-1]}], [14, {"Sawing", "Milling", "Painting"}])
+    page.run("document.querySelector('[data-save=state]').click()")
+    state = page.browser.downloaded("plan.json")
+    page.run("document.querySelector('[data-save=table]').click()")
+    table = page.browser.downloaded("plan-table.txt").decode()
+    expect_in("# machine 2: Milling\n", table)
+    page.run("window.dispatchEvent(new Event('beforeprint'))")
+    page.browser.call("Emulation.setEmulatedMedia", media="print")
+    expect(page.texts(".work-list h3"), ["Sawing", "Milling", "Painting"])
+    expect([len(page.texts(f".work-list:nth-child({k}) tbody tr")) for k in (1, 2, 3)], [4, 3, 5])
+    page.browser.call("Emulation.setEmulatedMedia", media="")
+    page.run("window.dispatchEvent(new Event('afterprint'))")
+    page.click("#link")
+    page.wait("location.hash.startsWith('#plan=')")
+    address = page.run("location.href")
+    for text in (None, state, table):
+        if text is None:
+            page.browser.open(address)
+        else:
+            page.fresh()
+            page.open_text("plan.txt", text)
+        if text == table:
+            page.wait("/5 jobs were read/.test(document.getElementById('notice').innerText)")
+            page.browser.choose("#objective", "Cmax")
+        page.wait_for_value("17")
+        expect(labels(page), ["Sawing", "Milling", "Painting"])
+    page.import_cells("Order\tStep 1 (h)\tStep 2 (h)\nA\t1,5@Saw\t2@Mill\nB\t3@Mill\t\n")
+    expect([page.value("#notation"), page.plan_value(), page.value("#step")], ["J||Cmax", "5 h", "30"])
+    expect_in("1,5 is 1,5 h", page.text("#headline .assumed summary"))
+
+
+@way
+def job_shop_files(page):
+    """Files in OR-Library's layout are opened and pasted; of several job shops one is chosen."""
+    ft06 = (HERE.parent / "examples" / "job_shop.txt").read_text()
+    page.open_text("ft06.txt", ft06)
+    page.wait_for_value("55")
+    expect_in("ft06.txt: 6 jobs on 6 machines were read. The file counts the machines from 0", page.text("#notice"))
+    expect([page.value("#notation"), page.value("#title"), page.value(page.cell(1, "route"))],
+           ["J||Cmax", "ft06", "1@3, 3@1, 6@2, 7@4, 3@6, 6@5"])
+    page.fresh()
+    page.browser.paste("body", f"{ft06}\n instance two\n 2 2\n 0 3 1 2\n 1 2 0 4\n")
+    page.wait_for_value("55")
+    page.browser.choose("#notice select", "two")
+    page.wait_for_value("7")
+    expect(page.value("#title"), "two")
+    page.click("#undo")
+    page.wait_for_value("55")
+    page.fresh()
+    page.click("#paste")
+    page.browser.paste("#import-text", "2 2\n0 3 1 2\n1 2 0 4\n")
+    page.wait_for_value("7")
+    page.fresh()
+    page.open_text("routes.txt", (HERE.parent / "examples" / "routes.txt").read_text())
+    page.wait("/5 jobs were read/.test(document.getElementById('notice').innerText)")
+    expect(page.value("#notation"), "J||Lmax")
+    page.wait("document.querySelectorAll('.chart .bar').length === 12")
+
+
+@way
+def job_shop_judged(page):
+    """Another schedule of a job shop: an order of the jobs, and an answer that leaves a route."""
+    page.import_cells(ROUTES)
+    page.browser.choose("#objective", "Cmax")
+    page.settle()
+    page.click("#judge summary")
+    page.type("#order", "Shelf; Desk; Frame; Cabinet; Door")
+    page.click("#order-to-answer")
+    page.wait("document.querySelector('#judgement img')")
+    expect_in("The schedule is allowed", page.text("#judgement"))
+    expect_in("no schedule has less than 17", page.text("#judgement"))
+    text = page.value("#judge-text")
+    page.type("#judge-text", text.replace("piece 1 1 0 3", "piece 1 1 30 33"))
+    page.click("#judge-run")
+    page.wait("/Not allowed/.test(document.getElementById('judgement').innerText)")
+    expect_in("“Shelf” is on a machine before it is completed on an earlier one of its route.", page.text("#judgement"))
+    page.click("#judge-own")
+    page.click("#judge-run")
+    page.wait("/it is optimal/.test(document.getElementById('judgement').innerText)")
 
 
 # ---- moved bars ----
@@ -752,6 +897,38 @@ def bars_on_several_machines(page):
 
 
 @way
+def bars_of_a_job_shop(page):
+    """A step of a route is a bar of its own: by mouse, by keyboard, what a route forbids, and in a link."""
+    page.import_cells("Order;Route\nShelf;3@Sawing, 4@Milling\nDesk;2@Milling, 3@Sawing\n")
+    page.settle()
+    expect_in("Makespan: 7", headline(page))
+    expect(jobs_in_bars(page), [1, 2, 2, 1])
+    page.browser.mouse("mouseReleased", *drag(page, 0, 600, 80))
+    text = "“Shelf” is moved: allowed, costs 5 more, 5 above the optimum."
+    expect(moved(page), text)
+    expect(jobs_in_bars(page), [2, 1, 2, 1])
+    expect_in("Your plan. Makespan: 12", page.text("#headline"))
+
+    def left(place):
+        page.run(f"document.querySelectorAll('.bar')[{place}].focus()")
+        page.run("document.getElementById('moved').replaceChildren()")
+        page.browser.press("ArrowLeft")
+
+    left(1)
+    page.wait("/costs 5 less, optimal/.test(document.getElementById('moved').innerText)")
+    expect(page.run("[document.activeElement.dataset.job, document.activeElement.dataset.machine]"), ["0", "1"])
+    left(3)
+    expect(moved(page), text)
+    left(1)
+    expect_in("“Desk” is on a machine before it is completed on an earlier one of its route.", moved(page))
+    page.click("#link")
+    page.wait("location.hash.startsWith('#plan=')")
+    page.browser.open(page.run("location.href"))
+    page.wait("/Your plan/.test(document.getElementById('headline').innerText)")
+    expect(jobs_in_bars(page), [1, 2, 1, 2])
+
+
+@way
 def bars_by_touch(page):
     """On a phone the page scrolls over the chart; a bar that was tapped is dragged sideways."""
     page.browser.touchable(360, 740)
@@ -878,8 +1055,6 @@ def ticking_off(page):
     page.click("#undo")
     page.wait_for_value("11 h")
     expect(page.text("#ticked"), "")
-    page.example(1)
-    expect(page.run("document.getElementById('tick-label').hidden"), True, "no boxes in plain numbers")
     page.import_cells("Order;Sawing (h);Painting (h);Due\nShelves;2;3;2030-12-10\nDesk;4;1;2030-12-11\n")
     page.browser.choose("#sort", "machine")
     page.click('#list [aria-label="Shelves is done"]')
@@ -889,6 +1064,39 @@ def ticking_off(page):
     page.click('#list tbody tr:last-child [type="checkbox"]')
     page.settle()
     expect(page.value(page.cell(2, "left")), "4 h; 0 h")
+
+
+@way
+def ticking_off_in_plain_numbers(page):
+    """Plain numbers have boxes too: the plan is the clock, and goes on from the number at which a job is done."""
+    page.browser.open(page.address, 360, 740)
+    page.wait("document.querySelector('#jobs-table tbody tr')")
+    page.example(1)
+    expect(page.run("document.querySelectorAll('#list .tick input').length"), 4)
+    page.click('#list [aria-label="Cutting is done"]')
+    page.wait("/^1 of 4 done/.test(document.getElementById('ticked').innerText)")
+    expect_in("1 of 4 done. The rest, from 3 in this order: 1 job late, by up to 1.", page.text("#ticked"))
+    expect_in("plain numbers, from 3; 1 done", page.text("#headline .assumed summary"))
+    expect_in("none; all times are plain numbers from 3", page.text("#calendar-words"))
+    expect(table_text(page), "table 1\njob 1 p=2 w=1 d=3\njob 2 p=4 w=4 d=6\njob 3 p=1 w=1 d=2\n")
+    expect(page.run("document.documentElement.scrollWidth"), 360)
+    page.click('#list [aria-label="Packing is done"]')
+    page.wait("/^2 of 4 done/.test(document.getElementById('ticked').innerText)")
+    expect_in("from 4 in this order", page.text("#ticked"))
+    expect_in("Drilling: 4 to 6", page.run("(document.querySelector('#list tbody th button').click(), document.getElementById('chart-details').innerText)"))
+    page.click("#link")
+    page.wait("location.hash.startsWith('#plan=')")
+    page.browser.open(page.run("location.href"), 360, 740)
+    page.wait("/^2 of 4 done/.test(document.getElementById('ticked').innerText)")
+    page.run("document.getElementById('calendar').open = true")
+    page.type('[data-setting="start"]', "soon")
+    page.settle()
+    expect_in("The plan starts at a whole number; “soon” is none.", page.text("#calendar-notes"))
+    page.type('[data-setting="start"]', "5")
+    page.settle()
+    expect_in("from 5", page.text("#ticked"))
+    page.import_cells("Name,Time,Due\nA,3,4\n")
+    expect([page.value('[data-setting="start"]'), page.text("#ticked")], ["", ""])
 
 
 # ---- files and links ----
@@ -1329,10 +1537,7 @@ def machine_names(page):
     page.import_cells("Order;Sawing (h);Painting (h);Due\nShelves;2;3;2030-12-10\nDesk;4;1;2030-12-11\n")
     expect(page.value("#machine-names"), "Sawing; Painting")
     expect_in("Time, Painting", " ".join(page.texts("#jobs-table thead th")))
-
-    def labels():
-        return page.run("[...document.querySelectorAll('.chart .label')].map((each) => each.textContent)")
-    expect(labels(), ["Sawing", "Painting"])
+    expect(labels(page), ["Sawing", "Painting"])
     expect_in("Shelves, Painting: ", page.run("document.querySelector('.chart').textContent"))
     page.browser.choose("#sort", "machine")
     expect(page.texts("#list thead th"), ["Machine", "Start", "Job", "Lateness", "Takes", "Until", "Due"])
@@ -1347,7 +1552,7 @@ def machine_names(page):
     state = page.browser.downloaded("plan.json")
     page.type("#machine-names", "Saw")
     page.settle()
-    expect(labels(), ["Saw", "Machine 2"])
+    expect(labels(page), ["Saw", "Machine 2"])
     for text in (state, table):
         page.fresh()
         page.open_text("plan.txt", text)
@@ -1372,6 +1577,19 @@ def work_lists(page):
     page.run(print_events)
     expect(page.run("document.querySelectorAll('.work-list').length"), 0)
     expect(page.texts("#list thead th")[-1], "Done")
+
+
+@way
+def style_of_the_sources(page):
+    """The page's style has the rules of its source, which has more spaces."""
+    source = (HERE / "src" / "style.css").read_text(encoding="utf-8")
+    rules = page.run(f"""(() => {{
+        const sheet = new CSSStyleSheet();
+        sheet.replaceSync({json.dumps(source)});
+        return [sheet, document.styleSheets[0]].map((each) => [...each.cssRules].map((rule) => rule.cssText));
+    }})()""")
+    expect(rules[1], rules[0])
+    expect(len(rules[0]) > 100, True)
 
 
 @way
@@ -1506,8 +1724,7 @@ def memory(page):
 
 LOADED = """
     const text = document.getElementById("module-bytes").textContent;
-    const stream = new Blob([packedBytes(text)]).stream().pipeThrough(new DecompressionStream("deflate-raw"));
-    const { run, can } = await loadSolver(new Uint8Array(await new Response(stream).arrayBuffer()));
+    const { run, can } = await loadSolver(unpackedBytes(text));
 """
 CAN = LOADED + """
     return ["plan"].filter(can);
@@ -1521,15 +1738,19 @@ RUNS = LOADED + """
 """
 
 
+def solver_script():
+    """What unpacks the module and runs it."""
+    return "\n".join((HERE / "src" / f"{name}.js").read_text(encoding="utf-8") for name in ("unpacking", "solver"))
+
+
 def in_browser(page, requests):
     """What the module says in the browser: status, output and errors of each request."""
-    solver = (HERE / "src" / "solver.js").read_text(encoding="utf-8")
-    return page.run(f"(async () => {{ {solver}\n{RUNS.replace('REQUESTS', json.dumps(requests), 1)} }})()")
+    return page.run(f"(async () => {{ {solver_script()}\n{RUNS.replace('REQUESTS', json.dumps(requests), 1)} }})()")
 
 
 def has_plans(page):
     """Whether the module of the page has the command `plan`."""
-    return "plan" in page.run(f"(async () => {{ {(HERE / 'src' / 'solver.js').read_text(encoding='utf-8')}\n{CAN} }})()")
+    return "plan" in page.run(f"(async () => {{ {solver_script()}\n{CAN} }})()")
 
 
 def in_program(program, request, folder):
@@ -1556,10 +1777,14 @@ def like_the_program(page, program):
     asked = [{"problem": problem, "instance": (examples / name).read_text()} for problem, name in tables]
     asked += [{"problem": problem, "instance": (examples / "all_fields.txt").read_text()}
               for problem in ("1||sumwT", "1|rj|Lmax", "P2||Cmax", "P2||sumwC", "R2||Cmax", "1||", "P||sumC")]
+    asked += [{"problem": problem, "instance": (examples / "routes.txt").read_text()}
+              for problem in ("J||Cmax", "J3||Lmax", "J2||Cmax", "J|rcrc|Cmax", "P2||Cmax")]
     asked += [{"problem": "1||Lmax", "instance": (examples / "slips.txt").read_text()}]
     commands = ("solve", "bound", "plan") if has_plans(page) else ("solve", "bound")
     requests = [{"command": command, **each} for each in asked for command in commands]
     requests.append({"command": "problems"})
+    requests += [{"command": "bound", "problem": problem, "instance": (examples / "routes.txt").read_text()}
+                 for problem in ("J||sumwT", "J||sumwU", "J|prec|sumC")]
     for each in asked:
         _, answer, _ = in_program(program, {"command": "solve", **each}, page.browser.folder.name)
         damaged = answer.replace("piece 1 1 0", "piece 1 1 1"), answer.replace("value", "valeu"), answer[:-4]

@@ -1,9 +1,10 @@
 // What a plan rests on that nobody wrote: units, years, the start, what lacks and what is ignored.
 
-import { lengthText, momentText } from "./calendar.js";
+import { isDated, lengthText, momentText } from "./calendar.js";
 import { WEEKDAYS } from "./dates.js";
 import { readNotation } from "./problems.js";
 import { unusedColumns } from "./problem_view.js";
+import { timesOfRoute } from "./routes.js";
 import { ASSUMED } from "./table.js";
 
 const MOST_NAMED = 10;
@@ -17,9 +18,11 @@ const UNITS = { min: "minutes", h: "hours", d: "working days" };
  * @returns {{short: string, long: string}[]}
  */
 export function assumptionsOf(table, calendar, state) {
-  const found = calendar ? [...readings(table, calendar, state), startOf(calendar, state)]
-    : [{ short: "plain numbers, from 0", long: "All times and dates are plain numbers in one unit, "
-      + "counted from the start of the plan." }];
+  const found = isDated(calendar)
+    ? [...readings(table, calendar, state), startOf(calendar, state)]
+    : [{ short: `plain numbers, from ${momentText(calendar, 0, false)}`,
+      long: "All times and dates "
+      + `are plain numbers in one unit. The plan starts at ${momentText(calendar, 0, false)}.` }];
   return [...found, ...progress(table, calendar), ...lacking(table), ...ignored(table, state)];
 }
 
@@ -46,7 +49,7 @@ function readings(table, calendar, { rows, settings }) {
     return { text: texts.find((text) => text !== "" && SHOWS[bit].test(text)) ?? texts[0],
       count: jobs.length };
   };
-  const unit = example(ASSUMED.unit, "time", "time2");
+  const unit = exampleOfRoute(table, rows) ?? example(ASSUMED.unit, "time", "time2");
   const start = example(ASSUMED.start, "due", "release");
   const year = example(ASSUMED.year, "due", "release");
   const order = example(ASSUMED.dayFirst, "due", "release");
@@ -66,6 +69,14 @@ function readings(table, calendar, { rows, settings }) {
     end && { short: "", long: "A due date without a time of day is the end of that day "
       + `(${jobsOf(end.count)}).` },
   ].filter(Boolean);
+}
+
+/** The first time without a unit of a route, and how many jobs have one. */
+function exampleOfRoute({ jobs }, rows) {
+  const assumed = jobs.filter((job) => job.steps && job.assumed & ASSUMED.unit);
+  if (assumed.length === 0) return null;
+  const times = timesOfRoute(rows[assumed[0].row].route);
+  return { text: times.find((time) => SHOWS[ASSUMED.unit].test(time)), count: assumed.length };
 }
 
 const SHOWS = { [ASSUMED.unit]: /^[\d.,' ]+$/, [ASSUMED.start]: /^[-+−]?[\d.,' ]+$/,

@@ -27,6 +27,26 @@ const LONGEST_LIST = 20000;
 const FIRST_SERIAL = 25569;
 const FARTHEST_SERIAL = 3660;
 
+/** Whether a calendar has dates: plain numbers have none, and may start later than at 0. */
+export function isDated(calendar) {
+  return Boolean(calendar) && !calendar.isPlain;
+}
+
+/** Where plain numbers start: 0, or later where some of the plan is done. */
+function startOf(calendar) {
+  return calendar?.isPlain ? calendar.from : 0;
+}
+
+function plainCalendar({ start, dayFirst }) {
+  const text = start.trim();
+  const from = /^\d{1,12}$/.test(text) ? Number(text) : 0;
+  const isNumber = from > 0 || /^0*$/.test(text);
+  // A date is that of a calendar before.
+  const isWrong = !isNumber && readDate(text, dayFirst, today()).fault;
+  return { calendar: from > 0 ? { isPlain: true, from } : null, faults: isWrong ? [{ field: "start",
+    message: `The plan starts at a whole number; “${text}” is none.` }] : [] };
+}
+
 /** Today by the clock of the browser, as the number of its day. */
 export function today() {
   const now = new Date();
@@ -44,10 +64,10 @@ export function defaultSettings() {
 /**
  * Makes the calendar of these settings.
  * @returns {{calendar: ?object, faults: {field: string, message: string}[]}}
- *   `calendar` is null where the settings are plain numbers or at fault
+ *   `calendar` is null where the settings are plain numbers from 0, or at fault
  */
 export function makeCalendar(settings) {
-  if (settings.step === "plain") return { calendar: null, faults: [] };
+  if (settings.step === "plain") return plainCalendar(settings);
   const faults = [];
   const fault = (field, message) => faults.push({ field, message });
   const start = readDate(settings.start, settings.dayFirst, today());
@@ -185,7 +205,7 @@ function momentOf(calendar, step, isEnd) {
  * a working day may go without its time of day.
  */
 export function momentText(calendar, step, isEnd, isShort = false) {
-  if (!calendar) return String(step);
+  if (!isDated(calendar)) return String(step + startOf(calendar));
   const moment = momentOf(calendar, step, isEnd);
   if (!moment) return `step ${step}`;
   const day = dayText(calendar, moment.day);
@@ -195,8 +215,9 @@ export function momentText(calendar, step, isEnd, isShort = false) {
 
 /** A step as a moment for spreadsheets, such as "2025-03-03 08:00". */
 export function momentField(calendar, step, isEnd) {
-  const moment = calendar && momentOf(calendar, step, isEnd);
-  return moment ? `${isoDay(moment.day)} ${clockText(moment.clock)}` : String(step);
+  const moment = isDated(calendar) && momentOf(calendar, step, isEnd);
+  return moment ? `${isoDay(moment.day)} ${clockText(moment.clock)}`
+    : String(step + startOf(calendar));
 }
 
 function dayText(calendar, day) {
@@ -291,7 +312,7 @@ function shorter(calendar, day) {
 
 /** A number of steps as working time, such as "1 d 3 h"; a number without a calendar. */
 export function lengthText(calendar, steps) {
-  if (!calendar) return String(steps).replace("-", "−");
+  if (!isDated(calendar)) return String(steps).replace("-", "−");
   const sign = steps < 0 ? "−" : "";
   let minutes = Math.abs(steps) * calendar.stepMinutes;
   const parts = [];
@@ -343,7 +364,7 @@ export function minutesSince(calendar, moment) {
  */
 export function readDuration(calendar, text) {
   if (text.length > LONGEST) return { fault: "This is too long to be a length of time." };
-  if (!calendar) return readWhole(text, "A processing time");
+  if (!isDated(calendar)) return readWhole(text, "A processing time");
   const found = readLength(text, calendar.sizes, calendar.plain);
   if (found.fault) return found;
   const steps = found.minutes / calendar.stepMinutes;
@@ -363,7 +384,7 @@ export function readDuration(calendar, text) {
 export function readMoment(calendar, text, isDue) {
   const what = isDue ? "A due date" : "A release date";
   if (text.length > LONGEST) return { fault: "This is too long to be a date." };
-  if (!calendar) return readWhole(text, what, isDue);
+  if (!isDated(calendar)) return afterStart(readWhole(text, what, isDue), startOf(calendar), isDue);
   const date = readDateTime(text, calendar.dayFirst, calendar.startDay);
   if (!date.fault) return momentOfDate(calendar, date, text, isDue);
   const [, sign, length] = /^([-−+]?)\s*(.*)$/s.exec(text);
@@ -375,6 +396,15 @@ export function readMoment(calendar, text, isDue) {
   const minutes = /^[-−]/.test(sign) ? -after.minutes : after.minutes;
   if (minutes < 0 && !isDue) return { fault: `${what} is at least 0; this is ${text}.` };
   return { ...stepsOf(calendar, minutes, text, isDue), isPlain: after.isPlain };
+}
+
+/** A plain number as steps after the start of the plan. */
+function afterStart({ steps, fault }, start, isDue) {
+  if (fault) return { fault };
+  const after = steps - start;
+  if (after >= 0) return { steps: after, note: null };
+  return isDue ? { steps: after, note: "Due before the plan starts, so the job is late." }
+    : { steps: 0, note: "Released before the plan starts: it counts as the start." };
 }
 
 function momentOfDate(calendar, date, text, isDue) {
@@ -424,7 +454,7 @@ function doubtOf(calendar, text) {
 export function assumedOf(calendar, field, text) {
   const isLength = field === "time" || field === "time2";
   const isMoment = field === "due" || field === "release";
-  if (!calendar || text.trim() === "" || !isLength && !isMoment) return "";
+  if (!isDated(calendar) || text.trim() === "" || !isLength && !isMoment) return "";
   const found = isLength ? readDuration(calendar, text.trim())
     : readMoment(calendar, text.trim(), field === "due");
   if (found.isPlain) return calendar.plain;
@@ -454,7 +484,7 @@ function readWhole(text, what, mayBeNegative = false) {
     const steps = Number(sign);
     if (Math.abs(steps) > MOST_STEPS) return { fault: `${text} is too large for this page.` };
     if (steps < 0 && !mayBeNegative) return { fault: `${what} is at least 0; this is ${text}.` };
-    return { steps, note: steps < 0 ? "Due before the plan starts, so the job is late." : null };
+    return { steps };
   }
   if (/^-?\d+[.,]\d+$/.test(sign)) {
     return { fault: `${what} is a whole number here; ${text} is not. `

@@ -4,6 +4,9 @@ import { STEPS, isoDay, lengthText, momentText, today } from "./calendar.js";
 import { WEEKDAYS } from "./dates.js";
 import { html } from "./svg.js";
 
+// The settings of plain numbers.
+const PLAIN = ["step", "start"];
+
 export class CalendarView {
   /** @param {import("./store.js").Store} store */
   constructor(store) {
@@ -28,7 +31,9 @@ export class CalendarView {
     }
     settings.days = this.days.filter((check) => check.checked)
       .map((check) => Number(check.value)).sort();
-    if (settings.step !== "plain" && settings.start === "") settings.start = isoDay(today());
+    const hasNumber = /^\d*$/.test(settings.start);
+    if (settings.step !== "plain" && hasNumber) settings.start = isoDay(today());
+    else if (settings.step === "plain" && field?.id === "step" && !hasNumber) settings.start = "";
     this.store.change({ settings }, field && `setting ${field.dataset.setting}`);
   }
 
@@ -38,8 +43,9 @@ export class CalendarView {
     for (const field of this.fields) {
       const value = String(settings[field.dataset.setting]);
       if (field.value !== value) field.value = value;
-      const isStep = field.dataset.setting === "step";
-      field.closest("label").hidden = settings.step === "plain" && !isStep;
+      const isPlain = settings.step === "plain";
+      field.closest("label").hidden = isPlain && !PLAIN.includes(field.dataset.setting);
+      if (field.dataset.setting === "start") field.placeholder = isPlain ? "0" : "2025-03-03";
     }
     document.getElementById("weekdays").hidden = settings.step === "plain";
     for (const check of this.days) check.checked = settings.days.includes(Number(check.value));
@@ -48,7 +54,8 @@ export class CalendarView {
   /** Shows the calendar that the settings made, or what is wrong with them. */
   show(calendar, faults) {
     const { settings } = this.store.state;
-    this.words.textContent = settings.step === "plain" ? "none; all times are plain numbers"
+    this.words.textContent = settings.step === "plain" ? `none; all times are plain numbers${
+      calendar ? ` from ${momentText(calendar, 0, false)}` : ""}`
       : !calendar ? "needs to be corrected"
         : `from ${momentText(calendar, 0, false)} in steps of ${calendar.stepWords}, `
           + `${lengthText(calendar, calendar.dayMinutes / calendar.stepMinutes)} a day`;

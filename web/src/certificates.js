@@ -25,6 +25,8 @@ const BOUND_WORDS = {
   window: "These jobs can't start before the first of them is released, and the machines together "
     + "need so long for all their work.",
   crowd: "These jobs are so many that one machine has to do several of them.",
+  parts: "If none of these jobs is to be so late, they have more to do between the first two times "
+    + "below than the machines have room for.",
   machine: "One machine has to do all these jobs, one after another.",
   alone: "Each job starts when it is released, or when the jobs that it has to follow can be done, and "
     + "no other job is in its way.",
@@ -44,7 +46,7 @@ const ARC_WORDS = " Along a precedence constraint the later job gives some of it
   + "the one before it.";
 
 /** How many numbers stand before the jobs of a certificate, for the kinds that list jobs. */
-const BEFORE_JOBS = { last: 0, window: 0, job: 0, crowd: 1 };
+const BEFORE_JOBS = { last: 0, window: 0, job: 0, crowd: 1, parts: 3 };
 
 /** The jobs of a certificate, from 1; ranges such as 3-5 are all their jobs. */
 export function certificateJobs(certificate, most, before = BEFORE_JOBS) {

@@ -1,6 +1,6 @@
 // The Gantt chart of a plan as SVG: a window of time, perhaps folded into several lines.
 
-import { breaks, dayStarts, lengthText, momentText, stepNow } from "./calendar.js";
+import { breaks, dayStarts, isDated, lengthText, momentText, stepNow } from "./calendar.js";
 import { machineName } from "./machines.js";
 import { lateness } from "./plan.js";
 import { fitted, svg, textWidth } from "./svg.js";
@@ -269,7 +269,7 @@ function drawEnd(group, plan, { lineHeight }, { from, to }, x) {
  * rows have marks above and below the names.
  */
 function drawBreaks(group, plan, frame, line, x) {
-  if (!plan.calendar) return;
+  if (!isDated(plan.calendar)) return;
   const end = Math.min(line.to, plan.length);
   const most = frame.width / ROOM_FOR_BREAK;
   for (const { step, isLong } of breaks(plan.calendar, line.from, end, most)) {
@@ -285,7 +285,7 @@ function drawBreaks(group, plan, frame, line, x) {
 
 /** A line at the moment by the clock of the browser, where it lies within the plan. */
 function drawNow(group, plan, frame, line, x) {
-  const now = plan.calendar ? stepNow(plan.calendar) : null;
+  const now = isDated(plan.calendar) ? stepNow(plan.calendar) : null;
   if (now === null || now <= 0 || now > plan.length || now < line.from || now >= line.to) return;
   const at = round(x(now));
   const bottom = frame.lineHeight - GAP;
@@ -300,7 +300,8 @@ function drawNow(group, plan, frame, line, x) {
 function drawAxis(plan, frame, line, x) {
   const bottom = frame.lineHeight - GAP;
   const group = svg("g", { class: "axis" });
-  const most = Math.max(2, Math.floor((frame.width - frame.left) / (plan.calendar ? 96 : 64)));
+  const room = isDated(plan.calendar) ? 96 : 64;
+  const most = Math.max(2, Math.floor((frame.width - frame.left) / room));
   const end = Math.min(line.to, plan.length);
   const hasEnd = plan.length >= line.from && plan.length <= line.to + 1e-9 && plan.length > 0;
   const endWords = hasEnd ? momentText(plan.calendar, plan.length, true) : "";
@@ -330,13 +331,14 @@ function drawAxis(plan, frame, line, x) {
 
 /** Where the axis has its lines: working days, or round numbers of steps. */
 function ticks(calendar, from, to, most) {
-  if (calendar) {
+  if (isDated(calendar)) {
     const days = dayStarts(calendar, from, to, most);
     if (days.length >= 2) return days;
   }
   const size = SIZES.find((each) => (to - from) / each <= most);
   const found = [];
-  for (let step = Math.ceil(from / size) * size; step <= to; step += size) {
+  const start = calendar?.isPlain ? calendar.from : 0;
+  for (let step = Math.ceil((from + start) / size) * size - start; step <= to; step += size) {
     found.push({ step, words: momentText(calendar, step, false) });
   }
   return found;
@@ -427,7 +429,8 @@ function drawBar(group, plan, frame, row, piece) {
   const inset = width > 8 ? 0.75 : 0;
   const bar = svg("rect", {
     class: `bar fill${plan.colour[job] ?? 0}${isLate ? " late" : ""}${width < 6 ? " thin" : ""}`,
-    "data-job": job, ...(frame.isMovable ? { tabindex: -1, role: "button" } : {}),
+    "data-job": job, "data-machine": row.machine,
+    ...(frame.isMovable ? { tabindex: -1, role: "button" } : {}),
     x: round(left + inset), y: 0.75, width: round(width - 2 * inset), height: frame.row - 1.5,
     rx: width > 8 ? 2 : 0,
   }, svg("title", {}, barTitle(plan, job, row.machine, start, stop)));

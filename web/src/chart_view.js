@@ -1,7 +1,8 @@
 // The chart on the page: its window of time, zoom by buttons, keys and the mouse, and printing.
 
 import { drawChart, goodLines, latenessWords, linesForNames } from "./chart.js";
-import { lengthText, momentText, weeksOf } from "./calendar.js";
+import { isDated, lengthText, momentText, weeksOf } from "./calendar.js";
+import { machineName } from "./machines.js";
 import { whyFixed } from "./moving.js";
 import { lateness } from "./plan.js";
 import { html } from "./svg.js";
@@ -21,6 +22,7 @@ export class ChartView {
     this.marks = document.getElementById("marks");
     this.plan = null;
     this.chosen = null;
+    this.chosenOn = null;
     this.first = null;
     this.onDraw = () => {};
     for (const button of document.querySelectorAll("[data-zoom]")) {
@@ -50,11 +52,11 @@ export class ChartView {
     }
     this.plan = plan;
     this.fixed = whyFixed(plan);
-    const { chosen } = this;
+    const { chosen, chosenOn } = this;
     this.details.textContent = "";
     this.chosen = null;
     this.draw();
-    if (isSame && chosen !== null) this.pointAt(chosen);
+    if (isSame && chosen !== null) this.pointAt(chosen, chosenOn);
   }
 
   resize() {
@@ -75,22 +77,22 @@ export class ChartView {
       ? weeks.map((week) => drawChart(this.plan, { ...this.view, weeks: [week] }, scale))
       : [drawChart(this.plan, this.view, scale)];
     [this.chart] = charts;
-    const focused = this.frame.contains(document.activeElement)
-      ? document.activeElement.dataset.job : undefined;
+    const { job: focused, machine } = this.frame.contains(document.activeElement)
+      ? document.activeElement.dataset : {};
     this.frame.replaceChildren(...charts);
     this.frame.setAttribute("role", view.isMovable ? "group" : "img");
     this.frame.setAttribute("aria-label", this.describe());
     this.drawLegend();
     this.mark();
-    if (focused !== undefined) (this.barOf(focused) ?? this.frame).focus();
+    if (focused !== undefined) (this.barOf(focused, machine) ?? this.frame).focus();
     this.onDraw();
   }
 
   /** The lines of the chart as they are chosen: weeks, so many, or as many as names need. */
   linesOf(view) {
     const { plan } = this;
-    this.lines.querySelector("[value=weeks]").disabled = plan.calendar === null;
-    if (this.lines.value === "weeks" && plan.calendar) {
+    this.lines.querySelector("[value=weeks]").disabled = !isDated(plan.calendar);
+    if (this.lines.value === "weeks" && isDated(plan.calendar)) {
       const weeks = weeksOf(plan.calendar, this.from, this.to, MOST_WEEKS);
       const end = weeks.at(-1)?.days.at(-1).step ?? this.to;
       if (weeks.length === MOST_WEEKS) this.to = Math.min(this.to, Math.max(end, this.from + 1));
@@ -150,12 +152,13 @@ export class ChartView {
 
   /** Tells of the job that was clicked. */
   point(target) {
-    const place = target.closest("[data-job]")?.dataset.job;
-    if (place === undefined || !this.plan.jobs[place]) return;
-    this.pointAt(Number(place));
+    const { job, machine } = target.closest("[data-job]")?.dataset ?? {};
+    if (job === undefined || !this.plan.jobs[job]) return;
+    this.pointAt(Number(job), machine ? Number(machine) : null);
   }
 
-  pointAt(job) {
+  /** Tells of a job, and of where it is on a machine if one is given. */
+  pointAt(job, machine = null) {
     const { plan } = this;
     const { calendar } = plan;
     const late = lateness(plan, job);
@@ -165,23 +168,29 @@ export class ChartView {
       + `${lengthText(calendar, plan.jobs[job].time)} of work`
       + (plan.isPreempted && plan.pieces[job] > 1 ? ` in ${plan.pieces[job]} pieces` : "")
       + (late === null ? "." : `; due ${momentText(calendar, plan.jobs[job].due, true)}, `
-        + `${latenessWords(calendar, late)}.`);
+        + `${latenessWords(calendar, late)}.`)
+      + (plan.jobs[job].steps ? ` ${stepWords(plan, job)}.` : "");
     this.chosen = job;
+    this.chosenOn = machine;
     this.mark();
     this.onDraw();
   }
 
-  barOf(job) {
-    return this.frame.querySelector(`.bar[data-job="${job}"]`);
+  /** The bar of a job on a machine, or else its first. */
+  barOf(job, machine) {
+    const bars = `.bar[data-job="${job}"]`;
+    return this.frame.querySelector(`${bars}[data-machine="${machine}"]`)
+      ?? this.frame.querySelector(bars);
   }
 
   /** Marks the bars of the job that is chosen; the Tab key goes to the first of them. */
   mark() {
-    const { frame, chosen } = this;
+    const { frame, chosen, chosenOn } = this;
     for (const bar of frame.querySelectorAll(".chosen")) bar.classList.remove("chosen");
     for (const bar of frame.querySelectorAll(`[data-job="${chosen}"]`)) bar.classList.add("chosen");
     this.first?.setAttribute("tabindex", "-1");
-    this.first = this.view.isMovable ? this.barOf(chosen) ?? frame.querySelector(".bar") : null;
+    this.first = this.view.isMovable ? this.barOf(chosen, chosenOn)
+      ?? frame.querySelector(".bar") : null;
     this.first?.setAttribute("tabindex", "0");
   }
 
@@ -202,4 +211,15 @@ export class ChartView {
       ...(this.frame.querySelector(".weekend") ? [html("span", {}, "┃ weekend, days off")] : []),
       ...(this.frame.querySelector(".many-frame") ? [item("swatch-many", "many short jobs")] : []));
   }
+}
+
+/** When a job is on each machine of its route. */
+function stepWords({ schedule, order, names, calendar }, job) {
+  const { start, stop, machine } = schedule;
+  return Array.from(order).filter((piece) => schedule.job[piece] === job + 1)
+    .sort((a, b) => start[a] - start[b])
+    .map((piece) => `${machineName(names, machine[piece])} `
+      + `${momentText(calendar, start[piece], false)} to `
+      + momentText(calendar, stop[piece], true))
+    .join("; ");
 }

@@ -53,6 +53,14 @@ const EXAMPLES = [
     problem: "1||sumwC", columns: ["name", "time", "weight"],
     rows: [["One", "3", "1"], ["Two", "1", "1"], ["Three", "2", "4"], ["Four", "5", "6"]],
   },
+  {
+    title: "A workshop: each order on its own route",
+    problem: "J||Cmax", columns: ["name", "route", "due"],
+    machineNames: "Sawing; Milling; Painting",
+    rows: [["Shelf", "3@Sawing, 4@Milling, 2@Painting", "14"],
+      ["Desk", "2@Milling, 3@Sawing, 4@Painting", "12"], ["Frame", "4@Sawing, 3@Painting", "9"],
+      ["Cabinet", "5@Milling, 2@Painting, 1@Sawing", "16"], ["Door", "6@Painting", "10"]],
+  },
 ];
 
 export const EXAMPLE_TITLES = EXAMPLES.map((example) => example.title);

@@ -1,6 +1,10 @@
 // Opens and saves: files of every kind that the page knows, and links that carry the whole state.
 
-import { isAnswer, isJobTable, namedText, readTable } from "./table.js";
+import { problemFor } from "./guesses.js";
+import { readNotation, writeNotation } from "./problems.js";
+import { readJobShops } from "./shop_files.js";
+import { html } from "./svg.js";
+import { isAnswer, isJobTable, namedText, newRow, readTable } from "./table.js";
 import { decodeText, styleOf } from "./spreadsheet.js";
 import { chartAsFile, planAsCsv, saveFile } from "./saving.js";
 import {
@@ -62,8 +66,9 @@ export class Files {
 
   /** Opens a text by what it is: everything of this page, a job table, an answer, or cells. */
   openText(text, name = "The text") {
-    const { store, notify, importView, judgeView } = this.page;
+    const { notify, importView, judgeView } = this.page;
     const { dialog } = importView;
+    const shops = readJobShops(text);
     if (/^\s*\{/.test(text)) {
       const state = readState(text);
       if (state) this.replace(state, `${name} was opened.`);
@@ -74,6 +79,9 @@ export class Files {
     } else if (isAnswer(text)) {
       dialog.close();
       judgeView.open(text);
+    } else if (shops.length > 0) {
+      dialog.close();
+      this.openShops(shops, name);
     } else if (dialog.open) importView.setText(text);
     else importView.open(text);
   }
@@ -82,12 +90,29 @@ export class Files {
     const { rows, machines, machineNames, faults } = readTable(text);
     const { store } = this.page;
     const isLost = store.hasUnsavedWork;
-    const hasTimes2 = rows.some((row) => row.time2 !== "");
+    const has = (field) => rows.some((row) => row[field] !== "");
+    const found = has("route") ? problemFor(readNotation(store.state.problem), rows) : null;
     store.change({ rows, kept: null, own: null, machineNames, ...(machines ? { machines } : {}),
-      settings: { ...store.state.settings, step: "plain" } });
-    this.page.notify(`${name}: ${rows.length} jobs were read.${hasTimes2 ? " They have two times, "
-      + "so choose a flow shop or an open shop." : ""} ${faults.slice(0, 3).join(" ")}`
-      + (isLost ? ` ${UNSAVED}` : ""));
+      ...(found ? { problem: writeNotation(found.problem) } : {}),
+      settings: { ...store.state.settings, step: "plain", start: "" } });
+    this.page.notify([`${name}: ${rows.length} jobs were read.`, ...(found?.hints ?? []),
+      has("time2") ? "They have two times, so choose a flow shop or an open shop." : "",
+      ...faults.slice(0, 3), isLost ? UNSAVED : ""].filter(Boolean).join(" "));
+  }
+
+  /** Opens a job shop of a file, and offers the others that it has. */
+  openShops(shops, name, chosen = 0) {
+    const { store, notify } = this.page;
+    const isLost = chosen === 0 && store.hasUnsavedWork;
+    const { name: title, rows, machines } = shops[chosen];
+    store.change({ rows: rows.map((row) => newRow(row)), kept: null, own: null, machineNames: "",
+      title, problem: "J||Cmax", settings: { ...store.state.settings, step: "plain", start: "" } });
+    const choice = shops.length === 1 ? [] : [html("label", {}, `${shops.length} job shops: `,
+      html("select", { change: (event) => this.openShops(shops, name, event.target.selectedIndex) },
+        shops.map((shop, k) => html("option", { selected: k === chosen }, shop.name)))), " "];
+    notify([`${name}: ${rows.length} jobs on ${machines} machines were read. The file counts the `
+      + "machines from 0, and this page from 1.", isLost ? UNSAVED : ""].filter(Boolean).join(" "),
+    ...choice);
   }
 
   /** Takes a whole state, and says so where work that is not saved stood in its place. */
@@ -109,7 +134,8 @@ export class Files {
       this.openPacked(link[1]);
       return;
     }
-    const isField = target.closest?.("input, textarea, select, dialog");
+    const isShop = target.id === "import-text" && readJobShops(text).length > 0;
+    const isField = !isShop && target.closest?.("input, textarea, select, dialog");
     const isCell = target.closest?.("#jobs-table") && /\t|\n./.test(text);
     if (text === "" || isField && !isCell) return;
     event.preventDefault();
@@ -178,7 +204,7 @@ export class Files {
       store.isSaved = true;
     } else if (kind === "table") {
       if (!now) return notify("There is no job table yet: the jobs have to be corrected first.");
-      saveFile(`${name}-table.txt`, namedText(now.table, shown?.plan.names), "text/plain");
+      saveFile(`${name}-table.txt`, namedText(now.table, this.page.names), "text/plain");
     } else if (!shown) notify("There is no plan yet, so there is nothing to save.");
     else if (kind === "answer") saveFile(`${name}-answer.txt`, shown.answer, "text/plain");
     else if (kind === "csv") {

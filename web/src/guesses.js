@@ -3,7 +3,8 @@
 import { STEPS, isoDay, makeCalendar, today } from "./calendar.js";
 import { readDateTime } from "./dates.js";
 import { readLength } from "./lengths.js";
-import { readNotation, writeNotation } from "./problems.js";
+import { hasRoutes, readNotation, writeNotation } from "./problems.js";
+import { timesOfRoute } from "./routes.js";
 import { hasMonthFirst, needCalendar } from "./spreadsheet.js";
 
 const STEP_LENGTHS = [60, 30, 15, 10, 5, 1];
@@ -20,6 +21,9 @@ export function guess(state, rows, unit, replaces) {
   const patch = {};
   const hints = [];
   const had = state.settings.step !== "plain";
+  if (replaces && !had && state.settings.start !== "") {
+    patch.settings = { ...state.settings, start: "" };
+  }
   if (had || unit || needCalendar(rows)) {
     patch.settings = settingsFor(state.settings, rows, unit, replaces);
     const { words } = STEPS.find((step) => step.id === patch.settings.step);
@@ -65,19 +69,22 @@ function firstDay(dayFirst, rows) {
 function longestStep(settings, rows, steps) {
   const { calendar } = makeCalendar({ ...settings, step: "1" });
   if (!calendar) return settings.step === "plain" ? "60" : settings.step;
-  const times = [...new Set(rows.flatMap((row) => [row.time, row.time2]))].filter(Boolean)
+  const times = [...new Set(rows.flatMap((row) =>
+    [row.time, row.time2, ...timesOfRoute(row.route)]))].filter(Boolean)
     .map((text) => readLength(text, calendar.sizes, calendar.plain).minutes)
     .filter((minutes) => Number.isInteger(minutes));
   return String(steps.find((step) => times.every((minutes) => minutes % step === 0)) ?? 1);
 }
 
 /**
- * A problem that takes into account what the rows have: second times, precedence, release dates.
+ * A problem that takes into account what the rows have: routes, second times, precedence, release
+ * dates.
  * @returns {?{problem: object, hints: string[]}} null where the problem of now may stay
  */
-function problemFor(problem, rows) {
-  if (problem?.environment !== "1") return null;
+export function problemFor(problem, rows) {
   const has = (field) => rows.some((row) => row[field].trim() !== "");
+  if (has("route") && problem && !hasRoutes(problem)) return jobShop(problem, has);
+  if (problem?.environment !== "1") return null;
   if (has("time2")) {
     return { problem: { environment: "F", count: 2, conditions: [], objective: "Cmax" },
       hints: ["Jobs have two times, so the problem is a flow shop now: machine 1, then machine "
@@ -97,4 +104,12 @@ function problemFor(problem, rows) {
   }
   return hints.length === 0 ? null : { hints, problem: { ...problem,
     conditions: ["rj", "prec", "prmp"].filter((id) => conditions.has(id)) } };
+}
+
+/** The job shop of rows with routes: the objective stays where there are due dates for it. */
+function jobShop(problem, has) {
+  const conditions = ["rj", "prec"].filter((id) => has(id === "rj" ? "release" : "after"));
+  const objective = has("due") ? problem.objective.replace("hmax", "Lmax") : "Cmax";
+  return { problem: { environment: "J", count: null, conditions, objective },
+    hints: ["Jobs have routes, so the problem is a job shop now."] };
 }

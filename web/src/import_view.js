@@ -1,11 +1,12 @@
 // The dialog in which cells of a spreadsheet become rows of the table.
 
 import { guess } from "./guesses.js";
-import { machineText } from "./machines.js";
+import { machineNames, machineText } from "./machines.js";
 import { machinesOf, readCells, readColumns, rowsOfCells, unitOfTimes } from "./spreadsheet.js";
 import { shortened } from "./precedence.js";
+import { namesInRoutes } from "./routes.js";
 import { html } from "./svg.js";
-import { FIELDS, FIELD_WORDS, newRow } from "./table.js";
+import { FIELD_WORDS, newRow } from "./table.js";
 
 const UNUSED = "";
 const MOST_SHOWN = 200000;
@@ -72,8 +73,8 @@ export class ImportView {
         this.columns.fields[place] = event.target.value || null;
         this.tell();
       } }, html("option", { value: UNUSED }, "not used"),
-      FIELDS.map((each) => html("option", { value: each, selected: each === field },
-        FIELD_WORDS[each])));
+      Object.entries(FIELD_WORDS).map(([each, words]) =>
+        html("option", { value: each, selected: each === field }, words)));
       const words = sample[place] ? `“${sample[place]}”` : "";
       return html("label", {}, `${heading} `, html("small", {}, words), select);
     }));
@@ -82,13 +83,15 @@ export class ImportView {
   tell() {
     const count = Math.max(0, this.cells.length - (this.columns.headings ? 1 : 0));
     const { fields, headings } = this.columns;
-    const twice = fields.find((field, place) => field && fields.indexOf(field) !== place);
+    const twice = fields.find((field, place) =>
+      field && field !== "route" && fields.indexOf(field) !== place);
     const marks = { "\t": "tabs", ";": "semicolons", ",": "commas", "|": "bars" };
     const words = count === 0 ? []
       : [`${count} ${count === 1 ? "row" : "rows"}, cells divided by ${marks[this.delimiter]}, `
         + `${headings ? "with headings" : "without headings"}.` + unusedColumns(this.columns)
         + (twice ? ` Two columns are “${FIELD_WORDS[twice]}”: the later one is taken.` : ""),
-      fields.includes("time") ? null : html("strong", { class: "late-words" },
+      fields.includes("time") || fields.includes("route") ? null
+        : html("strong", { class: "late-words" },
         " Which column is the processing time? Without one you have to type the times.")];
     this.words.replaceChildren(...words.filter(Boolean));
     for (const id of ["import-replace", "import-add"]) {
@@ -103,7 +106,9 @@ export class ImportView {
     const rows = rowsOfCells(this.cells, this.columns, unit).map((values) => newRow(values));
     const { patch, hints } = guess(state, rows, unit, replaces);
     Object.assign(patch, { rows: replaces ? rows : [...state.rows, ...rows] });
-    const machines = machineText(machinesOf(this.columns));
+    const machines = machineText(this.columns.fields.includes("route")
+      ? namesInRoutes(rows, replaces ? [] : machineNames(state.machineNames))
+      : machinesOf(this.columns));
     if (replaces || machines) patch.machineNames = machines;
     if (replaces) Object.assign(patch, { kept: null, title: "" });
     this.dialog.close();

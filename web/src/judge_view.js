@@ -58,8 +58,8 @@ export class JudgeView {
     if (!problem) return this.say("fault", "First the jobs and the problem have to be in order.");
     const order = readOrder(this.at("order").value, now.table);
     if (order.fault) return this.say("fault", order.fault);
-    const machines = problem.environment === "1" ? 1
-      : problem.count ?? (needsMachines(problem) ? now.request.machines : 2);
+    const machines = problem.environment === "1" ? 1 : problem.count ?? now.table.machines
+      ?? (needsMachines(problem) ? now.request.machines : 2);
     if (!machines) return this.say("fault", "Say how many machines there are.");
     this.at("judge-text").value = answerOfOrder(order.jobs, now, problem, machines);
     return this.judge();

@@ -14,9 +14,9 @@ const alphabet = new Intl.Collator(undefined, { numeric: true });
 
 export class ListView {
   /**
-   * @param {object} actions `choose(job)` told of the job that is clicked; `move(job, way)` of a
-   *   job to move "left" or "right"; `tick(job, piece)` of a job that is done, or of its piece where
-   *   one is given; `untick(id)` of the row of a job that is not done after all
+   * @param {object} actions `choose(job)` told of the job that is clicked; `move(job, way,
+   *   machine)` of a job to move "left" or "right", on a machine where the list is by machine;
+   *   `tick(job, piece)` of a job that is done, or of its piece where one is given; `untick(id)` of the row of a job that is not done after all
    */
   constructor(actions) {
     this.table = document.getElementById("list");
@@ -90,7 +90,7 @@ export class ListView {
     if (!this.plan) return;
     const columns = this.isByMachine ? this.pieceColumns() : this.jobColumns();
     if (isPrint && !this.hasWorkLists) columns.push({ head: "Done", wordsOf: () => "" });
-    if (!isPrint && this.isTicking) {
+    if (!isPrint && this.tick.checked) {
       columns.unshift({ head: "Done", isTick: true, wordsOf: () => "" });
     }
     this.drawTicked();
@@ -179,7 +179,8 @@ export class ListView {
       const { head, isName, isLateness, isTick } = columns[place];
       if (isName) {
         return html("th", { scope: "row" }, html("button", { type: "button", class: "link",
-          click: () => this.actions.choose(job), keydown: (event) => this.key(event, job) }, each));
+          click: () => this.actions.choose(job),
+          keydown: (event) => this.key(event, job, item) }, each));
       }
       if (isTick) return html("td", { class: "tick" }, this.box(item));
       return html("td", { "data-head": head },
@@ -196,18 +197,12 @@ export class ListView {
       change: () => this.actions.tick(job, piece) });
   }
 
-  /** Whether jobs can be ticked off: not in plain numbers, where no one knows what time it is. */
-  get isTicking() {
-    return this.tick.checked && this.plan.calendar !== null;
-  }
-
   /** How much is done, whether the rest is in time, and the boxes of what is done. */
   drawTicked() {
     const { plan, tick, ticked } = this;
-    tick.closest("label").hidden = plan.calendar === null;
     const { done } = plan;
     ticked.replaceChildren();
-    if (done.length === 0 || plan.calendar === null) return;
+    if (done.length === 0) return;
     const late = plan.jobs.reduce((count, _, job) => count + (lateness(plan, job) > 0 ? 1 : 0), 0);
     ticked.append(html("p", { class: late > 0 ? "fault" : "good" }, `${done.length} of `
       + `${done.length + plan.jobs.length} done. ${restWords(plan, late)}`));
@@ -218,11 +213,11 @@ export class ListView {
   }
 
   /** Alt with the arrows moves a job before or behind its neighbour on the machine. */
-  key(event, job) {
+  key(event, job, item) {
     const way = { ArrowUp: "left", ArrowDown: "right" }[event.key];
     if (!way || !event.altKey) return;
     event.preventDefault();
-    this.actions.move(job, way);
+    this.actions.move(job, way, this.isByMachine ? this.plan.schedule.machine[item] : null);
   }
 
   /** Whether print has a list for each machine: on one machine the list by jobs says it all. */
@@ -253,9 +248,13 @@ export class ListView {
 
   /** The machines of a job, and in how many pieces it is where it is preempted. */
   machineWords(job) {
-    const { pieces, machine, schedule, order, isPreempted, names } = this.plan;
+    const { jobs, pieces, machine, schedule, order, isPreempted, names } = this.plan;
     const word = (each) => names[each - 1] || String(each);
     if (pieces[job] <= 1) return pieces[job] === 0 ? "" : word(machine[job]);
+    const { steps } = jobs[job];
+    if (steps) {
+      return steps.filter(({ time }) => time > 0).map((step) => word(step.machine)).join(", ");
+    }
     const found = new Set();
     for (const piece of order) {
       if (schedule.job[piece] === job + 1) found.add(schedule.machine[piece]);

@@ -1,12 +1,12 @@
 // The names of machines: a text such as “Sawing; Painting”, in the order of the machines.
 
-const LONGEST_NAME = 100;
-const MOST_NAMES = 1000;
+export const LONGEST_NAME = 100;
+export const MOST_MACHINES = 1000;
 
 /** The names in a text, between semicolons, or between commas where there is no semicolon. */
 export function machineNames(text) {
   const mark = text.includes(";") ? ";" : ",";
-  return text.split(mark).slice(0, MOST_NAMES)
+  return text.split(mark).slice(0, MOST_MACHINES)
     .map((name) => name.replace(/\s+/g, " ").trim().slice(0, LONGEST_NAME));
 }
 

@@ -1,7 +1,7 @@
 // The page: keeps state, solver and views together.
 
 import { assumptionsOf } from "./assumptions.js";
-import { makeCalendar } from "./calendar.js";
+import { isDated, makeCalendar } from "./calendar.js";
 import { CalendarView } from "./calendar_view.js";
 import { EXAMPLE_TITLES, exampleState } from "./examples.js";
 import { Files } from "./files.js";
@@ -17,7 +17,7 @@ import { PlanView, startOfText } from "./plan_view.js";
 import { PrecedenceView } from "./precedence_view.js";
 import { fromNow, tickedOff, unticked } from "./progress.js";
 import { PromiseView } from "./promise_view.js";
-import { columnsUsed, describe, needsMachines, readNotation } from "./problems.js";
+import { columnsUsed, describe, hasRoutes, needsMachines, readNotation } from "./problems.js";
 import { ProblemView } from "./problem_view.js";
 import { explainRefusal } from "./refusals.js";
 import { RowsView } from "./rows_view.js";
@@ -31,7 +31,7 @@ import { FIELDS, RowReader, isEmptyRow, makeTable, newRow } from "./table.js";
 
 const REST = 150;
 const PATIENCE = 400;
-const UNKNOWN = new Set(FIELDS.filter((field) => field !== "time2"));
+const UNKNOWN = new Set(FIELDS.filter((field) => field !== "time2" && field !== "route"));
 const WELCOME = "Paste your jobs from a spreadsheet, type them into the table, or choose an "
   + "example: the plan is made as you type.";
 
@@ -45,7 +45,7 @@ class Page {
     this.problemView = new ProblemView(this.store);
     this.calendarView = new CalendarView(this.store);
     this.rowsView = new RowsView(this.store);
-    this.notify = (message) => this.showNotice(message);
+    this.notify = (...words) => this.showNotice(...words);
     this.importView = new ImportView(this.store, this.notify);
     this.precedenceView = new PrecedenceView(this.store, () => this.now?.table);
     this.planView = new PlanView({
@@ -59,7 +59,7 @@ class Page {
     this.own = new OwnPlan({ store: this.store, request: () => this.now, best: () => this.best,
       shown: () => this.shown, ask: (request) => this.solving.ask(request),
       show: () => this.showOwn(), showing: () => this.showing,
-      point: (job) => this.planView.chart.pointAt(job) });
+      point: (job, machine) => this.planView.chart.pointAt(job, machine) });
     this.judgeView = new JudgeView({
       request: () => this.now, ownAnswer: () => this.shown?.answer ?? null,
       ask: (request) => this.solving.ask(request),
@@ -149,10 +149,10 @@ class Page {
     this.planView.showMessage(this.cannotRun);
   }
 
-  showNotice(message) {
+  showNotice(message, ...more) {
     const place = document.getElementById("notice");
     place.hidden = message === "";
-    place.replaceChildren(message, " ", html("button", { type: "button", class: "link",
+    place.replaceChildren(message, " ", ...more, html("button", { type: "button", class: "link",
       click: () => this.showNotice("") }, "Close"));
   }
 
@@ -176,7 +176,8 @@ class Page {
     document.getElementById("redo").disabled = !this.store.canRedo;
     if (isOther("own")) this.own.isAway = false;
     this.own.say("");
-    if (isOther("rows", "problem", "machines", "settings")) {
+    const areRouted = hasRoutes(readNotation(state.problem)) && isOther("machineNames");
+    if (areRouted || isOther("rows", "problem", "machines", "settings")) {
       this.version++;
       this.planView.setBusy(true);
       this.judgeView.clear();
@@ -202,7 +203,7 @@ class Page {
     const table = await makeTable(state.rows, this.readerOf(calendar, used, goesOn), async () => {
       await new Promise((resolve) => setTimeout(resolve));
       return version === this.version;
-    });
+    }, machineNames(state.machineNames));
     if (!table || version !== this.version) return undefined;
     const machines = readMachines(state, problem);
     this.showTable(table, machines);
@@ -271,11 +272,15 @@ class Page {
   madeOf(reply) {
     const { table, calendar } = this.now;
     const { state } = this.store;
-    const plan = makePlan(table, reply.schedule, reply.evaluation, calendar,
-      machineNames(state.machineNames));
+    const plan = makePlan(table, reply.schedule, reply.evaluation, calendar, this.names);
     if (reply.isOptimal === false) plan.isOptimal = false;
     return { plan, evaluation: reply.evaluation, answer: reply.answer,
       assumptions: assumptionsOf(table, calendar, state) };
+  }
+
+  /** The names of the machines: of the routes, or as they are typed. */
+  get names() {
+    return this.now?.table.names ?? machineNames(this.store.state.machineNames);
   }
 
   /** Takes the better plan and the better bound of a longer search and of those before it. */
@@ -306,8 +311,9 @@ class Page {
   fromNow() {
     const { state } = this.store;
     const { calendar } = this.made;
-    if (!calendar) {
-      this.notify("A plan in plain numbers has no dates: choose a time step under “Calendar”.");
+    if (!isDated(calendar)) {
+      this.notify("A plan in plain numbers has no clock: tick off in its list what is done, or "
+        + "choose a time step under “Calendar”.");
       return;
     }
     const plan = this.shown?.plan ?? null;
@@ -321,7 +327,7 @@ class Page {
   /** A job is done, or the piece of it that was ticked: what is left goes on from now. */
   tick(job, piece) {
     const { calendar } = this.made;
-    if (!this.shown || !calendar) return;
+    if (!this.shown) return;
     this.store.change(tickedOff(this.store.state, calendar, this.shown.plan, job, piece,
       new Date()));
   }
@@ -345,7 +351,7 @@ class Page {
     this.showBeginning(false);
     this.problemView.fold();
     const { plan } = this.shown;
-    const names = machineNames(this.store.state.machineNames);
+    const { names } = this;
     Object.assign(this.best.plan, { names });
     Object.assign(plan, { names });
     this.own.draw();
@@ -416,7 +422,7 @@ class Page {
 
   // ---- what is remembered from one change to the next ----
 
-  /** The calendar of the settings; null for plain numbers, undefined where they are at fault. */
+  /** The calendar of the settings; null for plain numbers from 0, undefined where it is at fault. */
   calendarOf(settings) {
     if (this.settings !== settings) {
       this.settings = settings;

@@ -1,6 +1,6 @@
 // Moved bars: what each machine does in order, and the same with a job at another place.
 
-import { isShop, readNotation } from "./problems.js";
+import { hasRoutes, isShop, readNotation } from "./problems.js";
 
 /** The most jobs of a plan whose bars are moved; larger charts are too dense. */
 const MOST_MOVED = 1999;
@@ -25,6 +25,9 @@ export function whyFixed(plan) {
   if (plan.jobs.length > MOST_MOVED) return "Bars are moved in plans of fewer than 2,000 jobs.";
   if (plan.isPreempted) return "Jobs of this plan are done in pieces, so bars are not moved.";
   if (problem?.environment === "O") return "Bars of an open shop are not moved.";
+  if (hasRoutes(problem) && problem.conditions.includes("nwt")) {
+    return "Bars of a job shop without waiting are not moved.";
+  }
   if (!isShop(problem)) return "";
   const [all] = rowsOf(plan);
   const isOneOrder = plan.rows.every(([first, end]) => {
@@ -42,6 +45,11 @@ export function whyFixed(plan) {
  * @typedef {{machine: number, before: ?number}} Target
  */
 
+/** Whether the steps of a job are moved by themselves, each on its own machine. */
+export function isByStep(plan) {
+  return hasRoutes(readNotation(plan.problem));
+}
+
 /** Where a job goes that is dropped at a time on a machine. @returns {Target} */
 export function targetAt(plan, job, machine, step) {
   const { schedule, order } = plan;
@@ -53,12 +61,15 @@ export function targetAt(plan, job, machine, step) {
 /**
  * Where a job goes by one place or machine, or null where it is the first or last.
  * @param {"left"|"right"|"up"|"down"} way
+ * @param {?number} on the machine of the step that is moved, in a job shop
  * @returns {?Target}
  */
-export function targetBeside(plan, job, way) {
+export function targetBeside(plan, job, way, on = null) {
   const rows = rowsOf(plan);
-  const machine = rows.findIndex((row) => row.includes(job)) + 1;
+  const isStep = isByStep(plan);
+  const machine = isStep && on ? on : rows.findIndex((row) => row.includes(job)) + 1;
   if (way === "up" || way === "down") {
+    if (isStep) return null;
     const other = machine + (way === "up" ? -1 : 1);
     return rows[other - 1] ? targetAt(plan, job, other, plan.start[job]) : null;
   }
@@ -67,9 +78,13 @@ export function targetBeside(plan, job, way) {
   return at < 0 || at > row.length ? null : { machine, before: row[at] ?? null };
 }
 
-/** The rows with a job moved, or null where it is there already. */
-export function movedRows(rows, job, { machine, before }) {
-  const moved = rows.map((row) => row.filter((each) => each !== job));
+/**
+ * The rows with a job moved, or null where it is there already.
+ * @param {boolean} isStep whether the other machines of the job keep their order
+ */
+export function movedRows(rows, job, { machine, before }, isStep = false) {
+  const moved = rows.map((row, k) => isStep && k !== machine - 1 ? row
+    : row.filter((each) => each !== job));
   const row = moved[Math.min(machine, rows.length) - 1];
   row.splice(before === null ? row.length : row.indexOf(before), 0, job);
   return moved.join(";") === rows.join(";") ? null : moved;
@@ -89,6 +104,7 @@ export function identitiesOf(rows, jobs) {
 export function placesOf(own, jobs, machines, problem) {
   if (own.length !== (isShop(problem) ? 1 : machines) || jobs.length > MOST_MOVED) return null;
   const places = new Map(jobs.map(({ id }, place) => [id, place]));
+  if (hasRoutes(problem)) return placesOfSteps(own, jobs, places);
   const rows = own.map((row) => row.map((id) => places.get(id))
     .filter((place) => place !== undefined));
   const known = new Set(rows.flat());
@@ -101,4 +117,16 @@ export function placesOf(own, jobs, machines, problem) {
     work[machine] += time;
   });
   return rows;
+}
+
+/** The same of a job shop: each machine has the jobs whose routes come to it. */
+function placesOfSteps(own, jobs, places) {
+  const wanted = own.map(() => new Set());
+  jobs.forEach(({ steps }, place) => {
+    for (const { machine, time } of steps) if (time > 0) wanted[machine - 1]?.add(place);
+  });
+  const rows = own.map((row, k) => row.map((id) => places.get(id))
+    .filter((place) => place !== undefined && wanted[k].delete(place)));
+  if (rows.every((row) => row.length === 0)) return null;
+  return rows.map((row, k) => [...row, ...wanted[k]]);
 }

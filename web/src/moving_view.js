@@ -1,7 +1,7 @@
 // Moves bars: with the mouse or a finger, with the keys, or with the buttons below the chart.
 
 import { placeAt, pointOf } from "./chart.js";
-import { targetAt, targetBeside } from "./moving.js";
+import { isByStep, targetAt, targetBeside } from "./moving.js";
 import { html, svg } from "./svg.js";
 
 const SLOP = 6;
@@ -28,7 +28,8 @@ export class MovingView {
       if (event.key === "Escape") this.letGo();
     });
     for (const button of document.querySelectorAll("[data-move]")) {
-      button.addEventListener("click", () => this.step(chart.chosen, button.dataset.move));
+      button.addEventListener("click", () =>
+        this.step(chart.chosen, button.dataset.move, chart.chosenOn));
     }
     chart.onDraw = () => this.draw();
   }
@@ -55,23 +56,24 @@ export class MovingView {
       isDense ? " Zoom in to move short jobs." : ""] : [fixed]);
   }
 
-  /** Moves a job by one place, or to the next machine. */
-  step(job, way) {
+  /** Moves a job by one place, in a job shop on one of its machines, or to the next machine. */
+  step(job, way, machine) {
     const { plan, fixed } = this.chart;
-    if (fixed === "" && plan.jobs[job]) this.move(job, targetBeside(plan, job, way));
+    if (fixed === "" && plan.jobs[job]) this.move(job, targetBeside(plan, job, way, machine));
   }
 
   // ---- keys ----
 
   key(event) {
-    const { job } = event.target.dataset;
+    const { job, machine } = event.target.dataset;
     if (job === undefined || event.ctrlKey || event.metaKey || event.altKey) return;
     const way = WAYS[event.key];
     const isAlong = way === "left" || way === "right";
-    if (way && (isAlong !== event.shiftKey)) this.step(Number(job), way);
+    if (way && (isAlong !== event.shiftKey)) this.step(Number(job), way, Number(machine));
     else if (way && !isAlong) this.walk(event.target, way);
-    else if (event.key === "Enter" || event.key === " ") this.chart.pointAt(Number(job));
-    else return;
+    else if (event.key === "Enter" || event.key === " ") {
+      this.chart.pointAt(Number(job), Number(machine));
+    } else return;
     event.preventDefault();
     event.stopPropagation();
   }
@@ -83,7 +85,7 @@ export class MovingView {
     const rest = way === "down" ? bars.slice(from + 1) : bars.slice(0, from).reverse();
     const next = rest.find((each) => each.dataset.job !== bar.dataset.job);
     if (!next) return;
-    this.chart.pointAt(Number(next.dataset.job));
+    this.chart.pointAt(Number(next.dataset.job), Number(next.dataset.machine));
     next.focus();
   }
 
@@ -96,7 +98,8 @@ export class MovingView {
     const job = Number(bar.dataset.job);
     // A finger that scrolls the page must not move anything.
     if (event.pointerType === "touch" && job !== chart.chosen) return;
-    this.held = { job, bar, pointer: event.pointerId, x: event.clientX, y: event.clientY };
+    this.held = { job, bar, pointer: event.pointerId, x: event.clientX, y: event.clientY,
+      machine: isByStep(chart.plan) ? Number(bar.dataset.machine) : null };
   }
 
   drag(event) {
@@ -108,9 +111,10 @@ export class MovingView {
     const box = chart.chart.getBoundingClientRect();
     const at = placeAt(chart.plan, chart.view, (event.clientX - box.left) / chart.scale,
       (event.clientY - box.top) / chart.scale);
-    held.target = targetAt(chart.plan, held.job, at.machine, at.step);
+    const machine = held.machine ?? at.machine;
+    held.target = targetAt(chart.plan, held.job, machine, at.step);
     held.ghost.setAttribute("transform", `translate(${x / chart.scale} ${y / chart.scale})`);
-    const point = pointOf(chart.plan, chart.view, at.machine, this.boundary(held.target));
+    const point = pointOf(chart.plan, chart.view, machine, this.boundary(held.target));
     held.mark.setAttribute("d", `M${point.x} ${point.y - 3}v${point.height + 6}`);
   }
 

@@ -1,7 +1,7 @@
 // From an order of jobs to a schedule in which each job starts as soon as it can in that order.
 
 import { splitNames } from "./precedence.js";
-import { isShop, readNotation } from "./problems.js";
+import { hasRoutes, isShop, readNotation } from "./problems.js";
 
 /**
  * Reads an order of jobs by names or numbers.
@@ -40,7 +40,9 @@ export function readOrder(text, table) {
  * @param {number} machines
  */
 export function answerOfOrder(order, now, problem, machines) {
-  if (isShop(problem)) return answerOfRows([order], now, machines);
+  if (isShop(problem) || hasRoutes(problem)) {
+    return answerOfPieces(shopPieces(order, tasksOf(now), problem), now, machines);
+  }
   const free = Array(machines).fill(0);
   const rows = free.map(() => []);
   const { jobs } = tasksOf(now);
@@ -60,8 +62,12 @@ export function answerOfOrder(order, now, problem, machines) {
  */
 export function answerOfRows(rows, now, machines) {
   const problem = readNotation(now.problem);
-  const pieces = isShop(problem) ? shopPieces(rows[0], tasksOf(now), problem)
-    : machinePieces(rows, tasksOf(now));
+  const tasks = tasksOf(now);
+  return answerOfPieces(isShop(problem) ? shopPieces(rows[0], tasks, problem)
+    : hasRoutes(problem) ? routePieces(rows, tasks) : machinePieces(rows, tasks), now, machines);
+}
+
+function answerOfPieces(pieces, now, machines) {
   return ["answer 2", `problem ${now.problem}`, `jobs ${now.table.jobs.length}`,
     `machines ${machines}`, "value 0", ...pieces.map((piece) => `piece ${piece.join(" ")}`),
     "cert load", "end", ""].join("\n");
@@ -73,8 +79,14 @@ function tasksOf({ table, problem }) {
   const has = (id) => conditions.includes(id);
   const before = table.jobs.map(() => []);
   if (has("prec")) for (const [first, then] of table.arcs) before[then].push(first);
-  return { before, jobs: table.jobs.map(({ time, release, fields }) =>
-    ({ time, release: has("rj") ? release : 0, fields })) };
+  return { before, jobs: table.jobs.map(({ time, release, fields, steps }) =>
+    ({ time, release: has("rj") ? release : 0, steps: steps ?? stepsOfTimes(fields) })) };
+}
+
+/** The route of a job with a time on each of two machines: first one, then the other. */
+function stepsOfTimes(fields) {
+  const times = /p=(\d+),(\d+)/.exec(fields)?.slice(1) ?? [];
+  return times.map((time, k) => ({ machine: k + 1, time: Number(time) }));
 }
 
 /** When a job can start: after its release, and after the jobs before it that have a stop. */
@@ -109,23 +121,65 @@ function machinePieces(rows, tasks) {
   }
 }
 
-/** Each job goes to machine 1, and then to machine 2, in the same order on both. */
+/**
+ * Each job goes along its route, behind those that are before it in the order on each machine.
+ * Steps that take no time are no pieces.
+ */
 function shopPieces(order, tasks, { conditions }) {
-  const { jobs } = tasks;
-  const free = [0, 0];
+  const free = [];
   const stops = new Map();
-  const waits = !conditions.includes("nwt");
+  const isFree = (machine) => free[machine] ?? 0;
   return order.flatMap((place) => {
-    const times = /p=(\d+),(\d+)/.exec(jobs[place].fields).slice(1).map(Number);
-    const start = Math.max(earliest(place, tasks, stops), times[0] === 0 ? 0 : free[0],
-      waits ? 0 : free[1] - times[0]);
-    const ready = start + times[0];
-    const second = times[1] === 0 ? ready : Math.max(ready, free[1]);
-    const pieces = [[place + 1, 1, start, ready], [place + 1, 2, second, second + times[1]]];
-    for (const [, machine, , stop] of pieces) {
-      if (times[machine - 1] > 0) free[machine - 1] = stop;
-    }
-    stops.set(place, second + times[1]);
-    return pieces.filter((_, k) => times[k] > 0);
+    const steps = tasks.jobs[place].steps.filter(({ time }) => time > 0);
+    let at = earliest(place, tasks, stops);
+    if (conditions.includes("nwt")) at = startWithoutWaiting(steps, at, isFree);
+    const pieces = steps.map(({ machine, time }) => {
+      const start = Math.max(at, isFree(machine));
+      at = start + time;
+      free[machine] = at;
+      return [place + 1, machine, start, at];
+    });
+    stops.set(place, at);
+    return pieces;
   });
+}
+
+/** The first time at which a job can start and then go on without a wait. */
+function startWithoutWaiting(steps, from, isFree) {
+  let before = 0;
+  return steps.reduce((start, { machine, time }) => {
+    before += time;
+    return Math.max(start, isFree(machine) - before + time);
+  }, from);
+}
+
+/**
+ * Each step waits for the one before it on its route, and for the job before it on its machine.
+ * Where the machines wait for one another, one of them doesn't, as in `machinePieces`.
+ */
+function routePieces(rows, tasks) {
+  const free = rows.map(() => 0);
+  const done = rows.map(() => 0);
+  const left = tasks.jobs.map(({ steps }) => steps.filter(({ time }) => time > 0));
+  const ready = tasks.jobs.map(() => 0);
+  const stops = new Map();
+  const hasWork = (machine) => done[machine] < rows[machine].length;
+  const isReady = (machine) => {
+    const place = rows[machine][done[machine]];
+    return hasWork(machine) && left[place][0]?.machine === machine + 1
+      && tasks.before[place].every((each) => stops.has(each));
+  };
+  const machines = rows.map((_, machine) => machine);
+  const pieces = [];
+  for (;;) {
+    const machine = machines.find(isReady) ?? machines.find(hasWork);
+    if (machine === undefined) return pieces;
+    const place = rows[machine][done[machine]++];
+    const at = left[place].findIndex((step) => step.machine === machine + 1);
+    const [{ time }] = left[place].splice(at, 1);
+    const start = Math.max(free[machine], ready[place], earliest(place, tasks, stops));
+    ready[place] = free[machine] = start + time;
+    if (left[place].length === 0) stops.set(place, ready[place]);
+    pieces.push([place + 1, machine + 1, start, ready[place]]);
+  }
 }

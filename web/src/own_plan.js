@@ -2,7 +2,7 @@
 
 import { judgeText } from "./judge_view.js";
 import { machineNames } from "./machines.js";
-import { identitiesOf, movedRows, placesOf, rowsOf } from "./moving.js";
+import { identitiesOf, isByStep, movedRows, placesOf, rowsOf } from "./moving.js";
 import { answerOfRows } from "./order.js";
 import { makePlan } from "./plan.js";
 import { readNotation } from "./problems.js";
@@ -16,7 +16,7 @@ export class OwnPlan {
   /**
    * @param {object} source `store`; `request()` the request of now, or null; `best()` and `shown()`
    *   what the module made and what is shown; `ask(request)` asks the worker; `show()` shows the
-   *   plan of now, and after `showing()` it is shown; `point(job)` shows where a job is
+   *   plan of now, and after `showing()` it is shown; `point(job, machine)` shows where a job is
    */
   constructor(source) {
     this.source = source;
@@ -53,7 +53,7 @@ export class OwnPlan {
     if (!now || before?.jobs !== now.table.jobs) return;
     const name = `“${before.jobs[job].name}”`;
     if (!target) return this.say("note", `${name} can't go further that way.`);
-    const rows = movedRows(rowsOf(before), job, target);
+    const rows = movedRows(rowsOf(before), job, target, isByStep(before));
     if (!rows) return;
     const own = identitiesOf(rows, before.jobs);
     const timer = setTimeout(() => this.say("note", `Judging the plan with ${name} moved …`),
@@ -65,7 +65,7 @@ export class OwnPlan {
     if (made.fault) return this.say("fault", `${name} was not moved: ${made.fault}`);
     store.change({ own });
     await showing();
-    point(job);
+    point(job, target.machine);
     const { plan } = made;
     this.say(plan.isOptimal ? "good" : "note", `${name} is moved: allowed, `
       + `${costWords(before, plan)}, ${gapWords(plan) ?? "how far above the optimum is unknown"}. `,
@@ -109,7 +109,7 @@ export class OwnPlan {
   planOf({ evaluation, schedule }, { table, calendar }, best) {
     const { value } = evaluation;
     const plan = makePlan(table, { ...schedule, value }, evaluation, calendar,
-      machineNames(this.source.store.state.machineNames));
+      table.names ?? machineNames(this.source.store.state.machineNames));
     // A longer search may have found a greater bound than the evaluation.
     const least = evaluation.best ?? (best.isOptimal ? best.value
       : greater(evaluation.bound, best.bound?.value));

@@ -1,6 +1,6 @@
 // A plan: the schedule that the module made, by job and by machine, with what the page adds to it.
 
-import { momentField, minutesSince } from "./calendar.js";
+import { isDated, minutesSince, momentField } from "./calendar.js";
 import { release } from "./memory.js";
 
 /** How many letters of colours the chart has; neighbours on a machine never share one. */
@@ -190,7 +190,7 @@ export function keepPlan(plan) {
     problem: plan.problem, value: plan.value,
     ids: plan.jobs.map((job) => job.id), names: plan.jobs.map((job) => job.name),
     start: [...plan.start], completion: [...plan.completion],
-    begin: calendar ? momentField(calendar, 0, false) : "", step: calendar?.stepMinutes ?? 0,
+    begin: momentField(calendar, 0, false), step: calendar?.stepMinutes ?? 0,
   };
 }
 
@@ -224,7 +224,11 @@ export function comparePlans(kept, plan) {
 
 /** Turns steps of a kept plan into those of a calendar that may start later or step otherwise. */
 function stepsOfKept({ begin, step }, calendar) {
-  if (!calendar || !begin || !step) return (each) => each;
+  if (!isDated(calendar)) {
+    const by = !step && /^\d+$/.test(begin) ? Number(momentField(calendar, 0, false)) - begin : 0;
+    return (each) => each - by;
+  }
+  if (!begin || !step) return (each) => each;
   const passed = minutesSince(calendar, begin);
   return (each) => (each * step - passed) / calendar.stepMinutes;
 }

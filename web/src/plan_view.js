@@ -23,7 +23,8 @@ export class PlanView {
     this.chart = new ChartView();
     this.moving = new MovingView(this.chart, actions.move);
     this.list = new ListView({ choose: (job) => this.chart.pointAt(job),
-      move: (job, way) => this.moving.step(job, way), tick: actions.tick, untick: actions.untick });
+      move: (job, way, machine) => this.moving.step(job, way, machine),
+      tick: actions.tick, untick: actions.untick });
     this.plan = null;
   }
 

@@ -103,20 +103,26 @@ export class NameIndex {
 
   /** The name of a job that is spelled much like this; not for many names or many jobs. */
   nearest(name) {
-    if (name.length > LONGEST_COMPARED || this.jobs.length > MOST_COMPARED) return null;
+    if (this.jobs.length > MOST_COMPARED) return null;
     if (this.suggested++ > MOST_SUGGESTED) return null;
-    const wanted = name.toLowerCase();
-    let best = null;
-    let least = Math.max(1, Math.floor(name.length / 3)) + 1;
-    for (const each of this.byName.keys()) {
-      const distance = editDistance(wanted, each.toLowerCase(), least);
-      if (distance < least) {
-        best = each;
-        least = distance;
-      }
-    }
-    return best;
+    return nearestName(name, this.byName.keys());
   }
+}
+
+/** The name that is spelled much like this, or null. */
+export function nearestName(name, names) {
+  if (name.length > LONGEST_COMPARED) return null;
+  const wanted = name.toLowerCase();
+  let best = null;
+  let least = Math.max(1, Math.floor(name.length / 3)) + 1;
+  for (const each of names) {
+    const distance = editDistance(wanted, each.toLowerCase(), least);
+    if (distance < least) {
+      best = each;
+      least = distance;
+    }
+  }
+  return best;
 }
 
 /** What to write in place of a name that is a number of a row or a link of a project plan. */

@@ -146,14 +146,16 @@ function unusedWords(problem, table) {
 export function unusedColumns(problem, table) {
   const used = problems.columnsUsed(problem);
   const counts = {
+    time: table.jobs.filter((job) => job.hasTime).length,
+    route: table.jobs.filter((job) => job.hasRoute).length,
     time2: table.jobs.filter((job) => job.hasTime2).length,
     weight: table.jobs.filter((job) => job.weight !== null).length,
     release: table.jobs.filter((job) => job.hasRelease).length,
     cost: table.jobs.filter((job) => job.hasCost).length,
     after: table.arcs.length,
   };
-  const words = { time2: "times on machine 2", weight: "weights", release: "release dates",
-    cost: "cost functions", after: "precedence constraints" };
+  const words = { time: "times", route: "routes", time2: "times on machine 2",
+    weight: "weights", release: "release dates", cost: "cost functions", after: "precedence constraints" };
   return Object.entries(counts).filter(([field, count]) => count > 0 && !used.has(field))
     .map(([field, count]) => `${words[field] ?? FIELD_WORDS[field]} (${count})`);
 }

@@ -6,6 +6,7 @@ export const ENVIRONMENTS = [
   { id: "P", words: "Identical machines in parallel" },
   { id: "F", words: "Flow shop: machine 1, then machine 2" },
   { id: "O", words: "Open shop: two machines in any order" },
+  { id: "J", words: "Job shop: each job has its own route" },
 ];
 
 export const OBJECTIVES = [
@@ -106,25 +107,31 @@ export function isShop(problem) {
   return ["F", "O"].includes(problem.environment);
 }
 
-/** Whether the number of machines has to come from beside the notation. */
+/** Whether a job has a route: its own machines, in its own order, with a time on each. */
+export function hasRoutes(problem) {
+  return problem?.environment === "J";
+}
+
+/** Whether the number of machines has to come from beside the notation; routes name theirs. */
 export function needsMachines(problem) {
-  return problem.environment !== "1" && problem.count === null;
+  return problem.environment !== "1" && !hasRoutes(problem) && problem.count === null;
 }
 
 /** The columns of the table that a problem uses, besides name and processing time. */
 export function columnsUsed(problem) {
   const parts = [...CONDITIONS, ...OBJECTIVES].filter(
     (part) => problem.conditions.includes(part.id) || problem.objective === part.id);
-  return new Set(["name", "time", ...(isShop(problem) ? ["time2"] : []),
-    ...parts.flatMap((part) => part.uses)]);
+  return new Set(["name", hasRoutes(problem) ? "route" : "time",
+    ...(isShop(problem) ? ["time2"] : []), ...parts.flatMap((part) => part.uses)]);
 }
 
 /** A problem in a planner's words: “One machine, A before B: no job later than it has to be”. */
 export function inShort(problem) {
   const { environment, count, conditions, objective } = problem;
   const where = { 1: "One machine", P: `${count ?? "Several"} like machines`,
-    F: "One machine, then the other", O: "Two machines in any order", J: "Job shop",
-    Q: "Machines of different speeds", R: "Machines that differ" }[environment];
+    F: "One machine, then the other", O: "Two machines in any order",
+    J: "Each job on its own route", Q: "Machines of different speeds",
+    R: "Machines that differ" }[environment];
   const rules = { prec: "some jobs after others", rj: "jobs that come later",
     prmp: "jobs may be interrupted" };
   const kept = conditions.map((id) => rules[id]).filter(Boolean);
@@ -143,7 +150,7 @@ const GOALS = {
 export function describe(problem) {
   const { environment, count, conditions, objective } = problem;
   const where = ENVIRONMENTS.find((each) => each.id === environment)?.words ?? {
-    Q: "Machines of different speeds", R: "Unrelated machines", J: "Job shop",
+    Q: "Machines of different speeds", R: "Unrelated machines",
   }[environment];
   const machines = count === null || isShop(problem) && count === 2 ? "" : ` (${count})`;
   const goal = OBJECTIVES.find((each) => each.id === objective).words;

@@ -1,6 +1,8 @@
 // Asks what can be promised for a new order, and says why not earlier.
 
-import { lengthText, momentField, momentText, readDuration, readMoment } from "./calendar.js";
+import {
+  isDated, lengthText, momentField, momentText, readDuration, readMoment,
+} from "./calendar.js";
 import { splitNames } from "./precedence.js";
 import { canPromise, promiseReason, promiseRequest } from "./promise.js";
 import { lateness } from "./plan.js";
@@ -80,7 +82,7 @@ export class PromiseView {
     const others = late === 0 ? "With that date no order is late."
       : `With that date no order is later than in the optimal plan: ${late === 1 ? "the one that is"
         : `the ${late} that are`} late now may be done when the plan has it done.`;
-    const step = calendar ? `A step of ${lengthText(calendar, 1)}` : "One";
+    const step = isDated(calendar) ? `A step of ${lengthText(calendar, 1)}` : "One";
     const row = { ...order.texts, due: momentField(calendar, found.due, true) };
     this.say(
       html("p", { class: "good" }, `“${order.name}” can be promised for `,

@@ -62,9 +62,12 @@ const REFUSALS = {
   MachinesDisagree: at("machines", "The notation and this field give two numbers of machines."),
   MachineCount: ([count]) =>
     ({ place: "machines", message: `A shop has two machines here, and not ${count}.` }),
-  WrongTimes: ([job], table, problem) => /^\s*[FO]/.test(problem)
-    ? atRow(job, table, "time2", "In a shop a job has two processing times.")
-    : atRow(job, table, "time", "Outside a shop a job has one processing time."),
+  WrongTimes: ([job], table, problem) => /^\s*J/.test(problem)
+    ? atRow(job, table, "route", `A machine of this route is beyond the number of machines of `
+      + `${problem}: write J, or change the route.`)
+    : /^\s*[FO]/.test(problem)
+      ? atRow(job, table, "time2", "In a shop a job has two processing times.")
+      : atRow(job, table, "time", "Outside a shop a job has one processing time."),
   MissingField: ([job, word], table, problem) => everyJob(table, job, (each) => lacks(each, word),
     word, `${problem} needs ${FIELD_NEEDED[word]} for each job; this one has none.`),
   ZeroTime: ([job], table) => everyJob(table, job, (each) => each.time === 0, "time",
@@ -170,7 +173,7 @@ const REASONS = {
     ? `${job(one)} starts on machine 2 before it is completed on machine 1.`
     : `${job(other)} starts before ${job(one)} is completed.`,
   OffRoute: (number, _, job) =>
-    `${job(number)} is on a machine before it is completed on an earlier one.`,
+    `${job(number)} is on a machine before it is completed on an earlier one of its route.`,
   NoOneOrder: () => "No order of the jobs is the same on all machines, as the problem wants it.",
   Waits: (number, _, job) =>
     `${job(number)} waits between two machines, which the problem does not allow.`,

@@ -4,11 +4,11 @@ import { assumedOf } from "./calendar.js";
 import { machineNames } from "./machines.js";
 import { Pager, PAGE } from "./pager.js";
 import { html } from "./svg.js";
+import { unitOfRoute } from "./routes.js";
 import { FIELDS, FIELD_WORDS, newRow } from "./table.js";
 
-const HINTS = { name: "", time: "3", time2: "2", left: "", weight: "1", due: "", release: "",
-  cost: "0,5:10", after: "names" };
-const ALWAYS = ["name", "time"];
+const HINTS = { name: "", time: "3", time2: "2", route: "3@1, 4@2", left: "", weight: "1",
+  due: "", release: "", cost: "0,5:10", after: "names" };
 const COLUMNS = Object.keys(FIELD_WORDS);
 const MOST_LISTED = 5;
 
@@ -45,7 +45,7 @@ export class RowsView {
   columns() {
     if (this.allColumns.checked) return COLUMNS;
     const { rows } = this.store.state;
-    return COLUMNS.filter((field) => ALWAYS.includes(field) || this.used.has(field)
+    return COLUMNS.filter((field) => field === "name" || this.used.has(field)
       || this.wanted.has(field)
       || ["due", "left"].includes(field) && rows.some((row) => row[field] !== ""));
   }
@@ -113,14 +113,14 @@ export class RowsView {
       autocomplete: "off", spellcheck: "false",
     });
     return html("td", {}, input, html("span", { class: "assumed-unit" },
-      assumedOf(this.calendar, field, row[field])));
+      addedTo(this.calendar, field, row[field])));
   }
 
   /** Reads texts by this calendar, and shows what it adds to them. */
   setCalendar(calendar) {
     this.calendar = calendar;
     for (const input of this.body.querySelectorAll("input")) {
-      input.nextElementSibling.textContent = assumedOf(calendar, input.dataset.field, input.value);
+      input.nextElementSibling.textContent = addedTo(calendar, input.dataset.field, input.value);
     }
   }
 
@@ -239,4 +239,9 @@ export class RowsView {
     }
     return lines;
   }
+}
+
+/** What is added to the text of a field when it is read, or "". */
+function addedTo(calendar, field, text) {
+  return field === "route" ? unitOfRoute(calendar, text) : assumedOf(calendar, field, text);
 }

@@ -1,6 +1,6 @@
 // Files to save: the plan as a table for spreadsheets, and the chart as a picture.
 
-import { lengthText, momentField } from "./calendar.js";
+import { isDated, lengthText, momentField } from "./calendar.js";
 import { lateness } from "./plan.js";
 import { csvLine } from "./spreadsheet.js";
 
@@ -47,7 +47,7 @@ export function planAsCsv(plan, { delimiter, decimal }) {
 
 /** A length of time as a number of hours, or of steps without a calendar. */
 function lengthField(calendar, steps, decimal) {
-  if (!calendar) return String(steps);
+  if (!isDated(calendar)) return String(steps);
   const hours = steps * calendar.stepMinutes / 60;
   return Number.isInteger(hours * 100) ? String(hours).replace(".", decimal)
     : lengthText(calendar, steps);

@@ -4,7 +4,6 @@
 //   const solver = await loadSolver(bytes);   // with 64-bit memory, or lowered to 32-bit memory
 //   solver.run(request)                       // { status, output: Uint8Array, errors: string }
 //   solver.can("plan")                        // whether the module has the command
-//   packedBytes(text)                         // of the module, deflated, as the page holds it
 //   solver.module                             // compiled: loadSolver takes it in place of bytes
 //
 // The module imports nothing. What is trusted of this script, since no proof reads it:
@@ -142,22 +141,4 @@ const loadSolver = (() => {
     return { module, can, run: request => run(module, request) };
   };
 })();
-
-/**
- * The bytes of a text: their number, a space, and two letters for each 13 bits, the lowest first.
- * Letters are those of ASCII from # to ~, except <.
- */
-const packedBytes = text => {
-  const from = text.indexOf(" ") + 1;
-  const bytes = new Uint8Array(Number(text.slice(0, from)));
-  const number = at => text.charCodeAt(at) - (text.charCodeAt(at) > 60 ? 36 : 35);
-  for (let at = from, place = 0, bits = 0, held = 0; at < text.length; at += 2) {
-    bits |= number(at) + 91 * number(at + 1) << held;
-    for (held += 13; held >= 8; held -= 8) {
-      bytes[place++] = bits;
-      bits >>>= 8;
-    }
-  }
-  return bytes;
-};
-if (typeof module !== "undefined") module.exports = { loadSolver, packedBytes };
+if (typeof module !== "undefined") module.exports = { loadSolver };

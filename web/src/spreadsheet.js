@@ -2,12 +2,17 @@
 
 import { needsCalendar } from "./calendar.js";
 import { plainLetters, unitOfWord } from "./lengths.js";
+import { isRouteText, timesOfRoute } from "./routes.js";
 import { FIELDS } from "./table.js";
 
 const LONGEST_HEADING = 100;
 const UNIT_AT_END =
   /^(.*?)\s*(?:[([]\s*([a-z]+)\.?\s*[)\]]|(?:[/,]|\s(?:in|en))\s*([a-z]+)\.?)$/;
+const PLAIN_STEP = /^\d[\d.,]*(?=\s*@)/;
 const DATED = new Set(["time", "time2", "due", "release", "left"]);
+// “Step 1”, “Arbeitsgang 2”, “Opération 3”: a column for each step of a route.
+const STEP =
+  /^(?:step|op|operation|schritt|arbeitsgang|ag|etape|phase|paso|operacion|fase|passo)\d+$/;
 
 const HEADINGS = {
   name: "name job task order item activity product title part id nr no number description "
@@ -29,6 +34,8 @@ const HEADINGS = {
   left: "left lefttodo remaining remainingtime resttime rest restzeit restdauer verbleibend reste "
     + "restant tempsrestant restante resto tiemporestante temporesiduo residuo",
   cost: "cost costs costfunction h hj kosten cout coste costo",
+  route: "route routing routes steps operations arbeitsplan arbeitsgange arbeitsfolge gamme etapes "
+    + "ruta pasos operaciones percorso ciclo operazioni",
   after: "after predecessor predecessors dependson depends needs requires previous follows nach "
     + "vorganger apres predecesseur predecesseurs despuesde tras predecesor predecesores dopo "
     + "predecessore predecessori",
@@ -139,8 +146,10 @@ export function readColumns(cells) {
   const first = cells[0] ?? [];
   const width = cells.reduce((most, row) => Math.max(most, row.length), 0);
   const parts = first.map(partsOfHeading);
-  const named = timesByUnit(parts);
-  if (named.includes("time") || named.filter(Boolean).length >= 2) {
+  const named = withRoutes(timesByUnit(parts), cells.slice(1));
+  const isHeading = ["time", "route"].some((field) => named.includes(field))
+    || named.filter(Boolean).length >= 2;
+  if (isHeading && !first.some(isRouteText)) {
     return { fields: padded(withoutRepeats(named, cells.slice(1)), width),
       headings: padded(first, width, ""), units: padded(parts.map(({ unit }) => unit), width) };
   }
@@ -167,16 +176,27 @@ function withoutRepeats(named, body) {
   const names = named.flatMap((field, place) => field === "name" ? [place] : []);
   const name = names.find((place) => !isNumber(place)) ?? names[0];
   return named.map((field, place) => field === "name" ? place === name ? field : null
-    : named.indexOf(field) === place ? field : null);
+    : field === "route" || named.indexOf(field) === place ? field : null);
 }
 
-/** Guesses the columns by what they hold: a name, a number for the time, a due date, names. */
+/** Columns without a name of their own that have steps in all their cells are those of a route. */
+function withRoutes(named, body) {
+  return named.map((field, place) => field ?? (isLike(body, place, isRouteText) ? "route" : null));
+}
+
+/** Whether the first cells of a column that have a text are all like this. */
+function isLike(body, place, holds) {
+  const filled = body.slice(0, 50).map((row) => row[place] ?? "").filter(Boolean);
+  return filled.length > 0 && filled.every(holds);
+}
+
+/**
+ * Guesses the columns by what they hold: a name, a number for the time or a route, a due date,
+ * names.
+ */
 function guessFields(body, width) {
-  const fields = Array(width).fill(null);
-  const isLike = (column, pattern) => {
-    const filled = body.slice(0, 50).map((row) => row[column] ?? "").filter(Boolean);
-    return filled.length > 0 && filled.every((cell) => pattern.test(cell));
-  };
+  const fields = withRoutes(Array(width).fill(null), body);
+  const has = (place, pattern) => isLike(body, place, (cell) => pattern.test(cell));
   let column = 0;
   const take = (field, holds) => {
     const found = fields.findIndex((each, place) => place >= column && !each && holds(place));
@@ -184,11 +204,12 @@ function guessFields(body, width) {
     fields[found] = field;
     column = found + 1;
   };
-  take("name", (place) => !isLike(place, /^[\d.,:]+$/));
-  take("time", (place) => isLike(place, /^\d+([.,:]\d+)?( ?[a-z]+)?$/i));
-  if (!fields.includes("time")) return fields;
-  take("due", (place) => isLike(place, /\d/));
-  take("after", (place) => !isLike(place, /^[\d.,:]+$/));
+  take("name", (place) => !has(place, /^[\d.,:]+$/));
+  if (fields.includes("route")) column = fields.lastIndexOf("route");
+  else take("time", (place) => has(place, /^\d+([.,:]\d+)?( ?[a-z]+)?$/i));
+  if (!fields.includes("time") && !fields.includes("route")) return fields;
+  take("due", (place) => has(place, /\d/));
+  take("after", (place) => !has(place, /^[\d.,:]+$/));
   return fields;
 }
 
@@ -203,7 +224,10 @@ function padded(list, width, filler = null) {
  */
 export function partsOfHeading(heading) {
   if (heading.length > LONGEST_HEADING) return { field: null, unit: null, words: "" };
-  const known = (words) => FIELD_OF_HEADING.get(words.replace(/[^a-z0-9]/g, "")) ?? null;
+  const known = (words) => {
+    const letters = words.replace(/[^a-z0-9]/g, "");
+    return FIELD_OF_HEADING.get(letters) ?? (STEP.test(letters) ? "route" : null);
+  };
   const plain = plainLetters(heading);
   const found = UNIT_AT_END.exec(plain);
   const unit = found ? unitOfWord(found[2] ?? found[3]) : null;
@@ -229,11 +253,21 @@ export function rowsOfCells(cells, columns, plain = null) {
     fields.forEach((field, place) => {
       if (!field) return;
       const cell = row[place] ?? "";
-      const isOther = DATED.has(field) && units[place] && units[place] !== plain;
-      values[field] = isOther && /^\d[\d.,]*$/.test(cell) ? `${cell} ${units[place]}` : cell;
+      const unit = units[place] === plain ? null : units[place];
+      if (field === "route") {
+        values.route = withStep(values.route, unit ? cell.replace(PLAIN_STEP, `$& ${unit}`) : cell);
+        return;
+      }
+      const isOther = DATED.has(field) && unit;
+      values[field] = isOther && /^\d[\d.,]*$/.test(cell) ? `${cell} ${unit}` : cell;
     });
     return values;
   });
+}
+
+/** A route with the step of one more column. */
+function withStep(route, cell) {
+  return [route, cell].filter(Boolean).join("; ");
 }
 
 /** The names of two machines, where the headings of their times are no words for a time. */
@@ -244,9 +278,9 @@ export function machinesOf({ fields, headings }) {
     .map(({ field, words }) => field === null ? words : "");
 }
 
-/** The unit of numbers in the time column, as its heading has it, or null. */
+/** The unit of numbers in the column of times or routes, as its heading has it, or null. */
 export function unitOfTimes({ fields, units }) {
-  return units[fields.lastIndexOf("time")] ?? null;
+  return units[fields.lastIndexOf("time")] ?? units[fields.indexOf("route")] ?? null;
 }
 
 /** Whether dates with slashes can only be read with the month first, as in 3/25/2025. */
@@ -259,7 +293,8 @@ export function hasMonthFirst(rows) {
 /** Whether rows have dates, or times with a unit, so that a calendar is needed. */
 export function needCalendar(rows) {
   return rows.some((row) => needsCalendar(row.due) || needsCalendar(row.release)
-    || needsCalendar(row.time) || needsCalendar(row.time2));
+    || needsCalendar(row.time) || needsCalendar(row.time2)
+    || timesOfRoute(row.route).some(needsCalendar));
 }
 
 /**

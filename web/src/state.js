@@ -2,6 +2,7 @@
 
 import { STEPS, defaultSettings } from "./calendar.js";
 import { isMonthFirst } from "./dates.js";
+import { hasRoutes, readNotation } from "./problems.js";
 import { FIELDS, newRow } from "./table.js";
 
 const MOST_ROWS = 200000;
@@ -77,16 +78,18 @@ export function readState(text) {
     return row;
   });
   state.kept = readKept(data.kept, identities);
-  state.own = readOwn(data.own, state.rows);
+  state.own = readOwn(data.own, state.rows, hasRoutes(readNotation(state.problem)));
   return state;
 }
 
-/** The own plan: each row at most once, by the identity that it has now. */
-function readOwn(data, rows) {
+/** The own plan: each row at most once, in a job shop on each machine, by its identity of now. */
+function readOwn(data, rows, isByStep) {
   if (!Array.isArray(data) || data.length > 1000 || !data.every(Array.isArray)) return null;
-  const free = new Set(rows.keys());
-  return data.map((row) => row.filter((place) => free.delete(place))
-    .map((place) => rows[place].id));
+  const all = new Set(rows.keys());
+  return data.map((row) => {
+    const free = isByStep ? new Set(row.filter((place) => all.has(place))) : all;
+    return row.filter((place) => free.delete(place)).map((place) => rows[place].id);
+  });
 }
 
 function textOr(value, otherwise) {

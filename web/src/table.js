@@ -1,28 +1,31 @@
 // Rows, as people write them, to the job table that the solver reads, and back.
 
 import { lengthText, readDuration, readMoment } from "./calendar.js";
-import { machineText } from "./machines.js";
+import { MOST_MACHINES, machineText } from "./machines.js";
 import { NameIndex, quoteName, shortened, splitNames } from "./precedence.js";
 import { readLeft } from "./progress.js";
+import { readRoute, routedJobs } from "./routes.js";
 
 /** The columns of a row, all of them text as it was written. */
 export const FIELDS = [
   "name", "time", "time2", "weight", "due", "release", "cost", "after", "left",
+  "route",
 ];
 
 export const FIELD_WORDS = {
-  name: "Name", time: "Time", time2: "Time on machine 2", left: "Left to do", due: "Due",
-  release: "Released",
-  after: "After", weight: "Weight", cost: "Cost function",
+  name: "Name", time: "Time", time2: "Time on machine 2", route: "Route", left: "Left to do",
+  due: "Due", release: "Released", after: "After", weight: "Weight", cost: "Cost function",
 };
 
 const LARGEST = 4n * 10n ** 18n;
 const MOST_TOTAL = 9e15;
 const MOST_JOBS = 100000;
-const MOST_MACHINES = 1000;
 const MOST_ARCS = 200000;
 const FEW_ROWS = 3;
 const NO_TIME = "This job has no processing time.";
+const ROUTE_WORDS = "Write its steps in their order, each as its time, @ and its machine, such as "
+  + "3@1, 4@2 or 3@Sawing, 4@Painting.";
+const NO_ROUTE = `This job has no route. ${ROUTE_WORDS}`;
 const AT_ONCE = 20;
 const LINES_AT_ONCE = 500;
 // The letters of a line of the job table beside a job's fields are no more than this.
@@ -54,7 +57,9 @@ export function isEmptyRow(row) {
  * @property {number} id the identity of its row
  * @property {string} name the name, or "Job 3" where the row has none
  * @property {string} fields the fields of its line, such as "p=3 d=9"
- * @property {number} time in time steps; of a shop on both machines together
+ * @property {number} time in time steps; of a shop on all machines together
+ * @property {?{time: number, machine: string}[]} steps of a route, those that are done left out
+ * @property {?(string|number)[]} parts the machines for which “Left to do” has a part each
  * @property {?number} due in time steps
  * @property {number} release in time steps; the start of the plan where the row has none
  * @property {?number} weight
@@ -134,7 +139,10 @@ function readRow(row, place, number, { calendar, used }) {
     add("notes", field, `No time on machine ${field === "time" ? 1 : 2}: it counts as 0.`);
     return 0;
   };
-  const whole = [takeTime("time", "time2"), ...(isShop ? [takeTime("time2", "time")] : [])];
+  const isRouted = used.has("route");
+  const route = isRouted ? takeRoute(row, take, add) : null;
+  const whole = route ? route.map(({ time }) => time)
+    : [takeTime("time", "time2"), ...(isShop ? [takeTime("time2", "time")] : [])];
   const left = takeLeft(calendar, row.left.trim(), whole, add);
   if (left?.every((each) => each === 0)) {
     return { row: place, number, id: row.id, name: nameOf(row, number), isDone: true, faults: NONE,
@@ -146,14 +154,30 @@ function readRow(row, place, number, { calendar, used }) {
   const start = release ?? (used.has("release") ? 0 : null);
   const weight = take("weight", readWeight);
   const cost = take("cost", readCost);
-  const fields = [`p=${times.join()}`];
+  const steps = route && stepsLeft(route, times);
+  const fields = [isRouted ? "" : `p=${times.join()}`];
   for (const [letter, value] of [["w", weight], ["d", due], ["r", start], ["h", cost]]) {
     if (value !== null) fields.push(`${letter}=${value}`);
   }
   return { row: place, number, id: row.id, name: nameOf(row, number), fields: fields.join(" "),
     time: times.reduce((sum, each) => sum + each, 0), due, release: start ?? 0,
-    hasRelease: release !== null, weight, hasCost: cost !== null, hasTime2, assumed,
+    hasRelease: release !== null, weight, hasCost: cost !== null, hasTime2, assumed, steps,
+    hasRoute: row.route.trim() !== "", hasTime: row.time.trim() !== "",
+    parts: route ? route.map(({ machine }) => machine) : isShop ? [1, 2] : null,
     isBegun: left !== null, isDone: false, ...findings };
+}
+
+/** The steps of a job's route; none where there is no route that can be read. */
+function takeRoute(row, take, add) {
+  if (row.route.trim() === "") add("faults", "route", NO_ROUTE);
+  return take("route", readRoute) ?? [];
+}
+
+/** The steps of which something is left; all of them where nothing is, which the module refuses. */
+function stepsLeft(route, times) {
+  const steps = route.map(({ machine }, place) => ({ machine, time: times[place] }));
+  const left = steps.filter(({ time }) => time > 0);
+  return left.length > 0 ? left : steps;
 }
 
 /** The times that are left of a job, or null where it is not begun. */
@@ -177,7 +201,7 @@ function failedFormula(text) {
 /** What was added to a text when it was read. */
 function assumedIn(field, text, { fault, isPlain, date }) {
   if (fault) return 0;
-  const isTime = field === "time" || field === "time2";
+  const isTime = ["time", "time2", "route"].includes(field);
   return (isPlain ? isTime ? ASSUMED.unit : ASSUMED.start : 0)
     | (date?.isYearAssumed ? ASSUMED.year : 0)
     | (date?.hasTwoReadings ? ASSUMED.dayFirst : 0)
@@ -193,13 +217,22 @@ function readWeight(_, text) {
   return { steps: text.replace(/^0+(?=\d)/, "") };
 }
 
-function readCost(_, text) {
+function readCost(calendar, text) {
   const compact = text.split(/([,:])/).map((part) => part.trim()).join("");
   if (!/^-?\d{1,19}(,\d{1,19}:-?\d{1,19})*$/.test(compact)) {
     return { fault: "A cost function is a base and then steps TIME:VALUE, as in 0,5:10,9:20, which "
       + "is 0 at first, 10 from time 5 on and 20 from time 9 on." };
   }
-  return { steps: compact };
+  return { steps: calendar?.isPlain ? costAfter(compact, calendar.from) : compact };
+}
+
+/** A cost function of plain numbers with its times counted from the start of the plan. */
+function costAfter(text, start) {
+  const [base, ...steps] = text.split(",");
+  const pairs = steps.map((step) => step.split(":"));
+  const gone = pairs.filter(([time]) => Number(time) <= start);
+  return [gone.length > 0 ? gone.at(-1)[1] : base, ...pairs.slice(gone.length)
+    .map(([time, value]) => `${BigInt(time) - BigInt(start)}:${value}`)].join();
 }
 
 /**
@@ -207,11 +240,12 @@ function readCost(_, text) {
  * @param {object[]} rows
  * @param {RowReader} reader
  * @param {() => Promise<boolean>} pause lets the page breathe; false means to give up
+ * @param {string[]} names of the machines
  * @returns {Promise<?object>} the jobs, the bytes of the table's text, its arcs, faults and notes
- *   by row
+ *   by row; of routes their `machines`, and the `names` of these
  */
-export async function makeTable(rows, reader, pause) {
-  const jobs = [];
+export async function makeTable(rows, reader, pause, names = []) {
+  const read = [];
   const done = [];
   const findings = { faults: [], notes: [] };
   let begun = performance.now();
@@ -220,7 +254,7 @@ export async function makeTable(rows, reader, pause) {
       if (!(await pause())) return null;
       begun = performance.now();
     }
-    const job = reader.read(rows[place], place, jobs.length + 1);
+    const job = reader.read(rows[place], place, read.length + 1);
     if (job === null) continue;
     if (job.isDone) {
       done.push(job);
@@ -228,28 +262,31 @@ export async function makeTable(rows, reader, pause) {
     }
     for (const each of job.faults) findings.faults.push({ row: place, ...each });
     for (const each of job.notes) findings.notes.push({ row: place, ...each });
-    jobs.push(job);
+    read.push(job);
   }
+  const routed = reader.used.has("route") ? routedJobs(read, names, findings) : null;
+  const jobs = routed?.jobs ?? read;
   const index = reader.indexOf(jobs);
   noteSameNames(index, findings);
   const found = reader.used.has("after") ? findings.faults : findings.notes;
   const arcs = readArcs(rows, jobs, done, index, found);
   const isFirst = goOn(jobs, arcs, reader, findings);
   judgeTotals(jobs, arcs, reader.calendar, findings);
-  gatherMissingTimes(jobs, findings);
+  gatherMissing(jobs, findings, NO_TIME, "No job has a processing time. Paste again and say which "
+    + "column it is, or type the times into the column “Time”.");
+  gatherMissing(jobs, findings, NO_ROUTE, `No job has a route. ${ROUTE_WORDS}`);
   const fillers = fillersOf(jobs, reader.used, findings);
   return { jobs, done, isFirst, index, arcs, fillers, bytes: bytesOf(jobs, arcs, fillers),
-    ...findings };
+    machines: routed?.machines ?? null, names: routed?.names ?? null, ...findings };
 }
 
-/** Where no job has a processing time, that is said once and not of each row. */
-function gatherMissingTimes(jobs, findings) {
-  const isMissing = ({ message }) => message === NO_TIME;
+/** What no job has is said once and not of each row. */
+function gatherMissing(jobs, findings, missingWords, message) {
+  const isMissing = (each) => each.message === missingWords;
   const missing = findings.faults.filter(isMissing);
   if (missing.length < FEW_ROWS || missing.length < jobs.length) return;
-  findings.faults = [{ row: null, field: null, message: "No job has a processing time. Paste again "
-    + "and say which column it is, or type the times into the column “Time”." },
-  ...findings.faults.filter((each) => !isMissing(each))];
+  findings.faults = [{ row: null, field: null, message },
+    ...findings.faults.filter((each) => !isMissing(each))];
 }
 
 /**
@@ -474,7 +511,8 @@ function readJobLine(words, values) {
   for (const word of words.slice(2)) {
     const [letter, value] = [word[0], word.slice(2)];
     if (word[1] !== "=" || !letters[letter]) return `“${word}” is no field`;
-    if (letter === "p") [job.time, job.time2 = ""] = value.split(",");
+    if (letter === "p" && value.includes("@")) job.route = value.replaceAll(",", ", ");
+    else if (letter === "p") [job.time, job.time2 = ""] = value.split(",");
     else job[letters[letter]] = value;
   }
   values.push(job);

@@ -1,6 +1,6 @@
 // Values of schedules in words: as working time where an objective is a length of time.
 
-import { lengthText } from "./calendar.js";
+import { isDated, lengthText } from "./calendar.js";
 import { OBJECTIVES, readNotation } from "./problems.js";
 
 /** Whether the value of a problem is a length of time, perhaps weighted. */
@@ -17,7 +17,7 @@ export function isLength(notation) {
  */
 export function valueText(calendar, notation, value) {
   const number = Number(value);
-  if (!calendar || !isLength(notation) || !Number.isSafeInteger(number)) {
+  if (!isDated(calendar) || !isLength(notation) || !Number.isSafeInteger(number)) {
     return value.replace("-", "−");
   }
   return lengthText(calendar, number);

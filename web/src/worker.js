@@ -2,7 +2,8 @@
 
 import { buffersOf } from "./memory.js";
 import { judge, plain, plan, promise, search } from "./runs.js";
-import { loadSolver, packedBytes } from "./solver.js";
+import { loadSolver } from "./solver.js";
+import { unpackedBytes } from "./unpacking.js";
 
 // Some plans of this many jobs, so soon after the start, let the browser compile well what large
 // tables need.
@@ -10,12 +11,9 @@ const WARMING = { jobs: 2000, plans: 3, milliseconds: 300 };
 
 let solver = null;
 
-/** Unpacks the module: its bytes, deflated, as letters; or it is a compiled one already. */
-async function unpack(text) {
-  if (text instanceof WebAssembly.Module) return text;
-  const stream = new Blob([packedBytes(text)]).stream()
-    .pipeThrough(new DecompressionStream("deflate-raw"));
-  return new Uint8Array(await new Response(stream).arrayBuffer());
+/** Unpacks the module; or it is a compiled one already. */
+function unpack(text) {
+  return text instanceof WebAssembly.Module ? text : unpackedBytes(text);
 }
 
 /** Makes the plans that no one asked for. */
@@ -33,7 +31,7 @@ const KINDS = { plan, search, longer: search, promise, judge, picture: plain, pr
 onmessage = async ({ data }) => {
   if (data.module !== undefined) {
     try {
-      solver = await loadSolver(await unpack(data.module));
+      solver = await loadSolver(unpack(data.module));
       postMessage({ loaded: true, module: solver.module, makesPlans: solver.can("plan") });
       setTimeout(warm, WARMING.milliseconds);
     } catch (error) {
