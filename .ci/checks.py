@@ -42,6 +42,8 @@ def checks(program):
         ("man page and completions", [python, "examples/check_options.py", program], None),
         ("the page and its sources", [python, "web/build.py", "--check"], None),
         ("sessions over files", [python, "bench/play_sessions.py", program], None),
+        ("sessions with an output file", [python, "bench/output_files.py", program], None),
+        ("JSON of the sessions and its schema", [python, "bench/json_schema.py"], None),
         ("words without a session", [python, "bench/unseen_words.py"], None),
         ("damaged command lines and texts", [python, "bench/fuzz.py", program, "1", "9000"], None),
         ("plans of every problem that has bounds", [python, "bench/plans.py", program, "11"], None),

@@ -3,7 +3,7 @@
 
     python3 bench/compare_bounds.py PROGRAM SEED [JOBS]
 
-First verify_bound.py judges the bounds of the sessions over job tables without routes, whose outcome is worked by hand there. Then each problem
+First verify_bound.py judges the bounds of the sessions over job tables, whose outcome is worked by hand there. Then each problem
 that has bounds gets a random job table of JOBS jobs (6 if it is not given). The bound that `bound` prints has to have its value, and
 of damaged ones and of certificates of every kind `evaluate --bound` and verify_bound.py have to say the same behind `offered`.
 """
@@ -31,8 +31,6 @@ def in_sessions():
         for command in sessions.commands(path):
             words, place = command.words(), f"{os.path.basename(path)}:{command.number}"
             kind, named, rest = words[:1], dict(zip(words[1::2], words[2::2])), words[-1:]
-            if named.get("-p", "").startswith("J"):
-                continue  # verify_bound.py reads no routes
             offered = OFFERED.search(command.output)
             if kind == ["evaluate"] and offered and set(named) <= {"-p", "--bound", "-m", *words[-2:]} and "--bound" in named:
                 texts, shown = [command.texts[name].encode() for name in (words[-2], named["--bound"])], offered[1]
@@ -60,7 +58,8 @@ def certificate(rng, problem, jobs, arcs):
     kind = rng.choice(kinds_of(rng, problem, list(verify_bound.KINDS)))
     few = str(rng.randint(0, 3))
     words = {"machine": [few, *some], "crowd": [few, *some], "job": [str(rng.randint(1, jobs + 1))], "alone": [],
-             "multipliers": [few, str(rng.randint(0, 4)), *numbers], "prices": [few, *numbers, *numbers]}.get(kind, some)
+             "multipliers": [few, str(rng.randint(0, 4)), *numbers], "prices": [few, *numbers, *numbers],
+             "parts": [few, str(rng.randint(0, 12)), str(rng.randint(-4, 20)), *some]}.get(kind, some)
     more = "arcs " + " ".join(str(rng.randint(0, 2)) for _ in range(arcs)) + "\n" if arcs and rng.random() < 0.5 else ""
     return " ".join([kind, *words]) + "\n" + (more if kind == "multipliers" else "")
 
@@ -106,7 +105,7 @@ def main(program, seed="1", jobs="6"):
             print(f"{place}: verify_bound.py says {given}, and the session shows {shown}")
     with tempfile.TemporaryDirectory() as folder:
         player = Player(os.path.abspath(program), folder)
-        for case in cases(seed, int(jobs), "1PFO"):
+        for case in cases(seed, int(jobs), "1PFOJ"):
             if not case.text.startswith("table"):
                 continue
             table = player.write("table.txt", case.text)

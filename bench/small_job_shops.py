@@ -7,6 +7,8 @@ Draws COUNT job shops of two or three jobs on two or three machines, with condit
 by walking over all timetables row by row, from the definitions alone, and runs `bound`, `plan` and `evaluate`. No bound may be
 above the least cost and no plan below it; the plan has to fit, to cost what it says, and to be called optimal only where it is.
 Then a piece of the plan is moved: `evaluate` has to say the same as the definitions, whether the schedule fits and what it costs.
+And a random order of the operations, each job named once for each of its own: `evaluate --order` has to say what the semi-active
+schedule of it comes to, or that it does not fit, and `--grade` why it is no order where a job is named once more or once less.
 """
 import itertools
 import random
@@ -139,6 +141,18 @@ class Shop:
         ends = self.ends(pieces)
         return all(ends[before] <= min(p[2] for p in pieces if p[0] == after) for before, after in self.arcs)
 
+    def semi_active(self, order):
+        """The pieces of an order of operations, each of which starts as soon as its job and its machine are free."""
+        free, job_free, at, pieces = [0] * self.machines, list(self.releases), [0] * len(self.routes), []
+        for job in order:
+            machine, time = self.routes[job][at[job]]
+            at[job] += 1
+            if time:
+                start = max(free[machine], job_free[job])
+                free[machine] = job_free[job] = start + time
+                pieces.append((job, machine, start, start + time))
+        return pieces
+
     def ends(self, pieces):
         return [max(stop for j, _, _, stop in pieces if j == job) for job in range(len(self.routes))]
 
@@ -203,6 +217,26 @@ def wrong(program, shop, rng):
         fits = shop.fits(candidate)
         if fits != (status in (0, 6)) or (fits and f"value {shop.cost(shop.ends(candidate))}" not in text):
             return f"evaluate ends with {status} where fits is {fits}: {text}{said}{schedule(candidate)}"
+    return wrong_order(program, shop, rng)
+
+
+def wrong_order(program, shop, rng):
+    """What is wrong with what the program says of an order of operations, or nothing."""
+    problem, table = shop.problem(), shop.table()
+    order = [job for job, route in enumerate(shop.routes) for _ in route]
+    rng.shuffle(order)
+    text = " ".join(str(job + 1) for job in order)
+    pieces = shop.semi_active(order)
+    status, said, _ = run(program, "evaluate", "-p", problem, "--order", text, files=[table])
+    fits = shop.fits(pieces)
+    if fits != (status in (0, 6)) or (fits and f"value {shop.cost(shop.ends(pieces))}\n" not in said):
+        return f"the order {text} ends with {status} where fits is {fits}: {said}{schedule(pieces)}"
+    job = rng.randrange(len(shop.routes)) + 1
+    if max(len(route) for route in shop.routes) == 1:
+        return None
+    longer = run(program, "evaluate", "-p", problem, "--orders", "-", "--grade", text=f"{text} {job}\n", files=[table])[1]
+    if longer != f"wrong often {job}\n" and len(set(order)) < len(order):
+        return f"the order {text} {job} is called {longer}"
     return None
 
 

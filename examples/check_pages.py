@@ -106,7 +106,7 @@ def mistold():
     for names, where, by in HARD.findall(text):
         for name in re.findall(r"`(.*?)`", names):
             lines = told(name.replace("!", "|"))
-            if name[0] in "1PFO" and "block" not in name and not any(
+            if name[0] in "1PFOJ" and "block" not in name and not any(
                     line.startswith("It is NP-hard (") and by.replace("ö", "oe").startswith(line[15:-2]) for line in lines):
                 yield name.replace("!", "|")
     # Where a problem is polynomial if its instances are of a kind, it may be NP-hard in general.

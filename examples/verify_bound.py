@@ -16,17 +16,37 @@ from verify import LIMIT, MOST_JOBS, MOST_MACHINES, Refused, Rejected, demand, l
 
 MOST_VALUE = 2**63 - 1
 
-def task_of(problem, machines, jobs, arcs, own):
+def routes_of(text):
+    """The route of each job: the machines in its order, counted from 1, and the time on each. Empty where `p=` has no `@`."""
+    routes = {}
+    for words, _ in lines_of(text):
+        if words[0] == b"job":
+            steps = [step.split(b"@") for word in words if word.startswith(b"p=") and b"@" in word for step in word[2:].split(b",")]
+            demand(all(len(step) == 2 for step in steps), "a step without a machine, or with two")
+            routes[len(routes) + 1] = {number(machine, 1, MOST_MACHINES): number(time, 0) for time, machine in steps}
+            demand(len(routes[len(routes)]) == len(steps), "a machine twice")
+    return routes
+def routed_table(text):
+    """The jobs, arcs and number of machines of a table with routes, and the routes."""
+    return *table(re.sub(rb"(?<=[ \t\r])(p=[^@ \t\r\n]*)@[^ \t\r\n]*", rb"\1", text)), routes_of(text)
+
+def task_of(problem, machines, jobs, arcs, own, routes=None):
     """The task of a problem, whatever it is: what the problem does not name is 0, a weight 1."""
-    goal, is_shop = re.sub("_?j", "", problem.goal), problem.env in "FO"
-    demand(problem.env in "1PFO" and goal != "hmax" and not {"block", "rcrc"} & set(problem.conditions), "a problem without bounds")
+    goal = re.sub("_?j", "", problem.goal)
+    demand(problem.env in "1PFOJ" and goal != "hmax" and not {"block", "rcrc"} & set(problem.conditions), "a problem without bounds")
     given = {1} if problem.env == "1" else {problem.count, machines, own} - {None}
-    demand(given == {2} if is_shop else len(given) == 1, "the number of machines")
+    if routes:
+        given = given or {max(machine for route in routes.values() for machine in route or [1])}
+        jobs = {j: job | {"p": [routes[j].get(i, 0) for i in range(1, max(given) + 1)]} for j, job in jobs.items()}
+        demand(all(route and max(route) <= max(given) for route in routes.values()), "no route, or a machine that is not there")
+    demand(given == {2} if problem.env in "FO" else len(given) == 1, "the number of machines")
     needed = ["p"] + ["r"] * ("rj" in problem.conditions) + ["w"] * ("w" in goal) + ["d"] * (goal == "Lmax" or goal[-1] in "TU")
+    times = max(given) if problem.env in "FOJ" else 1
     for job in jobs.values():
-        demand(len(job["p"]) == 1 + is_shop and sum(job["p"]) > 0 and all(key in job for key in needed), "times, or a field is missing")
+        demand(len(job["p"]) == times and sum(job["p"]) > 0 and all(key in job for key in needed), "times, or a field is missing")
+    visited = {j: [i - 1 for i in routes[j]] if routes else list(range(times)) if problem.env == "F" else [] for j in jobs}
     picked = {key: {j: job[key] if key in needed else other for j, job in jobs.items()} for key, other in (("r", 0), ("w", 1), ("d", 0))}
-    return Record(env=problem.env, goal=goal, conditions=problem.conditions, machines=given.pop(), jobs=list(jobs), **picked,
+    return Record(env=problem.env, goal=goal, conditions=problem.conditions, machines=given.pop(), jobs=list(jobs), route=visited, **picked,
                   arcs=arcs if "prec" in problem.conditions else [], times={j: job["p"] for j, job in jobs.items()}, p={j: sum(job["p"]) for j, job in jobs.items()})
 
 def along_arcs(task, moves_dues):
@@ -44,9 +64,11 @@ def penalty(task, j, end):
     late = max(end - task.d[j], 0)
     return task.w[j] * (late > 0 if task.goal[-1] == "U" else late)
 def head(task, j, i):
-    return task.r[j] + (sum(task.times[j][:i]) if task.env == "F" else 0)
+    route = task.route[j]
+    return task.r[j] + sum(task.times[j][a] for a in (route[:route.index(i)] if i in route else route))
 def tail(task, j, i):
-    return sum(task.times[j][i + 1:]) if task.env == "F" else 0
+    route = task.route[j]
+    return sum(task.times[j][a] for a in (route[route.index(i) + 1:] if i in route else ()))
 def share(amount, parts):
     return max(-(-amount // parts), 0)
 
@@ -138,26 +160,36 @@ def ranks(task, *jobs):
     in_order(listed(task, jobs), lambda j: -task.p[j])
     return within(sum(-(-k // task.machines) * task.p[j] for k, j in enumerate(jobs, 1)))
 
+def parts(task, start, end, late, *jobs):
+    room, left = max(end - start, 0), []
+    for j in listed(task, jobs, -1):
+        without = [max(start - task.r[j], 0), max(task.d[j] + late - 1 - end, 0)]
+        whole = 0 if "prmp" in task.conditions else min(room, *(task.p[j] - time for time in without))
+        left.append(max(task.p[j] - sum(without), whole, 0))
+    sum(left) > task.machines * room or reject("HasRoom")
+    return late
+
 MAXIMA, SUMS, TARDY = "Cmax Lmax", "sumC sumwC sumT sumwT sumU sumwU", "sumC sumwC sumT sumwT"
 # Of each kind its value, and for which environments and objectives it is; `prmp` is left out of some.
-KINDS = {"machine": (machine, "1FO", MAXIMA), "window": (window, "1P", MAXIMA), "crowd": (crowd, "1P", MAXIMA, "prmp"),
-         "job": (one_job, "1PFO", MAXIMA), "multipliers": (multipliers, "1PFO", TARDY), "prices": (prices, "1P", SUMS, "prmp"),
-         "alone": (alone, "1PFO", SUMS), "kept": (kept, "1P", "sumU"), "shortest": (shortest, "1", "sumC"), "ranks": (ranks, "1P", "sumC")}
+KINDS = {"machine": (machine, "1FOJ", MAXIMA), "window": (window, "1P", MAXIMA), "crowd": (crowd, "1P", MAXIMA, "prmp"),
+         "job": (one_job, "1PFOJ", MAXIMA), "multipliers": (multipliers, "1PFOJ", TARDY), "prices": (prices, "1P", SUMS, "prmp"),
+         "alone": (alone, "1PFOJ", SUMS), "kept": (kept, "1P", "sumU"), "shortest": (shortest, "1", "sumC"), "ranks": (ranks, "1P", "sumC"),
+         "parts": (parts, "1P", MAXIMA)}
 def kinds_for(task):
     return [kind for kind, (_, environments, goals, *left_out) in KINDS.items()
             if task.env in environments and task.goal in goals.split() and not set(left_out) & set(task.conditions)]
 
 # How many numbers a kind has before its list, with the range of each, and what stands in the list.
-MACHINE, COUNT, ANY, JOB = (1, MOST_MACHINES), (0, MOST_JOBS), (0, LIMIT), (1, MOST_JOBS)
+MACHINE, COUNT, ANY, JOB, VALUE = (1, MOST_MACHINES), (0, MOST_JOBS), (0, LIMIT), (1, MOST_JOBS), (-2**63, MOST_VALUE)
 FORMS = {"machine": ([MACHINE], JOB), "crowd": ([COUNT], JOB), "job": ([JOB], None), "multipliers": ([MACHINE, ANY], ANY),
-         "prices": ([ANY], ANY), "alone": ([], None)}
+         "prices": ([ANY], ANY), "alone": ([], None), "parts": ([ANY, ANY, VALUE], JOB)}
 
 def bound_of(text):
     lines = lines_of(text)
     words = [words for words, _ in lines]
     demand(len(lines) in (7, 8) and words[0] == [b"bound", b"1"] and words[1][0] == b"problem" and words[-1] == [b"end"], "no bound")
     problem = lines[1][1].lstrip(b" \t\r")[len(b"problem"):].removesuffix(b"\r")
-    keys = (b"jobs", 1, MOST_JOBS), (b"machines", 1, MOST_MACHINES), (b"value", -2**63, MOST_VALUE)
+    keys = (b"jobs", 1, MOST_JOBS), (b"machines", 1, MOST_MACHINES), (b"value", *VALUE)
     demand([(line[0], len(line)) for line in words[2:5]] == [(key, 2) for key, _, _ in keys], "no sizes, or no value")
     jobs, machines, value = (number(line[1], least, most) for line, (_, least, most) in zip(words[2:5], keys))
     kind, given = words[5][0].decode("latin-1"), words[5][1:]
@@ -175,7 +207,7 @@ def same(one, other):
 def judge(problem, table_text, bound_text, machines=None):
     try:
         problem, bound = notation(problem), bound_of(bound_text)
-        task = task_of(problem, machines, *table(table_text))
+        task = task_of(problem, machines, *(routed_table if problem.env == "J" else table)(table_text))
         fits = (bound.jobs, bound.machines) == (len(task.jobs), task.machines) and bound.problem.count in (None, task.machines)
         same(bound.problem, problem) and fits or reject("OtherTask")
         bound.kind in kinds_for(task) or reject("OtherKind")
