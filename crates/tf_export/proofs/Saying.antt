@@ -9,9 +9,9 @@ use Rattle.tf_words.proofs.Lines.{line_none}
 use Rattle.tf_export.specs.Csv.{csv_line, column_names, row_key}
 use Rattle.tf_export.specs.declared.csv.Table.{Table}
 use Rattle.tf_export.specs.Json.{array, scalar, member, object, version}
-use Rattle.tf_export.specs.Members.{arc_members, phrase, fields, line_members, rest_members, row_in, rows, verdict_members}
+use Rattle.tf_export.specs.Members.{arc_members, phrase, fields, rest_members, row_in, rows, verdict_members}
 use Rattle.tf_export.specs.Lines.{first_of}
-use Rattle.tf_export.specs.Documents.{part_in, parts, step_in, distance_in, bound_members, bounded_in}
+use Rattle.tf_export.specs.Documents.{part_in, parts, step_in}
 use Rattle.tf_export.specs.declared.documents.Part.{Part}
 use Rattle.tf_export.specs.Faults.{explanation, fault, first_line, behind_line, fault_members, fault_json}
 
@@ -87,32 +87,6 @@ parts_next part text line rest is = rw is refl
 pub parts_none : (part : Part) (text : List ℕ) → length text ≡ 0 → parts part (lines text) ≡ []
 unfolding parts
 parts_none part text is = rw (line_none text is) refl
-
--- how far a plan is from its bound
-pub distance_none : (line : List (List ℕ)) → first_is (codes "##") line ≡ false
-    → distance_in line ≡ []
-distance_none line is = rw is refl
-
-pub distance_some : (line row : List (List ℕ)) → first_is (codes "##") line ≡ true
-    → row ≡ drop 1 line → line_members row [] ≡ distance_in line
-distance_some line row is same = rw (is, same) refl
-
--- a line of its bound
-pub bounded_none : (line next : List (List ℕ)) → first_is (codes "#") line ≡ false
-    → bounded_in line next ≡ []
-bounded_none line next is = rw is refl
-
-pub bounded_some : (line row next behind : List (List ℕ)) → first_is (codes "#") line ≡ true
-    → row ≡ drop 1 line → behind ≡ drop 1 next → bound_members row behind ≡ bounded_in line next
-bounded_some line row next behind is same same-next = rw (is, same, same-next) refl
-
-pub bound_none : (row next : List (List ℕ)) → first_is (codes "bound") row ≡ false
-    → line_members row next ≡ bound_members row next
-bound_none row next is = rw is refl
-
-pub bound_some : (row next : List (List ℕ)) → first_is (codes "bound") row ≡ true
-    → bound_members row next ≡ []
-bound_some row next is = rw is refl
 
 -- the numerators of the arcs
 pub no_arcs : (kind : List ℕ) (next : List (List ℕ)) → bytes_eq kind (codes "multipliers") ≡ false

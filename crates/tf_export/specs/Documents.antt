@@ -1,15 +1,17 @@
 -- What the commands print, as JSON.
 use Rattle.std.specs.Prelude.{ℕ, List, [], ◌∷◌, ◌++◌, codes, drop, take, length, map, if◌then◌else◌}
+use Rattle.std.specs.List.{flat_map}
 use Rattle.tf_words.specs.Words.{words, lines, first_is}
 use Rattle.tf_export.specs.Json.{array, member, object, version}
-use Rattle.tf_export.specs.Lines.{first_of}
+use Rattle.tf_export.specs.Lines.{first_of, has_line}
 use Rattle.tf_export.specs.Orders.{order_in}
 use Rattle.tf_export.specs.Tally.{summary_of}
 use Rattle.tf_export.specs.Members.{phrase, record_of, row_in, line_members}
+use Rattle.tf_export.specs.Plan.{open_in, solved_in}
 use Rattle.tf_export.specs.Csv.{column_names, row_key}
 use Rattle.tf_export.specs.declared.csv.Table.TheVariants.{Pieces, Outcomes}
 use Rattle.tf_export.specs.declared.documents.Part.{Part}
-use Rattle.tf_export.specs.declared.documents.Part.TheVariants.{Members, Step, Problem, Row, Distance, Bounded, Known, Order, Mark}
+use Rattle.tf_export.specs.declared.documents.Part.TheVariants.{Members, Step, Problem, Row, Open, Solved, Known, Order, Mark}
 use Rattle.tf_export.specs.declared.documents.Document.{Document}
 use Rattle.tf_export.specs.declared.documents.Document.TheVariants.{Answer, Bound, Evaluation, Verdict, Problems, Plan, Border, Orders}
 
@@ -50,28 +52,16 @@ mark_members (name ∷ value ∷ more) = member name value ∷ []
 abbrev pub mark_in : List (List ℕ) → List (List ℕ)
 mark_in line = if first_is (codes "#") line then mark_members (drop 1 line) else []
 
--- how far a plan is from its bound, in a comment of its own
-abbrev pub distance_in : List (List ℕ) → List (List ℕ)
-distance_in line = if first_is (codes "##") line then line_members (drop 1 line) [] else []
-
--- the lines of the bound of a plan, each a comment, but for their heading
-abbrev pub bound_members : List (List ℕ) → List (List ℕ) → List (List ℕ)
-bound_members row next = if first_is (codes "bound") row then [] else line_members row next
-
-abbrev pub bounded_in : List (List ℕ) → List (List ℕ) → List (List ℕ)
-bounded_in line next =
-    if first_is (codes "#") line then bound_members (drop 1 line) (drop 1 next) else []
-
--- what is taken of a line and of the next one: members, a step, a problem, a row of a table as an
--- object, or what a comment of a plan says
+-- what is taken of a line and of the next one: members, a step, a problem or a row of a table as an
+-- object
 abbrev pub part_in : Part → List ℕ → List ℕ → List (List ℕ)
 part_in Members line next = line_members (words line) (words next)
 part_in Step line next = step_in (words line)
 part_in Problem line next = problem_in line ∷ []
 part_in (Row table) line next = map (record_of (column_names table))
     (row_in (row_key table) (length (words (column_names table))) (words line))
-part_in Distance line next = distance_in (words line)
-part_in Bounded line next = bounded_in (words line) (words next)
+part_in Open line next = open_in (words line) (words next)
+part_in Solved line next = solved_in (words line) (words next)
 part_in Known line next = known_in line ∷ []
 part_in Order line next = order_in line ∷ []
 part_in Mark line next = mark_in (words line)
@@ -96,25 +86,38 @@ abbrev pub answer_members : List ℕ → List (List ℕ)
 answer_members text =
     members_behind text ++ parts_array (codes "pieces") (Row Pieces) (lines text) ∷ []
 
--- an evaluation: its lines, the steps of the arithmetic, and the jobs
+-- null for each name that begins no line
+abbrev pub unknown_member : List ℕ → List (List ℕ) → List (List ℕ)
+unknown_member name lines =
+    if has_line name lines then [] else member name (codes "null") ∷ []
+
+unfoldable pub unknown : List (List ℕ) → List (List ℕ) → List (List ℕ)
+unknown names lines = flat_map (λ name. unknown_member name lines) names
+
+-- an evaluation: its lines, what is not known, the steps of the arithmetic, and the jobs
 abbrev pub evaluation_members : List ℕ → List (List ℕ)
 evaluation_members text =
     members_behind text
+    ++ (unknown (words (codes "claimed value best gap bound")) (lines text)
     ++ (parts_array (codes "steps") Step (lines text)
-    ∷ parts_array (codes "outcomes") (Row Outcomes) (lines text) ∷ [])
+    ∷ parts_array (codes "outcomes") (Row Outcomes) (lines text) ∷ []))
 
--- a plan: an answer, its gap, and the bound, which is empty where there is none
+-- A plan: its lines and its pieces. What a solver has found has no comments.
+abbrev pub part_of_plan : List (List ℕ) → Part
+part_of_plan lines = if has_line (codes "##") lines then Open else Solved
+
 abbrev pub plan_members : List ℕ → List (List ℕ)
 plan_members text =
-    answer_members text
-    ++ (parts Distance (lines text) ++ parts_object (codes "bound") Bounded (lines text) ∷ [])
+    parts (part_of_plan (lines text)) (drop 1 (lines text))
+    ++ parts_array (codes "pieces") (Row Pieces) (lines text) ∷ []
 
 -- orders: the optimum or the bound, the summary, and what each comes to
 abbrev pub orders_members : List ℕ → List (List ℕ)
 orders_members text =
     line_members (words (first_of (lines text))) (words [])
+    ++ (unknown (words (codes "best bound")) (lines text)
     ++ (parts_object (codes "summary") Mark (lines (summary_of text))
-    ∷ parts_array (codes "orders") Order (drop 1 (lines text)) ∷ [])
+    ∷ parts_array (codes "orders") Order (drop 1 (lines text)) ∷ []))
 
 -- the members of each document, of which all but a verdict have a heading
 unfoldable pub document_members : Document → List ℕ → List (List ℕ)

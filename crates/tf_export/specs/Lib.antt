@@ -1,5 +1,6 @@
 pub mod Json
 pub mod Members
+pub mod Plan
 pub mod Documents
 pub mod Faults
 pub mod Csv

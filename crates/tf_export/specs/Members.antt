@@ -1,9 +1,9 @@
 -- What a line of words says, as members of a JSON object.
-use Rattle.std.specs.Prelude.{ℕ, Bool, ◌&&◌, ◌||◌, List, [], ◌∷◌, ◌++◌, codes, length, drop, map, ◌==◌, if◌then◌else◌}
+use Rattle.std.specs.Prelude.{ℕ, Bool, false, ◌&&◌, ◌||◌, List, [], ◌∷◌, ◌++◌, codes, length, drop, map, ◌==◌, if◌then◌else◌}
 use Rattle.std.specs.List.{flat_map, join_with_byte}
 use Rattle.std.specs.Str.{bytes_eq}
 use Rattle.tf_words.specs.Words.{words, lines, first_is}
-use Rattle.tf_export.specs.Json.{string, scalar, array, member, object}
+use Rattle.tf_export.specs.Json.{string, scalar, array, member, object, is_integer}
 
 -- words as one string, with a blank between each two
 abbrev pub phrase : List (List ℕ) → List ℕ
@@ -93,8 +93,23 @@ abbrev pub is_plain_key : List ℕ → Bool
 is_plain_key key =
     bytes_eq key (codes "problem") || bytes_eq key (codes "jobs") || bytes_eq key (codes "machines")
     || bytes_eq key (codes "value") || bytes_eq key (codes "claimed")
-    || bytes_eq key (codes "best") || bytes_eq key (codes "gap") || bytes_eq key (codes "offered")
-    || bytes_eq key (codes "bound")
+    || bytes_eq key (codes "best") || bytes_eq key (codes "gap")
+
+-- words that are one number
+abbrev pub is_number : List (List ℕ) → Bool
+is_number [] = false
+is_number (word ∷ []) = is_integer word
+is_number (word ∷ next ∷ more) = false
+
+-- a bound, or null and why there is none
+abbrev pub fault_name : List ℕ → List ℕ
+fault_name key =
+    if bytes_eq key (codes "offered") then codes "offered_fault" else codes "bound_fault"
+
+abbrev pub bounding_members : List ℕ → List (List ℕ) → List (List ℕ)
+bounding_members key row =
+    if is_number row then member key (said row) ∷ []
+    else member key (codes "null") ∷ member (fault_name key) (phrase row) ∷ []
 
 -- a verdict: whether it is a good one, and if not the fault and its arguments
 abbrev pub verdict : List ℕ → List ℕ → List ℕ → List (List ℕ) → List (List ℕ)
@@ -114,9 +129,11 @@ verdict_members key row =
 abbrev pub keyed_members : List ℕ → List (List ℕ) → List (List ℕ) → List (List ℕ)
 keyed_members key row next =
     if is_plain_key key then member key (said row) ∷ []
+    else (if bytes_eq key (codes "bound") || bytes_eq key (codes "offered")
+    then bounding_members key row
     else (if bytes_eq key (codes "cert") then answer_certificate row
     else (if is_bound_kind key row then certificate key (bound_list key) row next ∷ []
-    else verdict_members key row))
+    else verdict_members key row)))
 
 -- a line, and the one that comes next
 unfoldable pub line_members : List (List ℕ) → List (List ℕ) → List (List ℕ)

@@ -1,8 +1,8 @@
 -- Lines of orders, as JSON and as rows of a table: the number of a line, perhaps a label and a colon,
 -- and what its order comes to.
 use Rattle.std.specs.Prelude.{ℕ, ◌+◌, Bool, ◌==◌, List, [], ◌∷◌, ◌++◌, Option, None, Some, codes, take, drop, if◌then◌else◌}
-use Rattle.std.specs.List.{flat_map, join_with_byte, position}
-use Rattle.tf_words.specs.Words.{words, lines, first_is}
+use Rattle.std.specs.List.{position}
+use Rattle.tf_words.specs.Words.{words, first_is}
 use Rattle.tf_export.specs.Json.{member, object, string}
 use Rattle.tf_export.specs.Members.{fields, phrase}
 

@@ -4,7 +4,7 @@ use Rattle.std.specs.Prelude.{ℕ, ◌+◌, ◌*◌, ◌/◌, ◌%◌, pos, negs
 use Rattle.std.specs.List.{count_by, flat_map, position, sum_by}
 use Rattle.std.specs.Fmt.{decimal}
 use Rattle.std.specs.Str.{bytes_eq}
-use Rattle.tf_words.specs.Words.{words, lines, first_is}
+use Rattle.tf_words.specs.Words.{lines, first_is}
 use Rattle.tf_words.specs.Ranged.{number_in}
 use Rattle.tf_words.specs.declared.ranged.Ranged.{Ranged}
 use Rattle.tf_words.specs.declared.ranged.Ranged.TheVariants.{NotANumber, Below, Above, Within}

@@ -8,12 +8,12 @@ ghost use Rattle.tf_export.specs.Documents.{step_in, problem_in};
 ghost use Rattle.tf_export.specs.Documents.{members_behind, answer_members, evaluation_members};
 ghost use Rattle.tf_export.specs.Documents.{command_member, known_in, mark_in, orders_members};
 ghost use Rattle.tf_export.specs.Orders.{order_in};
-ghost use Rattle.tf_export.specs.Documents.{bound_members, bounded_in, distance_in, parts_object};
-ghost use Rattle.tf_export.specs.Documents.{plan_members};
+ghost use Rattle.tf_export.specs.Documents.{part_of_plan, parts_object, plan_members};
+ghost use Rattle.tf_export.specs.Documents.{unknown, unknown_member};
 
 use crate::csv::Table;
 use crate::json::{Json, VERSION};
-use crate::line::{behind_first, behind_heading, count_words, first_of, next_line, row_in};
+use crate::line::{behind_heading, count_words, first_of, has_line, next_line, row_in};
 use crate::tally::summary_of;
 use std::alloc::Global;
 use tf_model::memory::OutOfMemory;
@@ -51,10 +51,10 @@ pub(crate) enum Part {
     Problem,
     /// A row of a table, as an object.
     Row(Table),
-    /// How far a plan is from its bound, as members.
-    Distance,
-    /// What the bound of a plan says, as members.
-    Bounded,
+    /// What a line of a plan says, with its bound in comments, as members.
+    Open,
+    /// What a line of a plan says that a solver has found, as members.
+    Solved,
     /// A problem of the list of which are polynomial.
     Known,
     /// What an order comes to.
@@ -78,6 +78,17 @@ fn cut(line: &[u8], width: usize) -> (&[u8], &[u8])
         line.split_at(width)
     } else {
         (line, &[])
+    }
+}
+
+/// What is taken of each line of a plan: whether a solver has found it, or it has a bound.
+fn part_of_plan(text: &[u8]) -> Part
+    ensures { result ≡ part_of_plan (lines text.now) }
+{
+    if has_line(text, b"##") {
+        Part::Open
+    } else {
+        Part::Solved
     }
 }
 
@@ -118,37 +129,6 @@ impl Json {
         self.phrase_member(alloc, b"objective", objective)?;
         self.leave(b'}')?;
         Ok(())
-    }
-
-    /// Adds how far a plan is from its bound, if the line says it.
-    fn distance_in(&mut self, alloc: Global, line: &[u8]) -> Result<(), OutOfMemory>
-        ensures { OnOk result (Adds self.old self.new (distance_in (words line.now))) }
-    {
-        match behind_key(line, b"##") {
-            None => Ok(()),
-            Some(row) => self.line_members(alloc, row, b""),
-        }
-    }
-
-    /// Adds what the bound of a plan says, if the line is one of its lines but the heading.
-    fn bounded_in(&mut self, alloc: Global, line: &[u8], next: &[u8]) -> Result<(), OutOfMemory>
-        ensures { OnOk result
-            (Adds self.old self.new (bounded_in (words line.now) (words next.now))) }
-    {
-        match behind_key(line, b"#") {
-            None => Ok(()),
-            Some(row) => self.bound_members(alloc, row, behind_first(next)),
-        }
-    }
-
-    fn bound_members(&mut self, alloc: Global, row: &[u8], next: &[u8]) -> Result<(), OutOfMemory>
-        ensures { OnOk result
-            (Adds self.old self.new (bound_members (words row.now) (words next.now))) }
-    {
-        match behind_key(row, b"bound") {
-            None => self.line_members(alloc, row, next),
-            Some(_) => Ok(()),
-        }
     }
 
     /// Adds a line of the list of which problems are polynomial as an object.
@@ -209,8 +189,8 @@ impl Json {
             Part::Step => self.step_in(alloc, line),
             Part::Problem => self.problem_in(alloc, line),
             Part::Row(table) => self.row_in(table, line),
-            Part::Distance => self.distance_in(alloc, line),
-            Part::Bounded => self.bounded_in(alloc, line, next),
+            Part::Open => self.open_in(alloc, line, next),
+            Part::Solved => self.solved_in(alloc, line, next),
             Part::Known => self.known_in(alloc, line),
             Part::Order => self.order_in(alloc, line),
             Part::Mark => self.mark_in(line),
@@ -273,6 +253,27 @@ impl Json {
         self.parts(alloc, Part::Members, behind_heading(text))
     }
 
+    /// Adds `null` for each name that begins no line.
+    fn unknown(&mut self, names: &[u8], text: &[u8]) -> Result<(), OutOfMemory>
+        ensures { OnOk result (Adds self.old self.new (unknown (words names.now) (lines text.now))) }
+    {
+        let mut left = names;
+        while let Some((name, more)) = first_word(left) {
+            self.unknown_member(name, text)?;
+            left = more;
+        }
+        Ok(())
+    }
+
+    fn unknown_member(&mut self, name: &[u8], text: &[u8]) -> Result<(), OutOfMemory>
+        ensures { OnOk result (Adds self.old self.new (unknown_member name.now (lines text.now))) }
+    {
+        if has_line(text, name) {
+            return Ok(());
+        }
+        self.member(name, b"null")
+    }
+
     /// Adds an answer.
     fn answer_members(&mut self, alloc: Global, text: &[u8]) -> Result<(), OutOfMemory>
         ensures { OnOk result (Adds self.old self.new (answer_members text.now)) }
@@ -287,6 +288,7 @@ impl Json {
         ensures { OnOk result (Adds self.old self.new (evaluation_members text.now)) }
     {
         self.members_behind(alloc, text)?;
+        self.unknown(b"claimed value best gap bound", text)?;
         self.parts_array(alloc, b"steps", Part::Step, text)?;
         self.parts_array(alloc, b"outcomes", Part::Row(Table::Outcomes), text)?;
         Ok(())
@@ -296,9 +298,9 @@ impl Json {
     fn plan_members(&mut self, alloc: Global, text: &[u8]) -> Result<(), OutOfMemory>
         ensures { OnOk result (Adds self.old self.new (plan_members text.now)) }
     {
-        self.answer_members(alloc, text)?;
-        self.parts(alloc, Part::Distance, text)?;
-        self.parts_object(alloc, b"bound", Part::Bounded, text)?;
+        let part = part_of_plan(text);
+        self.parts(alloc, part, behind_heading(text))?;
+        self.parts_array(alloc, b"pieces", Part::Row(Table::Pieces), text)?;
         Ok(())
     }
 
@@ -309,6 +311,7 @@ impl Json {
     {
         let summary = summary_of(alloc, text)?;
         self.line_members(alloc, first_of(text), b"")?;
+        self.unknown(b"best bound", text)?;
         self.parts_object(alloc, b"summary", Part::Mark, summary.as_slice())?;
         self.parts_array(alloc, b"orders", Part::Order, behind_heading(text))?;
         Ok(())

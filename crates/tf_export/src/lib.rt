@@ -12,5 +12,6 @@ pub mod line;
 mod members;
 pub mod order_rows;
 mod orders;
+mod plan;
 pub mod tally;
 mod value;

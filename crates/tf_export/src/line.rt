@@ -2,7 +2,7 @@
 ghost use Rattle.std.specs.Prelude.{◌≡◌, ◌<◌, ◌∷◌, [], drop, length, MatchOption};
 ghost use Rattle.tf_words.specs.Words.{words, lines};
 ghost use Rattle.tf_export.specs.Members.{row_in};
-ghost use Rattle.tf_export.specs.Lines.{first_of};
+ghost use Rattle.tf_export.specs.Lines.{first_of, has_line};
 ghost use Rattle.tf_export.specs.Faults.{first_line, behind_line};
 
 use tf_words::line::line_len;
@@ -55,6 +55,21 @@ pub(crate) fn behind_first(line: &[u8]) -> &[u8]
         None => line,
         Some((_, rest)) => rest,
     }
+}
+
+/// Whether a word begins a line of a text.
+pub(crate) fn has_line(text: &[u8], word: &[u8]) -> bool
+    ensures { result ≡ has_line word.now (lines text.now) }
+{
+    let mut rest = text;
+    while !rest.is_empty() {
+        let (line, more) = next_line(rest);
+        if behind_key(line, word).is_some() {
+            return true;
+        }
+        rest = more;
+    }
+    false
 }
 
 /// How many words a text has.

@@ -5,9 +5,11 @@ ghost use Rattle.tf_export.specs.Members.{certificate_names, answer_list, bound_
 ghost use Rattle.tf_export.specs.Members.{arc_members};
 ghost use Rattle.tf_export.specs.Members.{answer_certificate, is_bound_kind, is_plain_key, verdict};
 ghost use Rattle.tf_export.specs.Members.{verdict_members, keyed_members, line_members};
+ghost use Rattle.tf_export.specs.Members.{bounding_members, fault_name};
 
 use crate::json::Json;
 use crate::line::count_words;
+use crate::value::is_number;
 use std::alloc::Global;
 use tf_model::memory::OutOfMemory;
 use tf_words::word::{behind_key, first_word, is};
@@ -51,7 +53,7 @@ fn answer_list(kind: &[u8]) -> &'static [u8]
 }
 
 /// The name of the list of a bound's certificate.
-fn bound_list(kind: &[u8]) -> &'static [u8]
+pub(crate) fn bound_list(kind: &[u8]) -> &'static [u8]
     ensures { result.now ≡ bound_list kind.now }
 {
     if is(kind, b"multipliers") || is(kind, b"prices") {
@@ -64,7 +66,7 @@ fn bound_list(kind: &[u8]) -> &'static [u8]
 }
 
 /// Whether a line is the certificate of a bound.
-fn is_bound_kind(key: &[u8], row: &[u8]) -> bool
+pub(crate) fn is_bound_kind(key: &[u8], row: &[u8]) -> bool
     ensures { result ≡ is_bound_kind key.now (words row.now) }
 {
     is(key, b"machine")
@@ -91,8 +93,16 @@ fn is_plain_key(key: &[u8]) -> bool
         || is(key, b"claimed")
         || is(key, b"best")
         || is(key, b"gap")
-        || is(key, b"offered")
-        || is(key, b"bound")
+}
+
+/// The name of the fault of a line that says a bound, or why there is none.
+fn fault_name(key: &[u8]) -> &'static [u8]
+    ensures { result.now ≡ fault_name key.now }
+{
+    if is(key, b"offered") {
+        return b"offered_fault";
+    }
+    b"bound_fault"
 }
 
 impl Json {
@@ -112,7 +122,7 @@ impl Json {
     }
 
     /// Adds a certificate by its kind, the name of its list, its other words and the next line.
-    fn certificate(
+    pub(crate) fn certificate(
         &mut self,
         kind: &[u8],
         list: &[u8],
@@ -156,6 +166,19 @@ impl Json {
         Ok(())
     }
 
+    /// Adds a bound, or `null` and why there is none.
+    fn bounding_members(&mut self, alloc: Global, key: &[u8], row: &[u8]) -> Result<(), OutOfMemory>
+        ensures { OnOk result
+            (Adds self.old self.new (bounding_members key.now (words row.now))) }
+    {
+        if is_number(row) {
+            return self.said_member(alloc, key, row);
+        }
+        self.member(key, b"null")?;
+        self.phrase_member(alloc, fault_name(key), row)?;
+        Ok(())
+    }
+
     fn verdict_members(&mut self, key: &[u8], row: &[u8]) -> Result<(), OutOfMemory>
         ensures { OnOk result (Adds self.old self.new (verdict_members key.now (words row.now))) }
     {
@@ -187,6 +210,9 @@ impl Json {
     {
         if is_plain_key(key) {
             return self.said_member(alloc, key, row);
+        }
+        if is(key, b"bound") || is(key, b"offered") {
+            return self.bounding_members(alloc, key, row);
         }
         if is(key, b"cert") {
             return self.answer_certificate(row);

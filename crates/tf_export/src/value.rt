@@ -1,9 +1,9 @@
 //! JSON values, added to a text.
-ghost use Rattle.std.specs.Prelude.{◌≡◌, ◌/◌, ◌%◌, ◌<◌, ◌∷◌, ◌++◌, [], IfSome, IfNone, OnOk};
+ghost use Rattle.std.specs.Prelude.{◌≡◌, ◌/◌, ◌%◌, ◌<◌, ◌∷◌, ◌++◌, [], false, IfSome, IfNone, OnOk};
 ghost use Rattle.std.specs.List.{flat_map, join_with_byte};
 ghost use Rattle.tf_words.specs.Words.{words};
 ghost use Rattle.tf_export.specs.Json.{hex_digit, escaped, string, is_natural, is_integer, scalar};
-ghost use Rattle.tf_export.specs.Members.{phrase, said};
+ghost use Rattle.tf_export.specs.Members.{is_number, phrase, said};
 
 use std::alloc::Global;
 use tf_model::memory::OutOfMemory;
@@ -148,11 +148,22 @@ pub(crate) fn push_phrase(alloc: Global, text: &mut Vec<u8>, row: &[u8]) -> Resu
 fn only_word(row: &[u8]) -> Option<&[u8]>
     ensures one { IfSome result (λ word. words row.now ≡ word.now ∷ []) }
     ensures other { IfNone result (said (words row.now) ≡ phrase (words row.now)) }
+    ensures no_number { IfNone result (is_number (words row.now) ≡ false) }
 {
     let (word, more) = first_word(row)?;
     match first_word(more) {
         None => Some(word),
         Some(_) => None,
+    }
+}
+
+/// Whether words are one whole number.
+pub(crate) fn is_number(row: &[u8]) -> bool
+    ensures { result ≡ is_number (words row.now) }
+{
+    match only_word(row) {
+        Some(word) => is_integer(word),
+        None => false,
     }
 }
 

@@ -3,7 +3,6 @@ use Rattle.tf_words.specs.Words.{words}
 use Rattle.tf_export.specs.Adds.{Adds}
 use Rattle.tf_export.specs.Json.{member}
 use Rattle.tf_export.specs.Members.{fields, phrase}
-use Rattle.tf_export.specs.Orders.{order_outcome}
 use Rattle.tf_export.proofs.Adding.{both}
 use Rattle.tf_export.proofs.json.Json.labelled.Goals as goal
 

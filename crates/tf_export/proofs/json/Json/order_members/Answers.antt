@@ -1,9 +1,8 @@
-use Rattle.std.proofs.Common.{◌≡◌, Some, None, ◌+◌, ◌-◌, take, drop, length, OnOk, ap, sym, subst, ◌∙◌, arith}
-use Rattle.std.specs.List.{position}
+use Rattle.std.proofs.Common.{◌≡◌, ◌+◌, ◌-◌, take, drop, length, OnOk, sym, subst, ◌∙◌, arith}
 use Rattle.std.proofs.lemmas.List.{length-drop, take_all}
 use Rattle.tf_words.specs.Words.{words}
 use Rattle.tf_export.specs.Adds.{Adds}
-use Rattle.tf_export.specs.Orders.{is_colon, labelled, order_members_by}
+use Rattle.tf_export.specs.Orders.{labelled, order_members_by}
 use Rattle.tf_export.proofs.json.Json.order_members.Goals as goal
 
 pub returns-in-None : goal.returns-in-None

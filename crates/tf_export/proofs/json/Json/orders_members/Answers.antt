@@ -12,10 +12,12 @@ returns c =
     both c.args.self.now c.line_members.new.self c.parts_array.new.self _ _
     (subst (λ line. Adds c.args.self.now c.line_members.new.self (line_members (words line) (words [])))
     c.first_of.ensures c.in_ok-line_members.ensures)
-    (both c.line_members.new.self c.parts_object.new.self c.parts_array.new.self _ _
-    (subst (λ text. Adds c.line_members.new.self c.parts_object.new.self
+    (both c.line_members.new.self c.unknown.new.self c.parts_array.new.self _ _
+    c.in_ok-unknown.ensures
+    (both c.unknown.new.self c.parts_object.new.self c.parts_array.new.self _ _
+    (subst (λ text. Adds c.unknown.new.self c.parts_object.new.self
     (parts_object (codes "summary") Mark (lines text) ∷ [])) (c.as_slice.ensures.value ∙ c.in_ok-summary.ensures)
     c.in_ok-parts_object.ensures)
     (subst (λ all. Adds c.parts_object.new.self c.parts_array.new.self
     (parts_array (codes "orders") Order all ∷ [])) c.behind_heading.ensures
-    c.in_ok-parts_array.ensures))
+    c.in_ok-parts_array.ensures)))

@@ -27,17 +27,17 @@ returns-in-Row c =
     (Adds c.args.self.now c.row_in.new.self (part_in part c.args.line.now c.args.next.now)))
     (sym c.in-Row.is) c.row_in.ensures
 
-pub returns-in-Distance : goal.returns-in-Distance
-returns-in-Distance c =
-    subst (λ part. OnOk c.distance_in.result
-    (Adds c.args.self.now c.distance_in.new.self (part_in part c.args.line.now c.args.next.now)))
-    (sym c.in-Distance.is) c.distance_in.ensures
+pub returns-in-Open : goal.returns-in-Open
+returns-in-Open c =
+    subst (λ part. OnOk c.open_in.result
+    (Adds c.args.self.now c.open_in.new.self (part_in part c.args.line.now c.args.next.now)))
+    (sym c.in-Open.is) c.open_in.ensures
 
-pub returns-in-Bounded : goal.returns-in-Bounded
-returns-in-Bounded c =
-    subst (λ part. OnOk c.bounded_in.result
-    (Adds c.args.self.now c.bounded_in.new.self (part_in part c.args.line.now c.args.next.now)))
-    (sym c.in-Bounded.is) c.bounded_in.ensures
+pub returns-in-Solved : goal.returns-in-Solved
+returns-in-Solved c =
+    subst (λ part. OnOk c.solved_in.result
+    (Adds c.args.self.now c.solved_in.new.self (part_in part c.args.line.now c.args.next.now)))
+    (sym c.in-Solved.is) c.solved_in.ensures
 
 pub returns-in-Known : goal.returns-in-Known
 returns-in-Known c =

@@ -1,8 +1,8 @@
-use Rattle.std.proofs.Common.{ℕ, List, [], ◌∷◌, OnOk, map, length, ap, sym, subst, ◌∙◌}
+use Rattle.std.proofs.Common.{ℕ, List, [], ◌∷◌, OnOk, map, ap, sym, subst, ◌∙◌}
 use Rattle.tf_words.specs.Words.{words}
 use Rattle.tf_export.specs.Adds.{Adds}
-use Rattle.tf_export.specs.Csv.{column_names, row_key}
-use Rattle.tf_export.specs.Members.{record_of, row_in}
+use Rattle.tf_export.specs.Csv.{column_names}
+use Rattle.tf_export.specs.Members.{record_of}
 use Rattle.tf_export.proofs.Adding.{nothing}
 use Rattle.tf_export.proofs.Saying.{same_row}
 use Rattle.tf_export.proofs.json.Json.row_in.Goals as goal
