@@ -23,6 +23,13 @@ const UNIT: i64 = 1_024;
 // What the step's length is over.
 const LENGTH: i64 = 65_536;
 
+// How many hundredths of a direction are new in each step, and how many where it turns slowly.
+const WHOLE: i64 = 100;
+
+const USUAL_SHARE: i64 = 10;
+
+const SLOW_SHARE: i64 = 3;
+
 // The most steps without a better value before those of a hasty search get shorter.
 const MOST_PATIENCE: u32 = 60;
 
@@ -40,10 +47,11 @@ pub struct Steps {
     pub all: u32,
 }
 
-// How long the steps are, over LENGTH, how many without a better value shorten them, and how many
-// there were.
+// How many hundredths of a direction are new, how long the steps are, over LENGTH, how many without
+// a better value shorten them, and how many there were.
 #[derive(Clone, Copy)]
 struct Pace {
+    share: i64,
     length: i64,
     patience: u32,
     waited: u32,
@@ -54,6 +62,7 @@ impl Pace {
     // least 3.
     fn patient(steps: u32) -> Pace {
         Pace {
+            share: USUAL_SHARE,
             length: LENGTH,
             patience: (steps / 50).max(3),
             waited: 0,
@@ -63,6 +72,14 @@ impl Pace {
     // The same with at most 60 such steps.
     fn hasty(steps: u32) -> Pace {
         Pace::patient(steps.min(50 * MOST_PATIENCE))
+    }
+
+    // The same with directions that turn slowly.
+    fn slow(steps: u32) -> Pace {
+        Pace {
+            share: SLOW_SHARE,
+            ..Pace::patient(steps)
+        }
     }
 
     // The pace after one step more.
@@ -162,6 +179,19 @@ pub fn hasty_search<A: Allocator + Copy, B: Allocator, P: Progress>(
     effort: &mut Effort<P>,
 ) -> Result<Searched<A>, BoundFault> {
     let pace = Pace::hasty(steps.number);
+    search_at(alloc, task, start, target, (steps, pace), effort)
+}
+
+/// The prices of the greatest value that steps find whose direction turns slowly.
+pub fn slow_search<A: Allocator + Copy, B: Allocator, P: Progress>(
+    alloc: A,
+    task: &ProblemTask<B>,
+    start: Prices<A>,
+    target: u64,
+    steps: Steps,
+    effort: &mut Effort<P>,
+) -> Result<Searched<A>, BoundFault> {
+    let pace = Pace::slow(steps.number);
     search_at(alloc, task, start, target, (steps, pace), effort)
 }
 
@@ -317,7 +347,7 @@ fn improve<A: Allocator, P: Progress>(
         if gap < i128::from(target.q) {
             return (step, true);
         }
-        if pace.length == 0 || !tables.advance(target.machines, gap, pace.length) {
+        if pace.length == 0 || !tables.advance(target.machines, gap, pace) {
             return (step, false);
         }
     }
@@ -341,20 +371,20 @@ impl<A: Allocator> Tables<A> {
     }
 
     // Takes a step, where there is a direction.
-    fn advance(&mut self, machines: u32, gap: i128, length: i64) -> bool {
+    fn advance(&mut self, machines: u32, gap: i128, pace: Pace) -> bool {
         if self.counts.len() != self.rows.len() + 1 || self.direction.len() != self.rows.len() {
             return false;
         }
         let machines = i64::from(machines);
-        let norm = turn(&self.rows, &self.counts, machines, &mut self.direction);
+        let turning = Turning {
+            machines,
+            share: pace.share,
+        };
+        let norm = turning.turn(&self.rows, &self.counts, &mut self.direction);
         if norm == 0 || self.direction.len() != self.rows.len() {
             return false;
         }
-        step(
-            &mut self.rows,
-            &self.direction,
-            factor_of(gap, length, norm),
-        );
+        step(&mut self.rows, &self.direction, factor_of(gap, pace, norm));
         true
     }
 }
@@ -390,36 +420,53 @@ fn count_cheapest(jobs: &mut [JobStarts], sums: &[u64], counts: &mut [i64]) -> i
     total
 }
 
-// The new direction: a tenth of how many jobs too many a row has, and nine tenths of the old one.
-// The sum of its squares.
-fn turn(rows: &[u64], counts: &[i64], machines: i64, direction: &mut [i64]) -> u128
-    requires counts { length counts.now ≡ length rows.now + 1 }
-    requires direction { length direction.old ≡ length rows.now }
-{
-    let mut jobs: i64 = 0;
-    let mut norm: u128 = 0;
-    for row in 0..rows.len() {
-        jobs = jobs.saturating_add(counts[row]);
-        let here = jobs.saturating_sub(machines).saturating_mul(UNIT);
-        let turned = here.saturating_add(direction[row].saturating_mul(9)) / 10;
-        let kept = if turned < 0 && rows[row] == 0 {
-            0
-        } else {
-            turned
-        };
-        direction[row] = kept;
-        let size = kept.unsigned_abs();
-        norm = norm.saturating_add(u128::from(size) * u128::from(size));
+// How many machines there are, and how many hundredths of a direction are new.
+#[derive(Clone, Copy)]
+struct Turning {
+    machines: i64,
+    share: i64,
+}
+
+impl Turning {
+    // The new direction: a share of how many jobs too many a row has, and the rest of the old one.
+    // The sum of its squares.
+    fn turn(self, rows: &[u64], counts: &[i64], direction: &mut [i64]) -> u128
+        requires counts { length counts.now ≡ length rows.now + 1 }
+        requires direction { length direction.old ≡ length rows.now }
+    {
+        let mut jobs: i64 = 0;
+        let mut norm: u128 = 0;
+        for row in 0..rows.len() {
+            jobs = jobs.saturating_add(counts[row]);
+            let turned = self.turned(jobs, direction[row]);
+            let kept = if turned < 0 && rows[row] == 0 {
+                0
+            } else {
+                turned
+            };
+            direction[row] = kept;
+            let size = kept.unsigned_abs();
+            norm = norm.saturating_add(u128::from(size) * u128::from(size));
+        }
+        norm
     }
-    norm
+
+    // The direction of a row that has so many jobs, where it was another one.
+    fn turned(self, jobs: i64, old: i64) -> i64 {
+        let here = jobs.saturating_sub(self.machines).saturating_mul(UNIT);
+        let new = here.saturating_mul(self.share);
+        let rest = old.saturating_mul(WHOLE.saturating_sub(self.share));
+        new.saturating_add(rest) / WHOLE
+    }
 }
 
 // By how much a direction of 1 changes a price, over LENGTH.
-fn factor_of(gap: i128, length: i64, norm: u128) -> i64
+fn factor_of(gap: i128, pace: Pace, norm: u128) -> i64
     requires { 0 < norm }
 {
-    let reach = (gap.unsigned_abs()).saturating_mul(u128::from(length.unsigned_abs()));
-    let factor = reach.saturating_mul(u128::from(UNIT.unsigned_abs()) / 10) / norm;
+    let share = UNIT.saturating_mul(pace.share) / WHOLE;
+    let reach = (gap.unsigned_abs()).saturating_mul(u128::from(pace.length.unsigned_abs()));
+    let factor = reach.saturating_mul(u128::from(share.unsigned_abs())) / norm;
     i64::try_from(factor).unwrap_or(i64::MAX)
 }
 

@@ -12,7 +12,7 @@ use crate::effort::{Effort, Progress};
 use crate::intervals::{crammed_interval, jobs_at_work};
 use crate::machine_search::search_machines;
 use crate::multiplier_search::multiplier_bound;
-use crate::price_search::{Steps, hasty_search, patient_search};
+use crate::price_search::{Searched, Steps, hasty_search, patient_search, slow_search};
 use crate::price_start::{Prices, finer_prices, prices_by_due, sequence_prices};
 use crate::ranked::{Rank, crowd_front, crowded_above, jobs_by_rank, release_dates, window_front};
 use crate::sequence::best_order;
@@ -49,6 +49,9 @@ const USUAL_STEPS: u64 = 1_000;
 const MORE_STEPS: u64 = 2_000;
 
 const MORE_VISITS: u64 = 150_000_000;
+
+// How many visits the steps may take whose direction turns slowly.
+const SLOW_VISITS: u64 = 1_000_000_000;
 
 /// A certificate of a task, and its value.
 #[derive(Drop)]
@@ -598,7 +601,8 @@ fn judged_prices<A: Allocator + Copy, B: Allocator>(
     judged(alloc, task, certificate)
 }
 
-// A hasty search, and a patient one from its prices with the steps that it left.
+// A hasty search, and a patient one from its prices with the steps that it left. Where they are far
+// below the target, one whose direction turns slowly as well.
 fn by_rounds<A: Allocator + Copy, B: Allocator, P: Progress>(
     alloc: A,
     task: &ProblemTask<B>,
@@ -617,17 +621,72 @@ fn by_rounds<A: Allocator + Copy, B: Allocator, P: Progress>(
     let Some(first) = searched(hasty_search(alloc, task, start, target, steps, effort))? else {
         return Ok(None);
     };
+    if first.is_met {
+        return judged_prices(alloc, task, first.prices);
+    }
+    let slow = finer_prices(alloc, &first.prices)?;
+    let best = from_first(alloc, task, first, target, budget, effort)?;
+    if !is_far_below(&best, target) {
+        return Ok(best);
+    }
+    improved(
+        best,
+        by_slow_turns(alloc, task, slow, target, budget, effort),
+    )
+}
+
+// Whether a bound is more than a tenth below the cost of a schedule.
+fn is_far_below<A: Allocator>(best: &Option<Found<A>>, cost: u64) -> bool {
+    value_of(best) < i128::from(cost.saturating_sub(cost / 10))
+}
+
+// The prices of a first search, and a patient one from them with the steps that it left.
+fn from_first<A: Allocator + Copy, B: Allocator, P: Progress>(
+    alloc: A,
+    task: &ProblemTask<B>,
+    first: Searched<A>,
+    target: u64,
+    budget: Budget,
+    effort: &mut Effort<P>,
+) -> Result<Option<Found<A>>, OutOfMemory>
+    ensures { IfOk result (λ best. IfSome best (IsFoundOn task.now)) }
+{
     let left = Steps {
         before: first.steps,
         number: budget.all.saturating_sub(first.steps),
         all: budget.all,
     };
-    if first.is_met || left.number == 0 {
+    if left.number == 0 {
         return judged_prices(alloc, task, first.prices);
     }
     let finer = finer_prices(alloc, &first.prices)?;
     let best = judged_prices(alloc, task, first.prices)?;
     improved(best, by_patience(alloc, task, finer, target, left, effort))
+}
+
+// A search of long steps whose direction turns slowly.
+fn by_slow_turns<A: Allocator + Copy, B: Allocator, P: Progress>(
+    alloc: A,
+    task: &ProblemTask<B>,
+    start: Prices<A>,
+    target: u64,
+    budget: Budget,
+    effort: &mut Effort<P>,
+) -> Result<Option<Found<A>>, OutOfMemory>
+    ensures { IfOk result (λ best. IfSome best (IsFoundOn task.now)) }
+{
+    if budget.slow == 0 {
+        return Ok(None);
+    }
+    let steps = Steps {
+        before: budget.all,
+        number: budget.slow,
+        all: budget.all.saturating_add(budget.slow),
+    };
+    match searched(slow_search(alloc, task, start, target, steps, effort))? {
+        Some(found) => judged_prices(alloc, task, found.prices),
+        None => Ok(None),
+    }
 }
 
 fn by_patience<A: Allocator + Copy, B: Allocator, P: Progress>(
@@ -692,11 +751,13 @@ fn known_cost<A: Allocator, B: Allocator>(
     Ok(u64::MAX)
 }
 
-// How many steps a hasty search takes, and how many all searches from its prices.
+// How many steps a hasty search takes, how many it and a patient one, and how many follow whose
+// direction turns slowly.
 #[derive(Clone, Copy)]
 struct Budget {
     first: u32,
     all: u32,
+    slow: u32,
 }
 
 // The steps that searches for prices take: those that were asked for, or as many as a moderate
@@ -708,6 +769,7 @@ fn budget_for<B: Allocator>(task: &ProblemTask<B>, steps: Option<u32>) -> Budget
         return Budget {
             first: steps,
             all: steps,
+            slow: 0,
         };
     }
     let mut work: u64 = 0;
@@ -726,5 +788,11 @@ fn budget_for<B: Allocator>(task: &ProblemTask<B>, steps: Option<u32>) -> Budget
     } else {
         first.saturating_add(more)
     };
-    Budget { first, all }
+    // With fewer steps than these it hardly ever finds more.
+    let slow = if SLOW_VISITS / visits < MORE_STEPS {
+        0
+    } else {
+        MORE_STEPS as u32
+    };
+    Budget { first, all, slow }
 }
