@@ -64,7 +64,7 @@ EndsOverBoth texts first second writer says status Ends =
 abbrev pub EndsWriting : List ℕ → DeviceUse → (List ℕ → Type 0) → ℕ → Type 0
 EndsWriting text writer says status =
     ((status ≡ 0) × Appends writer.before writer.after text × says [])
-    ⊎ ((status ≡ 4) × AppendsPrefix writer.before writer.after text
+    ⊎ ((status ≡ 4) × (writer.failed ≡ true) × AppendsPrefix writer.before writer.after text
     × says (codes "threefield: device fault\n"))
 
 -- this list of problems was written, with an instance of those that it has the fields for; or there

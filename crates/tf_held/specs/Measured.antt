@@ -56,4 +56,4 @@ EndsMeasured texts evaluating writer says line status =
     × (IsWritten writer says output errors wanted status
     ⊎ IsCutOff writer says output (codes "threefield: device fault\n") status))
     ⊎ IsUnwritten writer says (codes "threefield: want of memory\n") status
-    ⊎ IsUnread writer line status
+    ⊎ IsUnread texts writer line status

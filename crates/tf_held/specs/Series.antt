@@ -209,4 +209,4 @@ pub record EndsStopped (texts : Texts) (series : Series) (writer : DeviceUse)
 abbrev pub EndsSeries : Texts → Series → DeviceUse → (List ℕ → Type 0) → ℕ → Type 0
 EndsSeries texts series writer says status =
     EndsTold texts series writer says status ⊎ EndsStopped texts series writer says status
-    ⊎ IsUnread writer says status
+    ⊎ IsUnread texts writer says status

@@ -135,4 +135,4 @@ EndsCounted texts work writer says status =
     ((asks_count (evaluated work) ≡ false) × Performs texts work writer says status)
     ⊎ ((options : Options) × (evaluated work ≡ Some options) × (wants_count options ≡ true)
     × (EndsShop texts work options writer says status
-    ⊎ IsUnread writer (says options.telling.explain) status))
+    ⊎ IsUnread texts writer (says options.telling.explain) status))

@@ -100,7 +100,7 @@ fn answers_named<S: Sources, W: Write, E: Write>(
     ensures text { IfOk result (λ text.
         HasAnswers (S.text_of sources.now) series.now.told text.items) }
     ensures kept { IfOk result (λ _. console.new ≡ console.old) }
-    ensures unread { IfErr result (IsUnread (use_of W.contents console.old.writer console.new.writer)
+    ensures unread { IfErr result (IsUnread (S.text_of sources.now) (use_of W.contents console.old.writer console.new.writer)
         (SaysLine E.contents false console.old.errors console.new.errors)) }
 {
     match series.told {

@@ -31,6 +31,28 @@ fn bound_is_cut_short(alloc: Global, run: Run<'_>, call: u64) -> bool {
     ending == Ending::Device && run.case.bound.starts_with(taken) && taken.len() as u64 + 1 == call
 }
 
+/// The reader of the instance fails at this call of a run that plans.
+fn plan_is_cut_off(alloc: Global, run: Run<'_>, call: u64) -> bool {
+    let mut source = Source::new(run.case.instance)
+        .by(5)
+        .failing(Failure::once(call));
+    let mut sink = Sink::new(alloc);
+    run.plan(&mut source, &mut sink) == Err(Ending::Device)
+        && source.calls() == call
+        && sink.calls() == 0
+}
+
+/// The writer fails at this call of a run that plans, and took a byte in each call before.
+fn plan_is_cut_short(alloc: Global, run: Run<'_>, call: u64) -> bool {
+    let mut source = Source::new(run.case.instance);
+    let mut sink = Sink::new(alloc).by(1).failing(Failure::once(call));
+    let ending = run.plan(&mut source, &mut sink);
+    let taken = sink.taken();
+    ending == Err(Ending::Device)
+        && run.case.planned.starts_with(taken)
+        && taken.len() as u64 + 1 == call
+}
+
 /// The reader of the answer fails at this call of a run that assesses.
 fn answer_is_cut_off(alloc: Global, run: Run<'_>, call: u64) -> bool {
     let mut source = Source::new(run.case.instance);
@@ -58,7 +80,10 @@ fn instance_is_cut_off(alloc: Global, run: Run<'_>, call: u64) -> bool {
 /// Each call of the reader of the instance fails in turn.
 fn is_cut_off_in_the_instance(alloc: Global, run: Run<'_>) -> bool {
     for call in 1..calls_by_five(run.case.instance).saturating_add(1) {
-        if !bound_is_cut_off(alloc, run, call) || !instance_is_cut_off(alloc, run, call) {
+        if !bound_is_cut_off(alloc, run, call)
+            || !instance_is_cut_off(alloc, run, call)
+            || !plan_is_cut_off(alloc, run, call)
+        {
             return false;
         }
     }
@@ -69,6 +94,16 @@ fn is_cut_off_in_the_instance(alloc: Global, run: Run<'_>) -> bool {
 fn is_cut_off_in_the_answer(alloc: Global, run: Run<'_>) -> bool {
     for call in 1..calls_by_five(run.case.answer).saturating_add(1) {
         if !answer_is_cut_off(alloc, run, call) {
+            return false;
+        }
+    }
+    true
+}
+
+/// Each call of the writer of the plan fails in turn, up to the plan's cost.
+fn is_cut_short_in_the_plan(alloc: Global, run: Run<'_>) -> bool {
+    for call in 1..(run.case.planned.len() as u64).saturating_add(1) {
+        if !plan_is_cut_short(alloc, run, call) {
             return false;
         }
     }
@@ -96,7 +131,8 @@ fn ends_where_a_device_fails(rt: &HostRuntime, case: &Case) -> Result<bool, Allo
     Ok(
         is_cut_off_in_the_instance(rt.alloc(), run)
             && is_cut_off_in_the_answer(rt.alloc(), run)
-            && is_cut_short(rt.alloc(), run),
+            && is_cut_short(rt.alloc(), run)
+            && is_cut_short_in_the_plan(rt.alloc(), run),
     )
 }
 

@@ -1,4 +1,4 @@
-use Rattle.std.proofs.Common.{List, ℕ, inl, inr, sym, subst, ◌∙◌, codes}
+use Rattle.std.proofs.Common.{List, ℕ, inl, inr, refl, sym, subst, ◌∙◌, codes}
 use Rattle.std.proofs.KnownBytes.{Keeps-refl}
 use Rattle.std.specs.Io.KnownBytes.{Keeps}
 use Rattle.tf_text.specs.Counted.{inner_of, use_of}
@@ -18,6 +18,7 @@ returns-in_default-line_for g c =
       c.in-Some.ensures.1,
       inr (record {
         fault = OutOfMemory;
+        why = inr (inl refl);
         unwritten = subst (λ console. Keeps
             (g.W.Write.contents (inner_of c.args.console.now.writer))
             (g.W.Write.contents (inner_of console.writer))) (sym same) (Keeps-refl _);
@@ -26,6 +27,15 @@ returns-in_default-line_for g c =
             c.say_memory.new.writer (codes "threefield: want of memory\n")) same
             c.say_memory.ensures.line;
       }),
+    )
+
+pub returns-in-Err : goal.returns-in-Err
+returns-in-Err g c =
+    inr (
+      c.in-Some.options.now,
+      c.in-Some.ensures.0,
+      c.in-Some.ensures.1,
+      inr c.in-Err.ensures.unread,
     )
 
 pub returns : goal.returns
