@@ -13,6 +13,7 @@ pub enum Cause {
     IsFlowShop,
     IsNumbers,
     IsSpreadsheet,
+    IsOtherKind,
     NoHeading,
     OtherHeading,
     HeadingAgain,
@@ -23,6 +24,7 @@ pub enum Cause {
     UpperCase,
     JobOneWord,
     UnknownLine,
+    NumberFirst,
     NoJobNumber,
     JobZero,
     LeadingZero,
@@ -35,6 +37,7 @@ pub enum Cause {
     UnknownField,
     FieldTwice,
     ManyTimes,
+    RouteForm,
     NoTime,
     DecimalPoint,
     DecimalComma,
@@ -108,7 +111,7 @@ impl Cause {
 }
 
 /// All advice, in the order of the causes.
-pub static ADVICE: [Advice; 47] = [
+pub static ADVICE: [Advice; 50] = [
     Advice {
         cause: Cause::ByteOrderMark,
         place: Place::Heading,
@@ -131,12 +134,12 @@ pub static ADVICE: [Advice; 47] = [
         cause: Cause::IsFlowShop,
         place: Place::Heading,
         wrong: "This looks like a flow shop file of OR-Library, and not like a job table.",
-        fix: "Add --format flow --name NAME.",
+        fix: "Add --format flow --name NAME, or --format jobshop for a job shop.",
     },
     Advice {
         cause: Cause::IsNumbers,
         place: Place::Heading,
-        wrong: "This looks like a weighted tardiness file of OR-Library: it begins with a number.",
+        wrong: "It begins with a number, as a weighted tardiness file of OR-Library or orders do.",
         fix: "Add --format wt --jobs N, with the number of jobs of one instance.",
     },
     Advice {
@@ -144,6 +147,12 @@ pub static ADVICE: [Advice; 47] = [
         place: Place::Heading,
         wrong: "This looks like a file of a spreadsheet, and not like a job table.",
         fix: "Below a line \"table 1\" write a line such as \"job 1 p=3 d=4\" for each of its rows.",
+    },
+    Advice {
+        cause: Cause::IsOtherKind,
+        place: Place::Heading,
+        wrong: "This looks like JSON, HTML, PDF or a packed file, and not like a job table.",
+        fix: "Below a line \"table 1\" write a line such as \"job 1 p=3 d=4\" for each job.",
     },
     Advice {
         cause: Cause::NoHeading,
@@ -206,6 +215,12 @@ pub static ADVICE: [Advice; 47] = [
         fix: "Put \"#\" before it if it is a comment.",
     },
     Advice {
+        cause: Cause::NumberFirst,
+        place: Place::Line,
+        wrong: "This line begins with a number.",
+        fix: "A job line begins with \"job\", and a precedence constraint with \"prec\".",
+    },
+    Advice {
         cause: Cause::NoJobNumber,
         place: Place::Job,
         wrong: "The number of the job is missing or is no number.",
@@ -238,7 +253,7 @@ pub static ADVICE: [Advice; 47] = [
     Advice {
         cause: Cause::BlankInField,
         place: Place::Job,
-        wrong: "There is a space next to a \"=\" or a \",\", so one field is two words or more.",
+        wrong: "A value is missing, or there is a space next to a \"=\" or a \",\".",
         fix: "Write each field as one word, as in p=3 or p=3,4.",
     },
     Advice {
@@ -251,7 +266,7 @@ pub static ADVICE: [Advice; 47] = [
         cause: Cause::NoEquals,
         place: Place::Job,
         wrong: "This word is no field: it has no \"=\".",
-        fix: "Write the field's letter, \"=\" and its value, as in p=3.",
+        fix: "Write the field's letter, \"=\" and its value, as in p=3, and two times as p=3,4.",
     },
     Advice {
         cause: Cause::LongName,
@@ -276,6 +291,12 @@ pub static ADVICE: [Advice; 47] = [
         place: Place::Job,
         wrong: "p= takes one number, or two in a shop.",
         fix: "Write p=3, or p=3,4 for the times on machines 1 and 2.",
+    },
+    Advice {
+        cause: Cause::RouteForm,
+        place: Place::Job,
+        wrong: "A route is operations TIME@MACHINE, each on another machine, counted from 1.",
+        fix: "Write it as in p=3@2,5@1: 3 time steps on machine 2, and then 5 on machine 1.",
     },
     Advice {
         cause: Cause::NoTime,
@@ -329,7 +350,7 @@ pub static ADVICE: [Advice; 47] = [
         cause: Cause::NoAscii,
         place: Place::Job,
         wrong: "A character here is not ASCII, such as a long minus sign or a no-break space.",
-        fix: "Write \"-\" and plain spaces.",
+        fix: "Write digits, \"-\" and plain spaces.",
     },
     Advice {
         cause: Cause::NotANumber,

@@ -12,6 +12,9 @@ pub(crate) struct Named {
     letters: [bool; 5],
 }
 
+// The most machines of a route.
+const MOST_ON_ROUTE: usize = 1_000;
+
 /// The letters of the fields.
 const LETTERS: [u8; 5] = [b'p', b'w', b'd', b'r', b'h'];
 
@@ -81,6 +84,8 @@ fn cause_of_no_field(word: &[u8]) -> Cause {
 fn cause_of_other_key(key: &[u8]) -> Cause {
     if key.is_empty() {
         Cause::BlankInField
+    } else if is_numbered_time(key) {
+        Cause::ManyTimes
     } else if key.len() > 1 || key.iter().all(|byte| byte.is_ascii_uppercase()) {
         Cause::LongName
     } else {
@@ -88,8 +93,16 @@ fn cause_of_other_key(key: &[u8]) -> Cause {
     }
 }
 
-// The value of `p=`: one number, or two with a comma between them.
+// Whether a key is that of the time on a machine of some number.
+fn is_numbered_time(key: &[u8]) -> bool {
+    key.len() > 1 && key.starts_with(b"p") && key.iter().skip(1).all(|byte| byte.is_ascii_digit())
+}
+
+// The value of `p=`: one number, or two with a comma between them, or a route.
 fn fault_of_times(value: &[u8]) -> Option<Cause> {
+    if value.contains(&b'@') {
+        return fault_of_route(value);
+    }
     let commas = value.iter().filter(|byte| **byte == b',').count();
     if commas > 1 {
         return Some(Cause::ManyTimes);
@@ -97,6 +110,36 @@ fn fault_of_times(value: &[u8]) -> Option<Cause> {
     value
         .split(|byte| *byte == b',')
         .find_map(|part| fault_of_size(part))
+}
+
+// A route: operations TIME@MACHINE, each on another machine.
+fn fault_of_route(value: &[u8]) -> Option<Cause> {
+    let mut marks = [false; MOST_ON_ROUTE];
+    for part in value.split(|byte| *byte == b',') {
+        let Some((time, machine)) = divided(part, b'@') else {
+            return Some(Cause::RouteForm);
+        };
+        let fault = fault_of_size(time);
+        if fault.is_some() {
+            return fault;
+        }
+        let Some(mark) = marks.get_mut(place_of_machine(machine)) else {
+            return Some(Cause::RouteForm);
+        };
+        if *mark {
+            return Some(Cause::RouteForm);
+        }
+        *mark = true;
+    }
+    None
+}
+
+// The place of a machine that is counted from 1; beyond all places where it is none.
+fn place_of_machine(word: &[u8]) -> usize {
+    match number_of(word) {
+        Number::Value(machine) => usize::try_from(machine.saturating_sub(1)).unwrap_or(usize::MAX),
+        _ => usize::MAX,
+    }
 }
 
 // The value of `h=`: a base, and steps with rising times and values that do not fall.

@@ -12,6 +12,7 @@ use tf_notation::reading::read;
 enum Expected {
     Environment,
     Bar,
+    CommaOrBar,
     Condition,
     Objective,
     End,
@@ -37,6 +38,14 @@ const EQUAL_TIMES: &str = "Equal processing times are no condition: give each jo
 
 const DEADLINES: &str = "Due dates are no condition: give each job its d=.";
 
+const PREEMPTION: &str = "Preemption is the condition prmp.";
+
+const RELEASES: &str = "Release dates are the condition rj.";
+
+const NO_WAIT: &str = "No wait between operations is the condition nwt.";
+
+const ONE_WORD: &str = "The objective is one word, as in Cmax, sumC or sumwC.";
+
 const SETUPS: &str = "Setup times are not read.";
 
 const OPERATIONS: &str = "Numbers of operations are not read.";
@@ -44,7 +53,7 @@ const OPERATIONS: &str = "Numbers of operations are not read.";
 const SETS_OF_MACHINES: &str = "Sets of machines for each job are not read.";
 
 /// Words of the literature that are not read, each with what to write for it.
-static HINTS: [(&str, &str); 20] = [
+static HINTS: [(&str, &str); 37] = [
     (
         "Tmax",
         "Tmax is 0 or Lmax, whichever is greater: a schedule with minimum Lmax minimizes it.",
@@ -68,6 +77,29 @@ static HINTS: [(&str, &str); 20] = [
     ("n_j", OPERATIONS),
     ("Mj", SETS_OF_MACHINES),
     ("M_j", SETS_OF_MACHINES),
+    ("preemption", PREEMPTION),
+    ("preemptive", PREEMPTION),
+    ("release", RELEASES),
+    ("releases", RELEASES),
+    ("no", NO_WAIT),
+    ("nowait", NO_WAIT),
+    ("precedence", PREC),
+    ("deadline", DEADLINES),
+    ("deadlines", DEADLINES),
+    ("due", DEADLINES),
+    ("batch", "Batches are not read."),
+    ("makespan", "The makespan is written Cmax."),
+    (
+        "Fmax",
+        "Fmax is Lmax where each job is due at its release date.",
+    ),
+    (
+        "sumF",
+        "A schedule with minimum sumC minimizes the sum of flow times too.",
+    ),
+    ("sum", ONE_WORD),
+    ("max", ONE_WORD),
+    ("min", ONE_WORD),
 ];
 
 /// The most edits by which a word is taken for another.
@@ -86,7 +118,7 @@ impl Expected {
             (0, false) => Expected::Environment,
             (0, true) => Expected::Bar,
             (1, false) => Expected::Condition,
-            (1, true) => Expected::Bar,
+            (1, true) => Expected::CommaOrBar,
             (2, false) => Expected::Objective,
             _ => Expected::End,
         }
@@ -99,6 +131,9 @@ impl Expected {
             }
             Expected::Bar =>
                 "\"|\" is expected here: a notation is ENVIRONMENT|CONDITIONS|OBJECTIVE.",
+            Expected::CommaOrBar => {
+                "A comma or \"|\" is expected here: a notation is ENVIRONMENT|CONDITIONS|OBJECTIVE."
+            }
             Expected::Condition => {
                 "Conditions are expected here, such as rj,prec,prmp, separated by commas."
             }
@@ -114,7 +149,7 @@ impl Expected {
             Expected::Environment => ENVIRONMENTS.as_slice(),
             Expected::Condition => CONDITIONS.as_slice(),
             Expected::Objective => OBJECTIVES.as_slice(),
-            Expected::Bar | Expected::End => NOTHING.as_slice(),
+            Expected::Bar | Expected::CommaOrBar | Expected::End => NOTHING.as_slice(),
         }
     }
 }
@@ -137,7 +172,7 @@ pub fn explain_notation(
         Some(advice) => page.say(advice)?,
         None => say_meant(alloc, page, expected, word)?,
     }
-    if text.contains(&b'/') {
+    if text.contains(&b'/') && !text.contains(&b'|') {
         return page.say("Fields are divided by \"|\" and not by \"/\", as in \"1||Lmax\".");
     }
     if text.contains(&b'|') {
@@ -156,8 +191,33 @@ fn say_meant(
     if expected == Expected::Condition && is_objective(word) {
         return page.say("The objective comes after a second \"|\", as in \"1||Lmax\".");
     }
+    if expected == Expected::Environment {
+        return say_environment(alloc, page, word);
+    }
     match std::str::from_utf8(word) {
         Ok(word) if !word.is_empty() => say_nearest(alloc, page, expected.words(), word),
+        _ => Ok(()),
+    }
+}
+
+// What may be meant by a word in the place of the environment, which is a letter and perhaps a
+// number.
+fn say_environment(alloc: Global, page: &mut Page, word: &[u8]) -> Result<(), AllocError> {
+    let len = word
+        .iter()
+        .take_while(|byte| byte.is_ascii_alphabetic())
+        .count();
+    let letter = word.get(..len).unwrap_or(&[]);
+    if letter.is_empty() && !word.is_empty() {
+        return page.say("A number of machines stands behind a letter, as in P2 or F2.");
+    }
+    if ENVIRONMENTS.iter().any(|known| known.as_bytes() == letter) {
+        return page.say("The number of machines is from 1 to 1000, as in P2 or F2.");
+    }
+    match std::str::from_utf8(letter) {
+        Ok(letter) if letter.len() == 1 => {
+            say_nearest(alloc, page, ENVIRONMENTS.as_slice(), letter)
+        }
         _ => Ok(()),
     }
 }
@@ -171,6 +231,12 @@ fn hint_for(text: &[u8], byte: usize, word: &[u8]) -> Option<&'static str> {
     if matches!(rest.first(), Some(128..)) {
         return Some("Write ASCII characters only, with plain spaces and quotes.");
     }
+    if matches!(rest.first(), Some(b'"' | b'\'')) {
+        return Some("The quotes are part of the notation here: leave them out.");
+    }
+    if let Some(advice) = hint_behind(text, byte) {
+        return Some(advice);
+    }
     if text.contains(&b'\\') || text.contains(&b'{') {
         return Some("LaTeX is not read: write Cmax, Lmax, sumC or sumwC.");
     }
@@ -180,6 +246,18 @@ fn hint_for(text: &[u8], byte: usize, word: &[u8]) -> Option<&'static str> {
         }
     }
     None
+}
+
+// What to do about a sign behind the objective.
+fn hint_behind(text: &[u8], byte: usize) -> Option<&'static str> {
+    if Expected::at(text, byte) != Expected::End {
+        return None;
+    }
+    match text.get(byte) {
+        Some(b'|') => Some("Conditions stand before the objective, as in \"1|rj,prmp|Lmax\"."),
+        Some(b',') => Some("One objective is minimized at a time."),
+        _ => None,
+    }
 }
 
 // Whether the word is an objective's.
@@ -236,6 +314,9 @@ fn say_nearest(
     let Some((edits, known)) = nearest(alloc, words, word)? else {
         return Ok(());
     };
+    if edits > known.len() / 2 {
+        return Ok(());
+    }
     let (front, behind) = if known == word {
         ("", " occurs here a second time.")
     } else if edits == 0 {

@@ -23,6 +23,10 @@ const BAD_NUMBER: &str = "After the sizes come whole numbers only: machine and t
 
 const BAD_LINE: &str = "The second number is that of the machines, from 1 to 1000.";
 
+const BAD_ROUTE: &str = "\
+In each job every machine stands once, counted from 0, each with its time. Where this
+line is right, a number is missing or too many before it.";
+
 /// What is wrong, where the instance of this name was read.
 pub fn explain_shop(
     alloc: Global,
@@ -39,6 +43,10 @@ pub fn explain_shop(
         ReadFault::NoInstance => say_names(page, source, name),
         ReadFault::BadPair => say_machines(alloc, page, source, name),
         ReadFault::EndsEarly => page.say(ENDS_EARLY),
+        ReadFault::BadLine(line) if !is_of_sizes(source, line as usize) => {
+            page.quote_number(source, line as usize)?;
+            page.say(BAD_ROUTE)
+        }
         _ => match line_at_fault(fault) {
             Some((line, wrong)) => {
                 page.quote_number(source, line as usize)?;
@@ -47,6 +55,16 @@ pub fn explain_shop(
             None => Ok(()),
         },
     }
+}
+
+// Whether a line may be that of the sizes, with a number of machines that is out of range.
+fn is_of_sizes(source: &Source<'_>, number: usize) -> bool {
+    let Some(line) = source.line(number) else {
+        return true;
+    };
+    let front = Front::new(line.bytes);
+    let machines = front.value(1);
+    front.len() == 2 && !machines.is_some_and(|machines| (1..=1000).contains(&machines))
 }
 
 // The line that a fault is of, and what is wrong there.

@@ -133,22 +133,28 @@ impl Judge {
             return None;
         }
         match self.stage {
-            Stage::Heading => self.heading(&front, first),
+            Stage::Heading => self.heading(line, &front, first),
             Stage::Other => None,
             _ => self.body(line, &front, first),
         }
     }
 
-    fn heading<'a>(&mut self, front: &Front<'a>, first: Word<'a>) -> Option<Fault<'a>> {
+    fn heading<'a>(
+        &mut self,
+        line: SourceLine<'a>,
+        front: &Front<'a>,
+        first: Word<'a>,
+    ) -> Option<Fault<'a>> {
         self.stage = Stage::Machines;
         if is_heading(front) {
             return None;
         }
-        let cause = cause_of_heading(first.bytes);
+        let cause = cause_of_heading(line.bytes, first.bytes);
         if let Cause::IsAnswer
         | Cause::IsFlowShop
         | Cause::IsNumbers
-        | Cause::IsSpreadsheet = cause
+        | Cause::IsSpreadsheet
+        | Cause::IsOtherKind = cause
         {
             self.stage = Stage::Other;
         }
@@ -279,7 +285,7 @@ fn is_heading(front: &Front<'_>) -> bool {
     }
 }
 
-fn cause_of_heading(first: &[u8]) -> Cause {
+fn cause_of_heading(line: &[u8], first: &[u8]) -> Cause {
     if first.starts_with(b"\xef\xbb\xbf") || first.starts_with(b"\xff\xfe") {
         Cause::ByteOrderMark
     } else if first.contains(&0) {
@@ -290,13 +296,24 @@ fn cause_of_heading(first: &[u8]) -> Cause {
         Cause::IsFlowShop
     } else if is_numeral(first) {
         Cause::IsNumbers
-    } else if is(first, b"job") || is(first, b"machines") {
+    } else if has_other_kind(first) {
+        Cause::IsOtherKind
+    } else if line.contains(&b'\t') && !line.contains(&b'=') {
+        Cause::IsSpreadsheet
+    } else if first.eq_ignore_ascii_case(b"job") || is(first, b"machines") {
         Cause::NoHeading
     } else if first.iter().any(|byte| matches!(byte, b',' | b';')) {
         Cause::IsSpreadsheet
     } else {
         Cause::OtherHeading
     }
+}
+
+// Whether a text begins as JSON, HTML, PDF or a packed file does.
+fn has_other_kind(first: &[u8]) -> bool {
+    matches!(first.first(), Some(b'{' | b'[' | b'<'))
+        || first.starts_with(b"%PDF")
+        || first.starts_with(b"PK\x03\x04")
 }
 
 // What stands where the number of a job is wanted.
@@ -313,6 +330,10 @@ fn cause_of_other_line(first: &[u8]) -> Cause {
         Cause::HeadingAgain
     } else if first.starts_with(b"machines=") {
         Cause::MachinesOneWord
+    } else if first.starts_with(b"machine") {
+        Cause::MachinesForm
+    } else if first.first().is_some_and(|byte| byte.is_ascii_digit()) {
+        Cause::NumberFirst
     } else if first.starts_with(b"job") && first.iter().any(|byte| byte.is_ascii_digit()) {
         Cause::JobOneWord
     } else if first.iter().any(|byte| byte.is_ascii_uppercase()) {

@@ -16,6 +16,13 @@ const ORDER: &str = "\
 The lines of an answer stand in this order: answer 2, problem, jobs, machines, value,
 any number of lines piece, cert, end.";
 
+const IS_JSON: &str = "This is JSON: an answer text is what a command prints without --json.";
+
+const IS_CSV: &str = "This is CSV: an answer text is what a command prints without --csv.";
+
+const IS_BOUND: &str = "\
+This is the text of a lower bound, which has no schedule: \"threefield plan\" prints one.";
+
 /// The lines that stand once each, before the pieces.
 static FRONT: [&str; 5] = [
     "answer 2",
@@ -86,7 +93,26 @@ fn say_other_file(page: &mut Page, source: &Source<'_>) -> Result<bool, AllocErr
         page.say(EXCHANGED)?;
         return Ok(true);
     }
+    if let Some(kind) = other_output(source.text) {
+        page.quote_number(source, 1)?;
+        page.say(kind)?;
+        return Ok(true);
+    }
     Ok(false)
+}
+
+// What a text is that begins as another output of the program.
+fn other_output(text: &[u8]) -> Option<&'static str> {
+    let text = text.trim_ascii_start();
+    if text.starts_with(b"{") {
+        Some(IS_JSON)
+    } else if text.starts_with(b"job,") {
+        Some(IS_CSV)
+    } else if text.starts_with(b"bound 1") {
+        Some(IS_BOUND)
+    } else {
+        None
+    }
 }
 
 fn explain_line(page: &mut Page, source: &Source<'_>, number: usize) -> Result<(), AllocError> {
@@ -97,8 +123,11 @@ fn explain_line(page: &mut Page, source: &Source<'_>, number: usize) -> Result<(
     let first = first_of(line.bytes);
     if let Some(wanted) = wanted_at(source, number) {
         writeln!(page.text, "Here a line \"{wanted}\" is wanted.")?;
+        say_number(page, first, wanted)?;
     } else if is(first, b"end") && source.line_beginning(&[b"cert".as_slice()]).is_none() {
         page.say("The line \"cert\" is missing: it stands before the line \"end\".")?;
+    } else if is(first, b"cert") && Front::new(line.bytes).len() == 1 {
+        page.say("The kind of the certificate is missing, as in \"cert last 1-3\".")?;
     } else if is(first, b"cert") && source.line_beginning(&[b"answer", b"2"]).is_some() {
         writeln!(
             page.text,
@@ -109,6 +138,15 @@ fn explain_line(page: &mut Page, source: &Source<'_>, number: usize) -> Result<(
         page.say(form_of(first))?;
     }
     page.say(ORDER)
+}
+
+// Says that a number is wanted behind a key that stands in its place.
+fn say_number(page: &mut Page, first: &[u8], wanted: &str) -> Result<(), AllocError> {
+    let has_number = is(first, b"jobs") || is(first, b"machines") || is(first, b"value");
+    if has_number && wanted.as_bytes().starts_with(first) {
+        return page.say("Behind the word stands one whole number, without a point or a unit.");
+    }
+    Ok(())
 }
 
 // Which of the lines that stand once each at the front is wanted in the place of this one.

@@ -10,6 +10,9 @@ use tf_engine::request::Form;
 use tf_model::limit::{MOST_ARCS, MOST_BYTES, MOST_JOBS};
 use tf_read::fault::ReadFault;
 
+/// What is wrong with a route in a problem that is no job shop.
+const ROUTE: &str = "A route, as in p=3@2,5@1, is read in a job shop alone, such as J||Cmax.";
+
 /// What is wrong with the text of an instance that was read in this form.
 pub(crate) fn explain_text(
     alloc: Global,
@@ -84,6 +87,14 @@ fn say_jobs(page: &mut Page, form: &Form) -> Result<(), AllocError> {
     }
 }
 
+// Says where a route is read, if the line has one.
+fn say_route(page: &mut Page, source: &Source<'_>, number: usize) -> Result<(), AllocError> {
+    match source.line(number) {
+        Some(line) if line.bytes.contains(&b'@') => page.say(ROUTE),
+        _ => Ok(()),
+    }
+}
+
 // The line that was refused, where nothing more is known of it.
 fn say_first(page: &mut Page, source: &Source<'_>, fault: &ReadFault) -> Result<(), AllocError> {
     match *fault {
@@ -92,7 +103,10 @@ fn say_first(page: &mut Page, source: &Source<'_>, fault: &ReadFault) -> Result<
         | ReadFault::NumberTooLarge(line)
         | ReadFault::Negative(line)
         | ReadFault::BadCost(line)
-        | ReadFault::BadArc(line) => page.quote_number(source, line as usize),
+        | ReadFault::BadArc(line) => {
+            page.quote_number(source, line as usize)?;
+            say_route(page, source, line as usize)
+        }
         ReadFault::EndsEarly => {
             page.say("The file has comments alone: the heading is missing.")?;
             page.say(Place::Heading.allows())
