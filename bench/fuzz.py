@@ -172,17 +172,23 @@ def has_its_rows(text, table):
     return rows == pieces
 
 
-def has_raw_byte(text):
-    return any(byte != 10 and not 32 <= byte < 127 for byte in text)
+def has_raw_byte(text, has_labels=False):
+    """Whether a byte is no printable ASCII; those of labels, which are written as they were given, may be UTF-8."""
+    return any(byte != 10 and not 32 <= byte < 127 and not (has_labels and byte >= 128) for byte in text)
 
 
-def faults_of(name, outcome, allowed):
+def has_labels(words):
+    """Whether a command line asks for the table of orders, which has their labels."""
+    return b"--csv" in words and any(word.startswith(b"--orders") for word in words)
+
+
+def faults_of(name, outcome, allowed, are_labels):
     """What is wrong with one run by itself."""
     if outcome.status is None or outcome.status not in allowed:
         yield f"{name}: status {outcome.status}"
     if outcome.status in (2, 3, 5) and outcome.written:
         yield f"{name}: status {outcome.status} and {len(outcome.written)} bytes on standard output"
-    if has_raw_byte(outcome.said) or has_raw_byte(outcome.written):
+    if has_raw_byte(outcome.said) or has_raw_byte(outcome.written, are_labels):
         yield f"{name}: a raw byte: {outcome.said!r} {outcome.written!r}"
 
 
@@ -202,7 +208,7 @@ def faults(words, outcomes):
     allowed = STATUSES.get(words[0].decode("latin-1"), OTHERWISE) if words else OTHERWISE
     plain = outcomes[""]
     for name, outcome in outcomes.items():
-        yield from faults_of(name or "as it is", outcome, allowed)
+        yield from faults_of(name or "as it is", outcome, allowed, has_labels(words))
         if outcome.status != plain.status:
             yield f"status {plain.status} without {name} and {outcome.status} with it"
     if outcomes.get("--explain", plain).written != plain.written:

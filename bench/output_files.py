@@ -75,6 +75,8 @@ def other_cases(program):
     yield "standard output", (None, answer, "", 0), run(program, [*solve, "-o", "-", "-"], {"-": table}, None)
     orders = ["evaluate", "-p", "1||sumC", "--orders", "none.txt", "-o", NAME, "table.txt"]
     yield "nothing", (b"", b"", "", 0), run(program, orders, {"table.txt": table, "none.txt": ""}, OLD)
+    nowhere = [*orders[:-2], "none/out.txt", "table.txt"]
+    yield "nothing in no such folder", (None, b"", fault, 4), run(program, nowhere, {"table.txt": table, "none.txt": ""}, None)
     full = [*solve, "-o", "/dev/full", "table.txt"]
     yield "a full device", (None, b"", fault, 4), run(program, full, {"table.txt": table}, None)
 

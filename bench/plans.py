@@ -156,17 +156,17 @@ def faults_of_formats(player, case, plan, instance):
     drawn = player.run("gantt", player.path("plan.txt"))
     if drawn.status or drawn.said or not drawn.written:
         yield f"is not drawn: {drawn}"
-    answer, said, bound = parts_of(plan.written)
+    answer, _, bound = parts_of(plan.written)
     pieces = [line.split()[1:] for line in answer if line.startswith("piece ")]
     csv = player.run("plan", "--csv", *STEPS, *case.options, instance)
     if csv.status != plan.status or [row.split(",") for row in csv.written.splitlines()[1:]] != pieces:
         yield f"other pieces as a table: {csv}"
     told = player.run("plan", "--json", *STEPS, *case.options, instance)
     object_ = json.loads(told.written)
-    gaps = [f"gap {object_['gap']}"] if "gap" in object_ else said
-    shown = object_["value"], object_.get("bound", {}).get("value", "")
-    wanted = int(fields_of(answer)["value"]), fields_of(bound.splitlines()).get("value", "")
-    if told.status != plan.status or gaps != said or tuple(map(str, shown)) != tuple(map(str, wanted)):
+    value = int(fields_of(answer)["value"])
+    least = int(fields_of(bound.splitlines()).get("value", value))
+    shown = [object_[name] for name in ("value", "gap", "bound")]
+    if told.status != plan.status or shown != [value, value - least, least]:
         yield f"another object: {told}"
 
 

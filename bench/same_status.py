@@ -30,6 +30,8 @@ MOST_SPACE = 1 << 28
 MARGIN = 16 * PAGE
 RESERVED = 12 << 20
 OUT_OF_MEMORY = (3, b"")
+MEMORY_LINE = b"threefield: want of memory\n"
+MEMORY_OBJECT = b'{"version":1,"fault":"want of memory"}\n'
 COMMENTS = b"# a comment of 32 bytes in a line\n" * 125_000
 HANDLER = b"""
 #include <signal.h>
@@ -179,6 +181,20 @@ def compare_narrow(program, folder, table, answer):
         yield from narrow_runs(program, words, wanted)
 
 
+def compare_early(program):
+    """A command line of too many words that asks for JSON, with a little less space than it takes to understand it."""
+    words = [program, "solve", "--json", *["word"] * 100]
+    least = least_space(words, 5)
+    said = []
+    for space in range(least - 32 * PAGE, least, PAGE):
+        before = limited(resource.RLIMIT_AS, space)
+        done = subprocess.run(words, stdin=subprocess.DEVNULL, capture_output=True, preexec_fn=before, timeout=60)
+        is_right = done.returncode == 3 and not done.stdout and done.stderr in (MEMORY_LINE, MEMORY_OBJECT)
+        said.append(done.stderr)
+        yield None if is_right or done.returncode == 5 else f"early want of memory, {space} bytes of space: {done}"
+    yield None if MEMORY_OBJECT in said else "early want of memory is never an object"
+
+
 def main(program):
     with tempfile.TemporaryDirectory() as folder:
         table, bad, answer = paths = [os.path.join(folder, name) for name in ("table", "bad", "answer")]
@@ -191,6 +207,7 @@ def main(program):
             *compare_cases(program, folder, paths),
             *compare_disturbed(program, folder, table, answer),
             *compare_narrow(program, folder, table, answer),
+            *compare_early(program),
         ]
     wrong = [each for each in differences if each]
     print(*wrong, sep="\n")

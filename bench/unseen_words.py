@@ -5,8 +5,8 @@
 
 Each text with a blank in it between double quotes in the sources of the crates below is a sentence, or a part of one; what
 `{..}` puts into it may be anything. Tests and doc comments are left out. A session shows a sentence if a line that it
-prints holds it. The pages' commands and the tests in Rattle count too. Ends with 1 if there is any sentence that is not
-shown and does not stand in the list HIDDEN, or one that stands there and is shown.
+prints holds it. The pages' commands, the tests in Rattle and the files of odd_files.py count too. Ends with 1 if there is any
+sentence that is not shown.
 """
 import glob
 import os
@@ -17,24 +17,13 @@ import sessions
 
 TOP = os.path.join(sessions.HERE, "..")
 CRATES = ["tf_advice", "tf_explain", "tf_trace"]
-PAGES = ["README.md", "docs/*.md", "examples/*.md", "examples/*/README.md", "crates/test_*/src/**/*.rt"]
+PAGES = ["README.md", "docs/*.md", "examples/*.md", "examples/*/README.md", "crates/test_*/src/**/*.rt", "bench/odd_files.py"]
 LITERAL = re.compile(r'"((?:[^"\\]|\\.)*)"', re.DOTALL)
 COMMENT = re.compile(r"^\s*//.*$|'\"'", re.MULTILINE)
 HOLE = re.compile(r"\{[^{}]*\}")
 
 # What examples/check_pages.py compares with docs/border.md.
 COMPARED = os.path.join("tf_advice", "src", "border.rt")
-
-# What no command line comes to, with the reason.
-HIDDEN = {
-    "The file has zero bytes: it is no plain text, or it is in UTF-16.": "a file of sessions with zero bytes is no text",
-    "Save it as plain text in UTF-8.": "the same",
-    "gives each job a cost of its own: at most {MOST_COSTED_JOBS} jobs.": "a table of 2,001 jobs",
-    "has more than {most} {what}.": "tables of 100,001 jobs, and texts of 64 MiB",
-    "The answer is not explained: it is longer than 24 MiB, or there was no memory to keep": "texts of 24 MiB",
-    "its text beside the instance.": "the same",
-    "The answer is longer than 67108864 bytes, the most that a text may have.": "texts of 64 MiB",
-}
 
 
 def unescaped(text):
@@ -79,11 +68,11 @@ def is_shown(sentence, text):
 def main():
     text, seen, faults = shown(), 0, 0
     for path, sentence in sorted({each for crate in CRATES for each in sentences(crate)}):
-        if is_shown(sentence, text) != (sentence in HIDDEN):
+        if is_shown(sentence, text):
             seen += 1
             continue
         faults += 1
-        print(f"{path}: {'is shown, and stands in HIDDEN' if sentence in HIDDEN else 'is not shown'}: {sentence}")
+        print(f"{path}: is not shown: {sentence}")
     print(f"{seen} passed, {faults} failed")
     return faults > 0
 
