@@ -26,6 +26,9 @@ test("what is left is a length, a share or nothing", () => {
     ["-1 h", [8]]]) {
     assert.ok(readLeft(calendar, text, times).fault, text);
   }
+  for (const text of ["fixed", "fest Mo 08:00", "Fixe"]) {
+    assert.match(readLeft(calendar, text, [8]).fault, /keeps an order at a fixed time. .*“Released”/);
+  }
 });
 
 test("what is done is left out, and who waits for it waits no more", async () => {

@@ -57,6 +57,7 @@ const DUES = [
   ["en", "Dec 3, 2026 2:00 PM", "2026-12-03 14:00"], ["en", "Thu 3 Dec", "2026-12-03 17:00"],
   ["en", "3rd December 2026", "2026-12-03 17:00"], ["en", "2026-12-03T14:00", "2026-12-03 14:00"],
   ["en", "5 d", "2026-12-04 17:00"], ["en", "24", "2026-12-02 17:00"], ["en", "46359", null],
+  ["en", "Dec 3, 2026 12:00 PM", "2026-12-03 12:00"], ["en", "3 Dec 12:30 am", "2026-12-02 17:00"],
   ["en", "next Friday", null], ["en", "14:00", null], ["en", "2026", null],
   ["fr", "3 déc. 2026", "2026-12-03 17:00"], ["fr", "1er décembre 2026", "2026-12-01 17:00"],
   ["fr", "jeu. 3 déc. à 14h30", "2026-12-03 14:30"], ["fr", "03/12/2026 14h", "2026-12-03 14:00"],
@@ -81,6 +82,13 @@ test("due dates in five languages", () => {
     assert.equal(fault ? null : momentField(calendar, steps, true), moment,
       `${language}: ${text}: ${fault}`);
   }
+});
+
+test("a week ends with its last working day", () => {
+  const at = (days) => momentField(calendarOf({ days }), readMoment(calendarOf({ days }), "KW 49",
+    true).steps, true);
+  assert.deepEqual([[1, 2, 3, 4, 5], [1, 2, 3, 4, 5, 6], [0, 1, 2, 3, 4, 5, 6], [1, 2]].map(at),
+    ["2026-12-04 17:00", "2026-12-05 17:00", "2026-12-06 17:00", "2026-12-01 17:00"]);
 });
 
 test("with the month first, slashes mean another day", () => {

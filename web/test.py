@@ -285,6 +285,103 @@ def promising(page):
     expect(page.run("document.getElementById('promise-form').hidden"), True)
 
 
+@way
+def promising_in_dates(page):
+    """A promise at the end of a time step; which late order, moved, brings the rest in time; and without an exact method."""
+    page.import_cells("Order;Time (h);Due\nA;6;2030-12-02\nB;4;2030-12-03\n")
+    page.run("document.getElementById('calendar').open = true")
+    page.type('[data-setting="start"]', "2030-12-02")
+    page.settle()
+    expect(page.run("document.getElementById('relief').hidden"), True)
+    page.click("#promise summary")
+    page.type("#promise-time", "6")
+    page.click("#promise-form button")
+    page.wait("/can be promised/.test(document.getElementById('promised').innerText)")
+    expect_in("“New order” can be promised for Tue 3 Dec 12:00.\n", page.text("#promised"))
+    expect_in("A step of 1 h earlier is not possible: “New order”, “A” are 12 h of work, which can't begin before "
+              "Mon 2 Dec 08:00, so the last of it is done Tue 3 Dec 12:00; but what comes last has to be done by "
+              "Tue 3 Dec 11:00.", page.text("#promised"))
+    page.click("#promised button")
+    page.settle()
+    expect([page.value(page.cell(3, field)) for field in ("name", "time", "due")], ["New order", "6", "2030-12-03 12:00"])
+    expect(page.plan_value(), "0 h")
+    page.put(1, "time", "10")
+    page.click("#relief summary")
+    page.click("#relief-find")
+    page.wait("/later/.test(document.getElementById('relieved').innerText)")
+    expect(page.text("#relieved"), "“A” due Wed 4 Dec 12:00, 12 h later: all are in time. Move it")
+    page.click("#relieved button")
+    page.settle()
+    expect([page.value(page.cell(1, "due")), page.plan_value()], ["2030-12-04 12:00", "0 h"])
+    expect(page.run("document.getElementById('relief').hidden"), True)
+    page.notation("1|prec|Lmax")
+    page.put(3, "after", "A")
+    page.click("#relief-find")
+    page.wait("/given away/.test(document.getElementById('relieved').innerText)")
+    expect(page.text("#relieved").split("\n"), ["“New order” due Wed 4 Dec 12:00, 8 h later: all are in time. Move it",
+                                                "“A” given away (10 h): all others are in time."])
+    page.put(3, "time", "13")
+    page.put(2, "time", "20")
+    page.put(2, "after", "New order")
+    page.click("#relief-find")
+    page.wait("/another one is still late/.test(document.getElementById('relieved').innerText)")
+    page.notation("P2||Lmax")
+    page.type("#promise-time", "2")
+    page.click("#promise-form button")
+    page.wait("/can be promised/.test(document.getElementById('promised').innerText)")
+    # The other machine does the new order of 13 h, due at 13, and then A, due at 23, with no time between.
+    expect_in("“New order” can be promised for Wed 4 Dec 15:00: a plan was found for it.", page.text("#promised"))
+    expect_in("A step of 1 h earlier is not possible: Then, of any plan, some order is at least 1 h late", page.text("#promised"))
+
+
+ORDERS = [("Kessel", 4, 3, "", ""), ("Gehäuse links", 6, 4, "hoch", ""), ("Gehäuse rechts", 6, 4, "", ""), ("Rahmen", 8, 5, "", ""),
+          ("Deckel", 3, 4, "", "Gehäuse links"), ("Muster", 2, None, "", ""), ("Welle 40", 5, 6, "", ""), ("Flansch", 7, 7, "", ""),
+          ("Träger", 10, 8, "", "Rahmen"), ("Platte A", 1, 3, "", ""), ("Platte B", 1.5, 9, "", ""), ("Konsole", 4, 9, "", "")]
+
+
+def three_lists():
+    """Twelve orders for one machine or three, and fifteen for sawing and painting, as they stand in a spreadsheet."""
+    due = [f"{day:02}.12.2030" if day else "" for _, _, day, _, _ in ORDERS]
+    one = "Auftrag\tDauer (h)\tTermin\tPriorität\tNach\n" + "".join(
+        f"{name}\t{str(time).replace('.', ',')}\t{date}\t{k % 3 + 1}\t{after}\n"
+        for k, ((name, time, _, _, after), date) in enumerate(zip(ORDERS, due)))
+    two = "Order\tSawing (h)\tPainting (h)\tDue\n" + "".join(
+        f"Order {k}\t{k * 7 % 5 + 1}\t{k * 5 % 4}\t{k * 11 % 9 + 3:02}.12.2030\n" for k in range(1, 16))
+    three = "Auftrag\tStunden\tTermin\tPriorität\n" + "".join(
+        f"{name}\t{str(time).replace('.', ',')}\t{date or '12.12.2030'}\t{k % 3 + 1}\n"
+        for k, ((name, time, _, _, _), date) in enumerate(zip(ORDERS, due)))
+    return one, two, three
+
+
+@way
+def three_plans(page):
+    """From opening to paper in four clicks at most, and no question of a planner without a plan that says how good it is."""
+    page.run("""window.clicks = 0; window.print = () => { window.hasPrinted = true; };
+        document.addEventListener("click", (event) => { if (event.isTrusted) window.clicks++; }, true)""")
+    asked = (("1|prec|Lmax", "sumT sumwT sumU sumwU sumC sumwC Cmax"), ("F2||Cmax", "Lmax sumC sumT sumwT sumwC"),
+             ("P3||Lmax", "Cmax sumC sumT sumwT sumU sumwU sumwC"))
+    for cells, (problem, others) in zip(three_lists(), asked):
+        page.run("window.clicks = 0; window.hasPrinted = false")
+        page.browser.paste("body", cells)
+        page.wait("document.getElementById('import').open")
+        page.click("#import-replace")
+        page.settle()
+        if problem.startswith("P"):
+            page.notation(problem)
+        page.click("#print")
+        page.wait("window.hasPrinted")
+        expect(page.value("#notation"), problem)
+        expect(page.run("window.clicks <= 4"), True, f"{page.run('window.clicks')} clicks for {problem}")
+        for objective in [problem.split("|")[2], *others.split()]:
+            page.notation(f"{problem.rsplit('|', 1)[0]}|{objective}")
+            expect(page.run("document.querySelectorAll('.chart .bar').length >= 12"), True, objective)
+            if not re.search("^proved optimal$|above the optimum$", page.text("#headline .proved") or ""):
+                raise AssertionError(f"{problem}, {objective}: {page.text('#headline')}")
+        page.fresh()
+        page.run("""window.clicks = 0; window.print = () => { window.hasPrinted = true; };
+            document.addEventListener("click", (event) => { if (event.isTrusted) window.clicks++; }, true)""")
+
+
 CLOCK = """Date = class extends Date {
     constructor(...given) { if (given.length > 0) super(...given); else super(2025, 2, 4, 9, 50); } }; undefined"""
 
@@ -672,7 +769,8 @@ def job_shop_from_a_spreadsheet(page):
     page.click("#list tbody th button")
     page.wait("/Painting \\d/.test(document.getElementById('chart-details').innerText)")
     page.browser.choose("#sort", "row")
-    expect(page.texts("#list tbody td[data-head=Machine]")[::4], ["Sawing, Milling, Painting", "Painting"])
+    expect(page.texts("#list tbody td[data-head=Machine]"), ["Sawing, Milling, Painting", "Milling, Sawing, Painting",
+           "Sawing, Painting", "Milling, Painting, Sawing", "Painting"])
     page.browser.choose("#sort", "machine")
     expect(sorted(set(page.texts("#list tbody td:first-child"))), ["Milling", "Painting", "Sawing"])
     page.run("document.querySelector('[data-save=csv]').click()")
@@ -993,6 +1091,8 @@ def sheet(page):
     page.example(0)
     page.put(2, "time", "4 h")
     value = page.plan_value()
+    page.type("#machine-names", "Press")
+    page.settle()
     page.click("#changes button")
     page.run("window.print = () => { window.hasPrinted = true; }")
     page.click("#print")
@@ -1021,7 +1121,7 @@ def sheet(page):
     page.fresh()
     page.browser.paste("body", code)
     page.wait_for_value(value)
-    expect([page.value(page.cell(2, "time")), page.value("#title")], ["4 h", "Week 10"])
+    expect([page.value(page.cell(2, "time")), page.value("#title"), labels(page)[:1]], ["4 h", "Week 10", ["Press"]])
     page.import_cells("Name\tTime\tDue\n" + "\n".join(f"Order {k * k * 7919 % 100003}\t{k % 97 + 1}\t{k * 61 % 500000}" for k in range(700)))
     page.click("#print")
     page.wait("window.hasPrinted ?? true")
@@ -1463,6 +1563,11 @@ def list_keeps_its_columns(page):
             page.run("new Promise((resolve) => setTimeout(resolve, 100))")
             if page.run("(() => { const it = document.getElementById('list-scroll'); return it.scrollWidth > it.clientWidth; })()"):
                 raise AssertionError(f"the list is cut off at {width} pixels")
+    for width in (768, 1280, 1366, 1920):
+        page.browser.size(width, 800)
+        page.run("new Promise((resolve) => setTimeout(resolve, 100))")
+        heights = page.run("[...document.querySelectorAll('#list tbody tr')].map((each) => each.offsetHeight)")
+        expect(max(heights) < 1.5 * min(heights), True, f"a line for each job at {width} pixels: {heights}")
     page.browser.size(360, 740)
     expect(page.run("getComputedStyle(document.querySelector('#list tbody tr')).display"), "grid", "cards on a phone")
     tops = page.run("['.plan', '.jobs'].map((each) => document.querySelector(each).getBoundingClientRect().top)")
@@ -1482,6 +1587,56 @@ def late_jobs_only(page):
     expect(page.texts("#list tbody th"), ["Annual report, inside", "School newspaper", "Wedding invitations"])
     page.browser.choose("#sort", "machine")
     expect(len(page.texts("#list tbody th")), 3)
+
+
+@way
+def list_of_jobs(page):
+    """What a line of the list says of a job, and the orders of the lines."""
+    page.example(0)
+    expect(page.texts("#list thead th"), ["#", "Job", "Lateness", "Start", "Until", "Due"])
+    expect(page.text("#list tbody tr").split("\t"),
+           ["3", "Business cards Meyer", "6 h early", "Mon 3 Mar 08:00", "Mon 3 Mar 10:00", "Mon 3 Mar"])
+    page.browser.choose("#sort", "row")
+    expect(page.texts("#list tbody tr td:first-child"), [str(k) for k in range(1, 13)])
+    page.notation("1|rj,prmp|Lmax")
+    page.import_cells("Name,Time,Due,Release\nLong,4,20,0\nQuick,1,3,1\n")
+    for order, names in (("start", ["Long", "Quick"]), ("completion", ["Quick", "Long"]), ("name", ["Long", "Quick"])):
+        page.browser.choose("#sort", order)
+        expect(page.texts("#list tbody th"), names, order)
+
+
+@way
+def pages_of_a_long_list(page):
+    """The second page of the jobs and of the list begins where the first one ends."""
+    page.notation("1||sumC")
+    page.import_cells("Name\tTime\n" + "".join(f"Order {k}\t{k}\n" for k in range(1, 251)))
+    for place, first in (("jobs", page.cell(101, "name")), ("list", "#list tbody tr:first-child th")):
+        page.click(f"#{place}-pager [aria-label='Next page']")
+        expect_in("101–200 of 250", page.text(f"#{place}-pager"))
+        expect(page.value(first) if place == "jobs" else page.text(first), "Order 101")
+    page.click("#jobs-pager [aria-label='Last page']")
+    expect([page.value(page.cell(row, "name")) for row in (201, 250)], ["Order 201", "Order 250"])
+
+
+@way
+def calendar_by_hand(page):
+    """Days of the week are worked or not as they are ticked, and the order of day and month is as it is chosen."""
+    page.import_cells(SHOP)
+    page.run("document.getElementById('calendar').open = true")
+    page.browser.choose('[data-setting="dayFirst"]', "false")
+    page.settle()
+    expect_in("job 1 p=4 d=184\n", table_text(page))  # 3 April is the 23rd working day from 4 March on
+    page.browser.choose('[data-setting="dayFirst"]', "true")
+    page.settle()
+    expect_in("job 1 p=4 d=8\n", table_text(page))
+    page.example(0)
+    page.click("#weekdays [value='1']")
+    page.settle()
+    expect_in("from Tue 4 Mar 08:00", page.text("#headline .assumed summary"))
+    page.click("#weekdays [value='1']")
+    page.click("#weekdays [value='6']")
+    page.settle()
+    expect(page.texts("#list tbody tr:nth-child(8) td")[2:4], ["Sat 8 Mar 08:00", "Sat 8 Mar 15:00"])
 
 
 @way
@@ -1506,6 +1661,11 @@ def first_screen(page):
         box = page.run("(({ top, bottom }) => [top, bottom])(document.getElementById('chart-frame').getBoundingClientRect())")
         if box[0] > height / 2 + 100 or box[1] > height:
             raise AssertionError(f"the chart stands at {box} of {height}")
+    page.import_cells(ROUTES.replace("@", " h@").replace(";14", ";2030-12-03").replace(";1", ";2030-12-1"))
+    box = page.run("(({ top, bottom }) => [top, bottom])(document.getElementById('chart-frame').getBoundingClientRect())")
+    if page.run("document.getElementById('notice').hidden") or box[1] > 800:
+        raise AssertionError(f"the chart of a job shop stands at {box} of 800")
+    page.example(0)
     expect(page.run("document.getElementById('problem').open"), False)
     expect_in("One machine, some jobs after others: the latest job as little late as possible", page.text("#problem > summary"))
     page.click("#problem > summary")
@@ -1597,6 +1757,8 @@ def dark(page):
     page.browser.dark(True)
     page.example(0)
     expect(page.run("getComputedStyle(document.body).backgroundColor"), "rgb(21, 23, 26)")
+    expect(page.run("getComputedStyle(document.querySelector('#legend .swatch-late')).borderTopColor"),
+           page.run("getComputedStyle(document.querySelector('.chart .late-edge')).fill"), "the legend's mark of late jobs")
 
 
 @way

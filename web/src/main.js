@@ -1,7 +1,7 @@
 // The page: keeps state, solver and views together.
 
 import { assumptionsOf } from "./assumptions.js";
-import { isDated, makeCalendar } from "./calendar.js";
+import { isDated, makeCalendar, momentField } from "./calendar.js";
 import { CalendarView } from "./calendar_view.js";
 import { EXAMPLE_TITLES, exampleState } from "./examples.js";
 import { Files } from "./files.js";
@@ -19,6 +19,7 @@ import { fromNow, tickedOff, unticked } from "./progress.js";
 import { PromiseView } from "./promise_view.js";
 import { columnsUsed, describe, hasRoutes, needsMachines, readNotation } from "./problems.js";
 import { ProblemView } from "./problem_view.js";
+import { ReliefView } from "./relief_view.js";
 import { explainRefusal } from "./refusals.js";
 import { RowsView } from "./rows_view.js";
 import { SheetView } from "./sheet_view.js";
@@ -69,7 +70,10 @@ class Page {
       found: (reply) => this.foundLonger(reply) });
     this.promiseView = new PromiseView({
       ask: (request) => this.solving.ask(request), add: (values) => this.addRow(values),
+      makesPlans: () => this.solving.makesPlans,
     });
+    this.reliefView = new ReliefView({ ask: (request) => this.solving.ask(request),
+      move: (id, due) => this.moveDue(id, due), makesPlans: () => this.solving.makesPlans });
     this.askPicture = (then) => this.picture(then);
     this.files = new Files(this);
     this.keeping = new Keeping(this.store, (words) => this.showKeeping(words),
@@ -337,6 +341,13 @@ class Page {
     this.store.change({ rows: [...rows, newRow(values)] });
   }
 
+  /** Gives the order of a row another due date. */
+  moveDue(id, due) {
+    const text = momentField(this.made.calendar, due, true);
+    this.store.change({ rows: this.store.state.rows.map((row) =>
+      row.id === id ? { ...row, due: text } : row) });
+  }
+
   /** Asks, and where it takes a while says so with a button that stops it. */
   async patiently(words, request) {
     const timer = setTimeout(() => this.planView.showMessage(words, html("button",
@@ -358,6 +369,7 @@ class Page {
     this.longer.draw();
     this.planView.show(this.shown, this.best, this.store.state.kept);
     this.promiseView.show(this.best.plan);
+    this.reliefView.show(this.best.plan);
     this.showPrintHead();
     this.planView.setBusy(false);
     performance.mark("plan shown");

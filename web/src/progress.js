@@ -9,6 +9,7 @@ import { identitiesOf, rowsOf, whyFixed } from "./moving.js";
 const LONGEST = 120;
 const DONE = new Set(("done x ok yes ja oui si fertig erledigt fini termine hecho terminado fatto "
   + "finito completed complete finished ✓ ✔").split(" "));
+const FIXED = /^(?:fix(?:ed|e|iert)?|fest|fijo|fisso)(?: |$)/;
 
 /**
  * Reads what is left to do of a job: a length of time, a share such as 50 %, or “done”; of a shop
@@ -22,6 +23,10 @@ const DONE = new Set(("done x ok yes ja oui si fertig erledigt fini termine hech
 export function readLeft(calendar, text, times) {
   if (text.length > LONGEST) return { fault: "This is too long to be what is left to do." };
   if (DONE.has(plainLetters(text))) return { times: times.map(() => 0), note: null };
+  if (FIXED.test(plainLetters(text))) {
+    return { fault: "No problem here keeps an order at a fixed time. Write when it can start under "
+      + "“Released” and when it has to be done under “Due”; what is begun is written here." };
+  }
   const parts = text.split(";").map((part) => part.trim());
   if (parts.length !== times.length) {
     return { fault: times.length === 1

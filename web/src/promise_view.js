@@ -1,16 +1,16 @@
 // Asks what can be promised for a new order, and says why not earlier.
 
-import {
-  isDated, lengthText, momentField, momentText, readDuration, readMoment,
-} from "./calendar.js";
+import { isDated, lengthText, momentField, momentText, readMoment } from "./calendar.js";
 import { splitNames } from "./precedence.js";
-import { canPromise, promiseReason, promiseRequest } from "./promise.js";
+import { hasRoutes, isShop, readNotation } from "./problems.js";
+import { canPromise, isExact, promiseReason, promiseRequest, readWork } from "./promise.js";
 import { lateness } from "./plan.js";
 import { html } from "./svg.js";
 
 export class PromiseView {
   /**
-   * @param {object} source `ask(request)` asks the worker; `add(values)` adds a row to the table
+   * @param {object} source `ask(request)` asks the worker; `add(values)` adds a row to the table;
+   *   `makesPlans()`, whether the module makes plans without an exact method
    */
   constructor(source) {
     this.plan = null;
@@ -27,7 +27,10 @@ export class PromiseView {
     if (plan === this.plan) return;
     this.plan = plan;
     this.at("promised").replaceChildren();
-    const isPossible = plan.isOptimal && canPromise(plan.problem);
+    const isPossible = canPromise(plan.problem, this.source.makesPlans());
+    const problem = readNotation(plan.problem);
+    this.at("promise-time").placeholder = isShop(problem) ? "2 h; 3 h"
+      : hasRoutes(problem) ? "3@1, 4@2" : "";
     this.at("promise-form").hidden = !isPossible;
     this.at("promise-not").hidden = isPossible;
     this.at("promise-after").parentElement.hidden = !/\bprec\b/.test(plan.problem);
@@ -61,9 +64,8 @@ export class PromiseView {
     const { calendar, index } = plan;
     const name = text("promise-name") || "New order";
     if (text("promise-time") === "") return { fault: "How long does the new order take?" };
-    const time = readDuration(calendar, text("promise-time"));
-    if (time.fault) return time;
-    if (time.steps === 0) return { fault: "The new order takes at least one time step." };
+    const work = readWork(plan, text("promise-time"));
+    if (work.fault) return work;
     const release = text("promise-release") === "" ? { steps: 0 }
       : readMoment(calendar, text("promise-release"), false);
     if (release.fault) return release;
@@ -71,26 +73,50 @@ export class PromiseView {
       .map((each) => index.find(each));
     const wrong = others.find((each) => each.fault);
     if (wrong) return wrong;
-    return { name, time: time.steps, release: release.steps,
-      after: others.map(({ place }) => place), texts: { name, time: text("promise-time"),
+    return { name, ...work, release: release.steps, after: others.map(({ place }) => place),
+      texts: { name, ...workTexts(plan.problem, text("promise-time")),
         release: text("promise-release"), after: text("promise-after") } };
   }
 
   tell(plan, order, found) {
-    const { calendar } = plan;
-    const late = plan.jobs.filter((_, job) => lateness(plan, job) > 0).length;
-    const others = late === 0 ? "With that date no order is late."
-      : `With that date no order is later than in the optimal plan: ${late === 1 ? "the one that is"
-        : `the ${late} that are`} late now may be done when the plan has it done.`;
-    const step = isDated(calendar) ? `A step of ${lengthText(calendar, 1)}` : "One";
-    const row = { ...order.texts, due: momentField(calendar, found.due, true) };
+    const row = { ...order.texts, due: momentField(plan.calendar, found.due, true) };
     this.say(
       html("p", { class: "good" }, `“${order.name}” can be promised for `,
-        html("strong", {}, momentText(calendar, found.due, true)), "."),
-      html("p", {}, others),
-      html("p", {}, `${step} earlier is not possible: ${promiseReason(plan, order, found)} `,
+        html("strong", {}, momentText(plan.calendar, found.due, true)),
+        isExact(plan.problem) ? "." : ": a plan was found for it."),
+      html("p", {}, othersWords(plan)),
+      html("p", {}, `${whyNotEarlier(plan, order, found)} `,
         html("span", { class: "proved" }, "proved")),
       html("p", {}, html("button", { type: "button", click: () => this.source.add(row) },
         "Add the order with this date")));
   }
+}
+
+/** How long an order takes, in the columns of its row. */
+function workTexts(notation, text) {
+  const problem = readNotation(notation);
+  if (hasRoutes(problem)) return { route: text };
+  const [time, time2 = ""] = isShop(problem) ? text.split(";").map((each) => each.trim()) : [text];
+  return { time, time2 };
+}
+
+/** What the date of a new order asks of the others. */
+function othersWords(plan) {
+  const late = plan.jobs.filter((_, job) => lateness(plan, job) > 0).length;
+  if (late === 0) return "With that date no order is late.";
+  const best = plan.isOptimal ? "in the optimal plan" : "in the plan that was found";
+  return `With that date no order is later than ${best}: ${late === 1 ? "the one that is"
+    : `the ${late} that are`} late now may be done when the plan has it done.`;
+}
+
+/** Up to which date no plan is possible, and why; between it and the promise nothing is known. */
+function whyNotEarlier(plan, order, found) {
+  const { calendar } = plan;
+  const reason = promiseReason(plan, order, found);
+  if (found.due - found.past === 1) {
+    const step = isDated(calendar) ? `A step of ${lengthText(calendar, 1)}` : "One";
+    return `${step} earlier is not possible: ${reason}`;
+  }
+  return `No plan can be before ${momentText(calendar, found.past + 1, true)}; whether a date `
+    + `between is possible is not known. A step before it: ${reason}`;
 }

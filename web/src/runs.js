@@ -70,33 +70,76 @@ export function plain(solver, request) {
   return { status, errors, output };
 }
 
+/** The job table of a request with this due date in it. */
+function instanceWith({ head, tail }, due) {
+  const digits = new TextEncoder().encode(String(due));
+  const instance = new Uint8Array(head.length + digits.length + tail.length);
+  instance.set(head);
+  instance.set(digits, head.length);
+  instance.set(tail, head.length + digits.length);
+  return instance;
+}
+
+/** The lateness of a good plan, and what no plan falls below: the same by an exact method. */
+function latenessOf(solver, request, instance) {
+  const { status, errors, output } = solver.run({ ...request, answerVersion: 2, instance,
+    command: request.isExact ? "solve" : "plan" });
+  if (status !== OPTIMAL && (request.isExact || status !== WITHIN_GAP)) return { status, errors };
+  const { value, certificate, bound } = readAnswer(output);
+  return { status: 0, errors, value: Number(value),
+    bound: request.isExact ? { value, certificate } : bound };
+}
+
 /**
- * The earliest due date of a new order with which no job is late, by bisection: `request.least` and
- * `most` are the first date that can be meant and one that is late enough.
- * @returns {{status: number, errors: string, due?: number, certificate?: ?string, value?: string}}
- *   the certificate and the value of the date one step earlier; none where that is below `least`
+ * The earliest due date with which no job is late, by bisection: `request.least` and `most` are the
+ * first date that can be meant and one that is late enough.
+ * @returns {{status: number, errors: string, due?: number, past?: number, certificate?: ?string,
+ *   value?: string}} with no date up to `past` are all in time, by the certificate and its value;
+ *   they are none where that is below `least`. By an exact method `due` is the date after it
  */
 export function promise(solver, request) {
-  const { head, tail, least, most } = request;
-  const solve = (due) => {
-    const digits = new TextEncoder().encode(String(due));
-    const instance = new Uint8Array(head.length + digits.length + tail.length);
-    instance.set(head);
-    instance.set(digits, head.length);
-    instance.set(tail, head.length + digits.length);
-    return solver.run({ ...request, command: "solve", answerVersion: 2, instance });
-  };
-  const found = { status: 0, errors: "", due: most, certificate: null, value: "0" };
-  for (let low = least - 1; found.due - low > 1;) {
-    const due = low + Math.floor((found.due - low) / 2);
-    const { status, errors, output } = solve(due);
-    if (status !== 0) return { status, errors };
-    const { value, certificate } = readAnswer(output);
-    if (value.startsWith("-") || value === "0") found.due = due;
-    else {
-      low = due;
-      Object.assign(found, { certificate, value });
+  const found = { status: 0, errors: "", due: request.most, past: request.least - 1,
+    certificate: null, value: "0" };
+  const tryAt = (due) => {
+    const { status, errors, value, bound } = latenessOf(solver, request,
+      instanceWith(request, due));
+    if (status !== 0) return Object.assign(found, { status, errors });
+    if (value <= 0) found.due = Math.min(found.due, due);
+    if (Number(bound?.value) > 0 && due > found.past) {
+      Object.assign(found, { past: due, certificate: bound.certificate, value: bound.value });
     }
+    return { isFound: value <= 0, isPast: due <= found.past };
+  };
+  bisect(found.past, found.due, (due) => found.status !== 0 || tryAt(due).isFound);
+  bisect(found.past, found.due, (due) => found.status !== 0 || !tryAt(due).isPast);
+  return found.status === 0 ? found : { status: found.status, errors: found.errors };
+}
+
+/** Looks for the least number above `low` and up to `high` for which something holds. */
+function bisect(low, high, holds) {
+  while (high - low > 1) {
+    const middle = low + Math.floor((high - low) / 2);
+    if (holds(middle)) high = middle;
+    else low = middle;
   }
-  return found;
+}
+
+/**
+ * Which single order, with a later date or given away, brings all others in time.
+ * @param {object} request `orders`, each with its `place`, the table `without` it and a request of
+ *   its date as `promise` has it
+ * @returns {{status: number, errors: string, found: {place: number, due: ?number}[]}} no date where
+ *   the order has to be given away
+ */
+export function relief(solver, request) {
+  const found = [];
+  for (const { place, without, moved } of request.orders) {
+    const away = without && latenessOf(solver, request, without);
+    if (away && away.status !== 0) return { status: away.status, errors: away.errors, found };
+    if (away && away.value > 0) continue;
+    const late = latenessOf(solver, request, instanceWith(moved, moved.most));
+    const isMovable = late.status === 0 && late.value <= 0;
+    found.push({ place, due: isMovable ? promise(solver, { ...request, ...moved }).due : null });
+  }
+  return { status: 0, errors: "", found };
 }

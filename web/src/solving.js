@@ -6,7 +6,7 @@ const TRUSTED = globalThis.trustedTypes?.createPolicy("threefield",
 const LONG = 1500;
 const LARGE = 500000;
 // Runs that give way to a new plan.
-const SEARCHES = new Set(["search", "promise"]);
+const SEARCHES = new Set(["search", "promise", "relief"]);
 
 export class Solving {
   /**

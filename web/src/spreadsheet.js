@@ -248,26 +248,24 @@ export function partsOfHeading(heading) {
 export function rowsOfCells(cells, columns, plain = null) {
   const body = columns.headings ? cells.slice(1) : cells;
   const { fields, units } = columns;
+  const blank = Object.fromEntries(FIELDS.map((field) => [field, ""]));
+  const used = fields.flatMap((field, place) => field
+    ? [{ field, place, unit: units[place] === plain ? null : units[place] }] : []);
   return body.map((row) => {
-    const values = Object.fromEntries(FIELDS.map((field) => [field, ""]));
-    fields.forEach((field, place) => {
-      if (!field) return;
+    const values = { ...blank };
+    for (const { field, place, unit } of used) {
       const cell = row[place] ?? "";
-      const unit = units[place] === plain ? null : units[place];
-      if (field === "route") {
-        values.route = withStep(values.route, unit ? cell.replace(PLAIN_STEP, `$& ${unit}`) : cell);
-        return;
-      }
-      const isOther = DATED.has(field) && unit;
-      values[field] = isOther && /^\d[\d.,]*$/.test(cell) ? `${cell} ${unit}` : cell;
-    });
+      values[field] = field === "route" ? withStep(values.route, cell, unit)
+        : unit && DATED.has(field) && /^\d[\d.,]*$/.test(cell) ? `${cell} ${unit}` : cell;
+    }
     return values;
   });
 }
 
-/** A route with the step of one more column. */
-function withStep(route, cell) {
-  return [route, cell].filter(Boolean).join("; ");
+/** A route with the step of one more column, in the unit of its heading. */
+function withStep(route, cell, unit) {
+  const step = unit ? cell.replace(PLAIN_STEP, `$& ${unit}`) : cell;
+  return [route, step].filter(Boolean).join("; ");
 }
 
 /** The names of two machines, where the headings of their times are no words for a time. */

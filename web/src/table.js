@@ -37,12 +37,14 @@ const FAILED_FORMULA = /^#(?:[\p{L}¡0-9/]{1,12}[!?]|N\/?[ADV]|N\/A)$/iu;
 /** What is added to texts: a unit to a time or to a date, a year, an order of day and month. */
 export const ASSUMED = { unit: 1, start: 2, year: 4, dayFirst: 8, endOfDay: 16 };
 
+const BLANK = Object.fromEntries(FIELDS.map((field) => [field, ""]));
+
 let lastId = 0;
 
 /** A row with an identity of its own, by which a kept plan knows it again. */
 export function newRow(values = {}) {
-  const row = { id: ++lastId };
-  for (const field of FIELDS) row[field] = values[field] ?? "";
+  const row = { id: ++lastId, ...BLANK };
+  for (const field of FIELDS) if (values[field]) row[field] = values[field];
   return row;
 }
 

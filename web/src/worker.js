@@ -1,7 +1,7 @@
 // Runs the module beside the page, so that the page never waits for it.
 
 import { buffersOf } from "./memory.js";
-import { judge, plain, plan, promise, search } from "./runs.js";
+import { judge, plain, plan, promise, relief, search } from "./runs.js";
 import { loadSolver } from "./solver.js";
 import { unpackedBytes } from "./unpacking.js";
 
@@ -26,7 +26,9 @@ function warm() {
   }
 }
 
-const KINDS = { plan, search, longer: search, promise, judge, picture: plain, problems: plain };
+const KINDS = {
+  plan, search, longer: search, promise, relief, judge, picture: plain, problems: plain,
+};
 
 onmessage = async ({ data }) => {
   if (data.module !== undefined) {
