@@ -170,7 +170,7 @@ function timesByUnit(parts) {
     place === first ? "time" : place === second ? "time2" : field);
 }
 
-/** Each field once: of several names the first that is no number, of all else the first. */
+/** Each field once: of several names the first that is no number, of other fields the first. */
 function withoutRepeats(named, body) {
   const isNumber = (place) => body.slice(0, 50).every((row) => /^[\d.,:]*$/.test(row[place] ?? ""));
   const names = named.flatMap((field, place) => field === "name" ? [place] : []);
