@@ -17,8 +17,8 @@ use tf_words::feed::Feed;
 ///
 /// With a pair of machines, counted from 0, the times are those on the two, as on machines 1 and 2;
 /// without one they are those on the first two machines, or on the only one. The text is not kept.
-/// Feeding it takes memory once, behind the sizes; where that is refused, and after the first
-/// fault, the rest of the text is passed over.
+/// Feeding it takes memory for the jobs, behind the sizes; where that is refused, and after the
+/// first fault, the rest of the text is passed over.
 #[derive(Drop)]
 pub struct FlowReader<'a, A: Allocator = Global> {
     alloc: A,
