@@ -1,10 +1,10 @@
 #!/usr/bin/env python3
-"""Compiles the LaTeX of `trace --tex` for every solved problem, and reads the pages.
+"""Compiles the LaTeX of `trace --tex` for every solved problem, and of critical paths of shops, and reads the pages.
 
     python3 bench/latex.py PROGRAM
 
-One document holds a trace of 1, 7 and 60 random jobs of each problem, some due dates negative. It has to compile with no
-package but longtable, no line may run beyond the margin, and the pages have to show the bars of the problem, minus signs,
+One document holds a trace of 1, 7 and 60 random jobs of each problem, some due dates negative, and what `evaluate --explain
+--tex` says of plans of shops on four machines. It has to compile with no package but longtable, no line may run beyond the margin, and the pages have to show the bars of the problem, minus signs,
 and every number of the plain trace. It needs pdflatex and pdftotext.
 """
 import collections
@@ -49,6 +49,25 @@ def traces_of(program, folder):
             yield f"{problem}, {jobs} jobs", output_of(*words), output_of(*words, "--tex")
 
 
+def paths_of(program, folder):
+    """The name of each critical path, its plain text and its LaTeX, which are written on standard error."""
+    instance, answer = os.path.join(folder, "shop.txt"), os.path.join(folder, "answer.txt")
+    for shop, problem in (("job shop", "J4||Cmax"), ("job shop, late", "J4||Lmax"), ("flow shop", "F4||Cmax")):
+        for jobs in (1, 7, 40):
+            form = [] if problem.startswith("J") else ["-f", "flow", "--name", "random"]
+            drawn = output_of(program, "random", "-p", problem, "--jobs", str(jobs))
+            if form:
+                form[3] = re.search(r"instance (\S+)", drawn)[1]
+            for name, text in ((instance, drawn), (answer, "")):
+                with open(name, "w", encoding="ascii") as file:
+                    file.write(text)
+            # The status is 6 where the plan may be beaten.
+            subprocess.run([program, "plan", "-p", problem, "--steps", "100", "-o", answer, *form, instance], capture_output=True)
+            words = [program, "evaluate", "-p", problem, "--explain", *form, instance, answer]
+            plain, latex = (subprocess.run([*words, *more], capture_output=True, text=True).stderr for more in ([], ["--tex"]))
+            yield f"critical path of a {shop}, {jobs} jobs", plain, latex
+
+
 def compiled(latex, folder):
     """The text of each page that LaTeX makes, and its log."""
     with open(os.path.join(folder, "all.tex"), "w", encoding="ascii") as file:
@@ -82,7 +101,7 @@ def faults_of(name, plain, page):
 
 def main(program):
     with tempfile.TemporaryDirectory() as folder:
-        traces = list(traces_of(program, folder))
+        traces = [*traces_of(program, folder), *paths_of(program, folder)]
         parts = [f"\\newpage\\noindent TRACE {k}.\n\n{latex}" for k, (_, _, latex) in enumerate(traces)]
         text, log = compiled(HEAD + "\n".join(parts) + "\\end{document}\n", folder)
     pages = re.split(r"TRACE \d+\.", text)[1:]

@@ -127,10 +127,12 @@ def prices(task, q, *rows):
     q > 0 or reject("NoDenominator")
     within(sum(rows))
     total = -task.machines * sum(rows)
+    horizon = max(task.r.values()) + sum(task.p.values())
     for j in task.jobs:
         last = max(task.r[j], len(rows))
         within(max(last + task.p[j], q * penalty(task, j, last + task.p[j])))
-        total += min(q * penalty(task, j, s + task.p[j]) + sum(rows[s:s + task.p[j]]) for s in range(task.r[j], last + 1))
+        starts = range(task.r[j], min(last, horizon - task.p[j]) + 1)
+        total += min(q * penalty(task, j, s + task.p[j]) + sum(rows[s:s + task.p[j]]) for s in starts)
     return share(total, q)
 
 def alone(task):

@@ -1,12 +1,12 @@
 -- Sums of prices between two rows, and what rises with the completion.
-use Rattle.std.proofs.Common.{◌≡◌, Bool, true, false, ℕ, ◌+◌, ◌≤◌, ◌<◌, List, length, sum, min, slice_index, set, take, drop, sym, ap, ◌∙◌, ⊎_elim, arith, ℤ}
+use Rattle.std.proofs.Common.{◌≡◌, Bool, true, false, ℕ, ◌+◌, ◌*◌, ◌≤◌, ◌<◌, List, length, sum, min, slice_index, set, take, drop, sym, ap, ◌∙◌, ⊎_elim, arith, ℤ}
 use Rattle.std.proofs.Math.Seq.{take-add}
 use Rattle.std.proofs.lemmas.Bool.{cases_lt}
 use Rattle.std.proofs.lemmas.List.{take_all, get_or-set_same, get_or-set_other}
 use Rattle.std.proofs.lemmas.List.Sums.{sum_by-append, sum_by-take-le}
 use Rattle.tf_model.specs.Limit.{limit}
 use Rattle.tf_problem.specs.ProblemBounds.{price_of_rows}
-use Rattle.tf_problem.proofs.Prices.{late-rises, unit-rises}
+use Rattle.tf_problem.proofs.Rising.{late-rises, unit-rises}
 use Rattle.tf_bound.specs.RowSums.{AreSums, late_steps}
 
 -- the prices of n rows from row s on lie between two sums
@@ -60,6 +60,11 @@ sums_more prices sums row total lt len is before t le =
     ∙ get_or-set_same sums (row + 1) total 0 (omega (arith, len, lt)) ∙ is
     ∙ sym (ap (λ n. sum (take n prices)) same))
     (cases_lt t (row + 1))
+
+-- what a start costs
+abbrev pub paid_at : List ℕ → ℕ → Bool → ℕ → ℤ → ℕ → ℕ
+paid_at prices time by_unit slope due s =
+    slope * late_steps by_unit due (s + time) + price_of_rows prices s time
 
 -- with one start more
 pub one_more : (P : ℕ → ℕ) (low start old best here : ℕ)

@@ -1,16 +1,19 @@
 -- A task within the limits is sound.
-use Rattle.std.proofs.Common.{◌≡◌, Bool, true, false, not, ◌&&◌, ◌||◌, IsTrue, ℕ, ◌+◌, ◌-◌, ◌≤◌, List, [], ◌∷◌, length, sum, sum_by, slice_index, cond, refl, sym, ap, ◌∙◌, arith}
-use Rattle.std.specs.List.{range_with_len}
+use Rattle.std.proofs.Common.{◌≡◌, Bool, true, false, not, ◌&&◌, ◌||◌, IsTrue, ℕ, ◌+◌, ◌-◌, ◌≤◌, List, [], ◌∷◌, length, sum, sum_by, slice_index, map, max, cond, refl, sym, ap, ◌∙◌, arith}
+use Rattle.std.specs.List.{fold, range_with_len}
 use Rattle.std.proofs.lemmas.Bool.{and_parts}
-use Rattle.std.proofs.lemmas.List.Sums.{sum_by-cons, get_or-le-sum_by}
+use Rattle.std.proofs.lemmas.List.Sums.{sum_by-cons, get_or-le-sum_by, fold-append}
+use Rattle.std.proofs.lemmas.List.FromFn.{map-range_with_len_more}
 use Rattle.tf_model.specs.Limit.{limit}
 use Rattle.tf_model.specs.ClassTable.{is_shop_env}
 use Rattle.tf_model.proofs.Costs.{sum_by-from}
-use Rattle.tf_model.proofs.Sums.{sum_by-same}
+use Rattle.tf_model.proofs.Ranges.{sum_by-range_le}
+use Rattle.tf_model.proofs.Sums.{sum_by-same, sum_by-same_all}
 use Rattle.tf_problem.specs.ProblemData.{ProblemData, IsProblemSound, IsProblemJob, problem_job, problem_time, time_over, no_problem_job}
 use Rattle.tf_problem.specs.ProblemData.{problem_jobs, problem_release, is_covered_env, is_covered_goal}
 use Rattle.tf_problem.specs.ProblemBounds.{is_alike, numerator, problem_work}
 use Rattle.tf_problem.proofs.Pushed.{known_env}
+use Rattle.tf_problem.proofs.Relaxing.{All-problem_jobs}
 use Rattle.tf_bound.specs.Sized.{IsSized, IsSizedJob, all_work, work}
 
 -- what is known of a job that is there
@@ -97,17 +100,55 @@ work_is k sized j job = by (is_shop_env k.problem.env) refl
         ap (λ t. cond t (time_over k j 0 k.machines) (problem_time k j)) e
         ∙ sym (one_sum (problem_job k j).times ((sized_job k sized j job).one_time e))
 
--- a job that starts at its release date completes within the limit
-pub ends_within : (k : ProblemData) → IsSized k → (j : ℕ) → IsProblemJob k j
-    → problem_release k j + problem_work k j ≤ limit
-ends_within k sized j job =
-    let place : j - 1 + 1 ≤ length k.jobs = omega (arith, job.0, job.1) in
+-- all the work after any release date is within the limit
+pub released_within : (k : ProblemData) → IsSized k → (j : ℕ) → IsProblemJob k j
+    → problem_release k j + all_work k ≤ limit
+released_within k sized j job =
     let own : (problem_job k j).release + all_work k ≤ limit =
-    sized.horizon (j - 1) no_problem_job (omega (arith, place)) in
-    let its : work (problem_job k j) ≤ all_work k =
-    get_or-le-sum_by work k.jobs (j - 1) no_problem_job (omega (arith, place)) in
-    omega (arith, own, its, work_is k sized j job, by k.problem.release)
+    sized.horizon (j - 1) no_problem_job (omega (arith, job.0, job.1)) in
+    omega (arith, own, by k.problem.release)
   where
     by : (named : Bool) → cond named (problem_job k j).release 0 ≤ (problem_job k j).release
     by true = omega arith
     by false = omega arith
+
+-- a job that starts at its release date completes within the limit
+pub ends_within : (k : ProblemData) → IsSized k → (j : ℕ) → IsProblemJob k j
+    → problem_release k j + problem_work k j ≤ limit
+ends_within k sized j job =
+    let its : work (problem_job k j) ≤ all_work k =
+    get_or-le-sum_by work k.jobs (j - 1) no_problem_job (omega (arith, job.0, job.1)) in
+    omega (arith, released_within k sized j job, its, work_is k sized j job)
+
+-- the work of all jobs is that of all their times
+pub all_work_is : (k : ProblemData) → IsSized k
+    → sum_by (problem_work k) (problem_jobs k) ≡ all_work k
+all_work_is k sized =
+    sum_by-same_all (problem_work k) (λ j. work (problem_job k j)) (problem_jobs k)
+    (All-problem_jobs k (λ j. problem_work k j ≡ work (problem_job k j)) (work_is k sized))
+    ∙ sum_by-from work no_problem_job 1 k.jobs
+
+-- and that of the first jobs is no more
+pub work_within : (k : ProblemData) → IsSized k → (n : ℕ) → n ≤ length k.jobs
+    → sum_by (problem_work k) (range_with_len 1 n) ≤ all_work k
+work_within k sized n le =
+    omega (
+      arith,
+      sum_by-range_le (problem_work k) 1 n (length k.jobs - n),
+      ap (λ m. sum_by (problem_work k) (range_with_len 1 m)) whole,
+      all_work_is k sized,
+    )
+  where
+    whole : n + (length k.jobs - n) ≡ length k.jobs
+    whole = omega (arith, le)
+
+-- the greatest release date of one job more
+pub released_more : (r : ℕ → ℕ) (n j : ℕ) → j ≡ n + 1
+    → fold max 0 (map r (range_with_len 1 (n + 1)))
+    ≡ max (fold max 0 (map r (range_with_len 1 n))) (r j)
+released_more r n j is =
+    ap (fold max 0) (map-range_with_len_more r 1 n j next)
+    ∙ fold-append max 0 (map r (range_with_len 1 n)) (r j ∷ [])
+  where
+    next : 1 + n ≡ j
+    next = omega (arith, is)

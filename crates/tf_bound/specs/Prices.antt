@@ -1,9 +1,9 @@
 -- The cheapest start of a job of a task.
-use Rattle.std.specs.Prelude.{◌≡◌, ℕ, ◌≤◌, max, Bool, true, false, ℤ, List, length}
+use Rattle.std.specs.Prelude.{◌≡◌, ℕ, ◌≤◌, Bool, true, false, ℤ, List}
 use Rattle.tf_model.specs.declared.problem.Goal.{Goal}
 use Rattle.tf_model.specs.declared.problem.Goal.TheVariants as goals
 use Rattle.tf_problem.specs.ProblemData.{ProblemData, IsProblemJob, problem_release}
-use Rattle.tf_problem.specs.ProblemBounds.{start_price, numerator, AreCheapest, prices_value}
+use Rattle.tf_problem.specs.ProblemBounds.{start_price, numerator, AreCheapest, last_within, prices_value}
 
 -- the objectives that count late jobs
 abbrev pub is_by_unit : Goal → Bool
@@ -11,19 +11,20 @@ is_by_unit goals.SumU = true
 is_by_unit goals.SumWU = true
 is_by_unit _ = false
 
--- the price is at most what job j costs from any start up to the last price
+-- the price is at most what job j costs from any start that matters
 abbrev pub IsCheapestFor : ProblemData → ℕ → List ℕ → ℕ → ℕ → Type 0
 IsCheapestFor k q prices j price =
-    (s : ℕ) → problem_release k j ≤ s → s ≤ max (problem_release k j) (length prices)
+    (s : ℕ) → problem_release k j ≤ s → s ≤ last_within k prices j
     → price ≤ start_price k q prices j s
 
--- the price is what job j costs from some start
+-- the price is what job j costs from one of them
 abbrev pub IsPaidFor : ProblemData → ℕ → List ℕ → ℕ → ℕ → Type 0
 IsPaidFor k q prices j price =
-    (s : ℕ) × (problem_release k j ≤ s) × (price ≡ start_price k q prices j s)
+    (s : ℕ) × (problem_release k j ≤ s) × (s ≤ last_within k prices j)
+    × (price ≡ start_price k q prices j s)
 
--- The number is what the prices bound: each job at its cheapest start, less all prices on each
--- machine, over q.
+-- The number is what the prices bound: each job at its cheapest start by the horizon, less all
+-- prices on each machine, over q.
 pub record IsPricesBound (k : ProblemData) (q : ℕ) (prices : List ℕ) (b : ℤ) : Type 0 where
   pub cheapest : List ℕ
   pub least : AreCheapest k q prices cheapest

@@ -7,6 +7,7 @@ mod along;
 mod arc_multipliers;
 pub mod certificate;
 pub mod fault;
+pub mod horizon;
 pub mod job_times;
 mod jobs;
 pub mod kept;

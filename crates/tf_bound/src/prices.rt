@@ -1,6 +1,6 @@
 //! The bound of a sum by prices of the rows: each job at its cheapest start, less what all machines
 //! can take in.
-ghost use Rattle.std.specs.Prelude.{◌≡◌, ℕ, ◌+◌, ◌*◌, ◌≤◌, ℤ, pos, ◌-ℤ◌, length, sum, max, IfOk};
+ghost use Rattle.std.specs.Prelude.{◌≡◌, ℕ, ◌+◌, ◌*◌, ◌≤◌, ℤ, pos, ◌-ℤ◌, length, sum, IfOk};
 ghost use Rattle.std.specs.Prelude.{◌^◌, ◌||◌, is_none, nat_le, nat_lt, IfSome, IsTrue, IsFalse};
 ghost use Rattle.std.specs.List.{All, list_any};
 ghost use Rattle.tf_model.specs.ClassTable.{is_shop_env};
@@ -8,7 +8,7 @@ ghost use Rattle.tf_model.specs.Limit.{limit};
 ghost use Rattle.tf_model.specs.Whole.{IsWithin};
 ghost use Rattle.tf_problem.specs.ProblemData.{IsProblemJob, problem_jobs, problem_release};
 ghost use Rattle.tf_problem.specs.ProblemCost.{IsLowerBound};
-ghost use Rattle.tf_problem.specs.ProblemBounds.{is_alike, is_sum_goal, numerator, start_price};
+ghost use Rattle.tf_problem.specs.ProblemBounds.{is_alike, is_sum_goal, horizon, numerator};
 ghost use Rattle.tf_problem.specs.ProblemBounds.{share_up, AreCheapest};
 ghost use Rattle.tf_bound.specs.Kinds.{takes_prices};
 ghost use Rattle.tf_bound.specs.Faulted.{are_prices_large, is_dear, prices_fault, too_large};
@@ -17,6 +17,7 @@ ghost use Rattle.tf_bound.specs.RowSums.{AreSums, late_steps};
 ghost use Rattle.tf_bound.specs.Prices.{IsCheapestFor, IsPaidFor, IsPricesBound, is_by_unit};
 
 use crate::fault::BoundFault;
+use crate::horizon::horizon;
 use crate::row_sums::{Cheapest, StartingJob, cheapest_start, late_steps, sum_rows};
 use crate::task::ProblemTask;
 use std::alloc::Allocator;
@@ -48,15 +49,19 @@ pub fn is_by_unit(goal: Goal) -> bool
     matches!(goal, Goal::SumU | Goal::SumWU)
 }
 
-/// The cheapest start of a job, where what it costs is within the limit.
-pub fn cheapest_of<A: Allocator>(
+// The cheapest start of a job, where what it costs is within the limit. `until` is when all jobs can
+// be over.
+fn cheapest_of<A: Allocator>(
     task: &ProblemTask<A>,
+    until: u64,
     q: u64,
     prices: &[u64],
     sums: &[u64],
     job: JobId,
 ) -> Option<Cheapest>
+    requires until { until ≡ horizon task.now }
     requires job { IsProblemJob task.now job }
+    requires alike { IsTrue (is_alike task.now.problem.env) }
     requires one_time { IsFalse (is_shop_env task.now.problem.env) }
     requires goal { IsTrue (is_sum_goal task.now.problem.goal) }
     requires sums { AreSums prices.now sums.now }
@@ -64,8 +69,9 @@ pub fn cheapest_of<A: Allocator>(
     ensures cheapest { IfSome result (λ found.
         IsCheapestFor task.now q prices.now job found.price) }
     ensures reached { IfSome result (λ found. IsPaidFor task.now q prices.now job found.price) }
-    ensures small { IfSome result (λ found. found.price ≤ limit) }
+    ensures small { IfSome result (λ found. found.price ≤ 2 * limit) }
 {
+    cheapest_law();
     let release = task.release(job);
     let time = task.time(job);
     let due = task.due(job);
@@ -77,6 +83,7 @@ pub fn cheapest_of<A: Allocator>(
     let slope = slope_within(by_unit, q, task.weight(job), due, last + time)?;
     let starting = StartingJob {
         release,
+        last: last.min(until - time),
         time,
         due,
         slope,
@@ -111,6 +118,7 @@ fn cheapest_prices<A: Allocator, B: Allocator>(
     prices: &[u64],
     sums: &[u64],
 ) -> Result<Vec<u64, A>, BoundFault>
+    requires alike { IsTrue (is_alike task.now.problem.env) }
     requires one_time { IsFalse (is_shop_env task.now.problem.env) }
     requires goal { IsTrue (is_sum_goal task.now.problem.goal) }
     requires sums { AreSums prices.now sums.now }
@@ -120,14 +128,15 @@ fn cheapest_prices<A: Allocator, B: Allocator>(
     ensures reached { IfOk result (λ v. (j : ℕ) → IsProblemJob task.now j
         → IsPaidFor task.now q prices.now j (numerator v.items j)) }
     ensures len { IfOk result (λ v. length v.items ≡ length task.now.jobs) }
-    ensures small { IfOk result (λ v. All (λ x. x ≤ limit) v.items) }
+    ensures small { IfOk result (λ v. All (λ x. x ≤ 2 * limit) v.items) }
 {
     cheapest_law();
     let Ok(mut cheapest) = Vec::with_capacity(alloc, task.len()) else {
         return Err(BoundFault::OutOfMemory);
     };
+    let until = horizon(task);
     for k in 0..task.len() {
-        let Some(found) = cheapest_of(task, q, prices, sums, JobId::at(k)) else {
+        let Some(found) = cheapest_of(task, until, q, prices, sums, JobId::at(k)) else {
             return Err(BoundFault::TooLarge);
         };
         let Ok(()) = cheapest.push(found.price) else {
@@ -140,9 +149,9 @@ fn cheapest_prices<A: Allocator, B: Allocator>(
 // All of them together.
 fn total_of(prices: &[u64]) -> u128
     requires few { length prices.now ≤ 100000 }
-    requires small { All (λ x. x ≤ limit) prices.now }
+    requires small { All (λ x. x ≤ 2 * limit) prices.now }
     ensures value { result ≡ sum prices.now }
-    ensures small { result ≤ 100000 * limit }
+    ensures small { result ≤ 200000 * limit }
 {
     let mut total: u128 = 0;
     for price in prices {
@@ -166,7 +175,7 @@ pub(crate) fn share_up(number: i128, q: u128) -> i128
 // What the jobs cost, less all prices on each machine, over q.
 fn prices_value(machines: u32, all: u64, cheapest: &[u64], q: u64) -> i128
     requires few { length cheapest.now ≤ 100000 }
-    requires small { All (λ x. x ≤ limit) cheapest.now }
+    requires small { All (λ x. x ≤ 2 * limit) cheapest.now }
     requires some { 1 ≤ q }
     ensures { result ≡ share_up (pos (sum cheapest.now) -ℤ pos (machines * all)) q }
 {

@@ -10,7 +10,8 @@ use Rattle.tf_problem.specs.ProblemCost.{problem_cost, penalty, IsLowerBound}
 use Rattle.tf_problem.specs.ProblemBounds.{is_sum_goal, problem_work, alone_cost}
 use Rattle.tf_problem.proofs.Relaxing.{All-problem_jobs, problem_release-le-row}
 use Rattle.tf_problem.proofs.Pushed.{work-le-rows, some_work}
-use Rattle.tf_problem.proofs.Prices.{penalty-rises, sum-cost}
+use Rattle.tf_problem.proofs.Prices.{sum-cost}
+use Rattle.tf_problem.proofs.Rising.{penalty-rises}
 
 -- a job is released and then has all its time before it completes
 pub work-le-completion : (k : ProblemData) → IsProblemSound k → (rows : Timetable)

@@ -1,17 +1,15 @@
 -- Worked examples: bounds that are reached, by tables that are filled in by hand.
-use Rattle.std.proofs.Common.{◌≡◌, Bool, true, ℕ, zero, suc, ◌≤◌, ◌==◌, List, [], ◌∷◌, length, slice_index_or, nat_le, refl, arith, All, ℤ, pos, negsuc, Some}
-use Rattle.std.proofs.lemmas.Bool.{false≢true, true≢false, and_parts, eqb-true, leb-true}
+use Rattle.std.proofs.Common.{◌≡◌, true, ℕ, zero, suc, ◌≤◌, [], ◌∷◌, length, refl, arith, ℤ, pos, negsuc, Some}
+use Rattle.std.proofs.lemmas.Bool.{false≢true}
 use Rattle.std.proofs.lemmas.List.Elements.{All-cons, All-nil}
 use Rattle.std.proofs.lemmas.List.Kept.{AllPairs-cons}
 use Rattle.tf_model.specs.declared.problem.Env.TheVariants.{Single, Parallel}
 use Rattle.tf_model.specs.declared.problem.Goal.TheVariants as goals
 use Rattle.tf_model.specs.ClassTable.{plain_problem}
-use Rattle.std.specs.List.{AllPairs, list_all}
-use Rattle.tf_model.specs.Timetable.{Timetable, cells_of, all_units}
-use Rattle.tf_model.specs.Feasible.{IsOnce}
+use Rattle.std.specs.List.{AllPairs}
+use Rattle.tf_model.specs.Timetable.{Timetable}
 use Rattle.tf_model.proofs.Loads.{once}
 use Rattle.tf_problem.specs.ProblemData.{ProblemData, ProblemJobData, IsProblemSound, IsProblemJob, problem_job, problem_time}
-use Rattle.tf_problem.specs.FitsProblem.{FitsProblem}
 use Rattle.tf_problem.specs.ProblemCost.{IsProblemBest}
 use Rattle.tf_problem.proofs.Relaxing.{All-problem_jobs}
 use Rattle.tf_problem.proofs.FitsTest.{fits-passed}

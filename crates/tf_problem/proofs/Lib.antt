@@ -10,9 +10,13 @@ pub mod FlowRoutes
 pub mod TwoMachines
 pub mod Multipliers
 pub mod Windows
+pub mod Rising
+pub mod Thinned
+pub mod Horizon
 pub mod Prices
 pub mod FitsTest
 pub mod ProblemExamples
+pub mod HorizonExamples
 pub mod Agreement
 pub mod FlowAgreement
 pub mod Crowds

@@ -1,5 +1,5 @@
 -- Worked examples: parts by hand, and bounds that are reached.
-use Rattle.std.proofs.Common.{◌≡◌, true, ℕ, zero, suc, ◌≤◌, List, [], ◌∷◌, length, refl, arith, sum_by, ℤ, pos, negsuc}
+use Rattle.std.proofs.Common.{◌≡◌, true, ℕ, zero, suc, ◌≤◌, [], ◌∷◌, length, refl, arith, sum_by, ℤ, pos, negsuc}
 use Rattle.std.proofs.lemmas.Bool.{false≢true}
 use Rattle.std.proofs.lemmas.List.Elements.{All-cons, All-nil}
 use Rattle.tf_model.specs.declared.problem.Env.TheVariants.{Single, Parallel}

@@ -1,25 +1,27 @@
 -- The bound of sums by prices of the rows, where no job is broken off: each job at its cheapest
 -- start, less what the machines can take in.
-use Rattle.std.proofs.Common.{◌≡◌, Bool, true, false, ℕ, zero, suc, ◌+◌, ◌-◌, ◌*◌, ◌≤◌, ◌<◌, List, [], ◌∷◌, length, sum, max, int_lt, slice_index, slice_index_or, take, cond, refl, sym, ap, ◌∙◌, ⊎_elim, arith, sum_by, All, ℤ, pos, negsuc, ◌-ℤ◌, ◌≤ℤ◌, IsTrue, IsFalse, mul-le-mul_left}
+use Rattle.std.proofs.Common.{◌≡◌, Bool, ℕ, zero, suc, ◌+◌, ◌-◌, ◌*◌, ◌≤◌, ◌<◌, List, [], ◌∷◌, length, sum, max, slice_index, slice_index_or, take, cond, refl, sym, ap, ◌∙◌, ⊎_elim, arith, sum_by, All, ℤ, pos, ◌-ℤ◌, ◌≤ℤ◌, IsTrue, IsFalse, mul-le-mul_left}
 use Rattle.std.proofs.lemmas.Int.{ints}
 use Rattle.std.proofs.lemmas.Bool.{false≢true, eq-eqb, cases_lt}
-use Rattle.std.proofs.lemmas.List.Sums.{sum_by-cons}
+use Rattle.std.proofs.lemmas.List.Sums.{sum_by-cons, get_or-le-sum_by}
 use Rattle.std.proofs.lemmas.List.Elements.{All-head, All-tail}
 use Rattle.tf_model.specs.declared.problem.Goal.{Goal}
 use Rattle.tf_model.specs.declared.problem.Goal.TheVariants as goals
-use Rattle.tf_model.specs.Whole.{as_time}
 use Rattle.tf_model.specs.Timetable.{Timetable, cell, cells_of, completion}
 use Rattle.tf_model.proofs.Sums.{sum_by_le_all, sum_by-plus, sum_by-times, sum_by-zero_terms}
-use Rattle.tf_model.proofs.Units.{cell-le-cells_of, cell_at_completion}
+use Rattle.tf_model.proofs.Units.{cell-le-cells_of, cell_at_completion, completion-le-length}
 use Rattle.tf_model.proofs.Work.{IsDistinct, cells-le-length}
 use Rattle.tf_model.proofs.Loads.{once}
-use Rattle.tf_problem.specs.ProblemData.{ProblemData, IsProblemSound, IsProblemJob, problem_jobs, problem_job, problem_time, problem_release}
+use Rattle.tf_problem.specs.ProblemData.{ProblemData, IsProblemSound, IsProblemJob, problem_jobs, problem_time, time_over, problem_release}
 use Rattle.tf_problem.specs.FitsProblem.{FitsProblem}
 use Rattle.tf_problem.specs.ProblemCost.{problem_cost, problem_cost_by, penalty, IsLowerBound}
-use Rattle.tf_problem.specs.ProblemBounds.{is_alike, is_sum_goal, numerator, price_of_rows, start_price, AreCheapest, prices_value}
+use Rattle.tf_problem.specs.ProblemBounds.{is_alike, is_sum_goal, numerator, price_of_rows, start_price, AreCheapest, last_within, horizon, prices_value, problem_work}
 use Rattle.tf_problem.proofs.Relaxing.{All-problem_jobs}
 use Rattle.tf_problem.proofs.Windows.{alike_no_shop, cells-between, units-le-rows, one_time-le-completion}
-use Rattle.tf_problem.proofs.Multipliers.{share-le, as_time-at-most}
+use Rattle.tf_problem.proofs.Multipliers.{share-le}
+use Rattle.tf_problem.proofs.Least.{Contains-problem_jobs}
+use Rattle.tf_problem.proofs.Rising.{penalty-rises}
+use Rattle.tf_problem.proofs.Horizon.{horizon-law, release-le-last}
 
 abbrev as_one : Bool → ℕ
 as_one t = cond t 1 0
@@ -135,17 +137,18 @@ module _ (k : ProblemData) (sound : IsProblemSound k) (alike : IsTrue (is_alike 
           )
 
   -- it costs at least what it costs at its cheapest start
-  cheapest-le : (q : ℕ) (prices cheapest : List ℕ) → AreCheapest k q prices cheapest → (j : ℕ)
-      → IsProblemJob k j
+  cheapest-le : length rows ≤ horizon k → (q : ℕ) (prices cheapest : List ℕ)
+      → AreCheapest k q prices cheapest → (j : ℕ) → IsProblemJob k j
       → numerator cheapest j
       ≤ q * penalty k.problem.goal k j (completion rows j) + paid prices rows j
-  cheapest-le q prices cheapest are j h =
+  cheapest-le within q prices cheapest are j h =
       let p : ℕ = problem_time k j in
       let c : ℕ = completion rows j in
       let ends : problem_release k j + p ≤ c = one_time-le-completion k sound alike rows fits j h in
       let s : ℕ = c - p in
       let end : s + p ≡ c = omega arith in
-      let at : numerator cheapest j ≤ start_price k q prices j s = are j h s (omega arith) in
+      let over : s + p ≤ horizon k = omega (arith, end, within, completion-le-length j rows) in
+      let at : numerator cheapest j ≤ start_price k q prices j s = are j h s (omega arith) over in
       let pay : price_of_rows prices s p ≤ paid prices rows j =
       pays j p s prices rows (λ t low high. stands-in j h t low (omega arith)) in
       omega (arith, at, pay, ap (λ x. q * penalty k.problem.goal k j x) end)
@@ -172,30 +175,8 @@ pub prices-bound : (k : ProblemData) → IsProblemSound k → IsTrue (is_alike k
     → IsFalse k.problem.prmp → IsTrue (is_sum_goal k.problem.goal) → (q : ℕ) → 1 ≤ q
     → (prices cheapest : List ℕ) → AreCheapest k q prices cheapest
     → IsLowerBound k (prices_value k q prices cheapest)
-prices-bound k sound alike whole sums q some prices cheapest are rows fits =
-    let g : Goal = k.problem.goal in
-    let f : ℕ → ℕ = λ j. penalty g k j (completion rows j) in
-    let total : ℕ = sum_by f (problem_jobs k) in
-    let each : sum_by (numerator cheapest) (problem_jobs k)
-    ≤ sum_by (λ j. q * f j + paid prices rows j) (problem_jobs k) =
-    sum_by_le_all (numerator cheapest) (λ j. q * f j + paid prices rows j) (problem_jobs k)
-    (All-problem_jobs k (λ j. numerator cheapest j ≤ q * f j + paid prices rows j)
-    (cheapest-le k sound alike whole rows fits q prices cheapest are)) in
-    let taken : sum_by (paid prices rows) (problem_jobs k) ≤ k.machines * sum prices =
-    room k.machines (problem_jobs k) (IsDistinct-problem_jobs k) prices rows fits.width in
-    let parts : sum_by (numerator cheapest) (problem_jobs k) ≤ q * total + k.machines * sum prices =
-    omega (
-      arith,
-      each,
-      taken,
-      sum_by-plus (λ j. q * f j) (paid prices rows) (problem_jobs k),
-      sum_by-times q f (problem_jobs k),
-    ) in
-    chain (prices_value k q prices cheapest) (pos total) (problem_cost k rows)
-    (share-le (pos (sum_by (numerator cheapest) (problem_jobs k)) -ℤ pos (k.machines * sum prices)) q
-    total some
-    (less (sum_by (numerator cheapest) (problem_jobs k)) (k.machines * sum prices) (q * total) parts))
-    (sum-cost g sums k rows)
+prices-bound k sound alike whole sums q some prices cheapest are =
+    horizon-law k sound (prices_value k q prices cheapest) bound
   where
     chain : (a b c : ℤ) → a ≤ℤ b → b ≤ℤ c → a ≤ℤ c
     chain a b c p r = omega (arith, ints)
@@ -203,41 +184,34 @@ prices-bound k sound alike whole sums q some prices cheapest are rows fits =
     less : (a b c : ℕ) → a ≤ c + b → (pos a -ℤ pos b) ≤ℤ pos c
     less a b c h = omega (arith, ints)
 
+    bound : (rows : Timetable) → FitsProblem k rows → length rows ≤ horizon k
+        → prices_value k q prices cheapest ≤ℤ problem_cost k rows
+    bound rows fits within =
+        let g : Goal = k.problem.goal in
+        let f : ℕ → ℕ = λ j. penalty g k j (completion rows j) in
+        let total : ℕ = sum_by f (problem_jobs k) in
+        let each : sum_by (numerator cheapest) (problem_jobs k)
+        ≤ sum_by (λ j. q * f j + paid prices rows j) (problem_jobs k) =
+        sum_by_le_all (numerator cheapest) (λ j. q * f j + paid prices rows j) (problem_jobs k)
+        (All-problem_jobs k (λ j. numerator cheapest j ≤ q * f j + paid prices rows j)
+        (cheapest-le k sound alike whole rows fits within q prices cheapest are)) in
+        let taken : sum_by (paid prices rows) (problem_jobs k) ≤ k.machines * sum prices =
+        room k.machines (problem_jobs k) (IsDistinct-problem_jobs k) prices rows fits.width in
+        let parts : sum_by (numerator cheapest) (problem_jobs k) ≤ q * total + k.machines * sum prices =
+        omega (
+          arith,
+          each,
+          taken,
+          sum_by-plus (λ j. q * f j) (paid prices rows) (problem_jobs k),
+          sum_by-times q f (problem_jobs k),
+        ) in
+        chain (prices_value k q prices cheapest) (pos total) (problem_cost k rows)
+        (share-le (pos (sum_by (numerator cheapest) (problem_jobs k)) -ℤ pos (k.machines * sum prices)) q
+        total some
+        (less (sum_by (numerator cheapest) (problem_jobs k)) (k.machines * sum prices) (q * total) parts))
+        (sum-cost g sums k rows)
+
 -- ---- which starts have to be looked at
-
-pub late-rises : (c e : ℕ) (d : ℤ) → c ≤ e → as_time (pos c -ℤ d) ≤ as_time (pos e -ℤ d)
-late-rises c e d le =
-    as_time-at-most (pos c -ℤ d) (as_time (pos e -ℤ d)) (up (pos e -ℤ d) (omega (arith, ints)))
-  where
-    up : (z : ℤ) → (pos c -ℤ d) ≤ℤ z → (pos c -ℤ d) ≤ℤ pos (as_time z)
-    up (pos n) h = h
-    up (negsuc n) h = omega (arith, ints, h)
-
-apart : (d x y : ℤ) → int_lt d x ≡ true → int_lt d y ≡ false → x ≤ℤ y → ⊥
-apart d x y p q h = grind (arith, ints)
-
-pub unit-rises : (c e : ℕ) (d : ℤ) → c ≤ e
-    → ◌≤◌ (cond (int_lt d (pos c)) 1 0) (cond (int_lt d (pos e)) 1 0)
-unit-rises c e d le = by (int_lt d (pos c)) (int_lt d (pos e)) refl refl
-  where
-    by : (a b : Bool) → int_lt d (pos c) ≡ a → int_lt d (pos e) ≡ b → ◌≤◌ (cond a 1 0) (cond b 1 0)
-    by false b p q = omega arith
-    by true true p q = omega arith
-    by true false p q = absurd (apart d (pos c) (pos e) p q (omega (arith, ints)))
-
--- no job gets cheaper by being late
-pub penalty-rises : (g : Goal) (k : ProblemData) (j c e : ℕ) → c ≤ e → penalty g k j c ≤ penalty g k j e
-penalty-rises goals.Cmax k j c e le = omega arith
-penalty-rises goals.Lmax k j c e le = omega arith
-penalty-rises goals.Hmax k j c e le = omega arith
-penalty-rises goals.SumC k j c e le = le
-penalty-rises goals.SumWC k j c e le = mul-le-mul_left (problem_job k j).weight le
-penalty-rises goals.SumT k j c e le = late-rises c e (problem_job k j).due le
-penalty-rises goals.SumWT k j c e le =
-    mul-le-mul_left (problem_job k j).weight (late-rises c e (problem_job k j).due le)
-penalty-rises goals.SumU k j c e le = unit-rises c e (problem_job k j).due le
-penalty-rises goals.SumWU k j c e le =
-    mul-le-mul_left (problem_job k j).weight (unit-rises c e (problem_job k j).due le)
 
 -- rows past the prices have none
 pub no_price : (prices : List ℕ) (s n : ℕ) → length prices ≤ s → price_of_rows prices s n ≡ 0
@@ -248,12 +222,11 @@ no_price [] (suc s) (suc n) h = refl
 no_price (x ∷ prices) zero n h = absurd (omega arith)
 no_price (x ∷ prices) (suc s) n h = no_price prices s n (omega arith)
 
-pub cheapest-by_starts : (k : ProblemData) (q : ℕ) (prices cheapest : List ℕ)
-    → ((j : ℕ) → IsProblemJob k j → (s : ℕ) → problem_release k j ≤ s
-    → s ≤ max (problem_release k j) (length prices)
+pub cheapest-up_to_last : (k : ProblemData) (q : ℕ) (prices cheapest : List ℕ)
+    → ((j : ℕ) → IsProblemJob k j → (s : ℕ) → problem_release k j ≤ s → s ≤ last_within k prices j
     → numerator cheapest j ≤ start_price k q prices j s)
     → AreCheapest k q prices cheapest
-cheapest-by_starts k q prices cheapest test j h s from =
+cheapest-up_to_last k q prices cheapest test j h s from over =
     let last : ℕ = max (problem_release k j) (length prices) in
     let p : ℕ = problem_time k j in
     ⊎_elim
@@ -266,5 +239,24 @@ cheapest-by_starts k q prices cheapest test j h s from =
       no_price prices last p (omega arith),
       rises,
     ))
-    (λ within. test j h s from within)
+    (λ within. test j h s from (omega arith))
     (cases_lt last s)
+
+-- a job that starts when it is released is over by the horizon
+pub some-start : (k : ProblemData) → IsTrue (is_alike k.problem.env) → (prices : List ℕ) (j : ℕ)
+    → IsProblemJob k j
+    → (problem_release k j ≤ last_within k prices j)
+    × (problem_release k j + problem_time k j ≤ horizon k)
+some-start k alike prices j h =
+    let in' = Contains-problem_jobs k j h in
+    let work : problem_work k j ≡ problem_time k j =
+    ap (λ s. cond s (time_over k j 0 k.machines) (problem_time k j)) (alike_no_shop k alike) in
+    let over : problem_release k j + problem_time k j ≤ horizon k =
+    omega (
+      arith,
+      release-le-last k j h,
+      get_or-le-sum_by (problem_work k) (problem_jobs k) in'.0 j in'.1,
+      ap (problem_work k) in'.2,
+      work,
+    ) in
+    (omega arith, over)

@@ -32,7 +32,7 @@ use Rattle.tf_problem.proofs.PushedBounds.{pushed-bound}
 use Rattle.tf_problem.proofs.Alone.{alone-bound}
 use Rattle.tf_problem.specs.Pushed.{pushed, release_in, due_in}
 use Rattle.tf_problem.proofs.AnyMultipliers.{any_multipliers-bound}
-use Rattle.tf_problem.proofs.Prices.{prices-bound, cheapest-by_starts}
+use Rattle.tf_problem.proofs.Prices.{prices-bound, cheapest-up_to_last}
 
 -- a number from 1 to 3
 each_three : (P : ℕ → Type 0) → P 1 → P 2 → P 3 → (j : ℕ) → (1 ≤ j) × (j ≤ 3) → P j
@@ -466,12 +466,13 @@ late_fits =
 -- a price of 1 for row 0: each job costs 1, in time by the price, or late
 late_cheapest : AreCheapest late 1 (1 ∷ []) (1 ∷ 1 ∷ 1 ∷ [])
 late_cheapest =
-    cheapest-by_starts late 1 (1 ∷ []) (1 ∷ 1 ∷ 1 ∷ [])
+    cheapest-up_to_last late 1 (1 ∷ []) (1 ∷ 1 ∷ 1 ∷ [])
     (λ j h s low high.
+    let le : s ≤ 1 = omega (arith, high) in
     each_three (λ j. numerator (1 ∷ 1 ∷ 1 ∷ []) j ≤ start_price late 1 (1 ∷ []) j s)
-    (two_starts (λ s. 1 ≤ start_price late 1 (1 ∷ []) 1 s) (omega arith) (omega arith) s high)
-    (two_starts (λ s. 1 ≤ start_price late 1 (1 ∷ []) 2 s) (omega arith) (omega arith) s high)
-    (two_starts (λ s. 1 ≤ start_price late 1 (1 ∷ []) 3 s) (omega arith) (omega arith) s high) j h)
+    (two_starts (λ s. 1 ≤ start_price late 1 (1 ∷ []) 1 s) (omega arith) (omega arith) s le)
+    (two_starts (λ s. 1 ≤ start_price late 1 (1 ∷ []) 2 s) (omega arith) (omega arith) s le)
+    (two_starts (λ s. 1 ≤ start_price late 1 (1 ∷ []) 3 s) (omega arith) (omega arith) s le) j h)
   where
     two_starts : (P : ℕ → Type 0) → P 0 → P 1 → (s : ℕ) → s ≤ 1 → P s
     two_starts P p q zero h = p

@@ -1,9 +1,8 @@
 -- Whatever bounds the task with dates that follow by its arcs bounds the task.
-use Rattle.std.proofs.Common.{◌≡◌, Bool, true, false, ℕ, zero, suc, ◌+◌, ◌*◌, ◌≤◌, ◌<◌, ◌&&◌, ◌||◌, not, List, length, map, cond, int_lt, refl, sym, ap, ◌∙◌, subst, ⊎_elim, arith, sum_by, ℤ, pos, ◌-ℤ◌, ◌≤ℤ◌, IsTrue}
+use Rattle.std.proofs.Common.{◌≡◌, Bool, true, false, ℕ, ◌*◌, ◌≤◌, ◌&&◌, ◌||◌, not, List, length, cond, int_lt, refl, sym, ap, ◌∙◌, subst, arith, sum_by, ℤ, pos, ◌-ℤ◌, ◌≤ℤ◌, IsTrue}
 use Rattle.std.specs.List.{range_with_len}
-use Rattle.std.proofs.lemmas.Int.{ints, fold-int_max_reached}
+use Rattle.std.proofs.lemmas.Int.{ints}
 use Rattle.std.proofs.lemmas.Bool.{false≢true, and_parts}
-use Rattle.std.proofs.lemmas.List.FromFn.{get_or-map-range_with_len, length-map-range_with_len}
 use Rattle.tf_model.specs.declared.problem.Goal.{Goal}
 use Rattle.tf_model.specs.declared.problem.Goal.TheVariants as goals
 use Rattle.tf_model.specs.Whole.{as_time}
@@ -14,27 +13,9 @@ use Rattle.tf_problem.specs.ProblemData.{ProblemData, IsProblemSound, IsProblemJ
 use Rattle.tf_problem.specs.ProblemCost.{problem_cost, problem_cost_by, lateness, penalty, IsLowerBound}
 use Rattle.tf_problem.specs.ProblemBounds.{is_max_goal, is_sum_goal}
 use Rattle.tf_problem.specs.Pushed.{due_in, pushed, dated_goal, serving_by, AreReleases, AreDues, AreOwnDues, AreServingDues}
-use Rattle.tf_problem.proofs.Relaxing.{All-problem_jobs}
+use Rattle.tf_problem.proofs.Relaxing.{All-problem_jobs, greatest_reached}
 use Rattle.tf_problem.proofs.Prices.{sum-cost}
 use Rattle.tf_problem.proofs.Pushed.{size, its_job, due-le-cost, pushed-fits}
-
-greatest_reached : (f : ℕ → ℤ) (n : ℕ) → 1 ≤ n
-    → (j : ℕ) × ((1 ≤ j) × (j ≤ n)) × (greatest f (range_with_len 1 n) ≡ f j)
-greatest_reached f zero h = absurd (omega (arith, h))
-greatest_reached f (suc n) h =
-    ⊎_elim
-    (λ first. (1, (omega arith, omega arith), first))
-    (λ at.
-    let i : ℕ = at.0 in
-    let in' : i < suc n = omega (arith, at.1, length-map-range_with_len f 1 (suc n)) in (
-      1 + i,
-      (omega arith, omega arith),
-      sym at.2
-          ∙ get_or-map-range_with_len f 1 (suc n) i (1 + i) (greatest f (range_with_len 1 (suc n))) in'
-          refl,
-    ))
-    (fold-int_max_reached (f 1) (map f (range_with_len 1 (suc n)))
-    (greatest f (range_with_len 1 (suc n))) refl)
 
 -- some job has the greatest
 greatest_at_job : (k : ProblemData) (f : ℕ → ℤ) (jobs : List ℕ) → jobs ≡ problem_jobs k

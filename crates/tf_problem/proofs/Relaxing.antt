@@ -1,8 +1,8 @@
 -- What a bound of the task of a class says of a task that it relaxes, and when one does.
-use Rattle.std.proofs.Common.{◌≡◌, Bool, true, false, ℕ, zero, suc, ◌+◌, ◌-◌, ◌≤◌, ◌<◌, length, get_or, map, cond, refl, sym, ap, ◌∙◌, subst, arith, All, ℤ, ◌+ℤ◌, ◌≤ℤ◌, IsFalse, Ok}
+use Rattle.std.proofs.Common.{◌≡◌, Bool, true, false, ℕ, zero, suc, ◌+◌, ◌-◌, ◌≤◌, ◌<◌, length, get_or, map, cond, refl, sym, ap, ◌∙◌, subst, ⊎_elim, arith, All, ℤ, ◌+ℤ◌, ◌≤ℤ◌, IsFalse, Ok}
 use Rattle.std.specs.Int.{int_max}
 use Rattle.std.specs.List.{fold, range_with_len}
-use Rattle.std.proofs.lemmas.Int.{ints, fold-int_max_bounds}
+use Rattle.std.proofs.lemmas.Int.{ints, fold-int_max_bounds, fold-int_max_reached}
 use Rattle.std.proofs.lemmas.Bool.{false≢true}
 use Rattle.std.proofs.lemmas.List.FromFn.{length-range_with_len, get_or-range_with_len, get_or-map-range_with_len, length-map-range_with_len}
 use Rattle.std.proofs.lemmas.List.Elements.{All-nil}
@@ -72,6 +72,25 @@ at-le-greatest k f j h =
     (omega (arith, h.0)) in
     subst (λ z. z ≤ℤ greatest f (problem_jobs k)) at
     (all (j - 1) (f 1) (omega (arith, h.0, h.1, length-map-range_with_len f 1 n)))
+
+-- some job has the greatest
+pub greatest_reached : (f : ℕ → ℤ) (n : ℕ) → 1 ≤ n
+    → (j : ℕ) × ((1 ≤ j) × (j ≤ n)) × (greatest f (range_with_len 1 n) ≡ f j)
+greatest_reached f zero h = absurd (omega (arith, h))
+greatest_reached f (suc n) h =
+    ⊎_elim
+    (λ first. (1, (omega arith, omega arith), first))
+    (λ at.
+    let i : ℕ = at.0 in
+    let in' : i < suc n = omega (arith, at.1, length-map-range_with_len f 1 (suc n)) in (
+      1 + i,
+      (omega arith, omega arith),
+      sym at.2
+          ∙ get_or-map-range_with_len f 1 (suc n) i (1 + i) (greatest f (range_with_len 1 (suc n))) in'
+          refl,
+    ))
+    (fold-int_max_reached (f 1) (map f (range_with_len 1 (suc n)))
+    (greatest f (range_with_len 1 (suc n))) refl)
 
 -- no row before its release date has a job, if the problem has release dates
 pub problem_release-le-row : (k : ProblemData) (rows : Timetable) → FitsProblem k rows → (j : ℕ)

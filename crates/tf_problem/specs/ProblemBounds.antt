@@ -1,7 +1,7 @@
 -- The numbers that bound the task of a problem from below.
-use Rattle.std.specs.Prelude.{Bool, true, false, ◌||◌, ◌==◌, ℕ, ◌-◌, ◌+◌, ℤ, pos, negsuc, ◌+ℤ◌, ◌-ℤ◌, ◌*ℤ◌, ◌*◌, ◌≤◌, sum, take, drop, List, [], ◌∷◌, slice_index, if◌then◌else◌}
+use Rattle.std.specs.Prelude.{Bool, true, false, ◌||◌, ◌==◌, ℕ, ◌-◌, ◌+◌, ℤ, pos, negsuc, ◌+ℤ◌, ◌-ℤ◌, ◌*ℤ◌, ◌*◌, ◌≤◌, sum, take, drop, min, max, map, length, List, [], ◌∷◌, slice_index, if◌then◌else◌}
 use Rattle.std.specs.Int.{div_ceil}
-use Rattle.std.specs.List.{sum_by}
+use Rattle.std.specs.List.{fold, sum_by}
 use Rattle.tf_model.specs.declared.problem.Goal.{Goal}
 use Rattle.tf_model.specs.declared.problem.Goal.TheVariants as goals
 use Rattle.tf_model.specs.declared.problem.Env.{Env}
@@ -192,10 +192,26 @@ abbrev pub start_price : ProblemData → ℕ → List ℕ → ℕ → ℕ → �
 start_price k q prices j s =
     q * penalty k.problem.goal k j (s + problem_time k j) + price_of_rows prices s (problem_time k j)
 
--- the number for each job is at most its price, whenever it starts after its release date
+-- the greatest release date, 0 where the problem has none
+abbrev pub last_release : ProblemData → ℕ
+last_release k = fold max 0 (map (problem_release k) (problem_jobs k))
+
+-- The greatest release date and the time of all jobs, in a shop on all machines. A timetable that is
+-- over later has an idle row, and costs no less without it.
+abbrev pub horizon : ProblemData → ℕ
+horizon k = last_release k + sum_by (problem_work k) (problem_jobs k)
+
+-- the number for each job is at most its price, whenever it starts after its release date and
+-- completes by the horizon
 abbrev pub AreCheapest : ProblemData → ℕ → List ℕ → List ℕ → Type 0
-AreCheapest k q prices cheapest = (j : ℕ) → IsProblemJob k j → (s : ℕ) → problem_release k j ≤ s
+AreCheapest k q prices cheapest = (j : ℕ) → IsProblemJob k j → (s : ℕ)
+    → problem_release k j ≤ s → s + problem_time k j ≤ horizon k
     → numerator cheapest j ≤ start_price k q prices j s
+
+-- the last start of a job that matters: after it there is no price, or no time
+abbrev pub last_within : ProblemData → List ℕ → ℕ → ℕ
+last_within k prices j =
+    min (max (problem_release k j) (length prices)) (horizon k - problem_time k j)
 
 -- what the jobs cost at least, less all prices on each machine, over q
 abbrev pub prices_value : ProblemData → ℕ → List ℕ → List ℕ → ℤ

@@ -1,6 +1,6 @@
 -- The laws: numbers that every timetable of the task of a problem costs at least. Each law is the
 -- contract of a call in src/laws.rt.
-use Rattle.std.specs.Prelude.{◌≡◌, ℕ, ◌*◌, ◌≤◌, ◌<◌, max, ℤ, pos, ◌+ℤ◌, List, length, Ok, ◌||◌, IsTrue, IsFalse}
+use Rattle.std.specs.Prelude.{◌≡◌, ℕ, ◌*◌, ◌≤◌, ◌<◌, ◌+◌, ℤ, pos, ◌+ℤ◌, List, length, Ok, ◌||◌, IsTrue, IsFalse}
 use Rattle.std.specs.List.{All}
 use Rattle.tf_model.specs.declared.problem.Goal.TheVariants as goals
 use Rattle.tf_model.specs.ClassTable.{is_single_env, is_parallel_env, is_flow_env, is_shop_env}
@@ -11,11 +11,11 @@ use Rattle.tf_model.specs.Sound.{IsSound}
 use Rattle.tf_model.specs.Cost.{IsBest}
 use Rattle.tf_check.specs.Claim.{Claim}
 use Rattle.tf_check.specs.Bound.{bound_by}
-use Rattle.tf_problem.specs.ProblemData.{ProblemData, IsProblemSound, IsProblemJob, problem_job, problem_release}
+use Rattle.tf_problem.specs.ProblemData.{ProblemData, IsProblemSound, IsProblemJob, problem_job, problem_release, problem_time}
 use Rattle.tf_problem.specs.ProblemCost.{IsLowerBound}
 use Rattle.tf_problem.specs.Relaxed.{IsRelaxation, window_task, load_task, rank_task, weighed_task, pair_task}
 use Rattle.tf_problem.specs.Pushed.{pushed, AreReleases, AreServingDues}
-use Rattle.tf_problem.specs.ProblemBounds.{pair_margin, window_value, crowd_value, one_job_value, machine_value, AreMultipliers, any_multiplier_value, numerator, is_alike, is_by_machine, is_max_goal, is_tardy_goal, is_sum_goal, AreCheapest, prices_value, start_price, alone_cost}
+use Rattle.tf_problem.specs.ProblemBounds.{pair_margin, window_value, crowd_value, one_job_value, machine_value, AreMultipliers, any_multiplier_value, numerator, is_alike, is_by_machine, is_max_goal, is_tardy_goal, is_sum_goal, horizon, AreCheapest, last_within, prices_value, start_price, alone_cost}
 
 -- ---- relaxation
 
@@ -102,13 +102,15 @@ PricesLaw = (k : ProblemData) → IsProblemSound k → IsTrue (is_alike k.proble
     → (prices cheapest : List ℕ) → AreCheapest k q prices cheapest
     → IsLowerBound k (prices_value k q prices cheapest)
 
--- it is enough to look at the starts up to the last price
-abbrev pub CheapestLaw : Type 0
-CheapestLaw = (k : ProblemData) (q : ℕ) (prices cheapest : List ℕ)
-    → ((j : ℕ) → IsProblemJob k j → (s : ℕ) → problem_release k j ≤ s
-    → s ≤ max (problem_release k j) (length prices)
-    → numerator cheapest j ≤ start_price k q prices j s)
-    → AreCheapest k q prices cheapest
+-- it is enough to look at the starts up to the last one that matters, and there is one
+pub record CheapestLaw (k : ProblemData) : Type 0 where
+  pub up_to_last : (q : ℕ) (prices cheapest : List ℕ)
+      → ((j : ℕ) → IsProblemJob k j → (s : ℕ) → problem_release k j ≤ s → s ≤ last_within k prices j
+      → numerator cheapest j ≤ start_price k q prices j s)
+      → AreCheapest k q prices cheapest
+  pub some_start : IsTrue (is_alike k.problem.env) → (prices : List ℕ) (j : ℕ) → IsProblemJob k j
+      → (problem_release k j ≤ last_within k prices j)
+      × (problem_release k j + problem_time k j ≤ horizon k)
 
 -- each job by itself, in every environment and under all conditions: any sum
 abbrev pub AloneLaw : Type 0

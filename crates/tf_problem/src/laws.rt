@@ -63,7 +63,7 @@ pub fn prices_law()
 
 /// The starts among which a job's cheapest is found, for the prices.
 pub fn cheapest_law()
-    ensures { CheapestLaw }
+    ensures { (k : ProblemData) → CheapestLaw k }
 {}
 
 /// A lower bound by each job by itself, for any sum.

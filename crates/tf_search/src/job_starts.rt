@@ -13,7 +13,8 @@ use tf_bound::task::ProblemTask;
 use tf_model::ids::JobId;
 use tf_model::limit::LIMIT;
 
-/// The starts of a job from its release date to the last row. Those that are in time come first,
+/// The starts of a job from its release date to the last row, or to the last from which it is over
+/// in time. Those that are in time come first,
 /// and cost nothing; the late ones cost more the later they are, or all the same.
 #[derive(Clone, Copy, Debug)]
 pub struct JobStarts {
@@ -39,11 +40,13 @@ struct Start {
 }
 
 impl JobStarts {
-    /// The starts of a job up to row `rows`, where what it costs over q is within the limit.
+    /// The starts of a job up to row `rows` from which it is over by `until`, where what it costs over
+    /// q is within the limit.
     pub fn new<B: Allocator>(
         task: &ProblemTask<B>,
         job: JobId,
         rows: usize,
+        until: u64,
         q: u64,
     ) -> Option<JobStarts>
         requires job { IsProblemJob task.now job }
@@ -51,7 +54,8 @@ impl JobStarts {
     {
         let time = task.time(job);
         let in_time = i128::from(task.due(job)) - i128::from(time);
-        let end = (rows as u64).saturating_add(1);
+        let last = (rows as u64).min(until.saturating_sub(time));
+        let end = last.saturating_add(1);
         let first = task.release(job).min(end);
         let late = u64::try_from(in_time.saturating_add(1)).unwrap_or(0);
         let late = late.max(first).min(end);

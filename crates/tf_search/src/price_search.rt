@@ -12,6 +12,7 @@ use crate::price_start::{Prices, sequence_prices, zeros};
 use crate::sequence::best_order;
 use std::alloc::{Allocator, Global};
 use tf_bound::fault::BoundFault;
+use tf_bound::horizon::horizon;
 use tf_bound::prices::{prices_bound, takes_prices};
 use tf_bound::task::ProblemTask;
 use tf_model::ids::JobId;
@@ -23,20 +24,15 @@ const UNIT: i64 = 1_024;
 // What the step's length is over.
 const LENGTH: i64 = 65_536;
 
-// How many hundredths of a direction are new in each step, and how many where it turns slowly.
+// How many hundredths of a direction are new in each step.
 const WHOLE: i64 = 100;
 
-const USUAL_SHARE: i64 = 10;
+const SHARE: i64 = 5;
 
-const SLOW_SHARE: i64 = 3;
+// The steps get half as long after this share of all steps without a better value.
+const PATIENCE: u32 = 20;
 
-// The most steps without a better value before those of a hasty search get shorter.
-const MOST_PATIENCE: u32 = 60;
-
-// How many steps the first round of a search takes at least, and how many rounds there are at most.
-const ROUND: u32 = 1_000;
-
-const MOST_ROUNDS: u32 = 32;
+const LEAST_PATIENCE: u32 = 3;
 
 /// Some of the steps of an effort.
 #[derive(Clone, Copy, Debug)]
@@ -47,38 +43,22 @@ pub struct Steps {
     pub all: u32,
 }
 
-// How many hundredths of a direction are new, how long the steps are, over LENGTH, how many without
-// a better value shorten them, and how many there were.
+// How long the steps are, over LENGTH, how many without a better value make them shorter, and how
+// many there were.
 #[derive(Clone, Copy)]
 struct Pace {
-    share: i64,
     length: i64,
     patience: u32,
     waited: u32,
 }
 
 impl Pace {
-    // Full steps at first. A fiftieth of all steps without a better value shortens them, but at
-    // least 3.
-    fn patient(steps: u32) -> Pace {
+    // Full steps at first.
+    fn new(steps: u32) -> Pace {
         Pace {
-            share: USUAL_SHARE,
             length: LENGTH,
-            patience: (steps / 50).max(3),
+            patience: (steps / PATIENCE).max(LEAST_PATIENCE),
             waited: 0,
-        }
-    }
-
-    // The same with at most 60 such steps.
-    fn hasty(steps: u32) -> Pace {
-        Pace::patient(steps.min(50 * MOST_PATIENCE))
-    }
-
-    // The same with directions that turn slowly.
-    fn slow(steps: u32) -> Pace {
-        Pace {
-            share: SLOW_SHARE,
-            ..Pace::patient(steps)
         }
     }
 
@@ -93,7 +73,7 @@ impl Pace {
             return Pace { waited, ..self };
         }
         Pace {
-            length: self.length.saturating_mul(4) / 5,
+            length: self.length / 2,
             waited: 0,
             ..self
         }
@@ -156,48 +136,12 @@ fn prices_along<A: Allocator + Copy, B: Allocator>(
     };
     let start = sequence_prices(alloc, task, &order)?;
     let mut effort: Effort<Nobody> = Effort::untold(None);
-    let found = hasty_search(alloc, task, start, target, steps, &mut effort)?;
-    Ok((found.prices, target))
+    let found = search_prices(alloc, task, start, target, steps, &mut effort)?;
+    Ok((found, target))
 }
 
-/// Prices that a search found, how many steps it took, and whether they bound the target.
-#[derive(Drop)]
-pub struct Searched<A: Allocator = Global> {
-    pub prices: Prices<A>,
-    pub steps: u32,
-    pub is_met: bool,
-}
-
-/// The prices of the greatest value that steps find from a start. They get shorter after at most 60
-/// without a better value. `target` is what a schedule costs.
-pub fn hasty_search<A: Allocator + Copy, B: Allocator, P: Progress>(
-    alloc: A,
-    task: &ProblemTask<B>,
-    start: Prices<A>,
-    target: u64,
-    steps: Steps,
-    effort: &mut Effort<P>,
-) -> Result<Searched<A>, BoundFault> {
-    let pace = Pace::hasty(steps.number);
-    search_at(alloc, task, start, target, (steps, pace), effort)
-}
-
-/// The prices of the greatest value that steps find whose direction turns slowly.
-pub fn slow_search<A: Allocator + Copy, B: Allocator, P: Progress>(
-    alloc: A,
-    task: &ProblemTask<B>,
-    start: Prices<A>,
-    target: u64,
-    steps: Steps,
-    effort: &mut Effort<P>,
-) -> Result<Searched<A>, BoundFault> {
-    let pace = Pace::slow(steps.number);
-    search_at(alloc, task, start, target, (steps, pace), effort)
-}
-
-/// The prices of the greatest value that rounds of steps find. Each round begins with the best
-/// prices before it, at full length again, and takes twice as many steps.
-pub fn patient_search<A: Allocator + Copy, B: Allocator, P: Progress>(
+/// The prices of the greatest value that steps find from a start. `target` is what a schedule costs.
+pub fn search_prices<A: Allocator + Copy, B: Allocator, P: Progress>(
     alloc: A,
     task: &ProblemTask<B>,
     start: Prices<A>,
@@ -205,40 +149,6 @@ pub fn patient_search<A: Allocator + Copy, B: Allocator, P: Progress>(
     steps: Steps,
     effort: &mut Effort<P>,
 ) -> Result<Prices<A>, BoundFault> {
-    let mut prices = start;
-    let mut left = steps.number;
-    let mut size = ROUND.max(steps.before.saturating_mul(2));
-    for _ in 0..MOST_ROUNDS {
-        if left == 0 {
-            break;
-        }
-        let round = Steps {
-            before: steps
-                .before
-                .saturating_add(steps.number.saturating_sub(left)),
-            number: size.min(left),
-            all: steps.all,
-        };
-        let pace = Pace::patient(round.number);
-        let found = search_at(alloc, task, prices, target, (round, pace), effort)?;
-        prices = found.prices;
-        if found.is_met {
-            break;
-        }
-        left = left.saturating_sub(found.steps.max(1));
-        size = size.saturating_mul(2);
-    }
-    Ok(prices)
-}
-
-fn search_at<A: Allocator + Copy, B: Allocator, P: Progress>(
-    alloc: A,
-    task: &ProblemTask<B>,
-    start: Prices<A>,
-    target: u64,
-    steps: (Steps, Pace),
-    effort: &mut Effort<P>,
-) -> Result<Searched<A>, BoundFault> {
     if !takes_prices(task) {
         return Err(BoundFault::OtherKind);
     }
@@ -248,14 +158,10 @@ fn search_at<A: Allocator + Copy, B: Allocator, P: Progress>(
         q: start.q,
     };
     let mut tables = tables_from(alloc, task, start)?;
-    let (steps, is_met) = improve(target, &mut tables, steps, effort);
-    Ok(Searched {
-        prices: Prices {
-            q: target.q,
-            rows: tables.best,
-        },
-        steps,
-        is_met,
+    improve(target, &mut tables, steps, effort);
+    Ok(Prices {
+        q: target.q,
+        rows: tables.best,
     })
 }
 
@@ -267,16 +173,16 @@ fn tables_from<A: Allocator + Copy, B: Allocator>(
 ) -> Result<Tables<A>, BoundFault>
     requires { IsFalse (is_shop_env task.now.problem.env) }
 {
-    let horizon = start.rows.len();
-    let jobs = starts_of(alloc, task, horizon, start.q)?;
+    let rows = start.rows.len();
+    let jobs = starts_of(alloc, task, rows, start.q)?;
     let longest = jobs.iter().map(|job| job.time()).max().unwrap_or(0);
     Ok(Tables {
         jobs,
         rows: start.rows,
-        sums: zeros(alloc, longest.saturating_add(horizon).saturating_add(1))?,
-        counts: signed_zeros(alloc, horizon + 1)?,
-        direction: signed_zeros(alloc, horizon)?,
-        best: zeros(alloc, horizon)?,
+        sums: zeros(alloc, longest.saturating_add(rows).saturating_add(1))?,
+        counts: signed_zeros(alloc, rows + 1)?,
+        direction: signed_zeros(alloc, rows)?,
+        best: zeros(alloc, rows)?,
     })
 }
 
@@ -284,7 +190,7 @@ fn tables_from<A: Allocator + Copy, B: Allocator>(
 fn starts_of<A: Allocator, B: Allocator>(
     alloc: A,
     task: &ProblemTask<B>,
-    horizon: usize,
+    rows: usize,
     q: u64,
 ) -> Result<Vec<JobStarts, A>, BoundFault>
     requires { IsFalse (is_shop_env task.now.problem.env) }
@@ -292,8 +198,9 @@ fn starts_of<A: Allocator, B: Allocator>(
     let Ok(mut jobs) = Vec::with_capacity(alloc, task.len()) else {
         return Err(BoundFault::OutOfMemory);
     };
+    let until = horizon(task);
     for k in 0..task.len() {
-        let Some(starts) = JobStarts::new(task, JobId::at(k), horizon, q) else {
+        let Some(starts) = JobStarts::new(task, JobId::at(k), rows, until, q) else {
             return Err(BoundFault::TooLarge);
         };
         let Ok(()) = jobs.push(starts) else {
@@ -320,23 +227,23 @@ struct Target {
     q: u64,
 }
 
-// Takes the steps, and keeps the prices of the greatest value. Returns how many steps were taken,
-// and whether the value is the target, rounded up as a bound is.
+// Takes the steps, and keeps the prices of the greatest value. It ends where that is the target,
+// rounded up as a bound is.
 fn improve<A: Allocator, P: Progress>(
     target: Target,
     tables: &mut Tables<A>,
-    (steps, pace): (Steps, Pace),
+    steps: Steps,
     effort: &mut Effort<P>,
-) -> (u32, bool) {
+) {
     let goal = i128::from(target.cost)
         .checked_mul(i128::from(target.q))
         .unwrap_or(i128::MAX);
-    let mut pace = pace;
+    let mut pace = Pace::new(steps.number);
     let mut most: i128 = -1;
     for step in 0..steps.number {
         effort.at_step(steps.before.saturating_add(step), steps.all);
         let Some(value) = tables.value(target.machines) else {
-            return (step, false);
+            return;
         };
         if value > most {
             tables.keep();
@@ -344,14 +251,11 @@ fn improve<A: Allocator, P: Progress>(
         pace = pace.after(value > most);
         most = most.max(value);
         let gap = goal.saturating_sub(value);
-        if gap < i128::from(target.q) {
-            return (step, true);
-        }
-        if pace.length == 0 || !tables.advance(target.machines, gap, pace) {
-            return (step, false);
+        let is_met = gap < i128::from(target.q);
+        if is_met || pace.length == 0 || !tables.advance(target.machines, gap, pace) {
+            return;
         }
     }
-    (steps.number, false)
 }
 
 impl<A: Allocator> Tables<A> {
@@ -376,11 +280,7 @@ impl<A: Allocator> Tables<A> {
             return false;
         }
         let machines = i64::from(machines);
-        let turning = Turning {
-            machines,
-            share: pace.share,
-        };
-        let norm = turning.turn(&self.rows, &self.counts, &mut self.direction);
+        let norm = turn(machines, &self.rows, &self.counts, &mut self.direction);
         if norm == 0 || self.direction.len() != self.rows.len() {
             return false;
         }
@@ -420,53 +320,43 @@ fn count_cheapest(jobs: &mut [JobStarts], sums: &[u64], counts: &mut [i64]) -> i
     total
 }
 
-// How many machines there are, and how many hundredths of a direction are new.
-#[derive(Clone, Copy)]
-struct Turning {
-    machines: i64,
-    share: i64,
+// The new direction: a share of how many jobs too many a row has, and the rest of the old one. The
+// sum of its squares.
+fn turn(machines: i64, rows: &[u64], counts: &[i64], direction: &mut [i64]) -> u128
+    requires counts { length counts.now ≡ length rows.now + 1 }
+    requires direction { length direction.old ≡ length rows.now }
+{
+    let mut jobs: i64 = 0;
+    let mut norm: u128 = 0;
+    for row in 0..rows.len() {
+        jobs = jobs.saturating_add(counts[row]);
+        let turned = turned(jobs.saturating_sub(machines), direction[row]);
+        let kept = if turned < 0 && rows[row] == 0 {
+            0
+        } else {
+            turned
+        };
+        direction[row] = kept;
+        let size = kept.unsigned_abs();
+        norm = norm.saturating_add(u128::from(size) * u128::from(size));
+    }
+    norm
 }
 
-impl Turning {
-    // The new direction: a share of how many jobs too many a row has, and the rest of the old one.
-    // The sum of its squares.
-    fn turn(self, rows: &[u64], counts: &[i64], direction: &mut [i64]) -> u128
-        requires counts { length counts.now ≡ length rows.now + 1 }
-        requires direction { length direction.old ≡ length rows.now }
-    {
-        let mut jobs: i64 = 0;
-        let mut norm: u128 = 0;
-        for row in 0..rows.len() {
-            jobs = jobs.saturating_add(counts[row]);
-            let turned = self.turned(jobs, direction[row]);
-            let kept = if turned < 0 && rows[row] == 0 {
-                0
-            } else {
-                turned
-            };
-            direction[row] = kept;
-            let size = kept.unsigned_abs();
-            norm = norm.saturating_add(u128::from(size) * u128::from(size));
-        }
-        norm
-    }
-
-    // The direction of a row that has so many jobs, where it was another one.
-    fn turned(self, jobs: i64, old: i64) -> i64 {
-        let here = jobs.saturating_sub(self.machines).saturating_mul(UNIT);
-        let new = here.saturating_mul(self.share);
-        let rest = old.saturating_mul(WHOLE.saturating_sub(self.share));
-        new.saturating_add(rest) / WHOLE
-    }
+// The direction of a row that has so many jobs too many, where it was another one.
+fn turned(over: i64, old: i64) -> i64 {
+    let new = over.saturating_mul(UNIT).saturating_mul(SHARE);
+    let rest = old.saturating_mul(WHOLE - SHARE);
+    new.saturating_add(rest) / WHOLE
 }
 
 // By how much a direction of 1 changes a price, over LENGTH.
 fn factor_of(gap: i128, pace: Pace, norm: u128) -> i64
     requires { 0 < norm }
 {
-    let share = UNIT.saturating_mul(pace.share) / WHOLE;
+    let share = (UNIT * SHARE / WHOLE) as u128;
     let reach = (gap.unsigned_abs()).saturating_mul(u128::from(pace.length.unsigned_abs()));
-    let factor = reach.saturating_mul(u128::from(share.unsigned_abs())) / norm;
+    let factor = reach.saturating_mul(share) / norm;
     i64::try_from(factor).unwrap_or(i64::MAX)
 }
 

@@ -15,14 +15,14 @@ use tf_bound::task::ProblemTask;
 use tf_model::ids::JobId;
 use tf_model::memory::OutOfMemory;
 
-/// The denominator of the prices that a sequence suggests.
-pub const DENOMINATOR: u64 = 1_000;
+/// The denominator of the prices with which a search starts.
+pub const DENOMINATOR: u64 = 1_000_000;
+
+// How many times as small that of coarser prices is.
+const COARSER: u64 = 1_000;
 
 /// The most rows that are priced.
 pub const MOST_ROWS: u64 = 10_000_000;
-
-// How many times as great the denominator of finer prices is.
-const FINER: u64 = 1_000;
 
 /// Prices of the rows from 0 on, over q.
 #[derive(Drop)]
@@ -60,22 +60,24 @@ pub fn prices_by_due<A: Allocator + Copy, B: Allocator>(
     task: &ProblemTask<B>,
     prices: &Prices<A>,
 ) -> Result<Prices<A>, OutOfMemory> {
-    let q = DENOMINATOR * FINER;
-    let rows = due_prices(alloc, task, prices.rows.len(), q)?;
-    Ok(Prices { q, rows })
+    let rows = due_prices(alloc, task, prices.rows.len(), DENOMINATOR)?;
+    Ok(Prices {
+        q: DENOMINATOR,
+        rows,
+    })
 }
 
-/// The same prices over a greater denominator.
-pub fn finer_prices<A: Allocator + Copy>(
+/// The same prices over a thousandth of the denominator, rounded.
+pub fn coarser_prices<A: Allocator + Copy>(
     alloc: A,
     prices: &Prices<A>,
 ) -> Result<Prices<A>, OutOfMemory> {
     let mut rows = vec![in alloc; 0_u64; prices.rows.len()]?;
     for (row, price) in rows.iter_mut().zip(prices.rows.iter()) {
-        *row = price.saturating_mul(FINER);
+        *row = price.saturating_add(COARSER / 2) / COARSER;
     }
     Ok(Prices {
-        q: prices.q.saturating_mul(FINER),
+        q: prices.q / COARSER,
         rows,
     })
 }

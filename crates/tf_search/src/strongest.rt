@@ -12,8 +12,8 @@ use crate::effort::{Effort, Progress};
 use crate::intervals::{crammed_interval, jobs_at_work};
 use crate::machine_search::search_machines;
 use crate::multiplier_search::multiplier_bound;
-use crate::price_search::{Searched, Steps, hasty_search, patient_search, slow_search};
-use crate::price_start::{Prices, finer_prices, prices_by_due, sequence_prices};
+use crate::price_search::{Steps, search_prices};
+use crate::price_start::{Prices, coarser_prices, prices_by_due, sequence_prices};
 use crate::ranked::{Rank, crowd_front, crowded_above, jobs_by_rank, release_dates, window_front};
 use crate::sequence::best_order;
 use crate::windows::{jobs_within, strongest_window};
@@ -43,15 +43,7 @@ const MOST_COUNTED: usize = 500_000;
 const MOST_VISITS: u64 = 500_000_000;
 
 // The steps that a search for prices takes at most, where the caller does not say how many.
-const USUAL_STEPS: u64 = 1_000;
-
-// How many steps may follow these, and how many visits they may take.
-const MORE_STEPS: u64 = 2_000;
-
-const MORE_VISITS: u64 = 150_000_000;
-
-// How many visits the steps may take whose direction turns slowly.
-const SLOW_VISITS: u64 = 1_000_000_000;
+const USUAL_STEPS: u64 = 2_000;
 
 /// A certificate of a task, and its value.
 #[derive(Drop)]
@@ -552,8 +544,8 @@ fn by_prices<A: Allocator + Copy, B: Allocator, P: Progress>(
     requires { IsFalse (is_shop_env task.now.problem.env) }
     ensures { IfOk result (λ best. IfSome best (IsFoundOn task.now)) }
 {
-    let budget = budget_for(task, effort.steps);
-    if budget.first == 0 {
+    let steps = steps_for(task, effort.steps);
+    if steps == 0 {
         return Ok(None);
     }
     let (order, target) = match best_order(alloc, task) {
@@ -564,7 +556,7 @@ fn by_prices<A: Allocator + Copy, B: Allocator, P: Progress>(
     let Some(start) = searched(sequence_prices(alloc, task, &order))? else {
         return Ok(None);
     };
-    let best = from_start(alloc, task, start, target, budget, effort)?;
+    let best = from_start(alloc, task, start, target, steps, effort)?;
     effort.is_over();
     Ok(best)
 }
@@ -575,15 +567,20 @@ fn from_start<A: Allocator + Copy, B: Allocator, P: Progress>(
     task: &ProblemTask<B>,
     start: Prices<A>,
     target: u64,
-    budget: Budget,
+    steps: u32,
     effort: &mut Effort<P>,
 ) -> Result<Option<Found<A>>, OutOfMemory>
     ensures { IfOk result (λ best. IfSome best (IsFoundOn task.now)) }
 {
     if is_by_unit(task.problem().goal) {
-        return by_due_dates(alloc, task, start, target, budget, effort);
+        return by_due_dates(alloc, task, start, target, steps, effort);
     }
-    by_rounds(alloc, task, start, target, budget, effort)
+    let steps = Steps {
+        before: 0,
+        number: steps,
+        all: steps,
+    };
+    by_steps(alloc, task, start, target, steps, effort)
 }
 
 // The value of prices.
@@ -601,95 +598,8 @@ fn judged_prices<A: Allocator + Copy, B: Allocator>(
     judged(alloc, task, certificate)
 }
 
-// A hasty search, and a patient one from its prices with the steps that it left. Where they are far
-// below the target, one whose direction turns slowly as well.
-fn by_rounds<A: Allocator + Copy, B: Allocator, P: Progress>(
-    alloc: A,
-    task: &ProblemTask<B>,
-    start: Prices<A>,
-    target: u64,
-    budget: Budget,
-    effort: &mut Effort<P>,
-) -> Result<Option<Found<A>>, OutOfMemory>
-    ensures { IfOk result (λ best. IfSome best (IsFoundOn task.now)) }
-{
-    let steps = Steps {
-        before: 0,
-        number: budget.first,
-        all: budget.all,
-    };
-    let Some(first) = searched(hasty_search(alloc, task, start, target, steps, effort))? else {
-        return Ok(None);
-    };
-    if first.is_met {
-        return judged_prices(alloc, task, first.prices);
-    }
-    let slow = finer_prices(alloc, &first.prices)?;
-    let best = from_first(alloc, task, first, target, budget, effort)?;
-    if !is_far_below(&best, target) {
-        return Ok(best);
-    }
-    improved(
-        best,
-        by_slow_turns(alloc, task, slow, target, budget, effort),
-    )
-}
-
-// Whether a bound is more than a tenth below the cost of a schedule.
-fn is_far_below<A: Allocator>(best: &Option<Found<A>>, cost: u64) -> bool {
-    value_of(best) < i128::from(cost.saturating_sub(cost / 10))
-}
-
-// The prices of a first search, and a patient one from them with the steps that it left.
-fn from_first<A: Allocator + Copy, B: Allocator, P: Progress>(
-    alloc: A,
-    task: &ProblemTask<B>,
-    first: Searched<A>,
-    target: u64,
-    budget: Budget,
-    effort: &mut Effort<P>,
-) -> Result<Option<Found<A>>, OutOfMemory>
-    ensures { IfOk result (λ best. IfSome best (IsFoundOn task.now)) }
-{
-    let left = Steps {
-        before: first.steps,
-        number: budget.all.saturating_sub(first.steps),
-        all: budget.all,
-    };
-    if left.number == 0 {
-        return judged_prices(alloc, task, first.prices);
-    }
-    let finer = finer_prices(alloc, &first.prices)?;
-    let best = judged_prices(alloc, task, first.prices)?;
-    improved(best, by_patience(alloc, task, finer, target, left, effort))
-}
-
-// A search of long steps whose direction turns slowly.
-fn by_slow_turns<A: Allocator + Copy, B: Allocator, P: Progress>(
-    alloc: A,
-    task: &ProblemTask<B>,
-    start: Prices<A>,
-    target: u64,
-    budget: Budget,
-    effort: &mut Effort<P>,
-) -> Result<Option<Found<A>>, OutOfMemory>
-    ensures { IfOk result (λ best. IfSome best (IsFoundOn task.now)) }
-{
-    if budget.slow == 0 {
-        return Ok(None);
-    }
-    let steps = Steps {
-        before: budget.all,
-        number: budget.slow,
-        all: budget.all.saturating_add(budget.slow),
-    };
-    match searched(slow_search(alloc, task, start, target, steps, effort))? {
-        Some(found) => judged_prices(alloc, task, found.prices),
-        None => Ok(None),
-    }
-}
-
-fn by_patience<A: Allocator + Copy, B: Allocator, P: Progress>(
+// The best prices that steps find from a start, rounded where that costs nothing.
+fn by_steps<A: Allocator + Copy, B: Allocator, P: Progress>(
     alloc: A,
     task: &ProblemTask<B>,
     start: Prices<A>,
@@ -699,44 +609,42 @@ fn by_patience<A: Allocator + Copy, B: Allocator, P: Progress>(
 ) -> Result<Option<Found<A>>, OutOfMemory>
     ensures { IfOk result (λ best. IfSome best (IsFoundOn task.now)) }
 {
-    match searched(patient_search(alloc, task, start, target, steps, effort))? {
-        Some(prices) => judged_prices(alloc, task, prices),
-        None => Ok(None),
-    }
+    let Some(prices) = searched(search_prices(alloc, task, start, target, steps, effort))? else {
+        return Ok(None);
+    };
+    let coarse = coarser_prices(alloc, &prices)?;
+    let best = judged_prices(alloc, task, coarse)?;
+    improved(best, judged_prices(alloc, task, prices))
 }
 
-// A patient search from prices that fall at due dates, and a hasty one from none, unless the former
-// bounds the cost of a known schedule.
+// From prices that fall at due dates, and from none, unless the former bounds the cost of a known
+// schedule.
 fn by_due_dates<A: Allocator + Copy, B: Allocator, P: Progress>(
     alloc: A,
     task: &ProblemTask<B>,
     start: Prices<A>,
     target: u64,
-    budget: Budget,
+    steps: u32,
     effort: &mut Effort<P>,
 ) -> Result<Option<Found<A>>, OutOfMemory>
     ensures { IfOk result (λ best. IfSome best (IsFoundOn task.now)) }
 {
     let least = target.min(known_cost(alloc, task)?);
     let due = prices_by_due(alloc, task, &start)?;
-    let patient = Steps {
+    let first = Steps {
         before: 0,
-        number: budget.all,
-        all: budget.all.saturating_add(budget.first),
+        number: steps,
+        all: steps.saturating_mul(2),
     };
-    let hasty = Steps {
-        before: budget.all,
-        number: budget.first,
-        ..patient
-    };
-    let best = by_patience(alloc, task, due, least, patient, effort)?;
+    let best = by_steps(alloc, task, due, least, first, effort)?;
     if value_of(&best) >= i128::from(least) {
         return Ok(best);
     }
-    let Some(first) = searched(hasty_search(alloc, task, start, target, hasty, effort))? else {
-        return Ok(best);
+    let second = Steps {
+        before: steps,
+        ..first
     };
-    improved(best, judged_prices(alloc, task, first.prices))
+    improved(best, by_steps(alloc, task, start, target, second, effort))
 }
 
 // The cost of a schedule of late jobs that the rule of Moore and Hodgson gives, where it has one.
@@ -751,26 +659,13 @@ fn known_cost<A: Allocator, B: Allocator>(
     Ok(u64::MAX)
 }
 
-// How many steps a hasty search takes, how many it and a patient one, and how many follow whose
-// direction turns slowly.
-#[derive(Clone, Copy)]
-struct Budget {
-    first: u32,
-    all: u32,
-    slow: u32,
-}
-
-// The steps that searches for prices take: those that were asked for, or as many as a moderate
+// The steps that a search for prices takes: those that were asked for, or as many as a moderate
 // number of visits allows.
-fn budget_for<B: Allocator>(task: &ProblemTask<B>, steps: Option<u32>) -> Budget
+fn steps_for<B: Allocator>(task: &ProblemTask<B>, asked: Option<u32>) -> u32
     requires { IsFalse (is_shop_env task.now.problem.env) }
 {
-    if let Some(steps) = steps {
-        return Budget {
-            first: steps,
-            all: steps,
-            slow: 0,
-        };
+    if let Some(steps) = asked {
+        return steps;
     }
     let mut work: u64 = 0;
     let mut last: u64 = 0;
@@ -780,19 +675,5 @@ fn budget_for<B: Allocator>(task: &ProblemTask<B>, steps: Option<u32>) -> Budget
     }
     let rows = last.saturating_add(work / u64::from(task.machines()).max(1));
     let visits = rows.saturating_mul(task.len() as u64).max(1);
-    let first = (MOST_VISITS / visits).min(USUAL_STEPS) as u32;
-    let more = (MORE_VISITS / visits).min(MORE_STEPS) as u32;
-    // A round that is shorter than the first search hardly ever finds more.
-    let all = if more < first {
-        first
-    } else {
-        first.saturating_add(more)
-    };
-    // With fewer steps than these it hardly ever finds more.
-    let slow = if SLOW_VISITS / visits < MORE_STEPS {
-        0
-    } else {
-        MORE_STEPS as u32
-    };
-    Budget { first, all, slow }
+    (MOST_VISITS / visits).min(USUAL_STEPS) as u32
 }

@@ -1,4 +1,4 @@
-use Rattle.std.proofs.Common.{◌≡◌, false, ℕ, ◌+◌, ◌≤◌, ◌++◌, ◌∷◌, [], length, All, List, sym, ap, ◌∙◌, inr, subst, arith}
+use Rattle.std.proofs.Common.{◌≡◌, false, ℕ, ◌+◌, ◌*◌, ◌≤◌, ◌++◌, ◌∷◌, [], length, All, List, sym, ap, ◌∙◌, inr, subst, arith}
 use Rattle.std.proofs.lemmas.List.{length_push}
 use Rattle.std.proofs.lemmas.List.Elements.{All-push}
 use Rattle.tf_model.specs.Limit.{limit}
@@ -49,13 +49,14 @@ loop-k-preserved g c =
           (numerators_more (IsPaidFor k q prices) old x c.loop-k.k c.at.result
           c.loop-k.invariant.len c.at.ensures c.loop-k.invariant.reached
           c.in-Some.ensures.reached j low high);
-      small = subst (λ (v : List ℕ). All (λ y. y ≤ limit) v) (sym is)
-          (All-push (λ y. y ≤ limit) old x c.loop-k.invariant.small c.in-Some.ensures.small);
+      small = subst (λ (v : List ℕ). All (λ y. y ≤ 2 * limit) v) (sym is)
+          (All-push (λ y. y ≤ 2 * limit) old x c.loop-k.invariant.small c.in-Some.ensures.small);
     }
 
 pub returns-clause-cheapest : goal.returns-clause-cheapest
 returns-clause-cheapest g c =
-    c.cheapest_law.ensures c.args.task.now c.args.q c.args.prices.now c.loop-k.cheapest.items
+    (c.cheapest_law.ensures c.args.task.now).up_to_last c.args.q c.args.prices.now
+    c.loop-k.cheapest.items
     (λ j job s low high.
     c.loop-k.invariant.cheapest j job.0
     (omega (arith, job.1, c.len-k-end.ensures.value, c.loop-k-test.false)) s low high)

@@ -1,4 +1,4 @@
-use Rattle.std.proofs.Common.{◌≡◌, false, ℕ, ◌≤◌, length, All}
+use Rattle.std.proofs.Common.{◌≡◌, false, ℕ, ◌*◌, ◌≤◌, length, All}
 use Rattle.tf_model.specs.Limit.{limit}
 use Rattle.tf_problem.specs.ProblemBounds.{numerator}
 use Rattle.tf_bound.specs.Faulted.{is_dear}
@@ -13,5 +13,5 @@ invariant-loop-k g l = record {
       → IsCheapestFor l.task l.q l.prices j (numerator l.cheapest.items j);
   reached : (j : ℕ) → 1 ≤ j → j ≤ l.k
       → IsPaidFor l.task l.q l.prices j (numerator l.cheapest.items j);
-  small : All (λ x. x ≤ limit) l.cheapest.items;
+  small : All (λ x. x ≤ 2 * limit) l.cheapest.items;
 }
