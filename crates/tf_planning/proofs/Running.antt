@@ -1,5 +1,6 @@
 -- Runs that plan a problem, from what was read on.
-use Rattle.std.proofs.Common.{◌≡◌, ℕ, List, Option, Bool, true, Ok, Err, inl, inr}
+use Rattle.std.proofs.Common.{◌≡◌, ℕ, List, Option, Bool, true, Ok, Err, inl, inr, arith}
+use Rattle.std.proofs.lemmas.Int.{ints}
 use Rattle.std.specs.Io.KnownBytes.{Appends}
 use Rattle.tf_problem.specs.ProblemData.{ProblemData}
 use Rattle.tf_text.specs.declared.counted.Counted.{Counted}
@@ -12,7 +13,8 @@ use Rattle.tf_engine.specs.RequestData.{RequestData}
 use Rattle.tf_engine.proofs.Unread.{part_stops, reading_stops}
 use Rattle.tf_bounding.specs.Feasible.{IsCyclicTask}
 use Rattle.tf_bounding.specs.RunBounding.{IsRefusedBound, ReadsProblemTask}
-use Rattle.tf_planning.specs.Planning.{IsUnplannable, StopsPlanning}
+use Rattle.tf_plan.specs.Plan.{IsTooDear}
+use Rattle.tf_planning.specs.Planning.{IsBeyondAnswers, IsUnplannable, StopsPlanning}
 use Rattle.tf_planning.specs.RunPlanning.{IsPlanOf, IsPlanningOf, IsRefusedPlan, Plans, SaysPlan}
 use Rattle.tf_planning.specs.declared.writing.Planned.{Planned}
 
@@ -20,7 +22,15 @@ use Rattle.tf_planning.specs.declared.writing.Planned.{Planned}
 untasked : (request : RequestData) (text : List ℕ) (refused : Refused)
     → IsRefusedBound request text refused → IsRefusedPlan request text refused
 untasked request text refused (inl h) = inl h
-untasked request text refused (inr (same, (task, is, large))) = inr (task, is, inr same)
+untasked request text refused (inr (same, (task, is, large))) = inr (task, is, inr (same, inl large))
+
+-- a cost of 2^127 or more is beyond any answer
+pub dear_stops : (k : ProblemData) → IsTooDear k → IsBeyondAnswers k
+dear_stops k dear = record {
+  rows = dear.rows;
+  fits = dear.fits;
+  beyond = inr (omega (arith, ints, dear.dear));
+}
 
 -- a cycle of the arcs is why there is no plan
 pub cyclic_stops : (k : ProblemData) (s : Stop) → StopsBy (IsCyclicTask k) s → StopsPlanning k s

@@ -1,5 +1,6 @@
 //! Plans, written.
-ghost use Rattle.std.specs.Prelude.{◌≡◌, ◌++◌, ℤ, List, length, IfOk, MatchResult, OnOk};
+ghost use Rattle.std.specs.Prelude.{◌≡◌, ◌++◌, ℤ, List, length, IfOk, IfSome, IfNone, MatchResult};
+ghost use Rattle.std.specs.Prelude.{OnOk};
 ghost use Rattle.tf_words.specs.Words.{lines};
 ghost use Rattle.tf_engine.specs.Faults.{stop_of};
 ghost use Rattle.tf_problem.specs.ProblemCost.{IsProblemBest};
@@ -11,7 +12,7 @@ ghost use Rattle.tf_search.specs.Strongest.{IsFound};
 ghost use Rattle.tf_text.specs.AnswerText.{answer_text};
 ghost use Rattle.tf_text.specs.Counted.{inner_of};
 ghost use Rattle.tf_text.specs.declared.answer.layout.Layout.TheVariants.{Two};
-ghost use Rattle.tf_planning.specs.Planning.{StopsPlanning};
+ghost use Rattle.tf_planning.specs.Planning.{IsBeyond, StopsPlanning};
 ghost use Rattle.tf_planning.specs.PlanText.{comment, comments, distance, plan_sheet, remarks};
 ghost use Rattle.tf_planning.specs.PlanText.{standing_of};
 
@@ -57,16 +58,25 @@ pub(crate) fn standing_of<A: Allocator>(value: i128, found: &Found<A>) -> Planne
     }
 }
 
+// The value, where an answer can say it.
+fn narrowed(value: i128) -> Option<i64>
+    ensures same { IfSome result (λ narrow. narrow ≡ value) }
+    ensures beyond { IfNone result (IsBeyond value) }
+{
+    i64::try_from(value).ok()
+}
+
 /// What the answer text of a plan says.
 pub(crate) fn sheet_of<A: Allocator + Copy, B: Allocator>(
     alloc: A,
     task: &ProblemTask<B>,
     plan: &Plan<A>,
 ) -> Result<Sheet<A>, RunFault<A>>
+    requires { IsPlan task.now plan.now.schedule plan.now.value }
     ensures { MatchResult result (λ sheet. sheet ≡ plan_sheet task.now (length task.now.jobs)
         plan.now.schedule plan.now.value) (λ e. StopsPlanning task.now (stop_of e)) }
 {
-    let Ok(value) = i64::try_from(plan.value) else {
+    let Some(value) = narrowed(plan.value) else {
         return Err(RunFault::Task(Refusal::TotalTooLarge));
     };
     let pieces = copied(alloc, plan.schedule.pieces())?;

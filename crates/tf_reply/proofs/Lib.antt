@@ -1,4 +1,5 @@
 mod Granted
+mod Listed
 mod Narrows
 mod Over
 mod Replied

@@ -1,11 +1,14 @@
 -- How a command over texts in memory ends.
-use Rattle.std.specs.Prelude.{◌≡◌, ◌≢◌, ℕ, ◌⊎◌, List, [], None, Some, Ok}
+use Rattle.std.specs.Prelude.{◌≡◌, ◌≢◌, ℕ, ◌⊎◌, List, [], None, Some, Ok, Err}
 use Rattle.tf_listing.specs.Listing.{listing}
 use Rattle.tf_listing.specs.declared.listing.Listed.TheVariants.{Solved}
 use Rattle.tf_model.specs.InstanceData.{InstanceData}
 use Rattle.tf_read.specs.JobTable.{job_table}
 use Rattle.tf_text.specs.Counted.{DeviceUse, inner_of}
 use Rattle.tf_engine.specs.declared.fault.RunFault.{RunFault}
+use Rattle.tf_engine.specs.Faults.{Refused, Refuses, stop_of}
+use Rattle.tf_engine.specs.FormData.{InTable}
+use Rattle.tf_engine.specs.Parts.{instance_said}
 use Rattle.tf_command.specs.FaultLine.{fault_line}
 use Rattle.tf_reply.specs.declared.reply.Reply.{Reply}
 
@@ -70,10 +73,13 @@ pub record IsOverBoth
   pub ends : Ends reader answer_reader writer (λ line. errors ≡ line) status
   pub memory : HadMemory status
 
--- a table is refused with the line of a fault, and nothing is printed
+-- a table is refused with the line of what is wrong with it, and nothing is printed
 pub record IsTableRefused (A : Type 0) (table output errors : List ℕ) (status : ℕ) : Type 0 where
   pub given : table ≢ []
+  pub refused : Refused
+  pub wanted : instance_said InTable table ≡ Err refused
   pub fault : RunFault A
+  pub because : stop_of fault ≡ Refuses refused
   pub line : errors ≡ fault_line fault
   pub ends : status ≡ 2
   pub unprinted : output ≡ []

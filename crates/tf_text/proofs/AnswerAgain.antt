@@ -418,3 +418,8 @@ pub read_again : (text : List ℕ) (s : SheetData) → sheet_of (kept_lines 1 (l
 unfolding answer_in
 read_again text s says short =
     let fits : ltb most_bytes (length text) ≡ false = le-ltb _ _ short in rw fits says
+
+-- the text of a sheet is read as that sheet
+pub text_again : (layout : Layout) (s : SheetData) → IsReadable layout s
+    → length (answer_text layout s) ≤ most_bytes → answer_in (answer_text layout s) ≡ Ok s
+text_again layout s is short = read_again (answer_text layout s) s (lines_again layout s is) short

@@ -304,10 +304,10 @@ pub fn write_answer<A: Allocator + Copy, M: Allocator, W: Write>(
     ensures failed_before { has_failed writer.old ≡ true →
         IsErr result × (writer.new ≡ writer.old) }
 
-    // What was written is read as the sheet.
-    ensures round_trip { OnOk result (IsReadable layout sheet.now →
+    // Whatever comes of it, the text of a sheet is read as that sheet.
+    ensures round_trip { IsReadable layout sheet.now →
         length (answer_text layout sheet.now) ≤ most_bytes →
-        answer_in (answer_text layout sheet.now) ≡ Ok sheet.now) }
+        answer_in (answer_text layout sheet.now) ≡ Ok sheet.now }
 {
     let front = front_text(alloc, sheet, layout)?;
     let back = back_text(alloc, &sheet.answer.certificate, layout)?;

@@ -1,7 +1,7 @@
 use Rattle.std.proofs.Common.{subst, rules}
 use Rattle.std.specs.Io.KnownBytes.{Appends}
 use Rattle.tf_text.specs.Counted.{inner_of, AppendsPrefix}
-use Rattle.tf_text.proofs.AnswerAgain.{lines_again, read_again}
+use Rattle.tf_text.proofs.AnswerAgain.{text_again}
 use Rattle.tf_text.proofs.Written.{parts_joined}
 use Rattle.tf_text.proofs.answer.writing.write_answer.Goals as goal
 
@@ -21,6 +21,14 @@ returns-clause-written g c =
     (g.W.Write.contents (inner_of c.write_around.new.writer))) whole
     c.in_ok-write_around.ensures.written
 
+pub returns-in_err-front-clause-round_trip : goal.returns-in_err-front-clause-round_trip
+returns-in_err-front-clause-round_trip g c = text_again c.args.layout c.args.sheet.now
+
+pub returns-in_err-back-clause-round_trip : goal.returns-in_err-back-clause-round_trip
+returns-in_err-back-clause-round_trip g c = text_again c.args.layout c.args.sheet.now
+
+pub returns-in_err-write_around-clause-round_trip : goal.returns-in_err-write_around-clause-round_trip
+returns-in_err-write_around-clause-round_trip g c = text_again c.args.layout c.args.sheet.now
+
 pub returns-clause-round_trip : goal.returns-clause-round_trip
-returns-clause-round_trip g c readable short =
-    read_again _ _ (lines_again c.args.layout c.args.sheet.now readable) short
+returns-clause-round_trip g c = text_again c.args.layout c.args.sheet.now
