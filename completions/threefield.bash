@@ -37,7 +37,7 @@ _threefield() {
     bound) COMPREPLY=($(compgen -W "$instance --steps --json" -- "$word")) ;;
     trace) COMPREPLY=($(compgen -W "$instance --tex" -- "$word")) ;;
     check) COMPREPLY=($(compgen -W "$instance --json" -- "$word")) ;;
-    evaluate) COMPREPLY=($(compgen -W "$instance --certificate --measures --bound --steps --order --rule --orders --grade --summary --schedule --json --csv" -- "$word")) ;;
+    evaluate) COMPREPLY=($(compgen -W "$instance --certificate --tex --measures --bound --steps --order --rule --orders --grade --summary --schedule --json --csv" -- "$word")) ;;
     gantt) COMPREPLY=($(compgen -W "--columns --svg --fold --from --to --width --height --size --input --format --jobs --index --name --pair --explain --output --help" -- "$word")) ;;
     random) COMPREPLY=($(compgen -W "--problem --jobs --machines --seed --max --output --help" -- "$word")) ;;
     problems) COMPREPLY=($(compgen -W "--bounds --border --json --output --help" -- "$word")) ;;

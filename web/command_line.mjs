@@ -45,6 +45,7 @@ const COMMANDS = {
   evaluate: [...INSTANCE, { name: "--certificate" },
     { name: "--bound", value: "FILE", rivals: [...SCHEDULES, "--certificate"], isBuiltOnly: true },
     { ...STEPS, rivals: SCHEDULES, isBuiltOnly: true }, JSON_TEXT, CSV,
+    { name: "--tex", isBuiltOnly: true },
     { name: "--measures", rivals: [...SCHEDULES, "--bound", "--json", "--csv"], isBuiltOnly: true },
     inPlaceOfAnswer("--order", "JOBS", ["--rule", "--orders"]),
     { ...inPlaceOfAnswer("--rule", "RULE", ["--orders", "--schedule"]),

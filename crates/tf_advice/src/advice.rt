@@ -38,6 +38,7 @@ pub enum Cause {
     FieldTwice,
     ManyTimes,
     RouteForm,
+    RouteColon,
     NoTime,
     DecimalPoint,
     DecimalComma,
@@ -45,6 +46,7 @@ pub enum Cause {
     Thousands,
     Unit,
     Date,
+    Range,
     Clock,
     NoAscii,
     NotANumber,
@@ -111,7 +113,7 @@ impl Cause {
 }
 
 /// All advice, in the order of the causes.
-pub static ADVICE: [Advice; 50] = [
+pub static ADVICE: [Advice; 52] = [
     Advice {
         cause: Cause::ByteOrderMark,
         place: Place::Heading,
@@ -299,6 +301,12 @@ pub static ADVICE: [Advice; 50] = [
         fix: "Write it as in p=3@2,5@1: 3 time steps on machine 2, and then 5 on machine 1.",
     },
     Advice {
+        cause: Cause::RouteColon,
+        place: Place::Job,
+        wrong: "If this is a route, its steps are TIME@MACHINE, with \"@\" and without a colon.",
+        fix: "Write 3@1 for 3 time steps on machine 1, and the whole route as in p=3@1,5@2.",
+    },
+    Advice {
         cause: Cause::NoTime,
         place: Place::Job,
         wrong: "The job has no processing time.",
@@ -339,6 +347,12 @@ pub static ADVICE: [Advice; 50] = [
         place: Place::Job,
         wrong: "This looks like a date, and times are whole numbers of time steps.",
         fix: "Count the days or hours from the start of the plan; the page in the browser does that.",
+    },
+    Advice {
+        cause: Cause::Range,
+        place: Place::Job,
+        wrong: "This looks like a range, and one number is wanted: a range is no time.",
+        fix: "Write one number, as in p=4: each time is known before the schedule is made.",
     },
     Advice {
         cause: Cause::Clock,

@@ -3,6 +3,7 @@ ghost use Rattle.std.specs.Prelude.{◌<◌, IfSome};
 
 use crate::advice::Cause;
 use crate::number::{fault_of_number, fault_of_size};
+use tf_words::digits::is_numeral;
 use tf_words::number::{Number, number_of};
 use tf_words::part::divided;
 
@@ -103,6 +104,9 @@ fn fault_of_times(value: &[u8]) -> Option<Cause> {
     if value.contains(&b'@') {
         return fault_of_route(value);
     }
+    if has_colon_steps(value) {
+        return Some(Cause::RouteColon);
+    }
     let commas = value.iter().filter(|byte| **byte == b',').count();
     if commas > 1 {
         return Some(Cause::ManyTimes);
@@ -110,6 +114,22 @@ fn fault_of_times(value: &[u8]) -> Option<Cause> {
     value
         .split(|byte| *byte == b',')
         .find_map(|part| fault_of_size(part))
+}
+
+// Whether a value is pairs of numbers with colons, and no one or two times of day.
+fn has_colon_steps(value: &[u8]) -> bool {
+    let mut pairs: usize = 0;
+    let mut is_other = false;
+    for part in value.split(|byte| *byte == b',') {
+        match divided(part, b':') {
+            Some((front, behind)) if is_numeral(front) && is_numeral(behind) => {
+                pairs = pairs.saturating_add(1);
+                is_other = is_other || behind.len() != 2;
+            }
+            _ => return false,
+        }
+    }
+    is_other || pairs > 2
 }
 
 // A route: operations TIME@MACHINE, each on another machine.

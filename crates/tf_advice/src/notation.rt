@@ -3,9 +3,11 @@ use crate::border::{Hard, easy, hardness, is_planned};
 use crate::page::Page;
 use std::alloc::{AllocError, Global};
 use strsim::osa_distance;
+use tf_bound::task::is_taken;
 use tf_listing::listing::{CLASSES, push_problem};
 use tf_model::problem::{Env, Goal, Problem};
 use tf_notation::reading::read;
+use tf_notation::writing::notation_text;
 
 /// What a field may say.
 #[derive(Clone, Copy, PartialEq)]
@@ -51,6 +53,11 @@ const SETUPS: &str = "Setup times are not read.";
 const OPERATIONS: &str = "Numbers of operations are not read.";
 
 const SETS_OF_MACHINES: &str = "Sets of machines for each job are not read.";
+
+const UNIFORM: &str = "Uniform machines need a speed of each machine, which no instance has.";
+
+const UNRELATED: &str =
+    "Unrelated machines need a time of each job on each machine, which no instance has.";
 
 /// Words of the literature that are not read, each with what to write for it.
 static HINTS: [(&str, &str); 37] = [
@@ -337,10 +344,36 @@ pub fn explain_unsolved(alloc: Global, page: &mut Page, problem: &str) -> Result
     if let Some(reason) = reason_of(&asked) {
         page.say(reason)?;
     }
+    say_identical(alloc, page, &asked)?;
     say_border(page, &asked)?;
     page.say("Nearest to it of those that are solved:")?;
     push_nearest(alloc, page, &asked)?;
     page.say("\"threefield problems\" lists them all.")
+}
+
+// What machines that are not identical would need, and the problem of identical ones.
+fn say_identical(alloc: Global, page: &mut Page, asked: &Problem) -> Result<(), AllocError> {
+    let needs = match asked.env {
+        Env::Uniform => UNIFORM,
+        Env::Unrelated => UNRELATED,
+        _ => return Ok(()),
+    };
+    page.say(needs)?;
+    let identical = Problem {
+        env: Env::Parallel,
+        ..*asked
+    };
+    if !is_taken(&identical) {
+        return Ok(());
+    }
+    let Ok(notation) = notation_text(alloc, &identical) else {
+        return Err(AllocError);
+    };
+    let notation = notation.as_str();
+    writeln!(
+        page.text,
+        "For identical machines, as in {notation}, \"threefield plan\" prints a schedule."
+    )
 }
 
 // Whether it is polynomial or NP-hard, where that is known here.
@@ -434,10 +467,26 @@ fn has_more(problem: &Problem) -> bool {
     release || prec || nwt || block || rcrc
 }
 
+// In how much other machines differ.
+fn environment_distance(one: Env, other: Env) -> usize {
+    if is_parallel(one) && is_parallel(other) {
+        2
+    } else {
+        4
+    }
+}
+
+fn is_parallel(env: Env) -> bool {
+    matches!(env, Env::Parallel | Env::Uniform | Env::Unrelated)
+}
+
 /// In how much two problems differ.
 fn distance(one: &Problem, other: &Problem) -> usize {
     let parts = [
-        (one.env != other.env, 4),
+        (
+            one.env != other.env,
+            environment_distance(one.env, other.env),
+        ),
         (one.goal != other.goal, 3),
         (one.release != other.release, 2),
         (one.prec != other.prec, 2),

@@ -1,5 +1,6 @@
 //! Why a word of a table is no number of its place.
 use crate::advice::Cause;
+use tf_words::digits::is_numeral;
 use tf_words::number::{Number, number_of};
 
 /// What is wrong with a number that has to be at least 0, if something is.
@@ -35,6 +36,8 @@ fn cause_of_no_number(word: &[u8]) -> Cause {
         Cause::Unit
     } else if is_among(word, b":") {
         Cause::Clock
+    } else if is_range(word) {
+        Cause::Range
     } else if is_date(word) {
         Cause::Date
     } else if word.iter().any(|byte| *byte >= 128) {
@@ -42,6 +45,24 @@ fn cause_of_no_number(word: &[u8]) -> Cause {
     } else {
         Cause::NotANumber
     }
+}
+
+// Whether the word is two numbers with a dash or dots between them.
+fn is_range(word: &[u8]) -> bool {
+    let digits = digits_of(word);
+    let rest = word.get(digits..).unwrap_or(&[]);
+    let marks = rest
+        .iter()
+        .take_while(|byte| !byte.is_ascii_digit())
+        .count();
+    let mark: &[u8] = rest.get(..marks).unwrap_or(&[]);
+    let behind = rest.get(marks..).unwrap_or(&[]);
+    digits > 0 && matches!(mark, b"-" | b".." | b"...") && is_numeral(behind)
+}
+
+// How many digits a word begins with.
+fn digits_of(word: &[u8]) -> usize {
+    word.iter().take_while(|byte| byte.is_ascii_digit()).count()
 }
 
 // Whether the word is three numbers with a mark between each two.

@@ -99,6 +99,16 @@ pub fn quote_pieces(
     Ok(())
 }
 
+/// Says from where jobs and machines are counted, where a line `piece` counts one from 0.
+pub fn say_zero(page: &mut Page, line: &SourceLine<'_>) -> Result<(), AllocError> {
+    let front = Front::new(line.bytes);
+    let is_piece = front.word(0).is_some_and(|word| is(word.bytes, b"piece"));
+    if is_piece && (front.value(1) == Some(0) || front.value(2) == Some(0)) {
+        return page.say("Jobs and machines are counted from 1, and times from 0.");
+    }
+    Ok(())
+}
+
 /// How many time steps the pieces of a job are together.
 pub fn steps_of(source: &Source<'_>, job: u32) -> i64 {
     let mut steps: i64 = 0;

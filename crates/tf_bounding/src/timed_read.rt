@@ -97,8 +97,8 @@ fn job_shop_timed<A: Allocator + Copy, R: Read>(
     Ok(TimedInstance::routed(routed))
 }
 
-// A job table with the routes of its jobs.
-fn routed_table_read<A: Allocator + Copy, R: Read>(
+/// A job table with the routes of its jobs.
+pub fn routed_table_read<A: Allocator + Copy, R: Read>(
     alloc: A,
     reader: &mut Counted<R>,
 ) -> Result<RoutedInstance<A>, RunFault<A>>
@@ -109,8 +109,8 @@ fn routed_table_read<A: Allocator + Copy, R: Read>(
     Ok(read_routed_table(alloc, text.as_slice())?)
 }
 
-// The instance of this name of a job shop file, with the routes of its jobs.
-fn job_shop_read<A: Allocator + Copy, R: Read>(
+/// The instance of this name of a job shop file, with the routes of its jobs.
+pub fn job_shop_read<A: Allocator + Copy, R: Read>(
     alloc: A,
     name: &[u8],
     reader: &mut Counted<R>,

@@ -548,6 +548,7 @@ fn check<R: Read, S: Read, W: Write, E: Write>(
             request: &request,
         };
         ended.tell_checked(&run, instance.inner(), answer.inner(), &mut console.errors);
+        ended.tell_bound(&run, &mut console.errors);
     }
     status
 }

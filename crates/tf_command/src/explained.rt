@@ -212,7 +212,7 @@ impl Ended<'_> {
     }
 
     /// Says what else there is for a problem that has no solver.
-    pub fn tell_bound<E: Write>(&self, run: &Result<(), RunFault>, errors: &mut Counted<E>) {
+    pub fn tell_bound<T, E: Write>(&self, run: &Result<T, RunFault>, errors: &mut Counted<E>) {
         if let Err(RunFault::Task(Refusal::NoSolver)) = run {
             let _ = errors.push_all(MAY_BE_BOUNDED.as_bytes());
         }
@@ -254,7 +254,13 @@ impl Ended<'_> {
                 }
                 Ok(_) => {
                     let answer = told.answer.as_ref();
-                    explain::fit(self.alloc, self.request, &told.instance, answer)
+                    explain::fit(
+                        self.alloc,
+                        self.request,
+                        &told.instance,
+                        answer,
+                        self.telling.style,
+                    )
                 }
                 Err(fault) => told.refused(self.alloc, fault, self.request),
             };
@@ -289,7 +295,13 @@ impl Ended<'_> {
     fn fit_rated(&self, form: OrderForm, told: &Told<'_>) -> Result<String, AllocError> {
         match self.rated_pieces(form, told) {
             Some(pieces) => {
-                explain::fit_pieces(self.alloc, self.request, &told.instance, pieces)
+                explain::fit_pieces(
+                    self.alloc,
+                    self.request,
+                    &told.instance,
+                    pieces,
+                    self.telling.style,
+                )
             }
             None => Ok(String::new(self.alloc)),
         }

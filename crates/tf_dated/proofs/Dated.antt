@@ -17,10 +17,11 @@ use Rattle.tf_engine.specs.declared.fault.RunFault.TheVariants.{Device}
 use Rattle.tf_engine.specs.Drawing.{IsOfPieces}
 use Rattle.tf_engine.specs.Faults.{stop_of}
 use Rattle.tf_engine.specs.FormData.{FormData}
-use Rattle.tf_engine.specs.Parts.{ReadsSheet, ReadsTo, StopsBy, instance_said}
+use Rattle.tf_engine.specs.Parts.{ReadsSheet, ReadsTo, StopsBy}
 use Rattle.tf_engine.specs.Checking.{IsOfAnswer}
 use Rattle.tf_engine.proofs.Unread.{part_stops, reading_stops}
 use Rattle.tf_dated.specs.Dates.{dates_in}
+use Rattle.tf_dated.specs.DatedInstance.{dated_said}
 use Rattle.tf_dated.specs.Dated.{IsDated, IsDatedOver, IsDatedRunOf, IsDrawnSheet, IsForJobs, IsRefusedDated}
 use Rattle.tf_picture.specs.Picture.{IsDatedPicture}
 use Rattle.tf_dated.specs.declared.run_dated.Pictured.{Pictured}
@@ -44,7 +45,7 @@ module _ (A T : Type 0) (view : View) (form : FormData) (remaining : T → Optio
     (old new : Counted T) (answer : DeviceUse) where
   -- nothing is written where there is no instance
   pub unread : (held : Option (List ℕ)) (writer : Bool) (e : RunFault A)
-      → ReadsTo (instance_said form) remaining old new (Err e)
+      → ReadsTo (dated_said form) remaining old new (Err e)
       → IsDatedRunOf view form (use_of remaining old new) answer (unused held writer) (Err e)
   unread held writer e had = record {
     text = had.text;
@@ -54,7 +55,7 @@ module _ (A T : Type 0) (view : View) (form : FormData) (remaining : T → Optio
 
   -- otherwise the run is over the instance
   pub over : (i : InstanceData) (writer : DeviceUse) (result : Result Pictured (RunFault A))
-      → ReadsTo {A = A} (instance_said form) remaining old new (Ok i)
+      → ReadsTo {A = A} (dated_said form) remaining old new (Ok i)
       → IsDatedOver view i answer writer result
       → IsDatedRunOf view form (use_of remaining old new) answer writer result
   over i writer result had rest = record {

@@ -3,6 +3,9 @@ use Rattle.std.proofs.Common.{◌≡◌, ℕ, true, false, List, Option, None, S
 use Rattle.tf_model.specs.InstanceData.{InstanceData}
 use Rattle.tf_model.specs.declared.problem.Problem.{Problem}
 use Rattle.tf_read.specs.declared.fault.ReadFault.{ReadFault}
+use Rattle.tf_routes.specs.JobShop.{job_shop}
+use Rattle.tf_routes.specs.RoutedData.{RoutedData}
+use Rattle.tf_routes.specs.RoutedTable.{routed_table}
 use Rattle.tf_schedule.specs.declared.piece.Piece.{Piece}
 use Rattle.tf_text.specs.declared.counted.Counted.{Counted}
 use Rattle.tf_text.specs.Counted.{has_failed}
@@ -12,12 +15,13 @@ use Rattle.tf_engine.specs.declared.fault.RunFault.TheVariants.{Device}
 use Rattle.tf_engine.specs.Devices.{LeavesReader, LeavesInstance, LeavesBoth, LeavesDrawing, LeavesCase}
 use Rattle.tf_engine.specs.Drawing.{IsOfPieces}
 use Rattle.tf_engine.specs.Faults.{Refused, ByText, Stop, Refuses, Fails, Wants, is_on_answer, is_on_instance, stop_of, end_of}
-use Rattle.tf_engine.specs.FormData.{FormData}
-use Rattle.tf_engine.specs.Parts.{ReadsSheet, ReadsTo, StopsBy, StopsReading, instance_said}
+use Rattle.tf_engine.specs.FormData.{FormData, InTable, InWt, InFlow}
+use Rattle.tf_engine.specs.Parts.{ReadsSheet, ReadsTo, StopsBy, StopsReading}
 use Rattle.tf_engine.specs.Checking.{IsOfAnswer}
 use Rattle.tf_engine.specs.Refusal.{refused_by, instance_in}
 use Rattle.tf_engine.proofs.CaseRead.{instance_left}
 use Rattle.tf_engine.proofs.Devices.{reader_sound, reader_later, instance_sound, instance_later, stopped, cut, wrote}
+use Rattle.tf_dated.specs.DatedInstance.{dated_said, without_routes}
 use Rattle.tf_dated.specs.Leaving.{LeavesBeside, LeavesDated}
 use Rattle.tf_dated.specs.declared.run_dated.Pictured.{Pictured}
 use Rattle.tf_dated.specs.declared.run_dated.Pictured.TheVariants.{Drawn, OtherTask}
@@ -28,11 +32,25 @@ text_first : (r : Result InstanceData ReadFault) (refused : Refused)
 text_first (Ok i) refused e = cc
 text_first (Err fault) refused e = let is : refused ≡ ByText fault = cc in rw is refl
 
+routes_first : (r : Result RoutedData ReadFault) (refused : Refused)
+    → without_routes (refused_by ByText r) ≡ Err refused → is_on_answer (Refuses refused) ≡ false
+routes_first (Ok i) refused e = cc
+routes_first (Err fault) refused e = let is : refused ≡ ByText fault = cc in rw is refl
+
+refused_first : (form : FormData) (text : List ℕ) (refused : Refused)
+    → dated_said form text ≡ Err refused → is_on_answer (Refuses refused) ≡ false
+refused_first InTable text refused h = routes_first (routed_table text) refused h
+refused_first (InWt jobs index) text refused h =
+    text_first (instance_in (InWt jobs index) text) refused h
+refused_first (InFlow name (Some pair)) text refused h =
+    text_first (instance_in (InFlow name (Some pair)) text) refused h
+refused_first (InFlow name None) text refused h = routes_first (job_shop name text) refused h
+
 instance_first : (form : FormData) (text : List ℕ) (R : Type 0) (s : Stop)
-    → StopsReading (λ refused. instance_said form text ≡ Err refused) R s → is_on_answer s ≡ false
+    → StopsReading (λ refused. dated_said form text ≡ Err refused) R s → is_on_answer s ≡ false
 instance_first form text R Fails h = refl
 instance_first form text R Wants h = refl
-instance_first form text R (Refuses refused) h = text_first (instance_in form text) refused h
+instance_first form text R (Refuses refused) h = refused_first form text refused h
 
 -- and none of the answer or of its pieces is for the instance's sake
 answer_last : (text : List ℕ) (R : Type 0) (s : Stop) → StopsReading (IsOfAnswer text) R s
@@ -99,13 +117,13 @@ module _ (A T U V : Type 0) (form : FormData) (remaining : T → Option (List �
     (old new : Counted T) (giving : U → Option (List ℕ)) (before : Counted U) (held : Counted V)
   where
     -- no instance was read
-    pub unread_leaves : (e : RunFault A) → ReadsTo (instance_said form) remaining old new (Err e)
+    pub unread_leaves : (e : RunFault A) → ReadsTo (dated_said form) remaining old new (Err e)
         → LeavesDated remaining old new giving before before held held (Err e)
     unread_leaves e had problem =
         stopped (LeavesBoth (Ok problem) remaining old new giving before before)
         ((has_failed new ≡ true) ⊎ (has_failed before ≡ true)) held (stop_of e)
         (record {
-          instance = instance_left (Ok problem) problem (instance_said form) remaining old new
+          instance = instance_left (Ok problem) problem (dated_said form) remaining old new
               (Err e) refl had;
           answer = inl (
             refl,
@@ -114,10 +132,10 @@ module _ (A T U V : Type 0) (form : FormData) (remaining : T → Option (List �
         })
 
     module _ (after : Counted U) (written : Counted V) (i : InstanceData)
-        (had : ReadsTo {A = A} (instance_said form) remaining old new (Ok i)) where
+        (had : ReadsTo {A = A} (dated_said form) remaining old new (Ok i)) where
       instance : (problem : Problem) → LeavesInstance (Ok problem) remaining old new None
       instance problem =
-          instance_left {A = A} (Ok problem) problem (instance_said form) remaining old new (Ok i)
+          instance_left {A = A} (Ok problem) problem (dated_said form) remaining old new (Ok i)
           refl had
 
       -- one was, and the rest of the run is over it

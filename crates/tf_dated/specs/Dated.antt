@@ -12,10 +12,11 @@ use Rattle.tf_engine.specs.declared.fault.RunFault.{RunFault}
 use Rattle.tf_engine.specs.Drawing.{IsOfPieces}
 use Rattle.tf_engine.specs.Faults.{Refused, stop_of}
 use Rattle.tf_engine.specs.FormData.{FormData}
-use Rattle.tf_engine.specs.Parts.{StopsReading, instance_said}
+use Rattle.tf_engine.specs.Parts.{StopsReading}
 use Rattle.tf_engine.specs.Checking.{IsOfAnswer}
 use Rattle.tf_engine.specs.Runs.{Leaves}
 use Rattle.tf_dated.specs.Dates.{dates_in}
+use Rattle.tf_dated.specs.DatedInstance.{dated_said}
 use Rattle.tf_picture.specs.Picture.{IsDatedPicture}
 use Rattle.tf_dated.specs.declared.run_dated.Pictured.{Pictured}
 use Rattle.tf_dated.specs.declared.run_dated.Pictured.TheVariants.{Drawn, OtherTask}
@@ -81,7 +82,7 @@ pub record IsDatedOver {A : Type 0} (view : View) (i : InstanceData) (reader wri
 pub record IsStoppedBefore {A : Type 0} (form : FormData) (text : List ℕ)
     (instance writer : DeviceUse) (result : Result Pictured (RunFault A)) : Type 0 where
   pub stopped : MatchResult result (λ pictured. ⊥)
-      (λ e. StopsReading (λ refused. instance_said form text ≡ Err refused)
+      (λ e. StopsReading (λ refused. dated_said form text ≡ Err refused)
       (instance.failed ≡ true) (stop_of e))
   pub unwritten : Keeps writer.before writer.after
 
@@ -89,7 +90,7 @@ pub record IsStoppedBefore {A : Type 0} (form : FormData) (text : List ℕ)
 pub record IsDatedBy {A : Type 0} (view : View) (form : FormData) (text : List ℕ)
     (answer writer : DeviceUse) (result : Result Pictured (RunFault A)) : Type 0 where
   pub i : InstanceData
-  pub said : instance_said form text ≡ Ok i
+  pub said : dated_said form text ≡ Ok i
   pub rest : IsDatedOver view i answer writer result
 
 -- The run is over the instance of a text, which is all bytes of the reader up to its end where they

@@ -8,10 +8,10 @@ ghost use Rattle.tf_engine.specs.Parts.{StopsBy};
 ghost use Rattle.tf_dated.specs.Dated.{IsDatedOver, IsDatedRunOf, IsDrawnSheet, IsForJobs};
 ghost use Rattle.tf_dated.specs.Leaving.{LeavesBeside, LeavesDated};
 
+use crate::dated_read::dated_read;
 use crate::dates::dates_of;
 use std::alloc::{Allocator, Global};
 use std::io::{Read, Write};
-use tf_bounding::instance_read::instance_read;
 use tf_engine::fault::RunFault;
 use tf_engine::request::Form;
 use tf_engine::schedule_said::schedule_said;
@@ -60,7 +60,7 @@ pub fn run_dated<A: Allocator + Copy, B: Allocator, R: Read, S: Read, W: Write>(
     ensures devices { LeavesDated R.remaining instance.old instance.new S.remaining answer.old
         answer.new writer.old writer.new result }
 {
-    let instance = instance_read(alloc, asked.form, instance)?;
+    let instance = dated_read(alloc, asked.form, instance)?;
     draw_beside(alloc, asked.view, &instance, answer, writer)
 }
 

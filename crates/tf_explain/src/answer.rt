@@ -3,7 +3,7 @@ use crate::text::say_more;
 use std::alloc::AllocError;
 use tf_advice::advice::EXCHANGED;
 use tf_advice::page::Page;
-use tf_advice::piece_lines::{Pieces, quote_pieces};
+use tf_advice::piece_lines::{Pieces, quote_pieces, say_zero};
 use tf_advice::source::{Front, Source};
 use tf_advice::tardiness::is_table;
 use tf_model::limit::{LIMIT, MOST_BYTES, MOST_JOBS, MOST_MACHINES};
@@ -136,6 +136,7 @@ fn explain_line(page: &mut Page, source: &Source<'_>, number: usize) -> Result<(
         )?;
     } else {
         page.say(form_of(first))?;
+        say_zero(page, &line)?;
     }
     page.say(ORDER)
 }

@@ -1,10 +1,13 @@
-//! A critical path of the schedule of a job shop, and how much later its other operations can start.
+//! A critical path of the schedule of a job shop or a flow shop, and how much later its other
+//! operations can start.
+use crate::critical_tables::push_tables;
 use std::alloc::{AllocError, Global};
 use tf_advice::page::Page;
 use tf_bound::task::ProblemTask;
 use tf_model::ids::JobId;
 use tf_model::problem::{Env, Goal};
 use tf_schedule::piece::Piece;
+use tf_trace::board::Style;
 
 /// The most operations of a schedule that is gone through.
 const MOST_OPERATIONS: usize = 400;
@@ -14,7 +17,7 @@ const MOST_LISTED: usize = 40;
 
 /// Why an operation does not start earlier.
 #[derive(Clone, Copy)]
-enum Reason {
+pub(crate) enum Reason {
     /// Its job is in this operation until then.
     Job(Piece),
     /// Its machine is in this operation until then.
@@ -29,18 +32,43 @@ enum Reason {
 
 /// An operation of a critical path.
 #[derive(Clone, Copy)]
-struct Step {
-    operation: Piece,
-    reason: Reason,
+pub(crate) struct Step {
+    pub operation: Piece,
+    pub reason: Reason,
 }
 
-/// A critical path of a schedule that fits, with the reason why each of its operations does not start
-/// earlier, and by how much each other operation can start later without a greater value. Only of job
-/// shops whose makespan or maximum lateness is minimized, without preemption and with waiting.
+/// A critical path, and what is said beside it.
+#[derive(Drop)]
+pub(crate) struct Critical {
+    /// In the order of time.
+    pub path: Vec<Step>,
+    /// The makespan or the maximum lateness.
+    pub value: i64,
+    /// The other operations that are listed, each with by how much it can start later.
+    pub others: Vec<(Piece, i64)>,
+}
+
+/// What is said of the path.
+pub(crate) const PATH: &str =
+    "A critical path, each operation with the reason why it starts no earlier:";
+
+/// What is said of a path that begins with the schedule or a release date.
+pub(crate) const IS_LEAST: &str =
+    "No schedule with the same order on each machine has a smaller one.";
+
+/// What is said of the other operations.
+pub(crate) const OTHERS: &str =
+    "By so much can each other operation start later, with the same value:";
+
+/// A critical path of a schedule that fits, with the reason why each of its operations does not
+/// start earlier, and by how much each other operation can start later without a greater value. Only
+/// of job shops and flow shops whose makespan or maximum lateness is minimized, without preemption
+/// and with waiting.
 pub(crate) fn explain_critical(
     page: &mut Page,
     task: &ProblemTask,
     pieces: Vec<Piece>,
+    style: Style,
 ) -> Result<(), AllocError> {
     if !has_critical_path(task) || pieces.len() > MOST_OPERATIONS {
         return Ok(());
@@ -49,15 +77,41 @@ pub(crate) fn explain_critical(
     operations.sort_unstable_by_key(|piece| (piece.start, piece.machine.get()));
     let value = value_of(task, &operations);
     let path = path_to(page.alloc, task, &operations, value)?;
-    say_path(page, &path)?;
-    say_length(page, task, &path, value)?;
-    let latest = latest_starts(page.alloc, task, &operations, value)?;
-    say_others(page, &operations, &latest, &path)
+    let others = others_of(page.alloc, task, &operations, &path, value)?;
+    let found = Critical {
+        path,
+        value,
+        others,
+    };
+    match style {
+        Style::Plain => say_critical(page, task, &found),
+        Style::Latex => push_tables(page, task, &found),
+    }
+}
+
+fn say_critical(page: &mut Page, task: &ProblemTask, found: &Critical) -> Result<(), AllocError> {
+    say_path(page, &found.path)?;
+    push_length(&mut page.text, task, found)?;
+    page.text.push('\n')?;
+    if found.is_tight() {
+        page.say(IS_LEAST)?;
+    }
+    say_others(page, &found.others)
+}
+
+impl Critical {
+    /// Whether the path begins with the schedule or with a release date.
+    pub(crate) fn is_tight(&self) -> bool {
+        match self.path.first() {
+            Some(first) => !matches!(first.reason, Reason::Idle),
+            None => false,
+        }
+    }
 }
 
 fn has_critical_path(task: &ProblemTask) -> bool {
     let problem = task.problem();
-    matches!(problem.env, Env::JobShop)
+    matches!(problem.env, Env::JobShop | Env::Flow)
         && matches!(problem.goal, Goal::Cmax | Goal::Lmax)
         && !problem.prmp
         && !problem.nwt
@@ -154,10 +208,11 @@ fn is_released(task: &ProblemTask, operation: &Piece) -> bool {
 }
 
 fn say_path(page: &mut Page, path: &[Step]) -> Result<(), AllocError> {
-    page.say("A critical path, each operation with the reason why it starts no earlier:")?;
+    page.say(PATH)?;
     for step in path {
         push_operation(page, &step.operation)?;
-        say_reason(page, step)?;
+        push_reason(&mut page.text, step)?;
+        page.text.push('\n')?;
     }
     Ok(())
 }
@@ -171,54 +226,47 @@ fn push_operation(page: &mut Page, operation: &Piece) -> Result<(), AllocError> 
     )
 }
 
-fn say_reason(page: &mut Page, step: &Step) -> Result<(), AllocError> {
+/// Adds why an operation does not start earlier.
+pub(crate) fn push_reason(text: &mut String, step: &Step) -> Result<(), AllocError> {
     let start = step.operation.start;
     match step.reason {
         Reason::Job(before) => {
             let machine = before.machine.get();
-            writeln!(page.text, "the job is on machine {machine} until {start}")
+            write!(text, "the job is on machine {machine} until {start}")
         }
         Reason::Machine(before) => {
             let job = before.job.get();
-            writeln!(
-                page.text,
-                "the machine is busy with job {job} until {start}"
-            )
+            write!(text, "the machine is busy with job {job} until {start}")
         }
         Reason::Arc(before) => {
             let job = before.job.get();
-            writeln!(page.text, "job {job} is completed at {start}")
+            write!(text, "job {job} is completed at {start}")
         }
-        Reason::Release if start == 0 => page.say("the schedule begins"),
-        Reason::Release => writeln!(page.text, "the job is released at {start}"),
-        Reason::Idle => page.say("no reason: it can start earlier"),
+        Reason::Release if start == 0 => text.push_str("the schedule begins"),
+        Reason::Release => write!(text, "the job is released at {start}"),
+        Reason::Idle => text.push_str("no reason: it can start earlier"),
     }
 }
 
-// How long the path is, against the value.
-fn say_length(
-    page: &mut Page,
+/// Adds how long the path is, against the value.
+pub(crate) fn push_length(
+    text: &mut String,
     task: &ProblemTask,
-    path: &[Step],
-    value: i64,
+    found: &Critical,
 ) -> Result<(), AllocError> {
-    let (Some(first), Some(last)) = (path.first(), path.last()) else {
+    let (Some(first), Some(last)) = (found.path.first(), found.path.last()) else {
         return Ok(());
     };
     let (start, stop) = (first.operation.start, last.operation.stop);
-    if matches!(task.problem().goal, Goal::Lmax) {
-        let (job, due) = (last.operation.job.get(), due_of(task, last.operation.job));
-        writeln!(
-            page.text,
-            "It lasts from {start} to {stop}. Job {job} is due at {due}, so the maximum lateness is {value}."
-        )?;
-    } else {
-        writeln!(page.text, "It lasts from {start} to {stop}, the makespan.")?;
+    if !matches!(task.problem().goal, Goal::Lmax) {
+        return write!(text, "It lasts from {start} to {stop}, the makespan.");
     }
-    if matches!(first.reason, Reason::Idle) {
-        return Ok(());
-    }
-    page.say("No schedule with the same order on each machine has a smaller one.")
+    let (job, due) = (last.operation.job.get(), due_of(task, last.operation.job));
+    let value = found.value;
+    write!(
+        text,
+        "It lasts from {start} to {stop}. Job {job} is due at {due}, so the maximum lateness is {value}."
+    )
 }
 
 // ---- the other operations
@@ -260,22 +308,36 @@ fn has_to_follow(task: &ProblemTask, first: &Piece, later: &Piece) -> bool {
         || is_before(task, first.job, later.job)
 }
 
-fn say_others(
-    page: &mut Page,
+// The operations beside the path, each with by how much it can start later; none where there are
+// too many of them.
+fn others_of(
+    alloc: Global,
+    task: &ProblemTask,
     operations: &[Piece],
-    latest: &[i64],
     path: &[Step],
-) -> Result<(), AllocError> {
-    if path.len() >= operations.len() || operations.len() > MOST_LISTED {
+    value: i64,
+) -> Result<Vec<(Piece, i64)>, AllocError> {
+    let mut others = Vec::new(alloc);
+    if operations.len() > MOST_LISTED {
+        return Ok(others);
+    }
+    let latest = latest_starts(alloc, task, operations, value)?;
+    for (operation, latest) in operations.iter().zip(&latest) {
+        if !path.iter().any(|step| step.operation == *operation) {
+            others.push((*operation, latest.saturating_sub(operation.start)))?;
+        }
+    }
+    Ok(others)
+}
+
+fn say_others(page: &mut Page, others: &[(Piece, i64)]) -> Result<(), AllocError> {
+    if others.is_empty() {
         return Ok(());
     }
-    page.say("By so much can each other operation start later, with the same value:")?;
-    for (operation, latest) in operations.iter().zip(latest) {
-        if !path.iter().any(|step| step.operation == *operation) {
-            push_operation(page, operation)?;
-            let slack = latest.saturating_sub(operation.start);
-            writeln!(page.text, "{slack}")?;
-        }
+    page.say(OTHERS)?;
+    for (operation, slack) in others {
+        push_operation(page, operation)?;
+        writeln!(page.text, "{slack}")?;
     }
     Ok(())
 }

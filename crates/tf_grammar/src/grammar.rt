@@ -254,7 +254,7 @@ fn evaluate_command<'a>(alloc: Global) -> Result<Command<'a>, AllocError>
 }
 
 // What is reported of an answer, and in which format.
-fn reported() -> [Row; 6] {
+fn reported() -> [Row; 7] {
     [
         flag(
             "certificate",
@@ -269,6 +269,10 @@ fn reported() -> [Row; 6] {
         steps().without(SCHEDULES.as_slice()),
         json(),
         csv(),
+        flag(
+            "tex",
+            "Writes the critical path that --explain tells for LaTeX",
+        ),
         flag("measures", "Writes the value of every objective too").without(
             AGAINST_MEASURES.as_slice(),
         ),

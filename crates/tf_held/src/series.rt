@@ -33,7 +33,7 @@ use tf_command::source::Sources;
 use tf_evaluate::evaluation::Detail;
 use tf_export::entry::push_entry;
 use tf_model::memory::OutOfMemory;
-use tf_options::options::{Evaluating, FormOption, Idle, Options, Telling};
+use tf_options::options::{Evaluating, FormOption, Options, Telling};
 use tf_options::series::{Series, Told};
 use tf_text::answer::layout::Layout;
 use tf_text::answer::writing::push_number_line;
@@ -298,14 +298,7 @@ fn options_for<'a>(series: &Series<'a>, number: u32) -> Options<'a>
         },
         machines: series.machines,
         input: series.input,
-        telling: Telling {
-            explain: false,
-            idle: Idle {
-                jobs: false,
-                name: false,
-                pair: false,
-            },
-        },
+        telling: Telling::nothing(),
     }
 }
 

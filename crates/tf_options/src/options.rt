@@ -59,7 +59,26 @@ pub struct Options<'a> {
 #[derive(Clone, Copy, Debug)]
 pub struct Telling {
     pub explain: bool,
+    /// How a critical path is written.
+    pub style: Style,
     pub idle: Idle,
+}
+
+impl Telling {
+    /// Nothing is said.
+    pub fn nothing() -> Telling
+        ensures { result.explain ≡ false }
+    {
+        Telling {
+            explain: false,
+            style: Style::Plain,
+            idle: Idle {
+                jobs: false,
+                name: false,
+                pair: false,
+            },
+        }
+    }
 }
 
 /// The options that were given, and that the form of the instance does not use.
@@ -638,6 +657,7 @@ fn options_in<'a>(given: &ArgMatches<'a>, on_terminal: bool) -> Result<Options<'
         input,
         telling: Telling {
             explain: is_explained(given, on_terminal),
+            style: style_in(given),
             idle: idle_in(given, &form),
         },
     })

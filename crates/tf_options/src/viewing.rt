@@ -17,6 +17,7 @@ use clap::ArgMatches;
 use tf_model::limit::LIMIT;
 use tf_picture::view::{Size, View};
 use tf_text::chart::MOST_COLUMNS;
+use tf_trace::board::Style;
 use tf_words::digits::is_numeral;
 use tf_words::ranged::{Ranged, number_in};
 
@@ -79,6 +80,7 @@ fn picturing_in<'a>(
         view,
         telling: Telling {
             explain: is_explained(given, on_terminal),
+            style: Style::Plain,
             idle: idle_in(given, &form),
         },
     })

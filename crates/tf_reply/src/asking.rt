@@ -12,7 +12,7 @@ ghost use Rattle.tf_reply.specs.WellFormed.{IsAllowedForm, IsWellFormed, IsWithi
 
 use tf_evaluate::evaluation::Detail;
 use tf_model::limit::{MOST_JOBS, MOST_MACHINES};
-use tf_options::options::{FormOption, Idle, MOST_STEPS, Options, Telling};
+use tf_options::options::{FormOption, MOST_STEPS, Options, Telling};
 use tf_text::answer::layout::Layout;
 use tf_text::chart::MOST_COLUMNS;
 
@@ -139,14 +139,7 @@ impl Asking {
             form: self.form_option(name)?,
             machines,
             input: "",
-            telling: Telling {
-                explain: false,
-                idle: Idle {
-                    jobs: false,
-                    name: false,
-                    pair: false,
-                },
-            },
+            telling: Telling::nothing(),
         })
     }
 

@@ -21,7 +21,7 @@ const MOST_COLUMNS: usize = 78;
 
 /// What is written so far.
 #[derive(Drop)]
-pub(crate) struct Board {
+pub struct Board {
     pub alloc: Global,
     /// The sentence that is being written.
     pub text: String,
@@ -91,7 +91,8 @@ fn push_paragraph(page: &mut String, alloc: Global, sentence: &str) -> Result<()
 }
 
 impl Board {
-    pub(crate) fn new(alloc: Global, style: Style) -> Self {
+    /// With nothing on it.
+    pub fn new(alloc: Global, style: Style) -> Self {
         Board {
             alloc,
             text: String::new(alloc),
@@ -102,18 +103,18 @@ impl Board {
     }
 
     /// All that is written.
-    pub(crate) fn into_page(self) -> String {
+    pub fn into_page(self) -> String {
         self.page
     }
 
     /// A sentence on a line of its own.
-    pub(crate) fn say(&mut self, sentence: &str) -> Result<(), AllocError> {
+    pub fn say(&mut self, sentence: &str) -> Result<(), AllocError> {
         self.text.push_str(sentence)?;
         self.end_sentence()
     }
 
     /// Ends a sentence: it is written in lines that are not too long.
-    pub(crate) fn end_sentence(&mut self) -> Result<(), AllocError> {
+    pub fn end_sentence(&mut self) -> Result<(), AllocError> {
         match self.style {
             Style::Plain => push_lines(&mut self.page, self.text.as_str())?,
             Style::Latex => push_paragraph(&mut self.page, self.alloc, self.text.as_str())?,
@@ -145,12 +146,7 @@ impl Board {
     }
 
     /// A row of the table, the one at this place of so many, as far as it is shown.
-    pub(crate) fn row(
-        &mut self,
-        place: usize,
-        rows: usize,
-        cells: &[Cell<'_>],
-    ) -> Result<(), AllocError> {
+    pub fn row(&mut self, place: usize, rows: usize, cells: &[Cell<'_>]) -> Result<(), AllocError> {
         match shown(place, rows) {
             Visible::Row => self.table.row(cells),
             Visible::Gap => self.table.gap(),
@@ -159,7 +155,7 @@ impl Board {
     }
 
     /// Writes the table.
-    pub(crate) fn show(&mut self) -> Result<(), AllocError> {
+    pub fn show(&mut self) -> Result<(), AllocError> {
         match self.style {
             Style::Plain => {
                 if !self.page.as_str().ends_with("\n\n") {

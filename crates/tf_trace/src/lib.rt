@@ -13,5 +13,5 @@ mod released;
 pub mod run_trace;
 mod shortened;
 mod smith;
-mod table;
+pub mod table;
 mod trace;

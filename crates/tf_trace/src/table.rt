@@ -10,7 +10,7 @@ const MOST_LINES: usize = 31;
 
 /// A cell of a row.
 #[derive(Clone, Copy)]
-pub(crate) enum Cell<'a> {
+pub enum Cell<'a> {
     Number(i128),
     /// A fraction.
     Ratio(u64, u64),
@@ -19,7 +19,7 @@ pub(crate) enum Cell<'a> {
 
 /// A table as it is written.
 #[derive(Drop)]
-pub(crate) struct Table {
+pub struct Table {
     /// A line for the headings and for each row, with tabs between the cells.
     text: String,
     /// The greatest number of bytes of a cell, column by column.
@@ -40,7 +40,7 @@ impl Table {
     }
 
     /// Begins anew with these headings.
-    pub(crate) fn begin(&mut self, headings: &[&str]) -> Result<(), AllocError> {
+    pub fn begin(&mut self, headings: &[&str]) -> Result<(), AllocError> {
         self.text.clear();
         self.widths = [0; MOST_COLUMNS];
         self.columns = headings.len();
@@ -52,7 +52,7 @@ impl Table {
     }
 
     /// The same, where the last column holds words.
-    pub(crate) fn begin_ragged(&mut self, headings: &[&str]) -> Result<(), AllocError> {
+    pub fn begin_ragged(&mut self, headings: &[&str]) -> Result<(), AllocError> {
         self.begin(headings)?;
         self.is_ragged = true;
         Ok(())
