@@ -5,11 +5,13 @@ use crate::instance::instance_in;
 use crate::refusal::{class_in, explain_refusal};
 use crate::text::explain_text;
 use crate::verdict::{Case, explain_fit, explain_unfit, explain_verdict};
+use crate::worked::explain_rule;
 use std::alloc::{AllocError, Global};
 use std::io;
 use tf_advice::cycle::explain_cycle;
 use tf_advice::notation::explain_notation;
 use tf_advice::page::{Page, escape};
+use tf_advice::piece_lines::say_zero;
 use tf_advice::source::Source;
 use tf_advice::tardiness::explain_rest;
 use tf_advice::unused::explain_unused;
@@ -17,18 +19,24 @@ use tf_bounding::instance_read::task_read;
 use tf_engine::fault::RunFault;
 use tf_engine::request::{Form, Request};
 use tf_engine::run_check::Checked;
-use tf_model::problem::Env;
+use tf_model::problem::{Env, Goal};
 use tf_notation::reading::read;
 use tf_read::fault::ReadFault;
 use tf_schedule::piece::Piece;
 use tf_text::answer::fault::AnswerFault;
 use tf_text::answer::reading::read_answer;
 use tf_text::counted::Counted;
+use tf_trace::board::Style;
 
 /// What is said of an answer at fault whose text was not kept.
 const NOT_KEPT: &str = "\
 The answer is not explained: it is longer than 24 MiB, or there was no memory to keep
 its text beside the instance.";
+
+/// What is said of an order that stands where a file is wanted.
+const IS_ORDER: &str = "\
+This looks like an order of the jobs, and a file is wanted here: \"threefield evaluate\"
+takes an order in place of ANSWER as --order \"3 1 2\".";
 
 /// What is said of an answer that is longer than a text may be.
 const TOO_LONG: &str = "The answer is longer than 67108864 bytes, the most that a text may have.";
@@ -129,6 +137,9 @@ pub fn not_a_line(
     let mut page = Page::new(alloc);
     page.quote_number(source, number as usize)?;
     page.text.push_str(wanted)?;
+    if let Some(line) = source.line(number as usize) {
+        say_zero(&mut page, &line)?;
+    }
     Ok(page.text)
 }
 
@@ -247,8 +258,8 @@ pub fn unfit(
     Ok(page.text)
 }
 
-/// A critical path of an answer that was evaluated and fits, where the problem is one of a job shop and
-/// the answer's text was kept.
+/// The working of the rule that gives the optimum of the problem, and a critical path of an answer
+/// that was evaluated and fits, in a job shop or a flow shop, where the answer's text was kept.
 ///
 /// # Errors
 ///
@@ -258,6 +269,7 @@ pub fn fit(
     request: &Request,
     instance: &Source<'_>,
     answer: Option<&Source<'_>>,
+    style: Style,
 ) -> Result<String, AllocError> {
     let Some(answer) = answer else {
         return Ok(String::new(alloc));
@@ -265,7 +277,7 @@ pub fn fit(
     match read_answer(alloc, answer.text) {
         Ok(sheet) => {
             let pieces = sheet.into_answer().pieces.into_vec();
-            fit_pieces(alloc, request, instance, pieces)
+            fit_pieces(alloc, request, instance, pieces, style)
         }
         Err(_) => Ok(String::new(alloc)),
     }
@@ -281,20 +293,26 @@ pub fn fit_pieces(
     request: &Request,
     instance: &Source<'_>,
     pieces: Vec<Piece>,
+    style: Style,
 ) -> Result<String, AllocError> {
     let mut page = Page::new(alloc);
-    if !is_job_shop(request) {
+    if !may_have_working(request) {
         return Ok(page.text);
     }
     if let Ok(task) = task_read(alloc, request, &mut Counted::new(instance.text)) {
-        explain_critical(&mut page, &task, pieces)?;
+        explain_rule(&mut page, &task, style)?;
+        explain_critical(&mut page, &task, pieces, style)?;
     }
     Ok(page.text)
 }
 
-fn is_job_shop(request: &Request) -> bool {
+// Whether the operations of a job follow one another, or a rule may give the optimum.
+fn may_have_working(request: &Request) -> bool {
     match read(request.problem.as_str().as_bytes()) {
-        Ok(problem) => matches!(problem.env, Env::JobShop),
+        Ok(problem) => {
+            matches!(problem.env, Env::JobShop | Env::Flow)
+                || matches!(problem.goal, Goal::SumU | Goal::SumC)
+        }
         Err(_) => false,
     }
 }
@@ -347,5 +365,19 @@ pub fn not_read(alloc: Global, name: &str, error: &io::Error) -> Result<String, 
     let mut page = Page::new(alloc);
     Source { name, text: b"" }.push_title(&mut page.text)?;
     writeln!(page.text, ": {error}")?;
+    if is_order(name) {
+        page.say(IS_ORDER)?;
+    }
     Ok(page.text)
+}
+
+// Whether a name is numbers with commas or spaces between them.
+fn is_order(name: &str) -> bool {
+    let is_mark = |byte: &u8| matches!(byte, b',' | b' ' | b'/');
+    let bytes = name.as_bytes();
+    bytes.iter().any(|byte| matches!(byte, b',' | b' '))
+        && bytes.first().is_some_and(|byte| byte.is_ascii_digit())
+        && bytes
+            .iter()
+            .all(|byte| byte.is_ascii_digit() || is_mark(byte))
 }

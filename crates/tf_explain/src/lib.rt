@@ -5,8 +5,10 @@
 
 mod answer;
 mod critical;
+mod critical_tables;
 pub mod explain;
 mod instance;
 mod refusal;
 mod text;
 mod verdict;
+mod worked;
