@@ -5,7 +5,8 @@
 
 PROGRAM is the proved program that `rt ci` has built, and LINE the last line of that run, whose counts are added to the
 counts of the checks. Each check prints how many cases passed and failed, or counts as one by its exit status. A check
-that cannot run here, since a browser or node is missing and cannot be installed, is skipped and named.
+that cannot run here, since a browser or node is missing and cannot be installed, or since the browser does not start, is
+skipped and named.
 """
 import glob
 import os
@@ -18,6 +19,8 @@ TOP = os.path.join(os.path.dirname(os.path.abspath(__file__)), "..")
 COUNTS = re.compile(r"^(\d+) passed, (\d+) failed", re.MULTILINE)
 NODE_COUNTS = re.compile(r"^\S+ pass (\d+)\n\S+ fail (\d+)$", re.MULTILINE)
 INSTALL_SECONDS = 900
+# The exit status of web/test.py where the browser does not start.
+NOT_STARTED = 77
 
 
 def has(tools, packages):
@@ -59,6 +62,7 @@ def checks(program):
         ("the page's modules", ["node", "--test", *sorted(glob.glob("web/*_test.mjs", root_dir=TOP))], ("node", "nodejs")),
         ("the page and LibreOffice", ["node", "--test", "web/office.mjs"], ("node soffice", "nodejs libreoffice-calc-nogui")),
         ("the page in a browser", [python, "web/test.py", f"--program={program}"], ("chromium", "chromium")),
+        ("the page in Firefox", [python, "web/test.py", "--firefox"], ("firefox-esr", "firefox-esr")),
     ]
 
 
@@ -72,17 +76,24 @@ def counts_of(done):
 
 
 def run(program, name, words, tries):
-    """Runs a check with the program on the path, and shows what it prints if something is wrong."""
+    """Runs a check with the program on the path, and shows what it prints if something is wrong.
+
+    None where its browser does not start.
+    """
     path = os.path.dirname(program) + os.pathsep + os.environ["PATH"]
     environment = {**os.environ, "PATH": path}
+    found = None
     for _ in range(tries):
         done = subprocess.run(words, cwd=TOP, env=environment, stdout=subprocess.PIPE, stderr=subprocess.STDOUT, text=True)
-        passed, failed = counts_of(done)
-        if not failed:
+        if done.returncode == NOT_STARTED:
+            continue
+        found = counts_of(done)
+        if not found[1]:
             break
         print(done.stdout, end="")
-    print(f"{name}: {passed} passed, {failed} failed", flush=True)
-    return passed, failed
+    counted = f"{found[0]} passed, {found[1]} failed" if found else f"skipped, since {done.stdout.strip()}"
+    print(f"{name}: {counted}", flush=True)
+    return found
 
 
 def main(program, line=""):
@@ -94,8 +105,11 @@ def main(program, line=""):
             skipped += 1
             continue
         # A browser on a busy machine may answer late, so what fails there is tried once more.
-        one, other = run(program, name, words, tries=2 if "web/test.py" in words else 1)
-        passed, failed = passed + one, failed + other
+        found = run(program, name, words, tries=2 if "web/test.py" in words else 1)
+        if found is None:
+            skipped += 1
+            continue
+        passed, failed = passed + found[0], failed + found[1]
     print(f"{passed} passed, {failed} failed, {skipped} skipped")
     return failed > 0
 

@@ -15,11 +15,21 @@ KEYS = {"Enter": ("Enter", 13, "\r"), "Tab": ("Tab", 9, None), "Escape": ("Escap
         "ArrowLeft": ("ArrowLeft", 37, None), "ArrowRight": ("ArrowRight", 39, None)}
 
 
+def ended(process, folder, seconds=20):
+    """Waits until a browser that was started here has ended, or else ends it, and removes its folder."""
+    try:
+        process.wait(timeout=seconds)
+    except subprocess.TimeoutExpired:
+        process.kill()
+        process.wait()
+    folder.cleanup()
+
+
 class Browser:
     """A browser with one page. Messages are JSON, each ended by a zero byte."""
 
     def __init__(self, program="chromium"):
-        self.folder = tempfile.TemporaryDirectory(prefix="threefield-browser-")
+        self.folder = tempfile.TemporaryDirectory(prefix="threefield-browser-", ignore_cleanup_errors=True)
         self.downloads = Path(self.folder.name) / "downloads"
         self.downloads.mkdir()
         read_end, self.write_to = os.pipe()
@@ -33,14 +43,18 @@ class Browser:
         os.close(write_end)
         self.last, self.buffer, self.problems, self.requests = 0, b"", [], []
         self.session = self.context = None
+        try:
+            self.call("Browser.getVersion")
+        except (OSError, EOFError, RuntimeError):
+            ended(self.process, self.folder, seconds=0)
+            raise
 
     def close(self):
         try:
             self.call("Browser.close")
         except (OSError, EOFError):
             pass
-        self.process.wait(timeout=20)
-        self.folder.cleanup()
+        ended(self.process, self.folder)
 
     # ---- messages ----
 

@@ -186,6 +186,48 @@ test("marks are the program’s: due below, released above, late at the upper ed
   assert.equal(two.of("due").length, 2, "a date at the end of a line is marked once");
 });
 
+/** The texts beside the marks, each with the places of its left and right end. */
+const labelsOf = (chart) => chart.of("mark-text").map(({ text, attributes }) => {
+  const [x, width] = [Number(attributes.x), text.length * LETTER];
+  return attributes["text-anchor"] === "end" ? [text, x - width, x] : [text, x, x + width];
+});
+
+test("a date at the end of a day is marked before the next day, and others at their time", async () => {
+  const plan = await datedPlan([{ name: "A", time: "8 h", due: "2026-11-30" },
+    { name: "B", time: "4 h", due: "2026-12-01 10:00" }, { name: "C", time: "12 h" }], calendar);
+  const chart = drawChart(plan, view(plan, 900));
+  const { x: night } = pointOf(plan, view(plan, 900), 1, 8);
+  const [[, , tuesday], [, later]] = labelsOf(chart);
+  assert.ok(tuesday < night && later > night, `${tuesday} ${night} ${later}`);
+  const [left, , right, tip] = chart.of("due")[0].attributes.d.match(/[\d.]+/g).map(Number);
+  assert.deepEqual([Math.round(tip - left), right], [8, tip]);
+  assert.match(chart.of("due")[0].text, /^A: due Mon 30 Nov 17:00$/);
+});
+
+test("jobs of one due date have one mark with all names, or with their number", async () => {
+  const plan = await datedPlan(["Gears", "Shaft", "Lever"].map((name, k) =>
+    ({ name, time: "20 h", due: k < 2 ? "2026-12-01" : "2026-12-01 10:00" })), calendar);
+  const wide = drawChart(plan, view(plan, 900));
+  assert.deepEqual(labelsOf(wide).map(([text]) => text), ["Lever", "Gears, Shaft"]);
+  const due = "due Tue 1 Dec 17:00";
+  assert.equal(wide.of("due").filter(({ text }) =>
+    text === `Gears: ${due}\nShaft: ${due}`).length, 2);
+  const narrow = drawChart(plan, view(plan, 300));
+  assert.equal(labelsOf(narrow).at(-1)[0], "2 due");
+});
+
+test("names of dates do not cross the end of the plan or one another", async () => {
+  const plan = await datedPlan(["2026-12-02 10:00", "2026-12-03 12:00", "2026-12-03 14:00",
+    "2026-12-03"].map((due, k) => ({ name: `Wardrobe Schmidt ${k}`, time: "32 h", due })), calendar);
+  for (const width of [360, 700, 1200]) {
+    const labels = labelsOf(drawChart(plan, view(plan, width))).sort((a, b) => a[1] - b[1]);
+    const { x: end } = pointOf(plan, view(plan, width), 1, plan.length);
+    assert.ok(labels.length > 0);
+    assert.ok(labels.every(([, from, to]) => to <= end || from >= end), `${width}: ${labels}, ${end}`);
+    assert.ok(labels.every(([, from], k) => k === 0 || from >= labels[k - 1][2]), String(labels));
+  }
+});
+
 test("bars can have the focus where they are moved", async () => {
   const plan = await planOf(["A", "B"], [20, 28]);
   const bars = (isMovable) => drawChart(plan, { ...view(plan, 900), isMovable }).of("bar")

@@ -7,35 +7,52 @@ import tempfile
 import time
 from pathlib import Path
 
-PORT = 2828
+from browser import ended
+
+START_SECONDS = 60
 KEYS = {"ArrowLeft": "\ue012", "ArrowUp": "\ue013", "ArrowRight": "\ue014", "ArrowDown": "\ue015", "Tab": "\ue004"}
+
+
+def free_port():
+    with socket.socket() as found:
+        found.bind(("127.0.0.1", 0))
+        return found.getsockname()[1]
 
 
 class Firefox:
     """A browser with one page. A message is its length, a colon and JSON."""
 
     def __init__(self, program="firefox-esr"):
-        self.folder = tempfile.TemporaryDirectory(prefix="threefield-firefox-")
-        Path(self.folder.name, "user.js").write_text('user_pref("intl.accept_languages", "en-GB");\n')
+        self.folder = tempfile.TemporaryDirectory(prefix="threefield-firefox-", ignore_cleanup_errors=True)
+        self.port = free_port()
+        Path(self.folder.name, "user.js").write_text('user_pref("intl.accept_languages", "en-GB");\n'
+                                                     f'user_pref("marionette.port", {self.port});\n')
         words = [program, "--headless", "--marionette", "--profile", self.folder.name, "about:blank"]
         self.process = subprocess.Popen(words, stdout=subprocess.DEVNULL, stderr=subprocess.DEVNULL)
         self.last, self.buffer, self.problems, self.requests = 0, b"", [], []
-        self.socket = self.connected()
-        self.receive()
-        self.call("WebDriver:NewSession")
+        try:
+            self.socket = self.connected()
+            self.receive()
+            self.call("WebDriver:NewSession")
+        except (OSError, EOFError, RuntimeError):
+            ended(self.process, self.folder, seconds=0)
+            raise
 
     def connected(self):
-        for _ in range(300):
+        deadline = time.monotonic() + START_SECONDS
+        while time.monotonic() < deadline and self.process.poll() is None:
             try:
-                return socket.create_connection(("127.0.0.1", PORT), timeout=60)
+                return socket.create_connection(("127.0.0.1", self.port), timeout=START_SECONDS)
             except OSError:
                 time.sleep(0.1)
-        raise TimeoutError("the browser does not answer")
+        raise EOFError("it has ended" if self.process.poll() is not None else "it does not answer")
 
     def close(self):
-        self.call("Marionette:Quit", flags=["eForceQuit"])
-        self.process.wait(timeout=20)
-        self.folder.cleanup()
+        try:
+            self.call("Marionette:Quit", flags=["eForceQuit"])
+        except (OSError, EOFError, RuntimeError):
+            pass
+        ended(self.process, self.folder)
 
     # ---- messages ----
 

@@ -73,7 +73,7 @@ async function imported(text, language) {
   const { cells } = readCells(text);
   const columns = readColumns(cells);
   const unit = unitOfTimes(columns);
-  const rows = rowsOfCells(cells, columns, unit).map((values) => newRow(values));
+  const rows = rowsOfCells(cells, columns, unit);
   const before = emptyState(language);
   const settings = { ...before.settings, step: "15", start: "2026-11-30" };
   const { patch } = guess({ ...before, settings }, rows, unit, true);

@@ -3,7 +3,8 @@ import assert from "node:assert/strict";
 import { test } from "node:test";
 import { load, tableOf } from "./modules.mjs";
 
-const { assumedOf, defaultSettings, lengthText, makeCalendar, readMoment } = await load("calendar");
+const { certificateJobs } = await load("certificates");
+const { assumedOf, defaultSettings, endText, lengthText, makeCalendar, readMoment } = await load("calendar");
 const { machineName, machineNames, machineText } = await load("machines");
 const { betterOf, lateness, makePlan, measures } = await load("plan");
 const { planAsCsv } = await load("saving");
@@ -158,4 +159,18 @@ test("a state is the same after it was written and read", () => {
   assert.deepEqual(plain(read), plain(state));
   assert.deepEqual(read.own, [[read.rows[1].id, read.rows[0].id]]);
   assert.deepEqual(read.kept, { ...kept, ids: [read.rows[1].id] });
+});
+
+test("the jobs of a certificate are those of its ranges that the table has", () => {
+  assert.deepEqual(certificateJobs("last 1-3 5 0 9 7-20 x", 8), [1, 2, 3, 5, 7, 8]);
+  assert.deepEqual(certificateJobs("crowd 6 2-3", 8), [2, 3]);
+  assert.deepEqual(certificateJobs("load 6 2-3", 8), []);
+});
+
+test("an end beside its start goes without its day, or with the weekday alone, where that is plain", () => {
+  const { calendar } = makeCalendar({ ...defaultSettings(), step: "60", start: "2026-11-30" });
+  const ends = [[0, 4, "12:00"], [0, 8, "17:00"], [6, 9, "Tue 09:00"], [0, 33, "Fri 09:00"],
+    [30, 48, "Mon 17:00"], [0, 41, "Mon 7 Dec 09:00"], [8, 9, "09:00"]];
+  assert.deepEqual(ends.map(([start, end]) => endText(calendar, start, end)), ends.map(([,, words]) => words));
+  assert.equal(endText(null, 2, 5), "5");
 });

@@ -5,12 +5,11 @@ import assert from "node:assert/strict";
 import { test } from "node:test";
 import { load, tableOf } from "./modules.mjs";
 
-const { breaks, defaultSettings, isoDay, makeCalendar, momentField, readDuration, readMoment, today,
-  writtenOut } = await load("calendar");
+const { assumedOf, breaks, defaultSettings, isoDay, makeCalendar, momentField, readDuration, readMoment,
+  today } = await load("calendar");
 const { readCells, readColumns, rowsOfCells, styleOf, unitOfTimes } = await load("spreadsheet");
 const { guess } = await load("guesses");
 const { emptyState } = await load("state");
-const { newRow } = await load("table");
 const { columnsUsed, readNotation } = await load("problems");
 
 const SETTINGS = { ...defaultSettings(), step: "5", start: "2026-11-30" };
@@ -21,7 +20,7 @@ async function pasted(text, before = emptyState()) {
   const { cells } = readCells(text);
   const columns = readColumns(cells);
   const unit = unitOfTimes(columns);
-  const rows = rowsOfCells(cells, columns, unit).map((values) => newRow(values));
+  const rows = rowsOfCells(cells, columns, unit);
   const { patch, hints } = guess(before, rows, unit, true);
   const state = { ...before, ...patch, rows };
   const { calendar } = makeCalendar(state.settings);
@@ -253,6 +252,17 @@ const TIMES = ["90", "1,5", "2", "45 min", "3h30", "2 Tage", "1:15", "0.25", "1Â
 const DATES = ["", "24", "1,5", "Do 03.12.", "7.12.", "KW 50", "3 dÃ©c. 14h30", "5 d", "2026-12-09",
   "09/12/2026", "16/12 10:00", "Dec 15", "-3"];
 
+/** A text as it is read, with nothing left to assume: "90 min", "2026-12-03 14:00". */
+function writtenOut(calendar, field, text) {
+  const assumed = assumedOf(calendar, field, text);
+  if (assumed === "") return text;
+  const { date } = ["due", "release"].includes(field) ? readMoment(calendar, text.trim(), field === "due") : {};
+  if (!date) return `${text.trim()} ${assumed}`;
+  const day = isoDay(field === "due" ? date.lastDay : date.day);
+  const two = (number) => String(number).padStart(2, "0");
+  return date.clock === null ? day : `${day} ${two(Math.floor(date.clock / 60))}:${two(date.clock % 60)}`;
+}
+
 test("what is shown, pasted again, gives the same job table", async () => {
   let seed = 7;
   const random = (list) => {
@@ -274,4 +284,24 @@ test("what is shown, pasted again, gives the same job table", async () => {
     assert.equal(again.text, once.text, cells(false) + "\n" + cells(true));
     assert.deepEqual(again.table.faults, once.table.faults);
   }
+});
+
+test("cells without quotes are those that stand in quotes", () => {
+  const rows = [["A", "3", "", "x"], ["B", " 4", "2026-12-03", ""], ["", "", "", ""], ["C", "5", "1,5", "y "]];
+  const text = (quoted, end) => rows.map((row) =>
+    row.map((cell) => quoted ? `"${cell}"` : cell).join(";")).join(end) + end;
+  const wanted = rows.filter((row) => row[0] !== "").map((row) => row.map((cell) => cell.trim()));
+  for (const end of ["\n", "\r\n", "\r"]) {
+    for (const quoted of [true, false]) {
+      assert.deepEqual(readCells(text(quoted, end)), { cells: wanted, delimiter: ";" });
+    }
+  }
+});
+
+test("texts that are alike are read alike", async () => {
+  const rows = ["A;2;2030-12-10", "B;2 h;2030-12-10", "C;x;2030-12-10", "D;x;2030-13-10"];
+  const { table } = await pasted(`Job;Time (h);Due\n${rows.join("\n")}\n`);
+  assert.deepEqual(table.jobs.map(({ time, due }) => [time, due === table.jobs[0].due]),
+    [[2, true], [2, true], [0, true], [0, false]]);
+  assert.deepEqual(table.faults.map(({ row, field }) => [row, field]), [[2, "time"], [3, "time"], [3, "due"]]);
 });

@@ -37,7 +37,7 @@ async function pasted(text, before = emptyState()) {
   const { cells } = readCells(text);
   const columns = readColumns(cells);
   const unit = unitOfTimes(columns);
-  const rows = rowsOfCells(cells, columns, unit).map((values) => newRow(values));
+  const rows = rowsOfCells(cells, columns, unit);
   const { patch, hints } = guess(before, rows, unit, true);
   const names = columns.fields.includes("route") ? namesInRoutes(rows) : machinesOf(columns);
   const state = { ...before, ...patch, rows, machineNames: machineText(names) };

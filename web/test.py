@@ -6,7 +6,8 @@
 The page is web/threefield.html if none is named. Each way is a function below; with names only those are tried. --large
 also solves 100,000 jobs and measures, --pictures takes the pictures that the README shows, and --program compares the
 module in the browser with the native program byte for byte over the examples of the nineteen problems. Needs chromium.
---firefox tries the ways that need no more than clicks and texts in Debian's firefox-esr.
+--firefox tries the ways that need no more than clicks and texts in Debian's firefox-esr. The exit status is 77 where the
+browser does not start.
 """
 import functools
 import http.server
@@ -27,6 +28,7 @@ from firefox import Firefox
 
 HERE = Path(__file__).resolve().parent
 PICTURES = HERE / "pictures"
+NOT_STARTED = 77  # As for a test that is skipped; .ci/checks.py knows it.
 SHOP = "\ufeffOrder;Time (h);Due;After;Customer\r\n" + "\r\n".join([
     'Plates;4;04/03/2025;;Meyer', '"Cards; menu ""Anker""";3;05/03/2025;;', ';;;;',
     'Catalogue;14;07/03/2025;Plates;Meyer',
@@ -483,13 +485,14 @@ def machines_are_missing(page):
 def bound(page):
     page.example(1)
     page.notation("1||sumwT")
-    expect_in("above the optimum", page.text("#headline .proved"))
-    expect_in("No schedule of these", page.text("#headline"))
+    expect(page.text("#headline .proved"), "proved optimal")
+    expect_in("Found by a search; its bound proves that no schedule of these", page.text("#headline"))
     page.click("#problem-notes button")
     page.settle()
     expect(page.text("#headline .proved"), "proved optimal")
     page.notation("R2||Cmax")
     expect_in("neither an exact method nor a lower bound", page.text("#headline"))
+    expect_in("R||Cmax has no method here.", page.text("#problem-notes"))
 
 
 STUB = """
@@ -549,9 +552,12 @@ def plan_without_an_exact_method(page):
     page.run("document.getElementById('certificate').open = true")
     expect_in("prices 2 0 1 1", page.text("#certificate"))
     page.open_problem()
-    expect_in("a good plan is searched for", page.text("#problem-notes"))
+    expect_in("1||sumT is planned by a search", page.text("#problem-notes"))
     page.notation("1||sumwT")
     expect(page.text("#headline .proved"), "proved optimal")
+    expect_in("Found by a search; its bound proves that no schedule of these 3 jobs has a smaller value.",
+              page.text("#headline"))
+    expect(page.run("/no (exact )?method/.test(document.getElementById('problem-notes').innerText)"), False)
     expect_in("Jobs of the certificate: <b>A</b>, B, C.", page.text("#certificate"))
     page.notation("1||sumU")
     expect(page.text("#headline .proved"), "at most 1 above the optimum")
@@ -713,6 +719,8 @@ def weeks(page):
 
 ROUTES = ("Order;Route;Due\nShelf;3@Sawing, 4@Milling, 2@Painting;14\nDesk;2@Milling, 3@Sawing, 4@Painting;12\n"
           "Frame;4@Sawing, 3@Painting;9\nCabinet;5@Milling, 2@Painting, 1@Sawing;16\nDoor;6@Painting;10\n")
+LONG_ROUTES = ("Order\tRoute\tDue\nShelf Meyer\t2,5 h@Sawing; 3 h@Milling; 2 h@Painting; 1 h@Packing\t2025-03-07\n"
+               "Desk “Oslo” oak\t4 h@Sawing; 12 h@Painting; 30 min@Packing\t2025-03-06\n")
 ROUTED = ("table 1\njob 1 p=3@1,4@2,2@3 d=14\njob 2 p=2@2,3@1,4@3 d=12\njob 3 p=4@1,3@3 d=9\n"
           "job 4 p=5@2,2@3,1@1 d=16\njob 5 p=6@3 d=10\n")
 
@@ -986,8 +994,8 @@ def bars_on_several_machines(page):
     expect(jobs_in_bars(page), [3, 1, 5, 4, 2] * 2, "one order on both machines")
     page.notation("O2||Cmax")
     expect(page.text("#move-words"), "Bars of an open shop are not moved.")
-    page.example(1)
-    page.notation("1|prec|sumwT")
+    page.example(3)
+    page.notation("F2||sumC")
     page.run("document.querySelector('.bar[data-job=\"1\"]').focus()")
     page.browser.press("ArrowLeft")
     expect_in("allowed, costs", moved(page))
@@ -1576,6 +1584,45 @@ def list_keeps_its_columns(page):
 
 
 @way
+def list_of_a_job_shop(page):
+    """The list of a job shop keeps all its columns, also beside a kept plan, and no date has more than two lines."""
+    page.import_cells(LONG_ROUTES)
+    page.click("#changes button")
+    expect(page.texts("#list thead th")[2:], ["Lateness", "Against the kept plan", "Machine", "Start", "Until", "Due"])
+    for width in (768, 1200, 1280, 1366, 1920):
+        page.browser.size(width, 800)
+        page.run("new Promise((resolve) => setTimeout(resolve, 100))")
+        frame, table, lines = page.run("""(() => {
+            const frame = document.getElementById("list-scroll");
+            const lines = [...frame.querySelectorAll("[data-head=Start], [data-head=Until], [data-head=Due]")].map((each) => {
+                const words = document.createRange();
+                words.selectNodeContents(each);
+                return words.getClientRects().length;
+            });
+            return [frame.clientWidth, frame.scrollWidth, lines];
+        })()""")
+        expect([table <= frame, max(lines) <= 2], [True, True], f"{frame}, {table}, {lines} at {width} pixels")
+
+
+@way
+def work_on_machines_in_lines(page):
+    """In the list by machine each piece of work has one line with all its columns, at the widths of tablets and laptops."""
+    page.import_cells(LONG_ROUTES)
+    page.browser.choose("#sort", "machine")
+    expect(page.texts("#list thead th"), ["Machine", "Start", "Job", "Lateness", "Takes", "Until", "Due"])
+    for width in (768, 1200, 1280, 1366, 1440, 1500, 1920):
+        page.browser.size(width, 800)
+        page.run("new Promise((resolve) => setTimeout(resolve, 100))")
+        frame, table, lines = page.run("""(() => {
+            const list = document.getElementById("list");
+            const lines = [...list.querySelectorAll("tbody tr")].map((each) => each.offsetHeight);
+            return [list.parentElement.clientWidth, list.parentElement.scrollWidth, lines];
+        })()""")
+        expect([table <= frame, max(lines) < 1.5 * min(lines)], [True, True],
+               f"{frame}, {table}, {lines} at {width} pixels")
+
+
+@way
 def late_jobs_only(page):
     """The list of late jobs has none that is done just on time, and is sorted as is chosen."""
     page.example(0)
@@ -1650,6 +1697,37 @@ def jobs_keep_their_columns(page):
             page.run("new Promise((resolve) => setTimeout(resolve, 100))")
             if page.run("(() => { const it = document.getElementById('jobs-scroll'); return it.scrollWidth > it.clientWidth; })()"):
                 raise AssertionError(f"the jobs are cut off at {width} pixels")
+
+
+@way
+def times_of_day_are_seen(page):
+    """Due and release dates with a time of day are not cut off in the job table of a laptop."""
+    page.import_cells("Order;Time (h);Ready;Due\nBrackets;3;30.11.2026;01.12.2026\n"
+                      "Gear;5;30.11.2026 10:00;02.12.2026 12:00\n")
+    for width in (1200, 1366, 1920):
+        page.browser.size(width, 800)
+        page.run("new Promise((resolve) => setTimeout(resolve, 100))")
+        cut = page.run("""[...document.querySelectorAll("#jobs-table input, #jobs-scroll")]
+            .filter((each) => each.scrollWidth > each.clientWidth).map((each) => each.value ?? each.id)""")
+        expect(cut, [], f"cut off at {width} pixels")
+
+
+@way
+def whole_texts_of_fields(page):
+    """A name or a route that is cut off is seen whole in its field while that has the focus, and under the mouse."""
+    route = "2,5 h@Sawing; 3 h@Milling; 2 h@Painting; 1 h@Packing"
+    page.import_cells(f"Order\tRoute\tDue\nShelf Meyer, oak, large\t{route}\t2030-12-03\nDoor\t1 h@Sawing\t2030-12-03\n")
+    page.browser.size(1366, 800)
+    for field, text in (("name", "Shelf Meyer, oak, large"), ("route", route)):
+        it = f"document.querySelector({json.dumps(page.cell(1, field))})"
+        page.run(f"{it}.dispatchEvent(new PointerEvent('pointerover', {{ bubbles: true }}))")
+        expect(page.run(f"{it}.title"), text)
+        expect(page.run(f"[{it}.scrollWidth > {it}.clientWidth, {it}.focus(), {it}.scrollWidth > {it}.clientWidth]"),
+               [True, None, False], f"{field}: cut off before the focus, and with it")
+        expect(page.run("document.getElementById('jobs-scroll').scrollWidth > document.getElementById('jobs-scroll').clientWidth"),
+               False)
+    page.run(f"document.querySelector({json.dumps(page.cell(2, 'route'))}).focus()")
+    expect(page.run("document.querySelectorAll('.grown').length"), 0, "a text that is not cut off stays in its column")
 
 
 @way
@@ -1999,7 +2077,11 @@ def main(words):
     if "--firefox" in options and not names:
         names = IN_FIREFOX
     address = f"file://{Path(pages[0] if pages else HERE / 'threefield.html').resolve()}"
-    browser = Firefox() if "--firefox" in options else Browser()
+    try:
+        browser = Firefox() if "--firefox" in options else Browser()
+    except (OSError, EOFError, RuntimeError) as error:
+        print(f"the browser does not start: {error}")
+        return NOT_STARTED
     page = Page(browser, address)
     failed = []
     tried = [each for each in WAYS if not names or each.__name__ in names]

@@ -209,8 +209,26 @@ export function momentText(calendar, step, isEnd, isShort = false) {
   const moment = momentOf(calendar, step, isEnd);
   if (!moment) return `step ${step}`;
   const day = dayText(calendar, moment.day);
-  const isDayEnd = isEnd && moment.clock === calendar.spans.at(-1)[1];
-  return isShort && isDayEnd ? day : `${day} ${clockText(moment.clock)}`;
+  return isShort && isEnd && isDayEnd(calendar, step) ? day : `${day} ${clockText(moment.clock)}`;
+}
+
+/** Whether a step is the end of a working day, where the next one begins. */
+export function isDayEnd(calendar, step) {
+  return isDated(calendar)
+    && (calendar.origin + step * calendar.stepMinutes) % calendar.dayMinutes === 0;
+}
+
+/**
+ * The end of work beside its start, as a moment for people: on the same day "12:00", within the six
+ * days after it "Tue 12:00".
+ */
+export function endText(calendar, start, end) {
+  const whole = momentText(calendar, end, true);
+  const [from, to] = isDated(calendar)
+    ? [momentOf(calendar, start, false), momentOf(calendar, end, true)] : [];
+  if (!from || !to || to.day - from.day > 6) return whole;
+  const day = from.day === to.day ? "" : `${WEEKDAYS[weekdayOf(to.day)]} `;
+  return `${day}${clockText(to.clock)}`;
 }
 
 /** A step as a moment for spreadsheets, such as "2025-03-03 08:00". */
@@ -459,17 +477,6 @@ export function assumedOf(calendar, field, text) {
     : readMoment(calendar, text.trim(), field === "due");
   if (found.isPlain) return calendar.plain;
   return found.date?.isYearAssumed ? String(fromDay(found.date.day).year) : "";
-}
-
-/** A text as it is read, with nothing left to assume: "90 min", "2026-12-03 14:00". */
-export function writtenOut(calendar, field, text) {
-  const assumed = assumedOf(calendar, field, text);
-  if (assumed === "") return text;
-  const { date } = field === "due" || field === "release"
-    ? readMoment(calendar, text.trim(), field === "due") : {};
-  if (!date) return `${text.trim()} ${assumed}`;
-  const day = isoDay(field === "due" ? date.lastDay : date.day);
-  return date.clock === null ? day : `${day} ${clockText(date.clock)}`;
 }
 
 /** A day as 2026-12-03. */

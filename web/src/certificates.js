@@ -52,11 +52,14 @@ const BEFORE_JOBS = { last: 0, window: 0, job: 0, crowd: 1, parts: 3 };
 export function certificateJobs(certificate, most, before = BEFORE_JOBS) {
   const [kind, ...words] = certificate.split(" ");
   if (before[kind] === undefined) return [];
-  const jobs = words.slice(before[kind]).flatMap((word) => {
-    const [from, to = from] = word.split("-").map(Number);
-    return Array.from({ length: Math.max(0, Math.min(to, most) - from + 1) }, (_, k) => from + k);
-  });
-  return jobs.filter((job) => job >= 1 && job <= most);
+  const jobs = [];
+  for (const word of words.slice(before[kind])) {
+    const dash = word.indexOf("-");
+    const to = Number(word.slice(dash + 1));
+    const from = dash < 0 ? to : Number(word.slice(0, dash));
+    for (let job = Math.max(1, from); job <= Math.min(to, most); job++) jobs.push(job);
+  }
+  return jobs;
 }
 
 /** The certificate of an optimal plan of a class that has a solver, with its arithmetic. */

@@ -1,6 +1,7 @@
 // The Gantt chart of a plan as SVG: a window of time, perhaps folded into several lines.
 
-import { breaks, dayStarts, isDated, lengthText, momentText, stepNow } from "./calendar.js";
+import { breaks, dayStarts, isDated, isDayEnd, lengthText, momentText,
+  stepNow } from "./calendar.js";
 import { machineName } from "./machines.js";
 import { lateness } from "./plan.js";
 import { fitted, svg, textWidth } from "./svg.js";
@@ -17,6 +18,8 @@ const MOST_LINES = 8;
 const LEAST_ROOM = 36;
 const MOST_ROOM = 110;
 const ROOM_FOR_MARK = 12;
+const LEAST_MARK = 40;
+const MOST_MARK = 150;
 const ROOM_FOR_IDLE = 30;
 const ROOM_FOR_BREAK = 9;
 const MOST_PRINTED_LINES = 12;
@@ -490,7 +493,12 @@ export function latenessWords(calendar, late) {
 function drawMarks(group, plan, frame, row) {
   const [first, last] = plan.rows[row.machine - 1];
   const marked = new Set();
-  const marks = [];
+  const [due, released] = [new Map(), new Map()];
+  let count = 0;
+  const mark = (lane, step, job) => {
+    lane.set(step, lane.get(step) ?? []).get(step).push(job);
+    count++;
+  };
   for (let k = first; k < last; k++) {
     const job = plan.schedule.job[plan.order[k]] - 1;
     const at = plan.jobs[job];
@@ -498,34 +506,65 @@ function drawMarks(group, plan, frame, row) {
     marked.add(job);
     const isDue = at.due !== null && at.due <= row.to
       && (at.due > row.from || at.due === 0 && row.from === 0);
-    if (isDue) marks.push({ step: at.due, job, isDue: true });
+    if (isDue) mark(due, at.due, job);
     const isReleased = plan.usesRelease && at.hasRelease && at.release >= row.from
       && at.release < row.to;
-    if (isReleased) marks.push({ step: at.release, job, isDue: false });
-    if (marks.length * ROOM_FOR_MARK > frame.width) return;
+    if (isReleased) mark(released, at.release, job);
+    if (count * ROOM_FOR_MARK > frame.width) return;
   }
-  marks.sort((a, b) => a.step - b.step).forEach((mark, k) => {
-    const next = marks.slice(k + 1).find(({ isDue }) => isDue === mark.isDue);
-    drawMark(group, plan, frame, row, mark, next ? row.x(next.step) - 6 : frame.width);
+  drawLane(group, plan, frame, row, due, true);
+  drawLane(group, plan, frame, row, released, false);
+}
+
+/**
+ * Draws the marks of a lane, each with names on a side that has room up to its neighbours and to
+ * the end of the plan. What is due at the end of a day stands before it, and not under the next.
+ */
+function drawLane(group, plan, frame, row, lane, isDue) {
+  const end = row.x(plan.length);
+  let free = row.x(row.from);
+  const moments = [...lane].sort(([a], [b]) => a - b);
+  moments.forEach(([step, jobs], k) => {
+    const x = row.x(step);
+    const isBefore = isDue && isDayEnd(plan.calendar, step);
+    const next = k + 1 < moments.length ? row.x(moments[k + 1][0]) - 6 : frame.width;
+    const before = x - (isBefore ? 10 : 6) - (x > end ? Math.max(end, free) : free);
+    const after = (x < end ? Math.min(end, next) : next) - x - 8;
+    const names = jobs.map((job) => plan.jobs[job].name);
+    const width = textWidth(names.join(", "), 10);
+    const isLeft = isBefore ? before >= Math.min(width, LEAST_MARK)
+      : before > after && width > after;
+    const most = MOST_MARK * Math.min(2, names.length);
+    const label = markLabel(names, isDue, Math.min(most, isLeft ? before : after));
+    drawMark(group, plan, frame, { step, jobs, isDue, x, isBefore, isLeft, label });
+    free = x + (isLeft ? 6 : 8 + textWidth(label, 10));
   });
 }
 
-/** Draws a triangle, and beside it the name where it has room before the next mark. */
-function drawMark(group, plan, frame, row, { step, job, isDue }, next) {
-  const { name } = plan.jobs[job];
-  const x = row.x(step);
+/** The names beside a mark, or how many they are. */
+function markLabel(names, isDue, room) {
+  const all = names.join(", ");
+  if (names.length === 1) return fitted(all, 10, room);
+  const words = [all, `${names.length} ${isDue ? "due" : "released"}`];
+  return words.find((each) => textWidth(each, 10) <= room) ?? "";
+}
+
+/** Draws a triangle for each job of a moment, the latest in front, and their names beside it. */
+function drawMark(group, plan, frame, { step, jobs, isDue, x, isBefore, isLeft, label }) {
   const [tip, base] = isDue ? [frame.row + 3, frame.row + 11] : [-3, -11];
-  const shape = `M${round(x - 4)} ${base}H${round(x + 4)}L${round(x)} ${tip}Z`;
-  const isLate = isDue && lateness(plan, job) > 0;
-  const words = `${name}: ${isDue ? "due" : "released"} ${momentText(plan.calendar, step, isDue)}`;
-  group.append(svg("path", {
-    class: `mark ${isDue ? "due" : "release"} fill${plan.colour[job]}${isLate ? " late" : ""}`,
-    "data-job": job, d: shape,
-  }, svg("title", {}, words)));
-  const label = fitted(name, 10, Math.min(90, next - x - 8));
+  const [left, right] = isBefore ? [x - 8, x] : [x - 4, x + 4];
+  const at = `${isDue ? "due" : "released"} ${momentText(plan.calendar, step, isDue)}`;
+  const title = jobs.map((job) => `${plan.jobs[job].name}: ${at}`).join("\n");
+  for (const job of jobs.sort((a, b) => plan.completion[a] - plan.completion[b])) {
+    const isLate = isDue && lateness(plan, job) > 0;
+    group.append(svg("path", {
+      class: `mark ${isDue ? "due" : "release"} fill${plan.colour[job]}${isLate ? " late" : ""}`,
+      "data-job": job, d: `M${round(left)} ${base}H${round(right)}L${round(x)} ${tip}Z`,
+    }, svg("title", {}, title)));
+  }
   if (label === "") return;
-  group.append(svg("text", { class: "mark-text", x: round(x + 6), y: isDue ? base : tip,
-    "font-size": 10 }, label));
+  group.append(svg("text", { class: "mark-text", x: round(isLeft ? left - 2 : x + 6),
+    y: isDue ? base : tip, "font-size": 10, "text-anchor": isLeft && "end" }, label));
 }
 
 /** Joins the pieces of preempted jobs by thin lines. */

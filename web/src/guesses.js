@@ -5,7 +5,7 @@ import { readDateTime } from "./dates.js";
 import { readLength } from "./lengths.js";
 import { hasRoutes, readNotation, writeNotation } from "./problems.js";
 import { timesOfRoute } from "./routes.js";
-import { hasMonthFirst, needCalendar } from "./spreadsheet.js";
+import { hasMonthFirst, needCalendar, textsOf } from "./spreadsheet.js";
 
 const STEP_LENGTHS = [60, 30, 15, 10, 5, 1];
 
@@ -58,7 +58,7 @@ function settingsFor(before, rows, unit, replaces) {
 /** Today, or the earliest due or release date where all of them are before. */
 function firstDay(dayFirst, rows) {
   const near = today();
-  const days = [...new Set(rows.flatMap((row) => [row.due, row.release]))]
+  const days = textsOf(rows, "due", "release")
     .map((text) => readDateTime(text, dayFirst, near).day).filter((day) => day !== undefined);
   const last = days.reduce((latest, day) => Math.max(latest, day), -Infinity);
   const isPast = days.length > 0 && last < near;
@@ -69,8 +69,8 @@ function firstDay(dayFirst, rows) {
 function longestStep(settings, rows, steps) {
   const { calendar } = makeCalendar({ ...settings, step: "1" });
   if (!calendar) return settings.step === "plain" ? "60" : settings.step;
-  const times = [...new Set(rows.flatMap((row) =>
-    [row.time, row.time2, ...timesOfRoute(row.route)]))].filter(Boolean)
+  const times = [...textsOf(rows, "time", "time2"),
+    ...textsOf(rows, "route").flatMap(timesOfRoute)].filter(Boolean)
     .map((text) => readLength(text, calendar.sizes, calendar.plain).minutes)
     .filter((minutes) => Number.isInteger(minutes));
   return String(steps.find((step) => times.every((minutes) => minutes % step === 0)) ?? 1);

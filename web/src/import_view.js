@@ -6,7 +6,7 @@ import { machinesOf, readCells, readColumns, rowsOfCells, unitOfTimes } from "./
 import { shortened } from "./precedence.js";
 import { namesInRoutes } from "./routes.js";
 import { html } from "./svg.js";
-import { FIELD_WORDS, newRow } from "./table.js";
+import { FIELD_WORDS } from "./table.js";
 
 const UNUSED = "";
 const MOST_SHOWN = 200000;
@@ -103,7 +103,7 @@ export class ImportView {
   finish(replaces) {
     const { state } = this.store;
     const unit = unitOfTimes(this.columns);
-    const rows = rowsOfCells(this.cells, this.columns, unit).map((values) => newRow(values));
+    const rows = rowsOfCells(this.cells, this.columns, unit);
     const { patch, hints } = guess(state, rows, unit, replaces);
     Object.assign(patch, { rows: replaces ? rows : [...state.rows, ...rows] });
     const machines = machineText(this.columns.fields.includes("route")

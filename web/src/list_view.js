@@ -1,7 +1,7 @@
 // The plan as a list: a line for each job by its name, or for each machine its work in order.
 
 import { latenessWords } from "./chart.js";
-import { lengthText, momentText } from "./calendar.js";
+import { endText, lengthText, momentText } from "./calendar.js";
 import { machineName } from "./machines.js";
 import { release } from "./memory.js";
 import { Pager } from "./pager.js";
@@ -33,6 +33,7 @@ export class ListView {
     for (const input of [this.sort, this.lateOnly, this.tick]) {
       input.addEventListener("change", () => this.arrange());
     }
+    window.addEventListener("resize", () => this.fit());
     window.addEventListener("beforeprint", () => {
       this.draw(true);
       this.drawWorkLists();
@@ -115,7 +116,18 @@ export class ListView {
       this.lines.set(item, isSame ? known : { job, words, line: this.line(item, words, columns) });
     }
     setChildren(this.table.tBodies[0], [...this.lines.values()].map(({ line }) => line));
+    this.fit();
     if (focused) this.focus(focused.job);
+  }
+
+  /** In the list by machine, dates and lengths of time stand in one line where there is room. */
+  fit() {
+    const { table } = this;
+    const frame = table.parentElement;
+    table.classList.toggle("unbroken", this.isByMachine);
+    if (this.isByMachine && frame.scrollWidth > frame.clientWidth) {
+      table.classList.remove("unbroken");
+    }
   }
 
   /** Gives a job that is on this page the focus. */
@@ -156,7 +168,8 @@ export class ListView {
       hasDue && { head: "Lateness", isLateness: true, wordsOf: of((job) => this.lateWords(job)) },
       { head: "Takes", wordsOf: (piece) =>
         lengthText(calendar, schedule.stop[piece] - schedule.start[piece]) },
-      { head: "Until", wordsOf: (piece) => momentText(calendar, schedule.stop[piece], true) },
+      { head: "Until", wordsOf: (piece) =>
+        endText(calendar, schedule.start[piece], schedule.stop[piece]) },
       hasDue && { head: "Due", wordsOf: of((job) => this.dueWords(job)) },
     ].filter(Boolean);
   }
@@ -273,12 +286,6 @@ export class ListView {
     if (by === undefined) return "as before";
     if (by === 0) return "same completion";
     return `${lengthText(this.plan.calendar, Math.abs(by))} ${by > 0 ? "later" : "earlier"}`;
-  }
-
-  /** Turns to the page of a job. */
-  reveal(job) {
-    this.pager.turnTo(Math.max(0, this.order.indexOf(job)));
-    this.draw();
   }
 }
 

@@ -186,7 +186,9 @@ class Page {
       this.planView.setBusy(true);
       this.judgeView.clear();
       clearTimeout(this.timer);
-      this.timer = setTimeout(() => this.update(), isTyped ? REST : 0);
+      if (isTyped) this.timer = setTimeout(() => this.update(), REST);
+      else Promise.resolve(this.version).then((version) =>
+        version === this.version && this.update());
     } else if (isOther("own")) this.showing = this.showOwn();
     else if (isOther("kept", "machineNames")) this.showPlan();
     this.showPrintHead();
@@ -205,7 +207,7 @@ class Page {
     this.rowsView.setCalendar(calendar);
     const goesOn = problem?.environment === "1" && !problem.conditions.includes("prmp");
     const table = await makeTable(state.rows, this.readerOf(calendar, used, goesOn), async () => {
-      await new Promise((resolve) => setTimeout(resolve));
+      await pause();
       return version === this.version;
     }, machineNames(state.machineNames));
     if (!table || version !== this.version) return undefined;
@@ -485,6 +487,15 @@ function progressWords(done, begun, isKept) {
     "Correct it under “Left to do”: nothing for a job that is not begun, what is left of one that "
       + "is begun, 0 for one that is done.",
     isKept ? "The plan before is kept, to compare with." : ""].filter(Boolean).join(" ");
+}
+
+/** Lets the page do what waits, at once: timers that follow one another wait some milliseconds. */
+function pause() {
+  return new Promise((resolve) => {
+    const { port1, port2 } = new MessageChannel();
+    port1.onmessage = () => resolve(port1.close());
+    port2.postMessage(null);
+  });
 }
 
 /** The number of machines for the module: null where the notation has it. */

@@ -88,7 +88,8 @@ function timesOf({ job, start, stop }, count) {
 
 /** The places of the pieces by machine and start. */
 function sortedPieces({ machine, start }) {
-  const order = Uint32Array.from(machine, (_, place) => place);
+  const order = new Uint32Array(machine.length);
+  for (let place = 0; place < order.length; place++) order[place] = place;
   const isSorted = order.every((place) => place === 0 || machine[place - 1] < machine[place]
     || machine[place - 1] === machine[place] && start[place - 1] <= start[place]);
   return isSorted ? order
@@ -135,15 +136,18 @@ function neighbourLists({ job, machine }, order, count) {
   const next = new Int32Array(2 * order.length);
   const other = new Int32Array(2 * order.length);
   let entries = 0;
+  const add = (one, two) => {
+    other[entries] = two;
+    next[entries] = first[one];
+    first[one] = entries++;
+  };
   for (let k = 1; k < order.length; k++) {
-    const [a, b] = [job[order[k - 1]] - 1, job[order[k]] - 1];
+    const a = job[order[k - 1]] - 1;
+    const b = job[order[k]] - 1;
     const isBeside = machine[order[k - 1]] === machine[order[k]] && a !== b;
     if (!isBeside || !(a >= 0 && a < count && b >= 0 && b < count)) continue;
-    for (const [one, two] of [[a, b], [b, a]]) {
-      other[entries] = two;
-      next[entries] = first[one];
-      first[one] = entries++;
-    }
+    add(a, b);
+    add(b, a);
   }
   return { first, next, job: other };
 }

@@ -152,7 +152,10 @@ function isTrivial(plan) {
 /** What is known of all schedules, in a sentence. */
 function optimumWords(plan) {
   const jobs = plan.jobs.length === 1 ? "this job" : `these ${plan.jobs.length} jobs`;
-  if (plan.isOptimal) return `No schedule of ${jobs} has a smaller value.`;
+  if (plan.isOptimal) {
+    const none = plan.bound ? "Found by a search; its bound proves that no" : "No";
+    return `${none} schedule of ${jobs} has a smaller value.`;
+  }
   if (!plan.bound) return "How far this plan is from the optimum is not known.";
   if (isTrivial(plan)) return "No lower bound above 0 was found.";
   return `No schedule of ${jobs} has `

@@ -2,7 +2,6 @@
 
 import * as problems from "./problems.js";
 import { html } from "./svg.js";
-import { FIELD_WORDS } from "./table.js";
 
 const OTHER = "other";
 
@@ -85,12 +84,13 @@ export class ProblemView {
     this.at("machines-label").hidden = !problem || !problems.needsMachines(problem);
   }
 
-  /** Offers the objectives; those without an exact method here are marked. */
+  /** Offers the objectives, and marks those that no solver here minimizes. */
   drawObjectives(problem) {
     const options = problems.OBJECTIVES.map(({ id, words }) => {
-      const name = problem && problems.classOf({ ...problem, objective: id });
-      const isSolved = !problem || problems.SOLVED.has(name);
-      return new Option(words + (isSolved ? "" : " (no exact method)"), id);
+      const each = problem && { ...problem, objective: id };
+      const isSolved = !each || problems.SOLVED.has(problems.classOf(each));
+      const way = each && problems.isSearched(each) ? " (by a search)" : " (no method)";
+      return new Option(words + (isSolved ? "" : way), id);
     });
     this.at("objective").replaceChildren(...options);
     if (problem) this.at("objective").value = problem.objective;
@@ -126,12 +126,13 @@ export class ProblemView {
       type: "button", class: "link", title: problems.describe(near),
       click: () => this.store.change({ problem: problems.writeNotation(near) }),
     }, problems.writeNotation(near)));
-    const nearest = buttons.flatMap((button, k) => [k === 0 ? " Solved, and near to it: " : ", ",
-      button]);
+    const nearest = buttons.flatMap((button, k) => [k === 0
+      ? " Solved without a search, and near to it: " : ", ", button]);
+    const searched = this.makesPlans ? " is planned by a search; a proved bound shows that its "
+      + "plan is optimal, or how far from the optimum it can be."
+      : ": only a lower bound is computed.";
     return [html("p", { class: "note" }, html("strong", {}, name),
-      " has no exact method here: ", this.makesPlans ? "a good plan is searched for, and a proved "
-        + "bound says how far from the optimum it can be." : "only a lower bound is computed.",
-      nearest)];
+      problems.isSearched(problem) ? searched : " has no method here.", nearest)];
   }
 }
 
@@ -145,17 +146,14 @@ function unusedWords(problem, table) {
 /** What the table has and the problem ignores: “weights (3)”. */
 export function unusedColumns(problem, table) {
   const used = problems.columnsUsed(problem);
-  const counts = {
-    time: table.jobs.filter((job) => job.hasTime).length,
-    route: table.jobs.filter((job) => job.hasRoute).length,
-    time2: table.jobs.filter((job) => job.hasTime2).length,
-    weight: table.jobs.filter((job) => job.weight !== null).length,
-    release: table.jobs.filter((job) => job.hasRelease).length,
-    cost: table.jobs.filter((job) => job.hasCost).length,
-    after: table.arcs.length,
-  };
-  const words = { time: "times", route: "routes", time2: "times on machine 2",
-    weight: "weights", release: "release dates", cost: "cost functions", after: "precedence constraints" };
-  return Object.entries(counts).filter(([field, count]) => count > 0 && !used.has(field))
-    .map(([field, count]) => `${words[field] ?? FIELD_WORDS[field]} (${count})`);
+  const count = (has) => table.jobs.reduce((sum, job) => sum + (has(job) ? 1 : 0), 0);
+  return Object.entries({
+    time: ["times", (job) => job.hasTime], route: ["routes", (job) => job.hasRoute],
+    time2: ["times on machine 2", (job) => job.hasTime2],
+    weight: ["weights", (job) => job.weight !== null],
+    release: ["release dates", (job) => job.hasRelease],
+    cost: ["cost functions", (job) => job.hasCost], after: ["precedence constraints", null],
+  }).filter(([field]) => !used.has(field))
+    .map(([, [words, has]]) => [words, has ? count(has) : table.arcs.length])
+    .filter(([, found]) => found > 0).map(([words, found]) => `${words} (${found})`);
 }

@@ -112,6 +112,11 @@ export function hasRoutes(problem) {
   return problem?.environment === "J";
 }
 
+/** Whether plans of a problem without a solver are searched for. */
+export function isSearched(problem) {
+  return !/^[QR]|block|rcrc|hmax/.test(writeNotation(problem));
+}
+
 /** Whether the number of machines has to come from beside the notation; routes name theirs. */
 export function needsMachines(problem) {
   return problem.environment !== "1" && !hasRoutes(problem) && problem.count === null;

@@ -11,6 +11,8 @@ const HINTS = { name: "", time: "3", time2: "2", route: "3@1, 4@2", left: "", we
   due: "", release: "", cost: "0,5:10", after: "names" };
 const COLUMNS = Object.keys(FIELD_WORDS);
 const MOST_LISTED = 5;
+// The letters of a date without a time of day, as 2026-12-03.
+const DATE_LETTERS = 10;
 
 export class RowsView {
   /**
@@ -31,6 +33,9 @@ export class RowsView {
     this.calendar = null;
     this.body.addEventListener("input", (event) => this.edit(event.target));
     this.body.addEventListener("keydown", (event) => this.move(event));
+    for (const kind of ["focusin", "input", "focusout", "pointerover"]) {
+      this.body.addEventListener(kind, ({ target, type }) => showWhole(target, type));
+    }
     this.allColumns.addEventListener("change", () => this.draw());
   }
 
@@ -107,9 +112,11 @@ export class RowsView {
   /** A field, and beside it what is added to its text when it is read: a unit or a year. */
   cell(row, place, field) {
     const isNew = place === this.store.state.rows.length;
+    const isTimed = ["due", "release"].includes(field) && row[field].length > DATE_LETTERS;
     const input = html("input", {
       "aria-label": `${FIELD_WORDS[field]}, row ${place + 1}`, "data-field": field,
-      value: row[field], placeholder: isNew ? HINTS[field] : "", class: `in-${field}`,
+      value: row[field], placeholder: isNew ? HINTS[field] : "",
+      class: `in-${field}${isTimed ? " timed" : ""}`,
       autocomplete: "off", spellcheck: "false",
     });
     return html("td", {}, input, html("span", { class: "assumed-unit" },
@@ -244,4 +251,13 @@ export class RowsView {
 /** What is added to the text of a field when it is read, or "". */
 function addedTo(calendar, field, text) {
   return field === "route" ? unitOfRoute(calendar, text) : assumedOf(calendar, field, text);
+}
+
+/** Makes a field that cuts its text off wider while it has the focus, and tells it to the mouse. */
+function showWhole(field, when) {
+  if (!field.dataset.field) return;
+  const isCut = field.scrollWidth > field.clientWidth;
+  if (when === "pointerover") field.title = isCut ? field.value : "";
+  else if (when === "focusout") field.classList.remove("grown");
+  else if (isCut) field.classList.add("grown");
 }

@@ -13,6 +13,8 @@ const SIZES = /^\s*(\d{1,6})\s+(\d{1,4})\s*$/;
  * @returns {{name: string, machines: number, rows: object[]}[]} none where the text is no such file
  */
 export function readJobShops(text) {
+  const hasSizes = text.split("\n", FIRST_LINES).some((line) => SIZES.test(line));
+  if (!hasSizes && !text.includes("instance")) return [];
   const lines = text.replace(/^\uFEFF/, "").split(/\r?\n/);
   const begins = lines.flatMap((line, place) => INSTANCE.test(line) ? [place] : []);
   if (begins.length === 0) {

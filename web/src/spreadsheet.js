@@ -3,7 +3,7 @@
 import { needsCalendar } from "./calendar.js";
 import { plainLetters, unitOfWord } from "./lengths.js";
 import { isRouteText, timesOfRoute } from "./routes.js";
-import { FIELDS } from "./table.js";
+import { newRow } from "./table.js";
 
 const LONGEST_HEADING = 100;
 const UNIT_AT_END =
@@ -65,24 +65,31 @@ export function readCells(text) {
   const clean = text.replace(/^\uFEFF/, "");
   if (isBarred(clean)) return { cells: barredCells(clean), delimiter: "|" };
   const delimiter = findDelimiter(clean);
+  const rows = clean.includes('"') ? quotedCells(clean, delimiter)
+    : clean.split(/\r\n?|\n/).map((line) => line.split(delimiter).map((cell) => cell.trim()));
+  return { cells: rows.filter((each) => each.some((cell) => cell !== "")), delimiter };
+}
+
+/** The cells of a text of which some may stand in quotes. */
+function quotedCells(text, delimiter) {
   const rows = [];
   let row = [];
   let at = 0;
-  while (at < clean.length) {
-    const cell = readCell(clean, at, delimiter);
+  while (at < text.length) {
+    const cell = readCell(text, at, delimiter);
     row.push(cell.text.trim());
     at = cell.end;
-    if (clean[at] === delimiter) {
+    if (text[at] === delimiter) {
       at++;
-      if (at === clean.length) row.push("");
+      if (at === text.length) row.push("");
       continue;
     }
-    at += clean.startsWith("\r\n", at) ? 2 : 1;
+    at += text.startsWith("\r\n", at) ? 2 : 1;
     rows.push(row);
     row = [];
   }
   if (row.length > 0) rows.push(row);
-  return { cells: rows.filter((each) => each.some((cell) => cell !== "")), delimiter };
+  return rows;
 }
 
 /** Whether a text is a table with bars around its cells, as in Markdown: its first lines say so. */
@@ -248,17 +255,16 @@ export function partsOfHeading(heading) {
 export function rowsOfCells(cells, columns, plain = null) {
   const body = columns.headings ? cells.slice(1) : cells;
   const { fields, units } = columns;
-  const blank = Object.fromEntries(FIELDS.map((field) => [field, ""]));
   const used = fields.flatMap((field, place) => field
     ? [{ field, place, unit: units[place] === plain ? null : units[place] }] : []);
   return body.map((row) => {
-    const values = { ...blank };
+    const found = newRow();
     for (const { field, place, unit } of used) {
       const cell = row[place] ?? "";
-      values[field] = field === "route" ? withStep(values.route, cell, unit)
+      found[field] = field === "route" ? withStep(found.route, cell, unit)
         : unit && DATED.has(field) && /^\d[\d.,]*$/.test(cell) ? `${cell} ${unit}` : cell;
     }
-    return values;
+    return found;
   });
 }
 
@@ -281,9 +287,16 @@ export function unitOfTimes({ fields, units }) {
   return units[fields.lastIndexOf("time")] ?? units[fields.indexOf("route")] ?? null;
 }
 
+/** The different texts of some fields of rows. */
+export function textsOf(rows, ...fields) {
+  const texts = new Set();
+  for (const row of rows) for (const field of fields) texts.add(row[field]);
+  return [...texts];
+}
+
 /** Whether dates with slashes can only be read with the month first, as in 3/25/2025. */
 export function hasMonthFirst(rows) {
-  const parts = rows.flatMap((row) => [row.due, row.release])
+  const parts = textsOf(rows, "due", "release")
     .map((cell) => /(?:^|\s)(\d{1,2})\/(\d{1,2})(?!\d)/.exec(cell)).filter(Boolean);
   return parts.some((part) => Number(part[2]) > 12) && parts.every((part) => Number(part[1]) <= 12);
 }
@@ -292,7 +305,7 @@ export function hasMonthFirst(rows) {
 export function needCalendar(rows) {
   return rows.some((row) => needsCalendar(row.due) || needsCalendar(row.release)
     || needsCalendar(row.time) || needsCalendar(row.time2)
-    || timesOfRoute(row.route).some(needsCalendar));
+    || row.route !== "" && timesOfRoute(row.route).some(needsCalendar));
 }
 
 /**

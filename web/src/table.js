@@ -1,6 +1,6 @@
 // Rows, as people write them, to the job table that the solver reads, and back.
 
-import { lengthText, readDuration, readMoment } from "./calendar.js";
+import { isDated, lengthText, readDuration, readMoment } from "./calendar.js";
 import { MOST_MACHINES, machineText } from "./machines.js";
 import { NameIndex, quoteName, shortened, splitNames } from "./precedence.js";
 import { readLeft } from "./progress.js";
@@ -28,6 +28,7 @@ const ROUTE_WORDS = "Write its steps in their order, each as its time, @ and its
 const NO_ROUTE = `This job has no route. ${ROUTE_WORDS}`;
 const AT_ONCE = 20;
 const LINES_AT_ONCE = 500;
+const MOST_TEXTS = 50000;
 // The letters of a line of the job table beside a job's fields are no more than this.
 const MOST_BESIDE = 16;
 const NONE = [];
@@ -37,14 +38,15 @@ const FAILED_FORMULA = /^#(?:[\p{L}¡0-9/]{1,12}[!?]|N\/?[ADV]|N\/A)$/iu;
 /** What is added to texts: a unit to a time or to a date, a year, an order of day and month. */
 export const ASSUMED = { unit: 1, start: 2, year: 4, dayFirst: 8, endOfDay: 16 };
 
-const BLANK = Object.fromEntries(FIELDS.map((field) => [field, ""]));
+const BLANK = { id: 0, ...Object.fromEntries(FIELDS.map((field) => [field, ""])) };
 
 let lastId = 0;
 
 /** A row with an identity of its own, by which a kept plan knows it again. */
-export function newRow(values = {}) {
-  const row = { id: ++lastId, ...BLANK };
-  for (const field of FIELDS) if (values[field]) row[field] = values[field];
+export function newRow(values = null) {
+  const row = { ...BLANK };
+  row.id = ++lastId;
+  if (values) for (const field of FIELDS) if (values[field]) row[field] = values[field];
   return row;
 }
 
@@ -84,7 +86,21 @@ export class RowReader {
     this.used = used;
     this.goesOn = goesOn;
     this.known = new WeakMap();
+    this.texts = isDated(calendar) ? new Map() : null;
     this.index = null;
+  }
+
+  /** What a text of a field says; where reading takes long, remembered, since many are alike. */
+  textOf(field, text, reader, more) {
+    if (!this.texts) return reader(this.calendar, text, ...more);
+    const key = `${field} ${text}`;
+    let known = this.texts.get(key);
+    if (!known) {
+      if (this.texts.size > MOST_TEXTS) this.texts.clear();
+      known = reader(this.calendar, text, ...more);
+      this.texts.set(key, known);
+    }
+    return known;
   }
 
   /** The jobs of a table by their names. */
@@ -115,7 +131,8 @@ function nameOf(row, number) {
   return row.name.trim() || `Job ${number}`;
 }
 
-function readRow(row, place, number, { calendar, used }) {
+function readRow(row, place, number, rowReader) {
+  const { calendar, used } = rowReader;
   const findings = { faults: NONE, notes: NONE };
   let assumed = 0;
   const add = (kind, field, message) => {
@@ -124,7 +141,8 @@ function readRow(row, place, number, { calendar, used }) {
   const take = (field, reader, ...more) => {
     const text = row[field].trim();
     if (text === "") return null;
-    const found = hasFailed(text) ? failedFormula(text) : reader(calendar, text, ...more);
+    const found = hasFailed(text) ? failedFormula(text)
+      : rowReader.textOf(field, text, reader, more);
     if (found.fault) add(used.has(field) ? "faults" : "notes", field, found.fault);
     if (found.note) add("notes", field, found.note);
     assumed |= assumedIn(field, text, found);
@@ -157,11 +175,10 @@ function readRow(row, place, number, { calendar, used }) {
   const weight = take("weight", readWeight);
   const cost = take("cost", readCost);
   const steps = route && stepsLeft(route, times);
-  const fields = [isRouted ? "" : `p=${times.join()}`];
-  for (const [letter, value] of [["w", weight], ["d", due], ["r", start], ["h", cost]]) {
-    if (value !== null) fields.push(`${letter}=${value}`);
-  }
-  return { row: place, number, id: row.id, name: nameOf(row, number), fields: fields.join(" "),
+  const field = (letter, value) => value === null ? "" : ` ${letter}=${value}`;
+  const fields = `${isRouted ? "" : `p=${times.join()}`}${field("w", weight)}${field("d", due)}`
+    + field("r", start) + field("h", cost);
+  return { row: place, number, id: row.id, name: nameOf(row, number), fields,
     time: times.reduce((sum, each) => sum + each, 0), due, release: start ?? 0,
     hasRelease: release !== null, weight, hasCost: cost !== null, hasTime2, assumed, steps,
     hasRoute: row.route.trim() !== "", hasTime: row.time.trim() !== "",
