@@ -131,8 +131,12 @@ def prices(task, q, *rows):
     for j in task.jobs:
         last = max(task.r[j], len(rows))
         within(max(last + task.p[j], q * penalty(task, j, last + task.p[j])))
-        starts = range(task.r[j], min(last, horizon - task.p[j]) + 1)
-        total += min(q * penalty(task, j, s + task.p[j]) + sum(rows[s:s + task.p[j]]) for s in starts)
+        if "prmp" in task.conditions:  # its steps are in the mean (p + 1) / 2 before it completes, or earlier
+            steps = (q * task.w[j] * t + task.p[j] * sum(rows[t:t + 1]) for t in range(task.r[j], last + 1))
+            total += Fraction(q * task.w[j] * (task.p[j] + 1), 2) + min(steps)
+        else:
+            starts = range(task.r[j], min(last, horizon - task.p[j]) + 1)
+            total += min(q * penalty(task, j, s + task.p[j]) + sum(rows[s:s + task.p[j]]) for s in starts)
     return share(total, q)
 
 def alone(task):
@@ -171,15 +175,15 @@ def parts(task, start, end, late, *jobs):
     sum(left) > task.machines * room or reject("HasRoom")
     return late
 
-MAXIMA, SUMS, TARDY = "Cmax Lmax", "sumC sumwC sumT sumwT sumU sumwU", "sumC sumwC sumT sumwT"
-# Of each kind its value, and for which environments and objectives it is; `prmp` is left out of some.
-KINDS = {"machine": (machine, "1FOJ", MAXIMA), "window": (window, "1P", MAXIMA), "crowd": (crowd, "1P", MAXIMA, "prmp"),
-         "job": (one_job, "1PFOJ", MAXIMA), "multipliers": (multipliers, "1PFOJ", TARDY), "prices": (prices, "1P", SUMS, "prmp"),
+MAXIMA, SUMS, TARDY, COMPLETIONS = "Cmax Lmax", "sumC sumwC sumT sumwT sumU sumwU", "sumC sumwC sumT sumwT", "sumC sumwC"
+# Of each kind its value, and for which environments and objectives it is; with `prmp` some are for fewer objectives.
+KINDS = {"machine": (machine, "1FOJ", MAXIMA), "window": (window, "1P", MAXIMA), "crowd": (crowd, "1P", MAXIMA, ""),
+         "job": (one_job, "1PFOJ", MAXIMA), "multipliers": (multipliers, "1PFOJ", TARDY), "prices": (prices, "1P", SUMS, COMPLETIONS),
          "alone": (alone, "1PFOJ", SUMS), "kept": (kept, "1P", "sumU"), "shortest": (shortest, "1", "sumC"), "ranks": (ranks, "1P", "sumC"),
          "parts": (parts, "1P", MAXIMA)}
 def kinds_for(task):
-    return [kind for kind, (_, environments, goals, *left_out) in KINDS.items()
-            if task.env in environments and task.goal in goals.split() and not set(left_out) & set(task.conditions)]
+    return [kind for kind, (_, environments, *goals) in KINDS.items()
+            if task.env in environments and task.goal in goals[-1 if "prmp" in task.conditions else 0].split()]
 
 # How many numbers a kind has before its list, with the range of each, and what stands in the list.
 MACHINE, COUNT, ANY, JOB, VALUE = (1, MOST_MACHINES), (0, MOST_JOBS), (0, LIMIT), (1, MOST_JOBS), (-2**63, MOST_VALUE)

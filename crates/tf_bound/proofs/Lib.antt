@@ -1,5 +1,6 @@
 pub mod RowSums
 pub mod Cheapest
+pub mod RowPrices
 pub mod Steps
 pub mod Seen
 pub mod RouteTime

@@ -1,10 +1,10 @@
 -- Which kind of certificate bounds the tasks of which problem.
-use Rattle.std.specs.Prelude.{Bool, true, false, not, ◌&&◌, ◌||◌}
+use Rattle.std.specs.Prelude.{Bool, true, false, not, ◌&&◌, ◌||◌, if◌then◌else◌}
 use Rattle.tf_model.specs.declared.problem.Problem.{Problem}
 use Rattle.tf_model.specs.declared.problem.Goal.{Goal}
 use Rattle.tf_model.specs.declared.problem.Goal.TheVariants as goals
 use Rattle.tf_model.specs.ClassTable.{is_single_env, is_shop_env}
-use Rattle.tf_problem.specs.ProblemBounds.{is_alike, is_by_machine, is_max_goal, is_sum_goal, is_tardy_goal}
+use Rattle.tf_problem.specs.ProblemBounds.{is_alike, is_by_machine, is_completion_goal, is_max_goal, is_sum_goal, is_tardy_goal}
 
 -- the makespan or the maximum lateness, on one machine or in a shop
 abbrev pub takes_machine : Problem → Bool
@@ -26,9 +26,11 @@ takes_one_job p = (is_alike p.env || is_shop_env p.env) && is_max_goal p.goal
 abbrev pub takes_multipliers : Problem → Bool
 takes_multipliers p = (is_alike p.env || is_shop_env p.env) && is_tardy_goal p.goal
 
--- a sum over jobs that are not preempted, on one machine or on identical ones
+-- a sum over the jobs, on one machine or on identical ones; of completion times, where jobs may be
+-- preempted
 abbrev pub takes_prices : Problem → Bool
-takes_prices p = (is_alike p.env && not p.prmp) && is_sum_goal p.goal
+takes_prices p =
+    is_alike p.env && (if p.prmp then is_completion_goal p.goal else is_sum_goal p.goal)
 
 -- a sum over the jobs
 abbrev pub takes_alone : Problem → Bool

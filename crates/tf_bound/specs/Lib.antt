@@ -5,6 +5,7 @@ pub mod Steps
 pub mod Refused
 pub mod RowSums
 pub mod Prices
+pub mod RowPrices
 pub mod Kinds
 pub mod Faulted
 pub mod ArcEnds

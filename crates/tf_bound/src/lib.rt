@@ -19,6 +19,7 @@ pub mod pushed;
 pub mod ranks;
 mod route_time;
 pub mod routed_times;
+mod row_prices;
 pub mod row_sums;
 pub mod shortest;
 pub mod task;

@@ -1,5 +1,5 @@
 //! The bound of a sum by prices of the rows: each job at its cheapest start, less what all machines
-//! can take in.
+//! can take in. Where jobs may be preempted, each of a job's rows is a cheapest one.
 ghost use Rattle.std.specs.Prelude.{◌≡◌, ℕ, ◌+◌, ◌*◌, ◌≤◌, ℤ, pos, ◌-ℤ◌, length, sum, IfOk};
 ghost use Rattle.std.specs.Prelude.{◌^◌, ◌||◌, is_none, nat_le, nat_lt, IfSome, IsTrue, IsFalse};
 ghost use Rattle.std.specs.List.{All, list_any};
@@ -8,16 +8,19 @@ ghost use Rattle.tf_model.specs.Limit.{limit};
 ghost use Rattle.tf_model.specs.Whole.{IsWithin};
 ghost use Rattle.tf_problem.specs.ProblemData.{IsProblemJob, problem_jobs, problem_release};
 ghost use Rattle.tf_problem.specs.ProblemCost.{IsLowerBound};
-ghost use Rattle.tf_problem.specs.ProblemBounds.{is_alike, is_sum_goal, horizon, numerator};
+ghost use Rattle.tf_problem.specs.ProblemBounds.{is_alike, is_completion_goal, is_sum_goal};
+ghost use Rattle.tf_problem.specs.ProblemBounds.{horizon, numerator};
 ghost use Rattle.tf_problem.specs.ProblemBounds.{share_up, AreCheapest};
 ghost use Rattle.tf_bound.specs.Kinds.{takes_prices};
 ghost use Rattle.tf_bound.specs.Faulted.{are_prices_large, is_dear, prices_fault, too_large};
 ghost use Rattle.tf_bound.specs.Faulted.{NamesFault};
 ghost use Rattle.tf_bound.specs.RowSums.{AreSums, late_steps};
-ghost use Rattle.tf_bound.specs.Prices.{IsCheapestFor, IsPaidFor, IsPricesBound, is_by_unit};
+ghost use Rattle.tf_bound.specs.Prices.{IsCheapestFor, IsPaidFor, IsPricesBound, IsStartsBound};
+ghost use Rattle.tf_bound.specs.Prices.{is_by_unit};
 
 use crate::fault::BoundFault;
 use crate::horizon::horizon;
+use crate::row_prices::rows_bound;
 use crate::row_sums::{Cheapest, StartingJob, cheapest_start, late_steps, sum_rows};
 use crate::task::ProblemTask;
 use std::alloc::Allocator;
@@ -27,19 +30,24 @@ use tf_model::memory::OutOfMemory;
 use tf_model::problem::{Env, Goal};
 use tf_problem::laws::{cheapest_law, prices_law};
 
-/// Whether prices bound a problem: a sum over jobs that are not preempted, where each has one
-/// time.
+/// Whether prices bound a problem: a sum over the jobs, where each has one time; of completion
+/// times, where jobs may be preempted.
 pub fn takes_prices<A: Allocator>(task: &ProblemTask<A>) -> bool
     ensures exact { result ≡ takes_prices task.now.problem }
     ensures alike { IsTrue result → IsTrue (is_alike task.now.problem.env) }
     ensures one_time { IsTrue result → IsFalse (is_shop_env task.now.problem.env) }
-    ensures whole { IsTrue result → IsFalse task.now.problem.prmp }
     ensures sum { IsTrue result → IsTrue (is_sum_goal task.now.problem.goal) }
+    ensures completions { IsTrue result → IsTrue task.now.problem.prmp →
+        IsTrue (is_completion_goal task.now.problem.goal) }
 {
     let problem = task.problem();
     let alike = matches!(problem.env, Env::Single | Env::Parallel);
-    let greatest = matches!(problem.goal, Goal::Cmax | Goal::Lmax | Goal::Hmax);
-    alike && !problem.prmp && !greatest
+    let sum = if problem.prmp {
+        matches!(problem.goal, Goal::SumC | Goal::SumWC)
+    } else {
+        !matches!(problem.goal, Goal::Cmax | Goal::Lmax | Goal::Hmax)
+    };
+    alike && sum
 }
 
 /// Whether the objective counts late jobs.
@@ -92,8 +100,8 @@ fn cheapest_of<A: Allocator>(
     Some(cheapest_start(prices, sums, starting))
 }
 
-// The weight of a job times q, where what it costs at `end` is within the limit.
-fn slope_within(by_unit: bool, q: u64, weight: u64, due: i64, end: u64) -> Option<u64>
+/// The weight of a job times q, where what it costs at `end` is within the limit.
+pub(crate) fn slope_within(by_unit: bool, q: u64, weight: u64, due: i64, end: u64) -> Option<u64>
     requires end { end ≤ limit }
     requires weight { weight ≤ limit }
     requires due { IsWithin due }
@@ -184,7 +192,7 @@ fn prices_value(machines: u32, all: u64, cheapest: &[u64], q: u64) -> i128
 }
 
 /// The bound by the prices of the rows from 0 on, which are over q. It takes memory for the rows
-/// and for the jobs.
+/// and for the jobs, or none where jobs may be preempted.
 pub fn prices_bound<A: Allocator + Copy, B: Allocator>(
     alloc: A,
     task: &ProblemTask<B>,
@@ -200,6 +208,9 @@ pub fn prices_bound<A: Allocator + Copy, B: Allocator>(
     }
     if q == 0 {
         return Err(BoundFault::NoDenominator);
+    }
+    if task.problem().prmp {
+        return rows_bound(task, q, prices);
     }
     let Ok(mut sums) = vec![in alloc; 0_u64; prices.len() + 1] else {
         return Err(BoundFault::OutOfMemory);
@@ -222,7 +233,7 @@ fn bound_with<A: Allocator, B: Allocator>(
     requires some { 1 ≤ q }
     requires sums { length sums.old ≡ length prices.now + 1 }
     ensures fault { NamesFault (too_large (are_prices_large task.now q prices.now)) result }
-    ensures value { IfOk result (IsPricesBound task.now q prices.now) }
+    ensures value { IfOk result (IsStartsBound task.now q prices.now) }
     ensures bound { IfOk result (IsLowerBound task.now) }
 {
     if !sum_rows(prices, sums) {

@@ -115,20 +115,20 @@ fn total_of(times: &[u64]) -> u64
     times.iter().sum()
 }
 
-// The sum of the times, where it is within the limit.
-fn work_of(times: &[u64]) -> Option<u64>
-    ensures value { IfSome result (λ work. work ≡ sum times.now) }
-    ensures small { IfSome result (λ work. work ≤ limit) }
-    ensures large { IfNone result (limit < sum times.now) }
+/// The sum of some numbers, where it is within the limit.
+pub(crate) fn sum_within(numbers: &[u64]) -> Option<u64>
+    ensures value { IfSome result (λ total. total ≡ sum numbers.now) }
+    ensures small { IfSome result (λ total. total ≤ limit) }
+    ensures large { IfNone result (limit < sum numbers.now) }
 {
-    let mut work: u64 = 0;
-    for time in times {
-        if *time > LIMIT as u64 - work {
+    let mut total: u64 = 0;
+    for number in numbers {
+        if *number > LIMIT as u64 - total {
             return None;
         }
-        work += *time;
+        total += *number;
     }
-    Some(work)
+    Some(total)
 }
 
 // Whether the job is of a job shop and has no route.
@@ -157,7 +157,7 @@ fn sized_work<A: Allocator>(env: Env, machines: u32, job: &ProblemJob<A>) -> Opt
     if job.weight > limit || job.release > limit || job.due < -LIMIT || job.due > LIMIT {
         return None;
     }
-    let work = work_of(times)?;
+    let work = sum_within(times)?;
     if work == 0 {
         return None;
     }

@@ -14,6 +14,7 @@ pub mod Rising
 pub mod Thinned
 pub mod Horizon
 pub mod Prices
+pub mod RowPrices
 pub mod FitsTest
 pub mod ProblemExamples
 pub mod HorizonExamples

@@ -29,7 +29,7 @@ as_one t = cond t 1 0
 -- ---- what a job pays
 
 -- the prices of the cells that a job has
-abbrev paid : List ℕ → Timetable → ℕ → ℕ
+abbrev pub paid : List ℕ → Timetable → ℕ → ℕ
 paid [] rows j = 0
 paid (x ∷ prices) [] j = 0
 paid (x ∷ prices) (row ∷ rows) j = x * cells_of j row + paid prices rows j
@@ -38,7 +38,7 @@ sum_of : (x : ℕ) (xs : List ℕ) → sum (x ∷ xs) ≡ x + sum xs
 sum_of x xs = sum_by-cons (λ y. y) x xs
 
 -- no row is paid for more often than it has cells
-room : (m : ℕ) (jobs : List ℕ) → IsDistinct jobs → (prices : List ℕ) (rows : Timetable)
+pub room : (m : ℕ) (jobs : List ℕ) → IsDistinct jobs → (prices : List ℕ) (rows : Timetable)
     → All (λ row. length row ≡ m) rows → sum_by (paid prices rows) jobs ≤ m * sum prices
 room m jobs distinct [] rows width = omega (arith, sum_by-zero_terms jobs)
 room m jobs distinct (x ∷ prices) [] width = omega (arith, sum_by-zero_terms jobs)

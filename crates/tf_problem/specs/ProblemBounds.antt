@@ -1,7 +1,7 @@
 -- The numbers that bound the task of a problem from below.
 use Rattle.std.specs.Prelude.{Bool, true, false, ◌||◌, ◌==◌, ℕ, ◌-◌, ◌+◌, ℤ, pos, negsuc, ◌+ℤ◌, ◌-ℤ◌, ◌*ℤ◌, ◌*◌, ◌≤◌, sum, take, drop, min, max, map, length, List, [], ◌∷◌, slice_index, if◌then◌else◌}
 use Rattle.std.specs.Int.{div_ceil}
-use Rattle.std.specs.List.{fold, sum_by}
+use Rattle.std.specs.List.{fold, range_with_len, sum_by}
 use Rattle.tf_model.specs.declared.problem.Goal.{Goal}
 use Rattle.tf_model.specs.declared.problem.Goal.TheVariants as goals
 use Rattle.tf_model.specs.declared.problem.Env.{Env}
@@ -28,6 +28,12 @@ is_tardy_goal goals.SumWC = true
 is_tardy_goal goals.SumT = true
 is_tardy_goal goals.SumWT = true
 is_tardy_goal _ = false
+
+-- the sums of completion times
+abbrev pub is_completion_goal : Goal → Bool
+is_completion_goal goals.SumC = true
+is_completion_goal goals.SumWC = true
+is_completion_goal _ = false
 
 -- the objectives that are sums over the jobs
 abbrev pub is_sum_goal : Goal → Bool
@@ -217,6 +223,32 @@ last_within k prices j =
 abbrev pub prices_value : ProblemData → ℕ → List ℕ → List ℕ → ℤ
 prices_value k q prices cheapest =
     share_up (pos (sum_by (numerator cheapest) (problem_jobs k)) -ℤ pos (k.machines * sum prices)) q
+
+-- ---- prices of single rows
+
+-- what one row costs job j, times its processing time: q times its weight for each row before, and
+-- the price of the row
+abbrev pub row_price : ProblemData → ℕ → List ℕ → ℕ → ℕ → ℕ
+row_price k q prices j t = q * problem_weight k j * t + problem_time k j * slice_index prices t
+
+-- The least of them from the release date on. A row after the first one without a price costs more.
+abbrev pub cheapest_row : ProblemData → ℕ → List ℕ → ℕ → ℕ
+cheapest_row k q prices j =
+    least_number (row_price k q prices j)
+    (range_with_len (problem_release k j) (length prices - problem_release k j + 1))
+
+-- Twice what job j costs, if it may be preempted and each of its rows is a cheapest one. Their mean
+-- is at least half of the processing time before the completion.
+abbrev pub rows_cost : ProblemData → ℕ → List ℕ → ℕ → ℕ
+rows_cost k q prices j =
+    q * problem_weight k j * (problem_time k j + 1) + 2 * cheapest_row k q prices j
+
+-- what the jobs cost at least, less all prices on each machine, over q (Goemans, Queyranne, Schulz,
+-- Skutella and Wang 2002)
+abbrev pub rows_value : ProblemData → ℕ → List ℕ → ℤ
+rows_value k q prices =
+    share_up
+    (pos (sum_by (rows_cost k q prices) (problem_jobs k)) -ℤ pos (2 * k.machines * sum prices)) (2 * q)
 
 -- ---- each job by itself
 

@@ -15,7 +15,7 @@ use Rattle.tf_problem.specs.ProblemData.{ProblemData, IsProblemSound, IsProblemJ
 use Rattle.tf_problem.specs.ProblemCost.{IsLowerBound}
 use Rattle.tf_problem.specs.Relaxed.{IsRelaxation, window_task, load_task, rank_task, weighed_task, pair_task}
 use Rattle.tf_problem.specs.Pushed.{pushed, AreReleases, AreServingDues}
-use Rattle.tf_problem.specs.ProblemBounds.{pair_margin, window_value, crowd_value, one_job_value, machine_value, AreMultipliers, any_multiplier_value, numerator, is_alike, is_by_machine, is_max_goal, is_tardy_goal, is_sum_goal, horizon, AreCheapest, last_within, prices_value, start_price, alone_cost}
+use Rattle.tf_problem.specs.ProblemBounds.{pair_margin, window_value, crowd_value, one_job_value, machine_value, AreMultipliers, any_multiplier_value, numerator, is_alike, is_by_machine, is_max_goal, is_tardy_goal, is_completion_goal, is_sum_goal, horizon, AreCheapest, last_within, prices_value, start_price, rows_value, alone_cost}
 
 -- ---- relaxation
 
@@ -101,6 +101,12 @@ PricesLaw = (k : ProblemData) → IsProblemSound k → IsTrue (is_alike k.proble
     → IsFalse k.problem.prmp → IsTrue (is_sum_goal k.problem.goal) → (q : ℕ) → 1 ≤ q
     → (prices cheapest : List ℕ) → AreCheapest k q prices cheapest
     → IsLowerBound k (prices_value k q prices cheapest)
+
+-- prices of the rows, whether or not jobs are preempted: the sums of completion times
+abbrev pub RowPricesLaw : Type 0
+RowPricesLaw = (k : ProblemData) → IsProblemSound k → IsTrue (is_alike k.problem.env)
+    → IsTrue (is_completion_goal k.problem.goal) → (q : ℕ) → 1 ≤ q → (prices : List ℕ)
+    → IsLowerBound k (rows_value k q prices)
 
 -- it is enough to look at the starts up to the last one that matters, and there is one
 pub record CheapestLaw (k : ProblemData) : Type 0 where

@@ -4,6 +4,7 @@ ghost use Rattle.tf_problem.specs.ProblemData.{ProblemData, IsProblemSound};
 ghost use Rattle.tf_problem.specs.ProblemLaws.{CertificateLaw, BestLaw, RelaxationLaw, PushedLaw};
 ghost use Rattle.tf_problem.specs.ProblemLaws.{WindowLaw, CrowdLaw, OneJobLaw, MachineLaw};
 ghost use Rattle.tf_problem.specs.ProblemLaws.{MultiplierLaw, PricesLaw, CheapestLaw, AloneLaw};
+ghost use Rattle.tf_problem.specs.ProblemLaws.{RowPricesLaw};
 ghost use Rattle.tf_problem.specs.Kept.{KeptBestLaw, KeptLaw};
 ghost use Rattle.tf_problem.specs.Shortest.{ShortestBestLaw, ShortestLaw};
 ghost use Rattle.tf_problem.specs.Ranks.{RankBestLaw, RankLaw};
@@ -59,6 +60,12 @@ pub fn multiplier_law()
 /// A lower bound by prices of the rows, for any sum over jobs that are not preempted.
 pub fn prices_law()
     ensures { PricesLaw }
+{}
+
+/// A lower bound by prices of the rows of the sum of weighted completion times, where jobs may be
+/// preempted, by mean busy times (Goemans, Queyranne, Schulz, Skutella and Wang 2002).
+pub fn row_prices_law()
+    ensures { RowPricesLaw }
 {}
 
 /// The starts among which a job's cheapest is found, for the prices.

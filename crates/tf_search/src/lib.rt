@@ -14,6 +14,7 @@ pub mod multiplier_search;
 pub mod price_search;
 pub mod price_start;
 mod ranked;
+mod row_prices;
 pub mod sequence;
 pub mod strongest;
 mod windows;

@@ -100,7 +100,7 @@ pub struct PriceBound<A: Allocator = Global> {
     pub target: u64,
 }
 
-/// The bound by prices that so many steps find.
+/// The bound by prices that so many steps find, where no job is preempted.
 pub fn price_bound<A: Allocator + Copy, B: Allocator>(
     alloc: A,
     task: &ProblemTask<B>,
@@ -108,7 +108,7 @@ pub fn price_bound<A: Allocator + Copy, B: Allocator>(
 ) -> Result<PriceBound<A>, BoundFault>
     ensures { IfOk result (λ found. IsLowerBound task.now found.value) }
 {
-    if !takes_prices(task) {
+    if !takes_prices(task) || task.problem().prmp {
         return Err(BoundFault::OtherKind);
     }
     let (prices, target) = prices_along(alloc, task, steps)?;
@@ -140,7 +140,8 @@ fn prices_along<A: Allocator + Copy, B: Allocator>(
     Ok((found, target))
 }
 
-/// The prices of the greatest value that steps find from a start. `target` is what a schedule costs.
+/// The prices of the greatest value that steps find from a start, where no job is preempted. `target`
+/// is what a schedule costs.
 pub fn search_prices<A: Allocator + Copy, B: Allocator, P: Progress>(
     alloc: A,
     task: &ProblemTask<B>,
@@ -149,7 +150,7 @@ pub fn search_prices<A: Allocator + Copy, B: Allocator, P: Progress>(
     steps: Steps,
     effort: &mut Effort<P>,
 ) -> Result<Prices<A>, BoundFault> {
-    if !takes_prices(task) {
+    if !takes_prices(task) || task.problem().prmp {
         return Err(BoundFault::OtherKind);
     }
     let target = Target {

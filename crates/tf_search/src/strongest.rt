@@ -15,6 +15,7 @@ use crate::multiplier_search::multiplier_bound;
 use crate::price_search::{Steps, search_prices};
 use crate::price_start::{Prices, coarser_prices, prices_by_due, sequence_prices};
 use crate::ranked::{Rank, crowd_front, crowded_above, jobs_by_rank, release_dates, window_front};
+use crate::row_prices::row_prices;
 use crate::sequence::best_order;
 use crate::windows::{jobs_within, strongest_window};
 use std::alloc::{Allocator, Global};
@@ -40,10 +41,10 @@ const MOST_COUNTED: usize = 500_000;
 
 // How many visits of a row by a job the steps of a search for prices may take, where the caller
 // does not say how many steps it takes.
-const MOST_VISITS: u64 = 500_000_000;
+const MOST_VISITS: u64 = 1_000_000_000;
 
 // The steps that a search for prices takes at most, where the caller does not say how many.
-const USUAL_STEPS: u64 = 2_000;
+const USUAL_STEPS: u64 = 3_000;
 
 /// A certificate of a task, and its value.
 #[derive(Drop)]
@@ -177,10 +178,11 @@ fn without_arcs<A: Allocator + Copy, B: Allocator, P: Progress>(
     ensures { IfOk result (IsFoundOn task.now) }
 {
     let alone = by_each_alone(alloc, task)?;
-    match of_sum(alloc, task, effort)? {
-        Some(best) => Ok(stronger(best, Some(alone))),
-        None => Ok(alone),
-    }
+    let best = match of_sum(alloc, task, effort)? {
+        Some(best) => stronger(best, Some(alone)),
+        None => alone,
+    };
+    Ok(stronger(best, by_rows(alloc, task)?))
 }
 
 // The jobs of a sum, each alone.
@@ -545,7 +547,7 @@ fn by_prices<A: Allocator + Copy, B: Allocator, P: Progress>(
     ensures { IfOk result (λ best. IfSome best (IsFoundOn task.now)) }
 {
     let steps = steps_for(task, effort.steps);
-    if steps == 0 {
+    if steps == 0 || task.problem().prmp {
         return Ok(None);
     }
     let (order, target) = match best_order(alloc, task) {
@@ -559,6 +561,19 @@ fn by_prices<A: Allocator + Copy, B: Allocator, P: Progress>(
     let best = from_start(alloc, task, start, target, steps, effort)?;
     effort.is_over();
     Ok(best)
+}
+
+// The prices of the rows that jobs share, where they may be preempted.
+fn by_rows<A: Allocator + Copy, B: Allocator>(
+    alloc: A,
+    task: &ProblemTask<B>,
+) -> Result<Option<Found<A>>, OutOfMemory>
+    ensures { IfOk result (λ best. IfSome best (IsFoundOn task.now)) }
+{
+    match row_prices(alloc, task)? {
+        Some(prices) => rounded_prices(alloc, task, prices),
+        None => Ok(None),
+    }
 }
 
 // The best prices that are found from those of a sequence, which costs the target.
@@ -598,6 +613,19 @@ fn judged_prices<A: Allocator + Copy, B: Allocator>(
     judged(alloc, task, certificate)
 }
 
+// The value of prices, rounded where that costs nothing.
+fn rounded_prices<A: Allocator + Copy, B: Allocator>(
+    alloc: A,
+    task: &ProblemTask<B>,
+    prices: Prices<A>,
+) -> Result<Option<Found<A>>, OutOfMemory>
+    ensures { IfOk result (λ best. IfSome best (IsFoundOn task.now)) }
+{
+    let coarse = coarser_prices(alloc, &prices)?;
+    let best = judged_prices(alloc, task, coarse)?;
+    improved(best, judged_prices(alloc, task, prices))
+}
+
 // The best prices that steps find from a start, rounded where that costs nothing.
 fn by_steps<A: Allocator + Copy, B: Allocator, P: Progress>(
     alloc: A,
@@ -612,9 +640,7 @@ fn by_steps<A: Allocator + Copy, B: Allocator, P: Progress>(
     let Some(prices) = searched(search_prices(alloc, task, start, target, steps, effort))? else {
         return Ok(None);
     };
-    let coarse = coarser_prices(alloc, &prices)?;
-    let best = judged_prices(alloc, task, coarse)?;
-    improved(best, judged_prices(alloc, task, prices))
+    rounded_prices(alloc, task, prices)
 }
 
 // From prices that fall at due dates, and from none, unless the former bounds the cost of a known
@@ -660,7 +686,7 @@ fn known_cost<A: Allocator, B: Allocator>(
 }
 
 // The steps that a search for prices takes: those that were asked for, or as many as a moderate
-// number of visits allows.
+// number of visits allows, of late jobs half as many, since two searches are made of them.
 fn steps_for<B: Allocator>(task: &ProblemTask<B>, asked: Option<u32>) -> u32
     requires { IsFalse (is_shop_env task.now.problem.env) }
 {
@@ -675,5 +701,10 @@ fn steps_for<B: Allocator>(task: &ProblemTask<B>, asked: Option<u32>) -> u32
     }
     let rows = last.saturating_add(work / u64::from(task.machines()).max(1));
     let visits = rows.saturating_mul(task.len() as u64).max(1);
-    (MOST_VISITS / visits).min(USUAL_STEPS) as u32
+    let steps = (MOST_VISITS / visits).min(USUAL_STEPS) as u32;
+    if is_by_unit(task.problem().goal) {
+        steps.div_ceil(2)
+    } else {
+        steps
+    }
 }

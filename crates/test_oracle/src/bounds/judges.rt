@@ -117,6 +117,22 @@ const IN_INTERVALS: &[Case] = &[
     (Sample::Flow, Kind::Parts(0, 1, 2), &[2, 3], None),
 ];
 
+// Of jobs that may be preempted. Job 4 of `Remaining` costs 1, and 9 in step 9; without prices the
+// others cost 5/2 + 0, 3/2 + 1 and 1 + 2.
+const BY_ROWS: &[Case] = &[
+    (Sample::Remaining, Kind::Prices(1), &[], Some(18)),
+    (Sample::Remaining, Kind::Prices(1), &[2], Some(17)),
+    (
+        Sample::Remaining,
+        Kind::Prices(4),
+        &[7, 9, 9, 5, 3, 2, 1, 0, 0, 4],
+        Some(23),
+    ),
+    (Sample::Remaining, Kind::Prices(0), &[1], None),
+    (Sample::Dealt, Kind::Prices(1), &[1], Some(8)),
+    (Sample::Dealt, Kind::Prices(6), &[10, 7, 4, 2], Some(11)),
+];
+
 // The jobs of these numbers.
 fn jobs_of(alloc: Global, values: &[u64]) -> Result<Vec<JobId>, AllocError> {
     let mut jobs = Vec::new(alloc);
@@ -179,5 +195,6 @@ fn each_kind_bounds_what_was_worked_by_hand(rt: HostRuntime) -> Result<(), Fail>
     assert!(rt; are_bounded(rt.alloc(), CASES)?);
     assert!(rt; are_bounded(rt.alloc(), IN_ORDER)?);
     assert!(rt; are_bounded(rt.alloc(), IN_INTERVALS)?);
+    assert!(rt; are_bounded(rt.alloc(), BY_ROWS)?);
     Ok(())
 }
