@@ -34,6 +34,15 @@ PLANS = (
 # A job shop, the steps, if they are not the usual ones, and the percent above the least makespan known.
 JOB_SHOPS = (("ft06", "20", 0), ("ft10", "40", 6.3), ("ta01", "40", 6.3), ("ft10", None, 0))
 
+# Open shops without waits: the times of each job, and the least makespan of all orders of the jobs and of their operations.
+OPEN_SHOPS = (
+    (((15, 18), (15, 15), (17, 19), (7, 6)), 63),
+    (((17, 16), (20, 6), (4, 15), (10, 5)), 51),
+    (((3, 18), (2, 20), (13, 15), (20, 6)), 59),
+    (((20, 1), (17, 3), (2, 2), (7, 8)), 46),
+    (((20, 1), (15, 11), (15, 19), (7, 17)), 57),
+)
+
 
 def mean_above(program, problem, texts, costs, steps):
     """How many percent above the best costs known the plans of a family are in the mean."""
@@ -42,6 +51,11 @@ def mean_above(program, problem, texts, costs, steps):
         value = Measured(words_for(program, "plan", problem, text, steps), text).value
         percents.append(gap(max(value, cost), cost, text, problem))
     return sum(percents) / len(percents)
+
+
+def table_of(times):
+    """A job table."""
+    return "table 1\n" + "".join(f"job {number} p={one},{other}\n" for number, (one, other) in enumerate(times, 1))
 
 
 def measured(program, word):
@@ -57,6 +71,10 @@ def measured(program, word):
             operations, least = shops[name]
             value, _, _ = planned(program, name, text_of(name, operations), steps)
             yield name, most, 100 * (value - least) / least
+    name = "O2|nwt|Cmax"
+    if word in name:
+        texts, costs = [table_of(times) for times, _ in OPEN_SHOPS], [least for _, least in OPEN_SHOPS]
+        yield name, 0, mean_above(program, name, texts, costs, None)
 
 
 def main(program, word=""):

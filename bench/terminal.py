@@ -4,11 +4,12 @@
     python3 bench/terminal.py PROGRAM
 
 On a terminal a refusal is explained, unless --explain=never is given, and a long search shows how far it is on a line that it
-clears at the end. On a pipe there is the line of the fault alone. Standard output and status are the same. Sessions are played on
+clears at the end: of a bound the steps, of a plan what the best schedule costs and the lower bound. On a pipe there is the line of the fault alone. Standard output and status are the same. Sessions are played on
 pipes, so only this check sees that the program asks whether there is a terminal.
 """
 import os
 import pty
+import re
 import subprocess
 import sys
 import tempfile
@@ -16,6 +17,8 @@ import tempfile
 FAULT = "threefield: refused: BadLine 1\n"
 HEADING = "The heading is missing.\n"
 STEP, CLEARED = "\rstep ", "\r\x1b[K"
+MAY_BE_BEATEN = "Whether a schedule costs less is not known."
+COST = re.compile("\r\x1b\\[Kcost (-?[0-9]+), bound (-?[0-9]+), ([0-9]+) % of the search")
 
 
 def on_pipe(words, folder):
@@ -38,6 +41,19 @@ def on_terminal(words, folder):
     return process.wait(), written, said.decode().replace("\r\n", "\n")
 
 
+def value_behind(words, text):
+    """The number behind these words at the beginning of a line."""
+    return int(re.search(rf"^{words} (-?[0-9]+)$", text, re.MULTILINE)[1])
+
+
+def shows_costs(said, plan):
+    """Whether the shown costs never rise and end with the plan's, beside its bound and up to the whole search."""
+    shown = [tuple(map(int, found)) for found in COST.findall(said)]
+    costs, bounds, parts = zip(*shown) if shown else ((), (), ())
+    falls = all(one >= other for one, other in zip(costs, costs[1:])) and list(parts) == sorted(parts)
+    return bool(shown) and falls and costs[-1] == value_behind("value", plan) and set(bounds) == {value_behind("# value", plan)}
+
+
 def cases(program, folder):
     """Each case by its name, and whether it is as it should be."""
     with open(os.path.join(folder, "bad.txt"), "w", encoding="ascii") as file:
@@ -53,7 +69,17 @@ def cases(program, folder):
     search = [program, "bound", "-p", "1||sumwT", "--steps", "200", "jobs.txt"]
     pipe, terminal = on_pipe(search, folder), on_terminal(search, folder)
     yield "a search on a pipe", pipe[0] == 0 and pipe[2] == ""
+    explained = on_pipe([*search, "--explain"], folder)
+    yield "an explained search on a pipe", explained[:2] == pipe[:2] and STEP not in explained[2]
     yield "a search on a terminal", terminal[:2] == pipe[:2] and STEP in terminal[2] and terminal[2].endswith(CLEARED)
+    with open(os.path.join(folder, "shop.txt"), "w", encoding="ascii") as file:
+        rows = "".join(f"0 {3 + 7 * k % 11} 1 {1 + 5 * k % 13} 2 {2 + 3 * k % 7}\n" for k in range(1, 16))
+        file.write(f"instance shop\n15 3\n{rows}")
+    search = [program, "plan", "-p", "F3||sumC", "-f", "flow", "--name", "shop", "--steps", "2000", "shop.txt"]
+    pipe, terminal = on_pipe(search, folder), on_terminal(search, folder)
+    yield "a plan on a pipe", pipe[0] == 6 and pipe[2] == ""
+    is_cleared = f"{CLEARED}{MAY_BE_BEATEN}" in terminal[2]
+    yield "a plan on a terminal", terminal[:2] == pipe[:2] and is_cleared and shows_costs(terminal[2], pipe[1].decode())
 
 
 def main(program):

@@ -22,6 +22,7 @@ use tf_engine::fault::RunFault;
 use tf_engine::request::Request;
 use tf_evaluate::evaluation::Standing;
 use tf_options::options::Evaluating;
+use tf_planning::progress::PlanProgress;
 use tf_planning::writing::Planned;
 use tf_search::effort::{Effort, Nobody, Progress};
 use tf_text::counted::Counted;
@@ -29,11 +30,17 @@ use tf_text::counted::Counted;
 /// The most bytes of the line.
 const LINE: usize = 64;
 
+/// How many steps the search for a schedule has at least that is shown.
+const LEAST_SHOWN: u64 = 5_000_000;
+
 /// A line on a terminal that says how far a search is, which is gone when the search is over.
 #[derive(Drop)]
 struct StepLine<'a, E> {
     errors: &'a mut Counted<E>,
     is_shown: bool,
+    // The best cost that is shown, and how many hundredths of the steps.
+    cost: i128,
+    percent: u64,
 }
 
 impl<E: Write> Progress for StepLine<'_, E> {
@@ -55,8 +62,40 @@ impl<E: Write> Progress for StepLine<'_, E> {
     /// Clears the line.
     fn is_over(&mut self) {
         if self.is_shown {
+            self.is_shown = false;
             send(self.errors, b"\r\x1b[K");
         }
+    }
+}
+
+impl<E: Write> PlanProgress for StepLine<'_, E> {
+    /// Is told at each hundredth of the steps of a long search, and where a schedule costs less.
+    fn at_cost(&mut self, done: u64, all: u64, cost: i128, bound: i128) {
+        let percent = done.saturating_mul(100).checked_div(all).unwrap_or(100);
+        if all < LEAST_SHOWN {
+            return;
+        }
+        if self.is_shown && percent == self.percent && cost == self.cost {
+            return;
+        }
+        self.is_shown = true;
+        self.percent = percent;
+        self.cost = cost;
+        let mut digits = Buffer::new();
+        let mut line = Gathered::<LINE>::new();
+        line.push(self.errors, b"\r\x1b[Kcost ");
+        line.push(self.errors, digits.format(cost).as_bytes());
+        line.push(self.errors, b", bound ");
+        line.push(self.errors, digits.format(bound).as_bytes());
+        line.push(self.errors, b", ");
+        line.push(self.errors, digits.format(percent).as_bytes());
+        line.push(self.errors, b" % of the search");
+        line.write(self.errors);
+    }
+
+    /// Clears the line.
+    fn has_plan(&mut self) {
+        self.is_over();
     }
 }
 
@@ -178,6 +217,8 @@ fn shown_on<E: Write>(errors: &mut Counted<E>, steps: Option<u32>) -> Effort<Ste
         progress: Some(StepLine {
             errors,
             is_shown: false,
+            cost: 0,
+            percent: 0,
         }),
     }
 }

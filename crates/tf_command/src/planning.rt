@@ -9,13 +9,20 @@ use tf_assess::run_rate::is_solved;
 use tf_engine::fault::RunFault;
 use tf_engine::request::Request;
 use tf_engine::run_solve::run_solve;
+use tf_planning::progress::PlanProgress;
 use tf_planning::run_plan::run_plan;
 use tf_planning::writing::Planned;
 use tf_search::effort::{Effort, Progress};
 use tf_text::counted::Counted;
 
 /// Solves a problem that has a solver, and plans every other one with an effort.
-pub fn plan_any<A: Allocator + Copy, B: Allocator, P: Progress + Drop, R: Read, W: Write>(
+pub fn plan_any<
+    A: Allocator + Copy,
+    B: Allocator,
+    P: Progress + PlanProgress + Drop,
+    R: Read,
+    W: Write,
+>(
     alloc: A,
     request: &Request<B>,
     effort: Effort<P>,

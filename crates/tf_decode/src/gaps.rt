@@ -1,9 +1,9 @@
-//! A job shop into which one job after another is inserted, each operation into the first gap of
-//! its machine that is long enough.
+//! A job shop or an open shop into which one job after another is inserted, each operation into the
+//! first gap of its machine that is long enough.
 use crate::measure::{LATE, Measure};
 use crate::routes::Operation;
 use crate::slots::{number_at, set_number};
-use crate::table::TaskTable;
+use crate::table::{Decoder, TaskTable};
 use std::alloc::{Allocator, Global};
 use tf_model::memory::OutOfMemory;
 
@@ -23,7 +23,25 @@ struct Gap {
     place: usize,
 }
 
-/// When the machines of a job shop are busy.
+// An operation of the last job, and its gap.
+#[derive(Clone, Copy)]
+struct Placed {
+    operation: Operation,
+    gap: Gap,
+}
+
+impl Placed {
+    // One that is not there.
+    const NONE: Placed = Placed {
+        operation: Operation::NONE,
+        gap: Gap { start: 0, place: 0 },
+    };
+}
+
+// The most operations of a job of an open shop that are tried in all their orders.
+const MOST_IN_ALL_ORDERS: usize = 4;
+
+/// When the machines of a shop are busy.
 #[derive(Drop)]
 pub struct Gaps<A: Allocator = Global> {
     // A row for each machine, in the order of time, with room for all its operations.
@@ -32,9 +50,12 @@ pub struct Gaps<A: Allocator = Global> {
     begins: Vec<u64, A>,
     // How many entries of each row are used.
     used: Vec<u64, A>,
-    // When each operation of the last job starts, and how many others are before it.
-    starts: Vec<u64, A>,
-    places: Vec<u64, A>,
+    // The operations of the last job in the order in which they run, and in the best one of the
+    // orders that were tried.
+    placed: Vec<Placed, A>,
+    best: Vec<Placed, A>,
+    // How many operations the last job has.
+    count: usize,
     /// How many entries were looked at or moved.
     pub steps: u64,
 }
@@ -46,8 +67,9 @@ impl<A: Allocator + Copy> Gaps<A> {
             busy: Vec::new(alloc),
             begins: Vec::new(alloc),
             used: Vec::new(alloc),
-            starts: Vec::new(alloc),
-            places: Vec::new(alloc),
+            placed: Vec::new(alloc),
+            best: Vec::new(alloc),
+            count: 0,
             steps: 0,
         }
     }
@@ -59,8 +81,9 @@ impl<A: Allocator + Copy> Gaps<A> {
             busy: vec![in alloc; nothing; table.routes.all().len()]?,
             begins: begins_of(alloc, table)?,
             used: vec![in alloc; 0_u64; table.machines]?,
-            starts: vec![in alloc; 0_u64; table.machines]?,
-            places: vec![in alloc; 0_u64; table.machines]?,
+            placed: vec![in alloc; Placed::NONE; table.machines]?,
+            best: vec![in alloc; Placed::NONE; table.machines]?,
+            count: 0,
             steps: 0,
         })
     }
@@ -102,7 +125,7 @@ impl<A: Allocator> Gaps<A> {
         if ready < LATE {
             let end = self.find(table, job, ready);
             if i128::from(end) <= i128::from(table.job(job).due) {
-                self.fill(table.routes.of(job));
+                self.fill();
                 return end;
             }
         }
@@ -117,24 +140,100 @@ impl<A: Allocator> Gaps<A> {
         ready: u64,
     ) -> u64 {
         let end = self.find(table, job, ready);
-        self.fill(table.routes.of(job));
+        self.fill();
         end
     }
 
-    /// When an operation of the job starts that was inserted last.
-    pub fn start(&self, step: usize) -> u64 {
-        number_at(&self.starts, step)
+    /// The operations of the job that was inserted last, and when each starts.
+    pub fn last(&self, step: usize) -> Option<(Operation, u64)> {
+        if step < self.count {
+            let placed = self.at(step);
+            Some((placed.operation, placed.gap.start))
+        } else {
+            None
+        }
+    }
+
+    #[inline(always)]
+    fn at(&self, step: usize) -> Placed {
+        self.placed.get(step).copied().unwrap_or(Placed::NONE)
     }
 
     // Finds a gap for each operation of a job, and returns when the last is completed.
     fn find<B: Allocator>(&mut self, table: &TaskTable<B>, job: usize, ready: u64) -> u64 {
         let route = table.routes.of(job);
-        if !table.is_without_wait {
-            return self.find_each(route, ready);
+        self.count = route.len();
+        for (placed, operation) in self.placed.iter_mut().zip(route) {
+            placed.operation = *operation;
+        }
+        let end = self.find_along(table.is_without_wait, ready);
+        if matches!(table.decoder, Decoder::OpenGaps) {
+            return self.find_best(table.is_without_wait, ready, end);
+        }
+        end
+    }
+
+    // Finds the order of an open shop's operations in which they are completed first, all of them
+    // where they are few, else those that begin at each operation in turn, both ways around. In the
+    // first one they are completed at `end`.
+    fn find_best(&mut self, is_without_wait: bool, ready: u64, end: u64) -> u64 {
+        let mut least = end;
+        self.keep();
+        for tried in 1..orders_of(self.count) {
+            self.reorder(tried);
+            let end = self.find_along(is_without_wait, ready);
+            if end < least {
+                least = end;
+                self.keep();
+            }
+        }
+        if self.placed.len() == self.best.len() {
+            self.placed.copy_from_slice(&self.best);
+        }
+        least
+    }
+
+    // The order that was tried last is the best one.
+    fn keep(&mut self) {
+        if self.placed.len() == self.best.len() {
+            self.best.copy_from_slice(&self.placed);
+        }
+    }
+
+    // The next order after so many: of few operations the first ones are turned by one place, more
+    // of them each time when all orders of those are through.
+    fn reorder(&mut self, tried: usize) {
+        let count = self.count;
+        let Some(placed) = self.placed.as_mut_slice().get_mut(..count) else {
+            return;
+        };
+        if count > MOST_IN_ALL_ORDERS {
+            if tried == count {
+                placed.reverse();
+            }
+            turn(placed);
+            return;
+        }
+        let mut orders: usize = 1;
+        for length in 2..count.saturating_add(1) {
+            if let Some(part) = placed.get_mut(..length) {
+                turn(part);
+            }
+            orders = orders.wrapping_mul(length);
+            if tried.checked_rem(orders) != Some(0) {
+                return;
+            }
+        }
+    }
+
+    // Finds gaps for the operations of a job in their order.
+    fn find_along(&mut self, is_without_wait: bool, ready: u64) -> u64 {
+        if !is_without_wait {
+            return self.find_each(ready);
         }
         let mut begin = ready;
         for _ in 0..self.busy.len().saturating_add(1) {
-            let end = self.find_at(route, begin);
+            let end = self.find_at(begin);
             match end {
                 Ok(end) => return end,
                 Err(later) => begin = later,
@@ -144,10 +243,11 @@ impl<A: Allocator> Gaps<A> {
     }
 
     // Finds the first gaps: each operation waits for its own.
-    fn find_each(&mut self, route: &[Operation], ready: u64) -> u64 {
+    fn find_each(&mut self, ready: u64) -> u64 {
         let mut end = ready;
-        for (step, operation) in route.iter().enumerate() {
-            let gap = self.gap(*operation, end);
+        for step in 0..self.count {
+            let operation = self.at(step).operation;
+            let gap = self.gap(operation, end);
             self.choose(step, gap);
             end = gap.start.wrapping_add(operation.time);
         }
@@ -156,10 +256,11 @@ impl<A: Allocator> Gaps<A> {
 
     // Finds the gaps of a job that begins at a time and never waits: when it is completed, or else
     // a later time before which it cannot begin.
-    fn find_at(&mut self, route: &[Operation], begin: u64) -> Result<u64, u64> {
+    fn find_at(&mut self, begin: u64) -> Result<u64, u64> {
         let mut end = begin;
-        for (step, operation) in route.iter().enumerate() {
-            let gap = self.gap(*operation, end);
+        for step in 0..self.count {
+            let operation = self.at(step).operation;
+            let gap = self.gap(operation, end);
             if gap.start > end {
                 return Err(begin.wrapping_add(gap.start - end));
             }
@@ -197,20 +298,20 @@ impl<A: Allocator> Gaps<A> {
     }
 
     fn choose(&mut self, step: usize, gap: Gap) {
-        set_number(&mut self.starts, step, gap.start);
-        set_number(&mut self.places, step, gap.place as u64);
+        if let Some(placed) = self.placed.get_mut(step) {
+            placed.gap = gap;
+        }
     }
 
     // The operations of a job go into the gaps that were found for them.
-    fn fill(&mut self, route: &[Operation]) {
-        for (step, operation) in route.iter().enumerate() {
-            let start = number_at(&self.starts, step);
+    fn fill(&mut self) {
+        for step in 0..self.count {
+            let Placed { operation, gap } = self.at(step);
             let busy = Busy {
-                start,
-                end: start.wrapping_add(operation.time),
+                start: gap.start,
+                end: gap.start.wrapping_add(operation.time),
             };
-            let place = number_at(&self.places, step) as usize;
-            self.put(operation.machine(), place, busy);
+            self.put(operation.machine(), gap.place, busy);
         }
     }
 
@@ -234,5 +335,23 @@ impl<A: Allocator> Gaps<A> {
         part[0] = busy;
         self.steps = self.steps.wrapping_add(1);
         set_number(&mut self.used, machine, count.wrapping_add(1));
+    }
+}
+
+// In how many orders the operations of a job are tried.
+fn orders_of(count: usize) -> usize {
+    match count {
+        0 | 1 => 1,
+        2 => 2,
+        3 => 6,
+        MOST_IN_ALL_ORDERS => 24,
+        _ => count.saturating_mul(2),
+    }
+}
+
+// The first one goes behind the others.
+fn turn(placed: &mut [Placed]) {
+    if !placed.is_empty() {
+        placed.rotate_left(1);
     }
 }

@@ -38,7 +38,7 @@ pub fn lay<A: Allocator + Copy, B: Allocator>(
         next: vec![in alloc; 0_u64; table.machines]?,
         ends: vec![in alloc; 0_u64; table.jobs.len()]?,
         gaps: match table.decoder {
-            Decoder::JobGaps => Gaps::new(alloc, table)?,
+            Decoder::JobGaps | Decoder::OpenGaps => Gaps::new(alloc, table)?,
             _ => Gaps::none(alloc),
         },
     };
@@ -78,7 +78,7 @@ impl<A: Allocator> Laid<A> {
         match table.decoder {
             Decoder::OpenOperations => self.add_open_operation(table, item, job),
             Decoder::JobOperations => self.add_job_operation(table, item),
-            Decoder::JobGaps => self.add_in_gaps(table, job, is_late),
+            Decoder::JobGaps | Decoder::OpenGaps => self.add_in_gaps(table, job, is_late),
             Decoder::Parallel => self.add_parallel(table, job, is_late),
             _ => self.add_job(table, job, is_late),
         }
@@ -143,8 +143,10 @@ impl<A: Allocator> Laid<A> {
         if end == LATE {
             return Ok(());
         }
-        for (step, operation) in table.routes.of(job).iter().enumerate() {
-            let start = self.gaps.start(step);
+        for step in 0..table.machines {
+            let Some((operation, start)) = self.gaps.last(step) else {
+                break;
+            };
             let stop = start.wrapping_add(operation.time);
             self.push(job, operation.machine(), start, stop)?;
         }

@@ -1,4 +1,4 @@
-//! The operations of a job shop, those of each job in the order of its route.
+//! The operations of a shop, those of each job in the order of its route.
 use crate::slots::{item_at, number_at};
 use std::alloc::{Allocator, Global};
 use tf_model::memory::OutOfMemory;

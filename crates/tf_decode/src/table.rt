@@ -53,25 +53,41 @@ pub enum Decoder {
     JobOrder,
     /// A job shop: of each job the operations into the first gaps of their machines.
     JobGaps,
+    /// An open shop: the same, in the order in which the job is completed first.
+    OpenGaps,
 }
 
-// The most operations of a job shop whose jobs go into gaps, since these are searched for.
+// The most operations of a shop whose jobs go into gaps, since these are searched for.
 const MOST_IN_GAPS: usize = 20_000;
 
+// The most jobs of an open shop without waits that go into gaps. Of more jobs a search does better
+// that places them faster.
+const MOST_OPEN_WITHOUT_WAIT: usize = 20;
+
 impl Decoder {
-    /// The decoder of a problem with so many operations.
-    pub fn of(problem: &Problem, operations: usize) -> Decoder {
+    /// The decoder of a problem with so many jobs and operations.
+    pub fn of(problem: &Problem, jobs: usize, operations: usize) -> Decoder {
         let is_plain = !problem.nwt && !problem.prmu;
         match problem.env {
             Env::Parallel => Decoder::Parallel,
             Env::Flow if problem.nwt => Decoder::FlowWithoutWait,
             Env::Flow => Decoder::Flow,
             Env::OpenShop if is_plain && !problem.prec => Decoder::OpenOperations,
-            Env::OpenShop => Decoder::OpenJobs,
+            Env::OpenShop => open_shop_decoder(problem, jobs, operations),
             Env::JobShop => job_shop_decoder(problem, operations),
             _ if problem.prmp && is_plain => Decoder::Priorities,
             _ => Decoder::Machine,
         }
+    }
+}
+
+// Where all jobs pass the machines in one order, none goes into a gap.
+fn open_shop_decoder(problem: &Problem, jobs: usize, operations: usize) -> Decoder {
+    let is_small = operations <= MOST_IN_GAPS && (!problem.nwt || jobs <= MOST_OPEN_WITHOUT_WAIT);
+    if is_small && !problem.prmu {
+        Decoder::OpenGaps
+    } else {
+        Decoder::OpenJobs
     }
 }
 
@@ -102,7 +118,7 @@ pub struct TaskTable<A: Allocator = Global> {
     pub jobs: Vec<JobNumbers, A>,
     /// The times of each job: in a shop one for each machine, else one.
     pub times: Vec<u64, A>,
-    /// The operations of each job of a job shop.
+    /// The operations of each job of a job shop, or of an open shop whose jobs go into gaps.
     pub routes: Routes<A>,
     /// The jobs that precede each job by an arc.
     pub before: Neighbours<A>,
@@ -118,7 +134,7 @@ pub struct TaskNumbers<A: Allocator = Global> {
     pub jobs: Vec<JobNumbers, A>,
     /// The times of each job: in a shop one for each machine, else one.
     pub times: Vec<u64, A>,
-    /// The operations of each job of a job shop.
+    /// The operations of each job of a job shop, or of an open shop whose jobs go into gaps.
     pub routes: Routes<A>,
     pub machines: usize,
 }
@@ -134,7 +150,11 @@ impl<A: Allocator + Copy> TaskTable<A> {
     ) -> Result<Self, OutOfMemory> {
         let arcs = if problem.prec { arcs } else { &[] };
         let count = numbers.jobs.len();
-        let decoder = Decoder::of(problem, numbers.routes.all().len());
+        let operations = match problem.env {
+            Env::JobShop => numbers.routes.all().len(),
+            _ => numbers.times.len(),
+        };
+        let decoder = Decoder::of(problem, count, operations);
         let mut table = TaskTable {
             decoder,
             measure: Measure::of(problem.goal),

@@ -1,6 +1,7 @@
 //! Simulated annealing by insertions and exchanges.
 use crate::change::Change;
 use crate::search::Search;
+use crate::watch::Watch;
 use std::alloc::Allocator;
 use tf_decode::slots::item_at;
 use tf_decode::table::TaskTable;
@@ -86,11 +87,17 @@ impl Annealing {
 
 impl<A: Allocator> Search<A> {
     /// Anneals the present list.
-    pub(crate) fn anneal<B: Allocator>(&mut self, table: &TaskTable<B>, annealing: Annealing) {
+    pub(crate) fn anneal<B: Allocator, W: Watch>(
+        &mut self,
+        table: &TaskTable<B>,
+        annealing: Annealing,
+        watch: &mut W,
+    ) {
         let sample = self.sample(table, annealing);
         let first = annealing.first_temperature(self, sample);
         let most = annealing.end.saturating_sub(annealing.begin) / (CHANGES * STEPS_OF_PROPOSAL);
         for _ in 0..most {
+            watch.at_steps(self.steps, self.best);
             let temperature = annealing.temperature(first, self.steps);
             for _ in 0..CHANGES {
                 if annealing.is_over(self) {

@@ -5,6 +5,7 @@ use crate::change::Change;
 use crate::improve::SearchEffort;
 use crate::pass::{NOTHING, Pass, Side};
 use crate::random::Random;
+use crate::watch::Watch;
 use std::alloc::Allocator;
 use tf_decode::measure::Measure;
 use tf_decode::slots::item_at;
@@ -42,16 +43,17 @@ pub(crate) fn is_by_insertion<B: Allocator>(table: &TaskTable<B>) -> bool {
 
 /// A list that costs no more than the one that it begins with, found by iterated greedy (Ruiz and
 /// Stuetzle 2007).
-pub(crate) fn by_insertion<A: Allocator + Copy, B: Allocator>(
+pub(crate) fn by_insertion<A: Allocator + Copy, B: Allocator, W: Watch>(
     alloc: A,
     table: &TaskTable<B>,
     list: Vec<u32, A>,
     effort: SearchEffort,
+    watch: &mut W,
 ) -> Result<Vec<u32, A>, OutOfMemory> {
     let order = by_tail(alloc, table)?;
     let mut greedy = Greedy::new(alloc, table, list, effort)?;
     greedy.begin(&order);
-    greedy.run();
+    greedy.run(watch);
     Ok(greedy.best_list)
 }
 
@@ -162,13 +164,14 @@ impl<A: Allocator> Greedy<A> {
         }
     }
 
-    fn run(&mut self) {
+    fn run<W: Watch>(&mut self, watch: &mut W) {
         self.descend();
         self.keep();
         for _ in 0..self.end {
             if self.is_over() {
                 return;
             }
+            watch.at_steps(self.steps, i128::from(self.best));
             for _ in 0..TAKEN {
                 let place = self.random.below(self.count);
                 self.take(place);

@@ -2,6 +2,7 @@
 use crate::anneal::{Annealing, TRIALS};
 use crate::greedy::{by_insertion, is_by_insertion};
 use crate::search::Search;
+use crate::watch::Watch;
 use std::alloc::Allocator;
 use tf_decode::table::TaskTable;
 use tf_model::memory::OutOfMemory;
@@ -23,27 +24,29 @@ pub struct SearchEffort {
 
 /// A list that costs no more by its decoder than the one that it begins with. It has the same items,
 /// and keeps the arcs where the first one does. Very long lists are returned as they are.
-pub fn improved<A: Allocator + Copy, B: Allocator>(
+pub fn improved<A: Allocator + Copy, B: Allocator, W: Watch>(
     alloc: A,
     table: &TaskTable<B>,
     list: Vec<u32, A>,
     effort: SearchEffort,
+    watch: &mut W,
 ) -> Result<Vec<u32, A>, OutOfMemory> {
     if list.len() < 2 || table.jobs.len().saturating_mul(table.machines) > MOST_STATES {
         return Ok(list);
     }
     if is_by_insertion(table) {
-        return by_insertion(alloc, table, list, effort);
+        return by_insertion(alloc, table, list, effort, watch);
     }
-    annealed(alloc, table, list, effort)
+    annealed(alloc, table, list, effort, watch)
 }
 
 // A list found by simulated annealing (Kirkpatrick, Gelatt and Vecchi 1983).
-fn annealed<A: Allocator + Copy, B: Allocator>(
+fn annealed<A: Allocator + Copy, B: Allocator, W: Watch>(
     alloc: A,
     table: &TaskTable<B>,
     list: Vec<u32, A>,
     effort: SearchEffort,
+    watch: &mut W,
 ) -> Result<Vec<u32, A>, OutOfMemory> {
     let mut search = Search::new(alloc, table, list, TRIALS)?;
     for round in 0..ROUNDS {
@@ -51,7 +54,7 @@ fn annealed<A: Allocator + Copy, B: Allocator>(
             break;
         }
         let annealing = annealing_of(round, search.steps, effort);
-        search.anneal(table, annealing);
+        search.anneal(table, annealing, watch);
     }
     Ok(search.best_list)
 }

@@ -11,4 +11,5 @@ mod pass;
 pub mod random;
 mod search;
 mod states;
+pub mod watch;
 mod whole;

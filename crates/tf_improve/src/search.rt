@@ -40,7 +40,7 @@ pub(crate) struct Search<A: Allocator> {
 fn is_by_places<B: Allocator>(table: &TaskTable<B>) -> bool {
     !matches!(
         table.decoder,
-        Decoder::Priorities | Decoder::OpenOperations | Decoder::JobGaps
+        Decoder::Priorities | Decoder::OpenOperations | Decoder::JobGaps | Decoder::OpenGaps
     )
 }
 
@@ -76,7 +76,7 @@ impl<A: Allocator + Copy> Search<A> {
                 _ => Preemption::idle(alloc),
             },
             gaps: match table.decoder {
-                Decoder::JobGaps => Gaps::new(alloc, table)?,
+                Decoder::JobGaps | Decoder::OpenGaps => Gaps::new(alloc, table)?,
                 _ => Gaps::none(alloc),
             },
         })
@@ -127,7 +127,7 @@ impl<A: Allocator> Search<A> {
         match table.decoder {
             Decoder::OpenOperations => self.cost_of_operations(table, limit),
             Decoder::Priorities => self.cost_of_runs(table, limit),
-            Decoder::JobGaps => self.cost_in_gaps(table, limit),
+            Decoder::JobGaps | Decoder::OpenGaps => self.cost_in_gaps(table, limit),
             _ => self.cost_by_places(table, window, limit),
         }
     }

@@ -1,11 +1,15 @@
 //! The schedule that rules and a search find. Nothing is promised of it: whoever takes it judges it.
+use crate::progress::{PlanProgress, Watched};
 use std::alloc::Allocator;
+use std::cmp::Reverse;
 use tf_bound::task::ProblemTask;
 use tf_decode::lay::lay;
 use tf_decode::measure::Measure;
 use tf_decode::routes::Routes;
+use tf_decode::slots::number_at;
 use tf_decode::table::{Decoder, JobNumbers, TaskNumbers, TaskTable};
 use tf_improve::improve::{SearchEffort, improved};
+use tf_improve::watch::Watch;
 use tf_model::ids::JobId;
 use tf_model::memory::OutOfMemory;
 use tf_model::problem::Env;
@@ -65,11 +69,12 @@ impl Given {
 
 /// The pieces of the best schedule of all rules, improved by a search where there are not too many
 /// jobs. All jobs in this order keep the arcs.
-pub(crate) fn best_pieces<A: Allocator + Copy, B: Allocator>(
+pub(crate) fn best_pieces<A: Allocator + Copy, B: Allocator, P: PlanProgress>(
     alloc: A,
     task: &ProblemTask<B>,
     order: &[JobId],
     given: Given,
+    progress: &mut Option<P>,
 ) -> Result<Vec<Piece, A>, OutOfMemory> {
     let table = table_of(alloc, task, order)?;
     let first = best_list(alloc, task, &table, given.bound)?;
@@ -77,23 +82,30 @@ pub(crate) fn best_pieces<A: Allocator + Copy, B: Allocator>(
         return lay(alloc, &table, &first);
     }
     let is_job_shop = matches!(task.problem().env, Env::JobShop);
-    let list = searched(alloc, &table, first, given.effort(task.len(), is_job_shop))?;
+    let effort = given.effort(task.len(), is_job_shop);
+    let mut watched = Watched {
+        progress,
+        all: effort.steps,
+        bound: given.bound,
+    };
+    let list = searched(alloc, &table, first, effort, &mut watched)?;
     lay(alloc, &table, &list)
 }
 
 // A list that costs no more than the first. Large job shops with sums keep it.
-fn searched<A: Allocator + Copy>(
+fn searched<A: Allocator + Copy, W: Watch>(
     alloc: A,
     table: &TaskTable<A>,
     first: Vec<u32, A>,
     effort: SearchEffort,
+    watch: &mut W,
 ) -> Result<Vec<u32, A>, OutOfMemory> {
     match (table.decoder, table.measure) {
         (Decoder::JobOperations, Measure::MaximumLateness) => {
-            tabu::improved(alloc, table, first, effort)
+            tabu::improved(alloc, table, first, effort, watch)
         }
         (Decoder::JobOperations, _) => Ok(first),
-        _ => improved(alloc, table, first, effort),
+        _ => improved(alloc, table, first, effort, watch),
     }
 }
 
@@ -140,20 +152,51 @@ fn times_of<A: Allocator, B: Allocator>(
     Ok(times)
 }
 
-// The operations of each job of a job shop.
+// The operations of each job of a job shop, or of an open shop whose jobs go into gaps.
 fn routes_of<A: Allocator + Copy, B: Allocator>(
     alloc: A,
     task: &ProblemTask<B>,
 ) -> Result<Routes<A>, OutOfMemory> {
     let mut routes = Routes::none(alloc);
-    if !matches!(task.problem().env, Env::JobShop) {
-        return Ok(routes);
-    }
-    for k in 0..task.len() {
-        let job = JobId::at(k);
-        routes.push_job(task.route(job), task.times(job))?;
+    let operations = task.len().saturating_mul(task.machines() as usize);
+    if matches!(task.problem().env, Env::JobShop) {
+        for k in 0..task.len() {
+            let job = JobId::at(k);
+            routes.push_job(task.route(job), task.times(job))?;
+        }
+    } else if matches!(
+        Decoder::of(&task.problem(), task.len(), operations),
+        Decoder::OpenGaps
+    ) {
+        let machines = busiest_first(alloc, task)?;
+        for k in 0..task.len() {
+            routes.push_job(&machines, task.times(JobId::at(k)))?;
+        }
     }
     Ok(routes)
+}
+
+// The machines of a shop, those of the most work first.
+fn busiest_first<A: Allocator + Copy, B: Allocator>(
+    alloc: A,
+    task: &ProblemTask<B>,
+) -> Result<Vec<u32, A>, OutOfMemory> {
+    let count = task.machines();
+    let mut works = Vec::with_capacity(alloc, count as usize)?;
+    for machine in 0..count {
+        let mut work: u64 = 0;
+        for k in 0..task.len() {
+            let time = number_at(task.times(JobId::at(k)), machine as usize);
+            work = work.saturating_add(time);
+        }
+        works.push((Reverse(work), machine))?;
+    }
+    works.sort_unstable();
+    let mut machines = Vec::with_capacity(alloc, works.len())?;
+    for (_, machine) in &works {
+        machines.push(*machine)?;
+    }
+    Ok(machines)
 }
 
 // The list of the rule whose schedule costs least, or of the first that costs as much as the bound.

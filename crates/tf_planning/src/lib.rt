@@ -3,5 +3,6 @@
 
 mod candidate;
 pub mod made;
+pub mod progress;
 pub mod run_plan;
 pub mod writing;

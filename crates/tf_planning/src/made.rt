@@ -8,6 +8,7 @@ ghost use Rattle.tf_problem.specs.ProblemData.{ProblemData};
 ghost use Rattle.tf_planning.specs.Planning.{IsMade, StopsPlanning};
 
 use crate::candidate::{Given, best_pieces};
+use crate::progress::{Lent, PlanProgress};
 use std::alloc::{Allocator, Global};
 use tf_bound::task::ProblemTask;
 use tf_bounding::feasible::unordered;
@@ -30,7 +31,7 @@ pub struct Made<A: Allocator = Global> {
 
 /// The best plan of a task that is found, and the strongest lower bound that is found with an
 /// effort.
-pub(crate) fn made_for<A: Allocator + Copy, B: Allocator, P: Progress + Drop>(
+pub(crate) fn made_for<A: Allocator + Copy, B: Allocator, P: Progress + PlanProgress + Drop>(
     alloc: A,
     task: &ProblemTask<B>,
     effort: Effort<P>,
@@ -38,15 +39,33 @@ pub(crate) fn made_for<A: Allocator + Copy, B: Allocator, P: Progress + Drop>(
     ensures { MatchResult result (IsMade task.now) (λ e. StopsPlanning task.now (stop_of e)) }
 {
     let order = order_for(alloc, task)?;
-    let steps = effort.steps;
-    let found = strongest(alloc, task, effort)?;
+    let Effort {
+        steps,
+        mut progress,
+    } = effort;
+    let lent = Effort {
+        steps,
+        progress: lent(&mut progress),
+    };
+    let found = strongest(alloc, task, lent)?;
     let given = Given {
         steps,
         bound: found.value,
     };
-    let pieces = best_pieces(alloc, task, &order, given)?;
+    let pieces = best_pieces(alloc, task, &order, given, &mut progress)?;
+    if let Some(progress) = &mut progress {
+        progress.has_plan();
+    }
     let plan = plan_for(alloc, task, &order, pieces)?;
     Ok(Made { plan, found })
+}
+
+// The progress of the search for a bound, where anybody is told.
+fn lent<P: Progress>(progress: &mut Option<P>) -> Option<Lent<'_, P>> {
+    match progress {
+        Some(progress) => Some(Lent { progress }),
+        None => None,
+    }
 }
 
 // An order of all jobs that keeps the arcs.

@@ -8,6 +8,7 @@ ghost use Rattle.tf_planning.specs.Planning.{StopsPlanning};
 ghost use Rattle.tf_planning.specs.RunPlanning.{IsPlanOf, IsPlanningOf};
 
 use crate::made::made_for;
+use crate::progress::PlanProgress;
 use crate::writing::{Planned, kept_text, remarks_of, sheet_of, standing_of};
 use std::alloc::{Allocator, Global};
 use std::io::{Read, Write};
@@ -24,7 +25,13 @@ use tf_text::counted::Counted;
 /// The refusals come in the order of [`tf_bounding::run_bound::run_bound`], and after them a cycle of
 /// the arcs. After a refusal nothing was written, unless it is [`RunFault::Device`], after which a
 /// prefix of the text may have been.
-pub fn run_plan<A: Allocator + Copy, B: Allocator, P: Progress + Drop, R: Read, W: Write>(
+pub fn run_plan<
+    A: Allocator + Copy,
+    B: Allocator,
+    P: Progress + PlanProgress + Drop,
+    R: Read,
+    W: Write,
+>(
     alloc: A,
     request: &Request<B>,
     effort: Effort<P>,
@@ -50,7 +57,7 @@ struct Printed<A: Allocator = Global> {
 }
 
 // The best plan that is found, as a text.
-fn printed_for<A: Allocator + Copy, B: Allocator, P: Progress + Drop>(
+fn printed_for<A: Allocator + Copy, B: Allocator, P: Progress + PlanProgress + Drop>(
     alloc: A,
     task: &ProblemTask<B>,
     effort: Effort<P>,

@@ -118,9 +118,11 @@ impl<A: Allocator> Listing<A> {
         let work = table.job(job).work;
         let share = match table.decoder {
             Decoder::Flow | Decoder::FlowWithoutWait => number_at(table.times_of(job), 0),
-            Decoder::OpenJobs | Decoder::OpenOperations | Decoder::JobOrder | Decoder::JobGaps => {
-                work.checked_div(table.machines as u64).unwrap_or(0)
-            }
+            Decoder::OpenJobs
+            | Decoder::OpenOperations
+            | Decoder::OpenGaps
+            | Decoder::JobOrder
+            | Decoder::JobGaps => work.checked_div(table.machines as u64).unwrap_or(0),
             _ => work,
         };
         self.free_machines.push(Reverse(start.wrapping_add(share)))?;

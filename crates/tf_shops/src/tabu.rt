@@ -6,6 +6,7 @@ use tf_decode::slots::{item_at, number_at, set_item, set_number};
 use tf_decode::table::TaskTable;
 use tf_improve::improve::SearchEffort;
 use tf_improve::random::Random;
+use tf_improve::watch::Watch;
 use tf_model::memory::OutOfMemory;
 
 // The most operations of which an order is searched.
@@ -56,18 +57,19 @@ struct Choice {
 /// A list that costs no more than the one that it begins with, by the makespan or the maximum
 /// lateness. It has the same operations, none before those that it waits for. Very long lists are
 /// returned as they are.
-pub fn improved<A: Allocator + Copy, B: Allocator>(
+pub fn improved<A: Allocator + Copy, B: Allocator, W: Watch>(
     alloc: A,
     table: &TaskTable<B>,
     list: Vec<u32, A>,
     effort: SearchEffort,
+    watch: &mut W,
 ) -> Result<Vec<u32, A>, OutOfMemory> {
     let count = list.len();
     if count < 2 || count > MOST_OPERATIONS || count != table.items() {
         return Ok(list);
     }
     let mut search = Search::new(alloc, table, list, effort)?;
-    search.run(table, effort.steps);
+    search.run(table, effort.steps, watch);
     Ok(search.best_list)
 }
 
@@ -99,10 +101,12 @@ impl<A: Allocator + Copy> Search<A> {
 
 impl<A: Allocator> Search<A> {
     // Makes so many steps, or fewer.
-    fn run<B: Allocator>(&mut self, table: &TaskTable<B>, steps: u64) {
+    fn run<B: Allocator, W: Watch>(&mut self, table: &TaskTable<B>, steps: u64, watch: &mut W) {
+        let latest = i128::from(latest_due(table));
         self.graph.read(table, &self.best_list);
         for _ in 0..steps {
             self.look(table);
+            watch.at_steps(self.graph.steps, i128::from(self.best).wrapping_sub(latest));
             let is_over = self.graph.steps >= steps || self.best <= self.target;
             if is_over || !self.make_swap(table) {
                 return;
