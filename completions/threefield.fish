@@ -33,7 +33,7 @@ complete -c threefield -n "__fish_seen_subcommand_from solve plan evaluate" -l c
 complete -c threefield -n "__fish_seen_subcommand_from plan bound evaluate" -l steps -x -d "Steps of the search for prices"
 complete -c threefield -n "__fish_seen_subcommand_from trace" -l tex -d "Write it for LaTeX"
 complete -c threefield -n "__fish_seen_subcommand_from evaluate" -l certificate -d "Add the arithmetic of the certificate"
-complete -c threefield -n "__fish_seen_subcommand_from evaluate" -l tex -d "Write the critical path for LaTeX"
+complete -c threefield -n "__fish_seen_subcommand_from evaluate" -l tex -d "Write for LaTeX what is explained"
 complete -c threefield -n "__fish_seen_subcommand_from evaluate" -l measures -d "Add the value of every objective"
 complete -c threefield -n "__fish_seen_subcommand_from solve" -l values -d "With several instances: the minimum costs alone"
 complete -c threefield -n "__fish_seen_subcommand_from evaluate" -l bound -r -d "File of a lower bound"

@@ -46,7 +46,7 @@ const COMMANDS = {
     { name: "--bound", value: "FILE", rivals: [...SCHEDULES, "--certificate"], isBuiltOnly: true },
     { ...STEPS, rivals: SCHEDULES, isBuiltOnly: true }, JSON_TEXT, CSV,
     { name: "--tex", isBuiltOnly: true },
-    { name: "--measures", rivals: [...SCHEDULES, "--bound", "--json", "--csv"], isBuiltOnly: true },
+    { name: "--measures", rivals: ["--bound"], isBuiltOnly: true },
     inPlaceOfAnswer("--order", "JOBS", ["--rule", "--orders"]),
     { ...inPlaceOfAnswer("--rule", "RULE", ["--orders", "--schedule"]),
       choices: ["EDD", "SPT", "LPT", "WSPT", "ERD"] },

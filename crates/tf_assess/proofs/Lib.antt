@@ -4,3 +4,4 @@ mod Assessing
 pub mod Reading
 mod Running
 mod Written
+mod Measuring

@@ -2,5 +2,6 @@
 pub mod BoundRead
 pub mod Assessing
 pub mod AssessmentText
+pub mod Measures
 pub mod RunAssessing
 pub mod RunRating

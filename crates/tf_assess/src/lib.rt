@@ -5,6 +5,7 @@ pub mod assess;
 pub mod assessment;
 pub mod bound_read;
 mod case_read;
+pub mod measures;
 pub mod offered;
 mod outcomes;
 pub mod run_assess;

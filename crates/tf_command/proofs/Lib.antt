@@ -1,3 +1,4 @@
 pub mod Listing
 mod Writing
 pub mod Kept
+pub mod Unread

@@ -18,6 +18,7 @@ use Rattle.tf_picture.specs.declared.view.View.{View}
 use Rattle.tf_evaluate.specs.declared.evaluation.Detail.{Detail}
 use Rattle.tf_evaluate.specs.declared.evaluation.Standing.{Standing}
 use Rattle.tf_assess.specs.RunRating.{IsRatingOf}
+use Rattle.tf_assess.specs.Measures.{PosedData}
 use Rattle.tf_orders.specs.declared.run_orders.OrderForm.{OrderForm}
 use Rattle.tf_orders.specs.declared.run_orders.OrdersRated.{OrdersRated}
 use Rattle.tf_orders.specs.declared.run_orders.OrdersRated.TheVariants.{Single, Lines}
@@ -130,8 +131,9 @@ pub record EndsEvaluating (A : Type 0) (detail : Detail) (request : RequestData)
   pub said : says (line_of run)
 
 pub record EndsRating (A : Type 0) (form : OrderForm) (request : RequestData)
-    (instance orders writer : DeviceUse) (says : List ℕ → Type 0) (status : ℕ) : Type 0 where
+    (others : Option PosedData) (instance orders writer : DeviceUse) (says : List ℕ → Type 0)
+    (status : ℕ) : Type 0 where
   pub run : Result OrdersRated (RunFault A)
-  pub outcome : IsOrdersRunOf form request instance orders writer run
+  pub outcome : IsOrdersRunOf form request others instance orders writer run
   pub ends : status ≡ status_of_rating run
   pub said : says (line_of run)

@@ -10,19 +10,22 @@ use Rattle.tf_export.specs.Faults.{fault_json}
 use Rattle.tf_export.specs.OrderRows.{orders_csv}
 use Rattle.tf_export.specs.Tally.{summarized}
 use Rattle.tf_command.specs.Ending.{SaysLine}
+use Rattle.tf_command.specs.Wrote.{Wrote}
 use Rattle.tf_command.specs.declared.console.Console.{Console}
 use Rattle.tf_options.specs.declared.format.Format.{Format}
-use Rattle.tf_options.specs.declared.format.Format.TheVariants.{Json, Csv, OrderRows, Summary}
+use Rattle.tf_options.specs.declared.format.Format.TheVariants.{Json, Csv, OrderRows, MeasuredRows, Summary}
 
 -- a text that a command printed, in a format, and nothing where it printed nothing
 abbrev pub formatted : Format → List ℕ → List ℕ
 formatted (Json document) [] = []
 formatted (Csv table) [] = []
 formatted OrderRows [] = []
+formatted MeasuredRows [] = []
 formatted Summary [] = []
 formatted (Json document) (byte ∷ bytes) = json_of document (byte ∷ bytes)
 formatted (Csv table) (byte ∷ bytes) = csv_of table (byte ∷ bytes)
-formatted OrderRows (byte ∷ bytes) = orders_csv (byte ∷ bytes)
+formatted OrderRows (byte ∷ bytes) = orders_csv false (byte ∷ bytes)
+formatted MeasuredRows (byte ∷ bytes) = orders_csv true (byte ∷ bytes)
 formatted Summary (byte ∷ bytes) = summarized (byte ∷ bytes)
 
 -- what a command said on standard error, in a format, which all but JSON leave as it is
@@ -30,6 +33,7 @@ abbrev pub said_in : Format → List ℕ → List ℕ
 said_in (Json document) text = fault_json text
 said_in (Csv table) text = text
 said_in OrderRows text = text
+said_in MeasuredRows text = text
 said_in Summary text = text
 
 -- what is said where there was no memory, and where standard output failed
@@ -37,12 +41,14 @@ abbrev pub memory_line : Format → List ℕ
 memory_line (Json document) = codes "{\"version\":1,\"fault\":\"want of memory\"}\n"
 memory_line (Csv table) = codes "threefield: want of memory\n"
 memory_line OrderRows = codes "threefield: want of memory\n"
+memory_line MeasuredRows = codes "threefield: want of memory\n"
 memory_line Summary = codes "threefield: want of memory\n"
 
 abbrev pub device_line : Format → List ℕ
 device_line (Json document) = codes "{\"version\":1,\"fault\":\"device fault\"}\n"
 device_line (Csv table) = codes "threefield: device fault\n"
 device_line OrderRows = codes "threefield: device fault\n"
+device_line MeasuredRows = codes "threefield: device fault\n"
 device_line Summary = codes "threefield: device fault\n"
 
 -- where texts are kept in memory
@@ -61,13 +67,14 @@ pub record HasPrinted (kept : Memory) (format : Format) (output errors : List �
   pub errors_is : errors ≡ said_in format (inner_of kept.errors).items
 
 -- what is to be done was done with its texts kept in memory, and in a format they are these
-pub record Prints (Does : DeviceUse → (Bool → List ℕ → Type 0) → ℕ → Type 0) (format : Format)
-    (output errors : List ℕ) (status : ℕ) : Type 0 where
+pub record Prints
+    (Does : DeviceUse → (List ℕ → Type 0) → (Bool → List ℕ → Type 0) → ℕ → Type 0)
+    (format : Format) (output errors : List ℕ) (status : ℕ) : Type 0 where
   pub before : Memory
   pub after : Memory
   pub blank : (inner_of before.writer).items ≡ []
   pub silent : (inner_of before.errors).items ≡ []
-  pub done : Does (use_of held before.writer after.writer)
+  pub done : Does (use_of held before.writer after.writer) (Wrote held before.errors after.errors)
       (λ explain. SaysLine held explain before.errors after.errors) status
   pub texts : HasPrinted after format output errors
 
@@ -102,8 +109,8 @@ EndsKept kept wanted format writer says status =
     ⊎ IsUnwritten writer says (memory_line format) status
 
 -- what is to be done was done, and is written in a format
-abbrev pub EndsFormatted : (DeviceUse → (Bool → List ℕ → Type 0) → ℕ → Type 0) → Format
-    → DeviceUse → (List ℕ → Type 0) → ℕ → Type 0
+abbrev pub EndsFormatted : (DeviceUse → (List ℕ → Type 0) → (Bool → List ℕ → Type 0) → ℕ → Type 0)
+    → Format → DeviceUse → (List ℕ → Type 0) → ℕ → Type 0
 EndsFormatted Does format writer says status =
     ((output : List ℕ) × (errors : List ℕ) × (wanted : ℕ)
     × Prints Does format output errors wanted

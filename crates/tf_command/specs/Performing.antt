@@ -1,5 +1,5 @@
 -- What the program does of what is asked for: which run over which texts ends how.
-use Rattle.std.specs.Prelude.{◌≡◌, ◌⊎◌, ◌++◌, ℕ, Bool, false, true, List, [], Option, None, Some, Ok, Err, IfSome, codes, if◌then◌else◌}
+use Rattle.std.specs.Prelude.{◌≡◌, ◌⊎◌, ◌++◌, ℕ, Bool, false, true, List, [], Option, None, Some, Ok, Err, IfSome, MatchOption, codes, if◌then◌else◌}
 use Rattle.std.specs.declared.alloc.Global.{Global}
 use Rattle.std.specs.Io.KnownBytes.{Appends, Keeps}
 use Rattle.tf_listing.specs.Listing.{listing}
@@ -13,6 +13,7 @@ use Rattle.tf_orders.specs.declared.run_orders.OrderForm.{OrderForm}
 use Rattle.tf_orders.specs.declared.run_orders.OrderForm.TheVariants.{Single, Lines, Numbered, Ruled as ByRule, Pieces}
 use Rattle.tf_options.specs.declared.options.Work.{Work as Asking}
 use Rattle.tf_options.specs.declared.options.Work.TheVariants.{Solve, Bound, Plan, Trace, Check, Evaluate, Assess, Rate, Gantt, Random, Problems, Border, Picture}
+use Rattle.tf_options.specs.declared.options.OrderSource.{OrderSource}
 use Rattle.tf_options.specs.declared.options.OrderSource.TheVariants.{Given, Ruled, Named, Drawn}
 use Rattle.tf_options.specs.declared.options.Options.{Options}
 use Rattle.tf_options.specs.Asking.{requested, form_asked}
@@ -28,10 +29,9 @@ use Rattle.tf_command.specs.Statuses.{status_of, status_of_no_table}
 use Rattle.tf_command.specs.Ending.{EndsSolving, EndsBounding, EndsTracing, EndsChecking, EndsDrawing, EndsEvaluating, EndsRating, EndsPicturing}
 use Rattle.tf_command.specs.Assessing.{EndsAssessing}
 use Rattle.tf_command.specs.Planning.{EndsPlanning}
-
--- the bytes of the text of each name, where they are known
-abbrev pub Texts : Type 0
-Texts = List ℕ → Option (List ℕ)
+use Rattle.tf_command.specs.Unread.{IsUnread, Texts}
+use Rattle.tf_assess.specs.Measures.{IsPosed, IsUnposed, PosedData}
+use Rattle.tf_engine.specs.RequestData.{RequestData}
 
 -- the text of this name was read, from its first byte on
 abbrev pub ReadsNamed : Texts → List ℕ → DeviceUse → Type 0
@@ -122,8 +122,72 @@ abbrev pub RatesNamed : Texts → Options → List ℕ → OrderForm → DeviceU
 RatesNamed texts options name form writer says status =
     let said = says options.telling.explain in
     EndsOverBoth texts options.input.now name writer said status
-    (λ instance other. EndsRating Global form (requested options Two) instance other writer said
+    (λ instance other. EndsRating Global form (requested options Two) None instance other writer said
     status)
+
+-- ---- orders and pieces with their values by the other objectives, of which the texts are read first
+
+-- what the orders or pieces are
+abbrev pub source_form : OrderSource → OrderForm
+source_form (Given order) = Single
+source_form (Ruled rule) = ByRule rule
+source_form (Named name goes_on is_numbered) = lines_form goes_on is_numbered
+source_form (Drawn name) = Pieces
+
+-- and their text: that of the command line, nothing for a rule, or that of a name
+abbrev pub IsSourceText : Texts → OrderSource → List ℕ → Type 0
+IsSourceText texts (Given order) text = text ≡ order.now
+IsSourceText texts (Ruled rule) text = text ≡ []
+IsSourceText texts (Named name goes_on is_numbered) text = IsTextOf (texts name.now) text
+IsSourceText texts (Drawn name) text = IsTextOf (texts name.now) text
+
+-- the instance that gives the other objectives: what the request and its text mean, where both are
+-- well formed
+abbrev pub AreOthers : RequestData → List ℕ → Option PosedData → Type 0
+AreOthers request text others = MatchOption others (IsUnposed request text) (IsPosed request text)
+
+pub record EndsMeasuring (texts : Texts) (options : Options) (source : OrderSource)
+    (writer : DeviceUse) (says : List ℕ → Type 0) (status : ℕ) : Type 0 where
+  pub instance : List ℕ
+  pub is_file : IsTextOf (texts options.input.now) instance
+  pub text : List ℕ
+  pub is_source : IsSourceText texts source text
+  pub others : Option PosedData
+  pub are_others : AreOthers (requested options Two) instance others
+  pub reader : DeviceUse
+  pub reads : reader.before ≡ Some instance
+  pub orders : DeviceUse
+  pub reads_orders : orders.before ≡ Some text
+  pub done : EndsRating Global (source_form source) (requested options Two) others reader orders
+      writer says status
+
+-- a text was not read, or there was no memory
+abbrev pub RatesMeasured : Texts → Options → OrderSource → DeviceUse → (List ℕ → Type 0) → ℕ
+    → Type 0
+RatesMeasured texts options source writer says status =
+    EndsMeasuring texts options source writer says status
+    ⊎ IsUnread texts writer says status
+    ⊎ ((status ≡ 3) × Keeps writer.before writer.after × says (codes "threefield: want of memory\n"))
+
+-- orders or pieces are rated, with their values by the other objectives where those are asked for
+abbrev pub RatesOrders : Bool → Texts → Options → OrderSource → DeviceUse → (Bool → List ℕ → Type 0)
+    → ℕ → Type 0
+RatesOrders true texts options source writer says status =
+    RatesMeasured texts options source writer (says options.telling.explain) status
+RatesOrders false texts options (Given order) writer says status =
+    let said = says options.telling.explain in
+    EndsOver texts options.input.now writer said status
+    (λ instance. (reader : DeviceUse) × (reader.before ≡ Some order.now)
+    × EndsRating Global Single (requested options Two) None instance reader writer said status)
+RatesOrders false texts options (Ruled rule) writer says status =
+    let said = says options.telling.explain in
+    EndsOver texts options.input.now writer said status
+    (λ instance. (reader : DeviceUse) × (reader.before ≡ Some [])
+    × EndsRating Global (ByRule rule) (requested options Two) None instance reader writer said status)
+RatesOrders false texts options (Named name goes_on is_numbered) writer says status =
+    RatesNamed texts options name.now (lines_form goes_on is_numbered) writer says status
+RatesOrders false texts options (Drawn name) writer says status =
+    RatesNamed texts options name.now Pieces writer says status
 
 -- the random table that is wanted was written; or why there is none is said, and nothing was written
 abbrev pub EndsRandom : Wanted → DeviceUse → (List ℕ → Type 0) → ℕ → Type 0
@@ -166,20 +230,8 @@ Performs texts (Assess assessing) writer says status =
     (λ instance other. EndsOver texts assessing.bound.now writer said status
     (λ bound. EndsAssessing Global (requested assessing.options Two) instance other bound writer said
     status))
-Performs texts (Rate options (Given order)) writer says status =
-    let said = says options.telling.explain in
-    EndsOver texts options.input.now writer said status
-    (λ instance. (reader : DeviceUse) × (reader.before ≡ Some order.now)
-    × EndsRating Global Single (requested options Two) instance reader writer said status)
-Performs texts (Rate options (Ruled rule)) writer says status =
-    let said = says options.telling.explain in
-    EndsOver texts options.input.now writer said status
-    (λ instance. (reader : DeviceUse) × (reader.before ≡ Some [])
-    × EndsRating Global (ByRule rule) (requested options Two) instance reader writer said status)
-Performs texts (Rate options (Named name goes_on is_numbered)) writer says status =
-    RatesNamed texts options name.now (lines_form goes_on is_numbered) writer says status
-Performs texts (Rate options (Drawn name)) writer says status =
-    RatesNamed texts options name.now Pieces writer says status
+Performs texts (Rate options source) writer says status =
+    RatesOrders options.telling.measures texts options source writer says status
 Performs texts (Gantt answer drawing explain) writer says status =
     EndsOver texts answer.now writer (says explain) status
     (λ reader. EndsDrawing Global drawing reader writer (says explain) status)

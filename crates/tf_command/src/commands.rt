@@ -10,7 +10,6 @@ ghost use Rattle.tf_command.specs.Planning.{EndsPlanning};
 ghost use Rattle.tf_engine.specs.Drawing.{IsDrawingOf};
 ghost use Rattle.std.specs.Prelude.{◌≡◌, ◌⊎◌, None, Some, IfSome, IfOk, IfErr, false, codes};
 ghost use Rattle.tf_command.specs.Performing.{EndsOver, EndsRandom, EndsWriting, Performs};
-ghost use Rattle.tf_command.specs.Performing.{lines_form};
 ghost use Rattle.tf_command.specs.Recorded.{bytes_left};
 ghost use Rattle.tf_text.specs.Counted.{inner_of, use_of};
 
@@ -19,7 +18,7 @@ use crate::console::Console;
 use crate::explained::{Ended, tell, tell_drawn};
 use crate::picturing::picture_named;
 use crate::problems::{list_border, list_problems};
-use crate::rating::{rate_given, rate_named, rate_ruled};
+use crate::rating::rate_orders;
 use crate::recorded::{MOST_BESIDE, MOST_KEPT, Recorded, room};
 use crate::report::{
     end_check, end_evaluation, end_plan, end_run, report_bound, say_device, say_memory,
@@ -38,8 +37,7 @@ use tf_engine::run_check::run_check;
 use tf_engine::run_gantt::run_gantt;
 use tf_engine::run_solve::run_solve;
 use tf_explain::explain;
-use tf_options::options::{Assessing, Drawing, Evaluating, Options, OrderSource, Work};
-use tf_orders::run_orders::OrderForm;
+use tf_options::options::{Assessing, Drawing, Evaluating, Options, Work};
 use tf_picture::run_picture::run_picture;
 use tf_random::run_random::{Wanted, run_random};
 use tf_search::effort::{Effort, Nobody};
@@ -72,29 +70,7 @@ pub fn perform<S: Sources, W: Write, E: Write>(
         Work::Check(options, answer) => check_named(console, sources, options, answer),
         Work::Evaluate(evaluating) => evaluate_named(console, sources, evaluating),
         Work::Assess(assessing) => assess_named(console, sources, assessing),
-        Work::Rate(options, OrderSource::Given(order)) => {
-            rate_given(console, sources, options, order)
-        }
-        Work::Rate(options, OrderSource::Ruled(rule)) => {
-            rate_ruled(console, sources, options, *rule)
-        }
-        Work::Rate(
-            options,
-            OrderSource::Named {
-                name,
-                goes_on,
-                is_numbered,
-            },
-        ) => rate_named(
-            console,
-            sources,
-            options,
-            name,
-            lines_form(*goes_on, *is_numbered),
-        ),
-        Work::Rate(options, OrderSource::Drawn(name)) => {
-            rate_named(console, sources, options, name, OrderForm::Pieces)
-        }
+        Work::Rate(options, source) => rate_orders(console, sources, options, *source),
         Work::Gantt {
             answer,
             drawing,
@@ -104,17 +80,6 @@ pub fn perform<S: Sources, W: Write, E: Write>(
         Work::Random(wanted) => random(console, wanted),
         Work::Problems(listed, name) => list_problems(console, sources, *listed, *name),
         Work::Border => list_border(console),
-    }
-}
-
-/// How the orders of a text are told.
-fn lines_form(goes_on: bool, is_numbered: bool) -> OrderForm
-    ensures { result ≡ lines_form goes_on is_numbered }
-{
-    if is_numbered {
-        OrderForm::Numbered { goes_on }
-    } else {
-        OrderForm::Lines { goes_on }
     }
 }
 

@@ -39,7 +39,8 @@ fn formatted(alloc: Global, format: Format, text: &[u8]) -> Result<Vec<u8>, OutO
     match format {
         Format::Json(document) => json(alloc, document, text),
         Format::Csv(table) => csv(alloc, table, text),
-        Format::OrderRows => orders_csv(alloc, text),
+        Format::OrderRows => orders_csv(alloc, false, text),
+        Format::MeasuredRows => orders_csv(alloc, true, text),
         Format::Summary => summarized(alloc, text),
     }
 }

@@ -13,6 +13,7 @@ mod picturing;
 pub mod planning;
 pub mod problems;
 mod rating;
+pub mod reading;
 mod recorded;
 pub mod report;
 pub mod source;

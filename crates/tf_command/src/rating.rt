@@ -1,34 +1,97 @@
 //! Evaluating the schedules of orders and of pieces, over whatever gives and takes bytes.
+ghost use Rattle.std.specs.Prelude.{◌≡◌, false, IfOk, IfErr};
 ghost use Rattle.std.specs.declared.alloc.Global.{Global};
 ghost use Rattle.tf_options.specs.Asking.{requested};
 ghost use Rattle.tf_options.specs.declared.options.Work.TheVariants.{Rate as RatesBy};
 ghost use Rattle.tf_command.specs.Ending.{EndsRating, SaysLine};
-ghost use Rattle.tf_command.specs.Performing.{Performs, RatesNamed};
+ghost use Rattle.tf_command.specs.Performing.{IsSourceText, Performs, RatesMeasured, RatesNamed};
+ghost use Rattle.tf_command.specs.Performing.{AreOthers, RatesOrders, lines_form, source_form};
 ghost use Rattle.tf_command.specs.Recorded.{bytes_left};
+ghost use Rattle.tf_command.specs.Unread.{IsUnread};
 ghost use Rattle.tf_text.specs.Counted.{use_of};
 
 use crate::commands::{open, open_both};
 use crate::console::Console;
 use crate::explained::{Ended, Rated};
+use crate::reading::text_named;
 use crate::recorded::{MOST_KEPT, Recorded, room};
 use crate::report::{end_rating, say_memory};
 use crate::source::Sources;
 use std::alloc::Global;
 use std::io::{Read, Write};
+use tf_assess::measures::{PosedInstance, posed_in};
+use tf_model::memory::OutOfMemory;
 use tf_options::options::{Options, OrderSource};
 use tf_orders::run_orders::{OrderForm, OrdersRequest, run_orders};
 use tf_sequencing::rule::Rule;
 use tf_text::answer::layout::Layout;
 use tf_text::counted::Counted;
 
-/// Evaluates the schedule of an order that the command line gives.
-pub(crate) fn rate_given<S: Sources, W: Write, E: Write>(
+/// Evaluates the schedules of orders or pieces, with their values by the other objectives where
+/// those are asked for.
+pub(crate) fn rate_orders<S: Sources, W: Write, E: Write>(
+    console: &mut Console<W, E>,
+    sources: &S,
+    options: &Options<'_>,
+    source: OrderSource<'_>,
+) -> u8
+    ensures { Performs (S.text_of sources.now) (RatesBy options.now source.entry)
+        (use_of W.contents console.old.writer console.new.writer)
+        (λ explain. SaysLine E.contents explain console.old.errors console.new.errors) result }
+{
+    if options.telling.measures {
+        return rate_measured(console, sources, options, source);
+    }
+    rate_plainly(console, sources, options, source)
+}
+
+// Evaluates them by the objective of the problem alone.
+fn rate_plainly<S: Sources, W: Write, E: Write>(
+    console: &mut Console<W, E>,
+    sources: &S,
+    options: &Options<'_>,
+    source: OrderSource<'_>,
+) -> u8
+    ensures { RatesOrders false (S.text_of sources.now) options.now source.entry
+        (use_of W.contents console.old.writer console.new.writer)
+        (λ explain. SaysLine E.contents explain console.old.errors console.new.errors) result }
+{
+    match source {
+        OrderSource::Given(order) => rate_given(console, sources, options, order),
+        OrderSource::Ruled(rule) => rate_ruled(console, sources, options, rule),
+        OrderSource::Named {
+            name,
+            goes_on,
+            is_numbered,
+        } => {
+            let form = lines_form(goes_on, is_numbered);
+            rate_named(console, sources, options, name, form)
+        }
+        OrderSource::Drawn(name) => {
+            rate_named(console, sources, options, name, OrderForm::Pieces)
+        }
+    }
+}
+
+// How the orders of a text are told.
+fn lines_form(goes_on: bool, is_numbered: bool) -> OrderForm
+    ensures { result ≡ lines_form goes_on is_numbered }
+{
+    if is_numbered {
+        OrderForm::Numbered { goes_on }
+    } else {
+        OrderForm::Lines { goes_on }
+    }
+}
+
+// Evaluates the schedule of an order that the command line gives.
+fn rate_given<S: Sources, W: Write, E: Write>(
     console: &mut Console<W, E>,
     sources: &S,
     options: &Options<'_>,
     order: &str,
 ) -> u8
-    ensures { Performs (S.text_of sources.now) (RatesBy options.now (OrderSource.Given order.entry))
+    ensures { RatesOrders false (S.text_of sources.now) options.now (OrderSource.Given order.entry)
         (use_of W.contents console.old.writer console.new.writer)
         (λ explain. SaysLine E.contents explain console.old.errors console.new.errors) result }
 {
@@ -43,6 +106,7 @@ pub(crate) fn rate_given<S: Sources, W: Write, E: Write>(
                 console,
                 options,
                 OrderForm::Single,
+                None,
                 &mut instance,
                 &mut order,
             )
@@ -60,14 +124,14 @@ fn kept_if(alloc: Global, explain: bool, most: usize) -> Option<Vec<u8>> {
     }
 }
 
-/// Evaluates the schedule of the order that a rule gives.
-pub(crate) fn rate_ruled<S: Sources, W: Write, E: Write>(
+// Evaluates the schedule of the order that a rule gives.
+fn rate_ruled<S: Sources, W: Write, E: Write>(
     console: &mut Console<W, E>,
     sources: &S,
     options: &Options<'_>,
     rule: Rule,
 ) -> u8
-    ensures { Performs (S.text_of sources.now) (RatesBy options.now (OrderSource.Ruled rule))
+    ensures { RatesOrders false (S.text_of sources.now) options.now (OrderSource.Ruled rule)
         (use_of W.contents console.old.writer console.new.writer)
         (λ explain. SaysLine E.contents explain console.old.errors console.new.errors) result }
 {
@@ -80,6 +144,7 @@ pub(crate) fn rate_ruled<S: Sources, W: Write, E: Write>(
                 console,
                 options,
                 OrderForm::Ruled(rule),
+                None,
                 &mut instance,
                 &mut order,
             )
@@ -88,8 +153,8 @@ pub(crate) fn rate_ruled<S: Sources, W: Write, E: Write>(
     }
 }
 
-/// Rates the orders or the pieces of the text of that name.
-pub(crate) fn rate_named<S: Sources, W: Write, E: Write>(
+// Rates the orders or the pieces of the text of that name.
+fn rate_named<S: Sources, W: Write, E: Write>(
     console: &mut Console<W, E>,
     sources: &S,
     options: &Options<'_>,
@@ -102,21 +167,122 @@ pub(crate) fn rate_named<S: Sources, W: Write, E: Write>(
 {
     match open_both(console, sources, options, name) {
         Ok((mut instance, mut orders)) => {
-            rate(console, options, form, &mut instance, &mut orders)
+            rate(console, options, form, None, &mut instance, &mut orders)
         }
         Err(status) => status,
     }
 }
 
-/// Tells how good the schedules of orders are, and the exit status.
+// The same with their values by the other objectives, over texts that are read first.
+fn rate_measured<S: Sources, W: Write, E: Write>(
+    console: &mut Console<W, E>,
+    sources: &S,
+    options: &Options<'_>,
+    source: OrderSource<'_>,
+) -> u8
+    ensures { RatesMeasured (S.text_of sources.now) options.now source.entry
+        (use_of W.contents console.old.writer console.new.writer)
+        (SaysLine E.contents options.now.telling.explain console.old.errors console.new.errors)
+        result }
+{
+    let explain = options.telling.explain;
+    let instance = match text_named(console, sources, options.input, explain) {
+        Ok(text) => text,
+        Err(status) => return status,
+    };
+    let orders = match source_text(console, sources, source, explain) {
+        Ok(text) => text,
+        Err(status) => return status,
+    };
+    let alloc = console.alloc;
+    let Ok(others) = others_in(alloc, options, &instance) else {
+        return say_memory(&mut console.errors);
+    };
+    let kept = kept_if(alloc, explain, instance.len());
+    let instance = Recorded::new(options.input, instance.as_slice(), MOST_KEPT, kept);
+    let mut instance = Counted::new(instance);
+    let kept = kept_if(alloc, explain, orders.len());
+    let orders = Recorded::new(source_name(&source), orders.as_slice(), MOST_KEPT, kept);
+    let mut orders = Counted::new(orders);
+    let form = source_form(&source);
+    rate(console, options, form, others, &mut instance, &mut orders)
+}
+
+// The text of orders or pieces: that of the command line, nothing for a rule, or that of a name.
+// Where it cannot be read, says so, and gives the status.
+fn source_text<S: Sources, W: Write, E: Write>(
+    console: &mut Console<W, E>,
+    sources: &S,
+    source: OrderSource<'_>,
+    explain: bool,
+) -> Result<Vec<u8>, u8>
+    ensures text { IfOk result
+        (λ text. IsSourceText (S.text_of sources.now) source.entry text.items) }
+    ensures kept { IfOk result (λ _. console.new ≡ console.old) }
+    ensures unread { IfErr result (IsUnread (S.text_of sources.now)
+        (use_of W.contents console.old.writer console.new.writer)
+        (SaysLine E.contents explain console.old.errors console.new.errors)) }
+{
+    match source {
+        OrderSource::Given(order) => match Vec::from_slice(console.alloc, order.as_bytes()) {
+            Ok(text) => Ok(text),
+            Err(_) => Err(say_memory(&mut console.errors)),
+        },
+        OrderSource::Ruled(_) => Ok(Vec::new(console.alloc)),
+        OrderSource::Named { name, .. } => text_named(console, sources, name, explain),
+        OrderSource::Drawn(name) => text_named(console, sources, name, explain),
+    }
+}
+
+// What the orders or pieces are called where they are explained.
+fn source_name<'a>(source: &OrderSource<'a>) -> &'a str {
+    match source {
+        OrderSource::Given(_) => "--order",
+        OrderSource::Ruled(_) => "--rule",
+        OrderSource::Named { name, .. } => name,
+        OrderSource::Drawn(name) => name,
+    }
+}
+
+// What they are.
+fn source_form(source: &OrderSource<'_>) -> OrderForm
+    ensures { result ≡ source_form source.now }
+{
+    match source {
+        OrderSource::Given(_) => OrderForm::Single,
+        OrderSource::Ruled(rule) => OrderForm::Ruled(*rule),
+        OrderSource::Named {
+            goes_on,
+            is_numbered,
+            ..
+        } => lines_form(*goes_on, *is_numbered),
+        OrderSource::Drawn(_) => OrderForm::Pieces,
+    }
+}
+
+// The instance that gives the other objectives, where the options and its text are well formed.
+fn others_in(
+    alloc: Global,
+    options: &Options<'_>,
+    text: &[u8],
+) -> Result<Option<PosedInstance>, OutOfMemory>
+    ensures { IfOk result
+        (λ others. AreOthers (requested options.now Layout.Two) text.now others) }
+{
+    let request = options.request(alloc, Layout::Two)?;
+    posed_in(alloc, &request, text)
+}
+
+// Tells how good the schedules of orders are, and the exit status.
 fn rate<R: Read, S: Read, W: Write, E: Write>(
     console: &mut Console<W, E>,
     options: &Options<'_>,
     form: OrderForm,
+    others: Option<PosedInstance>,
     instance: &mut Counted<Recorded<'_, R>>,
     orders: &mut Counted<Recorded<'_, S>>,
 ) -> u8
-    ensures { EndsRating Global form (requested options.now Layout.Two)
+    ensures { EndsRating Global form (requested options.now Layout.Two) others
         (use_of (bytes_left R.remaining) instance.old instance.new)
         (use_of (bytes_left S.remaining) orders.old orders.new)
         (use_of W.contents console.old.writer console.new.writer)
@@ -131,7 +297,7 @@ fn rate<R: Read, S: Read, W: Write, E: Write>(
         request: &request,
         form,
     };
-    let run = run_orders(alloc, asked, instance, orders, &mut console.writer);
+    let run = run_orders(alloc, asked, others, instance, orders, &mut console.writer);
     let status = end_rating(&run, &mut console.errors);
     if options.telling.explain {
         let ended = Ended {

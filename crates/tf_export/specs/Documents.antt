@@ -6,7 +6,7 @@ use Rattle.tf_export.specs.Json.{array, member, object, version}
 use Rattle.tf_export.specs.Lines.{first_of, has_line}
 use Rattle.tf_export.specs.Orders.{order_in}
 use Rattle.tf_export.specs.Tally.{summary_of}
-use Rattle.tf_export.specs.Members.{phrase, record_of, row_in, line_members}
+use Rattle.tf_export.specs.Members.{phrase, record_of, row_in, line_members, named_value}
 use Rattle.tf_export.specs.Plan.{open_in, solved_in}
 use Rattle.tf_export.specs.Csv.{column_names, row_key}
 use Rattle.tf_export.specs.declared.csv.Table.TheVariants.{Pieces, Outcomes}
@@ -44,13 +44,8 @@ known_in line = object (
     ∷ member (codes "source") (phrase (words (drop 7 (drop 12 (drop 20 line))))) ∷ [])
 
 -- a count of a summary, in a comment of its own
-abbrev pub mark_members : List (List ℕ) → List (List ℕ)
-mark_members [] = []
-mark_members (name ∷ []) = []
-mark_members (name ∷ value ∷ more) = member name value ∷ []
-
 abbrev pub mark_in : List (List ℕ) → List (List ℕ)
-mark_in line = if first_is (codes "#") line then mark_members (drop 1 line) else []
+mark_in line = if first_is (codes "#") line then named_value (drop 1 line) else []
 
 -- what is taken of a line and of the next one: members, a step, a problem or a row of a table as an
 -- object

@@ -1,6 +1,7 @@
 -- JSON (RFC 8259): strings of ASCII, whole numbers, arrays and objects, without white space.
 use Rattle.std.specs.Prelude.{ℕ, ◌+◌, ◌/◌, ◌%◌, Bool, ◌&&◌, ◌||◌, not, List, [], ◌∷◌, ◌++◌, length, drop, codes, nat_lt, ◌==◌, slice_index, if◌then◌else◌}
 use Rattle.std.specs.List.{flat_map, join_with_byte}
+use Rattle.std.specs.Str.{bytes_eq}
 use Rattle.tf_words.specs.Digits.{is_numeral}
 
 -- a digit to the base 16
@@ -33,9 +34,12 @@ abbrev pub is_integer : List ℕ → Bool
 is_integer word =
     if slice_index word 0 == 45 then is_natural (drop 1 word) else is_natural word
 
--- a whole number as it is written, and every other word as a string
+-- null for `-`, which stands for what is not known, a whole number as it is written, and every other
+-- word as a string
 unfoldable pub scalar : List ℕ → List ℕ
-scalar word = if is_integer word then word else string word
+scalar word =
+    if bytes_eq word (codes "-") then codes "null"
+    else (if is_integer word then word else string word)
 
 -- values with a comma between each two, in brackets
 abbrev pub array : List (List ℕ) → List ℕ

@@ -125,6 +125,12 @@ verdict_members key row =
     else (if bytes_eq key (codes "rejected:")
     then verdict (codes "accepted") (codes "false") (codes "reason") row else [])))
 
+-- the value that stands behind its name
+abbrev pub named_value : List (List ℕ) → List (List ℕ)
+named_value [] = []
+named_value (name ∷ []) = []
+named_value (name ∷ value ∷ more) = member name value ∷ []
+
 -- a line by its key, its other words and those of the next line
 abbrev pub keyed_members : List ℕ → List (List ℕ) → List (List ℕ) → List (List ℕ)
 keyed_members key row next =
@@ -133,7 +139,8 @@ keyed_members key row next =
     then bounding_members key row
     else (if bytes_eq key (codes "cert") then answer_certificate row
     else (if is_bound_kind key row then certificate key (bound_list key) row next ∷ []
-    else verdict_members key row)))
+    else (if bytes_eq key (codes "measure") then named_value row
+    else verdict_members key row))))
 
 -- a line, and the one that comes next
 unfoldable pub line_members : List (List ℕ) → List (List ℕ) → List (List ℕ)

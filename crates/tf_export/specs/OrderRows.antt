@@ -1,6 +1,7 @@
 -- Lines of orders as rows of a table.
-use Rattle.std.specs.Prelude.{ℕ, ◌+◌, ◌==◌, List, [], ◌∷◌, ◌++◌, Option, None, Some, codes, take, drop, if◌then◌else◌}
+use Rattle.std.specs.Prelude.{ℕ, ◌+◌, ◌==◌, Bool, List, [], ◌∷◌, ◌++◌, Option, None, Some, codes, take, drop, if◌then◌else◌}
 use Rattle.std.specs.List.{flat_map, join_with_byte, position}
+use Rattle.std.specs.Str.{bytes_eq}
 use Rattle.tf_words.specs.Words.{words, lines, first_is}
 use Rattle.tf_export.specs.Orders.{is_colon, standing_of}
 
@@ -16,37 +17,55 @@ abbrev pub first_word_of : List (List ℕ) → List ℕ
 first_word_of [] = []
 first_word_of (word ∷ more) = word
 
+-- the empty cells of the values by the other objectives, where those are asked for
+abbrev pub blank_cells : Bool → List ℕ
+blank_cells is_measured = if is_measured then codes ",,,,,,,,," else []
+
 -- an order without a value, and why it has none
-abbrev pub unrated_cells : List ℕ → List (List ℕ) → List ℕ
-unrated_cells cells reason = cells ++ join_with_byte 32 reason
+abbrev pub unrated_cells : Bool → List ℕ → List (List ℕ) → List ℕ
+unrated_cells is_measured cells reason =
+    cells ++ (blank_cells is_measured ++ 44 ∷ join_with_byte 32 reason)
+
+-- a value, and nothing for `-`, which stands for one that is not known
+abbrev pub value_cell : List ℕ → List ℕ
+value_cell word = 44 ∷ (if bytes_eq word (codes "-") then [] else word)
 
 abbrev pub rated_cells : List (List ℕ) → List ℕ
-rated_cells row = 44 ∷ (standing_of row ++ 44 ∷ (join_with_byte 44 row ++ 44 ∷ []))
+rated_cells row = 44 ∷ (standing_of row ++ (flat_map value_cell row ++ 44 ∷ []))
 
 -- what an order comes to
-abbrev pub order_cells : List (List ℕ) → List ℕ
-order_cells row =
-    if first_is (codes "misfit") row then unrated_cells (codes ",misfit,,,") (drop 1 row)
-    else (if first_is (codes "wrong") row then unrated_cells (codes ",wrong,,,") (drop 1 row)
-    else (if first_is (codes "-") row then unrated_cells (codes ",fits,,,") (words [])
-    else rated_cells row))
+abbrev pub order_cells : Bool → List (List ℕ) → List ℕ
+order_cells is_measured row =
+    if first_is (codes "misfit") row
+    then unrated_cells is_measured (codes ",misfit,,") (drop 1 row)
+    else (if first_is (codes "wrong") row
+    then unrated_cells is_measured (codes ",wrong,,") (drop 1 row) else rated_cells row)
 
--- the number of a line, its label, if it has one, and what its order comes to
-abbrev pub plain_row : List (List ℕ) → List ℕ
-plain_row line = first_word_of line ++ 44 ∷ (order_cells (drop 1 line) ++ 10 ∷ [])
+-- the number of a line, its label, if it has one, and what its order comes to, with its values by the
+-- other objectives where those are asked for
+abbrev pub plain_row : Bool → List (List ℕ) → List ℕ
+plain_row is_measured line =
+    first_word_of line ++ 44 ∷ (order_cells is_measured (drop 1 line) ++ 10 ∷ [])
 
-abbrev pub labelled_row : List (List ℕ) → List (List ℕ) → List ℕ
-labelled_row front row =
-    first_word_of front ++ 44 ∷ (quoted (drop 1 front) ++ (order_cells row ++ 10 ∷ []))
+abbrev pub labelled_row : Bool → List (List ℕ) → List (List ℕ) → List ℕ
+labelled_row is_measured front row =
+    first_word_of front ++ 44 ∷ (quoted (drop 1 front) ++ (order_cells is_measured row ++ 10 ∷ []))
 
-abbrev pub row_by : Option ℕ → List ℕ → List ℕ
-row_by None line = plain_row (words line)
-row_by (Some place) line = labelled_row (words (take place line)) (words (drop (place + 1) line))
+abbrev pub row_by : Bool → Option ℕ → List ℕ → List ℕ
+row_by is_measured None line = plain_row is_measured (words line)
+row_by is_measured (Some place) line =
+    labelled_row is_measured (words (take place line)) (words (drop (place + 1) line))
 
-abbrev pub order_row : List ℕ → List ℕ
-order_row line = row_by (position is_colon line) line
+abbrev pub order_row : Bool → List ℕ → List ℕ
+order_row is_measured line = row_by is_measured (position is_colon line) line
+
+abbrev pub heading : Bool → List ℕ
+heading is_measured =
+    if is_measured
+    then codes "line,label,standing,value,gap,Cmax,Lmax,Tmax,sumC,sumwC,sumT,sumwT,sumU,sumwU,reason\n"
+    else codes "line,label,standing,value,gap,reason\n"
 
 -- a heading, and a row for each order
-unfoldable pub orders_csv : List ℕ → List ℕ
-orders_csv text =
-    codes "line,label,standing,value,gap,reason\n" ++ flat_map order_row (drop 1 (lines text))
+unfoldable pub orders_csv : Bool → List ℕ → List ℕ
+orders_csv is_measured text =
+    heading is_measured ++ flat_map (order_row is_measured) (drop 1 (lines text))

@@ -31,15 +31,19 @@ unrated standing reason =
 abbrev pub standing_of : List (List ℕ) → List ℕ
 standing_of row = if first_is (codes "0") (drop 1 row) then codes "optimal" else codes "fits"
 
+-- the names of what a line says of a schedule that fits; the values of the other objectives stand
+-- where they are asked for
+abbrev pub rated_names : List ℕ
+rated_names = codes "value gap Cmax Lmax Tmax sumC sumwC sumT sumwT sumU sumwU"
+
 abbrev pub rated : List (List ℕ) → List (List ℕ)
-rated row = member (codes "standing") (string (standing_of row)) ∷ fields (words (codes "value gap")) [] row
+rated row = member (codes "standing") (string (standing_of row)) ∷ fields (words rated_names) [] row
 
 -- what an order comes to
 abbrev pub order_outcome : List (List ℕ) → List (List ℕ)
 order_outcome row =
     if first_is (codes "misfit") row then unrated (codes "misfit") (drop 1 row)
-    else (if first_is (codes "wrong") row then unrated (codes "wrong") (drop 1 row)
-    else (if first_is (codes "-") row then unrated (codes "fits") (words []) else rated row))
+    else (if first_is (codes "wrong") row then unrated (codes "wrong") (drop 1 row) else rated row)
 
 -- the number of a line, no label, and what its order comes to
 abbrev pub unlabelled : List (List ℕ) → List (List ℕ)

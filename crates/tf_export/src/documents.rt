@@ -162,16 +162,10 @@ impl Json {
     fn mark_in(&mut self, line: &[u8]) -> Result<(), OutOfMemory>
         ensures { OnOk result (Adds self.old self.new (mark_in (words line.now))) }
     {
-        let Some(row) = behind_key(line, b"#") else {
-            return Ok(());
-        };
-        let Some((name, more)) = first_word(row) else {
-            return Ok(());
-        };
-        let Some((value, _)) = first_word(more) else {
-            return Ok(());
-        };
-        self.member(name, value)
+        match behind_key(line, b"#") {
+            None => Ok(()),
+            Some(row) => self.named_value(row),
+        }
     }
 
     /// Adds what is taken of a line and of the next one.

@@ -5,7 +5,7 @@ ghost use Rattle.tf_export.specs.Members.{certificate_names, answer_list, bound_
 ghost use Rattle.tf_export.specs.Members.{arc_members};
 ghost use Rattle.tf_export.specs.Members.{answer_certificate, is_bound_kind, is_plain_key, verdict};
 ghost use Rattle.tf_export.specs.Members.{verdict_members, keyed_members, line_members};
-ghost use Rattle.tf_export.specs.Members.{bounding_members, fault_name};
+ghost use Rattle.tf_export.specs.Members.{bounding_members, fault_name, named_value};
 
 use crate::json::Json;
 use crate::line::count_words;
@@ -197,6 +197,19 @@ impl Json {
         Ok(())
     }
 
+    /// Adds the value that stands behind its name.
+    pub(crate) fn named_value(&mut self, row: &[u8]) -> Result<(), OutOfMemory>
+        ensures { OnOk result (Adds self.old self.new (named_value (words row.now))) }
+    {
+        let Some((name, more)) = first_word(row) else {
+            return Ok(());
+        };
+        let Some((value, _)) = first_word(more) else {
+            return Ok(());
+        };
+        self.member(name, value)
+    }
+
     /// Adds what a line says, by its key, its other words and the next line.
     fn keyed_members(
         &mut self,
@@ -219,6 +232,9 @@ impl Json {
         }
         if is_bound_kind(key, row) {
             return self.certificate(key, bound_list(key), row, next);
+        }
+        if is(key, b"measure") {
+            return self.named_value(row);
         }
         self.verdict_members(key, row)
     }

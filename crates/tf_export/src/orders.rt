@@ -1,7 +1,8 @@
 //! Lines of orders as JSON.
 //!
 //! A line has the number of the order's line, perhaps a label and a colon, and what the order comes
-//! to: a value and a gap, or a misfit, or what is wrong.
+//! to: a value and a gap, perhaps with its values by the other objectives, or a misfit, or what is
+//! wrong.
 ghost use Rattle.std.specs.Prelude.{◌≡◌, ◌∷◌, [], OnOk};
 ghost use Rattle.std.specs.List.{position};
 ghost use Rattle.tf_words.specs.Words.{words};
@@ -13,6 +14,9 @@ use crate::line::behind_first;
 use std::alloc::Global;
 use tf_model::memory::OutOfMemory;
 use tf_words::word::behind_key;
+
+// The names of what a line says of a schedule that fits.
+const RATED_NAMES: &[u8] = b"value gap Cmax Lmax Tmax sumC sumwC sumT sumwT sumU sumwU";
 
 /// Where the label of a line ends: at its first colon.
 pub(crate) fn colon_in(line: &[u8]) -> Option<usize>
@@ -94,9 +98,6 @@ impl Json {
         if let Some(reason) = behind_key(row, b"wrong") {
             return self.unrated(b"wrong", reason);
         }
-        if let Some(_) = behind_key(row, b"-") {
-            return self.unrated(b"fits", b"");
-        }
         self.rated(row)
     }
 
@@ -111,12 +112,12 @@ impl Json {
         Ok(())
     }
 
-    // An order with a value and a gap.
+    // An order with a value and a gap, and perhaps its values by the other objectives.
     fn rated(&mut self, row: &[u8]) -> Result<(), OutOfMemory>
         ensures { OnOk result (Adds self.old self.new (rated (words row.now))) }
     {
         self.string_member(b"standing", standing_of(row))?;
-        self.fields(b"value gap", b"", row)?;
+        self.fields(RATED_NAMES, b"", row)?;
         Ok(())
     }
 }

@@ -8,7 +8,7 @@ ghost use Rattle.tf_export.specs.Members.{is_number, phrase, said};
 use std::alloc::Global;
 use tf_model::memory::OutOfMemory;
 use tf_words::digits::is_numeral;
-use tf_words::word::first_word;
+use tf_words::word::{first_word, is};
 
 /// A digit to the base 16.
 fn hex_digit(value: u8) -> u8
@@ -96,11 +96,16 @@ fn is_integer(word: &[u8]) -> bool
     }
 }
 
-/// Adds a whole number as it is written, and every other word as a string.
+/// Adds `null` for `-`, which stands for what is not known, a whole number as it is written, and
+/// every other word as a string.
 #[tactic(auto, unfolding(crate::specs::Json::scalar))]
 pub(crate) fn push_scalar(text: &mut Vec<u8>, word: &[u8]) -> Result<(), OutOfMemory>
     ensures { OnOk result (text.new.items ≡ text.old.items ++ scalar word.now) }
 {
+    if is(word, b"-") {
+        text.extend_from_slice(b"null")?;
+        return Ok(());
+    }
     if !is_integer(word) {
         return push_string(text, word);
     }

@@ -101,9 +101,7 @@ static SCHEDULES: [&str; 4] = ["order", "rule", "orders", "schedule"];
 
 static RULES: [&str; 5] = ["EDD", "SPT", "LPT", "WSPT", "ERD"];
 
-static AGAINST_MEASURES: [&str; 7] = [
-    "order", "rule", "orders", "schedule", "bound", "json", "csv",
-];
+static AGAINST_MEASURES: [&str; 1] = ["bound"];
 
 static AGAINST_BOUND: [&str; 5] = ["order", "rule", "orders", "schedule", "certificate"];
 
@@ -271,7 +269,7 @@ fn reported() -> [Row; 7] {
         csv(),
         flag(
             "tex",
-            "Writes the critical path that --explain tells for LaTeX",
+            "Writes for LaTeX what --explain tells of a critical path or a rule",
         ),
         flag("measures", "Writes the value of every objective too").without(
             AGAINST_MEASURES.as_slice(),

@@ -5,4 +5,3 @@ pub mod Numbered
 pub mod Again
 pub mod Lines
 pub mod Counted
-pub mod Unread

@@ -2,7 +2,6 @@
 pub mod Texts
 pub mod AnswerTexts
 pub mod Series
-pub mod Measures
 pub mod Measured
 pub mod Shops
 pub mod Program

@@ -1,7 +1,12 @@
 -- How an evaluation ends that tells what its schedule comes to by every objective.
-use Rattle.std.specs.Prelude.{◌≡◌, ◌⊎◌, ℕ, false, List, [], codes}
+use Rattle.std.specs.Prelude.{◌≡◌, ◌⊎◌, ℕ, false, List, [], Option, None, Some, Ok, IsErr, codes}
 use Rattle.tf_text.specs.Counted.{DeviceUse, inner_of, has_failed, use_of}
 use Rattle.tf_text.specs.Input.{IsTextOf}
+use Rattle.tf_text.specs.AnswerReading.{answer_in}
+use Rattle.tf_text.specs.AnswerText.{SheetData}
+use Rattle.tf_engine.specs.RequestData.{RequestData}
+use Rattle.tf_assess.specs.Measures.{AreMeasures, IsPosed, IsUnposed, PosedData, measured_text}
+use Rattle.tf_assess.specs.declared.measures.Measures.{Measures as Values}
 use Rattle.tf_text.specs.declared.answer.layout.Layout.TheVariants.{Two}
 use Rattle.tf_options.specs.Asking.{requested}
 use Rattle.tf_options.specs.declared.options.Evaluating.{Evaluating}
@@ -9,10 +14,23 @@ use Rattle.tf_options.specs.declared.options.Options.{Options}
 use Rattle.tf_options.specs.declared.options.Work.TheVariants.{Evaluate}
 use Rattle.tf_command.specs.Ending.{SaysLine}
 use Rattle.tf_command.specs.Formatted.{Memory, held, IsWritten, IsCutOff, IsUnwritten}
-use Rattle.tf_command.specs.Performing.{Performs, Texts}
-use Rattle.tf_held.specs.Texts.{held_texts, IsUnread}
-use Rattle.tf_held.specs.Measures.{IsMeasured}
+use Rattle.tf_command.specs.Performing.{Performs}
+use Rattle.tf_command.specs.Unread.{IsUnread, Texts}
+use Rattle.tf_held.specs.Texts.{held_texts}
 use Rattle.tf_held.specs.Shops.{IsCountedBy}
+
+-- what the pieces of the answer come to by each objective, where all texts are well formed
+abbrev pub AreOfAnswer : RequestData → List ℕ → List ℕ → Option Values → Type 0
+AreOfAnswer request instance answer None =
+    IsUnposed request instance ⊎ IsErr (answer_in answer)
+AreOfAnswer request instance answer (Some m) =
+    (posed : PosedData) × (sheet : SheetData) × IsPosed request instance posed
+    × (answer_in answer ≡ Ok sheet) × AreMeasures posed sheet.answer.pieces m
+
+-- an evaluation with the lines of its measures before its last line
+abbrev pub IsMeasured : RequestData → List ℕ → List ℕ → List ℕ → List ℕ → Type 0
+IsMeasured request instance answer text measured =
+    (m : Option Values) × AreOfAnswer request instance answer m × (measured ≡ measured_text text m)
 
 -- the evaluation was done over these two texts with its output in memory, and what it wrote is this,
 -- with measures

@@ -20,9 +20,11 @@ use Rattle.tf_options.specs.declared.series.Told.{Told}
 use Rattle.tf_options.specs.declared.series.Told.TheVariants.{Values, Bounds, Answers}
 use Rattle.tf_command.specs.Ending.{SaysLine}
 use Rattle.tf_command.specs.Formatted.{Memory, held}
-use Rattle.tf_command.specs.Performing.{Performs, Texts, EndsWriting}
+use Rattle.tf_command.specs.Performing.{Performs, EndsWriting}
+use Rattle.tf_command.specs.Unread.{Texts}
 use Rattle.tf_held.specs.AnswerTexts.{IsNext}
-use Rattle.tf_held.specs.Texts.{held_texts, IsUnread}
+use Rattle.tf_command.specs.Unread.{IsUnread}
+use Rattle.tf_held.specs.Texts.{held_texts}
 use Rattle.tf_held.specs.declared.series.Stop.{Stop}
 use Rattle.tf_held.specs.declared.series.Stop.TheVariants as stops
 

@@ -14,8 +14,8 @@ use Rattle.tf_options.specs.declared.options.FormOption.TheVariants.{Table, Wt, 
 use Rattle.tf_options.specs.declared.options.Options.{Options}
 use Rattle.tf_options.specs.declared.options.Work.{Work as Asking}
 use Rattle.tf_options.specs.declared.options.Work.TheVariants.{Plan, Evaluate, Assess, Rate}
-use Rattle.tf_command.specs.Performing.{Performs, Texts}
-use Rattle.tf_held.specs.Texts.{IsUnread}
+use Rattle.tf_command.specs.Performing.{Performs}
+use Rattle.tf_command.specs.Unread.{IsUnread, Texts}
 use Rattle.tf_held.specs.declared.shops.HeldOr.{HeldOr}
 use Rattle.tf_held.specs.declared.shops.HeldOr.TheVariants.{Held, Other}
 

@@ -6,9 +6,7 @@
 mod answers;
 mod held;
 pub mod measured;
-mod measures;
 pub mod program;
-mod reading;
 pub mod series;
 pub mod shops;
 mod words_split;

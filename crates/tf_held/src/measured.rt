@@ -1,46 +1,34 @@
 //! An evaluation, with what the schedule comes to by each objective.
-ghost use Rattle.std.specs.Prelude.{◌≡◌, ◌⊎◌, true, codes, Ok, IfOk, IsErr, OnOk};
+ghost use Rattle.std.specs.Prelude.{◌≡◌, ◌⊎◌, codes, Ok, IfOk, IsErr};
 ghost use Rattle.std.specs.Prelude.{MatchOption};
 ghost use Rattle.tf_text.specs.Counted.{use_of};
 ghost use Rattle.tf_command.specs.Ending.{SaysLine};
 ghost use Rattle.tf_command.specs.Wrote.{Wrote};
 ghost use Rattle.tf_command.specs.Formatted.{IsWritten, IsCutOff};
 ghost use Rattle.tf_held.specs.Measured.{EndsMeasured, MeasuresCounted, MeasuresOver};
-ghost use Rattle.tf_bounding.specs.ShopTimes.{timed_said};
-ghost use Rattle.tf_engine.specs.Faults.{is_refusal, stop_of};
-ghost use Rattle.tf_engine.specs.FormData.{form_of};
 ghost use Rattle.tf_text.specs.AnswerReading.{answer_in};
 ghost use Rattle.tf_text.specs.AnswerText.{SheetData};
-ghost use Rattle.tf_held.specs.Measures.{AddsLines, IsMeasured, IsPosed, IsUnposed};
+ghost use Rattle.tf_held.specs.Measured.{AreOfAnswer, IsMeasured};
 
 use crate::held::Held;
-use crate::measures::{Posed, push_measures};
-use crate::reading::text_named;
 use crate::shops::{evaluating_under, line_for};
 use std::alloc::Global;
 use std::io::Write;
-use tf_bounding::timed_read::timed_read;
+use tf_assess::measures::{Measures, measures_of, posed_in, with_measures};
 use tf_check::answer::Answer;
 use tf_command::commands::evaluate_named;
 use tf_command::console::Console;
 use tf_command::formatted::memory;
 use tf_command::gathered::send;
+use tf_command::reading::text_named;
 use tf_command::report::{say_device, say_memory};
 use tf_command::source::Sources;
-use tf_engine::fault::RunFault;
-use tf_engine::request::{Form, Request};
+use tf_engine::request::Request;
 use tf_model::memory::OutOfMemory;
-use tf_model::problem::Env;
-use tf_notation::reading::read;
 use tf_options::options::Evaluating;
-use tf_prepare::timed::TimedInstance;
 use tf_text::answer::fault::AnswerFault;
 use tf_text::answer::layout::Layout;
 use tf_text::answer::reading::read_answer;
-use tf_text::counted::Counted;
-
-/// The last line of an evaluation.
-const END: &[u8] = b"end\n";
 
 /// What an evaluation wrote, with its measures, and its status.
 #[derive(Drop)]
@@ -53,7 +41,7 @@ struct Told {
 /// Evaluates an answer as [`perform_counted`](crate::shops::perform_counted) does, and writes
 /// before the last line a line `measure NAME VALUE` for each objective of which the instance has
 /// the fields.
-pub fn perform_measured<S: Sources, W: Write, E: Write>(
+pub(crate) fn perform_measured<S: Sources, W: Write, E: Write>(
     console: &mut Console<W, E>,
     sources: &S,
     evaluating: Evaluating<'_>,
@@ -130,14 +118,14 @@ fn told_over(
         return Err(OutOfMemory);
     }
     Ok(Told {
-        output: with_measures(alloc, &request, held, kept.writer.inner().as_slice())?,
+        output: measured_text(alloc, &request, held, kept.writer.inner().as_slice())?,
         errors: Vec::from_slice(alloc, kept.errors.inner().as_slice())?,
         status,
     })
 }
 
 /// The text of an evaluation, with the lines of the measures before its last line.
-fn with_measures(
+fn measured_text(
     alloc: Global,
     request: &Request,
     held: Held<'_>,
@@ -146,83 +134,25 @@ fn with_measures(
     ensures { IfOk result (λ measured. IsMeasured request.now held.entry.instance.now
         held.entry.other.now text.now measured.items) }
 {
-    if text.len() < END.len() {
-        return Ok(Vec::from_slice(alloc, text)?);
-    }
-    let mut all = Vec::from_slice(alloc, &text[..text.len() - END.len()])?;
-    push_lines(&mut all, alloc, request, held)?;
-    all.extend_from_slice(END)?;
-    Ok(all)
+    let measures = answer_measures(alloc, request, held)?;
+    with_measures(Vec::from_slice(alloc, text)?, &measures)
 }
 
-/// Adds the lines of the measures of the answer's schedule.
-fn push_lines(
-    text: &mut Vec<u8>,
+/// What the answer's schedule comes to by each objective, where all texts are well formed.
+fn answer_measures(
     alloc: Global,
     request: &Request,
     held: Held<'_>,
-) -> Result<(), OutOfMemory>
-    ensures { OnOk result (AddsLines request.now held.entry.instance.now held.entry.other.now
-        text.old.items text.new.items) }
+) -> Result<Option<Measures>, OutOfMemory>
+    ensures { IfOk result (AreOfAnswer request.now held.entry.instance.now held.entry.other.now) }
 {
     let Some(posed) = posed_in(alloc, request, held.instance)? else {
-        return Ok(());
+        return Ok(None);
     };
     let Some(answer) = answer_said(alloc, held.other)? else {
-        return Ok(());
-    };
-    push_measures(text, alloc, &posed, answer.pieces.as_slice())?;
-    Ok(())
-}
-
-/// What a request and an instance mean, if they are well formed.
-fn posed_in(alloc: Global, request: &Request, text: &[u8]) -> Result<Option<Posed>, OutOfMemory>
-    ensures { IfOk result (λ found. MatchOption found (IsUnposed request.now text.now)
-        (IsPosed request.now text.now)) }
-{
-    let Ok(problem) = read(request.problem.as_str().as_bytes()) else {
         return Ok(None);
     };
-    let Some(timed) = timed_in(alloc, &request.form, problem.env, text)? else {
-        return Ok(None);
-    };
-    Ok(Some(Posed {
-        timed,
-        problem,
-        machines: request.machines,
-    }))
-}
-
-/// The instance of a text of this form, with the times or routes that the environment asks for, if
-/// the text is well formed.
-fn timed_in(
-    alloc: Global,
-    form: &Form,
-    env: Env,
-    text: &[u8],
-) -> Result<Option<TimedInstance<Global>>, OutOfMemory>
-    ensures { IfOk result (λ found. MatchOption found
-        (IsErr (timed_said (form_of form.now) env text.now))
-        (λ timed. timed_said (form_of form.now) env text.now ≡ Ok timed)) }
-{
-    let mut reader = Counted::new(text);
-    match timed_read(alloc, form, env, &mut reader) {
-        Ok(timed) => Ok(Some(timed)),
-        Err(fault) => {
-            refused(&fault)?;
-            Ok(None)
-        }
-    }
-}
-
-/// Whether a fault is a refusal; else a text in memory was not read for want of memory.
-fn refused(fault: &RunFault) -> Result<(), OutOfMemory>
-    ensures { OnOk result (is_refusal (stop_of fault.now) ≡ true) }
-{
-    match fault {
-        RunFault::Device | RunFault::OutOfMemory => Err(OutOfMemory),
-        _ => Ok(()),
-    }
+    Ok(Some(measures_of(alloc, &posed, answer.pieces.as_slice())?))
 }
 
 /// The answer of a text, if the text is well formed.

@@ -2,9 +2,7 @@
 ghost use Rattle.std.specs.Prelude.{◌≡◌, Some, true, false, IfOk, IfSome, MatchOption, option_map};
 ghost use Rattle.std.specs.Prelude.{string_bytes};
 ghost use Rattle.tf_command.specs.Ending.{SaysLine};
-ghost use Rattle.tf_command.specs.Formatted.{EndsFormatted};
 ghost use Rattle.tf_command.specs.Performing.{Performs};
-ghost use Rattle.tf_command.specs.Wrote.{Wrote};
 ghost use Rattle.tf_notation.specs.Reading.{notation};
 ghost use Rattle.tf_options.specs.Columns.{IsSized};
 ghost use Rattle.tf_options.specs.declared.options.Options.{Options};
@@ -13,13 +11,12 @@ ghost use Rattle.tf_held.specs.Shops.{EndsCounted, IsCountedLine, IsLineFor, IsU
 ghost use Rattle.tf_held.specs.Shops.{asks_count, evaluated, is_uncounted_in, is_uncounted_shop};
 ghost use Rattle.tf_held.specs.Shops.{texts_with, wants_count, whole_name, with_options};
 
-use crate::reading::text_named;
 use std::alloc::Global;
 use std::io;
 use std::io::{Read, Write};
 use tf_command::commands::perform;
 use tf_command::console::Console;
-use tf_command::formatted::{memory, print_kept};
+use tf_command::reading::text_named;
 use tf_command::report::say_memory;
 use tf_command::source::Sources;
 use tf_model::class::class_of;
@@ -27,7 +24,6 @@ use tf_model::memory::OutOfMemory;
 use tf_model::problem::Problem;
 use tf_notation::reading::read;
 use tf_notation::writing::notation_text;
-use tf_options::format::Format;
 use tf_options::options::{Assessing, Evaluating, FormOption, Options, Work};
 use tf_read::fault::ReadFault;
 use tf_read::flow_shop::read_flowshop;
@@ -97,7 +93,7 @@ impl<'a, S: Sources> Sources for WithInstance<'a, S> {
 /// Does what is asked for, as [`perform`] does. In a plan or an evaluation a problem that is solved
 /// on two machines and names no number of them, as `F||Cmax`, is that of as many machines as the
 /// instance of a flow shop file has.
-pub fn perform_counted<S: Sources, W: Write, E: Write>(
+pub(crate) fn perform_counted<S: Sources, W: Write, E: Write>(
     console: &mut Console<W, E>,
     sources: &S,
     work: Work<'_>,
@@ -124,24 +120,6 @@ pub fn perform_counted<S: Sources, W: Write, E: Write>(
         others: sources,
     };
     perform(console, &texts, &work_under(work, line.as_str()))
-}
-
-/// Does what is asked for, as [`perform_counted`] does, and writes in a format what that prints and
-/// what it says of faults. Nothing is written before the command has ended.
-pub fn counted_formatted<S: Sources, W: Write, E: Write>(
-    console: &mut Console<W, E>,
-    sources: &S,
-    work: Work<'_>,
-    format: Format,
-) -> u8
-    requires { IsSized work }
-    ensures { EndsFormatted (EndsCounted (S.text_of sources.now) work.entry) format
-        (use_of W.contents console.old.writer console.new.writer)
-        (Wrote E.contents console.old.errors console.new.errors) result }
-{
-    let mut kept = memory(console.alloc);
-    let status = perform_counted(&mut kept, sources, work);
-    print_kept(console, format, &kept, status)
 }
 
 /// The options of a plan or an evaluation whose number of machines is wanted.

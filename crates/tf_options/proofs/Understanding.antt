@@ -12,7 +12,6 @@ pub of_words : (app : App) (words : List (List ℕ)) (on_terminal : Bool) (asked
 of_words app words on_terminal (asking.Work work) h = h
 of_words app words on_terminal (asking.Formatted work format) h = h
 of_words app words on_terminal (asking.Series series) h = h
-of_words app words on_terminal (asking.Measured evaluating) h = h
 of_words app words on_terminal (asking.Help error) h = tt
 of_words app words on_terminal (asking.Misused error) h = tt
 of_words app words on_terminal (asking.Unfit message) h = h

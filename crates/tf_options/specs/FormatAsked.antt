@@ -1,5 +1,5 @@
 -- The format of the output that a command line names.
-use Rattle.std.specs.Prelude.{◌≡◌, ◌⊎◌, ℕ, ◌||◌, true, List, Option, None, Some, codes, if◌then◌else◌}
+use Rattle.std.specs.Prelude.{◌≡◌, ◌⊎◌, ℕ, Bool, ◌||◌, true, List, Option, None, Some, codes, if◌then◌else◌}
 use Rattle.std.specs.Str.{bytes_eq}
 use Rattle.tf_text.specs.declared.answer.layout.Layout.{Layout}
 use Rattle.tf_text.specs.declared.answer.layout.Layout.TheVariants.{One}
@@ -7,7 +7,7 @@ use Rattle.tf_export.specs.declared.csv.Table.TheVariants.{Pieces, Outcomes}
 use Rattle.tf_export.specs.declared.documents.Document.TheVariants.{Answer, Bound, Evaluation, Verdict, Problems, Plan, Border, Orders}
 use Rattle.tf_options.specs.Matched.{layout_by}
 use Rattle.tf_options.specs.declared.format.Format.{Format}
-use Rattle.tf_options.specs.declared.format.Format.TheVariants.{Json, Csv, OrderRows, Summary}
+use Rattle.tf_options.specs.declared.format.Format.TheVariants.{Json, Csv, OrderRows, MeasuredRows, Summary}
 use Rattle.tf_options.specs.declared.options.Asked.{Asked}
 use Rattle.tf_options.specs.declared.options.Asked.TheVariants as asking
 use Rattle.tf_options.specs.declared.options.Asked.TheVariants.{Formatted}
@@ -61,24 +61,31 @@ pub record IsSolvedLayoutBy (given : Values) (version : Option (List ℕ)) (layo
     pub json : IsGiven given (codes "json") → layout ≡ One
     pub text : IsMissing given (codes "json") → layout ≡ layout_by version
 
+-- a row of each order, with its values by the other objectives or without
+abbrev pub rows_format : Bool → Format
+rows_format is_measured = if is_measured then MeasuredRows else OrderRows
+
 -- the format of a list of orders
-abbrev pub orders_format : Format → Format
-orders_format (Json document) = Json Orders
-orders_format (Csv table) = OrderRows
-orders_format OrderRows = OrderRows
-orders_format Summary = Summary
+abbrev pub orders_format : Format → Bool → Format
+orders_format (Json document) is_measured = Json Orders
+orders_format (Csv table) is_measured = rows_format is_measured
+orders_format OrderRows is_measured = rows_format is_measured
+orders_format MeasuredRows is_measured = rows_format is_measured
+orders_format Summary is_measured = Summary
 
 -- and of the list of which problems are polynomial
 abbrev pub border_format : Format → Format
 border_format (Json document) = Json Border
 border_format (Csv table) = Csv table
 border_format OrderRows = OrderRows
+border_format MeasuredRows = MeasuredRows
 border_format Summary = Summary
 
 -- orders with the numbers of their lines
 abbrev pub source_in_format : Options → OrderSource → Format → Asked
 source_in_format options (Named name goes_on is_numbered) format =
-    Formatted (Rate options (Named name goes_on true)) (orders_format format)
+    Formatted (Rate options (Named name goes_on true))
+    (orders_format format options.telling.measures)
 source_in_format options (Given order) format = Formatted (Rate options (Given order)) format
 source_in_format options (Ruled rule) format = Formatted (Rate options (Ruled rule)) format
 source_in_format options (Drawn name) format = Formatted (Rate options (Drawn name)) format
@@ -104,7 +111,6 @@ abbrev pub one_in_format : Asked → Format → Asked
 one_in_format (asking.Work work) format = work_in_format work format
 one_in_format (Formatted work other) format = Formatted work other
 one_in_format (asking.Series series) format = asking.Series series
-one_in_format (asking.Measured evaluating) format = asking.Measured evaluating
 one_in_format (asking.Help error) format = asking.Help error
 one_in_format (asking.Misused error) format = asking.Misused error
 one_in_format (asking.Unfit text) format = asking.Unfit text

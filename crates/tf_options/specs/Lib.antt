@@ -6,5 +6,4 @@ pub mod Viewing
 pub mod FormatAsked
 pub mod Understood
 pub mod SeriesAsked
-pub mod MeasuresAsked
 pub mod Understanding

@@ -141,6 +141,7 @@ pub record AreOptionsBy (given : Given) (on_terminal : Bool) (options : Options)
   pub machines : IsNumberBy 1 most_machines (given.value (codes "machines")) options.machines
   pub form : IsFormBy given options.form
   pub explain : options.telling.explain ≡ explains_by (given.value (codes "explain")) on_terminal
+  pub measures : IsFlagBy (given.flag (codes "measures")) options.telling.measures
   pub style : IsFlagBy (given.flag (codes "tex")) (is_latex options.telling.style)
   pub idle : AreIdleBy given options.form options.telling.idle
 

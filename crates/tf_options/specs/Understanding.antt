@@ -1,12 +1,11 @@
 -- What a command line asks for, by its words as clap reads them.
-use Rattle.std.specs.Prelude.{◌≡◌, ◌⊎◌, ℕ, Bool, List, Option, None, Some, IsTrue, is_some, option_map, codes}
+use Rattle.std.specs.Prelude.{◌≡◌, ◌⊎◌, ℕ, Bool, true, List, Option, None, Some, IsTrue, is_some, option_map, codes}
 use Rattle.clap.specs.Words.{App, HasMatchesOf, rows_of, subcommand_rows}
 use Rattle.clap.specs.Words.{found_of, subcommand_name_of}
 use Rattle.clap.specs.declared.parser.matches.ArgMatches.{ArgMatches}
 use Rattle.clap.specs.declared.parser.matches.ArgMatches.TheViews.{out-ArgMatches}
 use Rattle.tf_options.specs.FormatAsked.{IsFormatBy, asked_in_format}
-use Rattle.tf_options.specs.Matched.{Given, given_of}
-use Rattle.tf_options.specs.MeasuresAsked.{IsMeasuredBy}
+use Rattle.tf_options.specs.Matched.{Given, IsFlagBy, given_of}
 use Rattle.tf_options.specs.SeriesAsked.{IsSeriesAsked, span_for}
 use Rattle.tf_options.specs.Understood.{IsAskedBy}
 use Rattle.tf_options.specs.declared.format.Format.{Format}
@@ -20,6 +19,17 @@ IsOneInstance (asking.Unfit message) =
     ≡ codes "--json, --csv, --measures and --certificate take one instance, and --index names several"
 IsOneInstance _ = ⊥
 
+-- the values of a schedule are asked for in a table of jobs, which has no place for them
+pub record IsMeasuredList (given : Given) : Type 0 where
+  pub measures : IsFlagBy (given.flag (codes "measures")) true
+  pub csv : IsFlagBy (given.flag (codes "csv")) true
+  pub orders : given.value (codes "orders") ≡ None
+
+abbrev pub IsOrdersAlone : Asked → Type 0
+IsOrdersAlone (asking.Unfit message) =
+    message.now ≡ codes "--csv goes with --measures for --orders alone"
+IsOrdersAlone _ = ⊥
+
 -- one thing, as text or in the format that is named
 abbrev pub IsFormattedBy : List ℕ → Given → Bool → Asked → Type 0
 IsFormattedBy name given on_terminal asked =
@@ -27,14 +37,14 @@ IsFormattedBy name given on_terminal asked =
     × IsFormatBy given.flag name format × (asked ≡ asked_in_format plain format)
 
 -- by the name of a command, and by what clap found of it: a line for each of several instances, or one
--- thing, as text or in a format, and perhaps with measures
+-- thing, as text or in a format
 abbrev pub IsUnderstoodBy : List ℕ → Given → Bool → Asked → Type 0
 IsUnderstoodBy name given on_terminal asked =
     (IsTrue (is_some (span_for name given))
     × (IsSeriesAsked name given on_terminal asked ⊎ IsOneInstance asked))
     ⊎ ((span_for name given ≡ None)
-    × ((one : Asked) × IsFormattedBy name given on_terminal one
-    × IsMeasuredBy (given.flag (codes "measures")) one asked))
+    × ((IsMeasuredList given × IsOrdersAlone asked)
+    ⊎ IsFormattedBy name given on_terminal asked))
 
 -- clap made the matches of the words, and its matches of the command that they name ask for this
 pub record IsOfWords (app : App) (words : List (List ℕ)) (on_terminal : Bool) (asked : Asked) : Type 0

@@ -11,6 +11,8 @@ pub enum Format {
     Csv(Table),
     /// A row of each order of a list, with commas between its values.
     OrderRows,
+    /// The same with its values by the other objectives.
+    MeasuredRows,
     /// A list of orders as text, and a summary of it.
     Summary,
 }

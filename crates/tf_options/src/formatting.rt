@@ -34,20 +34,22 @@ fn source_in_format<'a>(options: Options<'a>, source: OrderSource<'a>, format: F
                 goes_on,
                 is_numbered: true,
             };
-            Asked::Formatted(Work::Rate(options, orders), orders_format(format))
+            let format = orders_format(format, options.telling.measures);
+            Asked::Formatted(Work::Rate(options, orders), format)
         }
         other => Asked::Formatted(Work::Rate(options, other), format),
     }
 }
 
-// The format of a list of orders.
-fn orders_format(format: Format) -> Format
-    ensures { result ≡ orders_format format }
+// The format of a list of orders, with their values by the other objectives or without.
+fn orders_format(format: Format, is_measured: bool) -> Format
+    ensures { result ≡ orders_format format is_measured }
 {
     match format {
         Format::Json(_) => Format::Json(Document::Orders),
-        Format::Csv(_) | Format::OrderRows => Format::OrderRows,
         Format::Summary => Format::Summary,
+        _ if is_measured => Format::MeasuredRows,
+        _ => Format::OrderRows,
     }
 }
 

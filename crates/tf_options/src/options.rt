@@ -1,6 +1,6 @@
 //! The command line.
 ghost use Rattle.std.specs.Prelude.{◌≡◌, ◌≤◌, None, Some, false, codes};
-ghost use Rattle.std.specs.Prelude.{option_map, IfOk, IfErr, MatchOption};
+ghost use Rattle.std.specs.Prelude.{option_map, IfOk, IfErr, IsTrue, MatchOption};
 ghost use Rattle.tf_engine.specs.FormData.{form_of};
 ghost use Rattle.tf_model.specs.Limit.{most_machines};
 ghost use Rattle.tf_options.specs.Asking.{form_asked, requested};
@@ -14,9 +14,8 @@ ghost use Rattle.tf_options.specs.Matched.{has_arithmetic, is_latex, lacks, layo
 ghost use Rattle.tf_options.specs.Matched.{lists_bounded};
 ghost use Rattle.tf_options.specs.Matched.{machines_fault, most_steps, options_fault, pair_in};
 ghost use Rattle.tf_options.specs.Matched.{number_by, steps_fault, wt_fault};
-ghost use Rattle.tf_options.specs.MeasuresAsked.{IsMeasuredBy};
 ghost use Rattle.tf_options.specs.OptionNumber.{numeral_in};
-ghost use Rattle.tf_options.specs.Understanding.{IsFormattedBy, IsUnderstoodBy};
+ghost use Rattle.tf_options.specs.Understanding.{IsFormattedBy, IsMeasuredList, IsUnderstoodBy};
 ghost use Rattle.tf_options.specs.Understood.{AreAidsBy, HasNoOrder, IsAskedBy, IsOrderBy, IsWorkBy};
 ghost use Rattle.tf_options.specs.Understood.{aids_fault, fault_by, input_fault, is_incomplete};
 ghost use Rattle.tf_options.specs.Understood.{is_standard_input, lacks_options, lacks_own, own_fault};
@@ -59,6 +58,8 @@ pub struct Options<'a> {
 #[derive(Clone, Copy, Debug)]
 pub struct Telling {
     pub explain: bool,
+    /// Whether the values of a schedule by the other objectives are told.
+    pub measures: bool,
     /// How a critical path is written.
     pub style: Style,
     pub idle: Idle,
@@ -67,10 +68,12 @@ pub struct Telling {
 impl Telling {
     /// Nothing is said.
     pub fn nothing() -> Telling
-        ensures { result.explain ≡ false }
+        ensures explain { result.explain ≡ false }
+        ensures measures { result.measures ≡ false }
     {
         Telling {
             explain: false,
+            measures: false,
             style: Style::Plain,
             idle: Idle {
                 jobs: false,
@@ -253,8 +256,6 @@ pub enum Asked<'a> {
     Formatted(Work<'a>, Format),
     /// Tell a line of each of several instances.
     Series(Series<'a>),
-    /// Tell how good an answer is, and what its schedule comes to by each objective.
-    Measured(Evaluating<'a>),
     /// Help, or the version.
     Help(Error),
     /// The command line is none of the program's.
@@ -269,6 +270,8 @@ pub const MOST_STEPS: u32 = 1_000_000;
 const ONE_INSTANCE: &str = "\
 --json, --csv, --measures and --certificate take one instance, and --index names several";
 
+const ORDERS_ALONE: &str = "--csv goes with --measures for --orders alone";
+
 // What the command of this name asks for, by what clap found of it.
 pub(crate) fn understand_given<'a>(
     name: &str,
@@ -281,8 +284,16 @@ pub(crate) fn understand_given<'a>(
     match span_for(name, given) {
         Some(span) if tells_lines(name, given) => series_asked(name, given, on_terminal, span),
         Some(_) => Asked::Unfit(ONE_INSTANCE),
-        None => measured(given, formatted_by(name, given, on_terminal)),
+        None if lists_measured_jobs(given) => Asked::Unfit(ORDERS_ALONE),
+        None => formatted_by(name, given, on_terminal),
     }
+}
+
+// Whether a table of jobs is asked for together with the values of their schedule.
+fn lists_measured_jobs(given: &ArgMatches<'_>) -> bool
+    ensures { IsTrue result → IsMeasuredList (given_of given.now) }
+{
+    given.get_flag("measures") && given.get_flag("csv") && given.get_str("orders").is_none()
 }
 
 // Whether nothing but a line of each instance is asked for.
@@ -297,21 +308,6 @@ fn formatted_by<'a>(name: &str, given: &ArgMatches<'a>, on_terminal: bool) -> As
     ensures formatted { IsFormattedBy name.now (given_of given.now) on_terminal result }
 {
     in_format(asked_by(name, given, on_terminal), format_in(name, given))
-}
-
-// An evaluation, with what the schedule comes to by each objective where that is asked for.
-fn measured<'a>(given: &ArgMatches<'a>, asked: Asked<'a>) -> Asked<'a>
-    requires { HasColumns asked }
-    ensures columns { HasColumns result }
-    ensures measures { IsMeasuredBy ((given_of given.now).flag (codes "measures")) asked.entry result }
-{
-    if !given.get_flag("measures") {
-        return asked;
-    }
-    match asked {
-        Asked::Work(Work::Evaluate(evaluating)) => Asked::Measured(evaluating),
-        other => other,
-    }
 }
 
 // What is asked for, with its output in this format, if it is one.
@@ -657,6 +653,7 @@ fn options_in<'a>(given: &ArgMatches<'a>, on_terminal: bool) -> Result<Options<'
         input,
         telling: Telling {
             explain: is_explained(given, on_terminal),
+            measures: given.get_flag("measures"),
             style: style_in(given),
             idle: idle_in(given, &form),
         },

@@ -80,6 +80,7 @@ fn picturing_in<'a>(
         view,
         telling: Telling {
             explain: is_explained(given, on_terminal),
+            measures: false,
             style: Style::Plain,
             idle: idle_in(given, &form),
         },

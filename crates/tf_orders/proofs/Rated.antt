@@ -1,5 +1,8 @@
 -- Schedules of orders, and what is written of them.
-use Rattle.std.proofs.Common.{◌≡◌, ℕ, ◌++◌, List, sym, subst}
+use Rattle.std.proofs.Common.{◌≡◌, ℕ, [], ◌∷◌, ◌++◌, List, sym, subst, append_assoc}
+use Rattle.std.specs.List.{flat_map}
+use Rattle.tf_text.specs.AnswerText.{line_text}
+use Rattle.tf_text.proofs.Written.{joined}
 use Rattle.tf_schedule.specs.declared.piece.Piece.{Piece}
 use Rattle.tf_orders.specs.declared.order.Turn.{Turn}
 use Rattle.tf_orders.specs.Orders.{IsOrder, IsNoOrder}
@@ -30,3 +33,10 @@ pub row_is : {A : Type 0} (m : Measure A) (text before after : List ℕ) (ps : L
     → (row : List ℕ) × IsRowOf m ps row × (after ≡ before ++ row)
     → (row : List ℕ) × IsRow m text row × (after ≡ before ++ row)
 row_is m text before after ps scheduled (row, is, written) = (row, (ps, scheduled, is), written)
+
+-- a line of a value, its gap and other words
+pub row_written : (t0 t1 t2 t3 value gap : List ℕ) (words : List (List ℕ))
+    → t1 ≡ t0 ++ (value ++ 32 ∷ gap) → t2 ≡ t1 ++ flat_map (λ word. 32 ∷ word) words
+    → t3 ≡ t2 ++ 10 ∷ [] → t3 ≡ t0 ++ line_text (value ∷ gap ∷ words)
+row_written t0 t1 t2 t3 value gap words e1 e2 e3 =
+    rw (e3, e2, e1, joined value (gap ∷ words)) (simp append_assoc)

@@ -1,5 +1,5 @@
 -- Runs over orders, from what was read on.
-use Rattle.std.proofs.Common.{◌≡◌, ℕ, ◌≤◌, List, Option, Bool, true, false, Ok, Err, length, refl, sym, subst, ◌∙◌, inl, inr}
+use Rattle.std.proofs.Common.{◌≡◌, ℕ, ◌≤◌, List, Option, None, Bool, true, false, Ok, Err, length, refl, sym, subst, ap, ◌∙◌, inl, inr}
 use Rattle.std.specs.Io.KnownBytes.{Appends}
 use Rattle.tf_model.specs.Limit.{most_bytes}
 use Rattle.tf_text.specs.declared.counted.Counted.{Counted}
@@ -15,9 +15,10 @@ use Rattle.tf_orders.specs.declared.case_read.Posed.TheVariants.{Solved, Unsolve
 use Rattle.tf_orders.specs.declared.measure.Measure.{Measure}
 use Rattle.tf_orders.specs.declared.run_orders.OrderForm.{OrderForm}
 use Rattle.tf_orders.specs.declared.run_orders.OrdersRated.{OrdersRated}
-use Rattle.tf_orders.specs.Measuring.{IsMeasure}
+use Rattle.tf_assess.specs.Measures.{PosedData}
+use Rattle.tf_orders.specs.Measuring.{IsMeasure, others_of}
 use Rattle.tf_orders.specs.OrderText.{AreRated}
-use Rattle.tf_orders.specs.OrderParts.{Means, Measures, IsCycleOf, IsUnmeasured, IsUnrated, IsRefusedCase, ReadsOrderCase}
+use Rattle.tf_orders.specs.OrderParts.{Means, Measures, IsCycleOf, IsUnmeasured, IsUnrated, IsRefusedCase, ReadsOrderCase, with_others}
 use Rattle.tf_orders.specs.RunOrders.{IsRated, SaysRated, IsRefusedOrders, HasOrderReaderFailed, IsOrdersRunOf}
 
 -- why there is no measure, or orders are not rated, has nothing to do with the instance's text
@@ -34,12 +35,26 @@ unrated_later form m text Fails h = absurd h
 unrated_later form m text Wants h = refl
 
 -- the measure of what is asked for
-pub measure_is : {A : Type 0} (request : RequestData) (text : List ℕ) (posed : Posed A)
-    (m : Measure A) → Means request text posed → Measures posed m → IsMeasure request text m
-measure_is request text (Solved asked) m (solved, is) (best, same, least) =
+pub measure_is : {A : Type 0} (request : RequestData) (others : Option PosedData) (text : List ℕ)
+    (posed : Posed A) (m : Measure A) → Means request text posed → Measures others posed m
+    → IsMeasure request text m
+measure_is request others text (Solved asked) m (solved, is) (best, same, least) =
     subst (IsMeasure request text) (sym same) (solved, is.problem, is.meant, least)
-measure_is request text (Unsolved task) m (unsolved, meant) (found, same, feasible, bound) =
+measure_is request others text (Unsolved task) m (unsolved, meant) (found, same, feasible, bound) =
     subst (IsMeasure request text) (sym same) (unsolved, meant, feasible, bound)
+
+pub measures_with : {A : Type 0} (others : Option PosedData) (posed : Posed A) (m n : Measure A)
+    → Measures None posed m → n ≡ with_others m others → Measures others posed n
+measures_with others (Solved asked) m n (best, same, least) is =
+    (best, is ∙ ap (λ m. with_others m others) same, least)
+measures_with others (Unsolved task) m n (found, same, feasible, bound) is =
+    (found, is ∙ ap (λ m. with_others m others) same, feasible, bound)
+
+-- with the instance that was given for the other objectives
+pub others_are : {A : Type 0} (others : Option PosedData) (posed : Posed A) (m : Measure A)
+    → Measures others posed m → others_of m ≡ others
+others_are others (Solved asked) m (best, same, least) = ap others_of same
+others_are others (Unsolved task) m (found, same, feasible, bound) = ap others_of same
 
 cyclic : {A : Type 0} (form : OrderForm) (request : RequestData) (text orders jobs : List ℕ)
     (refused : Refused) (posed : Posed A) → Means request text posed → refused ≡ ByCycle jobs
@@ -53,20 +68,20 @@ cyclic form request text orders jobs refused (Solved asked) (solved, meant) is c
 cyclic form request text orders jobs refused (Unsolved task) (unsolved, meant) is cycle =
     inr (inr (inr (inl (task, meant, (jobs, is, cycle)))))
 
-module _ (A T U : Type 0) (form : OrderForm) (request : RequestData)
+module _ (A T U : Type 0) (form : OrderForm) (request : RequestData) (others : Option PosedData)
     (remaining : T → Option (List ℕ)) (old new : Counted T) (giving : U → Option (List ℕ))
     (before after : Counted U) where
   -- nothing was written where no case was read
   pub unread : (held : Option (List ℕ)) (writer : Bool) (e : RunFault A)
       → ReadsOrderCase request remaining old new giving before after (Err e)
-      → IsOrdersRunOf form request (use_of remaining old new) (use_of giving before after)
+      → IsOrdersRunOf form request others (use_of remaining old new) (use_of giving before after)
       (unused held writer) (Err e)
   unread held writer e had = record {
     text = had.text;
     is_all = had.is_all;
     orders_text = had.orders_text;
     is_whole = had.is_whole;
-    outcome = reading_stops (SaysRated A form request had.text had.orders_text)
+    outcome = reading_stops (SaysRated A form request others had.text had.orders_text)
         (IsRefusedCase request had.text had.orders_text)
         (IsRefusedOrders A form request had.text had.orders_text)
         (HasOrderReaderFailed request had.text (use_of remaining old new)
@@ -90,14 +105,14 @@ module _ (A T U : Type 0) (form : OrderForm) (request : RequestData)
     -- nor where there is no measure
     pub unmeasured : (held : Option (List ℕ)) (writer : Bool) (e : RunFault A)
         → IsUnmeasured case.posed (stop_of e)
-        → IsOrdersRunOf form request (use_of remaining old new) (use_of giving before after)
+        → IsOrdersRunOf form request others (use_of remaining old new) (use_of giving before after)
         (unused held writer) (Err e)
     unmeasured held writer e h = record {
       text = had.text;
       is_all = had.is_all;
       orders_text = had.orders_text;
       is_whole = had.is_whole;
-      outcome = part_stops (SaysRated A form request had.text had.orders_text)
+      outcome = part_stops (SaysRated A form request others had.text had.orders_text)
           (λ refused. (jobs : List ℕ) × (refused ≡ ByCycle jobs) × IsCycleOf case.posed jobs)
           (IsRefusedOrders A form request had.text had.orders_text)
           (HasOrderReaderFailed request had.text (use_of remaining old new)
@@ -108,10 +123,10 @@ module _ (A T U : Type 0) (form : OrderForm) (request : RequestData)
           (stop_of e) h;
     }
 
-    module _ (m : Measure A) (measures : Measures case.posed m) (bytes : List ℕ)
+    module _ (m : Measure A) (measures : Measures others case.posed m) (bytes : List ℕ)
         (same : bytes ≡ case.text.items) where
       is_measure : IsMeasure request had.text m
-      is_measure = measure_is request had.text case.posed m had.given.means measures
+      is_measure = measure_is request others had.text case.posed m had.given.means measures
 
       whole : bytes ≡ had.orders_text
       whole = same ∙ had.given.text_is
@@ -119,14 +134,14 @@ module _ (A T U : Type 0) (form : OrderForm) (request : RequestData)
       -- nor where a line is malformed
       pub unrated : (held : Option (List ℕ)) (writer : Bool) (e : RunFault A)
           → IsUnrated form m bytes (stop_of e)
-          → IsOrdersRunOf form request (use_of remaining old new) (use_of giving before after)
+          → IsOrdersRunOf form request others (use_of remaining old new) (use_of giving before after)
           (unused held writer) (Err e)
       unrated held writer e h = record {
         text = had.text;
         is_all = had.is_all;
         orders_text = had.orders_text;
         is_whole = had.is_whole;
-        outcome = part_stops (SaysRated A form request had.text had.orders_text) _
+        outcome = part_stops (SaysRated A form request others had.text had.orders_text) _
             (IsRefusedOrders A form request had.text had.orders_text)
             (HasOrderReaderFailed request had.text (use_of remaining old new)
             (use_of giving before after))
@@ -140,15 +155,16 @@ module _ (A T U : Type 0) (form : OrderForm) (request : RequestData)
 
       module _ (out : List ℕ) (rated : OrdersRated) (are : AreRated form m bytes out rated)
           (writer : DeviceUse) where
-        is_rated : IsRated form request had.text had.orders_text out rated m
+        is_rated : IsRated form request others had.text had.orders_text out rated m
         is_rated = record {
           measure = is_measure;
+          others_are = others_are others case.posed m measures;
           rated_is = subst (λ (bs : List ℕ). AreRated form m bs out rated) whole are;
         }
 
         -- a prefix was written where the writer failed
         pub cut_off : writer.failed ≡ true → AppendsPrefix writer.before writer.after out
-            → IsOrdersRunOf {A = A} form request (use_of remaining old new)
+            → IsOrdersRunOf {A = A} form request others (use_of remaining old new)
             (use_of giving before after) writer (Err Device)
         cut_off failed prefix = record {
           text = had.text;
@@ -160,7 +176,7 @@ module _ (A T U : Type 0) (form : OrderForm) (request : RequestData)
 
         -- all of it was written
         pub wrote_all : Appends writer.before writer.after out
-            → IsOrdersRunOf {A = A} form request (use_of remaining old new)
+            → IsOrdersRunOf {A = A} form request others (use_of remaining old new)
             (use_of giving before after) writer (Ok rated)
         wrote_all written = record {
           text = had.text;

@@ -1,6 +1,6 @@
 -- What the schedules of orders are measured by: in a class the optimum, and otherwise the strongest
 -- lower bound that is found.
-use Rattle.std.specs.Prelude.{◌≡◌, ◌⊎◌, ℕ, List, length, IsTrue, IsFalse, Ok}
+use Rattle.std.specs.Prelude.{◌≡◌, ◌⊎◌, ℕ, List, length, IsTrue, IsFalse, Ok, Option}
 use Rattle.tf_engine.specs.RequestData.{RequestData}
 use Rattle.tf_engine.specs.Refusal.{problem_for, task_for}
 use Rattle.tf_plan.specs.Order.{IsFeasible}
@@ -9,6 +9,7 @@ use Rattle.tf_search.specs.Strongest.{IsFound}
 use Rattle.tf_bounding.specs.RunBounding.{problem_task_for}
 use Rattle.tf_evaluate.specs.Evaluating.{IsLeastCost}
 use Rattle.tf_assess.specs.RunRating.{is_solved}
+use Rattle.tf_assess.specs.Measures.{PosedData}
 use Rattle.tf_schedule.specs.declared.piece.Piece.{Piece}
 use Rattle.tf_orders.specs.declared.order.Turn.{Turn}
 use Rattle.tf_orders.specs.declared.measure.Measure.{Measure}
@@ -20,27 +21,32 @@ use Rattle.tf_orders.specs.Operations.{IsOperationFlaw, IsOperationOrder, IsNoOp
 
 -- the request and the instance text mean a task, and this is its optimum or a lower bound
 abbrev pub IsMeasure : {A : Type 0} → RequestData → List ℕ → Measure A → Type 0
-IsMeasure request text (Optimum problem task best) =
+IsMeasure request text (Optimum problem task best others) =
     IsTrue (is_solved request.problem) × (problem_for request.problem ≡ Ok problem)
     × (task_for request text ≡ Ok task) × IsLeastCost task best
-IsMeasure request text (Bound task found) =
+IsMeasure request text (Bound task found others) =
     IsFalse (is_solved request.problem) × (problem_task_for request text ≡ Ok task)
     × IsFeasible task × IsFound task found
 
+-- the instance by which schedules are measured by the other objectives, where that is asked for
+abbrev pub others_of : {A : Type 0} → Measure A → Option PosedData
+others_of (Optimum problem task best others) = others
+others_of (Bound task found others) = others
+
 -- the jobs of the task
 abbrev pub jobs_in : {A : Type 0} → Measure A → ℕ
-jobs_in (Optimum problem task best) = length task.jobs
-jobs_in (Bound task found) = length task.jobs
+jobs_in (Optimum problem task best others) = length task.jobs
+jobs_in (Bound task found others) = length task.jobs
 
 -- its machines that have an order of their own
 abbrev pub orders_in : {A : Type 0} → Measure A → ℕ
-orders_in (Optimum problem task best) = orders_of task
-orders_in (Bound task found) = problem_orders_of task
+orders_in (Optimum problem task best others) = orders_of task
+orders_in (Bound task found others) = problem_orders_of task
 
 -- the semi-active schedule
 abbrev pub schedule_in : {A : Type 0} → Measure A → List Turn → List Piece
-schedule_in (Optimum problem task best) turns = schedule_of task turns
-schedule_in (Bound task found) turns = problem_schedule_of task turns
+schedule_in (Optimum problem task best others) turns = schedule_of task turns
+schedule_in (Bound task found others) turns = problem_schedule_of task turns
 
 -- the text says an order of the jobs 1 to n, and the pieces are its semi-active schedule
 pub record IsLaid (n g : ℕ) (laid : List Turn → List Piece) (text : List ℕ) (ps : List Piece) : Type 0
@@ -70,14 +76,14 @@ pub record IsProblemUnordered (k : ProblemData) (text : List ℕ) : Type 0 where
 
 -- the text says an order, and the pieces are its semi-active schedule
 abbrev pub IsScheduled : {A : Type 0} → Measure A → List ℕ → List Piece → Type 0
-IsScheduled (Optimum problem task best) text ps =
+IsScheduled (Optimum problem task best others) text ps =
     IsLaid (length task.jobs) (orders_of task) (schedule_of task) text ps
-IsScheduled (Bound task found) text ps = IsProblemScheduled task text ps
+IsScheduled (Bound task found others) text ps = IsProblemScheduled task text ps
 
 -- it says none
 abbrev pub IsUnordered : {A : Type 0} → Measure A → List ℕ → Type 0
-IsUnordered (Optimum problem task best) text = IsNoOrder (length task.jobs) (orders_of task) text
-IsUnordered (Bound task found) text = IsProblemUnordered task text
+IsUnordered (Optimum problem task best others) text = IsNoOrder (length task.jobs) (orders_of task) text
+IsUnordered (Bound task found others) text = IsProblemUnordered task text
 
 -- this is wrong with it
 abbrev pub IsProblemFlaw : ProblemData → List ℕ → Flaw → Type 0
@@ -86,5 +92,5 @@ IsProblemFlaw k text flaw =
     ⊎ (IsFalse (is_job_shop k.problem.env) × IsFlaw (length k.jobs) (problem_orders_of k) text flaw)
 
 abbrev pub IsFlawOf : {A : Type 0} → Measure A → List ℕ → Flaw → Type 0
-IsFlawOf (Optimum problem task best) text flaw = IsFlaw (length task.jobs) (orders_of task) text flaw
-IsFlawOf (Bound task found) text flaw = IsProblemFlaw task text flaw
+IsFlawOf (Optimum problem task best others) text flaw = IsFlaw (length task.jobs) (orders_of task) text flaw
+IsFlawOf (Bound task found others) text flaw = IsProblemFlaw task text flaw

@@ -1,6 +1,7 @@
 -- What the parts of a run over orders give.
-use Rattle.std.specs.Prelude.{◌≡◌, ℕ, ◌<◌, ◌≤◌, Bool, true, false, List, length, Option, Result, Ok, IsTrue, IsFalse, MatchResult, ◌⊎◌, ℤ}
+use Rattle.std.specs.Prelude.{◌≡◌, ℕ, ◌<◌, ◌≤◌, Bool, true, false, List, length, Option, Result, Ok, Err, IsTrue, IsFalse, MatchResult, ◌⊎◌, ℤ}
 use Rattle.std.specs.declared.vec.Vec.{Vec}
+use Rattle.tf_words.specs.Words.{kept_lines, lines}
 use Rattle.tf_model.specs.Limit.{most_bytes}
 use Rattle.tf_text.specs.declared.counted.Counted.{Counted}
 use Rattle.tf_text.specs.Counted.{inner_of, has_failed, use_of}
@@ -20,6 +21,7 @@ use Rattle.tf_search.specs.declared.strongest.Found.{Found}
 use Rattle.tf_search.specs.Strongest.{IsFound}
 use Rattle.tf_evaluate.specs.Evaluating.{IsLeastCost}
 use Rattle.tf_assess.specs.RunRating.{is_solved, posed_problem}
+use Rattle.tf_assess.specs.Measures.{PosedData}
 use Rattle.tf_orders.specs.declared.case_read.OrderCase.{OrderCase}
 use Rattle.tf_orders.specs.declared.case_read.Posed.{Posed}
 use Rattle.tf_orders.specs.declared.case_read.Posed.TheVariants.{Solved, Unsolved}
@@ -27,6 +29,7 @@ use Rattle.tf_orders.specs.declared.measure.Measure.{Measure}
 use Rattle.tf_orders.specs.declared.measure.Measure.TheVariants.{Optimum, Bound}
 use Rattle.tf_orders.specs.declared.run_orders.OrderForm.{OrderForm}
 use Rattle.tf_orders.specs.Measuring.{IsUnordered}
+use Rattle.tf_orders.specs.Pieces.{pieces_of}
 use Rattle.tf_orders.specs.OrderText.{IsMalformed}
 use Rattle.tf_orders.specs.RunOrders.{IsRefusedInstance, IsTooLong, HasOrderReaderFailed}
 
@@ -89,12 +92,17 @@ pub record ReadsOrderCase {A T U : Type 0} (request : RequestData) (remaining : 
 
 -- ---- the measure
 
--- this is the task's optimum, or a lower bound of it
-abbrev pub Measures : {A : Type 0} → Posed A → Measure A → Type 0
-Measures (Solved asked) m =
-    (best : ℤ) × (m ≡ Optimum asked.problem asked.task best) × IsLeastCost asked.task best
-Measures {A = A} (Unsolved task) m =
-    (found : Found A) × (m ≡ Bound task found) × IsFeasible task × IsFound task found
+-- this is the task's optimum, or a lower bound of it, with the instance that gives the other objectives
+abbrev pub Measures : {A : Type 0} → Option PosedData → Posed A → Measure A → Type 0
+Measures others (Solved asked) m =
+    (best : ℤ) × (m ≡ Optimum asked.problem asked.task best others) × IsLeastCost asked.task best
+Measures {A = A} others (Unsolved task) m =
+    (found : Found A) × (m ≡ Bound task found others) × IsFeasible task × IsFound task found
+
+-- the same with another instance
+abbrev pub with_others : {A : Type 0} → Measure A → Option PosedData → Measure A
+with_others (Optimum problem task best _) others = Optimum problem task best others
+with_others (Bound task found _) others = Bound task found others
 
 -- the arcs of the task have a cycle, and the jobs are the one that is named
 abbrev pub IsCycleOf : {A : Type 0} → Posed A → List ℕ → Type 0
@@ -113,6 +121,12 @@ abbrev pub IsUnrated : {A : Type 0} → OrderForm → Measure A → List ℕ →
 IsUnrated form m text =
     StopsBy (λ refused. (fault : AnswerFault) × (refused ≡ ByAnswer fault)
     × IsMalformed form m text fault)
+
+-- why a text says no pieces: it is malformed
+abbrev pub IsUndrawn : List ℕ → Stop → Type 0
+IsUndrawn text =
+    StopsBy (λ refused. (fault : AnswerFault) × (refused ≡ ByAnswer fault)
+    × (pieces_of (kept_lines 1 (lines text)) ≡ Err fault))
 
 -- why nothing is written of the line of this number: it says no order, and the others are not gone on
 -- with

@@ -25,6 +25,8 @@ use Rattle.tf_assess.specs.Assessing.{IsProblemJudged, assessed_of, problem_outc
 use Rattle.tf_assess.specs.AssessmentText as assessments
 use Rattle.tf_assess.specs.AssessmentText.{assessment_text}
 use Rattle.tf_assess.specs.RunRating.{standing_as}
+use Rattle.tf_assess.specs.Measures.{AreMeasuredBy, measured_text, measured_words, value_word}
+use Rattle.tf_assess.specs.declared.measures.Measures.{Measures}
 use Rattle.tf_orders.specs.declared.measure.Measure.{Measure}
 use Rattle.tf_orders.specs.declared.measure.Measure.TheVariants.{Optimum, Bound}
 use Rattle.tf_orders.specs.declared.run_orders.OrderForm.{OrderForm}
@@ -67,14 +69,17 @@ pub record IsScheduleAssessment {A : Type 0} (k : ProblemData) (found : Found A)
   pub bound : a.bound ≡ found
   pub outcomes : a.outcomes.items ≡ problem_outcomes k ps (Some fit)
 
--- the text is the evaluation of the pieces, which come to this
+-- the text is the evaluation of the pieces, which come to this, with their values by the other
+-- objectives where those are asked for
 abbrev pub IsEvaluated : {A : Type 0} → Measure A → List Piece → List ℕ → Standing → Type 0
-IsEvaluated (Optimum problem task best) ps out standing =
+IsEvaluated (Optimum problem task best others) ps out standing =
     (e : EvaluationData) × IsScheduleEvaluation problem task best ps e
-    × (out ≡ evaluation_text e) × (standing ≡ standing_of e.fit e.best)
-IsEvaluated {A = A} (Bound task found) ps out standing =
+    × ((m : Option Measures) × AreMeasuredBy others ps m
+    × (out ≡ measured_text (evaluation_text e) m)) × (standing ≡ standing_of e.fit e.best)
+IsEvaluated {A = A} (Bound task found others) ps out standing =
     (a : Assessment A) × IsScheduleAssessment task found ps a
-    × (out ≡ assessment_text task (length task.jobs) a)
+    × ((m : Option Measures) × AreMeasuredBy others ps m
+    × (out ≡ measured_text (assessment_text task (length task.jobs) a) m))
     × (standing ≡ standing_as (assessed_of a.fit a.bound.value))
 
 -- the same of a standing that is kept as that of one order
@@ -84,15 +89,12 @@ IsEvaluatedAs m ps out rateds.Lines = ⊥
 
 -- ---- many orders, a line each
 
--- the cost and the gap to the optimum of a schedule that fits, or the misfit
-abbrev pub row_words : Fit → ℤ → List (List ℕ)
-row_words (Fits value) best = signed_decimal value ∷ decimal (gap value best) ∷ []
-row_words fit best = fit_words (Some fit)
-
--- a number, or `-` where there is none
-abbrev pub number_or_dash : Option ℤ → List ℕ
-number_or_dash None = codes "-"
-number_or_dash (Some number) = signed_decimal number
+-- the cost and the gap to the optimum of a schedule that fits, with its values by the other objectives
+-- where those are asked for, or the misfit
+abbrev pub row_words : Fit → ℤ → Option Measures → List (List ℕ)
+row_words (Fits value) best m =
+    signed_decimal value ∷ decimal (gap value best) ∷ measured_words m
+row_words fit best m = fit_words (Some fit)
 
 -- by how much a cost is above a bound, or `-` where it is missing
 abbrev pub gap_or_dash : Option ℤ → ℤ → List ℕ
@@ -100,17 +102,21 @@ gap_or_dash None bound = codes "-"
 gap_or_dash (Some value) bound = decimal (unsigned_abs (value -ℤ bound))
 
 -- the same of a problem without a solver, of which the gap is that to the lower bound
-abbrev pub problem_row_words : ProblemFit → ℤ → List (List ℕ)
-problem_row_words (fits.Fits value) bound = number_or_dash value ∷ gap_or_dash value bound ∷ []
-problem_row_words fit bound = assessments.fit_words (Some fit)
+abbrev pub problem_row_words : ProblemFit → ℤ → Option Measures → List (List ℕ)
+problem_row_words (fits.Fits value) bound m =
+    value_word value ∷ gap_or_dash value bound ∷ measured_words m
+problem_row_words fit bound m = assessments.fit_words (Some fit)
 
 -- the line of these pieces
 abbrev pub IsRowOf : {A : Type 0} → Measure A → List Piece → List ℕ → Type 0
-IsRowOf (Optimum problem task best) ps row =
-    (fit : Fit) × IsJudged task ps fit × (row ≡ line_text (row_words fit best))
-IsRowOf (Bound task found) ps row =
+IsRowOf (Optimum problem task best others) ps row =
+    (fit : Fit) × IsJudged task ps fit
+    × ((m : Option Measures) × AreMeasuredBy others ps m
+    × (row ≡ line_text (row_words fit best m)))
+IsRowOf (Bound task found others) ps row =
     (fit : ProblemFit) × IsProblemJudged task ps fit
-    × (row ≡ line_text (problem_row_words fit found.value))
+    × ((m : Option Measures) × AreMeasuredBy others ps m
+    × (row ≡ line_text (problem_row_words fit found.value m)))
 
 -- the line of the order that a text says
 abbrev pub IsRow : {A : Type 0} → Measure A → List ℕ → List ℕ → Type 0
@@ -179,8 +185,8 @@ AreRows goes_on m (line ∷ more) out =
 
 -- a line of what the orders are measured by: the optimum, or the lower bound
 abbrev pub measure_line : {A : Type 0} → Measure A → List ℕ
-measure_line (Optimum problem task best) = line_text (codes "best" ∷ signed_decimal best ∷ [])
-measure_line (Bound task found) = line_text (codes "bound" ∷ signed_decimal found.value ∷ [])
+measure_line (Optimum problem task best others) = line_text (codes "best" ∷ signed_decimal best ∷ [])
+measure_line (Bound task found others) = line_text (codes "bound" ∷ signed_decimal found.value ∷ [])
 
 -- a row behind the number of its line
 abbrev pub numbered_row : ℕ → List ℕ → List ℕ

@@ -51,8 +51,8 @@ pub record IsLaidByRule (IsSeen : RuledJob → Type 0) (n m : ℕ) (laid : List 
   pub pieces : ps ≡ laid turns
 
 abbrev pub IsSeenIn : {A : Type 0} → Measure A → RuledJob → Type 0
-IsSeenIn (Optimum problem task best) = IsSeen task
-IsSeenIn (Bound task found) = IsSeenOfProblem task
+IsSeenIn (Optimum problem task best others) = IsSeen task
+IsSeenIn (Bound task found others) = IsSeenOfProblem task
 
 -- the same of a task
 abbrev pub IsRuled : {A : Type 0} → Rule → Measure A → List Piece → Type 0

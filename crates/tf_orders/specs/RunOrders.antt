@@ -1,5 +1,5 @@
 -- What a run over an instance and orders leaves behind.
-use Rattle.std.specs.Prelude.{◌≡◌, ℕ, ◌<◌, ◌⊎◌, true, List, length, Result, Ok, Err, IsTrue, IsFalse, IsOk}
+use Rattle.std.specs.Prelude.{◌≡◌, ℕ, ◌<◌, ◌⊎◌, true, List, length, Option, Result, Ok, Err, IsTrue, IsFalse, IsOk}
 use Rattle.std.specs.Io.KnownBytes.{Appends}
 use Rattle.tf_model.specs.Limit.{most_bytes}
 use Rattle.tf_text.specs.Counted.{DeviceUse}
@@ -16,10 +16,11 @@ use Rattle.tf_problem.specs.ProblemData.{ProblemData}
 use Rattle.tf_bounding.specs.Feasible.{IsCyclicTask}
 use Rattle.tf_bounding.specs.RunBounding.{problem_task_for, IsRefusedBound}
 use Rattle.tf_assess.specs.RunRating.{is_solved}
+use Rattle.tf_assess.specs.Measures.{PosedData}
 use Rattle.tf_orders.specs.declared.measure.Measure.{Measure}
 use Rattle.tf_orders.specs.declared.run_orders.OrderForm.{OrderForm}
 use Rattle.tf_orders.specs.declared.run_orders.OrdersRated.{OrdersRated}
-use Rattle.tf_orders.specs.Measuring.{IsMeasure}
+use Rattle.tf_orders.specs.Measuring.{IsMeasure, others_of}
 use Rattle.tf_orders.specs.OrderText.{AreRated, IsMalformed}
 
 -- the request and the text mean a task
@@ -39,15 +40,19 @@ pub record IsTooLong (request : RequestData) (text orders : List ℕ) (refused :
   pub is : refused ≡ ByAnswer answers.TooLong
   pub long : most_bytes < length orders
 
--- what is written says how the schedules of the orders stand
-pub record IsRated {A : Type 0} (form : OrderForm) (request : RequestData) (text orders out : List ℕ)
-    (rated : OrdersRated) (m : Measure A) : Type 0 where
+-- what is written says how the schedules of the orders stand, with their values by the other objectives
+-- where an instance gives those
+pub record IsRated {A : Type 0} (form : OrderForm) (request : RequestData)
+    (others : Option PosedData) (text orders out : List ℕ) (rated : OrdersRated) (m : Measure A)
+    : Type 0 where
   pub measure : IsMeasure request text m
+  pub others_are : others_of m ≡ others
   pub rated_is : AreRated form m orders out rated
 
-abbrev pub SaysRated : Type 0 → OrderForm → RequestData → List ℕ → List ℕ → List ℕ → Type 0
-SaysRated A form request text orders out =
-    (rated : OrdersRated) × (m : Measure A) × IsRated form request text orders out rated m
+abbrev pub SaysRated : Type 0 → OrderForm → RequestData → Option PosedData → List ℕ → List ℕ
+    → List ℕ → Type 0
+SaysRated A form request others text orders out =
+    (rated : OrdersRated) × (m : Measure A) × IsRated form request others text orders out rated m
 
 -- a line of the orders or pieces is malformed
 pub record IsBadLine {A : Type 0} (form : OrderForm) (request : RequestData) (text orders : List ℕ)
@@ -76,21 +81,23 @@ HasOrderReaderFailed request text instance orders =
 -- All of it is written, or the one refusal is given. Where memory was wanting there is neither.
 -- Nothing was written then, nor after a refusal or where a reader failed; where the writer failed a
 -- prefix was.
-abbrev pub OrdersOutcome : {A : Type 0} → OrderForm → RequestData → List ℕ → List ℕ → DeviceUse
-    → DeviceUse → DeviceUse → Result OrdersRated (RunFault A) → Type 0
-OrdersOutcome {A = A} form request text orders instance reader writer (Ok rated) =
-    (out : List ℕ) × (m : Measure A) × IsRated form request text orders out rated m
+abbrev pub OrdersOutcome : {A : Type 0} → OrderForm → RequestData → Option PosedData → List ℕ
+    → List ℕ → DeviceUse → DeviceUse → DeviceUse → Result OrdersRated (RunFault A) → Type 0
+OrdersOutcome {A = A} form request others text orders instance reader writer (Ok rated) =
+    (out : List ℕ) × (m : Measure A) × IsRated form request others text orders out rated m
     × Appends writer.before writer.after out
-OrdersOutcome {A = A} form request text orders instance reader writer (Err e) =
-    Leaves (SaysRated A form request text orders) (IsRefusedOrders A form request text orders)
+OrdersOutcome {A = A} form request others text orders instance reader writer (Err e) =
+    Leaves (SaysRated A form request others text orders)
+    (IsRefusedOrders A form request text orders)
     (HasOrderReaderFailed request text instance reader) writer (stop_of e)
 
 -- The outcome is that of two texts, which are all bytes of the readers up to their ends where they
 -- are known.
 pub record IsOrdersRunOf {A : Type 0} (form : OrderForm) (request : RequestData)
-    (instance orders writer : DeviceUse) (result : Result OrdersRated (RunFault A)) : Type 0 where
+    (others : Option PosedData) (instance orders writer : DeviceUse)
+    (result : Result OrdersRated (RunFault A)) : Type 0 where
   pub text : List ℕ
   pub is_all : IsTextOf instance.before text
   pub orders_text : List ℕ
   pub is_whole : IsTextOf orders.before orders_text
-  pub outcome : OrdersOutcome form request text orders_text instance orders writer result
+  pub outcome : OrdersOutcome form request others text orders_text instance orders writer result

@@ -1,10 +1,11 @@
 //! What the schedules of orders are measured by.
-ghost use Rattle.std.specs.Prelude.{MatchResult};
+ghost use Rattle.std.specs.Prelude.{◌≡◌, None, MatchResult};
 ghost use Rattle.tf_engine.specs.Faults.{stop_of};
-ghost use Rattle.tf_orders.specs.OrderParts.{IsUnmeasured, Measures};
+ghost use Rattle.tf_orders.specs.OrderParts.{IsUnmeasured, Measures, with_others};
 
 use crate::case_read::Posed;
 use std::alloc::{Allocator, Global};
+use tf_assess::measures::PosedInstance;
 use tf_bound::task::ProblemTask;
 use tf_bounding::feasible::check_feasible;
 use tf_engine::case::Asked;
@@ -15,7 +16,8 @@ use tf_model::task::Task;
 use tf_search::effort::{Effort, Nobody};
 use tf_search::strongest::{Found, strongest};
 
-/// A task, and the optimum or a lower bound of it.
+/// A task, and the optimum or a lower bound of it. `others` is the instance by which schedules are
+/// measured by the other objectives too, where that is asked for.
 #[derive(Drop)]
 pub enum Measure<A: Allocator = Global> {
     /// A task of a class, and the least cost of a timetable that fits.
@@ -23,20 +25,48 @@ pub enum Measure<A: Allocator = Global> {
         problem: Problem,
         task: Task<A>,
         best: i64,
+        others: Option<PosedInstance<A>>,
     },
     /// A task of another problem, and the strongest lower bound that is found.
     Bound {
         task: ProblemTask<A>,
         found: Found<A>,
+        others: Option<PosedInstance<A>>,
     },
 }
 
-/// Solves the task, or searches for a lower bound of it.
+impl<A: Allocator> Measure<A> {
+    /// The same with the instance by which schedules are measured by the other objectives too.
+    pub(crate) fn with_others(self, others: Option<PosedInstance<A>>) -> Measure<A>
+        ensures { result ≡ with_others self others }
+    {
+        match self {
+            Measure::Optimum {
+                problem,
+                task,
+                best,
+                ..
+            } => Measure::Optimum {
+                problem,
+                task,
+                best,
+                others,
+            },
+            Measure::Bound { task, found, .. } => Measure::Bound {
+                task,
+                found,
+                others,
+            },
+        }
+    }
+}
+
+/// Solves the task, or searches for a lower bound of it. There are no other objectives.
 pub(crate) fn measured<A: Allocator + Copy>(
     alloc: A,
     posed: Posed<A>,
 ) -> Result<Measure<A>, RunFault<A>>
-    ensures { MatchResult result (Measures posed) (λ e. IsUnmeasured posed (stop_of e)) }
+    ensures { MatchResult result (Measures None posed) (λ e. IsUnmeasured posed (stop_of e)) }
 {
     match posed {
         Posed::Solved(asked) => {
@@ -46,13 +76,18 @@ pub(crate) fn measured<A: Allocator + Copy>(
                 problem,
                 task,
                 best,
+                others: None,
             })
         }
         Posed::Unsolved(task) => {
             check_feasible(alloc, &task)?;
             let effort: Effort<Nobody> = Effort::untold(None);
             let found = strongest(alloc, &task, effort)?;
-            Ok(Measure::Bound { task, found })
+            Ok(Measure::Bound {
+                task,
+                found,
+                others: None,
+            })
         }
     }
 }

@@ -1,10 +1,12 @@
 //! How good the schedules of orders are.
-ghost use Rattle.std.specs.Prelude.{◌≡◌, ◌++◌, ◌≤◌, length, List, ℕ, IfOk, OnOk, MatchResult};
+ghost use Rattle.std.specs.Prelude.{◌≡◌, ◌++◌, ◌≤◌, length, List, ℕ, Ok, IfOk, OnOk};
+ghost use Rattle.std.specs.Prelude.{MatchResult};
 ghost use Rattle.tf_words.specs.Words.{kept_lines, lines};
 ghost use Rattle.tf_model.specs.Limit.{most_bytes};
 ghost use Rattle.tf_engine.specs.Faults.{stop_of};
 ghost use Rattle.tf_check.specs.Judgement.{IsJudged};
-ghost use Rattle.tf_orders.specs.OrderParts.{IsUnrated, IsWithoutRow};
+ghost use Rattle.tf_orders.specs.OrderParts.{IsUndrawn, IsUnrated, IsWithoutRow};
+ghost use Rattle.tf_orders.specs.Pieces.{pieces_of};
 ghost use Rattle.tf_orders.specs.OrderText.{AreRated, AreRows, IsEvaluatedAs, IsLineOf, IsRowOf};
 ghost use Rattle.tf_orders.specs.OrderText.{AreNumberedRows, IsScheduleAssessment};
 ghost use Rattle.tf_orders.specs.OrderText.{IsScheduleEvaluation};
@@ -20,6 +22,7 @@ use crate::writing::{push_problem_row, push_row};
 use std::alloc::Allocator;
 use tf_assess::assess::{judge_problem_pieces, judged};
 use tf_assess::assessment::Assessment;
+use tf_assess::measures::{measured_by, with_measures};
 use tf_assess::run_rate::standing_as;
 use tf_assess::writing::assessment_bytes;
 use tf_bound::task::ProblemTask;
@@ -111,6 +114,16 @@ fn ruled_rating<A: Allocator + Copy>(
     Ok(rating)
 }
 
+// The pieces that the text says.
+fn drawn<A: Allocator + Copy>(alloc: A, text: &[u8]) -> Result<Vec<Piece, A>, RunFault<A>>
+    requires { length text.now ≤ most_bytes }
+    ensures { MatchResult result (λ ps. pieces_of (kept_lines 1 (lines text.now)) ≡ Ok ps.items)
+        (λ e. IsUndrawn text.now (stop_of e)) }
+{
+    let pieces = pieces_in(alloc, text)?;
+    Ok(pieces)
+}
+
 // Evaluates the schedule of the pieces that the text says.
 fn pieces_rating<A: Allocator + Copy>(
     alloc: A,
@@ -122,7 +135,7 @@ fn pieces_rating<A: Allocator + Copy>(
         (λ r. AreRated OrderForm.Pieces measure text.now r.text.items r.rated)
         (λ e. IsUnrated OrderForm.Pieces measure text.now (stop_of e)) }
 {
-    let pieces = pieces_in(alloc, text)?;
+    let pieces = drawn(alloc, text)?;
     let rating = evaluated(alloc, measure, pieces)?;
     Ok(rating)
 }
@@ -140,15 +153,22 @@ fn evaluated<A: Allocator + Copy>(
             problem,
             task,
             best,
+            others,
         } => {
+            let measures = measured_by(alloc, &others, &pieces)?;
             let evaluation = evaluation_of(alloc, problem, &task, best, pieces)?;
-            let text = evaluation_bytes(alloc, &evaluation)?;
+            let text = with_measures(evaluation_bytes(alloc, &evaluation)?, &measures)?;
             let rated = OrdersRated::Single(evaluation.standing());
             Ok(Rating { text, rated })
         }
-        Measure::Bound { task, found } => {
+        Measure::Bound {
+            task,
+            found,
+            others,
+        } => {
+            let measures = measured_by(alloc, &others, &pieces)?;
             let assessment = assessment_of(alloc, &task, found, pieces)?;
-            let text = assessment_bytes(alloc, &task, &assessment)?;
+            let text = with_measures(assessment_bytes(alloc, &task, &assessment)?, &measures)?;
             let rated = OrdersRated::Single(standing_as(assessment.assessed()));
             Ok(Rating { text, rated })
         }
@@ -273,13 +293,24 @@ pub(crate) fn push_rated<A: Allocator + Copy, B: Allocator>(
         × (out.new.items ≡ out.old.items ++ row)) }
 {
     match measure {
-        Measure::Optimum { task, best, .. } => {
+        Measure::Optimum {
+            task,
+            best,
+            others,
+            ..
+        } => {
+            let measures = measured_by(alloc, others, &pieces)?;
             let fit = fit_of(alloc, task, pieces)?;
-            push_row(out, fit, *best)
+            push_row(out, fit, *best, &measures)
         }
-        Measure::Bound { task, found } => {
+        Measure::Bound {
+            task,
+            found,
+            others,
+        } => {
+            let measures = measured_by(alloc, others, &pieces)?;
             let fit = judged(alloc, task, pieces)?;
-            push_problem_row(out, fit, found.value)
+            push_problem_row(out, fit, found.value, &measures)
         }
     }
 }

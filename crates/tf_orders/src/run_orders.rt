@@ -10,6 +10,7 @@ use crate::measure::measured;
 use crate::rating::{Rating, rating_of};
 use std::alloc::{Allocator, Global};
 use std::io::{Read, Write};
+use tf_assess::measures::PosedInstance;
 use tf_engine::fault::RunFault;
 use tf_engine::request::Request;
 use tf_evaluate::evaluation::Standing;
@@ -54,7 +55,10 @@ pub enum OrdersRated {
 
 /// Reads an instance and the text of orders or pieces to their ends, and writes how good the
 /// schedule of the pieces is, or the semi-active schedules of the orders. The task is solved, or a
-/// lower bound of it is searched for, once.
+/// lower bound of it is searched for, once. Where an instance is given for the other objectives, the
+/// values of each schedule that fits by these are written too: in an evaluation a line
+/// `measure NAME VALUE` for each that it has, and in the line of an order nine words, or `-` where
+/// there is none.
 ///
 /// The refusals come in this order: those of [`tf_engine::run_solve::run_solve`], where a problem
 /// of no class is refused only if no kind of certificate bounds it; reading the orders; a cycle of
@@ -65,11 +69,12 @@ pub enum OrdersRated {
 pub fn run_orders<A: Allocator + Copy, B: Allocator, R: Read, S: Read, W: Write>(
     alloc: A,
     asked: OrdersRequest<'_, B>,
+    others: Option<PosedInstance<A>>,
     instance: &mut Counted<R>,
     orders: &mut Counted<S>,
     writer: &mut Counted<W>,
 ) -> Result<OrdersRated, RunFault<A>>
-    ensures outcome { IsOrdersRunOf asked.entry.form asked.entry.request.now
+    ensures outcome { IsOrdersRunOf asked.entry.form asked.entry.request.now others
         (use_of R.remaining instance.old instance.new)
         (use_of S.remaining orders.old orders.new) (use_of W.contents writer.old writer.new)
         result }
@@ -80,6 +85,7 @@ pub fn run_orders<A: Allocator + Copy, B: Allocator, R: Read, S: Read, W: Write>
     let case = order_case_read(alloc, asked.request, instance, orders)?;
     let OrderCase { posed, text } = case;
     let measure = measured(alloc, posed)?;
+    let measure = measure.with_others(others);
     let rating = rating_of(alloc, asked.form, measure, text.as_slice())?;
     let Rating { text, rated } = rating;
     writer.push_all(text.as_slice())?;

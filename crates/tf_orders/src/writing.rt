@@ -1,5 +1,7 @@
 //! The lines of orders, written.
-ghost use Rattle.std.specs.Prelude.{◌≡◌, ◌++◌, OnOk};
+ghost use Rattle.std.specs.Prelude.{◌≡◌, ◌∷◌, ◌++◌, codes, OnOk};
+ghost use Rattle.std.specs.Fmt.{decimal};
+ghost use Rattle.tf_assess.specs.Measures.{measured_words};
 ghost use Rattle.tf_text.specs.AnswerText.{line_text};
 ghost use Rattle.tf_orders.specs.OrderText.{problem_row_words, row_words, wrong_words};
 
@@ -7,28 +9,49 @@ use crate::flaw::Flaw;
 use itoa::Buffer;
 use std::alloc::Allocator;
 use tf_assess::assessment::ProblemFit;
+use tf_assess::measures::{Measures, push_values};
 use tf_assess::writing::push_fit as push_problem_fit;
 use tf_check::judgement::Fit;
 use tf_evaluate::writing::push_fit;
 use tf_model::memory::OutOfMemory;
-use tf_text::answer::writing::push_number_line;
+use tf_text::answer::writing::{push_number, push_number_line};
 
-/// Adds the line of an order: the cost and the gap to the optimum, or the misfit.
+/// Adds the line of an order: the cost and the gap to the optimum, with these measures, or the
+/// misfit.
 pub(crate) fn push_row<A: Allocator>(
     text: &mut Vec<u8, A>,
     fit: Fit,
     best: i64,
+    measures: &Option<Measures>,
 ) -> Result<(), OutOfMemory>
-    ensures { OnOk result (text.new.items ≡ text.old.items ++ line_text (row_words fit best)) }
+    ensures { OnOk result (text.new.items
+        ≡ text.old.items ++ line_text (row_words fit best measures.now)) }
 {
     match fit {
         Fit::Fits(value) => {
             let mut digits = Buffer::new();
             let gap = value.abs_diff(i128::from(best));
-            push_number_line(text, digits.format(value).as_bytes(), gap)
+            push_rated(text, digits.format(value).as_bytes(), gap, measures)
         }
         fit => push_fit(text, &Some(fit)),
     }
+}
+
+// Adds a line of a value, its gap and these measures.
+fn push_rated<A: Allocator>(
+    text: &mut Vec<u8, A>,
+    value: &[u8],
+    gap: u128,
+    measures: &Option<Measures>,
+) -> Result<(), OutOfMemory>
+    ensures { OnOk result (text.new.items ≡ text.old.items
+        ++ line_text (value.now ∷ decimal gap ∷ measured_words measures.now)) }
+{
+    text.extend_from_slice(value)?;
+    push_number(text, gap)?;
+    push_values(text, measures)?;
+    text.push(b'\n')?;
+    Ok(())
 }
 
 /// The same of a problem without a solver, with the gap to the lower bound.
@@ -36,31 +59,38 @@ pub(crate) fn push_problem_row<A: Allocator>(
     text: &mut Vec<u8, A>,
     fit: ProblemFit,
     bound: i128,
+    measures: &Option<Measures>,
 ) -> Result<(), OutOfMemory>
-    ensures { OnOk result
-        (text.new.items ≡ text.old.items ++ line_text (problem_row_words fit bound)) }
+    ensures { OnOk result (text.new.items
+        ≡ text.old.items ++ line_text (problem_row_words fit bound measures.now)) }
 {
     match fit {
-        ProblemFit::Fits(value) => push_numbers(text, value, bound),
+        ProblemFit::Fits(Some(value)) => {
+            let mut digits = Buffer::new();
+            push_rated(
+                text,
+                digits.format(value).as_bytes(),
+                value.abs_diff(bound),
+                measures,
+            )
+        }
+        ProblemFit::Fits(None) => push_unknown(text, measures),
         fit => push_problem_fit(text, &Some(fit)),
     }
 }
 
-// A cost, which may be missing, and its gap to a bound.
-fn push_numbers<A: Allocator>(
+// Adds a line of a cost that is not known, and these measures.
+fn push_unknown<A: Allocator>(
     text: &mut Vec<u8, A>,
-    value: Option<i128>,
-    bound: i128,
+    measures: &Option<Measures>,
 ) -> Result<(), OutOfMemory>
-    ensures { OnOk result (text.new.items
-        ≡ text.old.items ++ line_text (problem_row_words (ProblemFit.Fits value) bound)) }
+    ensures { OnOk result (text.new.items ≡ text.old.items
+        ++ line_text (codes "-" ∷ codes "-" ∷ measured_words measures.now)) }
 {
-    let Some(value) = value else {
-        text.extend_from_slice(b"- -\n")?;
-        return Ok(());
-    };
-    let mut digits = Buffer::new();
-    push_number_line(text, digits.format(value).as_bytes(), value.abs_diff(bound))
+    text.extend_from_slice(b"- -")?;
+    push_values(text, measures)?;
+    text.push(b'\n')?;
+    Ok(())
 }
 
 /// Adds the line of a text that says no order: what is wrong with it, if that is known.

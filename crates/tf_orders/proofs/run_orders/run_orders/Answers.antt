@@ -7,14 +7,14 @@ use Rattle.tf_engine.specs.Faults.{Fails, stop_of}
 use Rattle.tf_engine.proofs.Devices.{both_sound, both_later, stopped, cut, wrote}
 use Rattle.tf_engine.proofs.Unread.{err_is, err_ends}
 use Rattle.tf_orders.specs.RunOrders.{IsOrdersRunOf}
-use Rattle.tf_orders.proofs.Running.{unread, unmeasured, unrated, cut_off, wrote_all, short_text, unmeasured_later, unrated_later}
+use Rattle.tf_orders.proofs.Running.{unread, unmeasured, unrated, cut_off, measures_with, wrote_all, short_text, unmeasured_later, unrated_later}
 use Rattle.tf_orders.proofs.run_orders.run_orders.Goals as goal
 
 pub returns-in_err-case-clause-outcome : goal.returns-in_err-case-clause-outcome
 returns-in_err-case-clause-outcome g c =
-    err_is (IsOrdersRunOf c.args.asked.form c.args.asked.request.now _ _ _)
+    err_is (IsOrdersRunOf c.args.asked.form c.args.asked.request.now _ _ _ _)
     c.in_err-case.field-0.0 _ c.from_residual.ensures.1
-    (unread g.row.A.Denot _ _ c.args.asked.form c.args.asked.request.now _ _ _ _ _ _ _ _
+    (unread g.row.A.Denot _ _ c.args.asked.form c.args.asked.request.now c.args.others _ _ _ _ _ _ _ _
     c.in_err-case.field-0.0 c.in_err-case.ensures)
 
 pub returns-in_err-case-clause-devices : goal.returns-in_err-case-clause-devices
@@ -24,10 +24,10 @@ returns-in_err-case-clause-devices g c =
 
 pub returns-in_err-measure-clause-outcome : goal.returns-in_err-measure-clause-outcome
 returns-in_err-measure-clause-outcome g c =
-    err_is (IsOrdersRunOf c.args.asked.form c.args.asked.request.now _ _ _)
+    err_is (IsOrdersRunOf c.args.asked.form c.args.asked.request.now _ _ _ _)
     c.in_err-measure.field-0.0 _
     c.from_residual-in_err-measure.ensures.1
-    (unmeasured g.row.A.Denot _ _ c.args.asked.form c.args.asked.request.now _ _ _ _ _ _ _
+    (unmeasured g.row.A.Denot _ _ c.args.asked.form c.args.asked.request.now c.args.others _ _ _ _ _ _ _
     c.in_ok-case.ensures _ _ c.in_err-measure.field-0.0 c.in_err-measure.ensures)
 
 pub returns-in_err-measure-clause-devices : goal.returns-in_err-measure-clause-devices
@@ -39,16 +39,16 @@ returns-in_err-measure-clause-devices g c =
 
 pub rating_of-requires : goal.rating_of-requires
 rating_of-requires g c =
-    short_text g.row.A.Denot _ _ c.args.asked.form c.args.asked.request.now _ _ _ _ _ _ _
+    short_text g.row.A.Denot _ _ c.args.asked.form c.args.asked.request.now c.args.others _ _ _ _ _ _ _
     c.in_ok-case.ensures _ c.as_slice.ensures.value
 
 pub returns-in_err-rating-clause-outcome : goal.returns-in_err-rating-clause-outcome
 returns-in_err-rating-clause-outcome g c =
-    err_is (IsOrdersRunOf c.args.asked.form c.args.asked.request.now _ _ _)
+    err_is (IsOrdersRunOf c.args.asked.form c.args.asked.request.now _ _ _ _)
     c.in_err-rating.field-0.0 _
     c.from_residual-in_err-rating.ensures.1
-    (unrated g.row.A.Denot _ _ c.args.asked.form c.args.asked.request.now _ _ _ _ _ _ _
-    c.in_ok-case.ensures _ c.in_ok-measure.ensures _ c.as_slice.ensures.value _ _
+    (unrated g.row.A.Denot _ _ c.args.asked.form c.args.asked.request.now c.args.others _ _ _ _ _ _ _
+    c.in_ok-case.ensures _ (measures_with c.args.others _ _ _ c.in_ok-measure.ensures c.with_others-measure.ensures) _ c.as_slice.ensures.value _ _
     c.in_err-rating.field-0.0 c.in_err-rating.ensures)
 
 pub returns-in_err-rating-clause-devices : goal.returns-in_err-rating-clause-devices
@@ -60,10 +60,10 @@ returns-in_err-rating-clause-devices g c =
 
 pub returns-in_err-push_all-clause-outcome : goal.returns-in_err-push_all-clause-outcome
 returns-in_err-push_all-clause-outcome g c =
-    err_is (IsOrdersRunOf c.args.asked.form c.args.asked.request.now _ _ _) Device _
+    err_is (IsOrdersRunOf c.args.asked.form c.args.asked.request.now _ _ _ _) Device _
     c.from_residual-in_err-push_all.ensures.1
-    (cut_off g.row.A.Denot _ _ c.args.asked.form c.args.asked.request.now _ _ _ _ _ _ _
-    c.in_ok-case.ensures _ c.in_ok-measure.ensures _ c.as_slice.ensures.value _ _
+    (cut_off g.row.A.Denot _ _ c.args.asked.form c.args.asked.request.now c.args.others _ _ _ _ _ _ _
+    c.in_ok-case.ensures _ (measures_with c.args.others _ _ _ c.in_ok-measure.ensures c.with_others-measure.ensures) _ c.as_slice.ensures.value _ _
     c.in_ok-rating.ensures _ c.in_err-push_all.ensures.device
     (subst (AppendsPrefix (g.W.Write.contents (inner_of c.args.writer.now))
     (g.W.Write.contents (inner_of c.push_all.new.self)))
@@ -77,8 +77,8 @@ returns-in_err-push_all-clause-devices g c =
 
 pub returns-clause-outcome : goal.returns-clause-outcome
 returns-clause-outcome g c =
-    wrote_all g.row.A.Denot _ _ c.args.asked.form c.args.asked.request.now _ _ _ _ _ _ _
-    c.in_ok-case.ensures _ c.in_ok-measure.ensures _ c.as_slice.ensures.value _ _
+    wrote_all g.row.A.Denot _ _ c.args.asked.form c.args.asked.request.now c.args.others _ _ _ _ _ _ _
+    c.in_ok-case.ensures _ (measures_with c.args.others _ _ _ c.in_ok-measure.ensures c.with_others-measure.ensures) _ c.as_slice.ensures.value _ _
     c.in_ok-rating.ensures _
     (subst (Appends (g.W.Write.contents (inner_of c.args.writer.now))
     (g.W.Write.contents (inner_of c.push_all.new.self)))

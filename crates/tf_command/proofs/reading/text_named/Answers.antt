@@ -1,11 +1,11 @@
 use Rattle.std.proofs.Common.{◌≡◌, ◌<◌, length, Err, IfSome, ap, inl, refl, sym, subst}
 use Rattle.tf_model.specs.Limit.{most_bytes}
 use Rattle.tf_text.specs.declared.input.InputFault.TheVariants.{TooLong}
-use Rattle.tf_held.specs.Texts.{IsNotRead}
-use Rattle.tf_held.proofs.Unread.{not_read}
+use Rattle.tf_command.specs.Unread.{IsNotRead}
+use Rattle.tf_command.proofs.Unread.{not_read}
 use Rattle.std.proofs.KnownBytes.{Keeps-refl}
 use Rattle.tf_engine.specs.declared.fault.RunFault.TheVariants.{Device}
-use Rattle.tf_held.proofs.reading.text_named.Goals as goal
+use Rattle.tf_command.proofs.reading.text_named.Goals as goal
 
 pub returns-in-Err-clause-unread : goal.returns-in-Err-clause-unread
 returns-in-Err-clause-unread g c = record {

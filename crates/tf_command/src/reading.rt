@@ -3,15 +3,15 @@ ghost use Rattle.std.specs.Prelude.{◌≡◌, codes, IfOk, IfErr};
 ghost use Rattle.tf_text.specs.Counted.{use_of};
 ghost use Rattle.tf_text.specs.Input.{IsTextOf};
 ghost use Rattle.tf_command.specs.Ending.{SaysLine};
-ghost use Rattle.tf_held.specs.Texts.{IsUnread};
+ghost use Rattle.tf_command.specs.Unread.{IsUnread};
 
+use crate::console::Console;
+use crate::gathered::send;
+use crate::report::{report, say_device};
+use crate::source::Sources;
 use std::alloc::Global;
 use std::io;
 use std::io::Write;
-use tf_command::console::Console;
-use tf_command::gathered::send;
-use tf_command::report::{report, say_device};
-use tf_command::source::Sources;
 use tf_engine::fault::RunFault;
 use tf_explain::explain::not_read;
 use tf_text::counted::Counted;
@@ -19,7 +19,7 @@ use tf_text::input::read_all;
 
 /// The text of that name. Where it cannot be read, says so, and gives the status. Where it cannot
 /// be opened, says why too if that is to be explained.
-pub(crate) fn text_named<S: Sources, W: Write, E: Write>(
+pub fn text_named<S: Sources, W: Write, E: Write>(
     console: &mut Console<W, E>,
     sources: &S,
     name: &str,

@@ -4,8 +4,8 @@ use Rattle.tf_model.specs.Limit.{most_bytes}
 use Rattle.tf_text.specs.declared.input.InputFault.{InputFault}
 use Rattle.tf_text.specs.declared.input.InputFault.TheVariants as inputs
 use Rattle.tf_engine.specs.Passed.{of_input}
-use Rattle.tf_command.specs.Performing.{Texts}
-use Rattle.tf_held.specs.Texts.{IsNotRead}
+use Rattle.tf_command.specs.Unread.{Texts}
+use Rattle.tf_command.specs.Unread.{IsNotRead}
 
 known_long : (known given : Option (List ℕ)) → IfSome known (λ text. given ≡ Some text)
     → IfSome given (λ all. most_bytes < length all) → IfSome known (λ all. most_bytes < length all)

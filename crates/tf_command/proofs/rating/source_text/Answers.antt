@@ -1,0 +1,13 @@
+use Rattle.std.proofs.Common.{inl, inr, refl}
+use Rattle.std.proofs.KnownBytes.{Keeps-refl}
+use Rattle.tf_engine.specs.declared.fault.RunFault.TheVariants.{OutOfMemory}
+use Rattle.tf_command.proofs.rating.source_text.Goals as goal
+
+pub returns-in-Err-clause-unread : goal.returns-in-Err-clause-unread
+returns-in-Err-clause-unread g c = record {
+  fault = OutOfMemory;
+  why = inr (inl refl);
+  unwritten = Keeps-refl _;
+  ends = c.say_memory.ensures.status;
+  said = λ _. c.say_memory.ensures.line;
+}
