@@ -18,6 +18,12 @@ class Element {
     this.children.push(...children);
   }
 
+  cloneNode() {
+    const copy = new Element(this.tag);
+    Object.assign(copy.attributes, this.attributes);
+    return copy;
+  }
+
   get all() {
     return [this, ...this.children.flatMap((child) => child.all ?? [])];
   }
@@ -143,6 +149,8 @@ test("weeks begin on Monday, with a column for each day of the week that is work
   assert.equal(weeksOf(broken, 40, 41, 9)[0].days.length, 5, "whole weeks");
   const newYear = makeCalendar({ ...defaultSettings(), step: "60", start: "2026-12-28" }).calendar;
   assert.deepEqual(weeksOf(newYear, 0, 60, 9).map(({ words }) => words), ["Week 53", "Week 1"]);
+  const before = makeCalendar({ ...defaultSettings(), step: "60", start: "2025-12-29" }).calendar;
+  assert.deepEqual(weeksOf(before, 0, 60, 9).map(({ words }) => words), ["Week 1", "Week 2"]);
 });
 
 test("a line for each week: days off are left free, and the week's end is a weekend", async () => {
@@ -157,6 +165,7 @@ test("a line for each week: days off are left free, and the week's end is a week
     [attributes["data-job"], Number(attributes.x), Number(attributes.width)]);
   assert.deepEqual(bars.map(([job]) => job), ["0", "1", "1", "1", "2"]);
   assert.equal(chart.of("weekend").length, 2, "a weekend, and Tuesday off");
+  assert.equal(chart.of("end").length, 1, "the plan ends where a day ends");
   const { x: monday } = pointOf(plan, view, 1, 44);
   const { x: wednesday, y } = pointOf(plan, view, 1, 48);
   const day = (900 - 14 - pointOf(plan, view, 1, 0).x) / 5;
@@ -184,6 +193,10 @@ test("marks are the program’s: due below, released above, late at the upper ed
     attributes.class.includes("late")).length, 1);
   const two = drawChart(plan, view(plan, 900, 2));
   assert.equal(two.of("due").length, 2, "a date at the end of a line is marked once");
+  const early = await datedPlan([{ name: "A", time: "8 h", due: "2026-11-30 08:00" }], calendar);
+  for (const lines of [1, 2]) {
+    assert.equal(drawChart(early, view(early, 900, lines)).of("due").length, 1, "due at the start");
+  }
 });
 
 /** The texts beside the marks, each with the places of its left and right end. */

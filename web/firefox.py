@@ -7,7 +7,7 @@ import tempfile
 import time
 from pathlib import Path
 
-from browser import ended
+from browser import Browser, ended
 
 START_SECONDS = 60
 KEYS = {"ArrowLeft": "\ue012", "ArrowUp": "\ue013", "ArrowRight": "\ue014", "ArrowDown": "\ue015", "Tab": "\ue004"}
@@ -22,11 +22,17 @@ def free_port():
 class Firefox:
     """A browser with one page. A message is its length, a colon and JSON."""
 
+    downloaded = Browser.downloaded
+
     def __init__(self, program="firefox-esr"):
         self.folder = tempfile.TemporaryDirectory(prefix="threefield-firefox-", ignore_cleanup_errors=True)
+        self.downloads = Path(self.folder.name) / "downloads"
+        self.downloads.mkdir()
         self.port = free_port()
-        Path(self.folder.name, "user.js").write_text('user_pref("intl.accept_languages", "en-GB");\n'
-                                                     f'user_pref("marionette.port", {self.port});\n')
+        settings = {"intl.accept_languages": "en-GB", "marionette.port": self.port, "browser.download.folderList": 2,
+                    "browser.download.dir": str(self.downloads), "browser.download.alwaysOpenPanel": False}
+        lines = [f"user_pref({json.dumps(name)}, {json.dumps(value)});\n" for name, value in settings.items()]
+        Path(self.folder.name, "user.js").write_text("".join(lines))
         words = [program, "--headless", "--marionette", "--profile", self.folder.name, "about:blank"]
         self.process = subprocess.Popen(words, stdout=subprocess.DEVNULL, stderr=subprocess.DEVNULL)
         self.last, self.buffer, self.problems, self.requests = 0, b"", [], []
@@ -86,9 +92,11 @@ class Firefox:
 
     def open(self, address):
         """Opens an address; pages of before keep no work for it."""
-        for _ in range(2):
+        keeps = True
+        while keeps:
             self.call("WebDriver:Navigate", url="about:blank")
             self.call("WebDriver:Navigate", url=address)
+            keeps = self.run("localStorage.getItem('threefield')") != "off"
             self.run("localStorage.setItem('threefield', 'off')")
 
     def run(self, script):
@@ -137,6 +145,10 @@ class Firefox:
             it.value = {json.dumps(text)};
             it.dispatchEvent(new Event({json.dumps(event)}, {{ bubbles: true }}));
         }})()""")
+
+    def open_file(self, selector, path):
+        found = self.call("WebDriver:FindElement", using="css selector", value=selector)["value"]
+        self.call("WebDriver:ElementSendKeys", id=next(iter(found.values())), text=str(path))
 
     def screenshot(self, path):
         Path(path).write_bytes(base64.b64decode(self.call("WebDriver:TakeScreenshot", full=False)["value"]))

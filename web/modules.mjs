@@ -18,6 +18,8 @@ export function load(name) {
 
 /** The job table of rows, as the page makes it. */
 export async function tableOf(rows, calendar, columns) {
-  const { RowReader, makeTable } = await load("table");
-  return makeTable(rows, new RowReader(calendar, new Set(columns)), async () => true);
+  const { RowReader, makeTable, noteSameNames } = await load("table");
+  const table = await makeTable(rows, new RowReader(calendar, new Set(columns)), async () => true);
+  noteSameNames(table);
+  return table;
 }

@@ -34,6 +34,8 @@ test("a job that is done just on time is not late", async () => {
   const found = new Map(measures(plan).map(({ words, steps, number }) => [words, number ?? steps]));
   assert.deepEqual(["Makespan", "Late jobs", "Maximum lateness", "Total tardiness",
     "Mean completion time"].map((words) => found.get(words)), [22, "1 of 2", 1, 1, 15]);
+  const odd = measures({ ...plan, completion: Float64Array.of(8, 23) });
+  assert.equal(odd.at(-1).steps, 16, "a mean of 15.5 steps");
 });
 
 test("a due date within a time step is the end of the step before, a release its end", () => {

@@ -5,6 +5,7 @@ import { load, tableOf } from "./modules.mjs";
 
 const { defaultSettings, makeCalendar, momentField, stepNow } = await load("calendar");
 const { fromNow, readLeft, tickedOff, unticked } = await load("progress");
+const { assumptionsOf } = await load("assumptions");
 const { comparePlans, keepPlan, makePlan } = await load("plan");
 const { emptyState } = await load("state");
 const { RowReader, makeTable, newRow } = await load("table");
@@ -53,6 +54,23 @@ test("the one job that is begun goes on before all others, where precedence coun
   const other = await read(["name", "time", "due"]);
   assert.ok(!other.isFirst);
   assert.match(other.notes.at(-1).message, /Choose “Precedence constraints”/);
+  const begun = (of) => assumptionsOf(of, calendar, { ...emptyState(), rows, settings: SETTINGS })
+    .find(({ short }) => short === "1 begun").long;
+  assert.equal(begun(table), "Begun, with what is left: B (1 h). It comes first.");
+  assert.equal(begun(other), "Begun, with what is left: B (1 h). Others may come before the rest of them.");
+});
+
+test("a plan says on which days and in which hours work is assumed", async () => {
+  const settings = { ...SETTINGS, days: [0, 1, 6], dayFirst: false, off: "12/24/2026" };
+  const { calendar: own } = makeCalendar(settings);
+  const rows = [newRow({ name: "A", time: "2", due: "12/5/2026" })];
+  const table = await tableOf(rows, own, COLUMNS);
+  assert.deepEqual(assumptionsOf(table, own, { ...emptyState(), rows, settings }).map(({ long }) => long), [
+    "A time without a unit is in hours, such as 2 (one job).",
+    "In a date such as 12/5/2026 the month comes first.",
+    "A due date without a time of day is the end of that day (one job).",
+    "Work starts on Mon 30 Nov 08:00, with 08:00-12:00, 13:00-17:00 on Mon, Sat, Sun; 1 d is a working day of "
+      + "8 h. Days off: 12/24/2026."]);
 });
 
 /** A plan of jobs one after another, in the order of the rows. */
@@ -155,10 +173,10 @@ test("plain numbers have no clock: the plan says what time it is when a job is d
 test("a plan in plain numbers goes on from where it is, in its own numbers", async () => {
   const { calendar: later } = makeCalendar({ ...defaultSettings(), start: "6" });
   const rows = [{ name: "A", time: "2", due: "9", release: "7", cost: "0,5:10,9:20", left: "1" },
-    { name: "B", time: "3", due: "4", release: "2", cost: "-1,8:3" }].map((row) => newRow(row));
+    { name: "B", time: "3", due: "4", release: "2", cost: "-1,6:2,8:3" }].map((row) => newRow(row));
   const table = await tableOf(rows, later, ["name", "time", "due", "release", "cost"]);
   assert.equal(textOf(table),
-    "table 1\njob 1 p=1 d=3 r=1 h=10,3:20\njob 2 p=3 d=-2 r=0 h=-1,2:3\n");
+    "table 1\njob 1 p=1 d=3 r=1 h=10,3:20\njob 2 p=3 d=-2 r=0 h=2,2:3\n");
   assert.deepEqual(table.notes.map(({ row, field }) => `${row} ${field}`).sort(),
     ["0 left", "1 due", "1 release"]);
   assert.equal(momentField(later, 3, true), "9");

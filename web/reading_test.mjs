@@ -7,7 +7,7 @@ import { load, tableOf } from "./modules.mjs";
 
 const { assumedOf, breaks, defaultSettings, isoDay, makeCalendar, momentField, readDuration, readMoment,
   today } = await load("calendar");
-const { readCells, readColumns, rowsOfCells, styleOf, unitOfTimes } = await load("spreadsheet");
+const { hasMonthFirst, readCells, readColumns, rowsOfCells, styleOf, unitOfTimes } = await load("spreadsheet");
 const { guess } = await load("guesses");
 const { emptyState } = await load("state");
 const { columnsUsed, readNotation } = await load("problems");
@@ -296,6 +296,17 @@ test("cells without quotes are those that stand in quotes", () => {
       assert.deepEqual(readCells(text(quoted, end)), { cells: wanted, delimiter: ";" });
     }
   }
+});
+
+test("commas in names and numbers do not divide cells that semicolons divide", () => {
+  assert.deepEqual(readCells("Auftrag;Dauer\nKiste, rot, lang;1,5\n"), { delimiter: ";",
+    cells: [["Auftrag", "Dauer"], ["Kiste, rot, lang", "1,5"]] });
+});
+
+test("the month is first where a date has no other reading, and no date contradicts it", () => {
+  const isMonthFirst = (...dates) => hasMonthFirst(dates.map((due) => ({ due, release: "" })));
+  assert.deepEqual([isMonthFirst("3/25/2025", "4/3/2025"), isMonthFirst("4/3/2025", "12/12/2025"),
+    isMonthFirst("3/25/2025", "25/3/2025")], [true, false, false]);
 });
 
 test("texts that are alike are read alike", async () => {

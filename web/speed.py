@@ -26,13 +26,14 @@ PASTE = """new Promise((resolve) => {
     const read = performance.now();
     document.getElementById("import-replace").click();
     const taken = performance.now();
-    new PerformanceObserver((list, observer) => {
-        const shown = list.getEntriesByName("plan shown").at(-1)?.startTime;
-        if (shown === undefined) return;
-        observer.disconnect();
+    const { mark } = performance;
+    performance.mark = (name) => {
+        mark.call(performance, name);
+        if (name !== "plan shown") return;
+        const shown = performance.now();
         requestAnimationFrame(() => setTimeout(() => resolve({ read: read - begun, taken: taken - read,
             planned: shown - taken, drawn: performance.now() - shown, all: performance.now() - begun })));
-    }).observe({ entryTypes: ["mark"] });
+    };
 })"""
 
 

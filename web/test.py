@@ -6,9 +6,10 @@
 The page is web/threefield.html if none is named. Each way is a function below; with names only those are tried. --large
 also solves 100,000 jobs and measures, --pictures takes the pictures that the README shows, and --program compares the
 module in the browser with the native program byte for byte over the examples of the nineteen problems. Needs chromium.
---firefox tries the ways that need no more than clicks and texts in Debian's firefox-esr. The exit status is 77 where the
-browser does not start.
+--firefox tries the hostile ways, and others that need no more than clicks and texts, in Debian's firefox-esr. The exit
+status is 77 where the browser does not start.
 """
+import base64
 import functools
 import http.server
 import json
@@ -21,6 +22,7 @@ import sys
 import threading
 import time
 import xml.etree.ElementTree as ElementTree
+import zlib
 from pathlib import Path
 
 from browser import Browser
@@ -38,11 +40,32 @@ IN_FIREFOX = ["empty_page", "spreadsheet", "columns_are_corrected", "cells_witho
               "examples", "no_release_date", "certificate", "what_if", "problem_in_words", "machines_are_missing", "bound",
               "judging", "bars_on_several_machines", "mistakes_in_rows", "mistakes_of_the_calendar", "problems_are_the_modules",
               "unsaved_work", "no_network"]
+# The page is done with each hostile input within so many seconds; where other programs take the time, in one of some tries.
+SURVIVAL_SECONDS, SURVIVAL_TRIES = 5, 4
 
 
 def way(function):
     WAYS.append(function)
     return function
+
+
+def hostile(function):
+    """A way with texts that are made to mislead the page or to slow it down: it is tried in both browsers."""
+    IN_FIREFOX.append(function.__name__)
+    return way(function)
+
+
+def survived(page, what, give):
+    """Gives the page an input, and demands that it is done with it in time."""
+    took = []
+    while len(took) < SURVIVAL_TRIES:
+        begun = time.monotonic()
+        give()
+        page.settle(60)
+        took.append(time.monotonic() - begun)
+        if took[-1] < SURVIVAL_SECONDS:
+            return
+    raise AssertionError(f"{what}: the page took {', '.join(f'{each:.1f}' for each in took)} s")
 
 
 class Page:
@@ -71,6 +94,10 @@ class Page:
 
     def texts(self, selector):
         return self.run(f"[...document.querySelectorAll({json.dumps(selector)})].map((each) => each.innerText.trim())")
+
+    def contents(self, selector):
+        """Texts with each character that they have: `texts` leaves out what a browser does not show."""
+        return self.run(f"[...document.querySelectorAll({json.dumps(selector)})].map((each) => each.textContent)")
 
     def value(self, selector):
         return self.run(f"document.querySelector({json.dumps(selector)}).value")
@@ -464,6 +491,7 @@ def problem_in_words(page):
     expect(page.run("document.querySelector('[data-condition=prmp]').checked"), True)
     page.notation("1|prpm|Lmax")
     expect_in("not understood from “prpm|Lmax” on", page.text("#problem-notes"))
+    expect(page.run("document.getElementById('machines-label').hidden"), True)
     page.notation("1|prec|Tmax")
     expect_in("The maximum tardiness is the maximum lateness where that is above 0", page.text("#problem-notes"))
     page.notation("P0||sumC")
@@ -1244,7 +1272,7 @@ def files(page):
     page.wait("/Accepted/.test(document.getElementById('judgement').innerText)")
 
 
-@way
+@hostile
 def link(page):
     page.example(0)
     page.click("#link")
@@ -1258,24 +1286,30 @@ def link(page):
     expect_in("The link is damaged", page.text("#notice"))
 
 
-@way
+def open_cells(page, name, text):
+    """Opens a file of cells, which replace the rows."""
+    page.open_text(name, text)
+    page.wait("document.getElementById('import').open")
+    page.click("#import-replace")
+
+
+def open_state(page, name, text, said):
+    """Opens a file that looks like one of the page, and waits until this is said of it."""
+    page.open_text(name, text)
+    page.wait(f"document.getElementById('notice').innerText.includes({json.dumps(said)})")
+
+
+@hostile
 def other_files(page):
     """UTF-16 and Windows-1252, and texts that are nothing that the page knows."""
-    page.open_text("cells.csv", "Name\tTime\nMüller\t3\n".encode("utf-16"))
-    page.wait("document.getElementById('import').open")
-    page.click("#import-replace")
-    page.settle()
-    expect(page.value(page.cell(1, "name")), "Müller")
-    page.open_text("others.csv", "Name;Time\nMüller;3\n".encode("cp1252"))
-    page.wait("document.getElementById('import').open")
-    page.click("#import-replace")
-    page.settle()
-    expect(page.value(page.cell(1, "name")), "Müller")
-    page.open_text("other.json", '{"threefield": 2}')
-    page.wait("/not a file that this page saved/.test(document.getElementById('notice').innerText)")
-    page.open_text("another.json", '{"threefield": 1, "rows": [[1, "A", 3, {}], 7, ["x", "B", "2"]], '
-                   '"settings": {"days": 3}, "kept": {"ids": "x"}, "problem": 9}')
-    page.wait("/another.json was opened/.test(document.getElementById('notice').innerText)")
+    for coding in ("utf-16", "cp1252"):
+        survived(page, coding, lambda: open_cells(page, f"{coding}.csv", "Name;Time\nMüller;3\n".encode(coding)))
+        expect(page.value(page.cell(1, "name")), "Müller")
+    survived(page, "another number", lambda: open_state(page, "other.json", '{"threefield": 2}',
+                                                        "other.json is not a file that this page saved"))
+    damaged = ('{"threefield": 1, "rows": [[1, "A", 3, {}], 7, ["x", "B", "2"]], '
+               '"settings": {"days": 3}, "kept": {"ids": "x"}, "problem": 9}')
+    survived(page, "other kinds of values", lambda: open_state(page, "another.json", damaged, "another.json was opened"))
     expect(page.value("#notation"), "1||Lmax")
     expect(page.value(page.cell(2, "name")), "B")
 
@@ -1350,16 +1384,16 @@ def mistakes_of_the_calendar(page):
     expect(page.plan_value(), "2 h 15 min")
 
 
-@way
+@hostile
 def hostile_names(page):
     """Names with markup, formulas and quotes are only ever text."""
     names = ['<img src=x onerror="window.hacked=1">', "=HYPERLINK(\"http://x\")", "@SUM(1)", "</script><b>",
              "&amp;\u202eabc"]
     rows = "".join(f'"{name.replace(chr(34), chr(34) * 2)}"\t{3 + k}\t4\n' for k, name in enumerate(names))
-    page.import_cells("Name\tTime\tDue\n" + rows)
+    survived(page, "names", lambda: page.import_cells("Name\tTime\tDue\n" + rows))
     expect(page.run("window.hacked ?? null"), None)
     expect(page.run("document.querySelectorAll('#list b, #list img, .chart img').length"), 0)
-    expect(sorted(page.texts("#list tbody th")), sorted(names))
+    expect(sorted(page.contents("#list tbody th")), sorted(names))
     page.run("document.querySelector('[data-save=csv]').click()")
     saved = page.browser.downloaded("plan.csv").decode("utf-8-sig")
     expect_in("\"'=HYPERLINK(\"\"http://x\"\")\"", saved)
@@ -1370,17 +1404,104 @@ def hostile_names(page):
     expect(kinds - {"svg", "g", "defs", "pattern", "path", "rect", "text", "title", "style"}, set(), "elements")
 
 
-@way
+@hostile
 def control_characters(page):
     """A name with control characters does not break the saved picture."""
     rows = [[1, "A\x01\x1b[31m\ufffeB", "3", "", "", "4"], [1, "C", "2", "", "", "4"]]
-    page.open_text("odd.json", json.dumps({"threefield": 1, "title": "T\x02", "rows": rows}))
+    state = json.dumps({"threefield": 1, "title": "T\x02", "rows": rows})
+    survived(page, "control characters", lambda: open_state(page, "odd.json", state, "odd.json was opened"))
     page.wait("document.querySelector('#headline .proved')")
     page.run("document.querySelector('[data-save=chart]').click()")
     picture = ElementTree.fromstring(page.browser.downloaded("t.svg"))
     titles = [element.text for element in picture.iter() if element.tag.endswith("title")]
     expect(titles[0], "T\ufffd")
     expect_in("A\ufffd\ufffd[31m\ufffdB", " ".join(titles))
+
+
+# What a text is, as the page itself makes it, and what is said of it then.
+HOSTILE_TEXTS = [
+    ("names of 30,001 letters", """"Name\\tTime\\tAfter\\n" + [..."abc"].map((each) => each.repeat(30001) + "\\t1\\t\\n").join("")
+        + "d\\t1\\t" + "e".repeat(30001)""", "4 jobs were read."),
+    ("300,000 spaces in a cost function", '"Name\\tTime\\tCost\\nA\\t1\\t0" + " ".repeat(300000) + "1"', "1 job was read."),
+    ("headings of brackets", '"(".repeat(300000) + "\\t" + "[".repeat(300000) + "\\nA\\t3"', "1 job was read."),
+    ("2,000,000 lines of comments", '"#\\n".repeat(2000000) + "table 1\\njob 1 p=3\\n"', "1 jobs were read."),
+    ("1,000,000 empty lines", '"\\n".repeat(1000000)', ""),
+    ("100,000 columns", '"a\\t".repeat(100000) + "\\n" + "1\\t".repeat(100000)', "and 99980 more."),
+    ("300,001 quotes", """'Name\\tTime\\n' + '"'.repeat(300001) + '\\t1'""", "1 job was read."),
+    ("300,000 zero bytes", '"\\0".repeat(300000)', "1 job was read."),
+    ("a job after 30,000 others", '"Name\\tTime\\tAfter\\nA\\t1\\t" + "B, ".repeat(30000) + "B\\nB\\t1"', "2 jobs were read."),
+    ("a route of 3,000 machines", """"Order\\tRoute\\nA\\t" + Array.from({ length: 3000 }, (_, k) => `1@M${k}`).join(", ")""",
+     "1 job was read."),
+    ("brackets without an end", '`{"threefield":1,"rows":` + "[".repeat(3000000)', "not a file that this page saved"),
+    ("rows of one identity", '`{"threefield":1,"rows":[[7,"A","1"],[7,"B","2"]],"own":[[0,0,1],[1,9,-1,"x"]]}`', "was opened."),
+    ("weeks of one minute", """`{"threefield":1,"rows":[[1,"A","9000 h","","","2030-12-31"]],
+        "settings":{"step":"1","start":"2026-01-05","hours":"00:00-00:01","days":[1]}}`""", "was opened."),
+    ("8,000 days off", """`{"threefield":1,"rows":[[1,"A","3 h","","","2027-12-31"]],"settings":{"step":"60","start":"2026-01-05",
+        "hours":"08:00-17:00","days":[1],"off":"${"2026-05-01, ".repeat(7999)}2026-05-01"}}`""", "was opened."),
+    ("a kept plan of the greatest numbers", """`{"threefield":1,"rows":[[1,"A","3","","","4"]],"kept":{"ids":[1,1],
+        "names":["x","y"],"start":[1e308,-1e308],"completion":[0,1e300],"value":"${"9".repeat(50000)}","problem":"1||Lmax"}}`""", "was opened."),
+    ("a title of 99,999 letters", """`{"threefield":1,"rows":[[1,"A","3","","","4"]],"title":"${"x".repeat(99999)}",
+        "machineNames":"${"y;".repeat(49999)}"}`""", "was opened."),
+    ("19,000 conditions", '`{"threefield":1,"rows":[[1,"A","3"]],"problem":"1|${"prec,".repeat(19000)}|Lmax"}`', "was opened."),
+]
+OPENED = """(() => {
+    document.getElementById("notice").replaceChildren();
+    const files = new DataTransfer();
+    files.items.add(new File([TEXT], "hostile.txt"));
+    const input = document.getElementById("file");
+    input.files = files.files;
+    input.dispatchEvent(new Event("change"));
+})()"""
+IS_READ = "document.getElementById('import').open || document.getElementById('notice').textContent !== ''"
+
+
+def give_text(page, text):
+    """Opens a file of a text that a script makes; where it is one of cells, they replace the rows."""
+    page.run(OPENED.replace("TEXT", text))
+    page.wait(IS_READ)
+    page.run("""(() => {
+        if (!document.getElementById("import").open) return;
+        document.getElementById("import-replace").click();
+        document.getElementById("import").close();
+    })()""")
+
+
+@hostile
+def hostile_texts(page):
+    """Texts that are made to slow the page down: it is done with each of them in a moment, and goes on after them all."""
+    for what, text, said in HOSTILE_TEXTS:
+        survived(page, what, lambda: give_text(page, text))
+        expect_in(said, page.text("#notice"))
+        if what.endswith("empty lines"):
+            expect(page.run("document.getElementById('import-text').value.length"), 20001, "the box shows 20,000 lines")
+    page.import_cells("Name,Time,Due\nA,3,4\n")
+    page.notation("1||Lmax")
+    expect(page.plan_value(), "−1")
+
+
+def packed(text):
+    """A text as a link has it."""
+    packing = zlib.compressobj(wbits=-15)
+    return base64.urlsafe_b64encode(packing.compress(text.encode()) + packing.flush()).decode().rstrip("=")
+
+
+@hostile
+def hostile_links(page):
+    """Links that are cut off, that are no state, that hold very much, or many rows."""
+    opened, damaged = "The plan of the link was opened.", "The link is damaged or was cut off"
+    state = '{"threefield":1,"rows":[[1,"<b>A</b>","3","","","4"]]}'
+    for what, link, said in (("a link of a plan", packed(state), opened), ("a link that is cut off", packed(state)[:-9], damaged),
+                             ("letters that are none of a link", "*" * 16000, damaged),
+                             ("a link of no state", packed("[]"), damaged),
+                             ("a link of 100,000,000 spaces", packed(state + " " * 100_000_000), damaged),
+                             ("a link of 100,000 rows", packed(state[:-2] + ",[1]" * 100_000 + "]}"), opened)):
+        def give():
+            page.run("document.getElementById('notice').replaceChildren(), void (location.hash = '')")
+            page.run(f"void (location.hash = '#plan={link}')")
+            page.wait(IS_READ)
+        survived(page, what, give)
+        expect_in(said, page.text("#notice"))
+    expect(page.run("document.querySelectorAll('#list b').length"), 0)
 
 
 @way
@@ -1585,23 +1706,26 @@ def list_keeps_its_columns(page):
 
 @way
 def list_of_a_job_shop(page):
-    """The list of a job shop keeps all its columns, also beside a kept plan, and no date has more than two lines."""
+    """The list of a job shop keeps all its columns, also beside a kept plan, and no date has more than two lines, nor have
+    its machines where there is room."""
     page.import_cells(LONG_ROUTES)
     page.click("#changes button")
     expect(page.texts("#list thead th")[2:], ["Lateness", "Against the kept plan", "Machine", "Start", "Until", "Due"])
     for width in (768, 1200, 1280, 1366, 1920):
         page.browser.size(width, 800)
         page.run("new Promise((resolve) => setTimeout(resolve, 100))")
-        frame, table, lines = page.run("""(() => {
+        frame, table, lines, machines = page.run("""(() => {
             const frame = document.getElementById("list-scroll");
-            const lines = [...frame.querySelectorAll("[data-head=Start], [data-head=Until], [data-head=Due]")].map((each) => {
-                const words = document.createRange();
-                words.selectNodeContents(each);
-                return words.getClientRects().length;
-            });
-            return [frame.clientWidth, frame.scrollWidth, lines];
+            const linesOf = (...heads) => heads.flatMap((head) =>
+                [...frame.querySelectorAll(`td[data-head=${head}]`)].map((each) => {
+                    const words = document.createRange();
+                    words.selectNodeContents(each);
+                    return words.getClientRects().length;
+                }));
+            return [frame.clientWidth, frame.scrollWidth, linesOf("Start", "Until", "Due"), linesOf("Machine")];
         })()""")
-        expect([table <= frame, max(lines) <= 2], [True, True], f"{frame}, {table}, {lines} at {width} pixels")
+        expect([table <= frame, max(lines) <= 2, width == 1200 or max(machines) <= 2], [True, True, True],
+               f"{frame}, {table}, {lines}, {machines} at {width} pixels")
 
 
 @way
@@ -1654,9 +1778,12 @@ def list_of_jobs(page):
 
 @way
 def pages_of_a_long_list(page):
-    """The second page of the jobs and of the list begins where the first one ends."""
+    """The second page of the jobs and of the list begins where the first one ends; what is not seen at first is drawn too."""
     page.notation("1||sumC")
     page.import_cells("Name\tTime\n" + "".join(f"Order {k}\t{k}\n" for k in range(1, 251)))
+    expect(page.run("""["#jobs-table tbody tr", "#list tbody tr", ".chart .bar:not(:has(title))"]
+        .map((each) => document.querySelectorAll(each).length)"""), [100, 100, 0], "rows, lines, bars without a title")
+    expect(page.texts("#jobs-table tbody th"), [str(k) for k in range(1, 101)])
     for place, first in (("jobs", page.cell(101, "name")), ("list", "#list tbody tr:first-child th")):
         page.click(f"#{place}-pager [aria-label='Next page']")
         expect_in("101–200 of 250", page.text(f"#{place}-pager"))
@@ -1728,6 +1855,14 @@ def whole_texts_of_fields(page):
                False)
     page.run(f"document.querySelector({json.dumps(page.cell(2, 'route'))}).focus()")
     expect(page.run("document.querySelectorAll('.grown').length"), 0, "a text that is not cut off stays in its column")
+    page.browser.size(360, 740)
+    page.run("document.getElementById('jobs-scroll').scrollLeft = 90")
+    page.run(f"document.querySelector({json.dumps(page.cell(1, 'route'))}).focus()")
+    expect(page.run("""(() => {
+        const field = document.querySelector(".grown").getBoundingClientRect();
+        const frame = document.getElementById("jobs-scroll").getBoundingClientRect();
+        return field.left >= frame.left && field.right <= frame.right && field.width > frame.width * 0.8;
+    })()"""), True, "on a phone it is as wide as is seen of the table")
 
 
 @way
@@ -1815,6 +1950,9 @@ def work_lists(page):
     page.run(print_events)
     expect(page.run("document.querySelectorAll('.work-list').length"), 0)
     expect(page.texts("#list thead th")[-1], "Done")
+    page.example(4)
+    page.run(print_events)
+    expect(page.run("document.querySelectorAll('.work-list').length"), 1, "jobs in pieces on one machine")
 
 
 @way

@@ -504,7 +504,7 @@ function readWhole(text, what, mayBeNegative = false) {
 
 /** Whether a text is a length with a unit, or looks like a date: plain numbers know neither. */
 export function needsCalendar(text) {
-  if (/^\s*-?\d*\s*$/.test(text)) return false;
+  if (text === "" || /^\s*-?\d*\s*$/.test(text)) return false;
   const length = readLength(text, { min: 1, h: 1, d: 1, w: 1 }, "h");
   return length.fault ? !readDateTime(text, true, 0).isNone : !length.isPlain;
 }

@@ -39,7 +39,7 @@ const BOUND_WORDS = {
   ranks: "Each job delays itself and the jobs after it on its machine: one job for each machine "
     + "counts once, as many count twice, and so on. With the longest jobs last no sum is smaller.",
   prices: "Each time step has a price, listed below. No schedule costs less than what all jobs pay "
-    + "at their cheapest starts, less the prices of all steps.",
+    + "at the times that are cheapest for them, less the prices of all steps.",
 };
 
 const ARC_WORDS = " Along a precedence constraint the later job gives some of its multiplier to "

@@ -49,6 +49,7 @@ const HARDLY = 0.001;
  * @property {boolean} marks whether due and release dates are marked
  * @property {boolean} isPrint whether it is for paper, with lower rows
  * @property {boolean} isMovable whether bars can have the focus, to be moved
+ * @property {(() => void)[]} [later] takes what is not seen and may be drawn later: titles of bars
  */
 
 /**
@@ -192,6 +193,7 @@ function frameOf(plan, view) {
   const lines = linesOf(plan, view, left, pixels);
   return {
     row, rowHeight, lineHeight, hasMarks, above, left, pixels, lines, isMovable: view.isMovable,
+    later: view.later,
     day: view.weeks ? (view.width - left - RIGHT) / plan.calendar.weekdays.length : 0,
     isNarrow: view.width < 500, width: view.width, height: lineHeight * lines.length,
   };
@@ -364,6 +366,9 @@ function drawRow(plan, frame, row) {
       fill: "url(#idle)" }));
   const [first, last] = plan.rows[row.machine - 1];
   const { start, stop } = plan.schedule;
+  row.bar = svg("rect", { "data-machine": row.machine,
+    ...(frame.isMovable ? { tabindex: -1, role: "button" } : {}), y: 0.75,
+    height: frame.row - 1.5 });
   let k = firstAfter(plan, first, last, row.from);
   let free = row.from;
   while (k < last && start[plan.order[k]] < row.to) {
@@ -430,13 +435,17 @@ function drawBar(group, plan, frame, row, piece) {
   const late = lateness(plan, job);
   const isLate = late !== null && stop > plan.jobs[job].due;
   const inset = width > 8 ? 0.75 : 0;
-  const bar = svg("rect", {
-    class: `bar fill${plan.colour[job] ?? 0}${isLate ? " late" : ""}${width < 6 ? " thin" : ""}`,
-    "data-job": job, "data-machine": row.machine,
-    ...(frame.isMovable ? { tabindex: -1, role: "button" } : {}),
-    x: round(left + inset), y: 0.75, width: round(width - 2 * inset), height: frame.row - 1.5,
-    rx: width > 8 ? 2 : 0,
-  }, svg("title", {}, barTitle(plan, job, row.machine, start, stop)));
+  const bar = row.bar.cloneNode();
+  bar.setAttribute("class",
+    `bar fill${plan.colour[job] ?? 0}${isLate ? " late" : ""}${width < 6 ? " thin" : ""}`);
+  bar.setAttribute("data-job", job);
+  bar.setAttribute("x", round(left + inset));
+  bar.setAttribute("width", round(width - 2 * inset));
+  if (width > 8) bar.setAttribute("rx", 2);
+  const entitle = () =>
+    bar.append(svg("title", {}, barTitle(plan, job, row.machine, start, stop)));
+  if (frame.later) frame.later.push(entitle);
+  else entitle();
   group.append(bar);
   if (isLate && width > 3) {
     group.append(svg("rect", { class: "late-edge", x: round(left + inset), y: 0.75,

@@ -2,6 +2,7 @@
 
 import { drawChart, goodLines, latenessWords, linesForNames } from "./chart.js";
 import { isDated, lengthText, momentText, weeksOf } from "./calendar.js";
+import { drawNow, later } from "./later.js";
 import { machineName } from "./machines.js";
 import { whyFixed } from "./moving.js";
 import { lateness } from "./plan.js";
@@ -11,6 +12,8 @@ const PRINT_WIDTH = 1020;
 // What a page of A4 leaves for the chart and the list below the measures.
 const PRINT_HEIGHT = 520;
 const MOST_WEEKS = 26;
+// The bars of larger plans have their titles later.
+const MOST_TITLED = 200;
 const KEYS = { "+": "in", "=": "in", "-": "out", "−": "out", 0: "all", ArrowLeft: "left",
   ArrowRight: "right" };
 
@@ -59,6 +62,12 @@ export class ChartView {
     if (isSame && chosen !== null) this.pointAt(chosen, chosenOn);
   }
 
+  /** The chart as it is shown, with all its titles. */
+  get whole() {
+    drawNow(this);
+    return this.chart;
+  }
+
   resize() {
     if (this.plan && Math.abs(this.frame.clientWidth - this.drawnWidth) > 1) this.draw();
   }
@@ -67,9 +76,11 @@ export class ChartView {
     if (!this.plan) return;
     this.drawnWidth = width ?? Math.max(280, this.frame.clientWidth);
     const scale = width ? 1 : parseFloat(getComputedStyle(document.documentElement).fontSize) / 16;
+    const titles = [];
     const view = { from: this.from, to: this.to, width: this.drawnWidth / scale,
       marks: this.marks.checked, isPrint: width !== null,
-      isMovable: width === null && this.fixed === "" };
+      isMovable: width === null && this.fixed === "",
+      ...(width === null && this.plan.order.length > MOST_TITLED ? { later: titles } : {}) };
     this.view = { ...view, ...this.linesOf(view) };
     this.scale = scale;
     const { weeks } = this.view;
@@ -82,6 +93,7 @@ export class ChartView {
     this.frame.replaceChildren(...charts);
     this.frame.setAttribute("role", view.isMovable ? "group" : "img");
     this.frame.setAttribute("aria-label", this.describe());
+    later(this, titles.length > 0 && (() => titles.forEach((entitle) => entitle())));
     this.drawLegend();
     this.mark();
     if (focused !== undefined) (this.barOf(focused, machine) ?? this.frame).focus();

@@ -212,8 +212,8 @@ export class Files {
       const style = styleOf(cells, delimiter, navigator.language);
       saveFile(`${name}.csv`, planAsCsv(shown.plan, style), "text/csv");
     } else if (kind === "chart") {
-      const { chart } = this.page.planView.chart;
-      saveFile(`${name}.svg`, chartAsFile(chart, chartRules(), store.state.title || "Plan"),
+      const { whole } = this.page.planView.chart;
+      saveFile(`${name}.svg`, chartAsFile(whole, chartRules(), store.state.title || "Plan"),
         "image/svg+xml");
     } else askPicture((bytes) => saveFile(`${name}-solver.svg`, bytes, "image/svg+xml"));
     return undefined;

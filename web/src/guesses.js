@@ -82,7 +82,7 @@ function longestStep(settings, rows, steps) {
  * @returns {?{problem: object, hints: string[]}} null where the problem of now may stay
  */
 export function problemFor(problem, rows) {
-  const has = (field) => rows.some((row) => row[field].trim() !== "");
+  const has = (field) => rows.some((row) => row[field] !== "" && row[field].trim() !== "");
   if (has("route") && problem && !hasRoutes(problem)) return jobShop(problem, has);
   if (problem?.environment !== "1") return null;
   if (has("time2")) {

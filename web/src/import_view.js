@@ -10,6 +10,9 @@ import { FIELD_WORDS } from "./table.js";
 
 const UNUSED = "";
 const MOST_SHOWN = 200000;
+const MOST_LINES = 20000;
+const MOST_CHOICES = 200;
+const MOST_UNUSED = 20;
 
 export class ImportView {
   /**
@@ -39,15 +42,16 @@ export class ImportView {
   }
 
   setText(text) {
-    this.whole = text.length > MOST_SHOWN ? text : null;
-    this.text.value = this.whole ? `${text.slice(0, MOST_SHOWN)}\n…` : text;
+    const shown = beginningOf(text);
+    this.whole = shown.length < text.length ? text : null;
+    this.text.value = this.whole ? `${shown}\n…` : text;
     this.read();
   }
 
   /** A long text that is pasted into the box is shown in part, since browsers are slow with it. */
   paste(event) {
     const text = event.clipboardData?.getData("text/plain") ?? "";
-    if (text.length <= MOST_SHOWN) return;
+    if (beginningOf(text).length === text.length) return;
     event.preventDefault();
     const { value, selectionStart, selectionEnd } = this.text;
     this.setText(this.whole ? text
@@ -64,10 +68,11 @@ export class ImportView {
     this.tell();
   }
 
-  /** A choice for each column of what it is. */
+  /** A choice for each column of what it is; for the first ones of very many. */
   drawColumns() {
     const sample = this.cells[this.columns.headings ? 1 : 0] ?? [];
-    this.columnsPlace.replaceChildren(...this.columns.fields.map((field, place) => {
+    const fields = this.columns.fields.slice(0, MOST_CHOICES);
+    this.columnsPlace.replaceChildren(...fields.map((field, place) => {
       const heading = this.columns.headings?.[place] || `Column ${place + 1}`;
       const select = html("select", { change: (event) => {
         this.columns.fields[place] = event.target.value || null;
@@ -118,9 +123,19 @@ export class ImportView {
   }
 }
 
+/** As much of a text as the box shows: browsers are slow with many letters or lines in it. */
+function beginningOf(text) {
+  const shown = text.slice(0, MOST_SHOWN);
+  const lines = shown.split(/\r\n?|\n/, MOST_LINES + 1);
+  return lines.length > MOST_LINES ? lines.slice(0, MOST_LINES).join("\n") : shown;
+}
+
 /** The columns that are left out, in a sentence. */
 function unusedColumns({ fields, headings }) {
-  const unused = fields.flatMap((field, place) =>
-    field === null ? [shortened(headings?.[place] || `column ${place + 1}`)] : []);
-  return unused.length > 0 ? ` Not used: ${unused.join(", ")}.` : "";
+  const unused = fields.flatMap((field, place) => field === null ? [place] : []);
+  const names = unused.slice(0, MOST_UNUSED)
+    .map((place) => shortened(headings?.[place] || `column ${place + 1}`));
+  const more = unused.length - names.length;
+  return names.length === 0 ? ""
+    : ` Not used: ${names.join(", ")}${more > 0 ? ` and ${more} more` : ""}.`;
 }

@@ -1,7 +1,8 @@
 // The plan as a list: a line for each job by its name, or for each machine its work in order.
 
 import { latenessWords } from "./chart.js";
-import { endText, lengthText, momentText } from "./calendar.js";
+import { endText, isDated, lengthText, momentText } from "./calendar.js";
+import { drawNow, later } from "./later.js";
 import { machineName } from "./machines.js";
 import { release } from "./memory.js";
 import { Pager } from "./pager.js";
@@ -10,6 +11,8 @@ import { html, setChildren } from "./svg.js";
 
 const MOST_PRINTED = 3000;
 const MOST_TICKED = 60;
+// Above the list of more jobs stands so much that it may be drawn later.
+const MOST_AT_ONCE = 200;
 const alphabet = new Intl.Collator(undefined, { numeric: true });
 
 export class ListView {
@@ -29,11 +32,17 @@ export class ListView {
     this.ticked = document.getElementById("ticked");
     this.actions = actions;
     this.plan = null;
+    this.isOld = false;
     this.lines = new Map();
     for (const input of [this.sort, this.lateOnly, this.tick]) {
       input.addEventListener("change", () => this.arrange());
     }
     window.addEventListener("resize", () => this.fit());
+    // Until the list of a new plan is drawn, its lines are those of another one.
+    for (const kind of ["click", "keydown"]) {
+      this.table.addEventListener(kind, (event) =>
+        this.isOld && event.key !== "Tab" && stop(event), true);
+    }
     window.addEventListener("beforeprint", () => {
       this.draw(true);
       this.drawWorkLists();
@@ -51,7 +60,9 @@ export class ListView {
   show(plan, comparison) {
     this.plan = plan;
     this.comparison = comparison;
-    this.arrange();
+    this.isOld = true;
+    later(this, () => this.arrange());
+    if (plan.jobs.length <= MOST_AT_ONCE) drawNow(this);
   }
 
   /** Whether a line is a piece of work on a machine, and not a job. */
@@ -66,6 +77,7 @@ export class ListView {
   /** Sorts the jobs, or the pieces of work, as is chosen. */
   arrange() {
     const { plan } = this;
+    this.isOld = false;
     if (!plan) return;
     const late = (job) => lateness(plan, job) ?? -Infinity;
     const by = {
@@ -76,12 +88,13 @@ export class ListView {
       row: () => 0,
     }[this.sort.value];
     if (this.order) release({ order: this.order });
-    const isShown = (item) => !this.lateOnly.checked || late(this.jobOf(item)) > 0;
-    const all = this.isByMachine ? plan.order.slice()
-      : Uint32Array.from(plan.jobs, (_, job) => job);
-    this.order = all.filter(isShown);
-    release({ all });
-    if (!this.isByMachine) this.order.sort((a, b) => by(a, b) || a - b);
+    const all = this.isByMachine ? plan.order.slice() : jobsByMachine(plan);
+    this.order = all;
+    if (this.lateOnly.checked) {
+      this.order = all.filter((item) => late(this.jobOf(item)) > 0);
+      release({ all });
+    }
+    if (!this.isByMachine) sortUnlessSorted(this.order, (a, b) => by(a, b) || a - b);
     if (this.wasByMachine !== this.isByMachine) this.lines = new Map();
     this.wasByMachine = this.isByMachine;
     this.draw();
@@ -89,6 +102,7 @@ export class ListView {
 
   draw(isPrint = false) {
     if (!this.plan) return;
+    drawNow(this);
     const columns = this.isByMachine ? this.pieceColumns() : this.jobColumns();
     if (isPrint && !this.hasWorkLists) columns.push({ head: "Done", wordsOf: () => "" });
     if (!isPrint && this.tick.checked) {
@@ -122,8 +136,10 @@ export class ListView {
 
   /** In the list by machine, dates and lengths of time stand in one line where there is room. */
   fit() {
-    const { table } = this;
+    const { table, plan } = this;
     const frame = table.parentElement;
+    table.classList.toggle("dated", isDated(plan?.calendar));
+    table.classList.toggle("routed", plan !== null && !this.isByMachine && hasSteps(plan));
     table.classList.toggle("unbroken", this.isByMachine);
     if (this.isByMachine && frame.scrollWidth > frame.clientWidth) {
       table.classList.remove("unbroken");
@@ -286,6 +302,41 @@ export class ListView {
     if (by === undefined) return "as before";
     if (by === 0) return "same completion";
     return `${lengthText(this.plan.calendar, Math.abs(by))} ${by > 0 ? "later" : "earlier"}`;
+  }
+}
+
+function stop(event) {
+  event.preventDefault();
+  event.stopPropagation();
+}
+
+/** Whether the jobs have routes, and so several machines each. */
+function hasSteps({ jobs }) {
+  return Boolean(jobs[0]?.steps);
+}
+
+/** The jobs in the order in which the machines, one after another, begin them. */
+function jobsByMachine({ jobs, order, schedule }) {
+  const isSeen = new Uint8Array(jobs.length);
+  const found = new Uint32Array(jobs.length);
+  let count = 0;
+  const take = (job) => {
+    if (!(job >= 0 && job < jobs.length) || isSeen[job]) return;
+    isSeen[job] = 1;
+    found[count++] = job;
+  };
+  for (let k = 0; k < order.length; k++) take(schedule.job[order[k]] - 1);
+  for (let job = 0; job < jobs.length; job++) take(job);
+  return found;
+}
+
+/** Sorts an array of numbers, of which many are sorted already. */
+function sortUnlessSorted(items, compare) {
+  for (let k = 1; k < items.length; k++) {
+    if (compare(items[k - 1], items[k]) > 0) {
+      items.sort(compare);
+      return;
+    }
   }
 }
 

@@ -8,6 +8,7 @@ import { Files } from "./files.js";
 import { ImportView } from "./import_view.js";
 import { JudgeView } from "./judge_view.js";
 import { Keeping } from "./keeping.js";
+import { planBegins, planEnds } from "./later.js";
 import { Longer } from "./longer.js";
 import { machineNames } from "./machines.js";
 import { hasShown, release } from "./memory.js";
@@ -28,7 +29,8 @@ import { emptyState, isSameWork } from "./state.js";
 import { Store } from "./store.js";
 import { html } from "./svg.js";
 import { gapChange, valueText } from "./values.js";
-import { FIELDS, RowReader, isEmptyRow, makeTable, newRow } from "./table.js";
+import { warmUp } from "./warming.js";
+import { FIELDS, RowReader, isEmptyRow, makeTable, newRow, noteSameNames } from "./table.js";
 
 const REST = 150;
 const PATIENCE = 400;
@@ -40,6 +42,9 @@ class Page {
   constructor() {
     this.store = new Store(emptyState(navigator.language));
     this.version = 0;
+    const text = (id) => document.getElementById(id).textContent;
+    this.solving = new Solving(text("worker-source"), text("module-bytes"),
+      (loaded) => this.moduleLoaded(loaded));
     this.now = null;
     this.shown = null;
     this.best = null;
@@ -106,6 +111,7 @@ class Page {
     document.addEventListener("click", (event) => {
       if (!at("save-menu").contains(event.target)) at("save-menu").open = false;
     });
+    window.addEventListener("beforeprint", () => this.showPrintHead());
     window.addEventListener("beforeunload", (event) => {
       if (this.store.hasUnsavedWork && !this.keeping.keep()) event.preventDefault();
     });
@@ -123,11 +129,8 @@ class Page {
     else this.store.redo();
   }
 
-  /** Loads the module, and opens the link's plan or an empty table. */
+  /** Opens the link's plan or an empty table. */
   async start() {
-    const text = (id) => document.getElementById(id).textContent;
-    this.solving = new Solving(text("worker-source"), text("module-bytes"),
-      (loaded) => this.moduleLoaded(loaded));
     for (const view of [this.problemView, this.calendarView, this.rowsView]) view.draw();
     this.openKept();
     if (!(await this.files.openLink())) this.update();
@@ -144,6 +147,7 @@ class Page {
 
   moduleLoaded({ loaded, makesPlans, message }) {
     if (loaded) {
+      if (!this.now) warmUp();
       this.problemView.setMakesPlans(makesPlans);
       return;
     }
@@ -183,7 +187,7 @@ class Page {
     const areRouted = hasRoutes(readNotation(state.problem)) && isOther("machineNames");
     if (areRouted || isOther("rows", "problem", "machines", "settings")) {
       this.version++;
-      this.planView.setBusy(true);
+      this.setBusy(true);
       this.judgeView.clear();
       clearTimeout(this.timer);
       if (isTyped) this.timer = setTimeout(() => this.update(), REST);
@@ -191,7 +195,6 @@ class Page {
         version === this.version && this.update());
     } else if (isOther("own")) this.showing = this.showOwn();
     else if (isOther("kept", "machineNames")) this.showPlan();
-    this.showPrintHead();
   }
 
   /** Makes the job table of the state, and asks the solver for a plan. */
@@ -212,17 +215,25 @@ class Page {
     }, machineNames(state.machineNames));
     if (!table || version !== this.version) return undefined;
     const machines = readMachines(state, problem);
+    const isWhole = table.jobs.length > 0 && table.faults.length === 0 && !machines.fault;
+    // The solver is asked first, and works while the page shows the table.
+    const solved = isWhole && this.solve(version, { table, calendar, problem: state.problem,
+      request: { problem: state.problem, machines: machines.count, format: { kind: "table" },
+        instance: table.bytes } });
+    noteSameNames(table);
     this.showTable(table, machines);
-    if (table.jobs.length === 0 && table.done.length === 0) return this.wait(WELCOME, true);
-    if (table.jobs.length === 0) {
+    return isWhole ? solved : this.lacks(table);
+  }
+
+  /** Says why there is no plan of a table that can't be solved. */
+  lacks({ jobs, done, faults }) {
+    if (jobs.length === 0 && done.length === 0) return this.wait(WELCOME, true);
+    if (jobs.length === 0) {
       this.planView.clear();
       return this.wait("All jobs are done.");
     }
-    if (table.faults.length > 0) return this.wait("Some rows have to be corrected first.");
-    if (machines.fault) return this.wait("The number of machines has to be corrected first.");
-    return this.solve(version, { table, calendar, problem: state.problem, request: {
-      problem: state.problem, machines: machines.count, format: { kind: "table" },
-      instance: table.bytes } });
+    return this.wait(`${faults.length > 0 ? "Some rows have" : "The number of machines has"} to be `
+      + "corrected first.");
   }
 
   /** Forgets the request of before, and gives the memory of its job table back. */
@@ -244,7 +255,7 @@ class Page {
     if (isEmpty) this.planView.clear();
     this.showBeginning(isEmpty);
     this.shown = null;
-    this.planView.setBusy(false);
+    this.setBusy(false);
     this.planView.showMessage(this.cannotRun ?? message);
   }
 
@@ -372,10 +383,18 @@ class Page {
     this.planView.show(this.shown, this.best, this.store.state.kept);
     this.promiseView.show(this.best.plan);
     this.reliefView.show(this.best.plan);
-    this.showPrintHead();
-    this.planView.setBusy(false);
+    this.setBusy(false);
     performance.mark("plan shown");
     hasShown(plan.jobs.length);
+  }
+
+  /** Says whether a plan is being made, until all is drawn. */
+  setBusy(isBusy) {
+    const { version } = this;
+    if (isBusy) {
+      planBegins();
+      this.planView.setBusy(true);
+    } else planEnds(() => version === this.version && this.planView.setBusy(false));
   }
 
   // ---- refusals ----
@@ -413,7 +432,7 @@ class Page {
     const known = readNotation(problem);
     this.shown = null;
     this.planView.clear();
-    this.planView.setBusy(false);
+    this.setBusy(false);
     this.planView.showMessage(`${problem}: no exact method is here, so there is no plan.`,
       html("p", { class: "value" }, html("span", { class: "proved" }, "proved lower bound"),
         "Every schedule has at least the value ",

@@ -19,6 +19,7 @@ const LONGEST_PREFIX = 100;
 export function makePlan(table, schedule, evaluation, calendar, names) {
   const count = table.jobs.length;
   const { start, completion } = evaluation ?? timesOf(schedule, count);
+  const { length, work } = extentOf(schedule);
   const order = sortedPieces(schedule);
   const pieces = new Uint32Array(count);
   const machine = new Uint32Array(count);
@@ -35,11 +36,10 @@ export function makePlan(table, schedule, evaluation, calendar, names) {
     colour: colourJobs(schedule, order, count),
     start, completion, counts: evaluation?.counts ?? null,
     usesRelease: /\|.*\br_?j\b.*\|/.test(schedule.problem),
-    hasIdle: schedule.stop.reduce((sum, stop, piece) => sum + stop - schedule.start[piece], 0)
-      < schedule.machines * schedule.stop.reduce((most, stop) => Math.max(most, stop), 0),
+    hasIdle: work < schedule.machines * length,
     isPreempted: !/^\s*[FOJ]/.test(schedule.problem) && pieces.some((each) => each > 1),
-    length: schedule.stop.reduce((most, stop) => Math.max(most, stop), 0),
-    value: schedule.value, problem: schedule.problem, bound: schedule.bound, isOptimal: true,
+    length, value: schedule.value, problem: schedule.problem, bound: schedule.bound,
+    isOptimal: true,
     gap: schedule.bound ? String(BigInt(schedule.value) - BigInt(schedule.bound.value)) : undefined,
   };
 }
@@ -68,6 +68,17 @@ function commonPrefix(jobs) {
     if (prefix === "") return "";
   }
   return prefix.replace(/[\p{L}\p{N}]*$/u, "");
+}
+
+/** How long a schedule takes, and how long all its pieces together. */
+function extentOf({ start, stop }) {
+  let length = 0;
+  let work = 0;
+  for (let piece = 0; piece < stop.length; piece++) {
+    length = Math.max(length, stop[piece]);
+    work += stop[piece] - start[piece];
+  }
+  return { length, work };
 }
 
 /** For each job the first start and the last stop of its pieces; 0 where it has none. */

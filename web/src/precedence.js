@@ -55,12 +55,23 @@ export class NameIndex {
    */
   constructor(jobs, before = null) {
     this.jobs = jobs;
-    this.byName = before?.isOfNames(jobs) ? before.byName : placesByName(jobs);
+    this.before = before;
+    this.places = null;
     this.suggested = 0;
   }
 
+  /** For each name its place, or the places of all the jobs that have it; made when it is needed. */
+  get byName() {
+    if (this.places === null) {
+      const { before } = this;
+      this.places = before?.isOfNames(this.jobs) ? before.places : placesByName(this.jobs);
+      this.before = null;
+    }
+    return this.places;
+  }
+
   isOfNames(jobs) {
-    return jobs.length === this.jobs.length
+    return this.places !== null && jobs.length === this.jobs.length
       && jobs.every((job, place) => job.name === this.jobs[place].name);
   }
 
@@ -69,7 +80,7 @@ export class NameIndex {
   }
 
   /** The places of the jobs of this name. */
-  places(name) {
+  placesOf(name) {
     const found = this.byName.get(name);
     return found === undefined ? [] : [found].flat();
   }
@@ -86,7 +97,7 @@ export class NameIndex {
       return place === undefined ? { fault: `There is no job in row ${shortened(numbered[1])}.` }
         : { place };
     }
-    const places = this.places(name);
+    const places = this.placesOf(name);
     if (places.length === 1) return { place: places[0] };
     if (places.length > 1) {
       const rows = places.slice(0, 4).map((place) => this.jobs[place].row + 1);
@@ -137,15 +148,15 @@ function adviceFor(name) {
     + (lag ? "; a waiting time between jobs can't be given." : ".");
 }
 
-/** For each name its place, or the places of all the jobs that have it. */
 function placesByName(jobs) {
   const byName = new Map();
-  jobs.forEach((job, place) => {
-    const known = byName.get(job.name);
-    if (known === undefined) byName.set(job.name, place);
-    else if (typeof known === "number") byName.set(job.name, [known, place]);
+  for (let place = 0; place < jobs.length; place++) {
+    const { name } = jobs[place];
+    const known = byName.get(name);
+    if (known === undefined) byName.set(name, place);
+    else if (typeof known === "number") byName.set(name, [known, place]);
     else known.push(place);
-  });
+  }
   return byName;
 }
 

@@ -146,7 +146,11 @@ function unusedWords(problem, table) {
 /** What the table has and the problem ignores: “weights (3)”. */
 export function unusedColumns(problem, table) {
   const used = problems.columnsUsed(problem);
-  const count = (has) => table.jobs.reduce((sum, job) => sum + (has(job) ? 1 : 0), 0);
+  const count = (has) => {
+    let found = 0;
+    for (const job of table.jobs) if (has(job)) found++;
+    return found;
+  };
   return Object.entries({
     time: ["times", (job) => job.hasTime], route: ["routes", (job) => job.hasRoute],
     time2: ["times on machine 2", (job) => job.hasTime2],

@@ -1,6 +1,7 @@
 // The planner's table: rows of inputs, and under each row what is wrong with it.
 
 import { assumedOf } from "./calendar.js";
+import { drawNow, later } from "./later.js";
 import { machineNames } from "./machines.js";
 import { Pager, PAGE } from "./pager.js";
 import { html } from "./svg.js";
@@ -11,6 +12,8 @@ const HINTS = { name: "", time: "3", time2: "2", route: "3@1, 4@2", left: "", we
   due: "", release: "", cost: "0,5:10", after: "names" };
 const COLUMNS = Object.keys(FIELD_WORDS);
 const MOST_LISTED = 5;
+// The rows that are seen before the table is scrolled are no more than these.
+const MOST_AT_ONCE = 30;
 // The letters of a date without a time of day, as 2026-12-03.
 const DATE_LETTERS = 10;
 
@@ -26,7 +29,7 @@ export class RowsView {
     this.body = this.table.tBodies[0];
     this.notes = document.getElementById("row-notes");
     this.allColumns = document.getElementById("all-columns");
-    this.pager = new Pager(document.getElementById("jobs-pager"), "Jobs", () => this.draw());
+    this.pager = new Pager(document.getElementById("jobs-pager"), "Jobs", () => this.drawAll());
     this.used = new Set(FIELDS);
     this.wanted = new Set();
     this.findings = { faults: [], notes: [] };
@@ -36,7 +39,12 @@ export class RowsView {
     for (const kind of ["focusin", "input", "focusout", "pointerover"]) {
       this.body.addEventListener(kind, ({ target, type }) => showWhole(target, type));
     }
-    this.allColumns.addEventListener("change", () => this.draw());
+    this.allColumns.addEventListener("change", () => this.drawAll());
+    this.isScrolled = false;
+    this.table.parentElement.addEventListener("scroll", ({ target }) => {
+      this.isScrolled = target.scrollTop > 0;
+      drawNow(this);
+    });
   }
 
   /** Shows these columns as used by the problem. */
@@ -61,7 +69,15 @@ export class RowsView {
     this.draw();
   }
 
-  /** Draws the page of rows anew; the cursor stays in its field. */
+  drawAll() {
+    this.draw();
+    drawNow(this);
+  }
+
+  /**
+   * Draws the page of rows anew; the cursor stays in its field. Rows that are not seen at first may
+   * come a little later.
+   */
   draw() {
     const focused = this.body.contains(document.activeElement) ? document.activeElement : null;
     const [place, field] = [focused?.closest("tr")?.dataset.place, focused?.dataset.field];
@@ -69,17 +85,24 @@ export class RowsView {
     this.shown = this.columns();
     this.pager.show(rows.length);
     this.drawHead();
-    const lines = [];
-    for (let place = this.pager.first; place < this.pager.end; place++) {
-      lines.push(this.line(rows[place], place));
-    }
-    if (this.pager.end === rows.length) lines.push(this.line(newRow(), rows.length));
-    this.body.replaceChildren(...lines);
+    const { first, end } = this.pager;
+    const last = end === rows.length ? end : end - 1;
+    const seen = this.isScrolled ? last : Math.min(first + MOST_AT_ONCE, last);
+    this.body.replaceChildren(...this.lines(first, seen),
+      this.line(rows[last] ?? newRow(), last));
+    later(this, seen < last && (() => this.body.lastChild.before(...this.lines(seen, last))));
     this.drawFindings();
     if (field) this.inputAt(place, field)?.focus();
   }
 
+  /** The lines of the rows from one place up to another. */
+  lines(from, to) {
+    const { rows } = this.store.state;
+    return Array.from({ length: to - from }, (_, k) => this.line(rows[from + k], from + k));
+  }
+
   inputAt(place, field) {
+    drawNow(this);
     return this.body.querySelector(`tr[data-place="${place}"] input[data-field="${field}"]`);
   }
 
@@ -132,6 +155,7 @@ export class RowsView {
   }
 
   edit(input) {
+    drawNow(this);
     const line = input.closest("tr");
     const place = Number(line.dataset.place);
     const rows = [...this.store.state.rows];
@@ -157,6 +181,7 @@ export class RowsView {
 
   remove(place) {
     this.store.change({ rows: this.store.state.rows.filter((_, each) => each !== place) });
+    drawNow(this);
     const next = this.body.querySelector(`tr[data-place="${place}"] input`);
     (next ?? this.body.querySelector("tr:last-child input"))?.focus();
   }
@@ -204,6 +229,7 @@ export class RowsView {
     const { faults, notes } = this.findings;
     const seen = [...faults.map((each) => ({ ...each, isFault: true })), ...notes]
       .filter((each) => each.row >= this.pager.first && each.row < this.pager.end);
+    if (seen.length > 0) drawNow(this);
     seen.forEach((finding, number) => this.drawFinding(finding, `found-${number}`));
     this.notes.replaceChildren(...this.summary());
   }
@@ -253,11 +279,17 @@ function addedTo(calendar, field, text) {
   return field === "route" ? unitOfRoute(calendar, text) : assumedOf(calendar, field, text);
 }
 
-/** Makes a field that cuts its text off wider while it has the focus, and tells it to the mouse. */
+/**
+ * Makes a field that cuts its text off as wide as is seen of the table while it has the focus, and
+ * tells it to the mouse.
+ */
 function showWhole(field, when) {
   if (!field.dataset.field) return;
   const isCut = field.scrollWidth > field.clientWidth;
   if (when === "pointerover") field.title = isCut ? field.value : "";
   else if (when === "focusout") field.classList.remove("grown");
-  else if (isCut) field.classList.add("grown");
+  else if (isCut) {
+    field.style.left = `${field.closest(".scroll").scrollLeft}px`;
+    field.classList.add("grown");
+  }
 }

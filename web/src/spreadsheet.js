@@ -65,9 +65,26 @@ export function readCells(text) {
   const clean = text.replace(/^\uFEFF/, "");
   if (isBarred(clean)) return { cells: barredCells(clean), delimiter: "|" };
   const delimiter = findDelimiter(clean);
-  const rows = clean.includes('"') ? quotedCells(clean, delimiter)
-    : clean.split(/\r\n?|\n/).map((line) => line.split(delimiter).map((cell) => cell.trim()));
-  return { cells: rows.filter((each) => each.some((cell) => cell !== "")), delimiter };
+  const cells = clean.includes('"')
+    ? quotedCells(clean, delimiter).filter((row) => row.some((cell) => cell !== ""))
+    : plainCells(clean, delimiter);
+  return { cells, delimiter };
+}
+
+/** The cells of a text without quotes. */
+function plainCells(text, delimiter) {
+  const rows = [];
+  for (const line of text.split(/\r(?!\n)/.test(text) ? /\r\n?|\n/ : "\n")) {
+    const cells = line.split(delimiter);
+    let isEmpty = true;
+    for (let place = 0; place < cells.length; place++) {
+      const cell = cells[place].trim();
+      cells[place] = cell;
+      if (cell !== "") isEmpty = false;
+    }
+    if (!isEmpty) rows.push(cells);
+  }
+  return rows;
 }
 
 /** The cells of a text of which some may stand in quotes. */

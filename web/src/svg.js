@@ -14,13 +14,22 @@ export function html(tag, attributes = {}, ...children) {
 }
 
 function filled(element, attributes, children) {
-  for (const [name, value] of Object.entries(attributes)) {
+  for (const name in attributes) {
+    const value = attributes[name];
     if (value === false || value === null || value === undefined) continue;
     if (typeof value === "function") element.addEventListener(name, value);
     else element.setAttribute(name, value === true ? "" : value);
   }
-  element.append(...children.flat().filter((child) => child !== null && child !== undefined));
+  appendAll(element, children);
   return element;
+}
+
+/** Appends children, some of them perhaps in lists; null and undefined are none. */
+function appendAll(element, children) {
+  for (const child of children) {
+    if (Array.isArray(child)) appendAll(element, child);
+    else if (child !== null && child !== undefined) element.append(child);
+  }
 }
 
 /** Gives an element these children; those that are in their place already are not touched. */
@@ -38,11 +47,16 @@ export function setChildren(element, children) {
 }
 
 let canvas = null;
+let style = "";
 
 /** The width of a text in pixels, in the chart's font; of a long one, that of its beginning. */
 export function textWidth(text, size, isBold = false) {
   canvas ??= document.createElement("canvas").getContext("2d");
-  canvas.font = `${isBold ? "bold " : ""}${size}px system-ui, "DejaVu Sans", sans-serif`;
+  const wanted = isBold ? `bold ${size}` : String(size);
+  if (wanted !== style) {
+    style = wanted;
+    canvas.font = `${wanted}px system-ui, "DejaVu Sans", sans-serif`;
+  }
   return canvas.measureText(text.slice(0, LONGEST_MEASURED)).width;
 }
 

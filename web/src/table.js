@@ -27,7 +27,6 @@ const ROUTE_WORDS = "Write its steps in their order, each as its time, @ and its
   + "3@1, 4@2 or 3@Sawing, 4@Painting.";
 const NO_ROUTE = `This job has no route. ${ROUTE_WORDS}`;
 const AT_ONCE = 20;
-const LINES_AT_ONCE = 500;
 const MOST_TEXTS = 50000;
 // The letters of a line of the job table beside a job's fields are no more than this.
 const MOST_BESIDE = 16;
@@ -58,7 +57,7 @@ export function isEmptyRow(row) {
  * What one row comes to, the precedence constraints left out.
  * @typedef {object} Job
  * @property {number} row the place of its row, from 0 @property {number} number from 1
- * @property {number} id the identity of its row
+ * @property {object} of its row @property {number} id the identity of its row
  * @property {string} name the name, or "Job 3" where the row has none
  * @property {string} fields the fields of its line, such as "p=3 d=9"
  * @property {number} time in time steps; of a shop on all machines together
@@ -85,27 +84,28 @@ export class RowReader {
     this.calendar = calendar;
     this.used = used;
     this.goesOn = goesOn;
-    this.known = new WeakMap();
-    this.texts = isDated(calendar) ? new Map() : null;
+    this.known = new Map();
+    this.texts = isDated(calendar) ? {} : null;
     this.index = null;
   }
 
   /** What a text of a field says; where reading takes long, remembered, since many are alike. */
   textOf(field, text, reader, more) {
     if (!this.texts) return reader(this.calendar, text, ...more);
-    const key = `${field} ${text}`;
-    let known = this.texts.get(key);
+    const texts = this.texts[field] ??= new Map();
+    let known = texts.get(text);
     if (!known) {
-      if (this.texts.size > MOST_TEXTS) this.texts.clear();
+      if (texts.size > MOST_TEXTS) texts.clear();
       known = reader(this.calendar, text, ...more);
-      this.texts.set(key, known);
+      texts.set(text, known);
     }
     return known;
   }
 
-  /** The jobs of a table by their names. */
+  /** The jobs of a table by their names, as the names of the table before. */
   indexOf(jobs) {
-    this.index = new NameIndex(jobs, this.index);
+    const known = this.index?.places === null ? this.index.before : this.index;
+    this.index = new NameIndex(jobs, known);
     return this.index;
   }
 
@@ -117,13 +117,21 @@ export class RowReader {
    * @returns {?Job}
    */
   read(row, place, number) {
-    let known = this.known.get(row);
-    if (known === undefined) {
-      known = isEmptyRow(row) ? null : readRow(row, place, number, this);
-    } else if (known === null || known.row === place && known.number === number) return known;
-    else known = { ...known, row: place, number, name: nameOf(row, number) };
-    this.known.set(row, known);
-    return known;
+    const known = this.known.get(row.id);
+    const isSame = known !== undefined && known.of === row;
+    if (isSame && known.row === place && known.number === number) return known;
+    if (!isSame && isEmptyRow(row)) return null;
+    const job = isSame ? { ...known, row: place, number, name: nameOf(row, number) }
+      : readRow(row, place, number, this);
+    this.known.set(row.id, job);
+    return job;
+  }
+
+  /** Forgets rows that are gone, once they are more than those of now. */
+  forget(rows) {
+    if (this.known.size <= 2 * rows.length + FEW_ROWS) return;
+    const known = rows.map(({ id }) => this.known.get(id)).filter((job) => job !== undefined);
+    this.known = new Map(known.map((job) => [job.id, job]));
   }
 }
 
@@ -165,8 +173,8 @@ function readRow(row, place, number, rowReader) {
     : [takeTime("time", "time2"), ...(isShop ? [takeTime("time2", "time")] : [])];
   const left = takeLeft(calendar, row.left.trim(), whole, add);
   if (left?.every((each) => each === 0)) {
-    return { row: place, number, id: row.id, name: nameOf(row, number), isDone: true, faults: NONE,
-      notes: NONE };
+    return { row: place, number, of: row, id: row.id, name: nameOf(row, number), isDone: true,
+      faults: NONE, notes: NONE };
   }
   const times = left ?? whole;
   const due = take("due", readMoment, true);
@@ -178,7 +186,7 @@ function readRow(row, place, number, rowReader) {
   const field = (letter, value) => value === null ? "" : ` ${letter}=${value}`;
   const fields = `${isRouted ? "" : `p=${times.join()}`}${field("w", weight)}${field("d", due)}`
     + field("r", start) + field("h", cost);
-  return { row: place, number, id: row.id, name: nameOf(row, number), fields,
+  return { row: place, number, of: row, id: row.id, name: nameOf(row, number), fields,
     time: times.reduce((sum, each) => sum + each, 0), due, release: start ?? 0,
     hasRelease: release !== null, weight, hasCost: cost !== null, hasTime2, assumed, steps,
     hasRoute: row.route.trim() !== "", hasTime: row.time.trim() !== "",
@@ -255,7 +263,8 @@ function costAfter(text, start) {
 }
 
 /**
- * Makes the job table of rows; empty rows are left out.
+ * Makes the job table of rows; empty rows are left out. `noteSameNames` adds notes to it, which the
+ * solver has no need of.
  * @param {object[]} rows
  * @param {RowReader} reader
  * @param {() => Promise<boolean>} pause lets the page breathe; false means to give up
@@ -283,10 +292,11 @@ export async function makeTable(rows, reader, pause, names = []) {
     for (const each of job.notes) findings.notes.push({ row: place, ...each });
     read.push(job);
   }
+  reader.forget(rows);
   const routed = reader.used.has("route") ? routedJobs(read, names, findings) : null;
   const jobs = routed?.jobs ?? read;
   const index = reader.indexOf(jobs);
-  noteSameNames(index, findings);
+  const noted = findings.notes.length;
   const found = reader.used.has("after") ? findings.faults : findings.notes;
   const arcs = readArcs(rows, jobs, done, index, found);
   const isFirst = goOn(jobs, arcs, reader, findings);
@@ -295,7 +305,7 @@ export async function makeTable(rows, reader, pause, names = []) {
     + "column it is, or type the times into the column “Time”.");
   gatherMissing(jobs, findings, NO_ROUTE, `No job has a route. ${ROUTE_WORDS}`);
   const fillers = fillersOf(jobs, reader.used, findings);
-  return { jobs, done, isFirst, index, arcs, fillers, bytes: bytesOf(jobs, arcs, fillers),
+  return { jobs, done, isFirst, index, noted, arcs, fillers, bytes: bytesOf(jobs, arcs, fillers),
     machines: routed?.machines ?? null, names: routed?.names ?? null, ...findings };
 }
 
@@ -360,42 +370,37 @@ function fillersOf(jobs, used, findings) {
   };
 }
 
-/** The bytes of a job table, some lines at a time, so that a long one takes little memory. */
+/** The bytes of a job table, which has letters of ASCII alone. */
 function bytesOf(jobs, arcs, fillers) {
   const heading = "table 1\n";
   const due = fillers.due === null ? "" : ` d=${fillers.due}`;
   const weight = fillers.weight === null ? "" : ` w=${fillers.weight}`;
   const most = jobs.reduce((sum, job) => sum + job.fields.length + MOST_BESIDE,
     heading.length + arcs.length * 2 * MOST_BESIDE + jobs.length * (due.length + weight.length));
-  const lineOf = (job, place) => `job ${place + 1} ${job.fields}`
-    + `${job.weight === null ? weight : ""}${job.due === null ? due : ""}\n`;
   const bytes = new Uint8Array(most);
-  const encoder = new TextEncoder();
   let end = 0;
   const write = (words) => {
-    end += encoder.encodeInto(words, bytes.subarray(end)).written;
-  };
-  const writeAll = (items, lineOf) => {
-    for (let from = 0; from < items.length; from += LINES_AT_ONCE) {
-      const some = items.slice(from, from + LINES_AT_ONCE);
-      write(some.map((item, k) => lineOf(item, from + k)).join(""));
-    }
+    for (let k = 0; k < words.length; k++) bytes[end++] = words.charCodeAt(k);
   };
   write(heading);
-  writeAll(jobs, lineOf);
-  writeAll(arcs, ([from, to]) => `prec ${from + 1} ${to + 1}\n`);
+  jobs.forEach((job, place) => write(`job ${place + 1} ${job.fields}`
+    + `${job.weight === null ? weight : ""}${job.due === null ? due : ""}\n`));
+  for (const [from, to] of arcs) write(`prec ${from + 1} ${to + 1}\n`);
   return bytes.subarray(0, end);
 }
 
-function noteSameNames(index, findings) {
+/** Notes at a table which jobs can't be told apart by their names. */
+export function noteSameNames({ index, notes, noted }) {
+  const found = [];
   for (const [name, places] of index.byName) {
     if (typeof places === "number") continue;
     const rows = places.map((place) => index.jobs[place].row + 1);
     const message = `${rows.length} jobs are called “${shortened(name)}” (rows `
       + `${rows.slice(0, 5).join(", ")}${rows.length > 5 ? ", .." : ""}): the plan can't tell them `
       + "apart by name.";
-    findings.notes.push({ row: rows[1] - 1, field: "name", message });
+    found.push({ row: rows[1] - 1, field: "name", message });
   }
+  notes.splice(noted, 0, ...found);
 }
 
 /**

@@ -17,10 +17,11 @@ const unpackedBytes = (() => {
 
   // The bytes of letters, and as many zeros after them as are asked for.
   function bytesOf(text, from) {
-    const number = at => text.charCodeAt(at) - (text.charCodeAt(at) > 60 ? 36 : 35);
-    const bytes = new Uint8Array(Math.floor((text.length - from) / 2 * 13 / 8));
-    for (let at = from, place = 0, bits = 0, held = 0; at < text.length; at += 2) {
-      bits |= number(at) + 91 * number(at + 1) << held;
+    const letters = new TextEncoder().encode(text);
+    const bytes = new Uint8Array(Math.floor((letters.length - from) / 2 * 13 / 8));
+    for (let at = from, place = 0, bits = 0, held = 0; at < letters.length; at += 2) {
+      const low = letters[at], high = letters[at + 1];
+      bits |= low - (low > 60 ? 36 : 35) + 91 * (high - (high > 60 ? 36 : 35)) << held;
       for (held += 13; held >= 8; held -= 8) {
         bytes[place++] = bits;
         bits >>>= 8;
@@ -45,7 +46,7 @@ const unpackedBytes = (() => {
       next();
     };
     const bit = place => {
-      const chance = likely[place], bound = (now[0] >>> 11) * chance;
+      const chance = likely[place], bound = Math.imul(now[0] >>> 11, chance) >>> 0;
       const found = now[1] < bound ? 0 : 1;
       if (found) {
         now[0] -= bound;
@@ -121,6 +122,11 @@ const unpackedBytes = (() => {
     const decoder = decoderOf(bytesOf(text, space + 1)), { bit } = decoder;
     const back = [0, 0, 0, 0];
     let state = 0;
+    // Puts a distance in front of those that came before, in place of one of them.
+    const front = (place, distance) => {
+      for (let k = place; k > 0; k--) back[k] = back[k - 1];
+      back[0] = distance;
+    };
     // How many bytes stand as so many before.
     const repeated = () => {
       if (!bit(IS_REP0 + state)) {
@@ -130,7 +136,7 @@ const unpackedBytes = (() => {
         }
       } else {
         const k = !bit(IS_REP1 + state) ? 1 : !bit(IS_REP2 + state) ? 2 : 3;
-        back.unshift(...back.splice(k, 1));
+        front(k, back[k]);
       }
       state = state < 7 ? 8 : 11;
       return lengthOf(decoder, REP_LENGTH);
@@ -138,8 +144,7 @@ const unpackedBytes = (() => {
     const matched = () => {
       const length = lengthOf(decoder, LENGTH);
       state = state < 7 ? 7 : 10;
-      back.pop();
-      back.unshift(distanceOf(decoder, length));
+      front(3, distanceOf(decoder, length));
       return length;
     };
     for (let at = 0; at < out.length;) {

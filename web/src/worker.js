@@ -5,9 +5,9 @@ import { judge, plain, plan, promise, relief, search } from "./runs.js";
 import { loadSolver } from "./solver.js";
 import { unpackedBytes } from "./unpacking.js";
 
-// Some plans of this many jobs, so soon after the start, let the browser compile well what large
-// tables need.
-const WARMING = { jobs: 2000, plans: 3, milliseconds: 300 };
+// A plan of a few jobs lets the browser compile what plans need; some of many jobs, so soon after
+// the start, let it compile well what large tables need.
+const WARMING = { few: 3, many: 2000, plans: 3, milliseconds: 300 };
 
 let solver = null;
 
@@ -16,14 +16,16 @@ function unpack(text) {
   return text instanceof WebAssembly.Module ? text : unpackedBytes(text);
 }
 
-/** Makes the plans that no one asked for. */
-function warm() {
-  const lines = Array.from({ length: WARMING.jobs }, (_, place) =>
+/** Makes a plan of so many jobs that no one asked for. */
+function warm(jobs) {
+  const lines = Array.from({ length: jobs }, (_, place) =>
     `job ${place + 1} p=${place % 97 + 1} d=${place * 61 % 90000}\n`);
   const instance = new TextEncoder().encode(`table 1\n${lines.join("")}`);
-  for (let k = 0; k < WARMING.plans; k++) {
-    plan(solver, { problem: "1||Lmax", machines: null, instance });
-  }
+  plan(solver, { problem: "1||Lmax", machines: null, instance });
+}
+
+function warmWell() {
+  for (let k = 0; k < WARMING.plans; k++) warm(WARMING.many);
 }
 
 const KINDS = {
@@ -35,7 +37,8 @@ onmessage = async ({ data }) => {
     try {
       solver = await loadSolver(unpack(data.module));
       postMessage({ loaded: true, module: solver.module, makesPlans: solver.can("plan") });
-      setTimeout(warm, WARMING.milliseconds);
+      setTimeout(warm, 0, WARMING.few);
+      setTimeout(warmWell, WARMING.milliseconds);
     } catch (error) {
       postMessage({ loaded: false, message: String(error) });
     }
