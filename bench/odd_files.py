@@ -47,16 +47,21 @@ def cases():
         "its text beside the instance.")
     yield "an answer of 64 MiB", TABLE, over(ANSWER + "end\n", MOST_BYTES), CHECK, 2, (
         "refused: answer TooLong", "The answer is longer than 67108864 bytes, the most that a text may have.")
+    yield "standard input beside a long file of its name", TABLE, ANSWER + "piece 1 1 0\ncert last 1 2\nend\n", [*CHECK[:-1], "-"], 2, (
+        "refused: answer BadLine 6", 'A piece is "piece JOB MACHINE START STOP", four whole numbers, before the line "cert".')
     yield "an argument that is no text", TABLE, "", ["solve", "-p", "\udcff", "jobs.txt"], 5, ("threefield: an argument is no text",)
 
 
 def said(program, table, answer, words):
-    """The status of a command, and what it prints on standard error."""
+    """The status of a command, and what it prints on standard error; where `-` is named, the answer comes by standard input."""
     with tempfile.TemporaryDirectory() as folder:
         for name, text in ("jobs.txt", table), ("answer.txt", answer):
             with open(os.path.join(folder, name), "wb") as file:
                 file.write(text if isinstance(text, bytes) else text.encode())
-        done = subprocess.run([program, *words], cwd=folder, capture_output=True)
+        with open(os.path.join(folder, "-"), "wb") as file:
+            file.truncate(MOST_BYTES)
+        given = answer.encode() if "-" in words else b""
+        done = subprocess.run([program, *words], cwd=folder, input=given, capture_output=True)
     return done.returncode, done.stderr.decode()
 
 

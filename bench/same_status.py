@@ -182,17 +182,22 @@ def compare_narrow(program, folder, table, answer):
 
 
 def compare_early(program):
-    """A command line of too many words that asks for JSON, with a little less space than it takes to understand it."""
-    words = [program, "solve", "--json", *["word"] * 100]
-    least = least_space(words, 5)
-    said = []
-    for space in range(least - 32 * PAGE, least, PAGE):
-        before = limited(resource.RLIMIT_AS, space)
-        done = subprocess.run(words, stdin=subprocess.DEVNULL, capture_output=True, preexec_fn=before, timeout=60)
-        is_right = done.returncode == 3 and not done.stdout and done.stderr in (MEMORY_LINE, MEMORY_OBJECT)
-        said.append(done.stderr)
-        yield None if is_right or done.returncode == 5 else f"early want of memory, {space} bytes of space: {done}"
-    yield None if MEMORY_OBJECT in said else "early want of memory is never an object"
+    """Command lines of too many words, one of which asks for JSON, with a little less space than it takes to understand them."""
+    for asked in ["--json"], []:
+        words = [program, "solve", *asked, *["word"] * 100]
+        least, usual, said = least_space(words, 5), outcome(words), []
+        for space in range(least - 32 * PAGE, least, PAGE):
+            found = outcome(words, limited(resource.RLIMIT_AS, space))
+            said.append(found[2])
+            is_right = found[:2] == OUT_OF_MEMORY and found[2] in (MEMORY_LINE, MEMORY_OBJECT if asked else MEMORY_LINE)
+            yield None if is_right or found == usual else f"early want of memory, {space} bytes of space: {found}"
+        yield None if (MEMORY_OBJECT in said) == bool(asked) else f"early want of memory is wrongly told with {asked}"
+
+
+def outcome(words, before=None):
+    """The status of a command, and what it prints on both outputs."""
+    done = subprocess.run(words, stdin=subprocess.DEVNULL, capture_output=True, preexec_fn=before, timeout=60)
+    return done.returncode, done.stdout, done.stderr
 
 
 def main(program):
