@@ -85,7 +85,7 @@ module _ (p room : ℕ → ℕ) (on : ℕ → Bool) where
 -- ---- jobs on time
 
 -- whether the job completes by its due date
-abbrev on_time : ProblemData → Timetable → ℕ → Bool
+abbrev pub on_time : ProblemData → Timetable → ℕ → Bool
 on_time k rows j = not (int_lt (problem_job k j).due (pos (completion rows j)))
 
 by-due : (c : ℕ) (d : ℤ) → not (int_lt d (pos c)) ≡ true → c ≤ as_time d
@@ -146,7 +146,7 @@ module _ (k : ProblemData) (sound : IsProblemSound k) (alike : IsTrue (is_alike 
   done j = cond (on j) (problem_time k j) 0
 
   -- along a list that rises by due date there is room for the jobs that are on time
-  timely : (seen jobs : List ℕ) (t w : ℕ) → ((c : ℕ) → count_by (λ j. c == j) seen + count_by (λ j. c == j) jobs ≤ 1)
+  pub timely : (seen jobs : List ℕ) (t w : ℕ) → ((c : ℕ) → count_by (λ j. c == j) seen + count_by (λ j. c == j) jobs ≤ 1)
       → All (IsProblemJob k) seen → All (IsProblemJob k) jobs
       → All (λ j. r ≤ problem_release k j) seen → All (λ j. r ≤ problem_release k j) jobs
       → All (λ j. due_time k j ≤ t) seen → IsRisingBy (due_time k) t jobs

@@ -33,12 +33,12 @@ as_one t = cond t 1 0
 
 -- ---- the jobs that are marked, and the others
 
-chosen : List Bool → List ℕ → List ℕ
+unfoldable pub chosen : List Bool → List ℕ → List ℕ
 chosen [] jobs = []
 chosen (b ∷ marks) [] = []
 chosen (b ∷ marks) (j ∷ jobs) = cond b (j ∷ chosen marks jobs) (chosen marks jobs)
 
-others : List Bool → List ℕ → List ℕ
+unfoldable pub others : List Bool → List ℕ → List ℕ
 others [] jobs = []
 others (b ∷ marks) [] = []
 others (b ∷ marks) (j ∷ jobs) = cond b (others marks jobs) (j ∷ others marks jobs)
@@ -56,7 +56,7 @@ chosen-all P (false ∷ marks) (j ∷ jobs) all =
     (rest.0, All-cons P j (others marks jobs) (All-head P j jobs all) rest.1)
 
 module _ (p room : ℕ → ℕ) where
-  chosen-sum : (f : ℕ → ℕ) (w : ℕ) (marks : List Bool) (jobs : List ℕ) → AreTimely p room w marks jobs
+  pub chosen-sum : (f : ℕ → ℕ) (w : ℕ) (marks : List Bool) (jobs : List ℕ) → AreTimely p room w marks jobs
       → sum_by f (chosen marks jobs) + sum_by f (others marks jobs) ≡ sum_by f jobs
   unfolding chosen others AreTimely
   chosen-sum f w [] [] timely = refl
@@ -157,7 +157,7 @@ sum-ones : {A : Type 0} (f : A → ℕ) (xs : List A) → ((x : A) → f x ≤ 1
 sum-ones f [] small = omega arith
 sum-ones f (x ∷ xs) small = omega (arith, sum_by-cons f x xs, small x, sum-ones f xs small)
 
-sum-none : (f : ℕ → ℕ) (xs : List ℕ) → All (λ x. f x ≡ 0) xs → sum_by f xs ≡ 0
+pub sum-none : (f : ℕ → ℕ) (xs : List ℕ) → All (λ x. f x ≡ 0) xs → sum_by f xs ≡ 0
 sum-none f [] all = refl
 sum-none f (x ∷ xs) all =
     omega (
@@ -220,6 +220,65 @@ module _ (k : ProblemData) (sound : IsProblemSound k) (single : IsTrue (is_singl
     without_wait = λ e. absurd (true≢false (sym e ∙ waits));
   }
 
+-- a timetable of all jobs in which the jobs that are marked are on time
+pub record Played (k : ProblemData) (marks : List Bool) (jobs : List ℕ) : Type 0 where
+  pub rows : Timetable
+  pub fits : FitsProblem k rows
+  pub early : All (λ j. unit_penalty k j (completion rows j) ≡ 0) (chosen marks jobs)
+
+pub played : (k : ProblemData) → IsProblemSound k → IsTrue (is_single_env k.problem.env)
+    → IsFalse k.problem.release → IsFalse k.problem.prec
+    → IsFalse k.problem.prmu → IsFalse k.problem.nwt → (jobs : List ℕ)
+    → IsPermutation (problem_jobs k) jobs → (w : ℕ) → w ≡ 0 → (marks : List Bool)
+    → AreTimely (problem_time k) (room_by_due k jobs) w marks jobs → Played k marks jobs
+played k sound single unreleased unordered free waits jobs moved w nothing marks timely =
+    let n : ℕ = length k.jobs in
+    let p : ℕ → ℕ = problem_time k in
+    let room : ℕ → ℕ = room_by_due k jobs in
+    let r : ℕ = least_number (problem_release k) jobs in
+    let alike : IsTrue (is_alike k.problem.env) =
+    or_left (is_single_env k.problem.env) (is_parallel_env k.problem.env) single in
+    let known : All (IsProblemJob k) jobs =
+    All-permutation (IsProblemJob k) (problem_jobs k) jobs moved
+    (All-problem_jobs k (IsProblemJob k) (λ j h. h)) in
+    let distinct : IsDistinct jobs =
+    λ c. omega (
+      arith,
+      once 1 n c,
+      sum_by-IsPermutation (λ j. cond (c == j) 1 0) (problem_jobs k) jobs moved,
+    ) in
+    let first : List ℕ = chosen marks jobs in
+    let last : List ℕ = others marks jobs in
+    let order : List ℕ = first ++ last in
+    let counts : (f : ℕ → ℕ) → sum_by f order ≡ sum_by f jobs =
+    λ f. sum_by-append f first last ∙ chosen-sum p room f w marks jobs timely in
+    let own : (j : ℕ) → IsProblemJob k j → count_by (λ c. j == c) order ≡ 1 =
+    λ j h. counts (λ c. cond (j == c) 1 0)
+    ∙ sum_by-IsPermutation (λ c. cond (j == c) 1 0) (problem_jobs k) jobs moved ∙ once-own k j h in
+    let apart : IsDistinct order =
+    λ c. omega (arith, distinct c, counts (λ j. cond (c == j) 1 0)) in
+    let parts = chosen-all (IsProblemJob k) marks jobs known in
+    let rows : Timetable = in_turn p order in
+    let c : ℕ → ℕ = completion rows in
+    let u : ℕ → ℕ = λ j. unit_penalty k j (c j) in
+    let over : All (λ j. (0 + c j ≤ room j) × (1 ≤ room j)) first =
+    over-in_turn p room 0 first last
+    (chosen-over p room w 0 marks jobs nothing timely)
+    (All-weaker (IsProblemJob k) (λ j. 1 ≤ p j)
+    (λ j h. (sound.one_time (alike_no_shop k alike) j h).1) first parts.0)
+    apart in
+    let within : (j : ℕ) → room j ≤ due_time k j =
+    λ j. omega (arith, ap (λ m. m * (due_time k j - r)) (sound.single single)) in
+    record {
+      rows = rows;
+      fits = fits-in_turn k sound single unreleased unordered free waits order own apart
+          (All-append (IsProblemJob k) first last parts.0 parts.1);
+      early = All-weaker (λ j. (0 + c j ≤ room j) × (1 ≤ room j)) (λ j. u j ≡ 0)
+          (λ j h. in-time (c j) (problem_job k j).due (omega (arith, h.1, within j))
+          (omega (arith, h.0, within j)))
+          first over;
+    }
+
 pub kept-best : (k : ProblemData) → IsProblemSound k → IsTrue (is_single_env k.problem.env)
     → k.problem.goal ≡ goals.SumU → IsFalse k.problem.release → IsFalse k.problem.prec
     → IsFalse k.problem.prmu → IsFalse k.problem.nwt → (jobs : List ℕ)
@@ -248,42 +307,20 @@ kept-best k sound single goal unreleased unordered free waits jobs moved rising 
     let nothing : at.stay ≡ [] = Part-none at.part in
     let first : List ℕ = chosen at.marks jobs in
     let last : List ℕ = others at.marks jobs in
-    let order : List ℕ = first ++ last in
-    let counts : (f : ℕ → ℕ) → sum_by f order ≡ sum_by f jobs =
-    λ f. sum_by-append f first last ∙ chosen-sum p room f (sum at.stay) at.marks jobs at.timely in
-    let own : (j : ℕ) → IsProblemJob k j → count_by (λ c. j == c) order ≡ 1 =
-    λ j h. counts (λ c. cond (j == c) 1 0)
-    ∙ sum_by-IsPermutation (λ c. cond (j == c) 1 0) (problem_jobs k) jobs moved ∙ once-own k j h in
-    let apart : IsDistinct order =
-    λ c. omega (arith, distinct c, counts (λ j. cond (c == j) 1 0)) in
-    let parts = chosen-all (IsProblemJob k) at.marks jobs known in
-    let rows : Timetable = in_turn p order in
-    let fits : FitsProblem k rows =
-    fits-in_turn k sound single unreleased unordered free waits order own apart
-    (All-append (IsProblemJob k) first last parts.0 parts.1) in
+    let it : Played k at.marks jobs =
+    played k sound single unreleased unordered free waits jobs moved (sum at.stay) (ap sum nothing)
+    at.marks at.timely in
+    let rows : Timetable = it.rows in
     let c : ℕ → ℕ = completion rows in
     let u : ℕ → ℕ = λ j. unit_penalty k j (c j) in
-    let over : All (λ j. (0 + c j ≤ room j) × (1 ≤ room j)) first =
-    over-in_turn p room 0 first last
-    (chosen-over p room (sum at.stay) 0 at.marks jobs (ap sum nothing) at.timely)
-    (All-weaker (IsProblemJob k) (λ j. 1 ≤ p j)
-    (λ j h. (sound.one_time (alike_no_shop k alike) j h).1) first parts.0)
-    apart in
-    let within : (j : ℕ) → room j ≤ due_time k j =
-    λ j. omega (arith, ap (λ m. m * (due_time k j - r)) (sound.single single)) in
-    let none : sum_by u first ≡ 0 =
-    sum-none u first
-    (All-weaker (λ j. (0 + c j ≤ room j) × (1 ≤ room j)) (λ j. u j ≡ 0)
-    (λ j h. in-time (c j) (problem_job k j).due (omega (arith, h.1, within j)) (omega (arith, h.0, within j)))
-    first over) in
+    let none : sum_by u first ≡ 0 = sum-none u first it.early in
     let some : sum_by u last ≤ length last = sum-ones u last (λ j. at_most (int_lt (problem_job k j).due (pos (c j)))) in
     let all : sum_by u (problem_jobs k) ≤ kept_value k jobs =
     omega (
       arith,
       none,
       some,
-      counts u,
-      sum_by-append u first last,
+      chosen-sum p room u (sum at.stay) at.marks jobs at.timely,
       sum_by-IsPermutation u (problem_jobs k) jobs moved,
       others-length p room (sum at.stay) at.marks jobs at.timely,
       at.many,
@@ -293,10 +330,10 @@ kept-best k sound single goal unreleased unordered free waits jobs moved rising 
     kept-bound k sound alike goal jobs distinct known rising in
     let cost : problem_cost k rows ≡ pos (sum_by u (problem_jobs k)) =
     ap (λ g. problem_cost_by g k rows) goal in
-    let bound : pos (kept_value k jobs) ≤ℤ problem_cost k rows = least rows fits in (
+    let bound : pos (kept_value k jobs) ≤ℤ problem_cost k rows = least rows it.fits in (
       rows,
       record {
-        fits = fits;
+        fits = it.fits;
         value = equal (problem_cost k rows) (sum_by u (problem_jobs k)) (kept_value k jobs) cost all bound;
         least = least;
       },

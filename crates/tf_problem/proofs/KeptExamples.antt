@@ -13,7 +13,7 @@ use Rattle.tf_problem.specs.ProblemData.{ProblemData, ProblemJobData, IsProblemS
 use Rattle.tf_problem.specs.ProblemCost.{IsProblemBest}
 use Rattle.tf_problem.proofs.Relaxing.{All-problem_jobs}
 use Rattle.tf_problem.proofs.FitsTest.{fits-passed}
-use Rattle.tf_problem.specs.Kept.{kept, kept_value}
+use Rattle.tf_problem.specs.Kept.{kept, kept_value, kept_weight}
 use Rattle.tf_problem.specs.Ranks.{rank_value, IsFalling}
 use Rattle.tf_problem.specs.Shortest.{shortest_value}
 use Rattle.tf_problem.proofs.Kept.{kept-bound}
@@ -96,6 +96,24 @@ hopeless_kept = refl
 
 hopeless_value : kept_value hopeless (1 ∷ 2 ∷ []) ≡ 1
 hopeless_value = refl
+
+-- ---- `1||sumwU`
+
+abbrev weighed : ℕ → ProblemData
+weighed w = record {
+  problem = plain_problem Single goals.SumWU;
+  machines = 1;
+  jobs = record (job 2 0 (pos 3)) { weight = 2 } ∷ record (job 3 0 (pos 4)) { weight = w }
+      ∷ record (job 2 0 (pos 5)) { weight = 2 } ∷ record (job 1 0 (pos 5)) { weight = 2 } ∷ [];
+  arcs = [];
+}
+
+-- jobs 1, 3 and 4 have room together, and job 2 with one of them
+weighed_value : kept_weight (weighed 3) (1 ∷ 2 ∷ 3 ∷ 4 ∷ []) ≡ 3
+weighed_value = refl
+
+heavier_value : kept_weight (weighed 5) (1 ∷ 2 ∷ 3 ∷ 4 ∷ []) ≡ 4
+heavier_value = refl
 
 -- ---- `P2|prmp|sumC`
 

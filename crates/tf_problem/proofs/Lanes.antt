@@ -1,5 +1,5 @@
 -- One and two machines of a timetable.
-use Rattle.std.proofs.Common.{◌≡◌, Bool, true, false, ℕ, zero, suc, ◌+◌, ◌≤◌, [], ◌∷◌, ◌==◌, length, slice_index, cond, refl, ap, ⊎_elim, arith, All}
+use Rattle.std.proofs.Common.{◌≡◌, Bool, true, false, ℕ, zero, suc, ◌+◌, ◌≤◌, [], ◌∷◌, ◌==◌, length, slice_index, slice_index_or, cond, refl, ap, ⊎_elim, arith, All}
 use Rattle.std.proofs.lemmas.Bool.{eq-eqb, ne_eqb, cases_eq}
 use Rattle.std.proofs.lemmas.List.Sums.{sum_by-cons}
 use Rattle.std.proofs.lemmas.List.Elements.{All-cons, All-nil, All-head, All-tail}
@@ -177,3 +177,16 @@ lane_once a j (row ∷ rows) =
       one_at_most (slice_index row a == j),
     ))
     (lane_once a j rows)
+
+-- where machine a has a job, the lane has it in one cell
+pub lane_has : (a : ℕ) (rows : Timetable) (t j : ℕ) → 1 ≤ j → cell rows t a ≡ j
+    → 1 ≤ cells_of j (slice_index_or (lane a rows) t [])
+unfolding lane
+lane_has a [] t j h e = absurd (omega (arith, h, e))
+lane_has a (row ∷ rows) zero j h e =
+    omega (
+      arith,
+      sum_by-cons (λ x. cond (x == j) 1 0) (slice_index row a) [],
+      ap as_one (eq-eqb (slice_index row a) j e),
+    )
+lane_has a (row ∷ rows) (suc t) j h e = lane_has a rows t j h e

@@ -15,6 +15,7 @@ pub mod Thinned
 pub mod Horizon
 pub mod Prices
 pub mod RowPrices
+pub mod MachinePrices
 pub mod FitsTest
 pub mod ProblemExamples
 pub mod HorizonExamples
@@ -40,6 +41,11 @@ pub mod Shortest
 pub mod ShortestBest
 pub mod Ranks
 pub mod RankBest
+pub mod KeptWeight
+pub mod KeptWeightBest
 pub mod KeptExamples
 pub mod Parts
+pub mod Split
 pub mod PartsExamples
+pub mod NoWait
+pub mod Potentials

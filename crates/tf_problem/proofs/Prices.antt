@@ -65,7 +65,7 @@ room m jobs distinct (x ∷ prices) (row ∷ rows) width =
     )
 
 -- a job that stands in n rows from row s on pays for them
-pays : (j n s : ℕ) (prices : List ℕ) (rows : Timetable)
+pub pays : (j n s : ℕ) (prices : List ℕ) (rows : Timetable)
     → ((t : ℕ) → s ≤ t → t < s + n → 1 ≤ cells_of j (slice_index_or rows t []))
     → price_of_rows prices s n ≤ paid prices rows j
 pays j zero s prices rows stands = omega arith

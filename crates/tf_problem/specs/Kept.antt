@@ -1,8 +1,9 @@
--- A lower bound of the number of late jobs (Moore 1968). The jobs of a list that rises by due date are
--- gone through; the times of those that are kept are held in a list that rises. Where their sum is more
--- than there is room for up to the job's due date, the longest is crossed out. As many jobs as are
--- crossed out are late in every timetable.
-use Rattle.std.specs.Prelude.{◌≡◌, ℕ, ◌-◌, ◌*◌, ◌≤◌, pos, nat_lt, sum, List, [], ◌∷◌, length, if◌then◌else◌, IsTrue, IsFalse}
+-- Lower bounds by the jobs of a list that rises by due date. Of the number of late jobs (Moore 1968): the
+-- times of those that are kept are held in a list that rises. Where their sum is more than there is room
+-- for up to the job's due date, the longest is crossed out. As many jobs as are crossed out are late in
+-- every timetable. Of the total weight of late jobs (Lawler and Moore 1969): the least weight of jobs
+-- whose loss leaves room for each of the others.
+use Rattle.std.specs.Prelude.{◌≡◌, ℕ, ◌+◌, ◌-◌, ◌*◌, ◌≤◌, pos, nat_lt, min, sum, List, [], ◌∷◌, length, if◌then◌else◌, IsTrue, IsFalse}
 use Rattle.std.specs.List.{All}
 use Rattle.std.specs.List.Sorted.{IsPermutation}
 use Rattle.tf_model.specs.declared.problem.Goal.TheVariants as goals
@@ -11,7 +12,7 @@ use Rattle.tf_model.specs.Distinct.{IsDistinct}
 use Rattle.tf_model.specs.Timetable.{Timetable}
 use Rattle.tf_model.specs.Whole.{as_time}
 use Rattle.tf_check.specs.Bound.{least_number}
-use Rattle.tf_problem.specs.ProblemData.{ProblemData, IsProblemSound, IsProblemJob, problem_jobs, problem_job, problem_time, problem_release}
+use Rattle.tf_problem.specs.ProblemData.{ProblemData, IsProblemSound, IsProblemJob, problem_jobs, problem_job, problem_time, problem_release, problem_weight}
 use Rattle.tf_problem.specs.ProblemCost.{IsLowerBound, IsProblemBest}
 use Rattle.tf_problem.specs.ProblemBounds.{is_alike}
 
@@ -56,6 +57,22 @@ kept k jobs = kept_by (problem_time k) (room_by_due k jobs) [] jobs
 abbrev pub kept_value : ProblemData → List ℕ → ℕ
 kept_value k jobs = length jobs - length (kept k jobs)
 
+-- The least of what remains with a job that is late and, where there is room up to its due date behind
+-- jobs that take t units, with it on time.
+abbrev pub least_choice : ℕ → ℕ → ℕ → ℕ → ℕ → ℕ → ℕ
+least_choice time weight room t late on =
+    if nat_lt room (t + time) then weight + late else min (weight + late) on
+
+-- the least weight of late jobs of a list, behind jobs on time that take t units
+abbrev pub least_late : (ℕ → ℕ) → (ℕ → ℕ) → (ℕ → ℕ) → List ℕ → ℕ → ℕ
+least_late p w room [] t = 0
+least_late p w room (j ∷ jobs) t =
+    least_choice (p j) (w j) (room j) t (least_late p w room jobs t) (least_late p w room jobs (t + p j))
+
+-- the least weight of late jobs
+abbrev pub kept_weight : ProblemData → List ℕ → ℕ
+kept_weight k jobs = least_late (problem_time k) (problem_weight k) (room_by_due k jobs) jobs 0
+
 -- one machine or identical machines in parallel, whatever the conditions: the number of late jobs
 abbrev pub KeptLaw : Type 0
 KeptLaw = (k : ProblemData) → IsProblemSound k → IsTrue (is_alike k.problem.env)
@@ -70,3 +87,17 @@ KeptBestLaw = (k : ProblemData) → IsProblemSound k → IsTrue (is_single_env k
     → IsFalse k.problem.prmu → IsFalse k.problem.nwt → (jobs : List ℕ)
     → IsPermutation (problem_jobs k) jobs → IsRisingBy (due_time k) 0 jobs
     → (rows : Timetable) × IsProblemBest k rows (pos (kept_value k jobs))
+
+-- The same for the weighted number of late jobs.
+abbrev pub KeptWeightLaw : Type 0
+KeptWeightLaw = (k : ProblemData) → IsProblemSound k → IsTrue (is_alike k.problem.env)
+    → k.problem.goal ≡ goals.SumWU → (jobs : List ℕ) → IsDistinct jobs → All (IsProblemJob k) jobs
+    → IsRisingBy (due_time k) 0 jobs → IsLowerBound k (pos (kept_weight k jobs))
+
+-- On one machine without release dates, precedence constraints and the like it is the least weight.
+abbrev pub KeptWeightBestLaw : Type 0
+KeptWeightBestLaw = (k : ProblemData) → IsProblemSound k → IsTrue (is_single_env k.problem.env)
+    → k.problem.goal ≡ goals.SumWU → IsFalse k.problem.release → IsFalse k.problem.prec
+    → IsFalse k.problem.prmu → IsFalse k.problem.nwt → (jobs : List ℕ)
+    → IsPermutation (problem_jobs k) jobs → IsRisingBy (due_time k) 0 jobs
+    → (rows : Timetable) × IsProblemBest k rows (pos (kept_weight k jobs))

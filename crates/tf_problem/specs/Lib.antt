@@ -10,4 +10,7 @@ pub mod Kept
 pub mod Shortest
 pub mod Ranks
 pub mod Parts
+pub mod MachinePrices
+pub mod Potentials
+pub mod Split
 pub mod ProblemLaws

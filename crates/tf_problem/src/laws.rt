@@ -6,9 +6,13 @@ ghost use Rattle.tf_problem.specs.ProblemLaws.{WindowLaw, CrowdLaw, OneJobLaw, M
 ghost use Rattle.tf_problem.specs.ProblemLaws.{MultiplierLaw, PricesLaw, CheapestLaw, AloneLaw};
 ghost use Rattle.tf_problem.specs.ProblemLaws.{RowPricesLaw};
 ghost use Rattle.tf_problem.specs.Kept.{KeptBestLaw, KeptLaw};
+ghost use Rattle.tf_problem.specs.Kept.{KeptWeightBestLaw, KeptWeightLaw};
 ghost use Rattle.tf_problem.specs.Shortest.{ShortestBestLaw, ShortestLaw};
 ghost use Rattle.tf_problem.specs.Ranks.{RankBestLaw, RankLaw};
 ghost use Rattle.tf_problem.specs.Parts.{PartsLaw};
+ghost use Rattle.tf_problem.specs.MachinePrices.{MachinePricesLaw};
+ghost use Rattle.tf_problem.specs.Potentials.{PotentialsLaw};
+ghost use Rattle.tf_problem.specs.Split.{SplitLaw};
 ghost use Rattle.tf_problem.specs.Agreement.{AgreementLaw, FlowAgreementLaw};
 
 /// A lower bound that a certificate gives of a relaxed task is one of the task.
@@ -68,6 +72,12 @@ pub fn row_prices_law()
     ensures { RowPricesLaw }
 {}
 
+/// A lower bound by prices of the rows on one machine of a shop, for any sum over jobs that are not
+/// preempted.
+pub fn machine_prices_law()
+    ensures { MachinePricesLaw }
+{}
+
 /// The starts among which a job's cheapest is found, for the prices.
 pub fn cheapest_law()
     ensures { (k : ProblemData) → CheapestLaw k }
@@ -86,6 +96,18 @@ pub fn kept_law()
 /// The minimum number of late jobs on one machine by the jobs that can be kept (Moore 1968).
 pub fn kept_best_law()
     ensures { KeptBestLaw }
+{}
+
+/// A lower bound of the weighted number of late jobs by the jobs that can be kept (Lawler and Moore
+/// 1969).
+pub fn kept_weight_law()
+    ensures { KeptWeightLaw }
+{}
+
+/// The minimum weighted number of late jobs on one machine by the jobs that can be kept (Lawler and
+/// Moore 1969).
+pub fn kept_weight_best_law()
+    ensures { KeptWeightBestLaw }
 {}
 
 /// A lower bound of the sum of completion times on one machine with release dates, by the shortest
@@ -116,6 +138,18 @@ pub fn rank_best_law()
 /// interval (energetic reasoning: Erschler, Lopez and Thuriot 1991).
 pub fn parts_law()
     ensures { PartsLaw }
+{}
+
+/// A lower bound of the makespan or the maximum lateness of a no-wait flow shop by potentials of an
+/// assignment of jobs to jobs (Wismer 1972, Kuhn 1955).
+pub fn potentials_law()
+    ensures { PotentialsLaw }
+{}
+
+/// A lower bound of the makespan or the maximum lateness of a permutation flow shop by two of its
+/// machines, with the lags between them (Mitten 1959; Lenstra, Rinnooy Kan and Lageweg 1977).
+pub fn split_law()
+    ensures { SplitLaw }
 {}
 
 /// On a problem of a class the task of the problem means what the class's task means.
