@@ -59,6 +59,8 @@ def certificate(rng, problem, jobs, arcs):
     few = str(rng.randint(0, 3))
     words = {"machine": [few, *some], "crowd": [few, *some], "job": [str(rng.randint(1, jobs + 1))], "alone": [],
              "multipliers": [few, str(rng.randint(0, 4)), *numbers], "prices": [few, *numbers, *numbers],
+             "prices_on": [few, str(rng.randint(0, 4)), *numbers, *numbers],
+             "pair": [few, str(rng.randint(1, 3)), rng.choice(("first", "second")), str(rng.randint(0, 9)), *some],
              "parts": [few, str(rng.randint(0, 12)), str(rng.randint(-4, 20)), *some]}.get(kind, some)
     more = "arcs " + " ".join(str(rng.randint(0, 2)) for _ in range(arcs)) + "\n" if arcs and rng.random() < 0.5 else ""
     return " ".join([kind, *words]) + "\n" + (more if kind == "multipliers" else "")

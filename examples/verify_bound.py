@@ -7,6 +7,7 @@ Prints what `threefield evaluate --bound` says behind `offered`: the certificate
 nothing (1); or in its own words why a text is refused (2). Numbers of more than 128 bits are no reason here.
 """
 import heapq
+import itertools
 import re
 import sys
 from fractions import Fraction
@@ -15,6 +16,7 @@ from types import SimpleNamespace as Record
 from verify import LIMIT, MOST_JOBS, MOST_MACHINES, Refused, Rejected, demand, lines_of, notation, number, reject, table
 
 MOST_VALUE = 2**63 - 1
+MOST_TABLE_TIME, MOST_ENTRIES = 10**7, 10**9
 
 def routes_of(text):
     """The route of each job: the machines in its order, counted from 1, and the time on each. Empty where `p=` has no `@`."""
@@ -139,18 +141,46 @@ def prices(task, q, *rows):
             total += min(q * penalty(task, j, s + task.p[j]) + sum(rows[s:s + task.p[j]]) for s in starts)
     return share(total, q)
 
+def prices_on(task, i, q, *rows):
+    q > 0 or reject("NoDenominator")
+    1 <= i <= task.machines or reject("BadMachine", i)
+    total = -within(sum(rows))
+    for j in task.jobs:
+        time, first, rest = task.times[j][i - 1], head(task, j, i - 1), tail(task, j, i - 1)
+        last, end = max(first, len(rows)), lambda s: max(s + time + rest, task.r[j] + task.p[j])
+        within(max(last + time + rest, q * penalty(task, j, end(last))))
+        total += min(q * penalty(task, j, end(s)) + sum(rows[s:s + time]) for s in range(first, last + 1))
+    return share(total, q)
+
 def alone(task):
     task = along_arcs(task, False)
     return min(sum(penalty(task, j, task.r[j] + task.p[j]) for j in task.jobs), MOST_VALUE)
 
 def kept(task, *jobs):
     first, times, total = min((task.r[j] for j in listed(task, jobs)), default=0), [], 0
-    for j in in_order(jobs, lambda j: max(task.d[j], 0)):
+    in_order(jobs, lambda j: max(task.d[j], 0))
+    room = {j: task.machines * max(max(task.d[j], 0) - first, 0) for j in jobs}
+    if task.goal == "sumwU":
+        return kept_weight(task, jobs, room)
+    for j in jobs:
         heapq.heappush(times, -task.p[j])
         total += task.p[j]
-        if total > task.machines * max(max(task.d[j], 0) - first, 0):
+        if total > room[j]:
             total += heapq.heappop(times)
     return len(jobs) - len(times)
+def kept_weight(task, jobs, room):
+    time = sum(task.p[j] for j in jobs)
+    within(sum(task.w[j] for j in jobs))
+    time <= MOST_TABLE_TIME and len(jobs) * time <= MOST_ENTRIES or reject("TooLarge")
+    states = [(0, 0)]  # the time of the jobs on time, which rises, and the weight of the late ones, which falls
+    for j in jobs:
+        late = [(time, weight + task.w[j]) for time, weight in states]
+        on_time = [(time + task.p[j], weight) for time, weight in states if time + task.p[j] <= room[j]]
+        states = []
+        for time, weight in sorted(late + on_time):
+            if not states or weight < states[-1][1]:
+                states.append((time, weight))
+    return states[-1][1]
 def shortest(task, *jobs):
     now, value, left = 0, 0, []
     for until, time in [(task.r[j], task.p[j]) for j in in_order(listed(task, jobs), task.r.get)] + [(LIMIT * MOST_JOBS, 0)]:
@@ -166,6 +196,18 @@ def ranks(task, *jobs):
     in_order(listed(task, jobs), lambda j: -task.p[j])
     return within(sum(-(-k // task.machines) * task.p[j] for k, j in enumerate(jobs, 1)))
 
+def pair(task, a, b, by_first, delta, *side):
+    1 <= b <= task.machines or reject("BadMachine", b)
+    a < b or reject("MachineOrder")
+    side, a, b, counted, reached = set(listed(task, side, -1)), a - 1, b - 1, 0, False
+    for j in task.jobs:
+        first, *lag, second = task.times[j][a:b + 1]
+        reaches = (j in side) != by_first and min(first, second) > 0 and delta <= (first if by_first else second) + sum(lag)
+        reaches or (first <= second if j in side else second <= first) or reject("Condition", j)
+        counted, reached = counted + (first if j in side else second), reached or reaches
+    reached or reject("BadDelta")
+    return min(head(task, j, a) for j in task.jobs) + counted + delta + min(tail(task, j, b) - task.d[j] for j in task.jobs)
+
 def parts(task, start, end, late, *jobs):
     room, left = max(end - start, 0), []
     for j in listed(task, jobs, -1):
@@ -175,20 +217,44 @@ def parts(task, start, end, late, *jobs):
     sum(left) > task.machines * room or reject("HasRoom")
     return late
 
+def potentials(task, *numbers):
+    len(numbers) == 2 * len(task.jobs) + 1 or reject("Numerators")
+    for j in task.jobs:
+        min(task.times[j]) > 0 or reject("Condition", j)
+    len(task.jobs) ** 2 * task.machines <= 10**9 or reject("TooLarge")
+    end, after, before = numbers[0], dict(zip(task.jobs, numbers[1::2])), dict(zip(task.jobs, numbers[2::2]))
+    left = {j: list(itertools.accumulate(task.times[j])) for j in task.jobs}
+    for j in task.jobs:
+        fits = before[j] <= task.r[j] and after[j] + end <= task.p[j] - task.d[j]
+        for i in task.jobs:
+            delay = max(leaves - comes for leaves, comes in zip(left[j], [0] + left[i]))
+            fits = fits and (i == j or after[j] + before[i] <= delay)
+        fits or reject("Condition", j)
+    return sum(numbers)
+
 MAXIMA, SUMS, TARDY, COMPLETIONS = "Cmax Lmax", "sumC sumwC sumT sumwT sumU sumwU", "sumC sumwC sumT sumwT", "sumC sumwC"
 # Of each kind its value, and for which environments and objectives it is; with `prmp` some are for fewer objectives.
 KINDS = {"machine": (machine, "1FOJ", MAXIMA), "window": (window, "1P", MAXIMA), "crowd": (crowd, "1P", MAXIMA, ""),
          "job": (one_job, "1PFOJ", MAXIMA), "multipliers": (multipliers, "1PFOJ", TARDY), "prices": (prices, "1P", SUMS, COMPLETIONS),
-         "alone": (alone, "1PFOJ", SUMS), "kept": (kept, "1P", "sumU"), "shortest": (shortest, "1", "sumC"), "ranks": (ranks, "1P", "sumC"),
-         "parts": (parts, "1P", MAXIMA)}
+         "alone": (alone, "1PFOJ", SUMS), "kept": (kept, "1P", "sumU sumwU"), "shortest": (shortest, "1", "sumC"), "ranks": (ranks, "1P", "sumC"),
+         "prices_on": (prices_on, "FOJ", SUMS, ""), "pair": (pair, "F", MAXIMA), "parts": (parts, "1P", MAXIMA),
+         "potentials": (potentials, "F", MAXIMA)}
+NEEDED = {"pair": "prmu", "potentials": "nwt"}  # the conditions that some kinds need
+
 def kinds_for(task):
     return [kind for kind, (_, environments, *goals) in KINDS.items()
-            if task.env in environments and task.goal in goals[-1 if "prmp" in task.conditions else 0].split()]
+            if task.env in environments and NEEDED.get(kind, "") in ["", *task.conditions]
+            and task.goal in goals[-1 if "prmp" in task.conditions else 0].split()]
 
 # How many numbers a kind has before its list, with the range of each, and what stands in the list.
 MACHINE, COUNT, ANY, JOB, VALUE = (1, MOST_MACHINES), (0, MOST_JOBS), (0, LIMIT), (1, MOST_JOBS), (-2**63, MOST_VALUE)
 FORMS = {"machine": ([MACHINE], JOB), "crowd": ([COUNT], JOB), "job": ([JOB], None), "multipliers": ([MACHINE, ANY], ANY),
-         "prices": ([ANY], ANY), "alone": ([], None), "parts": ([ANY, ANY, VALUE], JOB)}
+         "prices": ([ANY], ANY), "prices_on": ([MACHINE, ANY], ANY), "alone": ([], None), "pair": ([MACHINE, MACHINE, None, ANY], JOB),
+         "parts": ([ANY, ANY, VALUE], JOB), "potentials": ([], VALUE)}
+
+def which(word):
+    demand(word in (b"first", b"second"), "neither first nor second")
+    return word == b"first"
 
 def bound_of(text):
     lines = lines_of(text)
@@ -202,7 +268,7 @@ def bound_of(text):
     demand(kind in KINDS, "no such kind")
     ranges, rest = FORMS.get(kind, ([], JOB))
     demand(len(given) >= len(ranges) and (rest or len(given) == len(ranges)), "the words behind the kind")
-    numbers = [number(word, *bounds) for word, bounds in zip(given, ranges + [rest] * len(given))]
+    numbers = [number(word, *bounds) if bounds else which(word) for word, bounds in zip(given, ranges + [rest] * len(given))]
     demand(len(lines) == 7 or kind == "multipliers" and words[6][0] == b"arcs" and len(words[6]) > 1, "a line before the end")
     arcs = {"arcs": [number(word, *ANY) for word in words[6][1:]]} if len(lines) == 8 else {}
     return Record(problem=notation(problem), jobs=jobs, machines=machines, value=value, kind=kind, numbers=numbers, arcs=arcs)

@@ -8,7 +8,7 @@ use Rattle.tf_bound.specs.Certified.{IsBoundBy, IsFaultBy, IsValueOn}
 use Rattle.tf_bound.specs.Faulted.{certificate_fault}
 use Rattle.tf_bound.specs.declared.fault.BoundFault.{BoundFault}
 use Rattle.tf_bound.specs.declared.certificate.BoundCertificate.{BoundCertificate}
-use Rattle.tf_bound.specs.declared.certificate.BoundCertificate.TheVariants.{Machine, Window, Crowd, OneJob, Multipliers, Prices, Alone, Kept, Shortest, Ranks, Parts}
+use Rattle.tf_bound.specs.declared.certificate.BoundCertificate.TheVariants.{Machine, Window, Crowd, OneJob, Multipliers, Prices, MachinePrices, Alone, Kept, Shortest, Ranks, Parts, Split, Potentials}
 use Rattle.tf_search.specs.declared.strongest.Found.{Found}
 use Rattle.tf_search.specs.Strongest.{IsFound}
 use Rattle.tf_bound_text.specs.BoundSheetData.{Basis, BoundSheetData, basis_of, fault_by, IsValueBy}
@@ -24,11 +24,14 @@ value_on k (Crowd h0 jobs) b h = h
 value_on k (OneJob job) b h = h
 value_on k (Multipliers machine q numerators arcs) b h = h
 value_on k (Prices q rows) b h = h
+value_on k (MachinePrices machine q rows) b h = h
 value_on k Alone b h = h
 value_on k (Kept jobs) b h = h
 value_on k (Shortest jobs) b h = h
 value_on k (Ranks jobs) b h = h
+value_on k (Split first second delta by_first side) b h = h
 value_on k (Parts from until late jobs) b h = h
+value_on k (Potentials numbers) b h = h
 
 value_by : {A : Type 0} (k : ProblemData) (c : BoundCertificate A) (b : ℤ) → IsBoundBy k c b
     → IsJudgedValue k (basis_of c) b
@@ -43,11 +46,14 @@ on_value k (Crowd h0 jobs) b h = h
 on_value k (OneJob job) b h = h
 on_value k (Multipliers machine q numerators arcs) b h = h
 on_value k (Prices q rows) b h = h
+on_value k (MachinePrices machine q rows) b h = h
 on_value k Alone b h = h
 on_value k (Kept jobs) b h = h
 on_value k (Shortest jobs) b h = h
 on_value k (Ranks jobs) b h = h
+on_value k (Split first second delta by_first side) b h = h
 on_value k (Parts from until late jobs) b h = h
+on_value k (Potentials numbers) b h = h
 
 pub bound_by : {A : Type 0} (k : ProblemData) (c : BoundCertificate A) (b : ℤ)
     → IsJudgedValue k (basis_of c) b → IsBoundBy k c b
@@ -62,11 +68,14 @@ fault_is k (Crowd h0 jobs) = refl
 fault_is k (OneJob job) = refl
 fault_is k (Multipliers machine q numerators arcs) = refl
 fault_is k (Prices q rows) = refl
+fault_is k (MachinePrices machine q rows) = refl
 fault_is k Alone = refl
 fault_is k (Kept jobs) = refl
 fault_is k (Shortest jobs) = refl
 fault_is k (Ranks jobs) = refl
+fault_is k (Split first second delta by_first side) = refl
 fault_is k (Parts from until late jobs) = refl
+fault_is k (Potentials numbers) = refl
 
 -- and so on the task on which it is judged
 pub judged_fault : {A : Type 0} (k : ProblemData) (c : BoundCertificate A) (basis : Basis)

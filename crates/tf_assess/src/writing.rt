@@ -188,6 +188,8 @@ fn push_certificate_fault<A: Allocator>(
         BoundFault::TooFew => text.extend_from_slice(b"TooFew")?,
         BoundFault::Numerators => text.extend_from_slice(b"Numerators")?,
         BoundFault::Condition(job) => push_named(text, b"Condition", job)?,
+        BoundFault::MachineOrder => text.extend_from_slice(b"MachineOrder")?,
+        BoundFault::BadDelta => text.extend_from_slice(b"BadDelta")?,
         BoundFault::HasRoom => text.extend_from_slice(b"HasRoom")?,
         BoundFault::TooLarge => text.extend_from_slice(b"TooLarge")?,
         BoundFault::OutOfMemory => text.extend_from_slice(b"OutOfMemory")?,

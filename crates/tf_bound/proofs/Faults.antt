@@ -7,15 +7,15 @@ use Rattle.std.proofs.lemmas.List.{drop_all, drop_more, take_more}
 use Rattle.std.proofs.lemmas.List.Sums.{sum_by-cons}
 use Rattle.tf_model.specs.Bounds.{stands_in}
 use Rattle.tf_problem.specs.ProblemData.{ProblemData, IsProblemJob}
-use Rattle.tf_bound.specs.Faulted.{is_job, list_fault, other_kind, IsFaultOrNoMemory}
+use Rattle.tf_bound.specs.Faulted.{is_job, list_fault, IsFaultOrNoMemory}
 use Rattle.tf_bound.specs.declared.fault.BoundFault.{BoundFault}
-use Rattle.tf_bound.specs.declared.fault.BoundFault.TheVariants.{OtherKind, BadJob, Repeated}
+use Rattle.tf_bound.specs.declared.fault.BoundFault.TheVariants.{BadJob, Repeated}
 use Rattle.tf_bound.proofs.Marks.{AreMarks, as_one}
 
 -- ---- the list as it is judged
 
 -- a job stands in a list where it is counted there
-stands_if : (c : ℕ) (jobs : List ℕ) (b : Bool) → count_by (λ j. c == j) jobs ≡ as_one b
+pub stands_if : (c : ℕ) (jobs : List ℕ) (b : Bool) → count_by (λ j. c == j) jobs ≡ as_one b
     → stands_in jobs c ≡ b
 stands_if c [] true e = absurd (omega (arith, e))
 stands_if c [] false e = refl
@@ -119,9 +119,6 @@ pub neither : {F : Type 0} (o rest : Option F) → o ≡ None → rest ≡ None 
 neither o rest none h = after_first o rest none ∙ h
 
 -- ---- the conditions
-
-pub wrong_kind : (b : Bool) → b ≡ false → other_kind b ≡ Some OtherKind
-wrong_kind b e = ap other_kind e
 
 pub not_lt : (a b : ℕ) → b ≤ a → nat_lt a b ≡ false
 not_lt a b h = grind (arith, nat_tests)

@@ -1,4 +1,5 @@
 pub mod RowSums
+pub mod Visits
 pub mod Cheapest
 pub mod RowPrices
 pub mod Steps
@@ -7,6 +8,7 @@ pub mod RouteTime
 pub mod Sound
 pub mod Refused
 pub mod Marks
+pub mod Sides
 pub mod Routes
 pub mod StepsOf
 pub mod Weighed
@@ -21,3 +23,5 @@ pub mod ArcValues
 pub mod InOrder
 pub mod Remaining
 pub mod Orders
+pub mod LateTable
+pub mod NoWait

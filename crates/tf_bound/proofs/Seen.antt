@@ -1,7 +1,7 @@
 -- The marks of the machines that a route has.
 use Rattle.std.proofs.Common.{◌≡◌, ◌≢◌, Bool, true, false, ℕ, ◌+◌, ◌≤◌, ◌<◌, List, length, get_or, set, slice_index, sym, ap, ◌∙◌, subst, inl, inr, arith}
 use Rattle.std.proofs.lemmas.Bool.{cases_lt, cases_eq, false≢true}
-use Rattle.std.proofs.lemmas.List.{length-set, get_or-set_same, get_or-set_other, get_or_default}
+use Rattle.std.proofs.lemmas.List.{length-set, get_or-set_same, get_or-set_other}
 use Rattle.tf_bound.specs.Route.{IsRouted}
 
 -- the machines at the first places of a route are marked, they alone, and none twice
@@ -11,16 +11,6 @@ pub record AreSeen (times route : List ℕ) (i : ℕ) (seen : List Bool) : Type 
   pub apart : (x y : ℕ) → x < y → y < i → slice_index route x ≢ slice_index route y
   pub marked : (x : ℕ) → x < i → get_or seen (slice_index route x) false ≡ true
   pub only : (a : ℕ) → get_or seen a false ≡ true → (x : ℕ) × (x < i) × (slice_index route x ≡ a)
-
-pub seen_none : (times route : List ℕ) (seen : List Bool) → length seen ≡ length times
-    → ((a : ℕ) → get_or seen a false ≡ false) → AreSeen times route 0 seen
-seen_none times route seen len none = record {
-  len = len;
-  below = λ x lt. absurd (omega arith);
-  apart = λ x y lt lt'. absurd (omega arith);
-  marked = λ x lt. absurd (omega arith);
-  only = λ a is. absurd (false≢true (sym (none a) ∙ is));
-}
 
 pub seen_more : (times route : List ℕ) (i : ℕ) (seen : List Bool) → AreSeen times route i seen
     → slice_index route i < length times → get_or seen (slice_index route i) false ≡ false
@@ -61,34 +51,7 @@ seen_more times route i seen are low new = record {
       | inr other ↦ get_or-set_other seen (slice_index route i) a true false other ∙ is
     ]
 
-pub seen_routed : (times route : List ℕ) (seen : List Bool) → AreSeen times route (length route) seen
-    → ((a : ℕ) → a < length times → 0 < slice_index times a → get_or seen a false ≡ true)
-    → IsRouted (length times) times route
-seen_routed times route seen are each = record {
-  of_machines = λ p d h. subst (λ a. a < length times) (get_or_default route p 0 d h) (are.below p h);
-  no_twice = λ x y d lt h same. are.apart x y lt h
-      (get_or_default route x 0 d (omega (arith, lt, h)) ∙ same ∙ sym (get_or_default route y 0 d h));
-  has_all = λ a lt some.
-      let at = are.only a (each a lt some) in
-      (at.0, at.1, sym (get_or_default route at.0 0 a at.1) ∙ at.2);
-}
-
 -- a machine that is past the last, or marked, makes it no route
 pub not_below : (times route : List ℕ) (i : ℕ) → i < length route
     → length times ≤ slice_index route i → IsRouted (length times) times route → ⊥
 not_below times route i lt past is = omega (arith, past, is.of_machines i 0 lt)
-
-pub not_new : (times route : List ℕ) (i : ℕ) (seen : List Bool) → AreSeen times route i seen
-    → i < length route → get_or seen (slice_index route i) false ≡ true
-    → IsRouted (length times) times route → ⊥
-not_new times route i seen are lt old is =
-    let at = are.only (slice_index route i) old in
-    is.no_twice at.0 i 0 at.1 lt at.2
-
-pub each_seen : (times route : List ℕ) (seen : List Bool) → AreSeen times route (length route) seen
-    → IsRouted (length times) times route → (a : ℕ) → a < length times → 0 < slice_index times a
-    → get_or seen a false ≡ true
-each_seen times route seen are is a lt some =
-    let at = is.has_all a lt some in
-    subst (λ b. get_or seen b false ≡ true) (get_or_default route at.0 0 a at.1 ∙ at.2)
-    (are.marked at.0 at.1)

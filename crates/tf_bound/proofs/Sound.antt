@@ -74,13 +74,6 @@ env_is k sized = known_env k.problem.env
     (and_parts (is_covered_env k.problem.env && is_covered_goal k.problem.goal)
     (not (k.problem.block || k.problem.rcrc)) sized.covered).0).0
 
--- and so is the objective
-pub goal_is : (k : ProblemData) → IsSized k → IsTrue (is_covered_goal k.problem.goal)
-goal_is k sized =
-    (and_parts (is_covered_env k.problem.env) (is_covered_goal k.problem.goal)
-    (and_parts (is_covered_env k.problem.env && is_covered_goal k.problem.goal)
-    (not (k.problem.block || k.problem.rcrc)) sized.covered).0).1
-
 -- the numerators of all jobs are all numerators
 pub all_numerators : (k : ProblemData) (v : List ℕ) → length v ≡ length k.jobs
     → sum_by (numerator v) (problem_jobs k) ≡ sum v

@@ -14,11 +14,6 @@ use Rattle.tf_bound.specs.Steps.{steps_by, steps_of}
 use Rattle.tf_bound.proofs.Routes.{has_route}
 use Rattle.tf_bound.proofs.Sound.{sized_job}
 
-pub steps_in_job_shop : (e : Env) → is_job_shop e ≡ true → (x : ProblemJobData)
-    → steps_by e x ≡ x.route
-steps_in_job_shop JobShop h x = refl
-steps_in_job_shop _ h x = absurd (false≢true h)
-
 pub steps_elsewhere : (e : Env) → is_job_shop e ≡ false → (x : ProblemJobData)
     → steps_by e x ≡ range_with_len 0 (length x.times)
 steps_elsewhere JobShop h x = absurd (false≢true (sym h))

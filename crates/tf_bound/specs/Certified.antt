@@ -1,17 +1,22 @@
 -- What a certificate of each kind bounds a task by.
-use Rattle.std.specs.Prelude.{◌≡◌, ◌⊎◌, ℕ, ℤ, pos, min, Option, Some, None, Result, MatchResult}
+use Rattle.std.specs.Prelude.{◌≡◌, ◌⊎◌, ℕ, ℤ, pos, min, List, if◌then◌else◌, Option, Some, None, Result, MatchResult}
+use Rattle.tf_model.specs.Bounds.{stands_in}
 use Rattle.tf_problem.specs.ProblemData.{ProblemData}
 use Rattle.tf_problem.specs.ProblemBounds.{machine_value, window_value, crowd_value, one_job_value, any_multiplier_value, alone_cost}
-use Rattle.tf_problem.specs.Kept.{kept_value}
+use Rattle.tf_problem.specs.Kept.{kept_value, kept_weight}
+use Rattle.tf_problem.specs.MachinePrices.{machine_prices_value}
 use Rattle.tf_problem.specs.Shortest.{shortest_value}
 use Rattle.tf_problem.specs.Ranks.{rank_value}
+use Rattle.tf_problem.specs.Potentials.{potentials_value}
+use Rattle.tf_problem.specs.Split.{split_value}
 use Rattle.tf_bound.specs.Prices.{IsPricesBound}
 use Rattle.tf_bound.specs.Judged.{IsDatedTask, IsJudgedTask}
+use Rattle.tf_bound.specs.Kinds.{takes_kept_weight}
 use Rattle.tf_bound.specs.Faulted.{certificate_fault}
 use Rattle.tf_bound.specs.declared.fault.BoundFault.{BoundFault}
 use Rattle.tf_bound.specs.declared.fault.BoundFault.TheVariants.{OutOfMemory}
 use Rattle.tf_bound.specs.declared.certificate.BoundCertificate.{BoundCertificate}
-use Rattle.tf_bound.specs.declared.certificate.BoundCertificate.TheVariants.{Machine, Window, Crowd, OneJob, Multipliers, Prices, Alone, Kept, Shortest, Ranks, Parts}
+use Rattle.tf_bound.specs.declared.certificate.BoundCertificate.TheVariants.{Machine, Window, Crowd, OneJob, Multipliers, Prices, MachinePrices, Alone, Kept, Shortest, Ranks, Parts, Potentials, Split}
 
 -- the greatest value that the text of a bound can say
 abbrev pub most_value : ℕ
@@ -22,6 +27,10 @@ abbrev pub IsAloneBound : ProblemData → ℤ → Type 0
 IsAloneBound k b =
     (other : ProblemData) × IsDatedTask k other × (b ≡ pos (min (alone_cost other) most_value))
 
+-- how many jobs of a list by due date are late at least, or what they weigh where the objective has weights
+abbrev pub late_value : ProblemData → List ℕ → ℕ
+late_value k jobs = if takes_kept_weight k.problem then kept_weight k jobs else kept_value k jobs
+
 -- the number is the value of the certificate's kind, by its jobs or numbers
 abbrev pub IsValueOn : {A : Type 0} → ProblemData → BoundCertificate A → ℤ → Type 0
 IsValueOn k (Machine machine jobs) b = b ≡ machine_value k machine jobs.items
@@ -31,11 +40,15 @@ IsValueOn k (OneJob job) b = b ≡ one_job_value k job
 IsValueOn k (Multipliers machine q numerators arcs) b =
     b ≡ any_multiplier_value k machine numerators.items arcs.items q
 IsValueOn k (Prices q rows) b = IsPricesBound k q rows.items b
+IsValueOn k (MachinePrices machine q rows) b = b ≡ machine_prices_value k machine q rows.items
 IsValueOn k Alone b = IsAloneBound k b
-IsValueOn k (Kept jobs) b = b ≡ pos (kept_value k jobs.items)
+IsValueOn k (Kept jobs) b = b ≡ pos (late_value k jobs.items)
 IsValueOn k (Shortest jobs) b = b ≡ pos (shortest_value k jobs.items)
 IsValueOn k (Ranks jobs) b = b ≡ pos (rank_value k jobs.items)
+IsValueOn k (Split first second delta by_first side) b =
+    b ≡ split_value k first second (stands_in side.items) delta
 IsValueOn k (Parts from until late jobs) b = b ≡ late
+IsValueOn k (Potentials numbers) b = b ≡ potentials_value k numbers.items
 
 -- the number is that value on the task on which the certificate is judged
 abbrev pub IsBoundBy : {A : Type 0} → ProblemData → BoundCertificate A → ℤ → Type 0

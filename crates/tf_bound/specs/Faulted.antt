@@ -1,23 +1,26 @@
 -- The first fault of a certificate of each kind on a task. Each line of a fault is one condition, in
 -- order.
-use Rattle.std.specs.Prelude.{◌≡◌, ◌⊎◌, ℕ, ◌+◌, ◌-◌, ◌*◌, ◌^◌, map, max, ℤ, pos, negsuc, ◌-ℤ◌, ◌*ℤ◌, Bool, not, ◌&&◌, ◌||◌, ◌==◌, nat_lt, nat_le, List, [], ◌∷◌, ◌++◌, length, sum, Option, Some, None, Result, MatchResult, if◌then◌else◌}
+use Rattle.std.specs.Prelude.{◌≡◌, ◌⊎◌, ℕ, ◌+◌, ◌-◌, ◌*◌, ◌^◌, map, max, ℤ, pos, negsuc, ◌+ℤ◌, ◌-ℤ◌, ◌*ℤ◌, int_lt, Bool, not, ◌&&◌, ◌||◌, ◌==◌, nat_lt, nat_le, List, [], ◌∷◌, ◌++◌, length, sum, Option, Some, None, Result, MatchResult, if◌then◌else◌}
 use Rattle.std.specs.List.{find, list_any, range_with_len, sum_by}
 use Rattle.std.specs.Option.{option_map, option_or}
 use Rattle.tf_model.specs.Bounds.{pairs_value, stands_in}
 use Rattle.tf_model.specs.ClassTable.{is_parallel_env}
 use Rattle.tf_model.specs.Limit.{limit}
 use Rattle.tf_check.specs.Bound.{least_number}
-use Rattle.tf_problem.specs.ProblemData.{ProblemData, problem_jobs, problem_due, problem_release, problem_time, problem_time_on, problem_weight}
+use Rattle.tf_problem.specs.ProblemData.{ProblemData, problem_job, problem_jobs, problem_due, problem_release, problem_time, problem_time_on, problem_weight}
 use Rattle.tf_problem.specs.ProblemCost.{penalty}
-use Rattle.tf_problem.specs.ProblemBounds.{head, int_sum, numerator, tail, arcs_from, arcs_to, arcs_gain, moved, owed_dues}
+use Rattle.tf_problem.specs.ProblemBounds.{head, int_sum, numerator, problem_work, tail, arcs_from, arcs_to, arcs_gain, moved, owed_dues}
 use Rattle.tf_problem.specs.Relaxed.{weighed_task}
 use Rattle.tf_problem.specs.Kept.{due_time}
 use Rattle.tf_problem.specs.Shortest.{shortest_value}
 use Rattle.tf_problem.specs.Ranks.{rank_value}
+use Rattle.tf_problem.specs.Split.{keeps_side, reaches_delta}
 use Rattle.tf_problem.specs.Parts.{part_of}
-use Rattle.tf_bound.specs.Kinds.{takes_machine, takes_windows, takes_crowds, takes_one_job, takes_multipliers, takes_prices, takes_alone, takes_kept, takes_shortest, takes_ranks}
+use Rattle.tf_bound.specs.Kinds.{takes_machine, takes_windows, takes_crowds, takes_one_job, takes_multipliers, takes_prices, takes_alone, takes_kept, takes_kept_weight, takes_shortest, takes_ranks, takes_machine_prices, takes_potentials, takes_split}
+use Rattle.tf_problem.specs.MachinePrices.{end_from}
+use Rattle.tf_problem.specs.Potentials.{potential_of_end, potential_after, potential_before, start_delay}
 use Rattle.tf_bound.specs.declared.fault.BoundFault.{BoundFault}
-use Rattle.tf_bound.specs.declared.fault.BoundFault.TheVariants.{OtherKind, NoDenominator, BadMachine, BadJob, Repeated, TooFew, Numerators, Condition, HasRoom, TooLarge, OutOfMemory}
+use Rattle.tf_bound.specs.declared.fault.BoundFault.TheVariants.{OtherKind, NoDenominator, BadMachine, BadJob, Repeated, TooFew, Numerators, Condition, MachineOrder, BadDelta, HasRoom, TooLarge, OutOfMemory}
 use Rattle.tf_bound.specs.declared.certificate.BoundCertificate.{BoundCertificate}
 use Rattle.tf_bound.specs.declared.certificate.BoundCertificate.TheVariants as kinds
 
@@ -226,6 +229,32 @@ prices_fault k q prices =
     (option_or (no_denominator q)
     (too_large (are_prices_large k q prices)))
 
+-- ---- prices on one machine of a shop
+
+-- the last start on the machine that the prices tell apart from later ones
+abbrev pub last_from : ProblemData → ℕ → List ℕ → ℕ → ℕ
+last_from k a prices j = max (head k a j) (length prices)
+
+-- From its last start a job completes beyond the limit, or costs more, or its weight times q needs
+-- more than 64 bits.
+abbrev pub is_dear_from : ProblemData → ℕ → ℕ → List ℕ → ℕ → Bool
+is_dear_from k a q prices j =
+    nat_lt limit (last_from k a prices j + problem_time_on k j a + tail k a j)
+    || (nat_le (2 ^ 64) (q * problem_weight k j)
+    || nat_lt limit (q * penalty k.problem.goal k j (end_from k a j (last_from k a prices j))))
+
+-- all prices are beyond the limit, or a job is
+abbrev pub are_machine_prices_large : ProblemData → ℕ → ℕ → List ℕ → Bool
+are_machine_prices_large k a q prices =
+    nat_lt limit (sum prices) || list_any (is_dear_from k a q prices) (problem_jobs k)
+
+abbrev pub machine_prices_fault : ProblemData → ℕ → ℕ → List ℕ → Option BoundFault
+machine_prices_fault k a q prices =
+    option_or (other_kind (takes_machine_prices k.problem))
+    (option_or (no_denominator q)
+    (option_or (no_machine k a)
+    (too_large (are_machine_prices_large k a q prices))))
+
 -- ---- each job alone
 
 abbrev pub alone_fault : ProblemData → Option BoundFault
@@ -250,6 +279,33 @@ kept_fault k jobs =
     (option_or (list_fault k [] jobs)
     (option_or (too_few 0 jobs)
     (falls_fault (due_time k) 0 jobs)))
+
+-- the most time of jobs together for which a table is made, and the most entries of one for each job
+abbrev pub most_table_time : ℕ
+most_table_time = 10000000
+
+abbrev pub most_entries : ℕ
+most_entries = 1000000000
+
+-- the jobs weigh more than the limit, or their time is too much for the table
+abbrev pub is_table_large : ProblemData → List ℕ → Bool
+is_table_large k jobs =
+    nat_lt limit (sum_by (problem_weight k) jobs)
+    || nat_lt most_table_time (sum_by (problem_time k) jobs)
+    || nat_lt most_entries (length jobs * sum_by (problem_time k) jobs)
+
+-- jobs by due date, of which the least weight is lost
+abbrev pub kept_weight_fault : ProblemData → List ℕ → Option BoundFault
+kept_weight_fault k jobs =
+    option_or (other_kind (takes_kept_weight k.problem))
+    (option_or (list_fault k [] jobs)
+    (option_or (too_few 0 jobs)
+    (option_or (falls_fault (due_time k) 0 jobs)
+    (too_large (is_table_large k jobs)))))
+
+-- jobs by due date, of which the fewest or the least weight is lost
+abbrev pub late_fault : ProblemData → List ℕ → Option BoundFault
+late_fault k jobs = if takes_kept_weight k.problem then kept_weight_fault k jobs else kept_fault k jobs
 
 -- jobs by release date
 abbrev pub shortest_fault : ProblemData → List ℕ → Option BoundFault
@@ -283,6 +339,71 @@ parts_fault k from until late jobs =
     (option_or (list_fault k [] jobs)
     (has_room k from until late jobs))
 
+-- ---- potentials
+
+-- there are not one number and two for each job
+abbrev pub pairs_fault : ProblemData → List ℤ → Option BoundFault
+pairs_fault k p = if length p == 2 * length k.jobs + 1 then None else Some Numerators
+
+-- the job has no time on some machine
+abbrev pub is_partial : ProblemData → ℕ → Bool
+is_partial k j = list_any (λ t. t == 0) (problem_job k j).times
+
+-- the delays of all pairs of jobs take too many steps
+abbrev pub are_many_steps : ProblemData → Bool
+are_many_steps k = nat_lt 1000000000 (length k.jobs * length k.jobs * k.machines)
+
+-- the first number of a job and the second of another are together more than the delay
+abbrev pub is_at_odds : ProblemData → List ℤ → ℕ → ℕ → Bool
+is_at_odds k p i j =
+    not (i == j) && int_lt (pos (start_delay k i j)) (potential_after p i +ℤ potential_before p j)
+
+-- the second number of a job is more than its release date
+abbrev pub begins_late : ProblemData → List ℤ → ℕ → Bool
+begins_late k p j = int_lt (pos (problem_release k j)) (potential_before p j)
+
+-- the first number of a job and that for the end are more than its time less its due date
+abbrev pub ends_late : ProblemData → List ℤ → ℕ → Bool
+ends_late k p j =
+    int_lt (pos (problem_work k j) -ℤ problem_due k j) (potential_after p j +ℤ potential_of_end p)
+
+-- or the first number of a job and the second of another are more than their delay
+abbrev pub is_excessive : ProblemData → List ℤ → ℕ → Bool
+is_excessive k p j =
+    (begins_late k p j || ends_late k p j) || list_any (is_at_odds k p j) (problem_jobs k)
+
+abbrev pub potentials_fault : ProblemData → List ℤ → Option BoundFault
+potentials_fault k p =
+    option_or (other_kind (takes_potentials k.problem))
+    (option_or (pairs_fault k p)
+    (option_or (first_job k (is_partial k))
+    (option_or (too_large (are_many_steps k))
+    (first_job k (is_excessive k p)))))
+
+-- ---- two machines
+-- the first does not come before the second
+abbrev pub machine_order : ℕ → ℕ → Option BoundFault
+machine_order a b = if nat_lt a b then None else Some MachineOrder
+
+-- no job reaches delta
+abbrev pub delta_fault : ProblemData → ℕ → ℕ → (ℕ → Bool) → ℕ → Bool → Option BoundFault
+delta_fault k a b side delta first =
+    if list_any (reaches_delta k a b side delta first) (problem_jobs k) then None else Some BadDelta
+
+-- a job breaks the condition of its side, or none reaches delta
+abbrev pub sides_fault : ProblemData → ℕ → ℕ → (ℕ → Bool) → ℕ → Bool → Option BoundFault
+sides_fault k a b side delta first =
+    option_or (first_job k (λ j. not (keeps_side k a b side delta first j)))
+    (delta_fault k a b side delta first)
+
+abbrev pub split_fault : ProblemData → ℕ → ℕ → List ℕ → ℕ → Bool → Option BoundFault
+split_fault k a b side delta first =
+    option_or (other_kind (takes_split k.problem))
+    (option_or (no_machine k b)
+    (option_or (machine_order a b)
+    (option_or (list_fault k [] side)
+    (sides_fault k a b (stands_in side) delta first))))
+
 -- ---- any kind
 
 abbrev pub certificate_fault : {A : Type 0} → ProblemData → BoundCertificate A → Option BoundFault
@@ -293,8 +414,13 @@ certificate_fault k (kinds.OneJob job) = one_job_fault k job
 certificate_fault k (kinds.Multipliers machine q numerators arcs) =
     multipliers_fault k machine q numerators.items arcs.items
 certificate_fault k (kinds.Prices q rows) = prices_fault k q rows.items
+certificate_fault k (kinds.MachinePrices machine q rows) =
+    machine_prices_fault k machine q rows.items
 certificate_fault k kinds.Alone = alone_fault k
-certificate_fault k (kinds.Kept jobs) = kept_fault k jobs.items
+certificate_fault k (kinds.Kept jobs) = late_fault k jobs.items
 certificate_fault k (kinds.Shortest jobs) = shortest_fault k jobs.items
 certificate_fault k (kinds.Ranks jobs) = ranks_fault k jobs.items
+certificate_fault k (kinds.Split first second delta by_first side) =
+    split_fault k first second side.items delta by_first
 certificate_fault k (kinds.Parts from until late jobs) = parts_fault k from until late jobs.items
+certificate_fault k (kinds.Potentials numbers) = potentials_fault k numbers.items

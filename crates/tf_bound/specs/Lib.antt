@@ -4,10 +4,13 @@ pub mod Sized
 pub mod Steps
 pub mod Refused
 pub mod RowSums
+pub mod Visits
 pub mod Prices
 pub mod RowPrices
 pub mod Kinds
+pub mod Split
 pub mod Faulted
+pub mod Delays
 pub mod ArcEnds
 pub mod Along
 pub mod JobNumbers

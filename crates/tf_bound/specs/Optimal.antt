@@ -17,7 +17,7 @@ pub record HasFreeJobs (k : ProblemData) (jobs : List ℕ) : Type 0 where
   pub no_prmu : IsFalse k.problem.prmu
   pub may_wait : IsFalse k.problem.nwt
 
--- `1||sumU`, with or without preemption
+-- `1||sumU` and `1||sumwU`, with or without preemption
 pub record AreUnreleased (k : ProblemData) (jobs : List ℕ) : Type 0 where
   pub single : IsTrue (is_single_env k.problem.env)
   pub no_release : IsFalse k.problem.release

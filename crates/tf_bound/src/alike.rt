@@ -95,7 +95,7 @@ fn greatest_due<B: Allocator>(task: &ProblemTask<B>, jobs: &[JobId]) -> i64
 }
 
 // The time of jobs together.
-fn work_of<B: Allocator>(task: &ProblemTask<B>, jobs: &[JobId]) -> u128
+pub(crate) fn work_of<B: Allocator>(task: &ProblemTask<B>, jobs: &[JobId]) -> u128
     requires one_time { IsFalse (is_shop_env task.now.problem.env) }
     requires known { All (IsProblemJob task.now) jobs.now }
     ensures value { result ≡ sum_by (problem_time task.now) jobs.now }

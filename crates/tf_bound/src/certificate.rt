@@ -7,14 +7,17 @@ ghost use Rattle.tf_bound.specs.Certified.{IsBoundBy, IsValueOn, NamesFaultBy};
 use crate::alike::{crowd_bound, one_job_bound, window_bound};
 use crate::alone::alone_bound;
 use crate::fault::BoundFault;
-use crate::kept::kept_bound;
+use crate::kept_weight::late_bound;
 use crate::machine::machine_bound;
+use crate::machine_prices::machine_prices_bound;
 use crate::multipliers::multipliers_bound;
 use crate::parts::{Interval, parts_bound};
+use crate::potentials::potentials_bound;
 use crate::prices::prices_bound;
 use crate::pushed::judged_task;
 use crate::ranks::ranks_bound;
 use crate::shortest::shortest_bound;
+use crate::split::{Pair, split_bound};
 use crate::task::ProblemTask;
 use std::alloc::{Allocator, Global};
 use tf_model::ids::JobId;
@@ -52,9 +55,15 @@ pub enum BoundCertificate<A: Allocator = Global> {
         q: u64,
         rows: Vec<u64, A>,
     },
+    /// Prices of the unit rows from 0 on, over q, on one machine of a shop.
+    MachinePrices {
+        machine: usize,
+        q: u64,
+        rows: Vec<u64, A>,
+    },
     /// Each job by itself, from its release date on, or from the one that follows by the arcs.
     Alone,
-    /// Some jobs by due date: how many of them are late.
+    /// Some jobs by due date: how many of them are late, or what these weigh.
     Kept {
         jobs: Vec<JobId, A>,
     },
@@ -66,6 +75,15 @@ pub enum BoundCertificate<A: Allocator = Global> {
     Ranks {
         jobs: Vec<JobId, A>,
     },
+    /// Two machines of a permutation flow shop, with the jobs of a side, which count on the first,
+    /// and `delta`, which a job reaches on the first machine or on the second.
+    Split {
+        first: usize,
+        second: usize,
+        delta: u64,
+        by_first: bool,
+        side: Vec<JobId, A>,
+    },
     /// Some jobs that have more to do in an interval than there is room for, if each is to be less
     /// late than `late`.
     Parts {
@@ -73,6 +91,11 @@ pub enum BoundCertificate<A: Allocator = Global> {
         until: u64,
         late: i64,
         jobs: Vec<JobId, A>,
+    },
+    /// A number for the end of the last job of a no-wait flow shop, and two for each job: towards the
+    /// job after it and towards the one before it.
+    Potentials {
+        numbers: Vec<i64, A>,
     },
 }
 
@@ -118,10 +141,28 @@ impl<A: Allocator> BoundCertificate<A> {
                 arcs,
             } => multipliers_bound(alloc, task, *machine, numerators, arcs, *q),
             BoundCertificate::Prices { q, rows } => prices_bound(alloc, task, *q, rows),
+            BoundCertificate::MachinePrices { machine, q, rows } => {
+                machine_prices_bound(alloc, task, *machine, *q, rows)
+            }
             BoundCertificate::Alone => alone_bound(alloc, task),
-            BoundCertificate::Kept { jobs } => kept_bound(alloc, task, jobs),
+            BoundCertificate::Kept { jobs } => late_bound(alloc, task, jobs),
             BoundCertificate::Shortest { jobs } => shortest_bound(alloc, task, jobs),
             BoundCertificate::Ranks { jobs } => ranks_bound(alloc, task, jobs),
+            BoundCertificate::Split {
+                first,
+                second,
+                delta,
+                by_first,
+                side,
+            } => {
+                let pair = Pair {
+                    first: *first,
+                    second: *second,
+                    delta: *delta,
+                    by_first: *by_first,
+                };
+                split_bound(alloc, task, pair, side)
+            }
             BoundCertificate::Parts {
                 from,
                 until,
@@ -135,6 +176,7 @@ impl<A: Allocator> BoundCertificate<A> {
                 };
                 parts_bound(alloc, task, interval, jobs)
             }
+            BoundCertificate::Potentials { numbers } => potentials_bound(task, numbers),
         }
     }
 }

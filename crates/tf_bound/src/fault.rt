@@ -70,6 +70,14 @@ pub enum BoundFault {
     #[error("job {} breaks the certificate's condition", .0.get())]
     Condition(JobId),
 
+    /// The first of two machines does not come before the second.
+    #[error("the first machine does not come before the second")]
+    MachineOrder,
+
+    /// No job that has to reach the certificate's delta does.
+    #[error("no job reaches delta")]
+    BadDelta,
+
     /// The machines have room for all that the jobs have to do in the interval.
     #[error("the machines have room for the work in the interval")]
     HasRoom,

@@ -5,6 +5,7 @@ ghost use Rattle.tf_model.specs.Distinct.{IsDistinct};
 ghost use Rattle.tf_problem.specs.ProblemData.{IsProblemJob};
 ghost use Rattle.tf_bound.specs.Faulted.{list_fault, NamesFault};
 ghost use Rattle.tf_bound.specs.Sized.{IsSized};
+ghost use Rattle.tf_bound.specs.Split.{AreSides};
 
 use crate::fault::BoundFault;
 use crate::task::ProblemTask;
@@ -23,6 +24,22 @@ pub(crate) fn judge_list<A: Allocator, B: Allocator>(
     ensures known { IfOk result (λ _. All (IsProblemJob task.now) jobs.now) }
     ensures distinct { IfOk result (λ _. IsDistinct jobs.now) }
 {
+    judged_marks(alloc, task, jobs)?;
+    Ok(())
+}
+
+/// Judges a list, and says of each job of the task whether it stands there.
+pub(crate) fn judged_marks<A: Allocator, B: Allocator>(
+    alloc: A,
+    task: &ProblemTask<B>,
+    jobs: &[JobId],
+) -> Result<Vec<bool, A>, BoundFault>
+    ensures sized { IsSized task.now }
+    ensures fault { NamesFault (list_fault task.now [] jobs.now) result }
+    ensures known { IfOk result (λ _. All (IsProblemJob task.now) jobs.now) }
+    ensures distinct { IfOk result (λ _. IsDistinct jobs.now) }
+    ensures marks { IfOk result (λ marks. AreSides task.now marks.items jobs.now) }
+{
     let Ok(mut seen) = vec![in alloc; false; task.len()] else {
         return Err(BoundFault::OutOfMemory);
     };
@@ -36,5 +53,5 @@ pub(crate) fn judge_list<A: Allocator, B: Allocator>(
         }
         seen[place] = true;
     }
-    Ok(())
+    Ok(seen)
 }

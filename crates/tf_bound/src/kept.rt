@@ -16,6 +16,7 @@ ghost use Rattle.tf_bound.specs.Kinds.{takes_kept};
 ghost use Rattle.tf_bound.specs.Faulted.{falls_fault, kept_fault, NamesFault};
 ghost use Rattle.tf_bound.specs.declared.fault.BoundFault.TheVariants.{Condition};
 ghost use Rattle.tf_bound.specs.Optimal.{AreUnreleased, IsMinimum};
+ghost use Rattle.tf_bound.specs.Prices.{is_by_unit};
 
 use crate::alike::least_release;
 use crate::fault::BoundFault;
@@ -35,6 +36,7 @@ pub fn takes_kept<A: Allocator>(task: &ProblemTask<A>) -> bool
     ensures alike { IsTrue result → IsTrue (is_alike task.now.problem.env) }
     ensures one_time { IsTrue result → IsFalse (is_shop_env task.now.problem.env) }
     ensures goal { IsTrue result → task.now.problem.goal ≡ goals.SumU }
+    ensures by_unit { IsTrue result → IsTrue (is_by_unit task.now.problem.goal) }
 {
     let problem = task.problem();
     let alike = matches!(problem.env, Env::Single | Env::Parallel);
@@ -44,17 +46,17 @@ pub fn takes_kept<A: Allocator>(task: &ProblemTask<A>) -> bool
 // The due date of a job as a time: 0 where it is negative.
 fn due_time<B: Allocator>(task: &ProblemTask<B>, job: JobId) -> u64
     requires job { IsProblemJob task.now job }
-    requires goal { task.now.problem.goal ≡ goals.SumU }
+    requires goal { IsTrue (is_by_unit task.now.problem.goal) }
     ensures value { result ≡ due_time task.now job }
     ensures small { result ≤ limit }
 {
     task.due(job).max(0) as u64
 }
 
-// The first job that is due before the one before it.
-fn first_due_early<B: Allocator>(task: &ProblemTask<B>, jobs: &[JobId]) -> Option<JobId>
+/// The first job that is due before the one before it.
+pub(crate) fn first_due_early<B: Allocator>(task: &ProblemTask<B>, jobs: &[JobId]) -> Option<JobId>
     requires known { All (IsProblemJob task.now) jobs.now }
-    requires goal { task.now.problem.goal ≡ goals.SumU }
+    requires goal { IsTrue (is_by_unit task.now.problem.goal) }
     ensures { MatchOption result (falls_fault (due_time task.now) 0 jobs.now ≡ None) (λ job.
         falls_fault (due_time task.now) 0 jobs.now ≡ Some (Condition job)) }
 {
@@ -97,10 +99,10 @@ fn keep<A: Allocator>(
     }
 }
 
-// How much the machines can do from a time on up to the due date of a job.
-fn room_from<B: Allocator>(task: &ProblemTask<B>, first: u64, job: JobId) -> u128
+/// How much the machines can do from a time on up to the due date of a job.
+pub(crate) fn room_from<B: Allocator>(task: &ProblemTask<B>, first: u64, job: JobId) -> u128
     requires job { IsProblemJob task.now job }
-    requires goal { task.now.problem.goal ≡ goals.SumU }
+    requires goal { IsTrue (is_by_unit task.now.problem.goal) }
     ensures { result ≡ task.now.machines * (due_time task.now job - first) }
 {
     u128::from(task.machines()) * u128::from(due_time(task, job).saturating_sub(first))
@@ -113,7 +115,7 @@ fn kept_count<A: Allocator, B: Allocator>(
     jobs: &[JobId],
 ) -> Result<usize, OutOfMemory>
     requires one_time { IsFalse (is_shop_env task.now.problem.env) }
-    requires goal { task.now.problem.goal ≡ goals.SumU }
+    requires goal { IsTrue (is_by_unit task.now.problem.goal) }
     requires known { All (IsProblemJob task.now) jobs.now }
     requires some { 0 < length jobs.now }
     ensures value { IfOk result (λ n. n ≡ length (kept task.now jobs.now)) }

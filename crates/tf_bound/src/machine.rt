@@ -76,7 +76,7 @@ fn rest_of<B: Allocator>(task: &ProblemTask<B>, machine: usize, job: JobId) -> i
 }
 
 // The least that a job of some has to go after the machine, less its due date.
-fn least_rest<B: Allocator>(task: &ProblemTask<B>, machine: usize, jobs: &[JobId]) -> i64
+pub(crate) fn least_rest<B: Allocator>(task: &ProblemTask<B>, machine: usize, jobs: &[JobId]) -> i64
     requires machine { machine < task.now.machines }
     requires env { IsTrue (is_by_machine task.now.problem.env) }
     requires known { All (IsProblemJob task.now) jobs.now }

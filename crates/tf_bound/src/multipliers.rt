@@ -207,7 +207,7 @@ fn completions(jobs: &[WeightedJob]) -> Option<u128>
 }
 
 // All jobs, by number.
-fn all_jobs<A: Allocator, B: Allocator>(
+pub(crate) fn all_jobs<A: Allocator, B: Allocator>(
     alloc: A,
     task: &ProblemTask<B>,
 ) -> Result<Vec<JobId, A>, BoundFault>

@@ -266,6 +266,8 @@ impl<A: Allocator> ProblemTask<A> {
     ghost use Rattle.tf_problem.specs.ProblemData.{problem_time_on, problem_release};
     ghost use Rattle.tf_problem.specs.ProblemData.{problem_weight, problem_due};
     ghost use Rattle.tf_problem.specs.ProblemBounds.{is_by_machine, head, problem_work, tail};
+    ghost use Rattle.tf_problem.specs.Split.{lag};
+    ghost use Rattle.tf_bound.specs.Split.{ArePair};
     ghost use Rattle.tf_bound.specs.Sized.{IsSized, task_of};
     ghost use Rattle.tf_bound.specs.Steps.{steps_of};
     ghost use Rattle.tf_bound.specs.Refused.{IsTaskFault};
@@ -473,6 +475,16 @@ impl<A: Allocator> ProblemTask<A> {
         } else {
             release
         }
+    }
+
+    /// The time of a job that is there on the machines between two of a flow shop, counted from 0.
+    pub fn lag(&self, first: usize, second: usize, job: JobId) -> u64
+        requires pair { ArePair self.now first second }
+        requires job { IsProblemJob self.now job }
+        ensures value { result ≡ lag self.now first second job }
+        ensures small { result ≤ limit }
+    {
+        total_of(&self.times(job)[first + 1..second])
     }
 
     /// So much later than on the machine, counted from 0, a job completes at least: in a flow shop

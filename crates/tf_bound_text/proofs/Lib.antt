@@ -1,1 +1,2 @@
 mod Naturals
+mod Values

@@ -1,5 +1,5 @@
 -- What the text of a bound says, or its first fault. A line that is kept is read by its words.
-use Rattle.std.specs.Prelude.{ℕ, ◌-◌, ℤ, pos, negsuc, Bool, List, [], ◌∷◌, length, drop, codes, Option, Some, None, Result, Ok, Err, nat_lt, if◌then◌else◌}
+use Rattle.std.specs.Prelude.{ℕ, ◌-◌, ℤ, pos, negsuc, Bool, true, false, List, [], ◌∷◌, length, drop, codes, Option, Some, None, Result, Ok, Err, nat_lt, if◌then◌else◌}
 use Rattle.std.specs.Str.{bytes_eq}
 use Rattle.std.specs.Cmp.Lexicographic.{pointwise}
 use Rattle.tf_model.specs.Outcome
@@ -13,7 +13,7 @@ use Rattle.tf_words.specs.Ranged.{number_in}
 use Rattle.tf_words.specs.declared.ranged.Ranged.{Ranged}
 use Rattle.tf_words.specs.declared.ranged.Ranged.TheVariants.{NotANumber, Below, Above, Within}
 use Rattle.tf_notation.specs.Reading.{notation}
-use Rattle.tf_bound_text.specs.BoundSheetData.{Basis, ByMachine, ByWindow, ByCrowd, ByOneJob, ByMultipliers, ByPrices, ByAlone, ByKept, ByShortest, ByRanks, ByParts, BoundSheetData}
+use Rattle.tf_bound_text.specs.BoundSheetData.{Basis, ByMachine, ByWindow, ByCrowd, ByOneJob, ByMultipliers, ByPrices, ByMachinePrices, ByAlone, ByKept, ByShortest, ByRanks, ByParts, BoundSheetData, BySplit, ByPotentials}
 use Rattle.tf_bound_text.specs.declared.fault.BoundTextFault.{BoundTextFault}
 use Rattle.tf_bound_text.specs.declared.fault.BoundTextFault.TheVariants.{TooLong, BadLine, OutOfRange, BadNotation, EndsEarly, OutOfMemory}
 
@@ -55,6 +55,14 @@ naturals line least most (word ∷ more) = do
   number ← natural line least most word
   numbers ← naturals line least most more
   Ok (number ∷ numbers)
+
+-- all words as values, from left to right
+unfoldable pub values : ℕ → List (List ℕ) → Result (List ℤ) BoundTextFault
+values line [] = Ok []
+values line (word ∷ more) = do
+  value ← value_in line word
+  others ← values line more
+  Ok (value ∷ others)
 
 -- the first word as such a number, and the other words
 abbrev pub first_number : ℕ → ℕ → ℕ → List (List ℕ) → Result (ℕ × List (List ℕ)) BoundTextFault
@@ -113,6 +121,14 @@ price_basis line words = do
   rows ← naturals line 0 limit more
   Ok (ByPrices q rows)
 
+-- a machine, counted from 1, a denominator and prices
+unfoldable pub machine_price_basis : ℕ → List (List ℕ) → Result Basis BoundTextFault
+machine_price_basis line words = do
+  (machine, more) ← first_number line 1 most_machines words
+  (q, more) ← first_number line 0 limit more
+  rows ← naturals line 0 limit more
+  Ok (ByMachinePrices (machine - 1) q rows)
+
 -- no word
 abbrev pub alone_basis : ℕ → List (List ℕ) → Result Basis BoundTextFault
 alone_basis line [] = Ok ByAlone
@@ -134,6 +150,24 @@ ranks_basis line words = do
   jobs ← naturals line 1 most_jobs words
   Ok (ByRanks jobs)
 
+-- the word `first` or `second`, and the other words
+abbrev pub is_first : ℕ → List (List ℕ) → Result (Bool × List (List ℕ)) BoundTextFault
+is_first line [] = Err (BadLine line)
+is_first line (word ∷ more) =
+    if bytes_eq word (codes "first") then Ok (true, more)
+    else if bytes_eq word (codes "second") then Ok (false, more)
+    else Err (BadLine line)
+
+-- two machines, counted from 1, on which of them delta is reached, delta, and the jobs of the side
+unfoldable pub split_basis : ℕ → List (List ℕ) → Result Basis BoundTextFault
+split_basis line words = do
+  (first, more) ← first_number line 1 most_machines words
+  (second, last) ← first_number line 1 most_machines more
+  (by_first, rest) ← is_first line last
+  (delta, jobs) ← first_number line 0 limit rest
+  side ← naturals line 1 most_jobs jobs
+  Ok (BySplit (first - 1) (second - 1) delta by_first side)
+
 -- an interval, a lateness, and jobs
 unfoldable pub parts_basis : ℕ → List (List ℕ) → Result Basis BoundTextFault
 parts_basis line words = do
@@ -142,6 +176,12 @@ parts_basis line words = do
   (late, rest) ← first_value line last
   jobs ← naturals line 1 most_jobs rest
   Ok (ByParts from until late jobs)
+
+-- a number for the end, and two for each job
+unfoldable pub potentials_basis : ℕ → List (List ℕ) → Result Basis BoundTextFault
+potentials_basis line words = do
+  numbers ← values line words
+  Ok (ByPotentials numbers)
 
 -- a kind, and the words behind it
 unfoldable pub kind_in : ℕ → List ℕ → List (List ℕ) → Result Basis BoundTextFault
@@ -152,11 +192,14 @@ kind_in line kind words =
     else if bytes_eq kind (codes "job") then one_job_basis line words
     else if bytes_eq kind (codes "multipliers") then multiplier_basis line words
     else if bytes_eq kind (codes "prices") then price_basis line words
+    else if bytes_eq kind (codes "prices_on") then machine_price_basis line words
     else if bytes_eq kind (codes "alone") then alone_basis line words
     else if bytes_eq kind (codes "kept") then kept_basis line words
     else if bytes_eq kind (codes "shortest") then shortest_basis line words
     else if bytes_eq kind (codes "ranks") then ranks_basis line words
+    else if bytes_eq kind (codes "pair") then split_basis line words
     else if bytes_eq kind (codes "parts") then parts_basis line words
+    else if bytes_eq kind (codes "potentials") then potentials_basis line words
     else Err (BadLine line)
 
 abbrev pub basis_in : ℕ → List (List ℕ) → Result Basis BoundTextFault
@@ -259,11 +302,15 @@ with_arcs (ByCrowd h jobs) all = Ok (ByCrowd h jobs, all)
 with_arcs (ByOneJob job) all = Ok (ByOneJob job, all)
 with_arcs (ByMultipliers machine q v none) all = multipliers_at machine q v all
 with_arcs (ByPrices q rows) all = Ok (ByPrices q rows, all)
+with_arcs (ByMachinePrices machine q rows) all = Ok (ByMachinePrices machine q rows, all)
 with_arcs ByAlone all = Ok (ByAlone, all)
 with_arcs (ByKept jobs) all = Ok (ByKept jobs, all)
 with_arcs (ByShortest jobs) all = Ok (ByShortest jobs, all)
 with_arcs (ByRanks jobs) all = Ok (ByRanks jobs, all)
+with_arcs (BySplit first second delta by_first side) all =
+    Ok (BySplit first second delta by_first side, all)
 with_arcs (ByParts from until late jobs) all = Ok (ByParts from until late jobs, all)
+with_arcs (ByPotentials numbers) all = Ok (ByPotentials numbers, all)
 
 -- the lines of the certificate, and those behind them
 unfoldable pub certificate_at : List KeptLine → Result (Basis × List KeptLine) BoundTextFault

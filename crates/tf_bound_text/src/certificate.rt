@@ -6,10 +6,12 @@ ghost use Rattle.tf_bound_text.specs.BoundReading.{Gives, machine_basis, crowd_b
 ghost use Rattle.tf_bound_text.specs.BoundReading.{multiplier_basis, price_basis, one_job_basis};
 ghost use Rattle.tf_bound_text.specs.BoundReading.{window_basis, alone_basis, kind_in, basis_in};
 ghost use Rattle.tf_bound_text.specs.BoundReading.{kept_basis, shortest_basis, ranks_basis};
-ghost use Rattle.tf_bound_text.specs.BoundReading.{parts_basis};
+ghost use Rattle.tf_bound_text.specs.BoundReading.{parts_basis, machine_price_basis, is_first, split_basis, potentials_basis};
 
 use crate::fault::BoundTextFault;
-use crate::number::{first_number, first_value, jobs_from, natural, numbers_from, only};
+use crate::number::{
+    first_number, first_value, jobs_from, natural, numbers_from, only, values_from,
+};
 use std::alloc::Allocator;
 use tf_bound::certificate::BoundCertificate;
 use tf_model::ids::JobId;
@@ -106,6 +108,25 @@ fn prices_in<A: Allocator>(
     Ok(BoundCertificate::Prices { q, rows })
 }
 
+/// Reads a machine, a denominator and prices.
+#[tactic(auto, unfolding(crate::specs::BoundReading::machine_price_basis))]
+fn machine_prices_in<A: Allocator>(
+    alloc: A,
+    line: u32,
+    text: &[u8],
+) -> Result<BoundCertificate<A>, BoundTextFault>
+    ensures { Gives basis_of result (machine_price_basis line (words text.now)) }
+{
+    let (machine, rest) = first_number(line, 1, u64::from(MOST_MACHINES), text)?;
+    let (q, rest) = first_number(line, 0, LIMIT as u64, rest)?;
+    let rows = numbers_from(alloc, line, rest)?;
+    Ok(BoundCertificate::MachinePrices {
+        machine: machine as usize - 1,
+        q,
+        rows,
+    })
+}
+
 /// Reads no word.
 fn alone_in<A: Allocator>(line: u32, text: &[u8]) -> Result<BoundCertificate<A>, BoundTextFault>
     ensures { Gives basis_of result (alone_basis line (words text.now)) }
@@ -155,6 +176,47 @@ fn ranks_in<A: Allocator>(
     Ok(BoundCertificate::Ranks { jobs })
 }
 
+/// Reads the word `first` or `second`, and returns the text after it.
+fn is_first(line: u32, text: &[u8]) -> Result<(bool, &[u8]), BoundTextFault>
+    ensures { Gives (λ x. (x.0, words x.1.now)) result (is_first line (words text.now)) }
+{
+    match first_word(text) {
+        None => Err(BoundTextFault::BadLine(line)),
+        Some((word, after)) => {
+            if is(word, b"first") {
+                Ok((true, after))
+            } else if is(word, b"second") {
+                Ok((false, after))
+            } else {
+                Err(BoundTextFault::BadLine(line))
+            }
+        }
+    }
+}
+
+/// Reads two machines, on which of them delta is reached, delta, and the jobs of the side.
+#[tactic(auto, unfolding(crate::specs::BoundReading::split_basis))]
+fn split_in<A: Allocator>(
+    alloc: A,
+    line: u32,
+    text: &[u8],
+) -> Result<BoundCertificate<A>, BoundTextFault>
+    ensures { Gives basis_of result (split_basis line (words text.now)) }
+{
+    let (first, rest) = first_number(line, 1, u64::from(MOST_MACHINES), text)?;
+    let (second, rest) = first_number(line, 1, u64::from(MOST_MACHINES), rest)?;
+    let (by_first, rest) = is_first(line, rest)?;
+    let (delta, rest) = first_number(line, 0, LIMIT as u64, rest)?;
+    let side = jobs_from(alloc, line, rest)?;
+    Ok(BoundCertificate::Split {
+        first: first as usize - 1,
+        second: second as usize - 1,
+        delta,
+        by_first,
+        side,
+    })
+}
+
 /// Reads an interval, a lateness, and jobs.
 #[tactic(auto, unfolding(crate::specs::BoundReading::parts_basis))]
 fn parts_in<A: Allocator>(
@@ -174,6 +236,19 @@ fn parts_in<A: Allocator>(
         late,
         jobs,
     })
+}
+
+/// Reads a number for the end, and two for each job.
+#[tactic(auto, unfolding(crate::specs::BoundReading::potentials_basis))]
+fn potentials_in<A: Allocator>(
+    alloc: A,
+    line: u32,
+    text: &[u8],
+) -> Result<BoundCertificate<A>, BoundTextFault>
+    ensures { Gives basis_of result (potentials_basis line (words text.now)) }
+{
+    let numbers = values_from(alloc, line, text)?;
+    Ok(BoundCertificate::Potentials { numbers })
 }
 
 /// Reads a certificate of this kind from the words that follow it.
@@ -198,6 +273,8 @@ fn kind_in<A: Allocator + Copy>(
         multipliers_in(alloc, line, text)
     } else if is(kind, b"prices") {
         prices_in(alloc, line, text)
+    } else if is(kind, b"prices_on") {
+        machine_prices_in(alloc, line, text)
     } else if is(kind, b"alone") {
         alone_in(line, text)
     } else if is(kind, b"kept") {
@@ -206,8 +283,12 @@ fn kind_in<A: Allocator + Copy>(
         shortest_in(alloc, line, text)
     } else if is(kind, b"ranks") {
         ranks_in(alloc, line, text)
+    } else if is(kind, b"pair") {
+        split_in(alloc, line, text)
     } else if is(kind, b"parts") {
         parts_in(alloc, line, text)
+    } else if is(kind, b"potentials") {
+        potentials_in(alloc, line, text)
     } else {
         Err(BoundTextFault::BadLine(line))
     }

@@ -3,7 +3,7 @@ ghost use Rattle.std.specs.Prelude.{◌≤◌, IfOk};
 ghost use Rattle.tf_model.specs.Limit.{limit, most_jobs};
 ghost use Rattle.tf_words.specs.Words.{words};
 ghost use Rattle.tf_bound_text.specs.BoundReading.{Gives, natural, value_in, only, first_number};
-ghost use Rattle.tf_bound_text.specs.BoundReading.{first_value, naturals};
+ghost use Rattle.tf_bound_text.specs.BoundReading.{first_value, naturals, values};
 
 use crate::fault::BoundTextFault;
 use std::alloc::Allocator;
@@ -118,4 +118,22 @@ pub(crate) fn numbers_from<A: Allocator>(
         rest = after;
     }
     Ok(numbers)
+}
+
+/// Reads all words as values.
+pub(crate) fn values_from<A: Allocator>(
+    alloc: A,
+    line: u32,
+    text: &[u8],
+) -> Result<Vec<i64, A>, BoundTextFault>
+    ensures { Gives (λ values. values.items) result (values line (words text.now)) }
+{
+    let mut values = Vec::new(alloc);
+    let mut rest = text;
+    while let Some((word, after)) = first_word(rest) {
+        let value = value_in(line, word)?;
+        values.push(value)?;
+        rest = after;
+    }
+    Ok(values)
 }

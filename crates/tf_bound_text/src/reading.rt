@@ -189,10 +189,29 @@ fn with_arcs<'a, A: Allocator>(
             ..
         } => multipliers_at(alloc, machine, q, numerators, lines),
         BoundCertificate::Prices { q, rows } => Ok((BoundCertificate::Prices { q, rows }, lines)),
+        BoundCertificate::MachinePrices { machine, q, rows } => {
+            Ok((BoundCertificate::MachinePrices { machine, q, rows }, lines))
+        }
         BoundCertificate::Alone => Ok((BoundCertificate::Alone, lines)),
         BoundCertificate::Kept { jobs } => Ok((BoundCertificate::Kept { jobs }, lines)),
         BoundCertificate::Shortest { jobs } => Ok((BoundCertificate::Shortest { jobs }, lines)),
         BoundCertificate::Ranks { jobs } => Ok((BoundCertificate::Ranks { jobs }, lines)),
+        BoundCertificate::Split {
+            first,
+            second,
+            delta,
+            by_first,
+            side,
+        } => {
+            let split = BoundCertificate::Split {
+                first,
+                second,
+                delta,
+                by_first,
+                side,
+            };
+            Ok((split, lines))
+        }
         BoundCertificate::Parts {
             from,
             until,
@@ -206,6 +225,9 @@ fn with_arcs<'a, A: Allocator>(
                 jobs,
             };
             Ok((parts, lines))
+        }
+        BoundCertificate::Potentials { numbers } => {
+            Ok((BoundCertificate::Potentials { numbers }, lines))
         }
     }
 }

@@ -82,11 +82,6 @@ module _ (A : Type 0) (name text : List ℕ) where
           routes = None;
         })) (sym are)
 
--- want of memory stops the reading
-pub shop_wanting : (A : Type 0) (name text : List ℕ) (e : ReadFault) → e ≡ OutOfMemory
-    → IsShopRead A name text (Err (of_read e))
-shop_wanting A name text e is = rw is tt
-
 -- ---- a text that was read
 
 -- what stops a part of a run stops another one, where it says the same refusals

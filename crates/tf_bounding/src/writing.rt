@@ -4,6 +4,7 @@ ghost use Rattle.std.specs.List.{flat_map};
 ghost use Rattle.tf_text.specs.AnswerText.{line_text};
 ghost use Rattle.std.specs.Fmt.{decimal, signed_decimal};
 ghost use Rattle.tf_bounding.specs.BoundText.{arc_lines, certificate_lines, bound_text};
+ghost use Rattle.tf_bounding.specs.BoundText.{which_word};
 
 use std::alloc::Allocator;
 use tf_bound::certificate::BoundCertificate;
@@ -144,12 +145,62 @@ fn push_prices<A: Allocator>(text: &mut Vec<u8, A>, q: u64, rows: &[u64]) -> Res
     Ok(())
 }
 
+// Adds the line of prices on a machine.
+fn push_machine_prices<A: Allocator>(
+    text: &mut Vec<u8, A>,
+    machine: u128,
+    q: u64,
+    rows: &[u64],
+) -> Result<(), OutOfMemory>
+    ensures { OnOk result (text.new.items ≡ text.old.items ++ flat_map line_text
+        ((codes "prices_on" ∷ decimal machine ∷ decimal q ∷ map decimal rows.now) ∷ [])) }
+{
+    text.extend_from_slice(b"prices_on")?;
+    push_number(text, machine)?;
+    push_number(text, q)?;
+    push_numbers(text, rows)?;
+    text.push(b'\n')?;
+    Ok(())
+}
+
 // Adds the line of the jobs alone.
 fn push_alone<A: Allocator>(text: &mut Vec<u8, A>) -> Result<(), OutOfMemory>
     ensures { OnOk result (text.new.items
         ≡ text.old.items ++ flat_map line_text ((codes "alone" ∷ []) ∷ [])) }
 {
     text.extend_from_slice(b"alone\n")?;
+    Ok(())
+}
+
+// Adds a blank and the word for the machine on which delta is reached.
+fn push_which<A: Allocator>(text: &mut Vec<u8, A>, by_first: bool) -> Result<(), OutOfMemory>
+    ensures { OnOk result (text.new.items ≡ text.old.items ++ 32 ∷ which_word by_first) }
+{
+    let word: &[u8] = if by_first { b" first" } else { b" second" };
+    text.extend_from_slice(word)?;
+    Ok(())
+}
+
+// Adds the line of two machines, counted from 1, and a side.
+fn push_pair<A: Allocator>(
+    text: &mut Vec<u8, A>,
+    first: u128,
+    second: u128,
+    delta: u64,
+    by_first: bool,
+    side: &[JobId],
+) -> Result<(), OutOfMemory>
+    ensures { OnOk result (text.new.items ≡ text.old.items ++ flat_map line_text
+        ((codes "pair" ∷ decimal first ∷ decimal second ∷ which_word by_first ∷ decimal delta
+        ∷ map decimal side.now) ∷ [])) }
+{
+    text.extend_from_slice(b"pair")?;
+    push_number(text, first)?;
+    push_number(text, second)?;
+    push_which(text, by_first)?;
+    push_number(text, delta)?;
+    push_jobs(text, side)?;
+    text.push(b'\n')?;
     Ok(())
 }
 
@@ -170,6 +221,27 @@ fn push_parts<A: Allocator>(
     push_number(text, until)?;
     push_number(text, late)?;
     push_jobs(text, jobs)?;
+    text.push(b'\n')?;
+    Ok(())
+}
+
+fn push_values<A: Allocator>(text: &mut Vec<u8, A>, numbers: &[i64]) -> Result<(), OutOfMemory>
+    ensures { OnOk result (text.new.items
+        ≡ text.old.items ++ flat_map (λ word. 32 ∷ word) (map signed_decimal numbers.now)) }
+{
+    for number in numbers {
+        push_number(text, *number)?;
+    }
+    Ok(())
+}
+
+// Adds the line of potentials.
+fn push_potentials<A: Allocator>(text: &mut Vec<u8, A>, numbers: &[i64]) -> Result<(), OutOfMemory>
+    ensures { OnOk result (text.new.items ≡ text.old.items
+        ++ flat_map line_text ((codes "potentials" ∷ map signed_decimal numbers.now) ∷ [])) }
+{
+    text.extend_from_slice(b"potentials")?;
+    push_values(text, numbers)?;
     text.push(b'\n')?;
     Ok(())
 }
@@ -196,15 +268,29 @@ pub fn push_certificate<A: Allocator, C: Allocator>(
             arcs,
         } => push_multipliers(text, *machine as u128 + 1, *q, numerators, arcs),
         BoundCertificate::Prices { q, rows } => push_prices(text, *q, rows),
+        BoundCertificate::MachinePrices { machine, q, rows } => {
+            push_machine_prices(text, *machine as u128 + 1, *q, rows)
+        }
         BoundCertificate::Alone => push_alone(text),
         BoundCertificate::Kept { jobs } => push_listed(text, b"kept", jobs),
         BoundCertificate::Shortest { jobs } => push_listed(text, b"shortest", jobs),
         BoundCertificate::Ranks { jobs } => push_listed(text, b"ranks", jobs),
+        BoundCertificate::Split {
+            first,
+            second,
+            delta,
+            by_first,
+            side,
+        } => {
+            let first = *first as u128 + 1;
+            push_pair(text, first, *second as u128 + 1, *delta, *by_first, side)
+        }
         BoundCertificate::Parts {
             from,
             until,
             late,
             jobs,
         } => push_parts(text, *from, *until, *late, jobs),
+        BoundCertificate::Potentials { numbers } => push_potentials(text, numbers),
     }
 }

@@ -48,7 +48,10 @@ certificate_names kind =
     else (if bytes_eq kind (codes "crowd") then codes "jobs_per_machine"
     else (if bytes_eq kind (codes "multipliers") then codes "machine denominator"
     else (if bytes_eq kind (codes "prices") then codes "denominator"
-    else (if bytes_eq kind (codes "parts") then codes "from until late" else []))))))
+    else (if bytes_eq kind (codes "prices_on") then codes "machine denominator"
+    else (if bytes_eq kind (codes "pair") then codes "first_machine second_machine side delta"
+    else (if bytes_eq kind (codes "parts") then codes "from until late"
+    else (if bytes_eq kind (codes "potentials") then codes "end" else [])))))))))
 
 -- the name of its list: that of an answer's certificate, and that of a bound's
 abbrev pub answer_list : List ℕ → List ℕ
@@ -59,8 +62,10 @@ answer_list kind =
 
 abbrev pub bound_list : List ℕ → List ℕ
 bound_list kind =
-    if bytes_eq kind (codes "multipliers") || bytes_eq kind (codes "prices") then codes "numerators"
-    else (if bytes_eq kind (codes "job") || bytes_eq kind (codes "alone") then [] else codes "jobs")
+    if bytes_eq kind (codes "multipliers") || bytes_eq kind (codes "prices")
+    || bytes_eq kind (codes "prices_on") then codes "numerators"
+    else (if bytes_eq kind (codes "potentials") then codes "potentials"
+    else (if bytes_eq kind (codes "job") || bytes_eq kind (codes "alone") then [] else codes "jobs"))
 
 -- the numerators of the arcs, where the line behind multipliers has them
 abbrev pub arc_members : List ℕ → List (List ℕ) → List (List ℕ)
@@ -84,8 +89,10 @@ abbrev pub is_bound_kind : List ℕ → List (List ℕ) → Bool
 is_bound_kind key row =
     bytes_eq key (codes "machine") || bytes_eq key (codes "window") || bytes_eq key (codes "crowd")
     || bytes_eq key (codes "multipliers") || bytes_eq key (codes "prices")
-    || bytes_eq key (codes "kept") || bytes_eq key (codes "shortest") || bytes_eq key (codes "ranks")
-    || bytes_eq key (codes "parts") || (bytes_eq key (codes "job") && (length row == 1))
+    || bytes_eq key (codes "prices_on") || bytes_eq key (codes "kept")
+    || bytes_eq key (codes "shortest") || bytes_eq key (codes "ranks") || bytes_eq key (codes "pair")
+    || bytes_eq key (codes "parts") || bytes_eq key (codes "potentials")
+    || (bytes_eq key (codes "job") && (length row == 1))
     || (bytes_eq key (codes "alone") && (length row == 0))
 
 -- the key of a line that says one thing

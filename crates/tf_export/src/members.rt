@@ -36,8 +36,17 @@ fn certificate_names(kind: &[u8]) -> &'static [u8]
     if is(kind, b"prices") {
         return b"denominator";
     }
+    if is(kind, b"prices_on") {
+        return b"machine denominator";
+    }
+    if is(kind, b"pair") {
+        return b"first_machine second_machine side delta";
+    }
     if is(kind, b"parts") {
         return b"from until late";
+    }
+    if is(kind, b"potentials") {
+        return b"end";
     }
     b""
 }
@@ -56,8 +65,11 @@ fn answer_list(kind: &[u8]) -> &'static [u8]
 pub(crate) fn bound_list(kind: &[u8]) -> &'static [u8]
     ensures { result.now ≡ bound_list kind.now }
 {
-    if is(kind, b"multipliers") || is(kind, b"prices") {
+    if is(kind, b"multipliers") || is(kind, b"prices") || is(kind, b"prices_on") {
         return b"numerators";
+    }
+    if is(kind, b"potentials") {
+        return b"potentials";
     }
     if is(kind, b"job") || is(kind, b"alone") {
         return b"";
@@ -74,10 +86,13 @@ pub(crate) fn is_bound_kind(key: &[u8], row: &[u8]) -> bool
         || is(key, b"crowd")
         || is(key, b"multipliers")
         || is(key, b"prices")
+        || is(key, b"prices_on")
         || is(key, b"kept")
         || is(key, b"shortest")
         || is(key, b"ranks")
+        || is(key, b"pair")
         || is(key, b"parts")
+        || is(key, b"potentials")
         || (is(key, b"job") && count_words(row) == 1)
         || (is(key, b"alone") && count_words(row) == 0)
 }

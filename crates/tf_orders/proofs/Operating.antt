@@ -1,9 +1,9 @@
 -- Orders of operations: how often jobs stand in them, and what is laid of them.
-use Rattle.std.proofs.Common.{◌≡◌, ◌≢◌, ℕ, zero, suc, ◌+◌, ◌-◌, ◌<◌, ◌≤◌, ◌==◌, Bool, true, false, cond, max, List, [], ◌∷◌, ◌++◌, length, get_or, set, take, drop, replicate, refl, sym, ap, subst, ◌∙◌, arith, inl, inr, IfSome, Option, None, Some}
+use Rattle.std.proofs.Common.{◌≡◌, ◌≢◌, ℕ, zero, suc, ◌+◌, ◌-◌, ◌<◌, ◌≤◌, ◌==◌, Bool, true, false, cond, max, List, [], ◌∷◌, ◌++◌, length, get_or, set, take, drop, refl, sym, ap, subst, ◌∙◌, arith, inl, inr, IfSome, Option, None, Some}
 use Rattle.std.specs.List.{All, count_by}
 use Rattle.std.proofs.lemmas.Bool.{cases_eq, eq-eqb, ne_eqb}
 use Rattle.std.proofs.lemmas.Grind.{get_or-set_at}
-use Rattle.std.proofs.lemmas.List.{drop_more, take_more, get_or_default, get_or-set_other, length-set, length-replicate, length-take-le, get_or-replicate, take_all}
+use Rattle.std.proofs.lemmas.List.{drop_more, take_more, get_or_default, get_or-set_other, length-set, length-take-le, take_all}
 use Rattle.std.proofs.lemmas.List.Elements.{All-set}
 use Rattle.std.proofs.lemmas.List.Sums.{count_by-le-length, count_by_more_no, count_by_more_yes}
 use Rattle.tf_model.specs.Limit.{limit}
@@ -26,14 +26,6 @@ pub turn_known : (n g : ℕ) (turns : List Turn) (i : ℕ) (t : Turn) → All (I
 turn_known n g turns i t all within is = subst (IsTurn n g) (sym is) (all i t within)
 
 -- ---- how often jobs stand
-
--- no turn yet
-pub named_none : (n : ℕ) (named : List ℕ) (turns : List Turn) → named ≡ replicate n 0
-    → AreNamed n named (take 0 turns)
-named_none n named turns is = record {
-  len = ap length is ∙ length-replicate n 0;
-  counts = λ k lt. ap (λ xs. get_or xs k 0) is ∙ get_or-replicate n k 0 0 lt;
-}
 
 module _ (turns : List Turn) (i : ℕ) (t : Turn) (within : i < length turns)
     (is : t ≡ get_or turns i t) where

@@ -6,9 +6,7 @@ use Rattle.tf_text.proofs.Written.{joined}
 use Rattle.tf_schedule.specs.declared.piece.Piece.{Piece}
 use Rattle.tf_orders.specs.declared.order.Turn.{Turn}
 use Rattle.tf_orders.specs.Orders.{IsOrder, IsNoOrder}
-use Rattle.tf_orders.specs.declared.measure.Measure.{Measure}
-use Rattle.tf_orders.specs.Measuring.{IsLaid, IsScheduled}
-use Rattle.tf_orders.specs.OrderText.{IsRow, IsRowOf}
+use Rattle.tf_orders.specs.Measuring.{IsLaid}
 
 -- where the numbers of jobs and of orders are read
 module _ (text : List ℕ) (n m g h : ℕ) (jobs : n ≡ m) (orders : g ≡ h) where
@@ -26,13 +24,6 @@ module _ (text : List ℕ) (n m g h : ℕ) (jobs : n ≡ m) (orders : g ≡ h) w
         (subst (λ (n : ℕ). IsOrder n g text turns) jobs order);
     pieces = is;
   }
-
--- the line of a schedule is that of its order
-pub row_is : {A : Type 0} (m : Measure A) (text before after : List ℕ) (ps : List Piece)
-    → IsScheduled m text ps
-    → (row : List ℕ) × IsRowOf m ps row × (after ≡ before ++ row)
-    → (row : List ℕ) × IsRow m text row × (after ≡ before ++ row)
-row_is m text before after ps scheduled (row, is, written) = (row, (ps, scheduled, is), written)
 
 -- a line of a value, its gap and other words
 pub row_written : (t0 t1 t2 t3 value gap : List ℕ) (words : List (List ℕ))

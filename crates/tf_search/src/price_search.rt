@@ -13,7 +13,7 @@ use crate::sequence::best_order;
 use std::alloc::{Allocator, Global};
 use tf_bound::fault::BoundFault;
 use tf_bound::horizon::horizon;
-use tf_bound::prices::{prices_bound, takes_prices};
+use tf_bound::prices::{is_by_unit, prices_bound, takes_prices};
 use tf_bound::task::ProblemTask;
 use tf_model::ids::JobId;
 use tf_model::limit::LIMIT;
@@ -33,6 +33,13 @@ const SHARE: i64 = 5;
 const PATIENCE: u32 = 20;
 
 const LEAST_PATIENCE: u32 = 3;
+
+// How many visits of a row by a job the steps of a search for prices may take, where the caller
+// does not say how many steps it takes.
+const MOST_VISITS: u64 = 1_000_000_000;
+
+// The steps that a search for prices takes at most, where the caller does not say how many.
+const USUAL_STEPS: u64 = 3_000;
 
 /// Some of the steps of an effort.
 #[derive(Clone, Copy, Debug)]
@@ -372,5 +379,33 @@ fn step(rows: &mut [u64], direction: &[i64], factor: i64)
         } else {
             rows[row].saturating_add(change.unsigned_abs())
         };
+    }
+}
+
+/// The steps that a search for prices takes: those that were asked for, or as many as a moderate
+/// number of visits allows for so many machines together, of late jobs half as many, since two
+/// searches are made of them.
+pub fn steps_for<B: Allocator>(task: &ProblemTask<B>, asked: Option<u32>, searched: u64) -> u32
+    requires { IsFalse (is_shop_env task.now.problem.env) }
+{
+    if let Some(steps) = asked {
+        return steps;
+    }
+    let mut work: u64 = 0;
+    let mut last: u64 = 0;
+    for k in 0..task.len() {
+        work = work.saturating_add(task.time(JobId::at(k)));
+        last = last.max(task.release(JobId::at(k)));
+    }
+    let rows = last.saturating_add(work / u64::from(task.machines()).max(1));
+    let visits = rows
+        .saturating_mul(task.len() as u64)
+        .saturating_mul(searched)
+        .max(1);
+    let steps = (MOST_VISITS / visits).min(USUAL_STEPS) as u32;
+    if is_by_unit(task.problem().goal) {
+        steps.div_ceil(2)
+    } else {
+        steps
     }
 }

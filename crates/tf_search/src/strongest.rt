@@ -7,22 +7,26 @@ ghost use Rattle.tf_search.specs.Strongest.{IsFound, IsFoundOn};
 
 use crate::arc_links::{Link, links_of};
 use crate::arc_search::arc_multipliers;
+use crate::assignment::potentials;
 use crate::due_prices::crossed_out_cost;
 use crate::effort::{Effort, Progress};
 use crate::intervals::{crammed_interval, jobs_at_work};
 use crate::machine_search::search_machines;
 use crate::multiplier_search::multiplier_bound;
-use crate::price_search::{Steps, search_prices};
+use crate::pair_search::pair_certificate;
+use crate::price_search::{Steps, search_prices, steps_for};
 use crate::price_start::{Prices, coarser_prices, prices_by_due, sequence_prices};
 use crate::ranked::{Rank, crowd_front, crowded_above, jobs_by_rank, release_dates, window_front};
 use crate::row_prices::row_prices;
 use crate::sequence::best_order;
+use crate::shop_prices::{dearest_machines, prices_on};
 use crate::windows::{jobs_within, strongest_window};
 use std::alloc::{Allocator, Global};
 use tf_bound::alike::{one_job_value, takes_windows};
 use tf_bound::alone::alone_value;
 use tf_bound::certificate::BoundCertificate;
 use tf_bound::fault::BoundFault;
+use tf_bound::kept_weight::{MOST_ENTRIES, takes_kept_weight};
 use tf_bound::multipliers::takes_multipliers;
 use tf_bound::parts::Interval;
 use tf_bound::prices::is_by_unit;
@@ -38,13 +42,6 @@ const MOST_SEQUENCED: usize = 1_000;
 
 // How many jobs the lists may have together of which the late jobs are counted.
 const MOST_COUNTED: usize = 500_000;
-
-// How many visits of a row by a job the steps of a search for prices may take, where the caller
-// does not say how many steps it takes.
-const MOST_VISITS: u64 = 1_000_000_000;
-
-// The steps that a search for prices takes at most, where the caller does not say how many.
-const USUAL_STEPS: u64 = 3_000;
 
 /// A certificate of a task, and its value.
 #[derive(Drop)]
@@ -94,7 +91,8 @@ fn by_search<A: Allocator + Copy, B: Allocator, P: Progress>(
     ensures { IfOk result (IsFoundOn task.now) }
 {
     let best = without_arcs(alloc, task, effort)?;
-    Ok(stronger(best, by_arcs(alloc, task)?))
+    let best = stronger(best, by_arcs(alloc, task)?);
+    Ok(stronger(best, by_rows(alloc, task)?))
 }
 
 // The bound by the rule for late jobs or completion times that is optimal where nothing more is
@@ -108,7 +106,7 @@ fn by_rule<A: Allocator + Copy, B: Allocator>(
     let problem = task.problem();
     match problem.goal {
         _ if problem.env.is_shop() => Ok(None),
-        Goal::SumU => by_kept(alloc, task),
+        Goal::SumU | Goal::SumWU => by_kept(alloc, task),
         Goal::SumC if matches!(problem.env, Env::Single) => by_shortest(alloc, task),
         Goal::SumC => by_ranks(alloc, task),
         _ => Ok(None),
@@ -123,27 +121,42 @@ fn is_met_by_rule(problem: Problem) -> bool {
         return false;
     }
     match problem.goal {
-        Goal::SumU => is_single && !problem.release,
+        Goal::SumU | Goal::SumWU => is_single && !problem.release,
         Goal::SumC => problem.prmp && problem.release == is_single,
         _ => false,
     }
 }
 
-// The late jobs by the rule of Moore and Hodgson, of those that are released from some date on.
+// The late jobs by the rule of Moore and Hodgson, or their weight by the table of Lawler and Moore, of
+// those that are released from some date on.
 fn by_kept<A: Allocator + Copy, B: Allocator>(
     alloc: A,
     task: &ProblemTask<B>,
 ) -> Result<Option<Found<A>>, OutOfMemory>
     ensures { IfOk result (λ best. IfSome best (IsFoundOn task.now)) }
 {
-    let most = MOST_COUNTED / task.len().max(1);
-    let dates = release_dates(alloc, task, most)?;
+    let dates = release_dates(alloc, task, most_lists(task))?;
     let mut best: Option<Found<A>> = None;
     for date in dates.as_slice() {
         let jobs = jobs_by_rank(alloc, task, Rank::FirstDue(*date))?;
         best = improved(best, judged(alloc, task, BoundCertificate::Kept { jobs }))?;
     }
     Ok(best)
+}
+
+// How many lists of jobs are judged by due date. Each takes a table where the late jobs are weighed.
+fn most_lists<B: Allocator>(task: &ProblemTask<B>) -> usize {
+    let jobs = task.len().max(1);
+    let most = MOST_COUNTED / jobs;
+    if !takes_kept_weight(task) {
+        return most;
+    }
+    let mut time: u64 = 0;
+    for k in 0..task.len() {
+        time = time.saturating_add(task.work(JobId::at(k)));
+    }
+    let entries = (jobs as u64).saturating_mul(time).max(1);
+    most.min((MOST_ENTRIES / entries) as usize)
 }
 
 // The completion times where the shortest remaining time always goes first.
@@ -182,7 +195,7 @@ fn without_arcs<A: Allocator + Copy, B: Allocator, P: Progress>(
         Some(best) => stronger(best, Some(alone)),
         None => alone,
     };
-    Ok(stronger(best, by_rows(alloc, task)?))
+    Ok(stronger(best, by_machine_prices(alloc, task, effort)?))
 }
 
 // The jobs of a sum, each alone.
@@ -275,8 +288,9 @@ fn searched<T: Drop>(outcome: Result<T, BoundFault>) -> Result<Option<T>, OutOfM
     }
 }
 
-// The makespan or the maximum lateness: one job, one machine, on parallel machines windows and
-// crowds, and on both the parts of jobs in one interval.
+// The makespan or the maximum lateness: one job and one machine; in a flow shop without waiting
+// potentials, and in a permutation flow shop two machines; on parallel machines windows and crowds; and
+// on one and on these the parts of jobs in one interval.
 fn of_maximum<A: Allocator + Copy, B: Allocator>(
     alloc: A,
     task: &ProblemTask<B>,
@@ -290,10 +304,36 @@ fn of_maximum<A: Allocator + Copy, B: Allocator>(
         let value = best.value;
         stronger(best, by_crowd(alloc, task, value)?)
     } else {
-        stronger(alone, by_machine(alloc, task)?)
+        stronger(alone, by_machines(alloc, task)?)
     };
     let value = best.value;
     Ok(stronger(best, by_parts(alloc, task, value)?))
+}
+
+// One machine, or in a flow shop two, or potentials.
+fn by_machines<A: Allocator + Copy, B: Allocator>(
+    alloc: A,
+    task: &ProblemTask<B>,
+) -> Result<Option<Found<A>>, OutOfMemory>
+    requires { IsTrue (is_max_goal task.now.problem.goal) }
+    ensures { IfOk result (λ best. IfSome best (IsFoundOn task.now)) }
+{
+    let best = by_machine(alloc, task)?;
+    let best = improved(best, by_potentials(alloc, task))?;
+    improved(best, by_pair(alloc, task))
+}
+
+// The potentials of a no-wait flow shop.
+fn by_potentials<A: Allocator + Copy, B: Allocator>(
+    alloc: A,
+    task: &ProblemTask<B>,
+) -> Result<Option<Found<A>>, OutOfMemory>
+    ensures { IfOk result (λ best. IfSome best (IsFoundOn task.now)) }
+{
+    match potentials(alloc, task)? {
+        Some(numbers) => judged(alloc, task, BoundCertificate::Potentials { numbers }),
+        None => Ok(None),
+    }
 }
 
 // An interval in which jobs have too much to do, where it shows more than this value.
@@ -402,6 +442,19 @@ fn by_crowd<A: Allocator + Copy, B: Allocator>(
     let (h, len) = crowd_front(task, &jobs);
     jobs.truncate(len);
     judged(alloc, task, BoundCertificate::Crowd { h, jobs })
+}
+
+// The two machines of a permutation flow shop that bound it most.
+fn by_pair<A: Allocator + Copy, B: Allocator>(
+    alloc: A,
+    task: &ProblemTask<B>,
+) -> Result<Option<Found<A>>, OutOfMemory>
+    ensures { IfOk result (λ best. IfSome best (IsFoundOn task.now)) }
+{
+    match pair_certificate(alloc, task)? {
+        Some(certificate) => judged(alloc, task, certificate),
+        None => Ok(None),
+    }
 }
 
 fn by_machine<A: Allocator + Copy, B: Allocator>(
@@ -546,7 +599,7 @@ fn by_prices<A: Allocator + Copy, B: Allocator, P: Progress>(
     requires { IsFalse (is_shop_env task.now.problem.env) }
     ensures { IfOk result (λ best. IfSome best (IsFoundOn task.now)) }
 {
-    let steps = steps_for(task, effort.steps);
+    let steps = steps_for(task, effort.steps, 1);
     if steps == 0 || task.problem().prmp {
         return Ok(None);
     }
@@ -561,6 +614,64 @@ fn by_prices<A: Allocator + Copy, B: Allocator, P: Progress>(
     let best = from_start(alloc, task, start, target, steps, effort)?;
     effort.is_over();
     Ok(best)
+}
+
+// The prices on the better of two machines of a shop.
+fn by_machine_prices<A: Allocator + Copy, B: Allocator, P: Progress>(
+    alloc: A,
+    task: &ProblemTask<B>,
+    effort: &mut Effort<P>,
+) -> Result<Option<Found<A>>, OutOfMemory>
+    ensures { IfOk result (λ best. IfSome best (IsFoundOn task.now)) }
+{
+    if effort.steps == Some(0) || task.len() > MOST_SEQUENCED {
+        return Ok(None);
+    }
+    let Some(machines) = searched(dearest_machines(alloc, task))? else {
+        return Ok(None);
+    };
+    let best = by_prices_on(alloc, task, machines.first, false, effort)?;
+    let best = improved(
+        best,
+        by_prices_on(alloc, task, machines.second, true, effort),
+    )?;
+    effort.is_over();
+    Ok(best)
+}
+
+// The best prices that are found on a machine, rounded where that costs nothing.
+fn by_prices_on<A: Allocator + Copy, B: Allocator, P: Progress>(
+    alloc: A,
+    task: &ProblemTask<B>,
+    machine: usize,
+    is_second: bool,
+    effort: &mut Effort<P>,
+) -> Result<Option<Found<A>>, OutOfMemory>
+    ensures { IfOk result (λ best. IfSome best (IsFoundOn task.now)) }
+{
+    let Some(prices) = searched(prices_on(alloc, task, machine, is_second, effort))? else {
+        return Ok(None);
+    };
+    let coarse = coarser_prices(alloc, &prices)?;
+    let best = judged_on(alloc, task, machine, coarse)?;
+    improved(best, judged_on(alloc, task, machine, prices))
+}
+
+// The value of prices on a machine.
+fn judged_on<A: Allocator + Copy, B: Allocator>(
+    alloc: A,
+    task: &ProblemTask<B>,
+    machine: usize,
+    prices: Prices<A>,
+) -> Result<Option<Found<A>>, OutOfMemory>
+    ensures { IfOk result (λ best. IfSome best (IsFoundOn task.now)) }
+{
+    let certificate = BoundCertificate::MachinePrices {
+        machine,
+        q: prices.q,
+        rows: prices.rows,
+    };
+    judged(alloc, task, certificate)
 }
 
 // The prices of the rows that jobs share, where they may be preempted.
@@ -683,28 +794,4 @@ fn known_cost<A: Allocator, B: Allocator>(
         return crossed_out_cost(alloc, task);
     }
     Ok(u64::MAX)
-}
-
-// The steps that a search for prices takes: those that were asked for, or as many as a moderate
-// number of visits allows, of late jobs half as many, since two searches are made of them.
-fn steps_for<B: Allocator>(task: &ProblemTask<B>, asked: Option<u32>) -> u32
-    requires { IsFalse (is_shop_env task.now.problem.env) }
-{
-    if let Some(steps) = asked {
-        return steps;
-    }
-    let mut work: u64 = 0;
-    let mut last: u64 = 0;
-    for k in 0..task.len() {
-        work = work.saturating_add(task.time(JobId::at(k)));
-        last = last.max(task.release(JobId::at(k)));
-    }
-    let rows = last.saturating_add(work / u64::from(task.machines()).max(1));
-    let visits = rows.saturating_mul(task.len() as u64).max(1);
-    let steps = (MOST_VISITS / visits).min(USUAL_STEPS) as u32;
-    if is_by_unit(task.problem().goal) {
-        steps.div_ceil(2)
-    } else {
-        steps
-    }
 }

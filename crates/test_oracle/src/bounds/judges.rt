@@ -15,10 +15,13 @@ enum Kind {
     OneJob,
     Multipliers(u64, &'static [u64]),
     Prices(u64),
+    MachinePrices(usize, u64),
     Kept,
     Shortest,
     Ranks,
+    Pair(usize, usize, bool, u64),
     Parts(u64, u64, i64),
+    Potentials(&'static [i64]),
 }
 
 // A task, a kind with its numbers or jobs, and the bound, if it is not refused.
@@ -95,6 +98,14 @@ const IN_ORDER: &[Case] = &[
     (Sample::Crossed, Kind::Kept, &[2, 1, 3, 4], None),
     (Sample::Crossed, Kind::Kept, &[], None),
     (Sample::Crossed, Kind::Kept, &[1, 1], None),
+    (Sample::Weighed, Kind::Kept, &[1, 2, 3, 4], Some(4)),
+    (Sample::Weighed, Kind::Kept, &[1, 2, 4, 3], Some(4)),
+    (Sample::Weighed, Kind::Kept, &[1, 2], Some(2)),
+    (Sample::Weighed, Kind::Kept, &[1, 3, 4], Some(0)),
+    (Sample::Weighed, Kind::Kept, &[2, 3, 4], Some(2)),
+    (Sample::Weighed, Kind::Kept, &[2, 1, 3, 4], None),
+    (Sample::Weighed, Kind::Kept, &[], None),
+    (Sample::Weighed, Kind::Kept, &[4, 4], None),
     (Sample::Remaining, Kind::Shortest, &[1, 2, 3, 4], Some(24)),
     (Sample::Remaining, Kind::Shortest, &[1, 3, 4], Some(18)),
     (Sample::Remaining, Kind::Shortest, &[1, 2, 4, 3], None),
@@ -117,6 +128,21 @@ const IN_INTERVALS: &[Case] = &[
     (Sample::Flow, Kind::Parts(0, 1, 2), &[2, 3], None),
 ];
 
+// Of jobs (0, 1, 1), (2, 2, 1) and (3, 3, 1). On machines 1 and 2 jobs 1 and 2 count 0 and 2, job 3
+// counts 3 and has 3 on machine 1, and a tail is 1. On machines 1 and 3 jobs 1 and 3 count 0 and 3,
+// job 2 counts 1, and job 3 has 4 behind machine 1. Job 1 can't show a lag.
+const BY_PAIRS: &[Case] = &[
+    (Sample::Flow, Kind::Pair(0, 1, true, 3), &[1, 2], Some(9)),
+    (Sample::Flow, Kind::Pair(0, 1, true, 2), &[1], Some(8)),
+    (Sample::Flow, Kind::Pair(0, 2, false, 4), &[1, 3], Some(8)),
+    (Sample::Flow, Kind::Pair(0, 1, true, 2), &[2], None),
+    (Sample::Flow, Kind::Pair(0, 1, true, 4), &[1, 2], None),
+    (Sample::Flow, Kind::Pair(0, 1, true, 3), &[1, 2, 1], None),
+    (Sample::Flow, Kind::Pair(1, 1, true, 3), &[1, 2], None),
+    (Sample::Flow, Kind::Pair(1, 3, true, 3), &[1, 2], None),
+    (Sample::Fours, Kind::Pair(0, 1, true, 4), &[1, 2], None),
+];
+
 // Of jobs that may be preempted. Job 4 of `Remaining` costs 1, and 9 in step 9; without prices the
 // others cost 5/2 + 0, 3/2 + 1 and 1 + 2.
 const BY_ROWS: &[Case] = &[
@@ -131,6 +157,67 @@ const BY_ROWS: &[Case] = &[
     (Sample::Remaining, Kind::Prices(0), &[1], None),
     (Sample::Dealt, Kind::Prices(1), &[1], Some(8)),
     (Sample::Dealt, Kind::Prices(6), &[10, 7, 4, 2], Some(11)),
+];
+
+// On one machine of a shop. On the second machine of `Passed` job 1 costs 5 from the start 2 on, and
+// job 2 costs 4; on the first one they cost 4 and 3. In `Opened` no job is over before 3 and 4.
+const ON_ONE: &[Case] = &[
+    (
+        Sample::Passed,
+        Kind::MachinePrices(1, 1),
+        &[0, 2, 1],
+        Some(6),
+    ),
+    (Sample::Passed, Kind::MachinePrices(0, 1), &[1], Some(6)),
+    (Sample::Passed, Kind::MachinePrices(0, 2), &[], Some(5)),
+    (Sample::Passed, Kind::MachinePrices(0, 0), &[1], None),
+    (Sample::Passed, Kind::MachinePrices(2, 1), &[1], None),
+    (Sample::Passed, Kind::Prices(1), &[1], None),
+    (Sample::Late, Kind::MachinePrices(0, 1), &[1], None),
+    (Sample::Opened, Kind::MachinePrices(0, 1), &[], Some(7)),
+    (Sample::Opened, Kind::MachinePrices(0, 1), &[1], Some(6)),
+];
+
+// Of jobs that wait nowhere. Job 2 starts 2 after job 1 or later, and job 3 4; after job 2 they start 3
+// later, and after job 3 1.
+const NOWHERE: &[Case] = &[
+    (
+        Sample::NoWait,
+        Kind::Potentials(&[3, 2, 0, 3, 0, 1, 0]),
+        &[],
+        Some(9),
+    ),
+    (
+        Sample::NoWait,
+        Kind::Potentials(&[2, 3, -1, 4, -1, 2, -1]),
+        &[],
+        Some(8),
+    ),
+    (
+        Sample::NoWait,
+        Kind::Potentials(&[3, 3, -1, 4, -1, 2, -1]),
+        &[],
+        None,
+    ),
+    (
+        Sample::NoWait,
+        Kind::Potentials(&[3, 2, 0, 3, 0, 2, 0]),
+        &[],
+        None,
+    ),
+    (
+        Sample::NoWait,
+        Kind::Potentials(&[3, 2, 1, 3, 0, 0, 0]),
+        &[],
+        None,
+    ),
+    (Sample::NoWait, Kind::Potentials(&[3, 2, 0]), &[], None),
+    (
+        Sample::Flow,
+        Kind::Potentials(&[0, 0, 0, 0, 0, 0, 0]),
+        &[],
+        None,
+    ),
 ];
 
 // The jobs of these numbers.
@@ -157,14 +244,29 @@ fn certificate(alloc: Global, kind: Kind, values: &[u64]) -> Result<BoundCertifi
             arcs: numbers(alloc, arcs)?,
         },
         Kind::Prices(q) => BoundCertificate::Prices { q, rows: given },
+        Kind::MachinePrices(machine, q) => BoundCertificate::MachinePrices {
+            machine,
+            q,
+            rows: given,
+        },
         Kind::Kept => BoundCertificate::Kept { jobs },
         Kind::Shortest => BoundCertificate::Shortest { jobs },
         Kind::Ranks => BoundCertificate::Ranks { jobs },
+        Kind::Pair(first, second, by_first, delta) => BoundCertificate::Split {
+            first,
+            second,
+            delta,
+            by_first,
+            side: jobs,
+        },
         Kind::Parts(from, until, late) => BoundCertificate::Parts {
             from,
             until,
             late,
             jobs,
+        },
+        Kind::Potentials(values) => BoundCertificate::Potentials {
+            numbers: Vec::from_slice(alloc, values)?,
         },
     })
 }
@@ -195,6 +297,9 @@ fn each_kind_bounds_what_was_worked_by_hand(rt: HostRuntime) -> Result<(), Fail>
     assert!(rt; are_bounded(rt.alloc(), CASES)?);
     assert!(rt; are_bounded(rt.alloc(), IN_ORDER)?);
     assert!(rt; are_bounded(rt.alloc(), IN_INTERVALS)?);
+    assert!(rt; are_bounded(rt.alloc(), BY_PAIRS)?);
     assert!(rt; are_bounded(rt.alloc(), BY_ROWS)?);
+    assert!(rt; are_bounded(rt.alloc(), ON_ONE)?);
+    assert!(rt; are_bounded(rt.alloc(), NOWHERE)?);
     Ok(())
 }

@@ -27,10 +27,18 @@ pub enum Sample {
     Pairs,
     /// `1||sumU`: job 2 is late in an optimal schedule, of optimum 1.
     Crossed,
+    /// `1||sumwU`: the same with weights, of which jobs 1 and 4 are late, of optimum 4.
+    Weighed,
     /// `1|rj,prmp|sumC`: job 1 is preempted, and the machine is idle from 8 on, of optimum 24.
     Remaining,
     /// `P2|prmp|sumC`: four jobs of times 3, 2, 2 and 1, of optimum 11.
     Dealt,
+    /// `F2||sumC`: two jobs that take 1 on the first machine, of optimum 6.
+    Passed,
+    /// `O2||sumC`: two jobs that need not wait, of optimum 7.
+    Opened,
+    /// `F3|nwt|Cmax`: three jobs, of optimum 9 in the order 3, 1, 2.
+    NoWait,
 }
 
 // Its environment, objective and number of machines.
@@ -44,8 +52,12 @@ fn frame(sample: Sample) -> (Env, Goal, u32) {
         Sample::Overlapping | Sample::Behind => (Env::Single, Goal::SumWC, 1),
         Sample::Pairs => (Env::Parallel, Goal::SumWC, 2),
         Sample::Crossed => (Env::Single, Goal::SumU, 1),
+        Sample::Weighed => (Env::Single, Goal::SumWU, 1),
         Sample::Remaining => (Env::Single, Goal::SumC, 1),
         Sample::Dealt => (Env::Parallel, Goal::SumC, 2),
+        Sample::Passed => (Env::Flow, Goal::SumC, 2),
+        Sample::Opened => (Env::OpenShop, Goal::SumC, 2),
+        Sample::NoWait => (Env::Flow, Goal::Cmax, 3),
     }
 }
 
@@ -84,6 +96,13 @@ const CROSSED: &[Row] = &[
     (&[1], 1, 0, 5),
 ];
 
+const WEIGHED: &[Row] = &[
+    (&[2], 2, 0, 3),
+    (&[3], 5, 0, 4),
+    (&[2], 2, 0, 5),
+    (&[1], 2, 0, 5),
+];
+
 const REMAINING: &[Row] = &[
     (&[4], 1, 0, 0),
     (&[2], 1, 1, 0),
@@ -98,6 +117,16 @@ const DEALT: &[Row] = &[
     (&[1], 1, 0, 0),
 ];
 
+const PASSED: &[Row] = &[(&[1, 2], 1, 0, 0), (&[1, 1], 1, 0, 0)];
+
+const OPENED: &[Row] = &[(&[2, 1], 1, 0, 0), (&[1, 3], 1, 0, 0)];
+
+const NO_WAIT: &[Row] = &[
+    (&[2, 3, 1], 1, 0, 0),
+    (&[3, 1, 2], 1, 0, 0),
+    (&[1, 2, 2], 1, 0, 0),
+];
+
 fn rows_of(sample: Sample) -> &'static [Row] {
     match sample {
         Sample::Tardy => TARDY,
@@ -109,8 +138,12 @@ fn rows_of(sample: Sample) -> &'static [Row] {
         Sample::Behind => BEHIND,
         Sample::Pairs => PAIRS,
         Sample::Crossed => CROSSED,
+        Sample::Weighed => WEIGHED,
         Sample::Remaining => REMAINING,
         Sample::Dealt => DEALT,
+        Sample::Passed => PASSED,
+        Sample::Opened => OPENED,
+        Sample::NoWait => NO_WAIT,
     }
 }
 
@@ -165,6 +198,7 @@ pub fn task_of(alloc: Global, sample: Sample) -> Result<ProblemTask, Fail> {
         prmu: sample == Sample::Flow,
         prmp: matches!(sample, Sample::Pairs | Sample::Remaining | Sample::Dealt),
         prec: matches!(sample, Sample::Behind | Sample::Pairs),
+        nwt: sample == Sample::NoWait,
         ..Problem::plain(env, goal)
     };
     let jobs = jobs_of(alloc, rows_of(sample))?;

@@ -1,7 +1,7 @@
 use Rattle.std.proofs.Common.{take}
 use Rattle.tf_bound.proofs.Faults.{IsJudged}
 use Rattle.tf_bound.proofs.Marks.{AreMarks}
-use Rattle.tf_bound.proofs.jobs.judge_list.Given as goal
+use Rattle.tf_bound.proofs.jobs.judged_marks.Given as goal
 
 abbrev pub invariant-loop-job : goal.invariant-loop-job
 invariant-loop-job g l = record {

@@ -1,11 +1,11 @@
-use Rattle.std.proofs.Common.{◌≡◌, ℕ, ◌+◌, ◌-◌, ◌<◌, ap, inr, sym, ◌∙◌, subst, get_or, set, take, length, replicate, [], true, false, List, Bool, refl, arith}
+use Rattle.std.proofs.Common.{◌≡◌, ℕ, ◌+◌, ◌-◌, ◌<◌, ap, inr, sym, ◌∙◌, subst, get_or, set, take, length, replicate, [], true, false, List, Bool, refl, arith, count_by, ◌==◌}
 use Rattle.tf_model.specs.Distinct.{IsDistinct}
 use Rattle.tf_problem.specs.ProblemData.{ProblemData, IsProblemJob}
-use Rattle.tf_bound.proofs.Faults.{judged_bad, judged_twice, judged_more, judged_whole}
+use Rattle.tf_bound.proofs.Faults.{judged_bad, judged_twice, judged_more, judged_whole, stands_if}
 use Rattle.tf_bound.proofs.Marks.{AreMarks, as_one, marks_more, distinct}
 use Rattle.tf_bound.proofs.Steps.{all_whole}
 use Rattle.std.proofs.lemmas.List.{take_all, get_or_default, get_or-replicate, length-replicate}
-use Rattle.tf_bound.proofs.jobs.judge_list.Goals as goal
+use Rattle.tf_bound.proofs.jobs.judged_marks.Goals as goal
 
 pub returns-then-place-len-clause-fault : goal.returns-then-place-len-clause-fault
 returns-then-place-len-clause-fault g c =
@@ -97,3 +97,14 @@ loop-job-init g c = record {
   marks = none_marked c.args.task.now c.in-Ok.seen.items c.len.result c.len.ensures.value
       (c.in-Ok.ensures.items_if_clones_equal (λ y e. e));
 }
+
+pub returns-clause-marks : goal.returns-clause-marks
+returns-clause-marks g c =
+    let jobs = c.args.jobs.now in
+    let marks = c.loop-job.invariant.marks in
+    record {
+      len = marks.len;
+      sides = λ j job. sym (stands_if j jobs (get_or c.loop-job.seen.items (j - 1) false)
+          (ap (count_by (λ i. j == i)) (sym (take_all c.loop-job.job-index jobs c.loop-job-test.false))
+          ∙ marks.marked j job));
+    }

@@ -1,0 +1,16 @@
+use Rattle.std.proofs.Common.{ℕ, List, All, sym, subst}
+use Rattle.tf_problem.specs.ProblemData.{IsProblemJob}
+use Rattle.tf_problem.proofs.Relaxing.{All-problem_jobs}
+use Rattle.tf_bound.proofs.split.span.Goals as goal
+
+pub least_head-requires-clause-known : goal.least_head-requires-clause-known
+least_head-requires-clause-known g c =
+    let k = c.args.task.now in
+    subst (λ (js : List ℕ). All (IsProblemJob k) js) (sym c.requires.jobs)
+    (All-problem_jobs k (IsProblemJob k) (λ j h. h))
+
+pub least_rest-requires-clause-known : goal.least_rest-requires-clause-known
+least_rest-requires-clause-known g c =
+    let k = c.args.task.now in
+    subst (λ (js : List ℕ). All (IsProblemJob k) js) (sym c.requires.jobs)
+    (All-problem_jobs k (IsProblemJob k) (λ j h. h))
